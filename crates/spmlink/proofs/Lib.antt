@@ -1,1 +1,5 @@
-pub mod Words
+pub mod WordLists
+pub mod Endings
+pub mod Causes
+pub mod Exactness
+pub mod Running

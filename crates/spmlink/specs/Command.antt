@@ -2,8 +2,6 @@
 use Rattle.std.specs.Prelude.{◌≡◌, ◌≢◌, ℕ, List, [], ◌∷◌, All, codes, map, string_bytes, String}
 use Rattle.std.specs.Global.{Global}
 use Rattle.spmlink.specs.declared.commands.RunNames.{RunNames}
-use Rattle.spmlink.specs.declared.commands.Command.{Command}
-use Rattle.spmlink.specs.declared.commands.Command.TheVariants as command
 
 -- the bytes of each word
 abbrev pub texts : List (String Global) → List (List ℕ)
@@ -24,6 +22,6 @@ pub record IsRun (words : List (List ℕ)) (file board input out : List ℕ) : T
 pub data IsCommand (words : List (List ℕ)) : Type 0 where
   is_run : (file board input out : List ℕ) → IsRun words file board input out → IsCommand words
 
--- the words spell this command
-abbrev pub Spells : List (List ℕ) → Command → Type 0
-Spells words (command.Run n) = IsRun words n.file.now n.board.now n.input.now n.out.now
+-- the words are a `run` command with these names
+abbrev pub SpellsRun : List (List ℕ) → RunNames → Type 0
+SpellsRun words names = IsRun words names.file.now names.board.now names.input.now names.out.now

@@ -1,5 +1,5 @@
 ghost use Rattle.std.specs.Prelude.{◌≡◌, ◌≢◌, ◌↔◌, ℕ, ◌+◌, ◌<◌, List, IsTrue, IsNone, IfSome, MatchOption, All, length, map, string_bytes, codes, ◌∷◌, []};
-ghost use Rattle.spmlink.specs.Command.{texts, IsName, IsRun, IsCommand, Spells};
+ghost use Rattle.spmlink.specs.Command.{texts, IsName, IsCommand, SpellsRun};
 
 /// The names in `run FILE BOARD INPUT OUT`.
 #[derive(Clone, Copy, Debug)]
@@ -10,23 +10,9 @@ pub struct RunNames<'a> {
     pub out: &'a str,
 }
 
-/// What a command line asks for.
-#[derive(Clone, Copy, Debug)]
-pub enum Command<'a> {
-    Run(RunNames<'a>),
-}
-
-/// The command that the words spell, or `None` exactly where they spell none.
-pub fn parse_command(words: &[String]) -> Option<Command<'_>>
-    ensures { MatchOption result (IsCommand (texts words.now) → ⊥) (Spells (texts words.now)) }
-{
-    parse_run(words).map(Command::Run)
-}
-
-/// The names of a `run` command.
-fn parse_run(words: &[String]) -> Option<RunNames<'_>>
-    ensures none { IsNone result → (f b i o : List ℕ) → IsRun (texts words.now) f b i o → ⊥ }
-    ensures some { IfSome result (λ n. IsRun (texts words.now) n.file.now n.board.now n.input.now n.out.now) }
+/// The names of a `run` command, or `None` exactly where the words are no command.
+pub fn parse_run(words: &[String]) -> Option<RunNames<'_>>
+    ensures { MatchOption result (IsCommand (texts words.now) → ⊥) (SpellsRun (texts words.now)) }
 {
     let names = run_names(words)?;
     if are_names(&names) && is_out_apart(&names) {

@@ -1,8 +1,54 @@
-//! Runs and relinks RV32IM programs for a board with a scratchpad memory.
+//! Runs RV32IM programs on a model of a board with a scratchpad memory.
 #![tactic(auto)]
 
 mod commands;
+mod delivery;
+mod faults;
+mod outcomes;
+mod performing;
+mod printing;
+mod reading;
+mod refused;
+mod run_file;
+#[cfg(test)]
+mod tests;
+mod top;
 
-fn main(rt: HostRuntime) {
-    let _ = commands::parse_command(&[]);
+use shelf_io::{DirShelf, OutSink};
+use std::env;
+use std::io::{self, ErrorKind};
+use std::process::ExitCode;
+use std::rt::Env;
+
+/// The commands, as they are told on standard error where the words are none of them.
+const USAGE: &str = "usage: spmlink run FILE BOARD INPUT OUT\n";
+
+/// The words of the command line, without the program's name. A word that is not UTF-8 is in no
+/// command, so there are no words then.
+fn words(rt: &(impl Env + AllocGlobal)) -> io::Result<Vec<String>> {
+    let mut words = Vec::new(rt.alloc());
+    match env::args(rt) {
+        Ok(args) => {
+            for word in args.skip(1) {
+                words.push(word)?;
+            }
+            Ok(words)
+        }
+        Err(error) if error.kind() == ErrorKind::InvalidData => Ok(words),
+        Err(error) => Err(error),
+    }
+}
+
+fn main(rt: HostRuntime) -> ExitCode {
+    let Ok(words) = words(&rt) else {
+        let _ = rt.print("error 9 memory 0 0\n");
+        return ExitCode::from(9);
+    };
+    let mut shelf = DirShelf::new(&rt, rt.alloc());
+    let mut out = OutSink::new(rt.stdout());
+    let status = top::run(rt.alloc(), &words, &mut shelf, &mut out);
+    if status == 1 {
+        let _ = rt.eprint(USAGE);
+    }
+    ExitCode::from(status)
 }

@@ -7,6 +7,14 @@ use Rattle.std.specs.Int.{cast_unsigned, w32}
 abbrev pub plus : ℕ → ℕ → ℕ
 plus a b = (a + b) % 4294967296
 
+-- the difference of two words, modulo 2 ^ 32
+abbrev pub minus : ℕ → ℕ → ℕ
+minus a b = (a + (4294967296 - b % 4294967296)) % 4294967296
+
+-- the address at a signed distance `z` from `a`, modulo 2 ^ 32
+abbrev pub offset : ℕ → ℤ → ℕ
+offset a z = (a + cast_unsigned w32 z) % 4294967296
+
 -- a number below `half + half`, read in two's complement
 abbrev pub signed : ℕ → ℕ → ℤ
 signed half n = if nat_lt n half then pos n else pos n -ℤ pos (half + half)

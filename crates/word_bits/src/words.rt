@@ -22,8 +22,13 @@ pub fn sext(w: u32, bits: u32) -> u32
     requires high { bits ≤ 32 }
     ensures { result ≡ sign_extended w bits }
 {
-    let unused = 32 - bits;
-    (((w << unused).cast_signed()) >> unused).cast_unsigned()
+    let half = 1u64 << (bits - 1);
+    let low = u64::from(w) % (2 * half);
+    if low < half {
+        low as u32
+    } else {
+        (low + ((1u64 << 32) - 2 * half)) as u32
+    }
 }
 
 /// The bytes of a word, least first.
@@ -43,11 +48,9 @@ pub fn word4(b: [u8; 4]) -> u32
 /// The two halves rebuild their word: `hi20(a) * 4096 + lo12(a) = a` modulo 2 ^ 32.
 pub fn halves_rebuild()
     ensures { HalvesRebuild }
-{
-}
+{}
 
 /// A word's bytes are the word again.
 pub fn bytes_rebuild()
     ensures { BytesRebuild }
-{
-}
+{}

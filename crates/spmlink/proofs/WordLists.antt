@@ -1,5 +1,5 @@
 -- Lemmas on the lists of words of a command line.
-use Rattle.std.proofs.Common.{◌≡◌, ℕ, ◌<◌, ◌≤◌, List, [], ◌∷◌, length, get_or, string_bytes, String, Global, arith, refl}
+use Rattle.std.proofs.Common.{◌≡◌, ◌<◌, ◌≤◌, List, [], ◌∷◌, length, get_or, string_bytes, String, Global, arith}
 use Rattle.spmlink.specs.Command.{texts}
 
 -- five words, one by one

@@ -1,0 +1,10 @@
+-- The checks of an ELF file, in their order.
+use Rattle.std.specs.Prelude.{ℕ, List, Option}
+use Rattle.elf_reader.specs.First.{◌or_else◌}
+use Rattle.elf_reader.specs.HeaderChecks.{header_fault}
+use Rattle.elf_reader.specs.ProgramHeaderChecks.{program_headers_fault}
+use Rattle.elf_reader.specs.declared.fault.ElfFault.{ElfFault}
+
+-- the first check of a file that fails
+abbrev pub first_fault : List ℕ → Option ElfFault
+first_fault file = header_fault file or_else program_headers_fault file

@@ -1,0 +1,10 @@
+pub use Rattle.word_bits.specs.Words
+pub use Rattle.word_bits.specs.Memory
+pub mod First
+pub mod Layout
+pub mod File
+pub mod HeaderChecks
+pub mod ProgramHeaderChecks
+pub mod Faults
+pub mod Loadable
+pub mod Image

@@ -1,0 +1,46 @@
+ghost use Rattle.std.specs.Prelude.{◌≡◌};
+ghost use Rattle.elf_reader.specs.declared.fault.ElfFault.TheVariants.{Memory};
+
+use std::alloc::AllocError;
+use thiserror::Error;
+
+/// The first check that a file fails, in the order in which `read` makes them.
+///
+/// An index counts from 0. A count past 2 ^ 32 - 1 is given as 2 ^ 32 - 1.
+#[derive(Clone, Copy, Debug, PartialEq, Eq, Error)]
+pub enum ElfFault {
+    /// The file has `have` bytes, fewer than the `need` bytes of an ELF header.
+    #[error("the file has {have} bytes of the {need} of an ELF header")]
+    TooShort { need: u32, have: u32 },
+    /// The file does not begin with the magic number; byte `at` is the first that differs.
+    #[error("no ELF file: byte {at} is not that of the magic number")]
+    NotElf { at: u32 },
+    /// A field has a value that is not supported. The fields are 1 `EI_CLASS`, 2 `EI_DATA`, 3 `EI_VERSION`,
+    /// 4 `e_type`, 5 `e_machine`, 6 `e_version`, 7 `e_flags`, 8 `e_ehsize`, 9 `e_phentsize`,
+    /// 10 `e_shentsize`, 11 `p_type`, 12 `p_filesz`, 13 `p_memsz`, 19 `e_shnum`.
+    #[error("field {field} has the value {value}")]
+    WrongKind { field: u32, value: u32 },
+    /// A record of a table does not lie inside the file: of table 1 program header `index`, of table 2 the
+    /// bytes of the segment of program header `index`.
+    #[error("record {index} of table {table} is not inside the file")]
+    OutOfFile { table: u32, index: u32 },
+    /// Too much of something: 1 bytes of the file, 2 program headers, 3 section headers, 4 bytes of
+    /// all segments in memory.
+    #[error("{count} is over limit {what}")]
+    OverLimit { what: u32, count: u32 },
+    /// Two segments share an address. `first` and `second` number their program headers, the lower one
+    /// first.
+    #[error("segments {first} and {second} overlap")]
+    Overlap { first: u32, second: u32 },
+    /// No memory was left.
+    #[error("out of memory")]
+    Memory,
+}
+
+impl From<AllocError> for ElfFault {
+    ghost from_gives = { λ _ fault. fault ≡ Memory };
+
+    fn from(_error: AllocError) -> ElfFault {
+        ElfFault::Memory
+    }
+}

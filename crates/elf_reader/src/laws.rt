@@ -1,0 +1,14 @@
+ghost use Rattle.std.specs.Prelude.{◌≡◌, ℕ, List, None};
+ghost use Rattle.elf_reader.specs.Faults.{first_fault};
+ghost use Rattle.elf_reader.specs.File.{load_segments};
+ghost use Rattle.elf_reader.specs.Loadable.{AreBytes, AreLoadable, AreApart};
+
+/// The segments of a file without a fault fit into their memory, which ends below 2 ^ 32.
+pub fn segments_are_loadable()
+    ensures { (file : List ℕ) → AreBytes file → first_fault file ≡ None → AreLoadable (load_segments file) }
+{}
+
+/// No two segments of a file without a fault share an address.
+pub fn segments_are_apart()
+    ensures { (file : List ℕ) → first_fault file ≡ None → AreApart (load_segments file) }
+{}

@@ -1,0 +1,5 @@
+pub mod Images
+pub mod Outputs
+pub mod Registers
+pub mod Runs
+pub mod Spans

@@ -1,0 +1,10 @@
+pub mod Mapping
+pub mod State
+pub mod Calls
+pub mod Step
+pub mod Runs
+pub mod Start
+pub mod Machine
+pub use Rattle.word_bits.specs.Memory
+pub use Rattle.rv_decode.specs.Acts
+pub use Rattle.rv_decode.specs.Table

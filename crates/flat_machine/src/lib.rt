@@ -1,0 +1,13 @@
+//! The flat machine: runs an RV32IM program on the memory of a board, with calls to read, write and exit.
+#![tactic(auto)]
+
+mod accesses;
+mod events;
+mod laws;
+mod loading;
+mod machine;
+mod mapping;
+
+pub use events::{FlatAccess, FlatEvent, FlatOutcome};
+pub use laws::{ended_stays, events_compose, events_count, is_determined, output_grows, steps_compose};
+pub use machine::Flat;

@@ -1,0 +1,44 @@
+ghost use Rattle.std.specs.Prelude.{◌≡◌, ◌+◌, ◌<◌, length, map, OnOk, IfOk};
+ghost use Rattle.word_bits.specs.Memory.{zeros, put_bytes};
+ghost use Rattle.elf_reader.specs.File.{plain_segment};
+ghost use Rattle.elf_reader.specs.Image.{image_of};
+ghost use Rattle.elf_reader.specs.Loadable.{AreLoadable};
+ghost use Rattle.board_config.specs.Board.{mapped_ranges};
+
+use board_config::{Board, Range};
+use elf_reader::Segment;
+use paged_store::{ByteStore, put_span};
+use std::alloc::{AllocError, Global};
+
+/// Puts bytes at the addresses from `at` on, which end below 2 ^ 32.
+fn lay_bytes<S: ByteStore>(store: &mut S, at: u32, bytes: &[u8]) -> Result<(), AllocError>
+    requires { at + length bytes.now < 4294967296 }
+    ensures { OnOk result (S.byte_at store.new ≡ put_bytes (S.byte_at store.old) at bytes.now) }
+{
+    store.room(at, bytes.len() as u32)?;
+    put_span(store, at, bytes);
+    Ok(())
+}
+
+/// Puts the bytes of the segments at their addresses. Where several have a byte for an address, that of
+/// the first counts, so it is put last.
+pub fn lay_segments<S: ByteStore>(store: &mut S, segments: &[Segment]) -> Result<(), AllocError>
+    requires empty { S.byte_at store.old ≡ zeros }
+    requires loadable { AreLoadable (map plain_segment segments.now) }
+    ensures { OnOk result (S.byte_at store.new ≡ image_of (map plain_segment segments.now)) }
+{
+    for k in (0..segments.len()).rev() {
+        let segment = &segments[k];
+        lay_bytes(store, segment.vaddr, segment.bytes)?;
+    }
+    Ok(())
+}
+
+/// The mapped memory of a board.
+pub fn mapped(alloc: Global, board: &Board) -> Result<Vec<Range>, AllocError>
+    ensures { IfOk result (λ map. map.items ≡ mapped_ranges board.now) }
+{
+    let mut map = vec![in alloc; board.main, board.spm, board.patch]?;
+    map.extend_from_slice(&board.areas)?;
+    Ok(map)
+}

@@ -1,0 +1,149 @@
+ghost use Rattle.std.specs.Prelude.{◌≤◌, length};
+
+mod calling;
+mod performing;
+mod registers;
+
+use crate::events::{FlatAccess, FlatEvent, FlatOutcome};
+use crate::loading::{lay_segments, mapped};
+use crate::mapping::has_access;
+use board_config::{Board, Range};
+use elf_reader::ElfView;
+use paged_store::{ByteStore, load4};
+use rv_decode::decode;
+use std::alloc::{AllocError, Global};
+
+/// An RV32IM machine with one hart, a flat memory and calls to read, write and exit.
+///
+/// Mapped are the ranges of its board. Its bytes are in a store of any kind.
+#[derive(Drop)]
+pub struct Flat<S> {
+    map: Vec<Range>,
+    store: S,
+    pc: u32,
+    regs: [u32; 32],
+    input: Vec<u8>,
+    // how many bytes of the input were read
+    taken: usize,
+    output: Vec<u8>,
+    outcome: FlatOutcome,
+    ghost taken_of_input: { taken ≤ length input.items },
+}
+
+impl<S: ByteStore + Drop> Flat<S> {
+    ghost use Rattle.std.specs.Prelude.{◌≡◌, IfOk, map};
+    ghost use Rattle.word_bits.specs.Memory.{zeros};
+    ghost use Rattle.elf_reader.specs.File.{plain_segment};
+    ghost use Rattle.elf_reader.specs.Loadable.{AreLoadable};
+    ghost use Rattle.board_config.specs.Board.{mapped_ranges};
+    ghost use Rattle.flat_machine.specs.Start.{start_of};
+    ghost use Rattle.flat_machine.specs.Machine.{state_of};
+
+    /// A machine on a board, at the entry of a file whose segments are loaded into an empty store.
+    ///
+    /// Its program reads `input`.
+    pub fn new(
+        alloc: Global,
+        view: &ElfView,
+        board: &Board,
+        input: &[u8],
+        mut store: S,
+    ) -> Result<Flat<S>, AllocError>
+        requires empty { S.byte_at store ≡ zeros }
+        requires loadable { AreLoadable (map plain_segment view.now.segments.items) }
+        ensures { IfOk result (λ machine. state_of S.byte_at machine
+            ≡ start_of view.now.entry (map plain_segment view.now.segments.items) (mapped_ranges board.now) input.now) }
+    {
+        lay_segments(&mut store, &view.segments)?;
+        Ok(Flat {
+            map: mapped(alloc, board)?,
+            store,
+            pc: view.entry,
+            regs: [0; 32],
+            input: Vec::from_slice(alloc, input)?,
+            taken: 0,
+            output: Vec::new(alloc),
+            outcome: FlatOutcome::GoesOn,
+        })
+    }
+}
+
+impl<S: ByteStore> Flat<S> {
+    ghost use Rattle.std.specs.Prelude.{◌≡◌, ℕ, ◌<◌, MatchBool, IfOk, OnOk, OnErr};
+    ghost use Rattle.flat_machine.specs.Step.{Step};
+    ghost use Rattle.flat_machine.specs.Runs.{HasEnded, Steps};
+    ghost use Rattle.flat_machine.specs.Machine.{state_of};
+
+    /// Takes one step. A machine that has ended stays as it is, and tells the same outcome again.
+    ///
+    /// On an error the step was not taken.
+    pub fn step(&mut self) -> Result<FlatEvent, AllocError>
+        ensures step { IfOk result (λ event. Step (state_of S.byte_at self.old) event (state_of S.byte_at self.new)) }
+        ensures err { OnErr result (state_of S.byte_at self.new ≡ state_of S.byte_at self.old) }
+    {
+        let at = self.pc;
+        if self.has_ended() {
+            return Ok(self.event(at, 0, None));
+        }
+        if !has_access(&self.map, at, 4) {
+            self.trap();
+            return Ok(self.event(at, 0, None));
+        }
+        let word = load4(&self.store, at);
+        let access = self.perform_read(decode(word))?;
+        Ok(self.event(at, word, access))
+    }
+
+    /// Takes `n` steps, or fewer where the machine ends before. Tells what has become of it.
+    ///
+    /// On an error fewer steps were taken, each of them whole.
+    pub fn run(&mut self, n: u64) -> Result<FlatOutcome, AllocError>
+        ensures steps { OnOk result (Steps n (state_of S.byte_at self.old) (state_of S.byte_at self.new)) }
+        ensures outcome { IfOk result (λ outcome. outcome ≡ (state_of S.byte_at self.new).outcome) }
+        ensures err { OnErr result ((k : ℕ) × ((k < n) × Steps k (state_of S.byte_at self.old) (state_of S.byte_at self.new))) }
+    {
+        for _ in 0..n {
+            if self.has_ended() {
+                break;
+            }
+            self.step()?;
+        }
+        Ok(self.outcome)
+    }
+
+    /// The bytes that the program wrote so far.
+    pub fn output(&self) -> &[u8]
+        ensures { result.now ≡ (state_of S.byte_at self.now).output }
+    {
+        &self.output
+    }
+
+    /// The address of the next instruction (pc).
+    pub fn at(&self) -> u32
+        ensures { result ≡ (state_of S.byte_at self.now).hart.pc }
+    {
+        self.pc
+    }
+
+    /// Whether the machine goes on no more.
+    fn has_ended(&self) -> bool
+        ensures { MatchBool result (HasEnded (state_of S.byte_at self.now).outcome) ((state_of S.byte_at self.now).outcome ≡ FlatOutcome.GoesOn) }
+    {
+        match self.outcome {
+            FlatOutcome::GoesOn => false,
+            FlatOutcome::Exited(_) | FlatOutcome::Trapped { .. } => true,
+        }
+    }
+
+    /// What a step that began at `at` tells.
+    fn event(&self, at: u32, word: u32, access: Option<FlatAccess>) -> FlatEvent
+        ensures { result ≡ record { at = at; outcome = (state_of S.byte_at self.now).outcome; word = word; access = access } }
+    {
+        FlatEvent {
+            at,
+            outcome: self.outcome,
+            word,
+            access,
+        }
+    }
+}

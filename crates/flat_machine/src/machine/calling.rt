@@ -1,0 +1,86 @@
+use crate::events::FlatOutcome;
+use crate::machine::Flat;
+use crate::mapping::has_move;
+use paged_store::{ByteStore, append_span, put_span};
+use std::alloc::AllocError;
+
+// the arguments a0 to a2 of a call, and its number in a7
+const A0: u8 = 10;
+
+const A1: u8 = 11;
+
+const A2: u8 = 12;
+
+const A7: u8 = 17;
+
+// the numbers of the calls, and the answer to any other: -38, "not implemented"
+const READ: u32 = 63;
+
+const WRITE: u32 = 64;
+
+const EXIT: u32 = 93;
+
+const NO_CALL: u32 = 0xffff_ffda;
+
+impl<S: ByteStore> Flat<S> {
+    ghost use Rattle.std.specs.Prelude.{◌≡◌, OnOk, OnErr};
+    ghost use Rattle.flat_machine.specs.Calls.{call, exited, written, read};
+    ghost use Rattle.flat_machine.specs.Machine.{state_of};
+
+    /// Does the call that the registers name.
+    pub(super) fn call(&mut self) -> Result<(), AllocError>
+        ensures ok { OnOk result (state_of S.byte_at self.new ≡ call (state_of S.byte_at self.old)) }
+        ensures err { OnErr result (state_of S.byte_at self.new ≡ state_of S.byte_at self.old) }
+    {
+        match self.register(A7) {
+            EXIT => self.exit(),
+            WRITE => self.write_out()?,
+            READ => self.read_in()?,
+            _ => self.write(A0, NO_CALL),
+        }
+        Ok(())
+    }
+
+    /// Exits with the low eight bits of a0.
+    fn exit(&mut self)
+        ensures { state_of S.byte_at self.new ≡ exited (state_of S.byte_at self.old) }
+    {
+        let code = self.register(A0) & 0xff;
+        self.outcome = FlatOutcome::Exited(code as u8);
+    }
+
+    /// Appends the a2 bytes at a1 to the output.
+    fn write_out(&mut self) -> Result<(), AllocError>
+        ensures ok { OnOk result (state_of S.byte_at self.new ≡ written (state_of S.byte_at self.old)) }
+        ensures err { OnErr result (state_of S.byte_at self.new ≡ state_of S.byte_at self.old) }
+    {
+        let at = self.register(A1);
+        let n = self.register(A2);
+        if !has_move(&self.map, at, n) {
+            self.trap();
+            return Ok(());
+        }
+        append_span(&self.store, at, n, &mut self.output)?;
+        self.write(A0, n);
+        Ok(())
+    }
+
+    /// Puts the next bytes of the input, at most a2, at a1.
+    fn read_in(&mut self) -> Result<(), AllocError>
+        ensures ok { OnOk result (state_of S.byte_at self.new ≡ read (state_of S.byte_at self.old)) }
+        ensures err { OnErr result (state_of S.byte_at self.new ≡ state_of S.byte_at self.old) }
+    {
+        let at = self.register(A1);
+        let asked = self.register(A2) as usize;
+        let n = asked.min(self.input.len() - self.taken);
+        if !has_move(&self.map, at, n as u32) {
+            self.trap();
+            return Ok(());
+        }
+        self.store.room(at, n as u32)?;
+        put_span(&mut self.store, at, &self.input[self.taken..self.taken + n]);
+        self.taken += n;
+        self.write(A0, n as u32);
+        Ok(())
+    }
+}

@@ -1,0 +1,44 @@
+use crate::machine::Flat;
+use paged_store::ByteStore;
+
+impl<S: ByteStore> Flat<S> {
+    ghost use Rattle.std.specs.Prelude.{◌≡◌, ◌<◌};
+    ghost use Rattle.rv_decode.specs.Acts.{register, with_register, after_write, after_jump};
+    ghost use Rattle.flat_machine.specs.Machine.{state_of};
+
+    /// The word in a register.
+    pub(super) fn register(&self, k: u8) -> u32
+        requires { k < 32 }
+        ensures { result ≡ register (state_of S.byte_at self.now).hart.regs k }
+    {
+        if k == 0 { 0 } else { self.regs[usize::from(k)] }
+    }
+
+    /// Puts a value into a register.
+    fn set_register(&mut self, rd: u8, value: u32)
+        requires { rd < 32 }
+        ensures { let s = state_of S.byte_at self.old in state_of S.byte_at self.new ≡ record s { hart = record s.hart { regs = with_register s.hart.regs rd value } } }
+    {
+        if rd != 0 {
+            self.regs[usize::from(rd)] = value;
+        }
+    }
+
+    /// Puts a value into a register and goes to the next word.
+    pub(super) fn write(&mut self, rd: u8, value: u32)
+        requires { rd < 32 }
+        ensures { let s = state_of S.byte_at self.old in state_of S.byte_at self.new ≡ record s { hart = after_write s.hart rd value } }
+    {
+        self.set_register(rd, value);
+        self.pc = self.pc.wrapping_add(4);
+    }
+
+    /// Jumps, and leaves the return address in a register.
+    pub(super) fn jump(&mut self, rd: u8, target: u32)
+        requires { rd < 32 }
+        ensures { let s = state_of S.byte_at self.old in state_of S.byte_at self.new ≡ record s { hart = after_jump s.hart rd target } }
+    {
+        self.set_register(rd, self.pc.wrapping_add(4));
+        self.pc = target;
+    }
+}

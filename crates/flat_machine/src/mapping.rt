@@ -1,0 +1,55 @@
+ghost use Rattle.std.specs.Prelude.{◌≡◌, ◌≤◌};
+ghost use Rattle.flat_machine.specs.Mapping.{is_mapped, all_mapped, is_inside_one, can_access, can_move};
+
+use board_config::Range;
+
+/// Whether an address lies in one of the ranges.
+fn has_byte(map: &[Range], at: u64) -> bool
+    ensures { result ≡ is_mapped map.now at }
+{
+    map.iter().any(|range| {
+        let base = u64::from(range.base);
+        base <= at && at < base + u64::from(range.size)
+    })
+}
+
+/// Whether one of the ranges holds all of the `n` addresses from `at`.
+fn has_span_in_one(map: &[Range], at: u32, n: u32) -> bool
+    ensures { result ≡ is_inside_one map.now at n }
+{
+    let end = u64::from(at) + u64::from(n);
+    map.iter().any(|range| {
+        range.base <= at && end <= u64::from(range.base) + u64::from(range.size)
+    })
+}
+
+/// Whether the `n` addresses from `at` are mapped. Most accesses lie in one range, which is asked first.
+#[tactic(auto, using(crate::proofs::Spans::mapped_inside_one, crate::proofs::Spans::unmapped_at))]
+fn has_span(map: &[Range], at: u32, n: u32) -> bool
+    ensures { result ≡ all_mapped map.now at n }
+{
+    if has_span_in_one(map, at, n) {
+        return true;
+    }
+    for i in 0..n {
+        if !has_byte(map, u64::from(at) + u64::from(i)) {
+            return false;
+        }
+    }
+    true
+}
+
+/// Whether a fetch, load or store of `width` bytes at `at` is aligned and mapped.
+pub fn has_access(map: &[Range], at: u32, width: u32) -> bool
+    requires { 1 ≤ width }
+    ensures { result ≡ can_access map.now at width }
+{
+    at % width == 0 && has_span(map, at, width)
+}
+
+/// Whether a call can move the `n` bytes at `at`: none passes 2 ^ 32, and each is mapped.
+pub fn has_move(map: &[Range], at: u32, n: u32) -> bool
+    ensures { result ≡ can_move map.now at n }
+{
+    u64::from(at) + u64::from(n) <= 0x1_0000_0000 && has_span(map, at, n)
+}

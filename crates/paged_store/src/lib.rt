@@ -1,0 +1,12 @@
+//! Byte memories: a byte at each 32-bit address, 0 where none was ever put.
+#![tactic(auto)]
+
+mod byte_store;
+mod list_store;
+mod spans;
+mod words;
+
+pub use byte_store::ByteStore;
+pub use list_store::ListStore;
+pub use spans::{append_span, put_span};
+pub use words::{load1, load2, load4, put1, put2, put4};

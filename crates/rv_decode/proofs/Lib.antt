@@ -1,0 +1,4 @@
+pub mod Sets
+pub mod Effects
+pub mod Meaning
+pub mod Words

@@ -1,0 +1,19 @@
+//! The instructions of RV32IM: what each word means, and what each instruction does.
+#![tactic(auto)]
+
+mod decoding;
+mod encoding;
+mod fields;
+mod instructions;
+mod laws;
+mod operations;
+mod registers;
+#[cfg(test)]
+mod tests;
+
+pub use decoding::decode;
+pub use encoding::encode;
+pub use instructions::{BranchKind, ImmKind, Instr, LoadKind, RegKind, RegSet, StoreKind};
+pub use laws::{acts_defines_only, acts_keeps_words, acts_uses_only, one_instruction, one_word};
+pub use operations::{imm_result, reg_result, takes};
+pub use registers::{defs, uses};

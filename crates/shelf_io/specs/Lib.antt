@@ -1,0 +1,9 @@
+pub mod Counts
+pub mod Shelf
+pub mod Sink
+pub mod FaultLog
+pub mod Entries
+pub mod MemShelf
+pub mod MemSink
+pub mod DirShelf
+pub mod OutSink

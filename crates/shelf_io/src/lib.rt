@@ -1,0 +1,19 @@
+//! The outside of a program: named files, and a stream of bytes. Each may fail, and says so.
+#![tactic(auto)]
+
+mod fault_log;
+mod folder;
+mod memory_shelf;
+mod memory_sink;
+mod output;
+mod shelves;
+mod sinks;
+#[cfg(test)]
+mod tests;
+
+pub use folder::DirShelf;
+pub use memory_shelf::MemShelf;
+pub use memory_sink::MemSink;
+pub use output::OutSink;
+pub use shelves::{CallKind, Shelf, ShelfFault};
+pub use sinks::{Sink, SinkFault};

@@ -1,0 +1,66 @@
+-- The line and the status by which a command tells why it has no result.
+use Rattle.std.specs.Prelude.{ℕ, List, [], ◌∷◌, ◌++◌, codes}
+use Rattle.std.specs.Fmt.{decimal}
+use Rattle.elf_reader.specs.declared.fault.ElfFault.{ElfFault}
+use Rattle.elf_reader.specs.declared.fault.ElfFault.TheVariants as elf
+use Rattle.board_config.specs.declared.board.BoardFault.{BoardFault}
+use Rattle.board_config.specs.declared.board.BoardFault.TheVariants as board
+use Rattle.spmlink.specs.declared.faults.Refusal.{Refusal}
+use Rattle.spmlink.specs.declared.faults.Refusal.TheVariants as refusal
+use Rattle.spmlink.specs.declared.faults.LineParts.{LineParts}
+
+-- the parts of a fault line
+pub record Parts : Type 0 where
+  pub status : ℕ
+  pub word : List ℕ
+  pub first : ℕ
+  pub second : ℕ
+
+abbrev pub parts : ℕ → List ℕ → ℕ → ℕ → Parts
+parts status word first second =
+    record { status = status; word = word; first = first; second = second }
+
+abbrev pub plain_parts : LineParts → Parts
+plain_parts p = parts p.status p.word.now p.first p.second
+
+abbrev pub elf_parts : ElfFault → Parts
+elf_parts (elf.TooShort need have) = parts 5 (codes "too-short") need have
+elf_parts (elf.NotElf at) = parts 5 (codes "not-elf") at 0
+elf_parts (elf.WrongKind field value) = parts 5 (codes "wrong-kind") field value
+elf_parts (elf.OutOfFile table index) = parts 5 (codes "out-of-file") table index
+elf_parts (elf.OverLimit what count) = parts 5 (codes "over-limit") what count
+elf_parts (elf.Overlap first second) = parts 5 (codes "overlap") first second
+elf_parts elf.Memory = parts 9 (codes "memory") 0 0
+
+abbrev pub board_parts : BoardFault → Parts
+board_parts board.NotToml = parts 4 (codes "not-toml") 0 0
+board_parts board.Memory = parts 9 (codes "memory") 0 0
+
+abbrev pub parts_of : Refusal → Parts
+parts_of refusal.Usage = parts 1 (codes "usage") 0 0
+parts_of (refusal.Read place) = parts 2 (codes "read") place 0
+parts_of (refusal.Write place) = parts 3 (codes "write") place 0
+parts_of (refusal.Board fault) = board_parts fault
+parts_of (refusal.Elf fault) = elf_parts fault
+parts_of refusal.Memory = parts 9 (codes "memory") 0 0
+
+abbrev pub status_of : Refusal → ℕ
+status_of r = (parts_of r).status
+
+-- `error STATUS WORD FIRST SECOND`
+abbrev pub parts_text : Parts → List ℕ
+parts_text p =
+    codes "error " ++ (decimal p.status ++ (codes " " ++ (p.word ++ (codes " " ++ (decimal p.first ++ (codes " " ++ decimal p.second))))))
+
+-- the fault line, with its newline
+abbrev pub fault_line : Refusal → List ℕ
+fault_line r = parts_text (parts_of r) ++ 10 ∷ []
+
+-- a part's want of memory is the command's
+abbrev pub board_refusal : BoardFault → Refusal
+board_refusal board.Memory = refusal.Memory
+board_refusal fault = refusal.Board fault
+
+abbrev pub elf_refusal : ElfFault → Refusal
+elf_refusal elf.Memory = refusal.Memory
+elf_refusal fault = refusal.Elf fault

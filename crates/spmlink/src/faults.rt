@@ -1,0 +1,161 @@
+use board_config::BoardFault;
+use elf_reader::ElfFault;
+use std::alloc::{AllocError, Global};
+use std::fmt;
+
+/// Why a command has no result.
+#[derive(Debug, Drop)]
+pub enum Refusal {
+    /// The words are no command.
+    Usage,
+    /// The word at this place, counted from 0, names what could not be read.
+    Read { place: u32 },
+    /// The word at this place names what could not be written; 0 is the standard output.
+    Write { place: u32 },
+    /// The board file is not one.
+    Board(BoardFault),
+    /// The ELF file is not one that is read.
+    Elf(ElfFault),
+    /// No memory was left.
+    Memory,
+}
+
+impl Refusal {
+    ghost use Rattle.std.specs.Prelude.{◌≡◌, ◌++◌, IfOk, string_bytes};
+    ghost use Rattle.spmlink.specs.FaultLine.{plain_parts, parts_of, status_of, fault_line};
+
+    /// The exit status.
+    pub fn status(&self) -> u8
+        ensures { result ≡ status_of self.now }
+    {
+        self.parts().status
+    }
+
+    /// The fault line, with its newline.
+    pub fn line(&self, alloc: Global) -> Result<String, AllocError>
+        ensures { IfOk result (λ text. string_bytes text ≡ fault_line self.now) }
+    {
+        let parts = self.parts();
+        format!(in alloc; "{parts}\n")
+    }
+
+    fn parts(&self) -> LineParts
+        ensures { plain_parts result ≡ parts_of self.now }
+    {
+        match self {
+            Refusal::Usage => LineParts::new(1, "usage", 0, 0),
+            Refusal::Read { place } => LineParts::new(2, "read", *place, 0),
+            Refusal::Write { place } => LineParts::new(3, "write", *place, 0),
+            Refusal::Board(fault) => LineParts::of_board(fault),
+            Refusal::Elf(fault) => LineParts::of_elf(fault),
+            Refusal::Memory => LineParts::new(9, "memory", 0, 0),
+        }
+    }
+}
+
+impl From<AllocError> for Refusal {
+    ghost use Rattle.std.specs.Prelude.{◌≡◌};
+    ghost use Rattle.spmlink.specs.declared.faults.Refusal.TheVariants as refusal;
+
+    ghost from_gives = { λ _ fault. fault ≡ refusal.Memory };
+
+    fn from(_error: AllocError) -> Refusal {
+        Refusal::Memory
+    }
+}
+
+impl From<BoardFault> for Refusal {
+    ghost use Rattle.std.specs.Prelude.{◌≡◌};
+    ghost use Rattle.spmlink.specs.FaultLine.{board_refusal};
+
+    ghost from_gives = { λ fault refusal. refusal ≡ board_refusal fault };
+
+    fn from(fault: BoardFault) -> Refusal {
+        match fault {
+            BoardFault::Memory => Refusal::Memory,
+            fault => Refusal::Board(fault),
+        }
+    }
+}
+
+impl From<ElfFault> for Refusal {
+    ghost use Rattle.std.specs.Prelude.{◌≡◌};
+    ghost use Rattle.spmlink.specs.FaultLine.{elf_refusal};
+
+    ghost from_gives = { λ fault refusal. refusal ≡ elf_refusal fault };
+
+    fn from(fault: ElfFault) -> Refusal {
+        match fault {
+            ElfFault::Memory => Refusal::Memory,
+            fault => Refusal::Elf(fault),
+        }
+    }
+}
+
+/// The parts of a fault line.
+#[derive(Clone, Copy)]
+struct LineParts {
+    status: u8,
+    word: &'static str,
+    first: u32,
+    second: u32,
+}
+
+impl LineParts {
+    ghost use Rattle.std.specs.Prelude.{◌≡◌};
+    ghost use Rattle.spmlink.specs.FaultLine.{parts, plain_parts, board_parts, elf_parts};
+
+    fn new(status: u8, word: &'static str, first: u32, second: u32) -> LineParts
+        ensures { plain_parts result ≡ parts status word.entry.now first second }
+    {
+        LineParts {
+            status,
+            word,
+            first,
+            second,
+        }
+    }
+
+    fn of_board(fault: &BoardFault) -> LineParts
+        ensures { plain_parts result ≡ board_parts fault.now }
+    {
+        match fault {
+            BoardFault::NotToml => LineParts::new(4, "not-toml", 0, 0),
+            BoardFault::Memory => LineParts::new(9, "memory", 0, 0),
+        }
+    }
+
+    fn of_elf(fault: &ElfFault) -> LineParts
+        ensures { plain_parts result ≡ elf_parts fault.now }
+    {
+        match fault {
+            ElfFault::TooShort { need, have } => LineParts::new(5, "too-short", *need, *have),
+            ElfFault::NotElf { at } => LineParts::new(5, "not-elf", *at, 0),
+            ElfFault::WrongKind { field, value } => LineParts::new(5, "wrong-kind", *field, *value),
+            ElfFault::OutOfFile { table, index } => LineParts::new(
+                5,
+                "out-of-file",
+                *table,
+                *index,
+            ),
+            ElfFault::OverLimit { what, count } => LineParts::new(5, "over-limit", *what, *count),
+            ElfFault::Overlap { first, second } => LineParts::new(5, "overlap", *first, *second),
+            ElfFault::Memory => LineParts::new(9, "memory", 0, 0),
+        }
+    }
+}
+
+impl fmt::Display for LineParts {
+    ghost use Rattle.std.specs.Prelude.{Some};
+    ghost use Rattle.spmlink.specs.FaultLine.{plain_parts, parts_text};
+
+    ghost output = { λ p. Some (parts_text (plain_parts p)) };
+
+    fn fmt<W: fmt::Write>(&self, f: &mut fmt::Formatter<W>) -> fmt::Result {
+        let status = self.status;
+        let word = self.word;
+        let first = self.first;
+        let second = self.second;
+        write!(f, "error {status} {word} {first} {second}")
+    }
+}

@@ -1,0 +1,162 @@
+use crate::top::run;
+use shelf_io::{MemShelf, MemSink, Shelf};
+use std::alloc::{AllocError, Global};
+use std::test::Fail;
+
+/// A program that prints `ok` and a newline, and exits with 0.
+const OK_FILE: [u8; 120] = [
+    0x7f, 0x45, 0x4c, 0x46, 0x01, 0x01, 0x01, 0x00, 0x00, 0x00, 0x00, 0x00, 0x00, 0x00, 0x00, 0x00,
+    0x02, 0x00, 0xf3, 0x00, 0x01, 0x00, 0x00, 0x00, 0x54, 0x00, 0x01, 0x00, 0x34, 0x00, 0x00, 0x00,
+    0x00, 0x00, 0x00, 0x00, 0x00, 0x00, 0x00, 0x00, 0x34, 0x00, 0x20, 0x00, 0x01, 0x00, 0x28, 0x00,
+    0x00, 0x00, 0x00, 0x00, 0x01, 0x00, 0x00, 0x00, 0x00, 0x00, 0x00, 0x00, 0x00, 0x00, 0x01, 0x00,
+    0x00, 0x00, 0x01, 0x00, 0x78, 0x00, 0x00, 0x00, 0x78, 0x00, 0x00, 0x00, 0x05, 0x00, 0x00, 0x00,
+    0x00, 0x10, 0x00, 0x00, 0xb7, 0x05, 0x01, 0x00, 0x93, 0x85, 0x45, 0x07, 0x13, 0x06, 0x30, 0x00,
+    0x93, 0x08, 0x00, 0x04, 0x73, 0x00, 0x00, 0x00, 0x13, 0x05, 0x00, 0x00, 0x93, 0x08, 0xd0, 0x05,
+    0x73, 0x00, 0x00, 0x00, 0x6f, 0x6b, 0x0a, 0x00,
+];
+
+/// A call of `run`: the words, what stands under `prog` and `board`, and what fails.
+#[derive(Clone, Copy)]
+struct Call<'a> {
+    words: &'a [&'a str],
+    file: &'a [u8],
+    board: &'a [u8],
+    failing_call: Option<u64>,
+    failing_put: Option<u64>,
+}
+
+/// What a call answered: its status, what it printed, and what stands under `out`.
+#[derive(Drop)]
+struct Answer {
+    status: u8,
+    printed: Vec<u8>,
+    out: Option<Vec<u8>>,
+}
+
+const RUN: [&str; 5] = ["run", "prog", "board", "input", "out"];
+
+impl<'a> Call<'a> {
+    /// A `run` of a file on the default board, in which nothing fails.
+    fn of(file: &'a [u8]) -> Call<'a> {
+        Call {
+            words: &RUN,
+            file,
+            board: &[],
+            failing_call: None,
+            failing_put: None,
+        }
+    }
+
+    fn words(&self, alloc: Global) -> Result<Vec<String>, AllocError> {
+        let mut words = Vec::new(alloc);
+        for word in self.words {
+            words.push(String::from_str(alloc, word)?)?;
+        }
+        Ok(words)
+    }
+
+    fn shelf(&self, alloc: Global) -> Result<MemShelf, AllocError> {
+        let entries = vec![in alloc;
+            (String::from_str(alloc, "prog")?, self.file.to_vec(alloc)?),
+            (String::from_str(alloc, "board")?, self.board.to_vec(alloc)?),
+            (String::from_str(alloc, "input")?, Vec::new(alloc)),
+        ]?;
+        MemShelf::new(alloc, entries, listed(alloc, self.failing_call)?)
+    }
+
+    fn answer(&self, alloc: Global) -> Result<Answer, AllocError> {
+        let mut shelf = self.shelf(alloc)?;
+        let mut out = MemSink::new(
+            Vec::with_capacity(alloc, 100)?,
+            listed(alloc, self.failing_put)?,
+        );
+        let status = run(alloc, &self.words(alloc)?, &mut shelf, &mut out);
+        let printed = out.bytes().to_vec(alloc)?;
+        let out = shelf.read(alloc, "out").ok();
+        Ok(Answer {
+            status,
+            printed,
+            out,
+        })
+    }
+}
+
+fn listed(alloc: Global, number: Option<u64>) -> Result<Vec<u64>, AllocError> {
+    let mut listed = Vec::new(alloc);
+    if let Some(number) = number {
+        listed.push(number)?;
+    }
+    Ok(listed)
+}
+
+#[test]
+fn runs_a_program(rt: HostRuntime) -> Result<(), Fail> {
+    let answer = Call::of(&OK_FILE).answer(rt.alloc())?;
+    assert_eq!(rt; answer.status, 0);
+    assert_eq!(rt; answer.printed.as_slice(), b"exited 0\n".as_slice());
+    assert_eq!(rt;
+        answer.out.ok_or("no output")?.as_slice(),
+        b"ok\n".as_slice()
+    );
+    Ok(())
+}
+
+#[test]
+fn tells_what_is_refused(rt: HostRuntime) -> Result<(), Fail> {
+    let mut no_riscv = OK_FILE;
+    no_riscv[18] = 0x03;
+    let calls = [
+        (Call::of(&OK_FILE[..51]), "error 5 too-short 52 51\n"),
+        (Call::of(&[]), "error 5 too-short 52 0\n"),
+        (Call::of(&no_riscv), "error 5 wrong-kind 5 3\n"),
+        (
+            Call {
+                words: &RUN[..4],
+                ..Call::of(&OK_FILE)
+            },
+            "error 1 usage 0 0\n",
+        ),
+        (
+            Call {
+                board: b"=",
+                ..Call::of(&OK_FILE)
+            },
+            "error 4 not-toml 0 0\n",
+        ),
+    ];
+    for (call, line) in &calls {
+        let answer = call.answer(rt.alloc())?;
+        assert_eq!(rt; answer.printed.as_slice(), line.as_bytes());
+        assert_eq!(rt; answer.status, line.as_bytes()[6] - b'0');
+        assert!(rt; answer.out.is_none());
+    }
+    Ok(())
+}
+
+#[test]
+fn tells_what_failed_outside(rt: HostRuntime) -> Result<(), Fail> {
+    let second_read = Call {
+        failing_call: Some(1),
+        ..Call::of(&OK_FILE)
+    };
+    let write = Call {
+        failing_call: Some(3),
+        ..Call::of(&OK_FILE)
+    };
+    let print = Call {
+        failing_put: Some(0),
+        ..Call::of(&OK_FILE)
+    };
+    let calls = [
+        (second_read, "error 2 read 2 0\n", false),
+        (write, "error 3 write 4 0\n", false),
+        (print, "error 3 write 0 0\n", true),
+    ];
+    for (call, line, written) in calls {
+        let answer = call.answer(rt.alloc())?;
+        assert_eq!(rt; answer.printed.as_slice(), line.as_bytes());
+        assert_eq!(rt; answer.status, line.as_bytes()[6] - b'0');
+        assert_eq!(rt; answer.out.is_some(), written);
+    }
+    Ok(())
+}
