@@ -1,15 +1,13 @@
 -- The image of segments, a segment at a time.
-use Rattle.std.proofs.Common.{◌≡◌, ◌⊎◌, ℕ, ◌+◌, ◌-◌, ◌<◌, ◌≤◌, List, ◌∷◌, length, slice_index, get_or, drop, map, suc, arith, sym, ◌∙◌, ap, subst}
+use Rattle.std.proofs.Common.{◌≡◌, ℕ, ◌+◌, ◌-◌, ◌<◌, List, ◌∷◌, length, get_or, drop, map, suc, arith, ◌∙◌, ap, subst}
 use Rattle.std.proofs.Math.ListN.{get_or-map, length-map}
 use Rattle.std.proofs.Math.Seq.{drop-cons}
-use Rattle.std.specs.Prelude.{Bool, true, false}
-use Rattle.std.proofs.lemmas.Grind.{common_steps}
 use Rattle.std.proofs.lemmas.Bool.Decides.{nat_tests}
 use Rattle.word_bits.specs.Memory.{Memory, put_bytes}
 use Rattle.elf_reader.specs.declared.view.Segment.{Segment}
 use Rattle.elf_reader.specs.File.{PlainSegment, plain_segment}
 use Rattle.elf_reader.specs.Loadable.{IsLoadable, AreLoadable}
-use Rattle.elf_reader.specs.Image.{has_byte, image_of}
+use Rattle.elf_reader.specs.Image.{image_of}
 use Rattle.paged_store.proofs.Puts.{put_bytes_before, put_bytes_behind, put_bytes_at}
 
 image_at : (s : PlainSegment) (ss : List PlainSegment) (a : ℕ) → put_bytes (image_of ss) s.vaddr s.content a ≡ image_of (s ∷ ss) a

@@ -3,3 +3,4 @@ pub mod Outputs
 pub mod Registers
 pub mod Runs
 pub mod Spans
+pub mod Words

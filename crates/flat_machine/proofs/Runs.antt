@@ -1,17 +1,27 @@
 -- Laws of runs.
-use Rattle.std.proofs.Common.{◌≡◌, ℕ, zero, suc, ◌+◌, List, [], ◌∷◌, ◌++◌, length, append_assoc, refl, sym, ◌∙◌, ap, subst, arith}
-use Rattle.std.specs.Prelude.{Bool, true, false, Option, Some, None}
+use Rattle.std.proofs.Common.{◌≡◌, ℕ, zero, suc, ◌+◌, List, [], ◌∷◌, ◌++◌, length, refl, sym, ◌∙◌, ap, subst, arith}
+use Rattle.std.specs.Prelude.{Bool, IsTrue, true, false, Option, Some, None}
 use Rattle.std.specs.Bool.{MatchBool}
-use Rattle.word_bits.specs.Memory.{word_at, bytes_at}
+use Rattle.word_bits.specs.Memory.{word_at}
 use Rattle.rv_decode.specs.declared.instructions.Instr.{Instr}
-use Rattle.rv_decode.specs.Table.{Means, MeansNothing, OneInstruction}
+use Rattle.rv_decode.specs.Table.{Means, OneInstruction}
 use Rattle.flat_machine.specs.declared.events.FlatOutcome.{FlatOutcome}
 use Rattle.flat_machine.specs.declared.events.FlatOutcome.TheVariants.{GoesOn, Exited, Trapped}
 use Rattle.flat_machine.specs.declared.events.FlatEvent.{FlatEvent}
 use Rattle.flat_machine.specs.Mapping.{can_access}
 use Rattle.flat_machine.specs.State.{State, trap}
-use Rattle.flat_machine.specs.Step.{Reads, next_state, next_access, Performs, ReadsNothing, StepAt, Step}
+use Rattle.flat_machine.specs.Step.{performed, event_of, Reads, next_state, next_access, Performs, ReadsNothing, StepAt, Step}
 use Rattle.flat_machine.specs.Runs.{Does, Steps, HasEnded}
+
+-- ---- a step by what the word means
+
+pub performs_meaning : (s : State) (i : Instr) → s.outcome ≡ GoesOn → IsTrue (can_access s.map s.hart.pc 4) → Means (word_at s.hart.mem s.hart.pc) i → Step s (event_of s i) (performed s i)
+performs_meaning s i going fetches means =
+    let e : FlatEvent = event_of s i in
+    let t : State = performed s i in
+    let step : Performs s e t (Some i) = record { reads = means; state = refl; event = refl } in
+    subst (λ o. StepAt o s e t) (sym going)
+    (subst (λ b. MatchBool b ((read : Option Instr) × Performs s e t read) (ReadsNothing s e t (trap s))) (sym fetches) (Some i, step))
 
 -- ---- runs compose
 
@@ -115,9 +125,9 @@ performs_same one s t u e f q r a b =
     record {
       state = same;
       event = a.event
-        ∙ (ap (λ (x : State). record { at = s.hart.pc; outcome = x.outcome; word = word_at s.hart.mem s.hart.pc; access = next_access s q }) same
-        ∙ (ap (λ (x : Option Instr). record { at = s.hart.pc; outcome = u.outcome; word = word_at s.hart.mem s.hart.pc; access = next_access s x }) read
-        ∙ sym b.event));
+          ∙ (ap (λ (x : State). record { at = s.hart.pc; outcome = x.outcome; word = word_at s.hart.mem s.hart.pc; access = next_access s q }) same
+          ∙ (ap (λ (x : Option Instr). record { at = s.hart.pc; outcome = u.outcome; word = word_at s.hart.mem s.hart.pc; access = next_access s x }) read
+          ∙ sym b.event));
     }
 
 going_same : OneInstruction → (fetches : Bool) (s t u : State) (e f : FlatEvent) → MatchBool fetches ((read : Option Instr) × Performs s e t read) (ReadsNothing s e t (trap s)) → MatchBool fetches ((read : Option Instr) × Performs s f u read) (ReadsNothing s f u (trap s)) → SameStep t u e f

@@ -1,7 +1,6 @@
 -- Spans of mapped addresses.
-use Rattle.std.proofs.Common.{◌≡◌, ℕ, ◌+◌, ◌<◌, ◌≤◌, List, [], ◌∷◌, arith, zero, suc}
-use Rattle.std.specs.Prelude.{IsTrue, true, false}
-use Rattle.std.proofs.lemmas.Grind.{common_steps}
+use Rattle.std.proofs.Common.{◌≡◌, ℕ, ◌+◌, ◌<◌, List, [], ◌∷◌, arith, zero, suc}
+use Rattle.std.specs.Prelude.{true, false}
 use Rattle.std.proofs.lemmas.Bool.Decides.{nat_tests}
 use Rattle.board_config.specs.declared.board.Range.{Range}
 use Rattle.flat_machine.specs.Mapping.{is_mapped, all_mapped, is_inside_one}

@@ -2,7 +2,7 @@
 -- (RISC-V psABI, "Integer Register Convention"; the numbers and the error are those of Linux).
 use Rattle.std.specs.Prelude.{ℕ, ◌%◌, ◌==◌, if◌then◌else◌, min, length, take, drop, ◌++◌}
 use Rattle.word_bits.specs.Memory.{bytes_at, put_bytes}
-use Rattle.rv_decode.specs.Acts.{Hart, register, after_write}
+use Rattle.rv_decode.specs.Acts.{register, after_write}
 use Rattle.flat_machine.specs.declared.events.FlatOutcome.TheVariants.{Exited}
 use Rattle.flat_machine.specs.Mapping.{can_move}
 use Rattle.flat_machine.specs.State.{State, trap}
@@ -48,9 +48,12 @@ with_read_bytes s =
 
 abbrev pub read : State → State
 read s =
-    if can_move s.map (a1 s) (read_count s) then answered (with_read_bytes s) (read_count s) else trap s
+    if can_move s.map (a1 s) (read_count s)
+    then answered (with_read_bytes s) (read_count s)
+    else trap s
 
--- what a call does: 93 exit, 64 write, 63 read; to any other number the answer is -38, "not implemented"
+-- what a call does: 93 exit, 64 write, 63 read; to any other number the answer is -38,
+-- "not implemented"
 abbrev pub call : State → State
 call s =
     if a7 s == 93 then exited s

@@ -1,5 +1,5 @@
 -- The state that a machine of the code stands for.
-use Rattle.std.specs.Prelude.{ℕ, drop, slice_index}
+use Rattle.std.specs.Prelude.{drop, slice_index}
 use Rattle.word_bits.specs.Memory.{Memory}
 use Rattle.flat_machine.specs.declared.machine.Flat.{Flat}
 use Rattle.flat_machine.specs.State.{State}
@@ -9,7 +9,11 @@ abbrev pub state_of : {S : Type 0} → (S → Memory) → Flat S → State
 state_of byte_at machine =
     record {
       map = machine.map.items;
-      hart = record { pc = machine.pc; regs = λ k. slice_index machine.regs k; mem = byte_at machine.store };
+      hart = record {
+        pc = machine.pc;
+        regs = λ k. slice_index machine.regs k;
+        mem = byte_at machine.store;
+      };
       input = drop machine.taken machine.input.items;
       output = machine.output.items;
       outcome = machine.outcome;

@@ -18,10 +18,11 @@ all_mapped map at (suc n) = all_mapped map at n && is_mapped map (at + n)
 
 -- one range holds all of the `n` addresses from `at`
 abbrev pub is_inside_one : List Range → ℕ → ℕ → Bool
-is_inside_one map at n = list_any (λ range. nat_le range.base at && nat_le (at + n) (range.base + range.size)) map
+is_inside_one map at n =
+    list_any (λ range. nat_le range.base at && nat_le (at + n) (range.base + range.size)) map
 
--- a fetch, load or store of `width` bytes: aligned, and each byte mapped
--- (RISC-V Unprivileged ISA, "Load and Store Instructions": a misaligned access may trap, and does here)
+-- a fetch, load or store of `width` bytes: aligned, and each byte mapped. A misaligned access may
+-- trap (RISC-V Unprivileged ISA, "Load and Store Instructions"), and does here.
 abbrev pub can_access : List Range → ℕ → ℕ → Bool
 can_access map at width = (at % width == 0) && all_mapped map at width
 

@@ -1,10 +1,15 @@
--- Runs of the flat machine, by their events and by their number of steps, and what holds of all runs.
-use Rattle.std.specs.Prelude.{◌≡◌, ℕ, zero, suc, ◌+◌, List, [], ◌∷◌, ◌++◌, length, None}
+-- Runs of the flat machine, by their events and by their numbers of steps, and what holds of all
+-- runs.
+use Rattle.std.specs.Prelude.{◌≡◌, ℕ, zero, suc, ◌+◌, List, [], ◌∷◌, ◌++◌, length, None, IsTrue}
+use Rattle.word_bits.specs.Memory.{word_at}
+use Rattle.rv_decode.specs.declared.instructions.Instr.{Instr}
+use Rattle.rv_decode.specs.Table.{Means}
 use Rattle.flat_machine.specs.declared.events.FlatOutcome.{FlatOutcome}
 use Rattle.flat_machine.specs.declared.events.FlatOutcome.TheVariants.{GoesOn, Exited, Trapped}
 use Rattle.flat_machine.specs.declared.events.FlatEvent.{FlatEvent}
 use Rattle.flat_machine.specs.State.{State}
-use Rattle.flat_machine.specs.Step.{Step}
+use Rattle.flat_machine.specs.Mapping.{can_access}
+use Rattle.flat_machine.specs.Step.{performed, event_of, Step}
 
 -- steps with these events lead from `s` to `t`
 abbrev pub Does : List FlatEvent → State → State → Type 0
@@ -24,10 +29,18 @@ HasEnded (Trapped pc) = Unit {0}
 
 -- ---- what holds of all runs
 
+-- a machine that goes on and can fetch a word performs the instruction that the word means
+abbrev pub PerformsMeaning : Type 0
+PerformsMeaning =
+    (s : State) (i : Instr) → s.outcome ≡ GoesOn → IsTrue (can_access s.map s.hart.pc 4) →
+    Means (word_at s.hart.mem s.hart.pc) i → Step s (event_of s i) (performed s i)
+
 -- runs compose, and a run of two parts can be cut between them
 pub record EventsCompose : Type 0 where
-  pub joined : (es fs : List FlatEvent) (s m t : State) → Does es s m → Does fs m t → Does (es ++ fs) s t
-  pub cut : (es fs : List FlatEvent) (s t : State) → Does (es ++ fs) s t → (m : State) × (Does es s m × Does fs m t)
+  pub joined : (es fs : List FlatEvent) (s m t : State) →
+      Does es s m → Does fs m t → Does (es ++ fs) s t
+  pub cut : (es fs : List FlatEvent) (s t : State) →
+      Does (es ++ fs) s t → (m : State) × (Does es s m × Does fs m t)
 
 pub record StepsCompose : Type 0 where
   pub joined : (j k : ℕ) (s m t : State) → Steps j s m → Steps k m t → Steps (j + k) s t
@@ -36,12 +49,14 @@ pub record StepsCompose : Type 0 where
 -- a run has as many events as steps
 pub record EventsCount : Type 0 where
   pub steps : (es : List FlatEvent) (s t : State) → Does es s t → Steps (length es) s t
-  pub events : (n : ℕ) (s t : State) → Steps n s t → (es : List FlatEvent) × ((length es ≡ n) × Does es s t)
+  pub events : (n : ℕ) (s t : State) →
+      Steps n s t → (es : List FlatEvent) × ((length es ≡ n) × Does es s t)
 
 -- a machine that has ended stays as it is, and each further step tells so
 pub record EndedStays : Type 0 where
   pub state : (s t : State) (e : FlatEvent) → HasEnded s.outcome → Step s e t → t ≡ s
-  pub event : (s t : State) (e : FlatEvent) → HasEnded s.outcome → Step s e t → e ≡ record { at = s.hart.pc; outcome = s.outcome; word = 0; access = None }
+  pub event : (s t : State) (e : FlatEvent) → HasEnded s.outcome → Step s e t →
+      e ≡ record { at = s.hart.pc; outcome = s.outcome; word = 0; access = None }
   pub steps : (n : ℕ) (s t : State) → HasEnded s.outcome → Steps n s t → t ≡ s
   pub any_steps : (n : ℕ) (s : State) → HasEnded s.outcome → Steps n s s
 
@@ -49,7 +64,8 @@ pub record EndedStays : Type 0 where
 pub record IsDetermined : Type 0 where
   pub event : (s t u : State) (e f : FlatEvent) → Step s e t → Step s f u → e ≡ f
   pub state : (s t u : State) (e f : FlatEvent) → Step s e t → Step s f u → t ≡ u
-  pub events : (es fs : List FlatEvent) (s t u : State) → length es ≡ length fs → Does es s t → Does fs s u → es ≡ fs
+  pub events : (es fs : List FlatEvent) (s t u : State) →
+      length es ≡ length fs → Does es s t → Does fs s u → es ≡ fs
   pub steps : (n : ℕ) (s t u : State) → Steps n s t → Steps n s u → t ≡ u
 
 -- what was written stays written

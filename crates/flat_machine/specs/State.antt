@@ -3,7 +3,7 @@ use Rattle.std.specs.Prelude.{ℕ, List}
 use Rattle.rv_decode.specs.Acts.{Hart}
 use Rattle.board_config.specs.declared.board.Range.{Range}
 use Rattle.flat_machine.specs.declared.events.FlatOutcome.{FlatOutcome}
-use Rattle.flat_machine.specs.declared.events.FlatOutcome.TheVariants.{GoesOn, Exited, Trapped}
+use Rattle.flat_machine.specs.declared.events.FlatOutcome.TheVariants.{Trapped}
 
 pub record State : Type 0 where
   -- the mapped memory, which never changes

@@ -1,11 +1,12 @@
--- One step of the flat machine, as a relation. It says what a word means by the instruction table alone.
+-- One step of the flat machine, as a relation. What a word means is said by the instruction table
+-- alone.
 use Rattle.std.specs.Prelude.{◌≡◌, ℕ, Bool, true, if◌then◌else◌, Option, Some, None, option_map}
 use Rattle.std.specs.Bool.{MatchBool}
 use Rattle.word_bits.specs.Memory.{word_at}
 use Rattle.rv_decode.specs.declared.instructions.Instr.{Instr}
 use Rattle.rv_decode.specs.declared.instructions.Instr.TheVariants.{Ecall, Ebreak}
 use Rattle.rv_decode.specs.Table.{Means, MeansNothing}
-use Rattle.rv_decode.specs.Acts.{Hart, Access, acts, access_of}
+use Rattle.rv_decode.specs.Acts.{Access, acts, access_of}
 use Rattle.flat_machine.specs.declared.events.FlatOutcome.{FlatOutcome}
 use Rattle.flat_machine.specs.declared.events.FlatOutcome.TheVariants.{GoesOn, Exited, Trapped}
 use Rattle.flat_machine.specs.declared.events.FlatEvent.{FlatEvent}
@@ -23,13 +24,16 @@ may_access s (Some access) = can_access s.map access.at access.width
 abbrev pub performed : State → Instr → State
 performed s Ecall = call s
 performed s Ebreak = trap s
-performed s i = if may_access s (access_of i s.hart.regs) then record s { hart = acts i s.hart } else trap s
+performed s i =
+    if may_access s (access_of i s.hart.regs) then record s { hart = acts i s.hart } else trap s
 
--- the access that an event tells of: that of a load or store that does not trap, by its least address
+-- the access that an event tells of: that of a load or store that does not trap, by its least
+-- address
 abbrev pub accessed : State → Instr → Option FlatAccess
 accessed s i =
     if may_access s (access_of i s.hart.regs)
-    then option_map (λ access. record { at = access.at; write = access.write }) (access_of i s.hart.regs)
+    then
+    option_map (λ access. record { at = access.at; write = access.write }) (access_of i s.hart.regs)
     else None
 
 -- a word means an instruction, or none
@@ -50,7 +54,13 @@ next_access s (Some i) = accessed s i
 pub record Performs (s : State) (e : FlatEvent) (t : State) (read : Option Instr) : Type 0 where
   pub reads : Reads (word_at s.hart.mem s.hart.pc) read
   pub state : t ≡ next_state s read
-  pub event : e ≡ record { at = s.hart.pc; outcome = t.outcome; word = word_at s.hart.mem s.hart.pc; access = next_access s read }
+  pub event : e ≡
+      record {
+        at = s.hart.pc;
+        outcome = t.outcome;
+        word = word_at s.hart.mem s.hart.pc;
+        access = next_access s read;
+      }
 
 -- the step reads no word, since it goes on no more or traps at the fetch
 pub record ReadsNothing (s : State) (e : FlatEvent) (t next : State) : Type 0 where
@@ -69,3 +79,13 @@ StepAt (Trapped pc) s e t = ReadsNothing s e t s
 -- one step of `s` may tell the event `e` and lead to `t`
 abbrev pub Step : State → FlatEvent → State → Type 0
 Step s e t = StepAt s.outcome s e t
+
+-- what a step tells that performs an instruction
+abbrev pub event_of : State → Instr → FlatEvent
+event_of s i =
+    record {
+      at = s.hart.pc;
+      outcome = (performed s i).outcome;
+      word = word_at s.hart.mem s.hart.pc;
+      access = accessed s i;
+    }

@@ -1,4 +1,5 @@
-//! The flat machine: runs an RV32IM program on the memory of a board, with calls to read, write and exit.
+//! The flat machine: runs an RV32IM program on the memory of a board, with calls to read, write
+//! and exit.
 #![tactic(auto)]
 
 mod accesses;
@@ -9,5 +10,11 @@ mod machine;
 mod mapping;
 
 pub use events::{FlatAccess, FlatEvent, FlatOutcome};
-pub use laws::{ended_stays, events_compose, events_count, is_determined, output_grows, steps_compose};
+pub use laws::{
+    ended_stays, events_compose, events_count, is_determined, output_grows, performs_meaning,
+    steps_compose, words_stay,
+};
 pub use machine::Flat;
+
+#[cfg(test)]
+mod tests;

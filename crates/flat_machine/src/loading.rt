@@ -20,8 +20,8 @@ fn lay_bytes<S: ByteStore>(store: &mut S, at: u32, bytes: &[u8]) -> Result<(), A
     Ok(())
 }
 
-/// Puts the bytes of the segments at their addresses. Where several have a byte for an address, that of
-/// the first counts, so it is put last.
+/// Puts the bytes of the segments at their addresses. Where several have a byte for an address,
+/// that of the first counts, so it is put last.
 pub fn lay_segments<S: ByteStore>(store: &mut S, segments: &[Segment]) -> Result<(), AllocError>
     requires empty { S.byte_at store.old ≡ zeros }
     requires loadable { AreLoadable (map plain_segment segments.now) }

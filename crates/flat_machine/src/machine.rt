@@ -31,9 +31,9 @@ pub struct Flat<S> {
 }
 
 impl<S: ByteStore + Drop> Flat<S> {
-    ghost use Rattle.std.specs.Prelude.{◌≡◌, IfOk, map};
+    ghost use Rattle.std.specs.Prelude.{◌≡◌, IfOk};
     ghost use Rattle.word_bits.specs.Memory.{zeros};
-    ghost use Rattle.elf_reader.specs.File.{plain_segment};
+    ghost use Rattle.elf_reader.specs.File.{segments_of};
     ghost use Rattle.elf_reader.specs.Loadable.{AreLoadable};
     ghost use Rattle.board_config.specs.Board.{mapped_ranges};
     ghost use Rattle.flat_machine.specs.Start.{start_of};
@@ -50,9 +50,9 @@ impl<S: ByteStore + Drop> Flat<S> {
         mut store: S,
     ) -> Result<Flat<S>, AllocError>
         requires empty { S.byte_at store ≡ zeros }
-        requires loadable { AreLoadable (map plain_segment view.now.segments.items) }
+        requires loadable { AreLoadable (segments_of view.now) }
         ensures { IfOk result (λ machine. state_of S.byte_at machine
-            ≡ start_of view.now.entry (map plain_segment view.now.segments.items) (mapped_ranges board.now) input.now) }
+            ≡ start_of view.now.entry (segments_of view.now) (mapped_ranges board.now) input.now) }
     {
         lay_segments(&mut store, &view.segments)?;
         Ok(Flat {
@@ -78,7 +78,8 @@ impl<S: ByteStore> Flat<S> {
     ///
     /// On an error the step was not taken.
     pub fn step(&mut self) -> Result<FlatEvent, AllocError>
-        ensures step { IfOk result (λ event. Step (state_of S.byte_at self.old) event (state_of S.byte_at self.new)) }
+        ensures step { IfOk result (λ event. Step (state_of S.byte_at self.old) event
+            (state_of S.byte_at self.new)) }
         ensures err { OnErr result (state_of S.byte_at self.new ≡ state_of S.byte_at self.old) }
     {
         let at = self.pc;
@@ -94,13 +95,16 @@ impl<S: ByteStore> Flat<S> {
         Ok(self.event(at, word, access))
     }
 
-    /// Takes `n` steps, or fewer where the machine ends before. Tells what has become of it.
+    /// Takes `n` steps and tells what has become of the machine. Once it has ended, the steps that
+    /// are left take no time, since they change nothing.
     ///
     /// On an error fewer steps were taken, each of them whole.
     pub fn run(&mut self, n: u64) -> Result<FlatOutcome, AllocError>
-        ensures steps { OnOk result (Steps n (state_of S.byte_at self.old) (state_of S.byte_at self.new)) }
+        ensures steps { OnOk result (Steps n (state_of S.byte_at self.old)
+            (state_of S.byte_at self.new)) }
         ensures outcome { IfOk result (λ outcome. outcome ≡ (state_of S.byte_at self.new).outcome) }
-        ensures err { OnErr result ((k : ℕ) × ((k < n) × Steps k (state_of S.byte_at self.old) (state_of S.byte_at self.new))) }
+        ensures err { OnErr result ((k : ℕ) × ((k < n)
+            × Steps k (state_of S.byte_at self.old) (state_of S.byte_at self.new))) }
     {
         for _ in 0..n {
             if self.has_ended() {
@@ -127,7 +131,8 @@ impl<S: ByteStore> Flat<S> {
 
     /// Whether the machine goes on no more.
     fn has_ended(&self) -> bool
-        ensures { MatchBool result (HasEnded (state_of S.byte_at self.now).outcome) ((state_of S.byte_at self.now).outcome ≡ FlatOutcome.GoesOn) }
+        ensures { MatchBool result (HasEnded (state_of S.byte_at self.now).outcome)
+            ((state_of S.byte_at self.now).outcome ≡ FlatOutcome.GoesOn) }
     {
         match self.outcome {
             FlatOutcome::GoesOn => false,
@@ -137,7 +142,13 @@ impl<S: ByteStore> Flat<S> {
 
     /// What a step that began at `at` tells.
     fn event(&self, at: u32, word: u32, access: Option<FlatAccess>) -> FlatEvent
-        ensures { result ≡ record { at = at; outcome = (state_of S.byte_at self.now).outcome; word = word; access = access } }
+        ensures { result
+            ≡ record {
+              at = at;
+              outcome = (state_of S.byte_at self.now).outcome;
+              word = word;
+              access = access;
+            } }
     {
         FlatEvent {
             at,

@@ -1,5 +1,6 @@
 ghost use Rattle.std.specs.Prelude.{◌≡◌, ◌≤◌};
-ghost use Rattle.flat_machine.specs.Mapping.{is_mapped, all_mapped, is_inside_one, can_access, can_move};
+ghost use Rattle.flat_machine.specs.Mapping.{is_mapped, all_mapped, is_inside_one};
+ghost use Rattle.flat_machine.specs.Mapping.{can_access, can_move};
 
 use board_config::Range;
 
@@ -23,7 +24,8 @@ fn has_span_in_one(map: &[Range], at: u32, n: u32) -> bool
     })
 }
 
-/// Whether the `n` addresses from `at` are mapped. Most accesses lie in one range, which is asked first.
+/// Whether the `n` addresses from `at` are mapped. Most accesses lie in one range, which is asked
+/// first.
 #[tactic(auto, using(crate::proofs::Spans::mapped_inside_one, crate::proofs::Spans::unmapped_at))]
 fn has_span(map: &[Range], at: u32, n: u32) -> bool
     ensures { result ≡ all_mapped map.now at n }

@@ -41,7 +41,8 @@ impl ListStore {
         ensures place { IfOk result (λ i. place_of self.new.entries.items at ≡ Some i) }
         ensures bytes { bytes_of self.new.entries.items ≡ bytes_of self.old.entries.items }
         ensures fits { IsTrue (has_entry self.old.entries.items at) → IsOk result }
-        ensures grows { RoomGrows (has_entry self.old.entries.items) (has_entry self.new.entries.items) }
+        ensures grows { RoomGrows (has_entry self.old.entries.items)
+            (has_entry self.new.entries.items) }
     {
         let end = self.entries.len();
         match self.find(at) {

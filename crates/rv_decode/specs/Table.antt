@@ -16,6 +16,8 @@ use Rattle.rv_decode.specs.declared.instructions.ImmKind.TheVariants.{Addi, Slti
 use Rattle.rv_decode.specs.declared.instructions.RegKind.{RegKind}
 use Rattle.rv_decode.specs.declared.instructions.RegKind.TheVariants.{Add, Sub, Sll, Slt, Sltu, Xor, Srl, Sra, Or, And, Mul, Mulh, Mulhsu, Mulhu, Div, Divu, Rem, Remu}
 
+-- funct3 of each kind of branch, load and store, and of each operation; funct7 of each operation
+-- on two registers
 abbrev pub branch_funct3 : BranchKind → ℕ
 branch_funct3 Beq = 0
 branch_funct3 Bne = 1

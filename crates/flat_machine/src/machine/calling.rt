@@ -29,7 +29,8 @@ impl<S: ByteStore> Flat<S> {
 
     /// Does the call that the registers name.
     pub(super) fn call(&mut self) -> Result<(), AllocError>
-        ensures ok { OnOk result (state_of S.byte_at self.new ≡ call (state_of S.byte_at self.old)) }
+        ensures ok { OnOk result (state_of S.byte_at self.new
+            ≡ call (state_of S.byte_at self.old)) }
         ensures err { OnErr result (state_of S.byte_at self.new ≡ state_of S.byte_at self.old) }
     {
         match self.register(A7) {
@@ -51,7 +52,8 @@ impl<S: ByteStore> Flat<S> {
 
     /// Appends the a2 bytes at a1 to the output.
     fn write_out(&mut self) -> Result<(), AllocError>
-        ensures ok { OnOk result (state_of S.byte_at self.new ≡ written (state_of S.byte_at self.old)) }
+        ensures ok { OnOk result (state_of S.byte_at self.new
+            ≡ written (state_of S.byte_at self.old)) }
         ensures err { OnErr result (state_of S.byte_at self.new ≡ state_of S.byte_at self.old) }
     {
         let at = self.register(A1);
@@ -67,7 +69,8 @@ impl<S: ByteStore> Flat<S> {
 
     /// Puts the next bytes of the input, at most a2, at a1.
     fn read_in(&mut self) -> Result<(), AllocError>
-        ensures ok { OnOk result (state_of S.byte_at self.new ≡ read (state_of S.byte_at self.old)) }
+        ensures ok { OnOk result (state_of S.byte_at self.new
+            ≡ read (state_of S.byte_at self.old)) }
         ensures err { OnErr result (state_of S.byte_at self.new ≡ state_of S.byte_at self.old) }
     {
         let at = self.register(A1);

@@ -21,8 +21,10 @@ impl<S: ByteStore> Flat<S> {
         read: Option<Instr>,
     ) -> Result<Option<FlatAccess>, AllocError>
         requires { IfSome read IsInRange }
-        ensures state { OnOk result (state_of S.byte_at self.new ≡ next_state (state_of S.byte_at self.old) read) }
-        ensures access { IfOk result (λ access. access ≡ next_access (state_of S.byte_at self.old) read) }
+        ensures state { OnOk result (state_of S.byte_at self.new
+            ≡ next_state (state_of S.byte_at self.old) read) }
+        ensures access { IfOk result (λ access. access
+            ≡ next_access (state_of S.byte_at self.old) read) }
         ensures err { OnErr result (state_of S.byte_at self.new ≡ state_of S.byte_at self.old) }
     {
         match read {
@@ -37,7 +39,8 @@ impl<S: ByteStore> Flat<S> {
     /// Performs an instruction, and tells of its access.
     fn perform(&mut self, i: Instr) -> Result<Option<FlatAccess>, AllocError>
         requires { IsInRange i }
-        ensures state { OnOk result (state_of S.byte_at self.new ≡ performed (state_of S.byte_at self.old) i) }
+        ensures state { OnOk result (state_of S.byte_at self.new
+            ≡ performed (state_of S.byte_at self.old) i) }
         ensures access { IfOk result (λ access. access ≡ accessed (state_of S.byte_at self.old) i) }
         ensures err { OnErr result (state_of S.byte_at self.new ≡ state_of S.byte_at self.old) }
     {
@@ -72,7 +75,8 @@ impl<S: ByteStore> Flat<S> {
     fn lui(&mut self, rd: u8, imm: u32)
         requires rd { rd < 32 }
         requires imm { imm < 1048576 }
-        ensures { state_of S.byte_at self.new ≡ performed (state_of S.byte_at self.old) (Instr.Lui rd imm) }
+        ensures { state_of S.byte_at self.new
+            ≡ performed (state_of S.byte_at self.old) (Instr.Lui rd imm) }
     {
         self.write(rd, imm << 12);
     }
@@ -81,7 +85,8 @@ impl<S: ByteStore> Flat<S> {
     fn auipc(&mut self, rd: u8, imm: u32)
         requires rd { rd < 32 }
         requires imm { imm < 1048576 }
-        ensures { state_of S.byte_at self.new ≡ performed (state_of S.byte_at self.old) (Instr.Auipc rd imm) }
+        ensures { state_of S.byte_at self.new
+            ≡ performed (state_of S.byte_at self.old) (Instr.Auipc rd imm) }
     {
         self.write(rd, self.pc.wrapping_add(imm << 12));
     }
@@ -89,7 +94,8 @@ impl<S: ByteStore> Flat<S> {
     /// JAL.
     fn jal(&mut self, rd: u8, off: i32)
         requires { rd < 32 }
-        ensures { state_of S.byte_at self.new ≡ performed (state_of S.byte_at self.old) (Instr.Jal rd off) }
+        ensures { state_of S.byte_at self.new
+            ≡ performed (state_of S.byte_at self.old) (Instr.Jal rd off) }
     {
         self.jump(rd, self.pc.wrapping_add_signed(off));
     }
@@ -98,7 +104,8 @@ impl<S: ByteStore> Flat<S> {
     fn jalr(&mut self, rd: u8, rs1: u8, imm: i32)
         requires rd { rd < 32 }
         requires rs1 { rs1 < 32 }
-        ensures { state_of S.byte_at self.new ≡ performed (state_of S.byte_at self.old) (Instr.Jalr rd rs1 imm) }
+        ensures { state_of S.byte_at self.new
+            ≡ performed (state_of S.byte_at self.old) (Instr.Jalr rd rs1 imm) }
     {
         let target = self.register(rs1).wrapping_add_signed(imm) & !1;
         self.jump(rd, target);
@@ -108,7 +115,8 @@ impl<S: ByteStore> Flat<S> {
     fn branch(&mut self, kind: BranchKind, rs1: u8, rs2: u8, off: i32)
         requires rs1 { rs1 < 32 }
         requires rs2 { rs2 < 32 }
-        ensures { state_of S.byte_at self.new ≡ performed (state_of S.byte_at self.old) (Instr.Branch kind rs1 rs2 off) }
+        ensures { state_of S.byte_at self.new
+            ≡ performed (state_of S.byte_at self.old) (Instr.Branch kind rs1 rs2 off) }
     {
         let taken = takes(kind, self.register(rs1), self.register(rs2));
         self.pc = self.pc.wrapping_add_signed(if taken { off } else { 4 });
@@ -118,7 +126,8 @@ impl<S: ByteStore> Flat<S> {
     fn op_imm(&mut self, kind: ImmKind, rd: u8, rs1: u8, imm: i32)
         requires rd { rd < 32 }
         requires rs1 { rs1 < 32 }
-        ensures { state_of S.byte_at self.new ≡ performed (state_of S.byte_at self.old) (Instr.OpImm kind rd rs1 imm) }
+        ensures { state_of S.byte_at self.new
+            ≡ performed (state_of S.byte_at self.old) (Instr.OpImm kind rd rs1 imm) }
     {
         let value = imm_result(kind, self.register(rs1), imm);
         self.write(rd, value);
@@ -129,7 +138,8 @@ impl<S: ByteStore> Flat<S> {
         requires rd { rd < 32 }
         requires rs1 { rs1 < 32 }
         requires rs2 { rs2 < 32 }
-        ensures { state_of S.byte_at self.new ≡ performed (state_of S.byte_at self.old) (Instr.OpReg kind rd rs1 rs2) }
+        ensures { state_of S.byte_at self.new
+            ≡ performed (state_of S.byte_at self.old) (Instr.OpReg kind rd rs1 rs2) }
     {
         let value = reg_result(kind, self.register(rs1), self.register(rs2));
         self.write(rd, value);
@@ -139,8 +149,10 @@ impl<S: ByteStore> Flat<S> {
     fn load(&mut self, kind: LoadKind, rd: u8, rs1: u8, imm: i32) -> Option<FlatAccess>
         requires rd { rd < 32 }
         requires rs1 { rs1 < 32 }
-        ensures state { state_of S.byte_at self.new ≡ performed (state_of S.byte_at self.old) (Instr.Load kind rd rs1 imm) }
-        ensures access { result ≡ accessed (state_of S.byte_at self.old) (Instr.Load kind rd rs1 imm) }
+        ensures state { state_of S.byte_at self.new
+            ≡ performed (state_of S.byte_at self.old) (Instr.Load kind rd rs1 imm) }
+        ensures access { result
+            ≡ accessed (state_of S.byte_at self.old) (Instr.Load kind rd rs1 imm) }
     {
         let at = self.register(rs1).wrapping_add_signed(imm);
         if !has_access(&self.map, at, load_bytes(kind)) {
@@ -162,8 +174,10 @@ impl<S: ByteStore> Flat<S> {
     ) -> Result<Option<FlatAccess>, AllocError>
         requires rs1 { rs1 < 32 }
         requires rs2 { rs2 < 32 }
-        ensures state { OnOk result (state_of S.byte_at self.new ≡ performed (state_of S.byte_at self.old) (Instr.Store kind rs1 rs2 imm)) }
-        ensures access { IfOk result (λ access. access ≡ accessed (state_of S.byte_at self.old) (Instr.Store kind rs1 rs2 imm)) }
+        ensures state { OnOk result (state_of S.byte_at self.new
+            ≡ performed (state_of S.byte_at self.old) (Instr.Store kind rs1 rs2 imm)) }
+        ensures access { IfOk result (λ access. access
+            ≡ accessed (state_of S.byte_at self.old) (Instr.Store kind rs1 rs2 imm)) }
         ensures err { OnErr result (state_of S.byte_at self.new ≡ state_of S.byte_at self.old) }
     {
         let at = self.register(rs1).wrapping_add_signed(imm);

@@ -17,7 +17,9 @@ impl<S: ByteStore> Flat<S> {
     /// Puts a value into a register.
     fn set_register(&mut self, rd: u8, value: u32)
         requires { rd < 32 }
-        ensures { let s = state_of S.byte_at self.old in state_of S.byte_at self.new ≡ record s { hart = record s.hart { regs = with_register s.hart.regs rd value } } }
+        ensures { let s = state_of S.byte_at self.old in
+            state_of S.byte_at self.new
+            ≡ record s { hart = record s.hart { regs = with_register s.hart.regs rd value } } }
     {
         if rd != 0 {
             self.regs[usize::from(rd)] = value;
@@ -27,7 +29,8 @@ impl<S: ByteStore> Flat<S> {
     /// Puts a value into a register and goes to the next word.
     pub(super) fn write(&mut self, rd: u8, value: u32)
         requires { rd < 32 }
-        ensures { let s = state_of S.byte_at self.old in state_of S.byte_at self.new ≡ record s { hart = after_write s.hart rd value } }
+        ensures { let s = state_of S.byte_at self.old in
+            state_of S.byte_at self.new ≡ record s { hart = after_write s.hart rd value } }
     {
         self.set_register(rd, value);
         self.pc = self.pc.wrapping_add(4);
@@ -36,7 +39,8 @@ impl<S: ByteStore> Flat<S> {
     /// Jumps, and leaves the return address in a register.
     pub(super) fn jump(&mut self, rd: u8, target: u32)
         requires { rd < 32 }
-        ensures { let s = state_of S.byte_at self.old in state_of S.byte_at self.new ≡ record s { hart = after_jump s.hart rd target } }
+        ensures { let s = state_of S.byte_at self.old in
+            state_of S.byte_at self.new ≡ record s { hart = after_jump s.hart rd target } }
     {
         self.set_register(rd, self.pc.wrapping_add(4));
         self.pc = target;

@@ -13,10 +13,11 @@ pub returns-clause-steps : goal.returns-clause-steps
 returns-clause-steps g c =
     let before = state_of g.S.ByteStore.byte_at c.args.self.now in
     let after = state_of g.S.ByteStore.byte_at c.loop.self in
-    elim c.loop-test.branch
-    [ else-loop-test w ↦
-        let all : c.loop.counter ≡ c.args.n = omega arith in subst (λ k. Steps k before after) all c.loop.invariant
-    | then-loop-test+then-has_ended w ↦
-        let all : c.loop.counter + (c.args.n - c.loop.counter) ≡ c.args.n = omega arith in
-        subst (λ k. Steps k before after) all
-        (steps_joined c.loop.counter (c.args.n - c.loop.counter) before after after c.loop.invariant (ended_any_steps (c.args.n - c.loop.counter) after w.if-has_ended.ensures)) ]
+    elim c.loop-test.branch [
+      | else-loop-test w ↦
+          let all : c.loop.counter ≡ c.args.n = omega arith in subst (λ k. Steps k before after) all c.loop.invariant
+      | then-loop-test+then-has_ended w ↦
+          let all : c.loop.counter + (c.args.n - c.loop.counter) ≡ c.args.n = omega arith in
+          subst (λ k. Steps k before after) all
+          (steps_joined c.loop.counter (c.args.n - c.loop.counter) before after after c.loop.invariant (ended_any_steps (c.args.n - c.loop.counter) after w.if-has_ended.ensures))
+    ]
