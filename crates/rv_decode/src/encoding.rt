@@ -13,6 +13,14 @@ pub fn encode(i: &Instr) -> u32
     // So the word that was decoded to an instruction is made of it again.
     ensures only { (w : ℕ) → w < 4294967296 → Means w i.now → result ≡ w }
 {
+    joined(i)
+}
+
+// The fields of the instruction, joined by its format.
+fn joined(i: &Instr) -> u32
+    requires { IsInRange i.now }
+    ensures { Means result i.now }
+{
     match *i {
         Instr::Lui { rd, imm } => u_word(0x37, rd, imm),
         Instr::Auipc { rd, imm } => u_word(0x17, rd, imm),
