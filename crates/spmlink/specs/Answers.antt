@@ -14,13 +14,17 @@ use Rattle.spmlink.specs.declared.faults.Refusal.TheVariants as refusal
 
 -- the word at this place is a name that the command reads
 pub data ReadsName (words : List (List ℕ)) (place : ℕ) (name : List ℕ) : Type 0 where
-  run_file : (board input out : List ℕ) → place ≡ 1 → IsRun words name board input out → ReadsName words place name
-  run_board : (file input out : List ℕ) → place ≡ 2 → IsRun words file name input out → ReadsName words place name
-  run_input : (file board out : List ℕ) → place ≡ 3 → IsRun words file board name out → ReadsName words place name
+  run_file : (board input out : List ℕ) → place ≡ 1 → IsRun words name board input out
+      → ReadsName words place name
+  run_board : (file input out : List ℕ) → place ≡ 2 → IsRun words file name input out
+      → ReadsName words place name
+  run_input : (file board out : List ℕ) → place ≡ 3 → IsRun words file board name out
+      → ReadsName words place name
 
 -- the word at this place is a name that the command writes
 pub data WritesName (words : List (List ℕ)) (place : ℕ) (name : List ℕ) : Type 0 where
-  run_out : (file board input : List ℕ) → place ≡ 4 → IsRun words file board input name → WritesName words place name
+  run_out : (file board input : List ℕ) → place ≡ 4 → IsRun words file board input name
+      → WritesName words place name
 
 -- what a `run` command reads from the shelf
 pub record RunInputs (words : List (List ℕ)) (shelf : ShelfView) : Type 0 where
@@ -44,7 +48,8 @@ pub record Delivers (words : List (List ℕ)) (text : List ℕ) (old new : Shelf
   pub set : SetsName inputs.out_name output old new
 
 -- status 0: the command did what it is for, and its text was printed
-pub record IsDone (words : List (List ℕ)) (old new : ShelfView) (sink sink' : SinkView) : Type 0 where
+pub record IsDone (words : List (List ℕ)) (old new : ShelfView) (sink sink' : SinkView)
+    : Type 0 where
   pub text : List ℕ
   pub delivers : Delivers words text old new
   pub printed : PutAll text sink sink'
@@ -62,7 +67,8 @@ pub record WriteFails (words : List (List ℕ)) (place : ℕ) (old new : ShelfVi
   pub lost : LosesName name old new
 
 -- the result was written, but its text could not be printed
-pub record PrintFails (words : List (List ℕ)) (place : ℕ) (old new : ShelfView) (sink mid : SinkView) : Type 0 where
+pub record PrintFails (words : List (List ℕ)) (place : ℕ) (old new : ShelfView) (sink mid : SinkView)
+    : Type 0 where
   pub place_is : place ≡ 0
   pub text : List ℕ
   pub delivers : Delivers words text old new
@@ -87,20 +93,23 @@ Cause (refusal.Elf fault) words old new sink mid =
 Cause refusal.Memory words old new sink mid = (new.content ≡ old.content) × (mid ≡ sink)
 
 -- a refusal whose line is still to be put, and why it came
-pub record HasCause (words : List (List ℕ)) (old new : ShelfView) (sink mid : SinkView) (r : Refused) : Type 0 where
+pub record HasCause (words : List (List ℕ)) (old new : ShelfView) (sink mid : SinkView) (r : Refused)
+    : Type 0 where
   pub fault : Refusal
   pub ready : IsReady fault r
   pub cause : Cause fault words old new sink mid
 
 -- The command was refused, and its fault line went to the sink, or a prefix of it where the put
 -- failed too.
-pub record IsRefused (fault : Refusal) (words : List (List ℕ)) (old new : ShelfView) (sink sink' : SinkView) : Type 0 where
+pub record IsRefused (fault : Refusal) (words : List (List ℕ)) (old new : ShelfView) (sink sink' : SinkView)
+    : Type 0 where
   pub mid : SinkView
   pub cause : Cause fault words old new sink mid
   pub line : PutsLine (fault_line fault) mid sink'
 
 -- the call ended with the status of a refusal, and that refusal is the reason
-pub record EndsRefused (status : ℕ) (words : List (List ℕ)) (old new : ShelfView) (sink sink' : SinkView) : Type 0 where
+pub record EndsRefused (status : ℕ) (words : List (List ℕ)) (old new : ShelfView) (sink sink' : SinkView)
+    : Type 0 where
   pub fault : Refusal
   pub status_is : status ≡ status_of fault
   pub refused : IsRefused fault words old new sink sink'
@@ -111,7 +120,8 @@ expected_status None = 0
 expected_status (Some fault) = status_of fault
 
 -- nothing outside failed in the call
-pub record NothingFailed (old new : ShelfView) (sink sink' : SinkView) : Type 0 where
+pub record NothingFailed (old new : ShelfView) (sink sink' : SinkView)
+    : Type 0 where
   pub no_call : new.failed ≡ old.failed
   pub no_put : Rose sink.faults sink'.faults → ⊥
 

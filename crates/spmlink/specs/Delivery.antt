@@ -13,6 +13,9 @@ pub record DeliversAll (ready : Ready) (name : List ℕ) (old new : ShelfView) (
 
 -- a step failed: the write, the memory for the write, or the print
 pub data FailsToDeliver (ready : Ready) (name : List ℕ) (old new : ShelfView) (sink mid : SinkView) (r : Refused) : Type 0 where
-  write_fails : r ≡ ready.write_fault → LosesName name old new → mid ≡ sink → FailsToDeliver ready name old new sink mid r
-  wants_memory : r ≡ refused.Memory → new.content ≡ old.content → mid ≡ sink → FailsToDeliver ready name old new sink mid r
-  print_fails : r ≡ ready.print_fault → SetsName name ready.output.items old new → PutSome (string_bytes ready.line) sink mid → FailsToDeliver ready name old new sink mid r
+  write_fails : r ≡ ready.write_fault → LosesName name old new → mid ≡ sink
+      → FailsToDeliver ready name old new sink mid r
+  wants_memory : r ≡ refused.Memory → new.content ≡ old.content → mid ≡ sink
+      → FailsToDeliver ready name old new sink mid r
+  print_fails : r ≡ ready.print_fault → SetsName name ready.output.items old new
+      → PutSome (string_bytes ready.line) sink mid → FailsToDeliver ready name old new sink mid r

@@ -50,7 +50,8 @@ status_of r = (parts_of r).status
 -- `error STATUS WORD FIRST SECOND`
 abbrev pub parts_text : Parts → List ℕ
 parts_text p =
-    codes "error " ++ (decimal p.status ++ (codes " " ++ (p.word ++ (codes " " ++ (decimal p.first ++ (codes " " ++ decimal p.second))))))
+    codes "error "
+    ++ (decimal p.status ++ (codes " " ++ (p.word ++ (codes " " ++ (decimal p.first ++ (codes " " ++ decimal p.second))))))
 
 -- the fault line, with its newline
 abbrev pub fault_line : Refusal → List ℕ

@@ -53,13 +53,19 @@ pub record Performs (names : RunNames) (old new : ShelfView) (sink sink' : SinkV
 
 -- why a `run` command is refused, and what that leaves
 pub data RefusesPerforming (names : RunNames) (old new : ShelfView) (sink mid : SinkView) (fault : Refusal) : Type 0 where
-  read_fails : (place : ℕ) (name : List ℕ) → IsReadAt names place name → fault ≡ refusal.Read place → LogsFailed Read name old new → mid ≡ sink → RefusesPerforming names old new sink mid fault
-  input_fails : (texts : RunTexts) → HoldsTexts names texts old new → first_refusal texts.board.items texts.file.items ≡ Some fault → mid ≡ sink → RefusesPerforming names old new sink mid fault
-  write_fails : fault ≡ refusal.Write 4 → LosesName names.out.now old new → mid ≡ sink → RefusesPerforming names old new sink mid fault
+  read_fails : (place : ℕ) (name : List ℕ) → IsReadAt names place name → fault ≡ refusal.Read place
+      → LogsFailed Read name old new → mid ≡ sink → RefusesPerforming names old new sink mid fault
+  input_fails : (texts : RunTexts) → HoldsTexts names texts old new
+      → first_refusal texts.board.items texts.file.items ≡ Some fault → mid ≡ sink
+      → RefusesPerforming names old new sink mid fault
+  write_fails : fault ≡ refusal.Write 4 → LosesName names.out.now old new → mid ≡ sink
+      → RefusesPerforming names old new sink mid fault
   print_fails : (texts : RunTexts) (output line : List ℕ) → HoldsTexts names texts old old
       → RunsTo texts.file.items texts.board.items texts.input.items output line
-      → fault ≡ refusal.Write 0 → SetsName names.out.now output old new → PutSome line sink mid → RefusesPerforming names old new sink mid fault
-  wants_memory : fault ≡ refusal.Memory → new.content ≡ old.content → mid ≡ sink → RefusesPerforming names old new sink mid fault
+      → fault ≡ refusal.Write 0 → SetsName names.out.now output old new → PutSome line sink mid
+      → RefusesPerforming names old new sink mid fault
+  wants_memory : fault ≡ refusal.Memory → new.content ≡ old.content → mid ≡ sink
+      → RefusesPerforming names old new sink mid fault
 
 -- a refusal with its line, and why it came
 pub record IsRefusedBy (names : RunNames) (old new : ShelfView) (sink mid : SinkView) (r : Refused) : Type 0 where

@@ -1,4 +1,4 @@
-ghost use Rattle.std.specs.Prelude.{◌≡◌, ◌≢◌, ◌↔◌, ℕ, ◌+◌, ◌<◌, List, IsTrue, IsNone, IfSome, MatchOption, All, length, map, string_bytes, codes, ◌∷◌, []};
+ghost use Rattle.std.specs.Prelude.{◌≡◌, ◌≢◌, ◌↔◌, ℕ, List, IsTrue, IsNone, IfSome, MatchOption, All, codes, ◌∷◌, []};
 ghost use Rattle.spmlink.specs.Command.{texts, IsName, IsCommand, SpellsRun};
 
 /// The names in `run FILE BOARD INPUT OUT`.
@@ -24,8 +24,10 @@ pub fn parse_run(words: &[String]) -> Option<RunNames<'_>>
 
 /// The four words behind the word `run`.
 fn run_names(words: &[String]) -> Option<RunNames<'_>>
-    ensures none { IsNone result → (f b i o : List ℕ) → texts words.now ≡ codes "run" ∷ f ∷ b ∷ i ∷ o ∷ [] → ⊥ }
-    ensures some { IfSome result (λ n. texts words.now ≡ codes "run" ∷ n.file.now ∷ n.board.now ∷ n.input.now ∷ n.out.now ∷ []) }
+    ensures none { IsNone result → (f b i o : List ℕ) →
+        texts words.now ≡ codes "run" ∷ f ∷ b ∷ i ∷ o ∷ [] → ⊥ }
+    ensures some { IfSome result (λ n. texts words.now
+        ≡ codes "run" ∷ n.file.now ∷ n.board.now ∷ n.input.now ∷ n.out.now ∷ []) }
 {
     let [name, file, board, input, out] = words else {
         return None;
@@ -50,7 +52,8 @@ fn is_the_word(word: &str, wanted: &str) -> bool
 
 /// Whether each word may name a file.
 fn are_names(names: &RunNames<'_>) -> bool
-    ensures { IsTrue result ↔ All IsName (names.now.file.now ∷ names.now.board.now ∷ names.now.input.now ∷ names.now.out.now ∷ []) }
+    ensures { IsTrue result ↔ All IsName (names.now.file.now ∷ names.now.board.now
+        ∷ names.now.input.now ∷ names.now.out.now ∷ []) }
 {
     is_name(names.file) && is_name(names.board) && is_name(names.input) && is_name(names.out)
 }
@@ -67,7 +70,8 @@ fn is_name(word: &str) -> bool
 
 /// Whether the written name differs from those that are read.
 fn is_out_apart(names: &RunNames<'_>) -> bool
-    ensures { IsTrue result ↔ All (λ name. name ≢ names.now.out.now) (names.now.file.now ∷ names.now.board.now ∷ names.now.input.now ∷ []) }
+    ensures { IsTrue result ↔ All (λ name. name ≢ names.now.out.now)
+        (names.now.file.now ∷ names.now.board.now ∷ names.now.input.now ∷ []) }
 {
     names.file != names.out && names.board != names.out && names.input != names.out
 }

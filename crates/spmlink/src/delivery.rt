@@ -24,8 +24,12 @@ pub fn deliver<S: Shelf, K: Sink>(
     shelf: &mut S,
     out: &mut K,
 ) -> Result<(), Refused>
-    ensures ok { OnOk result (DeliversAll ready name.now (S.view shelf.old) (S.view shelf.new) (K.view out.old) (K.view out.new)) }
-    ensures err { IfErr result (FailsToDeliver ready name.now (S.view shelf.old) (S.view shelf.new) (K.view out.old) (K.view out.new)) }
+    ensures ok { OnOk result (DeliversAll ready name.now
+        (S.view shelf.old) (S.view shelf.new)
+        (K.view out.old) (K.view out.new)) }
+    ensures err { IfErr result (FailsToDeliver ready name.now
+        (S.view shelf.old) (S.view shelf.new)
+        (K.view out.old) (K.view out.new)) }
 {
     match shelf.write(name, ready.output.as_slice()) {
         Ok(()) => match put_text(out, ready.line.as_str()) {

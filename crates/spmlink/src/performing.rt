@@ -46,8 +46,12 @@ pub fn perform_run<S: Shelf, K: Sink>(
     shelf: &mut S,
     out: &mut K,
 ) -> Result<(), Refused>
-    ensures ok { OnOk result (Performs names.now (S.view shelf.old) (S.view shelf.new) (K.view out.old) (K.view out.new)) }
-    ensures err { IfErr result (IsRefusedBy names.now (S.view shelf.old) (S.view shelf.new) (K.view out.old) (K.view out.new)) }
+    ensures ok { OnOk result (Performs names.now
+        (S.view shelf.old) (S.view shelf.new)
+        (K.view out.old) (K.view out.new)) }
+    ensures err { IfErr result (IsRefusedBy names.now
+        (S.view shelf.old) (S.view shelf.new)
+        (K.view out.old) (K.view out.new)) }
 {
     match prepare(alloc, names, shelf) {
         Ok(ready) => match deliver(ready, names.out, shelf, out) {

@@ -5,7 +5,9 @@ use shelf_io::{Sink, SinkFault};
 
 /// Puts a text in one piece.
 pub fn put_text<K: Sink>(out: &mut K, text: &str) -> Result<(), SinkFault>
-    ensures { MatchResult result (λ _. PutAll text.now (K.view out.old) (K.view out.new)) (λ _. PutSome text.now (K.view out.old) (K.view out.new)) }
+    ensures { MatchResult result
+        (λ _. PutAll text.now (K.view out.old) (K.view out.new))
+        (λ _. PutSome text.now (K.view out.old) (K.view out.new)) }
 {
     match out.put(text.as_bytes()) {
         Ok(()) => Ok(()),

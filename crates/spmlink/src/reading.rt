@@ -22,7 +22,8 @@ fn read_name<S: Shelf>(
     place: u32,
     name: &str,
 ) -> Result<Vec<u8>, Refusal>
-    ensures ok { IfOk result (λ bytes. Holds (S.view shelf.old) name.now bytes.items × (S.view shelf.new ≡ S.view shelf.old)) }
+    ensures ok { IfOk result (λ bytes. Holds (S.view shelf.old) name.now bytes.items
+        × (S.view shelf.new ≡ S.view shelf.old)) }
     ensures err { IfErr result (RefusesRead place name.now (S.view shelf.old) (S.view shelf.new)) }
 {
     match shelf.read(alloc, name) {

@@ -25,7 +25,8 @@ pub struct RunResult {
 
 /// Runs what a `run` command read.
 pub fn run_texts(alloc: Global, texts: &RunTexts) -> Result<RunResult, Refusal>
-    ensures ok { IfOk result (λ r. RunsTo texts.now.file.items texts.now.board.items texts.now.input.items r.output.items (string_bytes r.line)) }
+    ensures ok { IfOk result (λ r. RunsTo texts.now.file.items texts.now.board.items
+        texts.now.input.items r.output.items (string_bytes r.line)) }
     ensures err { IfErr result (IsFirstRefusal texts.now.board.items texts.now.file.items) }
 {
     run_file(alloc, &texts.file, &texts.board, &texts.input)
@@ -49,7 +50,10 @@ fn run_view(
     input: &[u8],
 ) -> Result<RunResult, AllocError>
     requires { AreLoadable (map plain_segment view.now.segments.items) }
-    ensures { IfOk result (λ r. RunsFrom (start_of view.now.entry (map plain_segment view.now.segments.items) (mapped_ranges board.now) input.now) board.now.steps r.output.items (string_bytes r.line)) }
+    ensures { IfOk result (λ r. RunsFrom
+        (start_of view.now.entry (map plain_segment view.now.segments.items)
+        (mapped_ranges board.now) input.now)
+        board.now.steps r.output.items (string_bytes r.line)) }
 {
     let mut machine = Flat::new(alloc, view, board, input, ListStore::new(alloc))?;
     let outcome = machine.run(board.steps)?;

@@ -14,13 +14,19 @@ use std::alloc::Global;
 /// else the status of the one fault line that is put (docs/COMMAND_LINE.md).
 pub fn run<S: Shelf, K: Sink>(alloc: Global, words: &[String], shelf: &mut S, out: &mut K) -> u8
     // With status 0 the command's result stands on the shelf, and its text was printed.
-    ensures done { result ≡ 0 → IsDone (texts words.now) (S.view shelf.old) (S.view shelf.new) (K.view out.old) (K.view out.new) }
+    ensures done { result ≡ 0 → IsDone (texts words.now)
+        (S.view shelf.old) (S.view shelf.new)
+        (K.view out.old) (K.view out.new) }
 
     // Any other status is that of a refusal, which came for its cause alone.
-    ensures refused { result ≢ 0 → EndsRefused result (texts words.now) (S.view shelf.old) (S.view shelf.new) (K.view out.old) (K.view out.new) }
+    ensures refused { result ≢ 0 → EndsRefused result (texts words.now)
+        (S.view shelf.old) (S.view shelf.new)
+        (K.view out.old) (K.view out.new) }
 
     // Where nothing outside fails, the status is the one that the inputs call for, or 9.
-    ensures exact { Answers result (texts words.now) (S.view shelf.old) (S.view shelf.new) (K.view out.old) (K.view out.new) }
+    ensures exact { Answers result (texts words.now)
+        (S.view shelf.old) (S.view shelf.new)
+        (K.view out.old) (K.view out.new) }
 {
     match perform(alloc, words, shelf, out) {
         Ok(()) => 0,
@@ -35,8 +41,12 @@ fn perform<S: Shelf, K: Sink>(
     shelf: &mut S,
     out: &mut K,
 ) -> Result<(), Refused>
-    ensures ok { OnOk result (IsDone (texts words.now) (S.view shelf.old) (S.view shelf.new) (K.view out.old) (K.view out.new)) }
-    ensures err { IfErr result (HasCause (texts words.now) (S.view shelf.old) (S.view shelf.new) (K.view out.old) (K.view out.new)) }
+    ensures ok { OnOk result (IsDone (texts words.now)
+        (S.view shelf.old) (S.view shelf.new)
+        (K.view out.old) (K.view out.new)) }
+    ensures err { IfErr result (HasCause (texts words.now)
+        (S.view shelf.old) (S.view shelf.new)
+        (K.view out.old) (K.view out.new)) }
 {
     let Some(names) = parse_run(words) else {
         return Err(Refused::new(alloc, &Refusal::Usage));
