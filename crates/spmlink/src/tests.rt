@@ -1,4 +1,8 @@
+use crate::faults::Refusal;
 use crate::top::run;
+use board_config::read_board;
+use flat_machine::Flat;
+use paged_store::ListStore;
 use shelf_io::{MemShelf, MemSink, Shelf};
 use std::alloc::{AllocError, Global};
 use std::test::Fail;
@@ -157,6 +161,89 @@ fn tells_what_failed_outside(rt: HostRuntime) -> Result<(), Fail> {
         assert_eq!(rt; answer.printed.as_slice(), line.as_bytes());
         assert_eq!(rt; answer.status, line.as_bytes()[6] - b'0');
         assert_eq!(rt; answer.out.is_some(), written);
+    }
+    Ok(())
+}
+
+/// How a program of the multiplication test puts a number into a register, x5 or x6.
+#[derive(Clone, Copy)]
+enum Operand {
+    Zero,
+    AllOnes,
+    Least,
+}
+
+impl Operand {
+    /// The instruction that puts the number into x5 or, with `second`, into x6.
+    fn word(self, second: bool) -> u32 {
+        let register = if second { 0x300 } else { 0x280 };
+        match self {
+            Operand::Zero => 0x0000_0013 | register,
+            Operand::AllOnes => 0xfff0_0013 | register,
+            Operand::Least => 0x8000_0037 | register,
+        }
+    }
+}
+
+/// An ELF file whose one segment holds these words at 0x00010000, where it begins.
+fn file_of(alloc: Global, words: [u32; 12]) -> Result<Vec<u8>, AllocError> {
+    let mut file = OK_FILE[..84].to_vec(alloc)?;
+    file[24..28].copy_from_slice(&0x0001_0000u32.to_le_bytes());
+    file[56..60].copy_from_slice(&84u32.to_le_bytes());
+    file[68..72].copy_from_slice(&48u32.to_le_bytes());
+    file[72..76].copy_from_slice(&48u32.to_le_bytes());
+    for word in words {
+        file.extend_from_slice(&word.to_le_bytes())?;
+    }
+    Ok(file)
+}
+
+/// What an instruction of the M extension leaves of two numbers: a program stores it at 0x00020000,
+/// writes the four bytes and exits.
+fn multiplied(alloc: Global, funct3: u32, a: Operand, b: Operand) -> Result<Vec<u8>, Refusal> {
+    let words = [
+        a.word(false),
+        b.word(true),
+        0x0262_83b3 | (funct3 % 8) << 12,
+        0x0002_05b7,
+        0x0075_a023,
+        0x0040_0613,
+        0x0400_0893,
+        0x0000_0073,
+        0x05d0_0893,
+        0x0000_0073,
+        0,
+        0,
+    ];
+    let file = file_of(alloc, words)?;
+    let view = elf_reader::read(alloc, &file)?;
+    let board = read_board(alloc, b"")?;
+    let mut machine = Flat::new(alloc, &view, &board, b"", ListStore::new(alloc))?;
+    for _ in 0..10 {
+        machine.step()?;
+    }
+    Ok(machine.output().to_vec(alloc)?)
+}
+
+#[test]
+fn multiplies_and_divides_at_the_corners(rt: HostRuntime) -> Result<(), Fail> {
+    let corners = [
+        (0, Operand::AllOnes, Operand::AllOnes, 0x0000_0001u32),
+        (1, Operand::Least, Operand::Least, 0x4000_0000),
+        (2, Operand::AllOnes, Operand::AllOnes, 0xffff_ffff),
+        (3, Operand::AllOnes, Operand::AllOnes, 0xffff_fffe),
+        (4, Operand::Least, Operand::AllOnes, 0x8000_0000),
+        (4, Operand::Least, Operand::Zero, 0xffff_ffff),
+        (5, Operand::Least, Operand::Zero, 0xffff_ffff),
+        (6, Operand::Least, Operand::AllOnes, 0x0000_0000),
+        (6, Operand::Least, Operand::Zero, 0x8000_0000),
+        (7, Operand::Least, Operand::Zero, 0x8000_0000),
+    ];
+    for (funct3, a, b, value) in corners {
+        let Ok(output) = multiplied(rt.alloc(), funct3, a, b) else {
+            return Err(Fail::from("refused"));
+        };
+        assert_eq!(rt; output.as_slice(), value.to_le_bytes().as_slice());
     }
     Ok(())
 }
