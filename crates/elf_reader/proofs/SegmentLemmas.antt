@@ -13,7 +13,7 @@ use Rattle.elf_reader.specs.Faults.{first_fault}
 use Rattle.elf_reader.specs.declared.fault.ElfFault.TheVariants.{Overlap}
 use Rattle.elf_reader.specs.Loadable.{HasSegment, HasSegments, IsByte, AreBytes, IsLoadable, AreLoadable, IsApart, AreApart}
 use Rattle.elf_reader.specs.declared.records.ProgramHeader.{ProgramHeader}
-use Rattle.elf_reader.proofs.FirstLemmas.{both_none, none_at, holds}
+use Rattle.fault_order.proofs.FirstLemmas.{both_none, none_at, holds}
 
 -- the segment of a program header without a fault
 pub segment_held : (size k : ℕ) (p : ProgramHeader) → load_fault size k p ≡ None → HasSegment size p

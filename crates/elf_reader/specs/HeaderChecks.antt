@@ -1,6 +1,6 @@
 -- The checks of the ELF header, each with the fault that it tells, and their order.
 use Rattle.std.specs.Prelude.{ℕ, ◌/◌, ◌%◌, ◌^◌, min, ◌==◌, nat_le, Bool, not, ◌||◌, List, length, slice_index, Option}
-use Rattle.elf_reader.specs.First.{◌or_else◌, unless}
+use Rattle.fault_order.specs.First.{◌or_else◌, unless}
 use Rattle.elf_reader.specs.Layout.{file_header}
 use Rattle.elf_reader.specs.declared.fault.ElfFault.{ElfFault}
 use Rattle.elf_reader.specs.declared.fault.ElfFault.TheVariants.{TooShort, NotElf, WrongKind, OverLimit}

@@ -1,6 +1,6 @@
+pub use Rattle.fault_order.specs.First
 pub use Rattle.word_bits.specs.Words
 pub use Rattle.word_bits.specs.Memory
-pub mod First
 pub mod Layout
 pub mod File
 pub mod HeaderChecks

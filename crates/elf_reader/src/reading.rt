@@ -1,5 +1,5 @@
 ghost use Rattle.std.specs.Prelude.{IfOk};
-ghost use Rattle.elf_reader.specs.First.{TellsUnless};
+ghost use Rattle.fault_order.specs.First.{TellsUnless};
 ghost use Rattle.elf_reader.specs.Faults.{first_fault};
 ghost use Rattle.elf_reader.specs.File.{IsFile, segments_of};
 ghost use Rattle.elf_reader.specs.Loadable.{AreLoadable, AreApart};

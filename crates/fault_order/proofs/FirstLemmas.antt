@@ -1,6 +1,6 @@
 -- Checks in a fixed order: what a loop that makes them finds, and what holds where none fails.
 use Rattle.std.proofs.Common.{◌≡◌, ◌⊎◌, inl, inr, ℕ, zero, suc, ◌<◌, Bool, true, false, Option, Some, None, refl, arith}
-use Rattle.elf_reader.specs.First.{◌or_else◌, unless, first_below}
+use Rattle.fault_order.specs.First.{◌or_else◌, unless, first_below}
 
 -- where the checks below `i` hold and check `i` fails, it is the first of n that fails
 pub first_found : {E : Type 0} (check : ℕ → Option E) (n i : ℕ) (fault : E) → i < n → first_below check i ≡ None → check i ≡ Some fault → first_below check n ≡ Some fault
