@@ -1,10 +1,17 @@
-//! The board: which memory there is, and how many steps a program may take.
+//! The board file: the memory of a board, its prices, and what of a program may move.
 #![tactic(auto)]
 
 mod board;
+mod limits;
+mod memory_keys;
+mod moving_keys;
+mod price_keys;
 mod reading;
+mod unknown_keys;
+mod values;
+mod work_keys;
 
-pub use board::{Board, BoardFault, Range};
+pub use board::{Board, BoardFault, Prices, Range};
 pub use reading::read_board;
 
 #[cfg(test)]

@@ -1,0 +1,4 @@
+pub mod Elements
+pub mod Names
+pub mod Tables
+pub mod Lawful
