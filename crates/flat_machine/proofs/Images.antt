@@ -1,5 +1,5 @@
 -- The image of segments, a segment at a time.
-use Rattle.std.proofs.Common.{◌≡◌, ℕ, ◌+◌, ◌-◌, ◌<◌, List, ◌∷◌, length, get_or, drop, map, suc, arith, ◌∙◌, ap, subst}
+use Rattle.std.proofs.Common.{◌≡◌, ℕ, ◌+◌, ◌-◌, ◌<◌, ◌≤◌, List, ◌∷◌, length, get_or, drop, map, suc, arith, ◌∙◌, ap, subst}
 use Rattle.std.proofs.Math.ListN.{get_or-map, length-map}
 use Rattle.std.proofs.Math.Seq.{drop-cons}
 use Rattle.std.proofs.lemmas.Bool.Decides.{nat_tests}
@@ -26,8 +26,15 @@ image_more segments j k d mem next inside laid =
     let here : mem ≡ image_of rest = subst (λ n. mem ≡ image_of (map plain_segment (drop n segments))) next laid in
     rw (drop-cons segments j d inside) (ap (λ (m : Memory). put_bytes m s.vaddr s.bytes.now) here ∙ image_of-cons (plain_segment s) rest)
 
-pub loadable_end : (segments : List Segment) (k : ℕ) (d : Segment) → AreLoadable (map plain_segment segments) → k < length segments → (get_or segments k d).vaddr + length (get_or segments k d).bytes.now < 4294967296
+loadable_end : (segments : List Segment) (k : ℕ) (d : Segment) → AreLoadable (map plain_segment segments) → k < length segments → (get_or segments k d).vaddr + length (get_or segments k d).bytes.now < 4294967296
 loadable_end segments k d all inside =
     let within : k < length (map plain_segment segments) = rw length-map inside in
     let segment : IsLoadable (plain_segment (get_or segments k d)) = subst IsLoadable (get_or-map plain_segment segments k d) (all k (plain_segment d) within) in
     omega arith
+
+-- the bytes of a segment end below 2 ^ 32
+pub loadable_within : (segments : List Segment) (k : ℕ) (d : Segment) → AreLoadable (map plain_segment segments) → k < length segments → (get_or segments k d).vaddr + length (get_or segments k d).bytes.now ≤ 4294967296
+loadable_within segments k d all inside = omega (arith, loadable_end segments k d all inside)
+
+pub loadable_count : (segments : List Segment) (k : ℕ) (d : Segment) → AreLoadable (map plain_segment segments) → k < length segments → length (get_or segments k d).bytes.now < 4294967296
+loadable_count segments k d all inside = omega (arith, loadable_end segments k d all inside)

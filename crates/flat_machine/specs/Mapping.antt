@@ -1,5 +1,5 @@
 -- Which addresses are mapped, and which bytes an instruction or a call can reach.
-use Rattle.std.specs.Prelude.{ℕ, zero, suc, ◌+◌, ◌%◌, ◌==◌, nat_lt, nat_le, Bool, true, ◌&&◌, List}
+use Rattle.std.specs.Prelude.{ℕ, zero, suc, ◌+◌, ◌%◌, ◌==◌, nat_lt, nat_le, Bool, true, ◌&&◌, List, [], ◌∷◌, IsTrue}
 use Rattle.std.specs.List.{list_any}
 use Rattle.board_config.specs.declared.board.Range.{Range}
 
@@ -20,6 +20,11 @@ all_mapped map at (suc n) = all_mapped map at n && is_mapped map (at + n)
 abbrev pub is_inside_one : List Range → ℕ → ℕ → Bool
 is_inside_one map at n =
     list_any (λ range. nat_le range.base at && nat_le (at + n) (range.base + range.size)) map
+
+-- what one range holds is held by one of the ranges
+abbrev pub IsPart : Range → List Range → Type 0
+IsPart range map =
+    (at n : ℕ) → IsTrue (is_inside_one (range ∷ []) at n) → IsTrue (is_inside_one map at n)
 
 -- a fetch, load or store of `width` bytes: aligned, and each byte mapped. A misaligned access may
 -- trap (RISC-V Unprivileged ISA, "Load and Store Instructions"), and does here.

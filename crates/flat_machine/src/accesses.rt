@@ -1,9 +1,9 @@
-ghost use Rattle.std.specs.Prelude.{◌≡◌, ◌<◌};
+ghost use Rattle.std.specs.Prelude.{◌≡◌, OnOk, OnErr};
 ghost use Rattle.rv_decode.specs.Acts.{load_width, store_width, loaded, stored};
-ghost use Rattle.paged_store.specs.Room.{HasRoom};
 
-use paged_store::{ByteStore, load1, load2, load4, put1, put2, put4};
+use paged_store::ByteStore;
 use rv_decode::{LoadKind, StoreKind};
+use std::alloc::AllocError;
 use word_bits::sext;
 
 /// How many bytes a load takes.
@@ -33,22 +33,27 @@ pub fn loaded_value<S: ByteStore>(store: &S, kind: LoadKind, at: u32) -> u32
     ensures { result ≡ loaded kind (S.byte_at store.now) at }
 {
     match kind {
-        LoadKind::Lb => sext(load1(store, at), 8),
-        LoadKind::Lh => sext(load2(store, at), 16),
-        LoadKind::Lw => load4(store, at),
-        LoadKind::Lbu => load1(store, at),
-        LoadKind::Lhu => load2(store, at),
+        LoadKind::Lb => sext(u32::from(store.get(at)), 8),
+        LoadKind::Lh => sext(u32::from(store.get_half(at)), 16),
+        LoadKind::Lw => store.get_word(at),
+        LoadKind::Lbu => u32::from(store.get(at)),
+        LoadKind::Lhu => u32::from(store.get_half(at)),
     }
 }
 
-/// Puts the low bytes of a word at an address that has room for them.
-pub fn put_value<S: ByteStore>(store: &mut S, kind: StoreKind, at: u32, value: u32)
-    requires { HasRoom (S.has_room store.old) at (store_width kind) }
-    ensures { S.byte_at store.new ≡ stored kind (S.byte_at store.old) at value }
+/// Puts the low bytes of a word at an address.
+pub fn set_value<S: ByteStore>(
+    store: &mut S,
+    kind: StoreKind,
+    at: u32,
+    value: u32,
+) -> Result<(), AllocError>
+    ensures ok { OnOk result (S.byte_at store.new ≡ stored kind (S.byte_at store.old) at value) }
+    ensures err { OnErr result (S.byte_at store.new ≡ S.byte_at store.old) }
 {
     match kind {
-        StoreKind::Sb => put1(store, at, value),
-        StoreKind::Sh => put2(store, at, value),
-        StoreKind::Sw => put4(store, at, value),
+        StoreKind::Sb => store.set(at, (value & 0xff) as u8),
+        StoreKind::Sh => store.set_half(at, (value & 0xffff) as u16),
+        StoreKind::Sw => store.set_word(at, value),
     }
 }

@@ -1,5 +1,5 @@
-ghost use Rattle.std.specs.Prelude.{◌≡◌, ◌+◌, ◌<◌, length, map, OnOk, IfOk};
-ghost use Rattle.word_bits.specs.Memory.{zeros, put_bytes};
+ghost use Rattle.std.specs.Prelude.{◌≡◌, map, OnOk, IfOk};
+ghost use Rattle.word_bits.specs.Memory.{zeros};
 ghost use Rattle.elf_reader.specs.File.{plain_segment};
 ghost use Rattle.elf_reader.specs.Image.{image_of};
 ghost use Rattle.elf_reader.specs.Loadable.{AreLoadable};
@@ -7,18 +7,8 @@ ghost use Rattle.board_config.specs.Board.{mapped_ranges};
 
 use board_config::{Board, Range};
 use elf_reader::Segment;
-use paged_store::{ByteStore, put_span};
+use paged_store::ByteStore;
 use std::alloc::{AllocError, Global};
-
-/// Puts bytes at the addresses from `at` on, which end below 2 ^ 32.
-fn lay_bytes<S: ByteStore>(store: &mut S, at: u32, bytes: &[u8]) -> Result<(), AllocError>
-    requires { at + length bytes.now < 4294967296 }
-    ensures { OnOk result (S.byte_at store.new ≡ put_bytes (S.byte_at store.old) at bytes.now) }
-{
-    store.room(at, bytes.len() as u32)?;
-    put_span(store, at, bytes);
-    Ok(())
-}
 
 /// Puts the bytes of the segments at their addresses. Where several have a byte for an address,
 /// that of the first counts, so it is put last.
@@ -29,7 +19,7 @@ pub fn lay_segments<S: ByteStore>(store: &mut S, segments: &[Segment]) -> Result
 {
     for k in (0..segments.len()).rev() {
         let segment = &segments[k];
-        lay_bytes(store, segment.vaddr, segment.bytes)?;
+        store.set_bytes(segment.vaddr, segment.bytes)?;
     }
     Ok(())
 }

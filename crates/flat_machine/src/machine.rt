@@ -1,4 +1,5 @@
-ghost use Rattle.std.specs.Prelude.{◌≤◌, length};
+ghost use Rattle.std.specs.Prelude.{◌≡◌, ◌≤◌, length, slice_index};
+ghost use Rattle.flat_machine.specs.Mapping.{IsPart};
 
 mod calling;
 mod performing;
@@ -6,10 +7,10 @@ mod registers;
 
 use crate::events::{FlatAccess, FlatEvent, FlatOutcome};
 use crate::loading::{lay_segments, mapped};
-use crate::mapping::has_access;
+use crate::mapping::{has_access, is_inside, range_around};
 use board_config::{Board, Range};
 use elf_reader::ElfView;
-use paged_store::{ByteStore, load4};
+use paged_store::ByteStore;
 use rv_decode::decode;
 use std::alloc::{AllocError, Global};
 
@@ -27,11 +28,16 @@ pub struct Flat<S> {
     taken: usize,
     output: Vec<u8>,
     outcome: FlatOutcome,
+    // a range of the map, which the last fetch was inside: the next one mostly is, too
+    code: Range,
+    ghost code_is_part: { IsPart code map.items },
     ghost taken_of_input: { taken ≤ length input.items },
+    // so that x0 is read as the others are
+    ghost zero: { slice_index regs 0 ≡ 0 },
 }
 
 impl<S: ByteStore + Drop> Flat<S> {
-    ghost use Rattle.std.specs.Prelude.{◌≡◌, IfOk};
+    ghost use Rattle.std.specs.Prelude.{IfOk};
     ghost use Rattle.word_bits.specs.Memory.{zeros};
     ghost use Rattle.elf_reader.specs.File.{segments_of};
     ghost use Rattle.elf_reader.specs.Loadable.{AreLoadable};
@@ -64,12 +70,14 @@ impl<S: ByteStore + Drop> Flat<S> {
             taken: 0,
             output: Vec::new(alloc),
             outcome: FlatOutcome::GoesOn,
+            code: board.main,
         })
     }
 }
 
 impl<S: ByteStore> Flat<S> {
-    ghost use Rattle.std.specs.Prelude.{◌≡◌, ℕ, ◌<◌, MatchBool, IfOk, OnOk, OnErr};
+    ghost use Rattle.std.specs.Prelude.{ℕ, ◌<◌, MatchBool, IfOk, OnOk, OnErr};
+    ghost use Rattle.flat_machine.specs.Mapping.{can_access};
     ghost use Rattle.flat_machine.specs.Step.{Step};
     ghost use Rattle.flat_machine.specs.Runs.{HasEnded, Steps};
     ghost use Rattle.flat_machine.specs.Machine.{state_of};
@@ -86,11 +94,11 @@ impl<S: ByteStore> Flat<S> {
         if self.has_ended() {
             return Ok(self.event(at, 0, None));
         }
-        if !has_access(&self.map, at, 4) {
+        if !self.can_fetch() {
             self.trap();
             return Ok(self.event(at, 0, None));
         }
-        let word = load4(&self.store, at);
+        let word = self.store.get_word(at);
         let access = self.perform_read(decode(word))?;
         Ok(self.event(at, word, access))
     }
@@ -127,6 +135,32 @@ impl<S: ByteStore> Flat<S> {
         ensures { result ≡ (state_of S.byte_at self.now).hart.pc }
     {
         self.pc
+    }
+
+    /// Whether the word at the pc is aligned and mapped.
+    fn can_fetch(&mut self) -> bool
+        ensures state { state_of S.byte_at self.new ≡ state_of S.byte_at self.old }
+        ensures can { let s = state_of S.byte_at self.old in
+            result ≡ can_access s.map s.hart.pc 4 }
+    {
+        if self.pc % 4 == 0 && is_inside(&self.code, self.pc, 4) {
+            return true;
+        }
+        self.seek_code()
+    }
+
+    /// Whether the word at the pc is aligned and mapped, from all ranges. Keeps the one that it is in.
+    #[cold]
+    #[inline(never)]
+    fn seek_code(&mut self) -> bool
+        ensures state { state_of S.byte_at self.new ≡ state_of S.byte_at self.old }
+        ensures can { let s = state_of S.byte_at self.old in
+            result ≡ can_access s.map s.hart.pc 4 }
+    {
+        if let Some(range) = range_around(&self.map, self.pc, 4) {
+            self.code = range;
+        }
+        has_access(&self.map, self.pc, 4)
     }
 
     /// Whether the machine goes on no more.

@@ -1,5 +1,5 @@
-ghost use Rattle.std.specs.Prelude.{◌≡◌, ◌≤◌};
-ghost use Rattle.flat_machine.specs.Mapping.{is_mapped, all_mapped, is_inside_one};
+ghost use Rattle.std.specs.Prelude.{◌≡◌, ◌≤◌, [], ◌∷◌, IfSome};
+ghost use Rattle.flat_machine.specs.Mapping.{is_mapped, all_mapped, is_inside_one, IsPart};
 ghost use Rattle.flat_machine.specs.Mapping.{can_access, can_move};
 
 use board_config::Range;
@@ -12,6 +12,27 @@ fn has_byte(map: &[Range], at: u64) -> bool
         let base = u64::from(range.base);
         base <= at && at < base + u64::from(range.size)
     })
+}
+
+/// Whether a range holds all of the `n` addresses from `at`.
+pub fn is_inside(range: &Range, at: u32, n: u32) -> bool
+    ensures { result ≡ is_inside_one (range.now ∷ []) at n }
+{
+    range.base <= at
+        && u64::from(at) + u64::from(n) <= u64::from(range.base) + u64::from(range.size)
+}
+
+/// The first range that holds all of the `n` addresses from `at`, if there is one.
+#[tactic(auto, using(crate::proofs::Spans::found_is_part))]
+pub fn range_around(map: &[Range], at: u32, n: u32) -> Option<Range>
+    ensures { IfSome result (λ range. IsPart range map.now) }
+{
+    for range in map {
+        if is_inside(range, at, n) {
+            return Some(*range);
+        }
+    }
+    None
 }
 
 /// Whether one of the ranges holds all of the `n` addresses from `at`.

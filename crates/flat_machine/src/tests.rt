@@ -3,7 +3,7 @@ ghost use Rattle.std.specs.Prelude.{◌<◌, length};
 use crate::{Flat, FlatOutcome};
 use board_config::read_board;
 use elf_reader::read;
-use paged_store::ListStore;
+use paged_store::{ListStore, PageStore};
 use std::alloc::{AllocError, Global};
 use std::test::Fail;
 
@@ -100,7 +100,7 @@ fn reads_what_is_there_and_writes_it(rt: HostRuntime) -> Result<(), Fail> {
         &view,
         &board,
         b"abc",
-        ListStore::new(rt.alloc()),
+        PageStore::new(rt.alloc()),
     )?;
     assert_eq!(rt; machine.run(board.steps)?, FlatOutcome::Exited(3));
     assert_eq!(rt; machine.output(), b"abc".as_slice());

@@ -3,10 +3,12 @@
 
 mod byte_store;
 mod list_store;
+mod page_store;
 mod spans;
 mod words;
 
 pub use byte_store::ByteStore;
 pub use list_store::ListStore;
-pub use spans::{append_span, put_span};
-pub use words::{load1, load2, load4, put1, put2, put4};
+pub use page_store::PageStore;
+pub use spans::append_span;
+pub use words::load4;

@@ -86,17 +86,16 @@ impl ByteStore for ListStore {
 #[cfg(test)]
 mod tests {
     use super::*;
-    use crate::words::{load2, load4, put4};
     use std::test::Fail;
 
     #[test]
-    fn puts_a_word_in_made_room(rt: HostRuntime) -> Result<(), Fail> {
+    fn sets_a_word_in_made_room(rt: HostRuntime) -> Result<(), Fail> {
         let mut store = ListStore::new(rt.alloc());
         store.room(0xffff_fffe, 4)?;
-        put4(&mut store, 0xffff_fffe, 0x1234_5678);
+        store.set_word(0xffff_fffe, 0x1234_5678)?;
         assert_eq!(rt; store.get(0), 0x34);
-        assert_eq!(rt; load2(&store, 0xffff_ffff), 0x3456);
-        assert_eq!(rt; load4(&store, 0xffff_fffe), 0x1234_5678);
+        assert_eq!(rt; store.get_half(0xffff_ffff), 0x3456);
+        assert_eq!(rt; store.get_word(0xffff_fffe), 0x1234_5678);
         Ok(())
     }
 

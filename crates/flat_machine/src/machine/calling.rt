@@ -1,7 +1,7 @@
 use crate::events::FlatOutcome;
 use crate::machine::Flat;
 use crate::mapping::has_move;
-use paged_store::{ByteStore, append_span, put_span};
+use paged_store::{ByteStore, append_span};
 use std::alloc::AllocError;
 
 // the arguments a0 to a2 of a call, and its number in a7
@@ -80,8 +80,8 @@ impl<S: ByteStore> Flat<S> {
             self.trap();
             return Ok(());
         }
-        self.store.room(at, n as u32)?;
-        put_span(&mut self.store, at, &self.input[self.taken..self.taken + n]);
+        self.store
+            .set_bytes(at, &self.input[self.taken..self.taken + n])?;
         self.taken += n;
         self.write(A0, n as u32);
         Ok(())

@@ -1,4 +1,4 @@
-use crate::accesses::{load_bytes, loaded_value, put_value, store_bytes};
+use crate::accesses::{load_bytes, loaded_value, set_value, store_bytes};
 use crate::events::{FlatAccess, FlatOutcome};
 use crate::machine::Flat;
 use crate::mapping::has_access;
@@ -185,9 +185,8 @@ impl<S: ByteStore> Flat<S> {
             self.trap();
             return Ok(None);
         }
-        self.store.room(at, store_bytes(kind))?;
         let value = self.register(rs2);
-        put_value(&mut self.store, kind, at, value);
+        set_value(&mut self.store, kind, at, value)?;
         self.pc = self.pc.wrapping_add(4);
         Ok(Some(FlatAccess { at, write: true }))
     }

@@ -11,7 +11,7 @@ impl<S: ByteStore> Flat<S> {
         requires { k < 32 }
         ensures { result ≡ register (state_of S.byte_at self.now).hart.regs k }
     {
-        if k == 0 { 0 } else { self.regs[usize::from(k)] }
+        self.regs[usize::from(k)]
     }
 
     /// Puts a value into a register.

@@ -1,4 +1,4 @@
-use Rattle.std.proofs.Common.{◌≡◌, ℕ, ◌+◌, ◌≤◌, ◌++◌, vec_len}
+use Rattle.std.proofs.Common.{◌≡◌, ◌+◌, ◌≤◌, ◌++◌, vec_len}
 use Rattle.std.specs.Vec.{vec_capacity}
 use Rattle.word_bits.specs.Memory.{bytes_at}
 use Rattle.paged_store.proofs.spans.append_span.Given as goal
