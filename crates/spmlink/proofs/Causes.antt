@@ -1,10 +1,12 @@
 -- From the names of a `run` command to the words of the command line.
-use Rattle.std.proofs.Common.{◌≡◌, inl, inr, ℕ, List, Option, Some, None, option_map, refl, subst, sym}
-use Rattle.elf_reader.specs.First.{◌or_else◌}
+use Rattle.std.proofs.Common.{◌≡◌, ◌⊎◌, inl, inr, ℕ, ◌<◌, List, Option, Some, None, option_map, refl, subst, sym, ap, arith}
+use Rattle.fault_order.specs.First.{◌or_else◌}
 use Rattle.elf_reader.specs.Faults.{first_fault}
-use Rattle.board_config.specs.Board.{first_key}
+use Rattle.board_config.specs.Keys.{first_key}
+use Rattle.board_config.specs.Faults.{Fault, not_toml, missing, wrong_type, out_of_range, unknown_key, memory}
 use Rattle.elf_reader.specs.declared.fault.ElfFault.{ElfFault}
-use Rattle.board_config.specs.declared.board.BoardFault.{BoardFault}
+use Rattle.elf_reader.specs.declared.fault.ElfFault.TheVariants as elf
+use Rattle.spmlink.specs.FaultLine.{Parts, board_parts, elf_parts}
 use Rattle.spmlink.specs.Command.{IsRun, SpellsRun, IsCommand}
 use Rattle.shelf_io.specs.Shelf.{ShelfView}
 use Rattle.shelf_io.specs.Sink.{SinkView}
@@ -55,29 +57,51 @@ reads_at words names place name spelled (performing.board e n) =
 reads_at words names place name spelled (performing.input e n) =
     run_input _ _ _ e (subst (λ (x : List ℕ). IsRun words names.file.now names.board.now x names.out.now) (sym n) spelled)
 
--- the first fault of what is read is one of the board or of the file
-abbrev IsInput : Refusal → Type 0
-IsInput (refusal.Board fault) = Unit {0}
-IsInput (refusal.Elf fault) = Unit {0}
-IsInput refusal.Usage = ⊥
-IsInput (refusal.Read place) = ⊥
-IsInput (refusal.Write place) = ⊥
-IsInput refusal.Memory = ⊥
+-- what is told of the inputs has one of these statuses
+abbrev IsInputStatus : ℕ → Type 0
+IsInputStatus status = (status ≡ 4) ⊎ ((status ≡ 5) ⊎ (status ≡ 9))
 
-is_input : (board : Option BoardFault) (file : Option ElfFault) (fault : Refusal)
-    → option_map refusal.Board board or_else option_map refusal.Elf file ≡ Some fault → IsInput fault
-is_input None None fault e = absurd (cc)
-is_input None (Some x) fault e = let same : refusal.Elf x ≡ fault = cc in subst IsInput same tt
-is_input (Some x) file fault e = let same : refusal.Board x ≡ fault = cc in subst IsInput same tt
+board_status : (fault : Fault) → IsInputStatus (board_parts fault).status
+board_status not_toml = inl refl
+board_status (missing key) = inl refl
+board_status (wrong_type key) = inl refl
+board_status (out_of_range key) = inl refl
+board_status (unknown_key name) = inl refl
+board_status memory = inr (inr refl)
+
+elf_status : (fault : ElfFault) → IsInputStatus (elf_parts fault).status
+elf_status (elf.TooShort need have) = inr (inl refl)
+elf_status (elf.NotElf at) = inr (inl refl)
+elf_status (elf.WrongKind field value) = inr (inl refl)
+elf_status (elf.OutOfFile table index) = inr (inl refl)
+elf_status (elf.OverLimit what count) = inr (inl refl)
+elf_status (elf.Overlap first second) = inr (inl refl)
+elf_status elf.Memory = inr (inr refl)
+
+input_status : (board : Option Fault) (file : Option ElfFault) (told : Parts)
+    → option_map board_parts board or_else option_map elf_parts file ≡ Some told → IsInputStatus told.status
+input_status None None told e = absurd (cc)
+input_status None (Some x) told e =
+    let same : elf_parts x ≡ told = cc in subst (λ (p : Parts). IsInputStatus p.status) same (elf_status x)
+input_status (Some x) file told e =
+    let same : board_parts x ≡ told = cc in subst (λ (p : Parts). IsInputStatus p.status) same (board_status x)
+
+not_of_inputs : (status : ℕ) → status < 4 → IsInputStatus status → ⊥
+not_of_inputs status low (inl e) = omega arith
+not_of_inputs status low (inr (inl e)) = omega arith
+not_of_inputs status low (inr (inr e)) = omega arith
 
 input_cause : (fault : Refusal) (words : List (List ℕ)) (old new : ShelfView) (sink mid : SinkView)
     → InputFails words fault old new → mid ≡ sink → Cause fault words old new sink mid
 input_cause (refusal.Board fault) words old new sink mid f same = (f, same)
 input_cause (refusal.Elf fault) words old new sink mid f same = (f, same)
-input_cause refusal.Usage words old new sink mid f same = absurd (is_input (first_key f.inputs.board) (first_fault f.inputs.file) refusal.Usage f.first)
-input_cause (refusal.Read place) words old new sink mid f same = absurd (is_input (first_key f.inputs.board) (first_fault f.inputs.file) (refusal.Read place) f.first)
-input_cause (refusal.Write place) words old new sink mid f same = absurd (is_input (first_key f.inputs.board) (first_fault f.inputs.file) (refusal.Write place) f.first)
-input_cause refusal.Memory words old new sink mid f same = absurd (is_input (first_key f.inputs.board) (first_fault f.inputs.file) refusal.Memory f.first)
+input_cause refusal.Usage words old new sink mid f same =
+    absurd (not_of_inputs 1 (omega arith) (input_status (first_key f.inputs.board) (first_fault f.inputs.file) _ f.first))
+input_cause (refusal.Read place) words old new sink mid f same =
+    absurd (not_of_inputs 2 (omega arith) (input_status (first_key f.inputs.board) (first_fault f.inputs.file) _ f.first))
+input_cause (refusal.Write place) words old new sink mid f same =
+    absurd (not_of_inputs 3 (omega arith) (input_status (first_key f.inputs.board) (first_fault f.inputs.file) _ f.first))
+input_cause refusal.Memory words old new sink mid f same = (ap (λ (s : ShelfView). s.content) f.same, same)
 
 -- a refused command has its cause
 cause_of_refuses : (words : List (List ℕ)) (names : RunNames) (old new : ShelfView) (sink mid : SinkView) (fault : Refusal)

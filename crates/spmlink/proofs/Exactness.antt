@@ -2,8 +2,7 @@
 use Rattle.std.proofs.Common.{◌≡◌, inl, inr, ℕ, List, [], ◌∷◌, ◌++◌, length, Option, Some, None, IfSome, subst, sym, ap, ◌∙◌, arith, length-append}
 use Rattle.elf_reader.specs.declared.fault.ElfFault.{ElfFault}
 use Rattle.elf_reader.specs.declared.fault.ElfFault.TheVariants as elf
-use Rattle.board_config.specs.declared.board.BoardFault.{BoardFault}
-use Rattle.board_config.specs.declared.board.BoardFault.TheVariants as board_fault
+use Rattle.board_config.specs.Faults.{Fault, not_toml, missing, wrong_type, out_of_range, unknown_key, memory, plain_fault}
 use Rattle.shelf_io.specs.Counts.{Rose}
 use Rattle.spmlink.specs.Command.{IsRun, IsCommand, is_run}
 use Rattle.spmlink.specs.FaultLine.{status_of, fault_line, elf_parts, board_parts}
@@ -26,15 +25,19 @@ elf_positive (elf.OverLimit what count) e = omega arith
 elf_positive (elf.Overlap first second) e = omega arith
 elf_positive elf.Memory e = omega arith
 
-board_positive : (fault : BoardFault) → (board_parts fault).status ≡ 0 → ⊥
-board_positive board_fault.NotToml e = omega arith
-board_positive board_fault.Memory e = omega arith
+board_positive : (fault : Fault) → (board_parts fault).status ≡ 0 → ⊥
+board_positive not_toml e = omega arith
+board_positive (missing key) e = omega arith
+board_positive (wrong_type key) e = omega arith
+board_positive (out_of_range key) e = omega arith
+board_positive (unknown_key name) e = omega arith
+board_positive memory e = omega arith
 
 pub status_positive : (fault : Refusal) → status_of fault ≡ 0 → ⊥
 status_positive refusal.Usage e = omega arith
 status_positive (refusal.Read place) e = omega arith
 status_positive (refusal.Write place) e = omega arith
-status_positive (refusal.Board fault) e = board_positive fault e
+status_positive (refusal.Board fault) e = board_positive (plain_fault fault) e
 status_positive (refusal.Elf fault) e = elf_positive fault e
 status_positive refusal.Memory e = omega arith
 

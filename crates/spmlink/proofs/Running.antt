@@ -2,7 +2,7 @@
 use Rattle.std.proofs.Common.{◌≡◌, ℕ, List, None, refl, subst}
 use Rattle.elf_reader.specs.File.{PlainSegment}
 use Rattle.elf_reader.specs.Faults.{first_fault}
-use Rattle.board_config.specs.Board.{first_key}
+use Rattle.board_config.specs.Keys.{first_key}
 use Rattle.board_config.specs.declared.board.Range.{Range}
 use Rattle.flat_machine.specs.Start.{start_of}
 use Rattle.spmlink.specs.RunFile.{RunsFrom, first_refusal}

@@ -2,7 +2,7 @@
 use Rattle.std.specs.Prelude.{◌≡◌, ◌⊎◌, ℕ, List, Option, Some, None}
 use Rattle.shelf_io.specs.Counts.{Rose}
 use Rattle.spmlink.specs.Command.{IsRun, IsCommand}
-use Rattle.spmlink.specs.FaultLine.{fault_line, status_of}
+use Rattle.spmlink.specs.FaultLine.{Parts, fault_line, status_of, parts_of}
 use Rattle.shelf_io.specs.Shelf.{ShelfView, Holds, SetsName, LosesName, LogsFailed}
 use Rattle.shelf_io.specs.Sink.{SinkView, PutAll, PutSome}
 use Rattle.shelf_io.specs.declared.shelves.CallKind.TheVariants.{Read}
@@ -77,7 +77,7 @@ pub record PrintFails (words : List (List ℕ)) (place : ℕ) (old new : ShelfVi
 -- what the command read has this first fault
 pub record InputFails (words : List (List ℕ)) (fault : Refusal) (old new : ShelfView) : Type 0 where
   pub inputs : RunInputs words old
-  pub first : first_refusal inputs.board inputs.file ≡ Some fault
+  pub first : first_refusal inputs.board inputs.file ≡ Some (parts_of fault)
   pub same : new ≡ old
 
 -- why a command is refused, and what that leaves of the shelf and, before the fault line, of the sink
@@ -115,9 +115,9 @@ pub record EndsRefused (status : ℕ) (words : List (List ℕ)) (old new : Shelf
   pub refused : IsRefused fault words old new sink sink'
 
 -- the status that these inputs call for where nothing outside fails
-abbrev pub expected_status : Option Refusal → ℕ
+abbrev pub expected_status : Option Parts → ℕ
 expected_status None = 0
-expected_status (Some fault) = status_of fault
+expected_status (Some told) = told.status
 
 -- nothing outside failed in the call
 pub record NothingFailed (old new : ShelfView) (sink sink' : SinkView)

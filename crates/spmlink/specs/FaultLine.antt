@@ -1,27 +1,34 @@
 -- The line and the status by which a command tells why it has no result.
-use Rattle.std.specs.Prelude.{ℕ, List, [], ◌∷◌, ◌++◌, codes}
+use Rattle.std.specs.Prelude.{ℕ, List, [], ◌∷◌, ◌++◌, codes, Option, Some, None, option_copied}
 use Rattle.std.specs.Fmt.{decimal}
 use Rattle.elf_reader.specs.declared.fault.ElfFault.{ElfFault}
 use Rattle.elf_reader.specs.declared.fault.ElfFault.TheVariants as elf
 use Rattle.board_config.specs.declared.board.BoardFault.{BoardFault}
 use Rattle.board_config.specs.declared.board.BoardFault.TheVariants as board
+use Rattle.board_config.specs.Faults.{Fault, not_toml, missing, wrong_type, out_of_range, unknown_key, memory, plain_fault}
 use Rattle.spmlink.specs.declared.faults.Refusal.{Refusal}
 use Rattle.spmlink.specs.declared.faults.Refusal.TheVariants as refusal
 use Rattle.spmlink.specs.declared.faults.LineParts.{LineParts}
 
--- the parts of a fault line
+-- the parts of a fault line, of which the name is there only for some faults
 pub record Parts : Type 0 where
   pub status : ℕ
   pub word : List ℕ
   pub first : ℕ
   pub second : ℕ
+  pub name : Option (List ℕ)
 
 abbrev pub parts : ℕ → List ℕ → ℕ → ℕ → Parts
 parts status word first second =
-    record { status = status; word = word; first = first; second = second }
+    record { status = status; word = word; first = first; second = second; name = None }
+
+abbrev pub named_parts : ℕ → List ℕ → List ℕ → Parts
+named_parts status word name =
+    record { status = status; word = word; first = 0; second = 0; name = Some name }
 
 abbrev pub plain_parts : LineParts → Parts
-plain_parts p = parts p.status p.word.now p.first p.second
+plain_parts p =
+    record { status = p.status; word = p.word.now; first = p.first; second = p.second; name = option_copied p.name }
 
 abbrev pub elf_parts : ElfFault → Parts
 elf_parts (elf.TooShort need have) = parts 5 (codes "too-short") need have
@@ -32,26 +39,39 @@ elf_parts (elf.OverLimit what count) = parts 5 (codes "over-limit") what count
 elf_parts (elf.Overlap first second) = parts 5 (codes "overlap") first second
 elf_parts elf.Memory = parts 9 (codes "memory") 0 0
 
-abbrev pub board_parts : BoardFault → Parts
-board_parts board.NotToml = parts 4 (codes "not-toml") 0 0
-board_parts board.Memory = parts 9 (codes "memory") 0 0
+abbrev pub board_parts : Fault → Parts
+board_parts not_toml = parts 4 (codes "not-toml") 0 0
+board_parts (missing key) = parts 4 (codes "missing") key 0
+board_parts (wrong_type key) = parts 4 (codes "wrong-type") key 0
+board_parts (out_of_range key) = parts 4 (codes "out-of-range") key 0
+board_parts (unknown_key name) = named_parts 4 (codes "unknown-key") name
+board_parts memory = parts 9 (codes "memory") 0 0
 
 abbrev pub parts_of : Refusal → Parts
 parts_of refusal.Usage = parts 1 (codes "usage") 0 0
 parts_of (refusal.Read place) = parts 2 (codes "read") place 0
 parts_of (refusal.Write place) = parts 3 (codes "write") place 0
-parts_of (refusal.Board fault) = board_parts fault
+parts_of (refusal.Board fault) = board_parts (plain_fault fault)
 parts_of (refusal.Elf fault) = elf_parts fault
 parts_of refusal.Memory = parts 9 (codes "memory") 0 0
 
 abbrev pub status_of : Refusal → ℕ
 status_of r = (parts_of r).status
 
+-- a name stands behind one space, also where it is empty
+abbrev pub name_text : Option (List ℕ) → List ℕ
+name_text None = []
+name_text (Some name) = codes " " ++ name
+
 -- `error STATUS WORD FIRST SECOND`
-abbrev pub parts_text : Parts → List ℕ
-parts_text p =
+abbrev pub numbers_text : Parts → List ℕ
+numbers_text p =
     codes "error "
     ++ (decimal p.status ++ (codes " " ++ (p.word ++ (codes " " ++ (decimal p.first ++ (codes " " ++ decimal p.second))))))
+
+-- the same, and the name if there is one
+abbrev pub parts_text : Parts → List ℕ
+parts_text p = numbers_text p ++ name_text p.name
 
 -- the fault line, with its newline
 abbrev pub fault_line : Refusal → List ℕ

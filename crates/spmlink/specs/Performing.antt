@@ -3,6 +3,7 @@ use Rattle.std.specs.Prelude.{◌≡◌, ◌⊎◌, ℕ, List, Some, string_byte
 use Rattle.shelf_io.specs.Shelf.{ShelfView, SetsName, LosesName, LogsFailed}
 use Rattle.shelf_io.specs.Sink.{SinkView, PutAll, PutSome}
 use Rattle.shelf_io.specs.declared.shelves.CallKind.TheVariants.{Read}
+use Rattle.spmlink.specs.FaultLine.{parts_of}
 use Rattle.spmlink.specs.Refused.{IsReady}
 use Rattle.spmlink.specs.RunFile.{RunsTo, IsFirstRefusal, first_refusal}
 use Rattle.spmlink.specs.Reading.{HoldsTexts, RefusesTexts}
@@ -56,7 +57,7 @@ pub data RefusesPerforming (names : RunNames) (old new : ShelfView) (sink mid : 
   read_fails : (place : ℕ) (name : List ℕ) → IsReadAt names place name → fault ≡ refusal.Read place
       → LogsFailed Read name old new → mid ≡ sink → RefusesPerforming names old new sink mid fault
   input_fails : (texts : RunTexts) → HoldsTexts names texts old new
-      → first_refusal texts.board.items texts.file.items ≡ Some fault → mid ≡ sink
+      → first_refusal texts.board.items texts.file.items ≡ Some (parts_of fault) → mid ≡ sink
       → RefusesPerforming names old new sink mid fault
   write_fails : fault ≡ refusal.Write 4 → LosesName names.out.now old new → mid ≡ sink
       → RefusesPerforming names old new sink mid fault

@@ -1,27 +1,29 @@
 -- What `run` makes of a file, a board and an input.
 use Rattle.std.specs.Prelude.{◌≡◌, ◌⊎◌, ℕ, List, [], ◌∷◌, ◌++◌, codes, Option, Some, None, option_map}
 use Rattle.std.specs.Fmt.{decimal}
-use Rattle.elf_reader.specs.First.{◌or_else◌}
+use Rattle.fault_order.specs.First.{◌or_else◌}
 use Rattle.elf_reader.specs.Faults.{first_fault}
 use Rattle.elf_reader.specs.File.{entry_of, load_segments}
-use Rattle.board_config.specs.Board.{IsBoard, first_key, mapped_ranges}
+use Rattle.board_config.specs.Board.{IsBoard, mapped_ranges}
+use Rattle.board_config.specs.Keys.{first_key}
 use Rattle.board_config.specs.declared.board.Board.{Board}
 use Rattle.flat_machine.specs.State.{State}
 use Rattle.flat_machine.specs.Start.{start_of}
 use Rattle.flat_machine.specs.Runs.{Steps}
 use Rattle.flat_machine.specs.declared.events.FlatOutcome.{FlatOutcome}
 use Rattle.flat_machine.specs.declared.events.FlatOutcome.TheVariants.{GoesOn, Exited, Trapped}
+use Rattle.spmlink.specs.FaultLine.{Parts, board_parts, elf_parts, parts_of}
 use Rattle.spmlink.specs.declared.faults.Refusal.{Refusal}
 use Rattle.spmlink.specs.declared.faults.Refusal.TheVariants as refusal
 
--- the first fault of what a command reads, if there is one: the board comes before the file
-abbrev pub first_refusal : List ℕ → List ℕ → Option Refusal
+-- what is told of the first fault of what a command reads, if there is one: the board comes before the file
+abbrev pub first_refusal : List ℕ → List ℕ → Option Parts
 first_refusal board file =
-    option_map refusal.Board (first_key board) or_else option_map refusal.Elf (first_fault file)
+    option_map board_parts (first_key board) or_else option_map elf_parts (first_fault file)
 
 -- a computation on the inputs was refused: for want of memory, or by the first fault
 abbrev pub IsFirstRefusal : List ℕ → List ℕ → Refusal → Type 0
-IsFirstRefusal board file fault = (fault ≡ refusal.Memory) ⊎ (first_refusal board file ≡ Some fault)
+IsFirstRefusal board file fault = (fault ≡ refusal.Memory) ⊎ (first_refusal board file ≡ Some (parts_of fault))
 
 -- the words that tell how a machine stands
 abbrev pub outcome_text : FlatOutcome → List ℕ

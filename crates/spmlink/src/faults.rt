@@ -39,7 +39,7 @@ impl Refusal {
         format!(in alloc; "{parts}\n")
     }
 
-    fn parts(&self) -> LineParts
+    fn parts(&self) -> LineParts<'_>
         ensures { plain_parts result ≡ parts_of self.now }
     {
         match self {
@@ -92,20 +92,22 @@ impl From<ElfFault> for Refusal {
     }
 }
 
-/// The parts of a fault line.
+/// The parts of a fault line, of which the name is there only for some faults.
 #[derive(Clone, Copy)]
-struct LineParts {
+struct LineParts<'a> {
     status: u8,
     word: &'static str,
     first: u32,
     second: u32,
+    name: Option<&'a str>,
 }
 
-impl LineParts {
+impl<'a> LineParts<'a> {
     ghost use Rattle.std.specs.Prelude.{◌≡◌};
-    ghost use Rattle.spmlink.specs.FaultLine.{parts, plain_parts, board_parts, elf_parts};
+    ghost use Rattle.board_config.specs.Faults.{plain_fault};
+    ghost use Rattle.spmlink.specs.FaultLine.{parts, named_parts, plain_parts, board_parts, elf_parts};
 
-    fn new(status: u8, word: &'static str, first: u32, second: u32) -> LineParts
+    fn new(status: u8, word: &'static str, first: u32, second: u32) -> LineParts<'a>
         ensures { plain_parts result ≡ parts status word.entry.now first second }
     {
         LineParts {
@@ -113,19 +115,36 @@ impl LineParts {
             word,
             first,
             second,
+            name: None,
         }
     }
 
-    fn of_board(fault: &BoardFault) -> LineParts
-        ensures { plain_parts result ≡ board_parts fault.now }
+    fn named(status: u8, word: &'static str, name: &'a str) -> LineParts<'a>
+        ensures { plain_parts result ≡ named_parts status word.entry.now name.now }
+    {
+        LineParts {
+            status,
+            word,
+            first: 0,
+            second: 0,
+            name: Some(name),
+        }
+    }
+
+    fn of_board(fault: &'a BoardFault) -> LineParts<'a>
+        ensures { plain_parts result ≡ board_parts (plain_fault fault.now) }
     {
         match fault {
             BoardFault::NotToml => LineParts::new(4, "not-toml", 0, 0),
+            BoardFault::Missing { key } => LineParts::new(4, "missing", *key, 0),
+            BoardFault::WrongType { key } => LineParts::new(4, "wrong-type", *key, 0),
+            BoardFault::OutOfRange { key } => LineParts::new(4, "out-of-range", *key, 0),
+            BoardFault::UnknownKey { name } => LineParts::named(4, "unknown-key", name.as_str()),
             BoardFault::Memory => LineParts::new(9, "memory", 0, 0),
         }
     }
 
-    fn of_elf(fault: &ElfFault) -> LineParts
+    fn of_elf(fault: &ElfFault) -> LineParts<'a>
         ensures { plain_parts result ≡ elf_parts fault.now }
     {
         match fault {
@@ -145,7 +164,7 @@ impl LineParts {
     }
 }
 
-impl fmt::Display for LineParts {
+impl fmt::Display for LineParts<'_> {
     ghost use Rattle.std.specs.Prelude.{Some};
     ghost use Rattle.spmlink.specs.FaultLine.{plain_parts, parts_text};
 
@@ -156,6 +175,10 @@ impl fmt::Display for LineParts {
         let word = self.word;
         let first = self.first;
         let second = self.second;
-        write!(f, "error {status} {word} {first} {second}")
+        write!(f, "error {status} {word} {first} {second}")?;
+        match self.name {
+            Some(name) => write!(f, " {name}"),
+            None => Ok(()),
+        }
     }
 }

@@ -1,6 +1,8 @@
 //! Runs RV32IM programs on a model of a board with a scratchpad memory.
 #![tactic(auto)]
 
+#[cfg(test)]
+mod clap_agrees;
 mod commands;
 mod delivery;
 mod faults;

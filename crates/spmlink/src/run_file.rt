@@ -11,7 +11,7 @@ use crate::reading::RunTexts;
 use board_config::{Board, read_board};
 use elf_reader::ElfView;
 use flat_machine::Flat;
-use paged_store::ListStore;
+use paged_store::PageStore;
 use std::alloc::{AllocError, Global};
 
 /// The result of a `run` command, before any of it is written.
@@ -55,7 +55,7 @@ fn run_view(
         (mapped_ranges board.now) input.now)
         board.now.steps r.output.items (string_bytes r.line)) }
 {
-    let mut machine = Flat::new(alloc, view, board, input, ListStore::new(alloc))?;
+    let mut machine = Flat::new(alloc, view, board, input, PageStore::new(alloc))?;
     let outcome = machine.run(board.steps)?;
     let line = outcome_line(alloc, outcome)?;
     let output = machine.output().to_vec(alloc)?;

@@ -1,8 +1,11 @@
+ghost use Rattle.std.specs.Prelude.{◌≡◌};
+ghost use Rattle.flat_machine.specs.Memory.{zeros};
+
 use crate::faults::Refusal;
 use crate::top::run;
 use board_config::read_board;
-use flat_machine::Flat;
-use paged_store::ListStore;
+use flat_machine::{Flat, FlatOutcome};
+use paged_store::{ByteStore, ListStore, PageStore};
 use shelf_io::{MemShelf, MemSink, Shelf};
 use std::alloc::{AllocError, Global};
 use std::test::Fail;
@@ -122,6 +125,27 @@ fn tells_what_is_refused(rt: HostRuntime) -> Result<(), Fail> {
         ),
         (
             Call {
+                board: b"grain = 8",
+                ..Call::of(&OK_FILE)
+            },
+            "error 4 out-of-range 8 0\n",
+        ),
+        (
+            Call {
+                board: b"colour = 1",
+                ..Call::of(&OK_FILE)
+            },
+            "error 4 unknown-key 0 0 colour\n",
+        ),
+        (
+            Call {
+                board: b"[price]",
+                ..Call::of(&OK_FILE)
+            },
+            "error 4 missing 10 0\n",
+        ),
+        (
+            Call {
                 board: b"=",
                 ..Call::of(&OK_FILE)
             },
@@ -196,6 +220,59 @@ fn file_of(alloc: Global, words: [u32; 12]) -> Result<Vec<u8>, AllocError> {
         file.extend_from_slice(&word.to_le_bytes())?;
     }
     Ok(file)
+}
+
+/// The outcome and the output of a program over a store.
+fn ran<S: ByteStore + Drop>(
+    alloc: Global,
+    file: &[u8],
+    store: S,
+) -> Result<(FlatOutcome, Vec<u8>), Refusal>
+    requires { S.byte_at store ≡ zeros }
+{
+    let view = elf_reader::read(alloc, file)?;
+    let board = read_board(alloc, b"")?;
+    let mut machine = Flat::new(alloc, &view, &board, b"", store)?;
+    let outcome = machine.run(board.steps)?;
+    Ok((outcome, machine.output().to_vec(alloc)?))
+}
+
+/// A division by zero, whose results exit with 6.
+const DIVIDES: [u32; 12] = [
+    0x0070_0513,
+    0x0205_55b3,
+    0x0205_6633,
+    0x00c5_8533,
+    0x05d0_0893,
+    0x0000_0073,
+    0,
+    0,
+    0,
+    0,
+    0,
+    0,
+];
+
+#[test]
+fn lists_and_pages_answer_alike(rt: HostRuntime) -> Result<(), Fail> {
+    let alloc = rt.alloc();
+    let divides = file_of(alloc, DIVIDES)?;
+    let files: [(&[u8], FlatOutcome, &[u8]); 2] = [
+        (&OK_FILE, FlatOutcome::Exited(0), b"ok\n"),
+        (&divides, FlatOutcome::Exited(6), b""),
+    ];
+    for (file, outcome, output) in files {
+        let Ok(over_list) = ran(alloc, file, ListStore::new(alloc)) else {
+            return Err(Fail::from("refused"));
+        };
+        let Ok(over_pages) = ran(alloc, file, PageStore::new(alloc)) else {
+            return Err(Fail::from("refused"));
+        };
+        assert_eq!(rt; (over_list.0, over_pages.0), (outcome, outcome));
+        assert_eq!(rt; over_list.1.as_slice(), output);
+        assert_eq!(rt; over_pages.1.as_slice(), output);
+    }
+    Ok(())
 }
 
 /// What an instruction of the M extension leaves of two numbers: a program stores it at 0x00020000,
