@@ -5,7 +5,7 @@ use Rattle.toml.specs.Data.{Members}
 use Rattle.board_config.specs.declared.board.Board.{Board}
 use Rattle.board_config.specs.declared.board.Prices.{Prices}
 use Rattle.board_config.specs.declared.board.Range.{Range}
-use Rattle.board_config.specs.Keys.{main_of, spm_of, patch_of, areas_of, prices_in, fix_of, bss_of, grain_of, fence_i_of, main_fetch_of, main_read_of, main_write_of, spm_fetch_of, spm_read_of, spm_write_of, driver_of, regions_of, steps_of, nodes_of, price_table_fault, unknown_fault, table_of}
+use Rattle.board_config.specs.Keys.{main_of, spm_of, patch_of, areas_of, prices_in, fix_of, bss_of, grain_of, fence_i_of, main_fetch_of, main_read_of, main_write_of, spm_fetch_of, spm_read_of, spm_write_of, driver_of, regions_of, steps_of, nodes_of, twins_of, price_table_fault, unknown_fault, table_of}
 
 abbrev pub plain_texts : Vec (String Global) Global → List (List ℕ)
 plain_texts texts = map string_bytes texts.items
@@ -38,6 +38,7 @@ pub record HasKeys (table : Members) (board : Board) : Type 0 where
   pub regions : regions_of table ≡ Ok (plain_regions board.regions)
   pub steps : steps_of table ≡ Ok board.steps
   pub nodes : nodes_of table ≡ Ok board.nodes
+  pub twins : twins_of table ≡ Ok board.twins
   pub no_more : unknown_fault table ≡ None
 
 -- the text is a table with the values of this board

@@ -103,7 +103,7 @@ spm_read_of = price_at 14 2 (codes "spm_read")
 abbrev pub spm_write_of : Option Members → Result ℕ Fault
 spm_write_of = price_at 15 2 (codes "spm_write")
 
--- ---- keys 16 to 19: the regions, and bounds on the work
+-- ---- keys 16 to 20: the regions, bounds on the work, and whether regions are twins
 
 abbrev pub driver_of : Members → Result (List ℕ) Fault
 driver_of table = key_value 16 (codes "main") as_str any_value (get_member (codes "driver") table)
@@ -116,6 +116,10 @@ steps_of table = key_value 18 100000000 as_integer (within 1 1000000000) (get_me
 
 abbrev pub nodes_of : Members → Result ℕ Fault
 nodes_of table = key_value 19 100000 as_integer (within 1 10000000) (get_member (codes "nodes") table)
+
+-- whether regions 1 and 2, 3 and 4, and so on are twins, which may keep an object that both use in one place
+abbrev pub twins_of : Members → Result Bool Fault
+twins_of table = key_value 20 false as_bool any_value (get_member (codes "twins") table)
 
 -- ---- keys that are none of these
 
@@ -145,7 +149,8 @@ names_fault known table = option_map unknown_key (least_unknown known table)
 abbrev pub top_names : List (List ℕ)
 top_names =
     codes "main" ∷ codes "spm" ∷ codes "patch" ∷ codes "areas" ∷ codes "price" ∷ codes "fix" ∷ codes "bss"
-    ∷ codes "grain" ∷ codes "fence_i" ∷ codes "driver" ∷ codes "regions" ∷ codes "steps" ∷ codes "nodes" ∷ []
+    ∷ codes "grain" ∷ codes "fence_i" ∷ codes "driver" ∷ codes "regions" ∷ codes "steps" ∷ codes "nodes"
+    ∷ codes "twins" ∷ []
 
 abbrev pub price_names : List (List ℕ)
 price_names =
@@ -181,7 +186,7 @@ prices_fault prices = main_prices_fault prices or_else spm_prices_fault prices
 unfoldable pub work_fault : Members → Option Fault
 work_fault table =
     result_err (driver_of table) or_else result_err (regions_of table) or_else result_err (steps_of table)
-    or_else result_err (nodes_of table)
+    or_else result_err (nodes_of table) or_else result_err (twins_of table)
 
 -- Unknown keys at the top come before those of the table of prices.
 unfoldable pub unknown_fault : Members → Option Fault

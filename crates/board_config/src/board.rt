@@ -27,8 +27,8 @@ pub struct Prices {
     pub spm_write: u32,
 }
 
-/// What a board file says: the memory of a board and its prices, what of a program may move, and bounds
-/// on the work.
+/// What a board file says: the memory of a board and its prices, what of a program may move, the regions,
+/// and bounds on the work.
 #[derive(Debug, Drop)]
 pub struct Board {
     /// The main memory.
@@ -57,9 +57,12 @@ pub struct Board {
     pub steps: u64,
     /// At most so many nodes of a search are entered.
     pub nodes: u64,
+    /// Whether regions 1 and 2, 3 and 4, and so on are twins, which may keep an object that both use in one
+    /// place.
+    pub twins: bool,
 }
 
-/// Why a text is no board. Keys have the numbers by which they are checked, 1 to 19.
+/// Why a text is no board. Keys have the numbers by which they are checked, 1 to 20.
 #[derive(Debug, Drop, Error)]
 pub enum BoardFault {
     /// The text is not TOML.

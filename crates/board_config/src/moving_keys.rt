@@ -1,7 +1,9 @@
-ghost use Rattle.std.specs.Prelude.{◌≡◌, ◌<◌, IfOk};
+ghost use Rattle.std.specs.Prelude.{◌≡◌, ◌<◌, IfOk, false};
+ghost use Rattle.toml.specs.Data.{as_bool};
 ghost use Rattle.toml.specs.View.{table_view};
 ghost use Rattle.board_config.specs.Faults.{Reads, ReadsAs, TellsFirst};
-ghost use Rattle.board_config.specs.Keys.{fix_of, bss_of, grain_of, fence_i_of, moving_fault};
+ghost use Rattle.board_config.specs.Values.{data_of};
+ghost use Rattle.board_config.specs.Keys.{any_value, key_value, fix_of, bss_of, grain_of, fence_i_of, moving_fault};
 ghost use Rattle.board_config.specs.Board.{plain_texts};
 ghost use Rattle.board_config.specs.Groups.{HasMoving};
 
@@ -9,7 +11,7 @@ use crate::board::BoardFault;
 use crate::limits::{bss_movable, grain};
 use crate::values::{find, texts};
 use std::alloc::Global;
-use toml::Table;
+use toml::{Table, Value};
 
 /// What of a program may move, and how, keys 6 to 9.
 #[derive(Drop)]
@@ -76,8 +78,15 @@ pub fn grain_key(table: &Table) -> Result<u32, BoardFault>
 fn fence_i_key(table: &Table) -> Result<bool, BoardFault>
     ensures { Reads result (fence_i_of (table_view table.now)) }
 {
-    let Some(value) = find(table, "fence_i") else {
+    flag_key(find(table, "fence_i"), 9)
+}
+
+/// The boolean of a key, or false where the key has no value.
+pub fn flag_key(value: Option<&Value>, key: u32) -> Result<bool, BoardFault>
+    ensures { Reads result (key_value key false as_bool any_value (data_of value.entry)) }
+{
+    let Some(value) = value else {
         return Ok(false);
     };
-    value.as_bool().ok_or(BoardFault::WrongType { key: 9 })
+    value.as_bool().ok_or(BoardFault::WrongType { key })
 }

@@ -66,5 +66,6 @@ fn board_of(alloc: Global, table: &Table) -> Result<Board, BoardFault>
         regions: work.regions,
         steps: work.steps,
         nodes: work.nodes,
+        twins: work.twins,
     })
 }

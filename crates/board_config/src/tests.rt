@@ -30,7 +30,7 @@ fn reads_the_default_board(rt: HostRuntime) -> Result<(), Fail> {
     assert_eq!(rt; board.areas.len(), 0);
     assert_eq!(rt; board.prices, prices);
     assert_eq!(rt; board.fix.len(), 0);
-    assert!(rt; !board.bss_movable && !board.fence_i);
+    assert!(rt; !board.bss_movable && !board.fence_i && !board.twins);
     assert_eq!(rt; board.grain, 16);
     assert_eq!(rt; board.driver.as_str(), "main");
     assert_eq!(rt; board.regions.len(), 0);
@@ -56,6 +56,7 @@ driver = \"f\"
 regions = [[\"g\", \"h\"], []]
 steps = 8
 nodes = 1
+twins = true
 ";
 
 #[test]
@@ -79,7 +80,7 @@ fn reads_each_key(rt: HostRuntime) -> Result<(), Fail> {
     assert_eq!(rt; board.areas.len(), 2);
     assert_eq!(rt; board.prices, prices);
     assert_eq!(rt; board.fix.len(), 1);
-    assert!(rt; board.bss_movable && board.fence_i);
+    assert!(rt; board.bss_movable && board.fence_i && board.twins);
     assert_eq!(rt; board.grain, 64);
     assert_eq!(rt; board.driver.as_str(), "f");
     assert_eq!(rt; board.regions.len(), 2);
@@ -101,7 +102,7 @@ fn told(fault: &BoardFault) -> (&str, u32, &str) {
 }
 
 /// Texts that are no board, with what is told of each.
-const REFUSED: [(&str, &str, u32, &str); 27] = [
+const REFUSED: [(&str, &str, u32, &str); 30] = [
     ("steps = 9223372036854775808", "not-toml", 0, ""),
     ("grain == 16", "not-toml", 0, ""),
     ("main = [1]", "wrong-type", 1, ""),
@@ -154,6 +155,9 @@ const REFUSED: [(&str, &str, u32, &str); 27] = [
     ),
     ("steps = 1000000001", "out-of-range", 18, ""),
     ("nodes = 10000001", "out-of-range", 19, ""),
+    ("twins = 5", "wrong-type", 20, ""),
+    ("aaa = 1\ntwins = 5", "wrong-type", 20, ""),
+    ("twins = 5\nnodes = 0", "out-of-range", 19, ""),
     ("\"\" = 1", "unknown-key", 0, ""),
     ("b = 1\nB = 2", "unknown-key", 0, "B"),
     ("grain = 8", "out-of-range", 8, ""),

@@ -8,9 +8,9 @@ use crate::board::BoardFault;
 use std::alloc::Global;
 use toml::Table;
 
-const TOP_NAMES: [&str; 13] = [
+const TOP_NAMES: [&str; 14] = [
     "main", "spm", "patch", "areas", "price", "fix", "bss", "grain", "fence_i", "driver",
-    "regions", "steps", "nodes",
+    "regions", "steps", "nodes", "twins",
 ];
 
 const PRICE_NAMES: [&str; 6] = [

@@ -4,26 +4,28 @@ ghost use Rattle.toml.specs.View.{view, table_view};
 ghost use Rattle.board_config.specs.Faults.{Reads, ReadsAs, TellsFirst};
 ghost use Rattle.board_config.specs.Values.{data_of};
 ghost use Rattle.board_config.specs.Limits.{within};
-ghost use Rattle.board_config.specs.Keys.{typed_value, key_value, driver_of, regions_of, steps_of, nodes_of, work_fault};
+ghost use Rattle.board_config.specs.Keys.{typed_value, key_value, driver_of, regions_of, steps_of, nodes_of, twins_of, work_fault};
 ghost use Rattle.board_config.specs.Board.{plain_regions};
 ghost use Rattle.board_config.specs.Groups.{HasWork};
 
 use crate::board::BoardFault;
 use crate::limits::Bounds;
+use crate::moving_keys::flag_key;
 use crate::values::{find, text_lists};
 use std::alloc::Global;
 use toml::{Table, Value};
 
-/// The regions, and bounds on the work, keys 16 to 19.
+/// The regions, bounds on the work, and whether regions are twins, keys 16 to 20.
 #[derive(Drop)]
 pub struct WorkKeys {
     pub driver: String,
     pub regions: Vec<Vec<String>>,
     pub steps: u64,
     pub nodes: u64,
+    pub twins: bool,
 }
 
-/// Reads keys 16 to 19.
+/// Reads keys 16 to 20.
 #[tactic(auto, unfolding(crate::specs::Keys::work_fault))]
 pub fn read_work(alloc: Global, table: &Table) -> Result<WorkKeys, BoardFault>
     ensures fault { TellsFirst result (work_fault (table_view table.now)) }
@@ -33,11 +35,13 @@ pub fn read_work(alloc: Global, table: &Table) -> Result<WorkKeys, BoardFault>
     let regions = regions_key(alloc, table)?;
     let steps = steps_key(table)?;
     let nodes = nodes_key(table)?;
+    let twins = twins_key(table)?;
     Ok(WorkKeys {
         driver,
         regions,
         steps,
         nodes,
+        twins,
     })
 }
 
@@ -86,6 +90,12 @@ fn nodes_key(table: &Table) -> Result<u64, BoardFault>
         most: 10_000_000,
     };
     number_key(find(table, "nodes"), 19, bounds, 100_000)
+}
+
+fn twins_key(table: &Table) -> Result<bool, BoardFault>
+    ensures { Reads result (twins_of (table_view table.now)) }
+{
+    flag_key(find(table, "twins"), 20)
 }
 
 /// The number of a key, or its default where the key has no value.
