@@ -5,10 +5,11 @@ use Rattle.std.proofs.lemmas.Bool.Decides.{nat_tests}
 use Rattle.std.proofs.lemmas.Bool.{leb-true, cond_both}
 use Rattle.std.proofs.lemmas.List.Elements.{All-nil, All-push, All-take, All-drop}
 use Rattle.std.proofs.lemmas.List.Quantifiers.{all_pairs_push}
+use Rattle.index_tests.specs.Tests.{meets}
 use Rattle.elf_reader.specs.Layout.{program_header_count, program_header}
 use Rattle.elf_reader.specs.File.{PlainSegment, is_load, segment_of, segments_below, load_segments}
 use Rattle.elf_reader.specs.HeaderChecks.{header_fault}
-use Rattle.elf_reader.specs.ProgramHeaderChecks.{type_fault, load_fault, entry_fault, entries_fault, meets, overlaps, pair_fault, pairs_fault, overlap_fault, memory_fault, table_fault, program_headers_fault}
+use Rattle.elf_reader.specs.ProgramHeaderChecks.{type_fault, load_fault, entry_fault, entries_fault, overlaps, pair_fault, pairs_fault, overlap_fault, memory_fault, table_fault, program_headers_fault}
 use Rattle.elf_reader.specs.Faults.{first_fault}
 use Rattle.elf_reader.specs.declared.fault.ElfFault.TheVariants.{Overlap}
 use Rattle.elf_reader.specs.Loadable.{HasSegment, HasSegments, IsByte, AreBytes, IsLoadable, AreLoadable, IsApart, AreApart}
@@ -89,7 +90,7 @@ are_apart file none (suc n) le =
 
 -- where no check fails, none of the program headers' does
 pub none_of_headers : (file : List ℕ) → first_fault file ≡ None → program_headers_fault file ≡ None
-none_of_headers file none = (both_none (header_fault file) (program_headers_fault file) none).1
+none_of_headers file none = (both_none (program_headers_fault file) _ (both_none (header_fault file) _ none).1).0
 
 pub load_segments_loadable : (file : List ℕ) → AreBytes file → program_headers_fault file ≡ None → AreLoadable (load_segments file)
 load_segments_loadable file bytes none =

@@ -1,7 +1,8 @@
 -- The checks of the ELF header, each with the fault that it tells, and their order.
-use Rattle.std.specs.Prelude.{ℕ, ◌/◌, ◌%◌, ◌^◌, min, ◌==◌, nat_le, Bool, not, ◌||◌, List, length, slice_index, Option}
+use Rattle.std.specs.Prelude.{ℕ, min, ◌==◌, nat_le, not, ◌||◌, List, length, slice_index, Option}
 use Rattle.fault_order.specs.First.{◌or_else◌, unless}
 use Rattle.elf_reader.specs.Layout.{file_header}
+use Rattle.elf_reader.specs.Sections.{bit_of}
 use Rattle.elf_reader.specs.declared.fault.ElfFault.{ElfFault}
 use Rattle.elf_reader.specs.declared.fault.ElfFault.TheVariants.{TooShort, NotElf, WrongKind, OverLimit}
 use Rattle.elf_reader.specs.declared.records.FileHeader.{FileHeader}
@@ -45,10 +46,6 @@ abbrev pub machine_fault : FileHeader → Option ElfFault
 machine_fault h =
     field_fault 4 h.e_type 2 or_else field_fault 5 h.e_machine 243 or_else field_fault 6 h.e_version 1
 
--- a bit of a word
-abbrev pub bit_of : ℕ → ℕ → Bool
-bit_of word bit = word / 2 ^ bit % 2 == 1
-
 -- no compressed instructions (EF_RISCV_RVC, bit 0) and no RV32E (EF_RISCV_RVE, bit 3)
 -- (RISC-V psABI, "File Header")
 abbrev pub flags_fault : FileHeader → Option ElfFault
@@ -67,10 +64,6 @@ counts_fault h =
     unless (nat_le h.e_phnum 64) (OverLimit 2 h.e_phnum)
     or_else unless (nat_le h.e_shnum 4096) (OverLimit 3 h.e_shnum)
 
--- sections are not read yet: a file has none
-abbrev pub no_sections_fault : FileHeader → Option ElfFault
-no_sections_fault h = field_fault 19 h.e_shnum 0
-
 -- the fields behind e_ident
 abbrev pub fields_fault : FileHeader → Option ElfFault
 fields_fault h =
@@ -78,7 +71,6 @@ fields_fault h =
     or_else flags_fault h
     or_else sizes_fault h
     or_else counts_fault h
-    or_else no_sections_fault h
 
 -- the ELF header
 abbrev pub header_fault : List ℕ → Option ElfFault

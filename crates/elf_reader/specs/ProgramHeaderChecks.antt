@@ -2,6 +2,7 @@
 -- order.
 use Rattle.std.specs.Prelude.{ℕ, zero, suc, ◌+◌, ◌==◌, nat_lt, nat_le, Bool, not, ◌&&◌, ◌||◌, if◌then◌else◌, List, length, Option, None}
 use Rattle.fault_order.specs.First.{◌or_else◌, unless, first_below}
+use Rattle.index_tests.specs.Tests.{meets}
 use Rattle.elf_reader.specs.Layout.{program_header_count, program_header_at, program_header}
 use Rattle.elf_reader.specs.File.{is_load}
 use Rattle.elf_reader.specs.HeaderChecks.{capped}
@@ -55,11 +56,6 @@ abbrev pub memory_fault : List ℕ → Option ElfFault
 memory_fault file =
     let total = memory_below file (program_header_count file) in
     unless (nat_le total 16777216) (OverLimit 4 (capped total))
-
--- two ranges, each a first address and a size, share an address. A range of size 0 has none
-abbrev pub meets : ℕ → ℕ → ℕ → ℕ → Bool
-meets base size other_base other_size =
-    nat_lt 0 size && nat_lt 0 other_size && nat_lt base (other_base + other_size) && nat_lt other_base (base + size)
 
 -- two program headers are of segments to be loaded that share an address
 abbrev pub overlaps : ProgramHeader → ProgramHeader → Bool

@@ -1,11 +1,12 @@
 ghost use Rattle.std.specs.Prelude.{◌≡◌, ℕ, ◌+◌, ◌*◌, ◌<◌, ◌≤◌, length, slice_index, IfOk, OnOk};
 ghost use Rattle.fault_order.specs.First.{Tells};
 ghost use Rattle.elf_reader.specs.Layout.{file_header};
-ghost use Rattle.elf_reader.specs.HeaderChecks.{size_fault, magic_byte_fault, magic_fault, identification_fault, field_fault, bit_of, machine_fault, flags_fault, sizes_fault, counts_fault, fields_fault, header_fault};
+ghost use Rattle.elf_reader.specs.Sections.{bit_of};
+ghost use Rattle.elf_reader.specs.HeaderChecks.{size_fault, magic_byte_fault, magic_fault, identification_fault, field_fault, machine_fault, flags_fault, sizes_fault, counts_fault, fields_fault, header_fault};
 
 use crate::fault::ElfFault;
 use crate::numbers::{field, limit};
-use crate::records::{FILE_HEADER_SIZE, FileHeader, PROGRAM_HEADER_SIZE};
+use crate::records::{FILE_HEADER_SIZE, FileHeader, PROGRAM_HEADER_SIZE, SECTION_HEADER_SIZE};
 
 /// The greatest size of a file, in bytes.
 const MAX_FILE_SIZE: usize = 64 * 1024 * 1024;
@@ -15,9 +16,6 @@ const MAX_PROGRAM_HEADERS: u16 = 64;
 
 /// The most section headers of a file.
 const MAX_SECTION_HEADERS: u16 = 4096;
-
-/// The bytes of a section header.
-const SECTION_HEADER_SIZE: u32 = 40;
 
 const ELFCLASS32: u32 = 1;
 
@@ -40,6 +38,7 @@ pub(crate) fn check_header(bytes: &[u8]) -> Result<FileHeader, ElfFault>
     ensures fault { Tells result (header_fault bytes.now) }
     ensures header { IfOk result (λ h. h ≡ file_header bytes.now) }
     ensures size { OnOk result (FILE_HEADER_SIZE ≤ length bytes.now) }
+    ensures small { OnOk result (length bytes.now ≤ MAX_FILE_SIZE) }
 {
     check_size(bytes)?;
     check_magic(bytes)?;
@@ -52,6 +51,7 @@ pub(crate) fn check_header(bytes: &[u8]) -> Result<FileHeader, ElfFault>
 fn check_size(bytes: &[u8]) -> Result<(), ElfFault>
     ensures fault { Tells result (size_fault bytes.now) }
     ensures size { OnOk result (FILE_HEADER_SIZE ≤ length bytes.now) }
+    ensures small { OnOk result (length bytes.now ≤ MAX_FILE_SIZE) }
 {
     if bytes.len() > MAX_FILE_SIZE {
         let count = u32::try_from(bytes.len()).unwrap_or(u32::MAX);
@@ -115,8 +115,7 @@ fn check_fields(header: &FileHeader) -> Result<(), ElfFault>
     check_machine(header)?;
     check_flags(header)?;
     check_sizes(header)?;
-    check_counts(header)?;
-    check_field(field::E_SHNUM, u32::from(header.e_shnum), 0)
+    check_counts(header)
 }
 
 fn check_machine(header: &FileHeader) -> Result<(), ElfFault>
@@ -139,7 +138,8 @@ fn check_flags(header: &FileHeader) -> Result<(), ElfFault>
     Ok(())
 }
 
-fn has_bit(word: u32, bit: u32) -> bool
+/// Whether bit `bit` of a word is set.
+pub(crate) fn has_bit(word: u32, bit: u32) -> bool
     requires { bit < 32 }
     ensures { result ≡ bit_of word bit }
 {
@@ -165,7 +165,7 @@ fn check_sizes(header: &FileHeader) -> Result<(), ElfFault>
         check_field(
             field::E_SHENTSIZE,
             u32::from(header.e_shentsize),
-            SECTION_HEADER_SIZE,
+            SECTION_HEADER_SIZE as u32,
         )?;
     }
     Ok(())

@@ -6,6 +6,7 @@ ghost use Rattle.elf_reader.specs.Loadable.{HasProgramHeaders, HasSegments};
 
 use crate::fault::ElfFault;
 use crate::numbers::{field, limit, table};
+use crate::ranges::meet;
 use crate::records::{FileHeader, PROGRAM_HEADER_SIZE, PT_LOAD, ProgramHeader};
 
 /// The greatest memory of all segments together, in bytes.
@@ -208,12 +209,7 @@ fn check_pair(bytes: &[u8], header: &FileHeader, first: u16, second: u16) -> Res
 fn overlap(one: &ProgramHeader, other: &ProgramHeader) -> bool
     ensures { result ≡ overlaps one.now other.now }
 {
-    let (start, other_start) = (u64::from(one.p_vaddr), u64::from(other.p_vaddr));
-    let (size, other_size) = (u64::from(one.p_memsz), u64::from(other.p_memsz));
     one.p_type == PT_LOAD
         && other.p_type == PT_LOAD
-        && size > 0
-        && other_size > 0
-        && start < other_start + other_size
-        && other_start < start + size
+        && meet(one.p_vaddr, one.p_memsz, other.p_vaddr, other.p_memsz)
 }

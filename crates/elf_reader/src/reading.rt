@@ -1,22 +1,35 @@
-ghost use Rattle.std.specs.Prelude.{IfOk};
+ghost use Rattle.std.specs.Prelude.{◌≡◌, ◌≤◌, length, IfOk};
 ghost use Rattle.fault_order.specs.First.{TellsUnless};
 ghost use Rattle.elf_reader.specs.Faults.{first_fault};
 ghost use Rattle.elf_reader.specs.File.{IsFile, segments_of};
-ghost use Rattle.elf_reader.specs.Loadable.{AreLoadable, AreApart};
+ghost use Rattle.elf_reader.specs.Layout.{file_header};
+ghost use Rattle.elf_reader.specs.Sections.{symbol_table};
+ghost use Rattle.elf_reader.specs.Loadable.{HasProgramHeaders, HasSegments, AreLoadable, AreApart};
+ghost use Rattle.elf_reader.specs.Placed.{HasSectionHeaders, HasContents, HasNamesTable, HasSectionNames};
+ghost use Rattle.elf_reader.specs.SymbolTables.{HasReadable};
 
 use crate::fault::ElfFault;
 use crate::header::check_header;
 use crate::program_headers::check_program_headers;
+use crate::records::FileHeader;
+use crate::relocation_checks::check_relocations;
+use crate::relocations::read_relocations;
+use crate::section_checks::check_sections;
+use crate::sections::read_sections;
 use crate::segments::read_segments;
+use crate::symbol_checks::check_symbols;
+use crate::symbols::{read_symbols, symbol_count};
 use crate::view::ElfView;
-use std::alloc::Global;
+use std::alloc::{AllocError, Global};
 
-/// Reads an executable ELF file for RV32 (ELF, "ELF Header" and "Program Header"): its segments to be
-/// loaded, borrowed from its bytes.
+/// Reads an executable ELF file for RV32 (ELF; RISC-V psABI, "ELF Object Files"): its segments to be loaded,
+/// its sections, its symbols, and the relocations that change sections with memory, all borrowed from its
+/// bytes.
 ///
-/// The error is the first check that the file fails, in a fixed order: its size, the ELF header's fields
-/// as they stand, then the program header table, each program header, their memory together, and pairs of
-/// segments that overlap. `Memory` comes only where no memory was left.
+/// The error is the first check that the file fails, in a fixed order: its size, the ELF header, the program
+/// headers and their segments, the section headers and their contents, the names of sections, the symbol
+/// table, and the relocations. `Memory` comes only where no memory was left. The time grows with the size of
+/// the file and of its tables, and with the square of the 64 program headers at most.
 pub fn read<'a>(alloc: Global, bytes: &'a [u8]) -> Result<ElfView<'a>, ElfFault>
     ensures fault { TellsUnless ElfFault.Memory result (first_fault bytes.now) }
     ensures file { IfOk result (IsFile bytes.now) }
@@ -25,13 +38,40 @@ pub fn read<'a>(alloc: Global, bytes: &'a [u8]) -> Result<ElfView<'a>, ElfFault>
 {
     let header = check_header(bytes)?;
     check_program_headers(bytes, &header)?;
-    let segments = read_segments(alloc, bytes, &header)?;
+    check_sections(bytes, &header)?;
+    let table = check_symbols(bytes, &header)?;
+    check_relocations(bytes, &header, table, symbol_count(bytes, &header, table))?;
+    Ok(view_of(alloc, bytes, &header, table)?)
+}
+
+/// The view of a file in which no check fails, whose symbol table is that of section header `table`.
+fn view_of<'a>(
+    alloc: Global,
+    bytes: &'a [u8],
+    header: &FileHeader,
+    table: Option<u16>,
+) -> Result<ElfView<'a>, AllocError>
+    requires header { header.now ≡ file_header bytes.now }
+    requires small { length bytes.now ≤ 67108864 }
+    requires programs { HasProgramHeaders bytes.now }
+    requires segments { HasSegments bytes.now }
+    requires headers { HasSectionHeaders bytes.now }
+    requires contents { HasContents bytes.now }
+    requires names_table { HasNamesTable bytes.now }
+    requires names { HasSectionNames bytes.now }
+    requires table { table ≡ symbol_table bytes.now }
+    requires readable { HasReadable bytes.now table }
+    ensures { IfOk result (IsFile bytes.now) }
+{
     Ok(ElfView {
         bytes,
         entry: header.e_entry,
         flags: header.e_flags,
         ph_at: header.e_phoff,
         ph_count: u32::from(header.e_phnum),
-        segments,
+        segments: read_segments(alloc, bytes, header)?,
+        sections: read_sections(alloc, bytes, header)?,
+        symbols: read_symbols(alloc, bytes, header, table)?,
+        relocs: read_relocations(alloc, bytes, header)?,
     })
 }

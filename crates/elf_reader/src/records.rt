@@ -9,8 +9,30 @@ pub(crate) const FILE_HEADER_SIZE: usize = 52;
 /// The bytes of a program header.
 pub(crate) const PROGRAM_HEADER_SIZE: usize = 32;
 
+/// The bytes of a section header.
+pub(crate) const SECTION_HEADER_SIZE: usize = 40;
+
+/// The bytes of an entry of a symbol table.
+pub(crate) const SYMBOL_SIZE: usize = 16;
+
+/// The bytes of a relocation with an addend.
+pub(crate) const RELOCATION_SIZE: usize = 12;
+
 /// The type of a program header whose segment is to be loaded.
 pub(crate) const PT_LOAD: u32 = 1;
+
+// Types of sections (ELF, "Sections": `sh_type`).
+pub(crate) const SHT_NULL: u32 = 0;
+
+pub(crate) const SHT_SYMTAB: u32 = 2;
+
+pub(crate) const SHT_STRTAB: u32 = 3;
+
+pub(crate) const SHT_RELA: u32 = 4;
+
+pub(crate) const SHT_NOBITS: u32 = 8;
+
+pub(crate) const SHT_REL: u32 = 9;
 
 /// The fields of the ELF header that are read (ELF, "ELF Header": `Elf32_Ehdr`).
 #[derive(Clone, Copy)]
@@ -20,12 +42,14 @@ pub(crate) struct FileHeader {
     pub e_version: u32,
     pub e_entry: u32,
     pub e_phoff: u32,
+    pub e_shoff: u32,
     pub e_flags: u32,
     pub e_ehsize: u16,
     pub e_phentsize: u16,
     pub e_phnum: u16,
     pub e_shentsize: u16,
     pub e_shnum: u16,
+    pub e_shstrndx: u16,
 }
 
 impl FileHeader {
@@ -43,12 +67,14 @@ impl FileHeader {
             e_version: word(bytes, 20),
             e_entry: word(bytes, 24),
             e_phoff: word(bytes, 28),
+            e_shoff: word(bytes, 32),
             e_flags: word(bytes, 36),
             e_ehsize: half(bytes, 40),
             e_phentsize: half(bytes, 42),
             e_phnum: half(bytes, 44),
             e_shentsize: half(bytes, 46),
             e_shnum: half(bytes, 48),
+            e_shstrndx: half(bytes, 50),
         }
     }
 }
@@ -81,6 +107,112 @@ impl ProgramHeader {
             p_memsz: word(bytes, at + 20),
             p_flags: word(bytes, at + 24),
         }
+    }
+}
+
+/// The fields of a section header that are read (ELF, "Sections": `Elf32_Shdr`).
+#[derive(Clone, Copy)]
+pub(crate) struct SectionHeader {
+    pub sh_name: u32,
+    pub sh_type: u32,
+    pub sh_flags: u32,
+    pub sh_addr: u32,
+    pub sh_offset: u32,
+    pub sh_size: u32,
+    pub sh_link: u32,
+    pub sh_info: u32,
+    pub sh_entsize: u32,
+}
+
+impl SectionHeader {
+    ghost use Rattle.elf_reader.specs.Layout.{section_header_in};
+
+    /// The section header at byte `at` of a file.
+    #[tactic(auto, unfolding(crate::specs::Layout::section_header_in))]
+    pub fn parse(bytes: &[u8], at: usize) -> SectionHeader
+        requires { at + SECTION_HEADER_SIZE ≤ length bytes.now }
+        ensures { result ≡ section_header_in bytes.now at }
+    {
+        SectionHeader {
+            sh_name: word(bytes, at),
+            sh_type: word(bytes, at + 4),
+            sh_flags: word(bytes, at + 8),
+            sh_addr: word(bytes, at + 12),
+            sh_offset: word(bytes, at + 16),
+            sh_size: word(bytes, at + 20),
+            sh_link: word(bytes, at + 24),
+            sh_info: word(bytes, at + 28),
+            sh_entsize: word(bytes, at + 36),
+        }
+    }
+}
+
+/// The fields of a symbol that are read (ELF, "Symbol Table": `Elf32_Sym`).
+#[derive(Clone, Copy)]
+pub(crate) struct SymbolRecord {
+    pub st_name: u32,
+    pub st_value: u32,
+    pub st_size: u32,
+    pub st_info: u8,
+    pub st_shndx: u16,
+}
+
+impl SymbolRecord {
+    ghost use Rattle.elf_reader.specs.Layout.{symbol_record_in};
+
+    /// The symbol at byte `at` of a file.
+    #[tactic(auto, unfolding(crate::specs::Layout::symbol_record_in))]
+    pub fn parse(bytes: &[u8], at: usize) -> SymbolRecord
+        requires { at + SYMBOL_SIZE ≤ length bytes.now }
+        ensures { result ≡ symbol_record_in bytes.now at }
+    {
+        SymbolRecord {
+            st_name: word(bytes, at),
+            st_value: word(bytes, at + 4),
+            st_size: word(bytes, at + 8),
+            st_info: bytes[at + 12],
+            st_shndx: half(bytes, at + 14),
+        }
+    }
+}
+
+/// A relocation (ELF, "Relocation": `Elf32_Rela`).
+#[derive(Clone, Copy)]
+pub(crate) struct RelocationRecord {
+    pub r_offset: u32,
+    pub r_info: u32,
+    pub r_addend: i32,
+}
+
+impl RelocationRecord {
+    ghost use Rattle.elf_reader.specs.Layout.{relocation_record_in};
+    ghost use Rattle.elf_reader.specs.Sections.{symbol_of_info, kind_of_info};
+
+    /// The relocation at byte `at` of a file.
+    #[tactic(auto, unfolding(crate::specs::Layout::relocation_record_in))]
+    pub fn parse(bytes: &[u8], at: usize) -> RelocationRecord
+        requires { at + RELOCATION_SIZE ≤ length bytes.now }
+        ensures { result ≡ relocation_record_in bytes.now at }
+    {
+        RelocationRecord {
+            r_offset: word(bytes, at),
+            r_info: word(bytes, at + 4),
+            r_addend: word(bytes, at + 8).cast_signed(),
+        }
+    }
+
+    /// The number of its symbol (ELF, "Relocation": `ELF32_R_SYM`).
+    pub fn symbol(&self) -> u32
+        ensures { result ≡ symbol_of_info self.now.r_info }
+    {
+        self.r_info >> 8
+    }
+
+    /// Its kind (ELF, "Relocation": `ELF32_R_TYPE`).
+    pub fn kind(&self) -> u32
+        ensures { result ≡ kind_of_info self.now.r_info }
+    {
+        self.r_info & 0xff
     }
 }
 

@@ -8,8 +8,8 @@ pub returns-clause-loadable : goal.returns-clause-loadable
 returns-clause-loadable c =
     let file = c.args.bytes.now in
     let bytes : AreBytes file = All-from_get_or IsByte file 0 (λ k below. let fits = c.type_inv.bytes k in omega (arith, fits)) in
-    rw c.in_ok-segments.ensures (load_segments_loadable file bytes c.in_ok-check_program_headers.ensures.fault)
+    rw c.in_ok-view_of.ensures.segments (load_segments_loadable file bytes c.in_ok-check_program_headers.ensures.fault)
 
 pub returns-clause-apart : goal.returns-clause-apart
 returns-clause-apart c =
-    rw c.in_ok-segments.ensures (load_segments_apart c.args.bytes.now c.in_ok-check_program_headers.ensures.fault)
+    rw c.in_ok-view_of.ensures.segments (load_segments_apart c.args.bytes.now c.in_ok-check_program_headers.ensures.fault)

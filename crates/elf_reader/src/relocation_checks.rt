@@ -1,0 +1,251 @@
+ghost use Rattle.std.specs.Prelude.{◌≡◌, ℕ, ◌+◌, ◌<◌, ◌≤◌, OnOk};
+ghost use Rattle.fault_order.specs.First.{Tells};
+ghost use Rattle.elf_reader.specs.Layout.{file_header};
+ghost use Rattle.elf_reader.specs.Sections.{symbol_table, symbol_count, relocation_count_at, relocation_count_below, relocation_count};
+ghost use Rattle.elf_reader.specs.RelocationChecks.{rel_fault, rels_fault, is_table_of, rela_table_fault, rela_section_fault, rela_fault, relas_fault, relocation_limit_fault, is_supported, relocation_fault_of, relocation_fault, section_relocations_fault, relocation_entries_fault, relocations_fault};
+ghost use Rattle.elf_reader.specs.Placed.{HasSectionHeaders, HasContents};
+
+use crate::fault::ElfFault;
+use crate::numbers::{field, limit, table};
+use crate::records::{FileHeader, RELOCATION_SIZE, RelocationRecord, SHT_REL, SectionHeader};
+use crate::relocations::{
+    is_allocated_section, is_relocation_section, relocation_count_at, relocation_record,
+};
+use crate::sections::{is_allocated, section_header};
+
+/// The most relocations of a file.
+const MAX_RELOCATIONS: u64 = 262_144;
+
+/// The checks of the relocations. The symbol table is that of section header `table`, if there is one,
+/// and has `symbols` entries.
+pub(crate) fn check_relocations(
+    bytes: &[u8],
+    header: &FileHeader,
+    table: Option<u16>,
+    symbols: u32,
+) -> Result<(), ElfFault>
+    requires header { header.now ≡ file_header bytes.now }
+    requires headers { HasSectionHeaders bytes.now }
+    requires contents { HasContents bytes.now }
+    requires table { table ≡ symbol_table bytes.now }
+    requires symbols { symbols ≡ symbol_count bytes.now }
+    ensures fault { Tells result (relocations_fault bytes.now) }
+    ensures limit { OnOk result (relocation_count bytes.now ≤ 262144) }
+{
+    check_rels(bytes, header)?;
+    check_relas(bytes, header, table)?;
+    check_limit(bytes, header)?;
+    check_entries(bytes, header, symbols)
+}
+
+#[tactic(auto, using(fault_order::proofs::FirstLemmas::first_found))]
+fn check_rels(bytes: &[u8], header: &FileHeader) -> Result<(), ElfFault>
+    requires header { header.now ≡ file_header bytes.now }
+    requires headers { HasSectionHeaders bytes.now }
+    ensures { Tells result (rels_fault bytes.now) }
+{
+    for k in 0..header.e_shnum {
+        check_rel(bytes, header, k)?;
+    }
+    Ok(())
+}
+
+fn check_rel(bytes: &[u8], header: &FileHeader, k: u16) -> Result<(), ElfFault>
+    requires header { header.now ≡ file_header bytes.now }
+    requires headers { HasSectionHeaders bytes.now }
+    requires below { k < header.now.e_shnum }
+    ensures { Tells result (rel_fault bytes.now k) }
+{
+    let section = section_header(bytes, header, k);
+    if section.sh_type == SHT_REL && is_allocated_section(bytes, header, section.sh_info) {
+        return Err(ElfFault::WrongKind {
+            field: field::SH_TYPE,
+            value: SHT_REL,
+        });
+    }
+    Ok(())
+}
+
+fn check_relas(bytes: &[u8], header: &FileHeader, table: Option<u16>) -> Result<(), ElfFault>
+    requires header { header.now ≡ file_header bytes.now }
+    requires headers { HasSectionHeaders bytes.now }
+    requires table { table ≡ symbol_table bytes.now }
+    ensures { Tells result (relas_fault bytes.now) }
+{
+    for k in 0..header.e_shnum {
+        check_rela(bytes, header, table, k)?;
+    }
+    Ok(())
+}
+
+fn check_rela(bytes: &[u8], header: &FileHeader, table: Option<u16>, k: u16) -> Result<(), ElfFault>
+    requires header { header.now ≡ file_header bytes.now }
+    requires headers { HasSectionHeaders bytes.now }
+    requires table { table ≡ symbol_table bytes.now }
+    requires below { k < header.now.e_shnum }
+    ensures { Tells result (rela_fault bytes.now k) }
+{
+    if is_relocation_section(&section_header(bytes, header, k)) {
+        check_rela_section(bytes, header, table, k)
+    } else {
+        Ok(())
+    }
+}
+
+fn check_rela_section(
+    bytes: &[u8],
+    header: &FileHeader,
+    table: Option<u16>,
+    k: u16,
+) -> Result<(), ElfFault>
+    requires header { header.now ≡ file_header bytes.now }
+    requires headers { HasSectionHeaders bytes.now }
+    requires table { table ≡ symbol_table bytes.now }
+    requires below { k < header.now.e_shnum }
+    ensures { Tells result (rela_section_fault bytes.now k) }
+{
+    let section = section_header(bytes, header, k);
+    if section.sh_info >= u32::from(header.e_shnum) {
+        return Err(ElfFault::BadIndex {
+            table: table::RELOCATION_SECTIONS,
+            index: u32::from(k),
+        });
+    }
+    if is_allocated(&section_header(bytes, header, section.sh_info as u16)) {
+        check_rela_table(bytes, header, table, k)
+    } else {
+        Ok(())
+    }
+}
+
+fn check_rela_table(
+    bytes: &[u8],
+    header: &FileHeader,
+    table: Option<u16>,
+    k: u16,
+) -> Result<(), ElfFault>
+    requires header { header.now ≡ file_header bytes.now }
+    requires headers { HasSectionHeaders bytes.now }
+    requires table { table ≡ symbol_table bytes.now }
+    requires below { k < header.now.e_shnum }
+    ensures { Tells result (rela_table_fault bytes.now k) }
+{
+    let section = section_header(bytes, header, k);
+    if !is_table(table, section.sh_link) {
+        return Err(ElfFault::BadIndex {
+            table: table::RELOCATION_SECTIONS,
+            index: u32::from(k),
+        });
+    }
+    let size = RELOCATION_SIZE as u32;
+    if section.sh_entsize != size || section.sh_size % size != 0 {
+        return Err(ElfFault::WrongKind {
+            field: field::RELOCATION_ENTSIZE,
+            value: section.sh_entsize,
+        });
+    }
+    Ok(())
+}
+
+/// The number is that of the symbol table's section header.
+fn is_table(table: Option<u16>, number: u32) -> bool
+    ensures { result ≡ is_table_of table number }
+{
+    match table {
+        Some(table) => number == u32::from(table),
+        None => false,
+    }
+}
+
+fn check_limit(bytes: &[u8], header: &FileHeader) -> Result<(), ElfFault>
+    requires header { header.now ≡ file_header bytes.now }
+    requires headers { HasSectionHeaders bytes.now }
+    ensures fault { Tells result (relocation_limit_fault bytes.now) }
+    ensures limit { OnOk result (relocation_count bytes.now ≤ 262144) }
+{
+    let mut total: u64 = 0;
+    for k in 0..header.e_shnum {
+        total += u64::from(relocation_count_at(bytes, header, k));
+    }
+    if total > MAX_RELOCATIONS {
+        let count = u32::try_from(total).unwrap_or(u32::MAX);
+        return Err(ElfFault::OverLimit {
+            what: limit::RELOCATIONS,
+            count,
+        });
+    }
+    Ok(())
+}
+
+#[tactic(auto, using(fault_order::proofs::FirstLemmas::first_found))]
+fn check_entries(bytes: &[u8], header: &FileHeader, symbols: u32) -> Result<(), ElfFault>
+    requires header { header.now ≡ file_header bytes.now }
+    requires headers { HasSectionHeaders bytes.now }
+    requires contents { HasContents bytes.now }
+    requires symbols { symbols ≡ symbol_count bytes.now }
+    requires limit { relocation_count bytes.now ≤ 262144 }
+    ensures { Tells result (relocation_entries_fault bytes.now) }
+{
+    let mut first = 0;
+    for k in 0..header.e_shnum {
+        check_section_entries(bytes, header, symbols, k, first)?;
+        first += relocation_count_at(bytes, header, k);
+    }
+    Ok(())
+}
+
+/// The checks of the relocations of section header `k`, of which the first is number `first` of all.
+fn check_section_entries(
+    bytes: &[u8],
+    header: &FileHeader,
+    symbols: u32,
+    k: u16,
+    first: u32,
+) -> Result<(), ElfFault>
+    requires header { header.now ≡ file_header bytes.now }
+    requires headers { HasSectionHeaders bytes.now }
+    requires contents { HasContents bytes.now }
+    requires symbols { symbols ≡ symbol_count bytes.now }
+    requires below { k < header.now.e_shnum }
+    requires first { first ≡ relocation_count_below bytes.now k }
+    requires limit { first + relocation_count_at bytes.now k ≤ 262144 }
+    ensures { Tells result (section_relocations_fault bytes.now k) }
+{
+    let count = relocation_count_at(bytes, header, k);
+    for i in 0..count {
+        let record = relocation_record(bytes, header, k, i);
+        check_relocation(symbols, first + i, &record)?;
+    }
+    Ok(())
+}
+
+/// The checks of a relocation, number `index` of all that are read.
+fn check_relocation(symbols: u32, index: u32, record: &RelocationRecord) -> Result<(), ElfFault>
+    ensures { Tells result (relocation_fault_of symbols index record.now) }
+{
+    if record.symbol() >= symbols {
+        return Err(ElfFault::BadIndex {
+            table: table::RELOCATIONS,
+            index,
+        });
+    }
+    if !is_supported(record.kind()) {
+        return Err(ElfFault::Unsupported {
+            index,
+            kind: record.kind(),
+        });
+    }
+    Ok(())
+}
+
+/// The kind of relocation is supported (RISC-V psABI, "Relocations"): NONE and 32; BRANCH, JAL, CALL and
+/// CALL_PLT; PCREL_HI20, HI20 and their LO12; ADD8 to ADD32 and SUB8 to SUB32; ALIGN; RELAX, SUB6, SET6 to
+/// SET32 and 32_PCREL; SET_ULEB128 and SUB_ULEB128.
+fn is_supported(kind: u32) -> bool
+    ensures { result ≡ is_supported kind }
+{
+    matches!(
+        kind,
+        0 | 1 | 16..=19 | 23..=28 | 33..=35 | 37..=39 | 43 | 51..=57 | 60 | 61
+    )
+}
