@@ -1,0 +1,15 @@
+pub mod ByteLemmas
+pub mod PlaceLemmas
+pub mod KernelLemmas
+pub mod Standing
+pub mod Records
+pub mod Layouts
+pub mod Steps
+pub mod SectionsRead
+pub mod SegmentsRead
+pub mod SymbolsRead
+pub mod TableFound
+pub mod RelocationsRead
+pub mod PlannedFit
+pub mod Assembled
+pub mod Whole

@@ -1,0 +1,11 @@
+pub use Rattle.elf_reader.specs.Layout
+pub use Rattle.elf_reader.specs.Sections
+pub use Rattle.elf_reader.specs.File
+pub mod Plan
+pub mod Pieces
+pub mod Built
+pub mod Planned
+pub mod Readable
+pub mod Workload
+pub mod Kernels
+pub mod Parts
