@@ -1,0 +1,13 @@
+pub mod ChainLemmas
+pub mod CompareLemmas
+pub mod EntryLemmas
+pub mod GivenLemmas
+pub mod LineLemmas
+pub mod OffLemmas
+pub mod OrderLemmas
+pub mod PieceLemmas
+pub mod RecordLemmas
+pub mod RunLemmas
+pub mod SortLemmas
+pub mod SpellLemmas
+pub mod TextLemmas

@@ -1,0 +1,10 @@
+pub use Rattle.fault_order.specs.First
+pub use Rattle.word_bits.specs.Words
+pub use Rattle.elf_reader.specs.File
+pub use Rattle.elf_reader.specs.Loadable
+pub mod Runs
+pub mod Records
+pub mod Text
+pub mod Reading
+pub mod Difference
+pub mod Laws
