@@ -1,5 +1,12 @@
 pub mod WordLists
 pub mod Endings
+pub mod Statuses
 pub mod Causes
+pub mod OneCommand
 pub mod Exactness
 pub mod Running
+pub mod Refusals
+pub mod Readings
+pub mod Writings
+pub mod Numbers
+pub mod Comparing

@@ -1,21 +1,73 @@
 -- What is left to do once the result of a command stands ready, and what it leaves.
-use Rattle.std.specs.Prelude.{◌≡◌, ℕ, List, string_bytes}
+use Rattle.std.specs.Prelude.{◌≡◌, ◌⊎◌, ℕ, List, [], ◌∷◌, string_bytes}
 use Rattle.shelf_io.specs.Shelf.{ShelfView, SetsName, LosesName}
 use Rattle.shelf_io.specs.Sink.{SinkView, PutAll, PutSome}
+use Rattle.spmlink.specs.Command.{Named}
+use Rattle.spmlink.specs.Refused.{IsReady}
+use Rattle.spmlink.specs.declared.delivery.Output.{Output}
 use Rattle.spmlink.specs.declared.delivery.Ready.{Ready}
 use Rattle.spmlink.specs.declared.refused.Refused.{Refused}
 use Rattle.spmlink.specs.declared.refused.Refused.TheVariants as refused
+use Rattle.spmlink.specs.declared.faults.Refusal.TheVariants as refusal
 
--- the result was written and its text printed
-pub record DeliversAll (ready : Ready) (name : List ℕ) (old new : ShelfView) (sink sink' : SinkView) : Type 0 where
-  pub set : SetsName name ready.output.items old new
-  pub printed : PutAll (string_bytes ready.line) sink sink'
+-- the outputs were written, one after the other
+abbrev pub SetsAll : List Named → List (List ℕ) → ShelfView → ShelfView → Type 0
+SetsAll [] [] old new = new ≡ old
+SetsAll [] (output ∷ outputs) old new = ⊥
+SetsAll (w ∷ names) [] old new = ⊥
+SetsAll (w ∷ names) (output ∷ outputs) old new =
+    (mid : ShelfView) × SetsName w.name output old mid × SetsAll names outputs mid new
 
--- a step failed: the write, the memory for the write, or the print
-pub data FailsToDeliver (ready : Ready) (name : List ℕ) (old new : ShelfView) (sink mid : SinkView) (r : Refused) : Type 0 where
-  write_fails : r ≡ ready.write_fault → LosesName name old new → mid ≡ sink
-      → FailsToDeliver ready name old new sink mid r
-  wants_memory : r ≡ refused.Memory → new.content ≡ old.content → mid ≡ sink
-      → FailsToDeliver ready name old new sink mid r
-  print_fails : r ≡ ready.print_fault → SetsName name ready.output.items old new
-      → PutSome (string_bytes ready.line) sink mid → FailsToDeliver ready name old new sink mid r
+-- the write at a place failed; those before it stand, and none behind it was made
+abbrev pub LosesOne : List Named → List (List ℕ) → ℕ → ShelfView → ShelfView → Type 0
+LosesOne [] outputs place old new = ⊥
+LosesOne (w ∷ names) [] place old new = ⊥
+LosesOne (w ∷ names) (output ∷ outputs) place old new =
+    ((place ≡ w.place) × LosesName w.name old new)
+    ⊎ ((mid : ShelfView) × SetsName w.name output old mid × LosesOne names outputs place mid new)
+
+-- a write wanted memory and changed nothing; those before it stand
+abbrev pub WantsInOne : List Named → List (List ℕ) → ShelfView → ShelfView → Type 0
+WantsInOne [] outputs old new = ⊥
+WantsInOne (w ∷ names) [] old new = ⊥
+WantsInOne (w ∷ names) (output ∷ outputs) old new =
+    (new.content ≡ old.content)
+    ⊎ ((mid : ShelfView) × SetsName w.name output old mid × WantsInOne names outputs mid new)
+
+-- outputs that stand ready: each under its name, with the refusal of its write
+abbrev pub AreReady : List Named → List (List ℕ) → List Output → Type 0
+AreReady [] [] [] = Unit
+AreReady [] [] (o ∷ ready) = ⊥
+AreReady [] (output ∷ outputs) ready = ⊥
+AreReady (w ∷ names) [] ready = ⊥
+AreReady (w ∷ names) (output ∷ outputs) [] = ⊥
+AreReady (w ∷ names) (output ∷ outputs) (o ∷ ready) =
+    (o.name.now ≡ w.name) × (o.bytes.items ≡ output) × IsReady (refusal.Write w.place) o.fault × AreReady names outputs ready
+
+-- the same, from the outputs that stand ready
+abbrev pub SetsReady : List Output → ShelfView → ShelfView → Type 0
+SetsReady [] old new = new ≡ old
+SetsReady (o ∷ ready) old new =
+    (mid : ShelfView) × SetsName o.name.now o.bytes.items old mid × SetsReady ready mid new
+
+-- a write failed, and `r` is its refusal; or it wanted memory
+pub data FailsOnce (o : Output) (old new : ShelfView) (r : Refused) : Type 0 where
+  write_fails : r ≡ o.fault → LosesName o.name.now old new → FailsOnce o old new r
+  wants_memory : r ≡ refused.Memory → new.content ≡ old.content → FailsOnce o old new r
+
+abbrev pub FailsToWrite : List Output → ShelfView → ShelfView → Refused → Type 0
+FailsToWrite [] old new r = ⊥
+FailsToWrite (o ∷ ready) old new r =
+    FailsOnce o old new r
+    ⊎ ((mid : ShelfView) × SetsName o.name.now o.bytes.items old mid × FailsToWrite ready mid new r)
+
+-- the outputs were written and the text printed
+pub record DeliversAll (ready : Ready) (old new : ShelfView) (sink sink' : SinkView) : Type 0 where
+  pub set : SetsReady ready.outputs.items old new
+  pub printed : PutAll (string_bytes ready.text) sink sink'
+
+-- a step failed: a write, the memory for one, or the print
+pub data FailsToDeliver (ready : Ready) (old new : ShelfView) (sink mid : SinkView) (r : Refused) : Type 0 where
+  writing_fails : FailsToWrite ready.outputs.items old new r → mid ≡ sink → FailsToDeliver ready old new sink mid r
+  print_fails : r ≡ ready.print_fault → SetsReady ready.outputs.items old new
+      → PutSome (string_bytes ready.text) sink mid → FailsToDeliver ready old new sink mid r

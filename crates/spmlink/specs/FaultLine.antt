@@ -3,6 +3,8 @@ use Rattle.std.specs.Prelude.{ℕ, List, [], ◌∷◌, ◌++◌, codes, Option,
 use Rattle.std.specs.Fmt.{decimal}
 use Rattle.elf_reader.specs.declared.fault.ElfFault.{ElfFault}
 use Rattle.elf_reader.specs.declared.fault.ElfFault.TheVariants as elf
+use Rattle.hex_image.specs.declared.fault.HexFault.{HexFault}
+use Rattle.hex_image.specs.declared.fault.HexFault.TheVariants as hex
 use Rattle.board_config.specs.declared.board.BoardFault.{BoardFault}
 use Rattle.board_config.specs.declared.board.BoardFault.TheVariants as board
 use Rattle.board_config.specs.Faults.{Fault, not_toml, missing, wrong_type, out_of_range, unknown_key, memory, plain_fault}
@@ -35,7 +37,10 @@ elf_parts (elf.TooShort need have) = parts 5 (codes "too-short") need have
 elf_parts (elf.NotElf at) = parts 5 (codes "not-elf") at 0
 elf_parts (elf.WrongKind field value) = parts 5 (codes "wrong-kind") field value
 elf_parts (elf.OutOfFile table index) = parts 5 (codes "out-of-file") table index
+elf_parts (elf.BadIndex table index) = parts 5 (codes "bad-index") table index
+elf_parts (elf.Unsupported index kind) = parts 6 (codes "unsupported") index kind
 elf_parts (elf.OverLimit what count) = parts 5 (codes "over-limit") what count
+elf_parts (elf.Compressed section) = parts 5 (codes "compressed") section 0
 elf_parts (elf.Overlap first second) = parts 5 (codes "overlap") first second
 elf_parts elf.Memory = parts 9 (codes "memory") 0 0
 
@@ -47,12 +52,27 @@ board_parts (out_of_range key) = parts 4 (codes "out-of-range") key 0
 board_parts (unknown_key name) = named_parts 4 (codes "unknown-key") name
 board_parts memory = parts 9 (codes "memory") 0 0
 
+abbrev pub hex_parts : HexFault → Parts
+hex_parts (hex.BadRecord line) = parts 14 (codes "bad-record") line 0
+hex_parts (hex.BadCheck line) = parts 14 (codes "bad-check") line 0
+hex_parts (hex.BadKind line kind) = parts 14 (codes "bad-kind") line kind
+hex_parts (hex.Twice line) = parts 14 (codes "twice") line 0
+hex_parts (hex.NoEnd lines) = parts 14 (codes "no-end") lines 0
+hex_parts (hex.Trailing line) = parts 14 (codes "trailing") line 0
+hex_parts hex.Memory = parts 9 (codes "memory") 0 0
+
+-- a difference at a place
+abbrev pub differs_parts : ℕ → Parts
+differs_parts at = parts 11 (codes "differs") at 0
+
 abbrev pub parts_of : Refusal → Parts
 parts_of refusal.Usage = parts 1 (codes "usage") 0 0
 parts_of (refusal.Read place) = parts 2 (codes "read") place 0
 parts_of (refusal.Write place) = parts 3 (codes "write") place 0
 parts_of (refusal.Board fault) = board_parts (plain_fault fault)
 parts_of (refusal.Elf fault) = elf_parts fault
+parts_of (refusal.Hex fault) = hex_parts fault
+parts_of (refusal.Differs at) = differs_parts at
 parts_of refusal.Memory = parts 9 (codes "memory") 0 0
 
 abbrev pub status_of : Refusal → ℕ
@@ -85,3 +105,7 @@ board_refusal fault = refusal.Board fault
 abbrev pub elf_refusal : ElfFault → Refusal
 elf_refusal elf.Memory = refusal.Memory
 elf_refusal fault = refusal.Elf fault
+
+abbrev pub hex_refusal : HexFault → Refusal
+hex_refusal hex.Memory = refusal.Memory
+hex_refusal fault = refusal.Hex fault

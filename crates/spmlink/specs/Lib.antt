@@ -4,5 +4,6 @@ pub mod Refused
 pub mod Reading
 pub mod Delivery
 pub mod RunFile
+pub mod Meaning
 pub mod Performing
 pub mod Answers

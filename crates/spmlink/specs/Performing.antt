@@ -1,75 +1,75 @@
--- How a `run` command goes, from its names to its result.
-use Rattle.std.specs.Prelude.{◌≡◌, ◌⊎◌, ℕ, List, Some, string_bytes}
-use Rattle.shelf_io.specs.Shelf.{ShelfView, SetsName, LosesName, LogsFailed}
+-- How a command goes, from its names to its result.
+use Rattle.std.specs.Prelude.{◌≡◌, ◌⊎◌, ℕ, List, string_bytes}
+use Rattle.shelf_io.specs.Shelf.{ShelfView}
 use Rattle.shelf_io.specs.Sink.{SinkView, PutAll, PutSome}
-use Rattle.shelf_io.specs.declared.shelves.CallKind.TheVariants.{Read}
-use Rattle.spmlink.specs.FaultLine.{parts_of}
+use Rattle.spmlink.specs.Command.{PlainCommand, reads, writes}
+use Rattle.spmlink.specs.Reading.{HoldsAll, RefusesReads}
+use Rattle.spmlink.specs.Meaning.{Yields, RefusesInputs}
+use Rattle.spmlink.specs.Delivery.{AreReady, SetsAll, LosesOne, WantsInOne}
 use Rattle.spmlink.specs.Refused.{IsReady}
-use Rattle.spmlink.specs.RunFile.{RunsTo, IsFirstRefusal, first_refusal}
-use Rattle.spmlink.specs.Reading.{HoldsTexts, RefusesTexts}
-use Rattle.spmlink.specs.declared.commands.RunNames.{RunNames}
-use Rattle.spmlink.specs.declared.reading.RunTexts.{RunTexts}
 use Rattle.spmlink.specs.declared.delivery.Ready.{Ready}
 use Rattle.spmlink.specs.declared.refused.Refused.{Refused}
 use Rattle.spmlink.specs.declared.faults.Refusal.{Refusal}
 use Rattle.spmlink.specs.declared.faults.Refusal.TheVariants as refusal
 
--- the name that `run` reads at a place
-pub data IsReadAt (names : RunNames) (place : ℕ) (name : List ℕ) : Type 0 where
-  file : place ≡ 1 → name ≡ names.file.now → IsReadAt names place name
-  board : place ≡ 2 → name ≡ names.board.now → IsReadAt names place name
-  input : place ≡ 3 → name ≡ names.input.now → IsReadAt names place name
-
--- the result of the run on these texts, with the refusals of the steps to come
-pub record IsReadyRun (texts : RunTexts) (ready : Ready) : Type 0 where
-  pub runs : RunsTo texts.file.items texts.board.items texts.input.items ready.output.items (string_bytes ready.line)
-  pub write_fault : IsReady (refusal.Write 4) ready.write_fault
+-- the result of a command on these inputs, with the refusals of the steps to come
+pub record IsReadyFor (command : PlainCommand) (inputs : List (List ℕ)) (ready : Ready) : Type 0 where
+  pub outputs : List (List ℕ)
+  pub yields : Yields command inputs outputs (string_bytes ready.text)
+  pub ready_outputs : AreReady (writes command) outputs ready.outputs.items
   pub print_fault : IsReady (refusal.Write 0) ready.print_fault
 
 -- the result stands ready, and the shelf is as before
-pub record IsPrepared (names : RunNames) (ready : Ready) (old new : ShelfView) : Type 0 where
-  pub texts : RunTexts
-  pub read : HoldsTexts names texts old new
-  pub ready_run : IsReadyRun texts ready
+pub record IsPrepared (command : PlainCommand) (ready : Ready) (old new : ShelfView) : Type 0 where
+  pub inputs : List (List ℕ)
+  pub holds : HoldsAll old (reads command) inputs
+  pub same : new ≡ old
+  pub ready_for : IsReadyFor command inputs ready
 
 -- what was read is refused
-pub record RefusesRun (names : RunNames) (old new : ShelfView) (fault : Refusal) : Type 0 where
-  pub texts : RunTexts
-  pub read : HoldsTexts names texts old new
-  pub first : IsFirstRefusal texts.board.items texts.file.items fault
+pub record InputsFail (command : PlainCommand) (old new : ShelfView) (fault : Refusal) : Type 0 where
+  pub inputs : List (List ℕ)
+  pub holds : HoldsAll old (reads command) inputs
+  pub same : new ≡ old
+  pub refuses : RefusesInputs command inputs fault
 
 -- the result can't be made
-abbrev pub RefusesPreparing : RunNames → ShelfView → ShelfView → Refusal → Type 0
-RefusesPreparing names old new fault = RefusesTexts names old new fault ⊎ RefusesRun names old new fault
+abbrev pub RefusesPreparing : PlainCommand → ShelfView → ShelfView → Refusal → Type 0
+RefusesPreparing command old new fault =
+    RefusesReads (reads command) old new fault ⊎ InputsFail command old new fault
 
--- the command's result was written and printed
-pub record Performs (names : RunNames) (old new : ShelfView) (sink sink' : SinkView) : Type 0 where
-  pub texts : RunTexts
-  pub read : HoldsTexts names texts old old
-  pub output : List ℕ
-  pub line : List ℕ
-  pub runs : RunsTo texts.file.items texts.board.items texts.input.items output line
-  pub set : SetsName names.out.now output old new
-  pub printed : PutAll line sink sink'
+-- the command yields these outputs and this text of what the shelf holds
+pub record YieldsOf (command : PlainCommand) (outputs : List (List ℕ)) (text : List ℕ) (shelf : ShelfView) : Type 0 where
+  pub inputs : List (List ℕ)
+  pub holds : HoldsAll shelf (reads command) inputs
+  pub yields : Yields command inputs outputs text
 
--- why a `run` command is refused, and what that leaves
-pub data RefusesPerforming (names : RunNames) (old new : ShelfView) (sink mid : SinkView) (fault : Refusal) : Type 0 where
-  read_fails : (place : ℕ) (name : List ℕ) → IsReadAt names place name → fault ≡ refusal.Read place
-      → LogsFailed Read name old new → mid ≡ sink → RefusesPerforming names old new sink mid fault
-  input_fails : (texts : RunTexts) → HoldsTexts names texts old new
-      → first_refusal texts.board.items texts.file.items ≡ Some (parts_of fault) → mid ≡ sink
-      → RefusesPerforming names old new sink mid fault
-  write_fails : fault ≡ refusal.Write 4 → LosesName names.out.now old new → mid ≡ sink
-      → RefusesPerforming names old new sink mid fault
-  print_fails : (texts : RunTexts) (output line : List ℕ) → HoldsTexts names texts old old
-      → RunsTo texts.file.items texts.board.items texts.input.items output line
-      → fault ≡ refusal.Write 0 → SetsName names.out.now output old new → PutSome line sink mid
-      → RefusesPerforming names old new sink mid fault
-  wants_memory : fault ≡ refusal.Memory → new.content ≡ old.content → mid ≡ sink
-      → RefusesPerforming names old new sink mid fault
+-- the command's outputs were written and its text printed
+pub record Performs (command : PlainCommand) (old new : ShelfView) (sink sink' : SinkView) : Type 0 where
+  pub outputs : List (List ℕ)
+  pub text : List ℕ
+  pub of_shelf : YieldsOf command outputs text old
+  pub set : SetsAll (writes command) outputs old new
+  pub printed : PutAll text sink sink'
+
+-- why a command is refused, and what that leaves
+pub data RefusesPerforming (command : PlainCommand) (old new : ShelfView) (sink mid : SinkView) (fault : Refusal) : Type 0 where
+  preparing_fails : RefusesPreparing command old new fault → mid ≡ sink
+      → RefusesPerforming command old new sink mid fault
+  write_fails : (outputs : List (List ℕ)) (text : List ℕ) (place : ℕ) → YieldsOf command outputs text old
+      → fault ≡ refusal.Write place → LosesOne (writes command) outputs place old new → mid ≡ sink
+      → RefusesPerforming command old new sink mid fault
+  print_fails : (outputs : List (List ℕ)) (text : List ℕ) → YieldsOf command outputs text old
+      → fault ≡ refusal.Write 0 → SetsAll (writes command) outputs old new → PutSome text sink mid
+      → RefusesPerforming command old new sink mid fault
+  line_wants_memory : fault ≡ refusal.Memory → new.content ≡ old.content → mid ≡ sink
+      → RefusesPerforming command old new sink mid fault
+  write_wants_memory : (outputs : List (List ℕ)) (text : List ℕ) → YieldsOf command outputs text old
+      → fault ≡ refusal.Memory → WantsInOne (writes command) outputs old new → mid ≡ sink
+      → RefusesPerforming command old new sink mid fault
 
 -- a refusal with its line, and why it came
-pub record IsRefusedBy (names : RunNames) (old new : ShelfView) (sink mid : SinkView) (r : Refused) : Type 0 where
+pub record IsRefusedBy (command : PlainCommand) (old new : ShelfView) (sink mid : SinkView) (r : Refused) : Type 0 where
   pub fault : Refusal
   pub ready : IsReady fault r
-  pub cause : RefusesPerforming names old new sink mid fault
+  pub cause : RefusesPerforming command old new sink mid fault

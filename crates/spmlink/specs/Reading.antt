@@ -1,26 +1,31 @@
 -- What reading the names of a command gives.
-use Rattle.std.specs.Prelude.{◌≡◌, ◌⊎◌, ℕ, List}
+use Rattle.std.specs.Prelude.{◌≡◌, ◌⊎◌, ℕ, List, [], ◌∷◌, map, Vec}
+use Rattle.std.specs.List.{Contains}
+use Rattle.std.specs.Global.{Global}
 use Rattle.shelf_io.specs.declared.shelves.CallKind.TheVariants.{Read}
 use Rattle.shelf_io.specs.Shelf.{ShelfView, Holds, LogsFailed}
-use Rattle.spmlink.specs.declared.commands.RunNames.{RunNames}
-use Rattle.spmlink.specs.declared.reading.RunTexts.{RunTexts}
+use Rattle.spmlink.specs.Command.{Named}
 use Rattle.spmlink.specs.declared.faults.Refusal.{Refusal}
 use Rattle.spmlink.specs.declared.faults.Refusal.TheVariants as refusal
 
--- reading the name at a place was refused: the read failed, or memory was wanting
-abbrev pub RefusesRead : ℕ → List ℕ → ShelfView → ShelfView → Refusal → Type 0
-RefusesRead place name old new fault =
-    ((fault ≡ refusal.Read place) × LogsFailed Read name old new) ⊎ ((fault ≡ refusal.Memory) × (new ≡ old))
+-- the bytes of each text
+abbrev pub contents : List (Vec ℕ Global) → List (List ℕ)
+contents texts = map (λ text. text.items) texts
 
--- the texts are those that the shelf holds, and the shelf is as before
-pub record HoldsTexts (names : RunNames) (texts : RunTexts) (old new : ShelfView) : Type 0 where
-  pub holds_file : Holds old names.file.now texts.file.items
-  pub holds_board : Holds old names.board.now texts.board.items
-  pub holds_input : Holds old names.input.now texts.input.items
-  pub same : new ≡ old
+-- the shelf holds these texts under these names, one for each, as far as it tells
+abbrev pub HoldsAll : ShelfView → List Named → List (List ℕ) → Type 0
+HoldsAll shelf [] [] = Unit
+HoldsAll shelf [] (text ∷ texts) = ⊥
+HoldsAll shelf (n ∷ names) [] = ⊥
+HoldsAll shelf (n ∷ names) (text ∷ texts) = Holds shelf n.name text × HoldsAll shelf names texts
 
--- the refusal is that of one of the reads
-abbrev pub RefusesTexts : RunNames → ShelfView → ShelfView → Refusal → Type 0
-RefusesTexts names old new fault =
-    RefusesRead 1 names.file.now old new fault
-    ⊎ (RefusesRead 2 names.board.now old new fault ⊎ RefusesRead 3 names.input.now old new fault)
+-- reading a name was refused: the read failed, or memory was wanting
+abbrev pub RefusesRead : Named → ShelfView → ShelfView → Refusal → Type 0
+RefusesRead n old new fault =
+    ((fault ≡ refusal.Read n.place) × LogsFailed Read n.name old new) ⊎ ((fault ≡ refusal.Memory) × (new ≡ old))
+
+-- so was reading several names
+pub data RefusesReads (names : List Named) (old new : ShelfView) (fault : Refusal) : Type 0 where
+  one_fails : (n : Named) → Contains names n → fault ≡ refusal.Read n.place → LogsFailed Read n.name old new
+      → RefusesReads names old new fault
+  memory_wanting : fault ≡ refusal.Memory → new ≡ old → RefusesReads names old new fault

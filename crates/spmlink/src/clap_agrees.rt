@@ -1,20 +1,34 @@
-use crate::commands::parse_run;
+use crate::commands::parse;
 use clap::{Arg, ArgAction, Command, Error};
 use std::alloc::{AllocError, Global};
 use std::test::Fail;
 
 /// The same commands as `clap` has them: subcommands with required positional words.
 fn commands<'a>(alloc: Global) -> Result<Command<'a>, Error> {
-    let mut run = Command::new(alloc, "run");
-    for name in ["FILE", "BOARD", "INPUT", "OUT"] {
-        let word = Arg::new(alloc, name).required(true).action(ArgAction::Set);
-        run = run.arg(word)?;
+    let all: [(&'static str, &'static [&'static str]); 4] = [
+        ("run", &["FILE", "BOARD", "INPUT", "OUT"]),
+        ("gen", &["SEED", "KERNELS", "OUT"]),
+        ("hex", &["FILE", "OUT"]),
+        ("hexcheck", &["FILE", "HEX"]),
+    ];
+    let mut program = Command::new(alloc, "spmlink").subcommand_required(true);
+    for (name, words) in all {
+        program = program.subcommand(command(alloc, name, words)?)?;
     }
-    Ok(
-        Command::new(alloc, "spmlink")
-            .subcommand_required(true)
-            .subcommand(run)?,
-    )
+    Ok(program)
+}
+
+/// A command with required words.
+fn command<'a>(
+    alloc: Global,
+    name: &'static str,
+    words: &[&'static str],
+) -> Result<Command<'a>, Error> {
+    let mut command = Command::new(alloc, name);
+    for word in words {
+        command = command.arg(Arg::new(alloc, word).required(true).action(ArgAction::Set))?;
+    }
+    Ok(command)
 }
 
 /// Whether `clap` accepts the words.
@@ -30,14 +44,19 @@ fn accepts(alloc: Global, words: &[&str]) -> Result<bool, AllocError> {
     for word in words {
         line.push(String::from_str(alloc, word)?)?;
     }
-    Ok(parse_run(&line).is_some())
+    Ok(parse(&line).is_some())
 }
 
 #[test]
 fn clap_accepts_the_same_lines(rt: HostRuntime) -> Result<(), Fail> {
-    let lines: [(&[&str], bool); 6] = [
+    let lines: [(&[&str], bool); 11] = [
         (&["run", "prog", "board", "input", "out"], true),
         (&["run", "same", "same", "same", "out"], true),
+        (&["gen", "5", "5", "5"], true),
+        (&["hex", "prog", "out"], true),
+        (&["hexcheck", "prog", "prog"], true),
+        (&["gen", "0", "4"], false),
+        (&["hex", "prog"], false),
         (&["run", "a", "b", "c"], false),
         (&["run", "a", "b", "c", "d", "e"], false),
         (&["walk", "a", "b", "c", "d"], false),

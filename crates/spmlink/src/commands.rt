@@ -1,43 +1,174 @@
-ghost use Rattle.std.specs.Prelude.{◌≡◌, ◌≢◌, ◌↔◌, ℕ, List, IsTrue, IsNone, IfSome, MatchOption, All, codes, ◌∷◌, []};
-ghost use Rattle.spmlink.specs.Command.{texts, IsName, IsCommand, SpellsRun};
+ghost use Rattle.std.specs.Prelude.{◌≡◌, ◌≢◌, ◌≤◌, ◌↔◌, ℕ, List, IsTrue, IfOk, IfSome, IsSome, MatchOption, All, codes, length, ◌∷◌, [], map};
+ghost use Rattle.spmlink.specs.Command.{texts, IsName, IsNameWord, AreNames, IsDigit, value_of, IsNumber, PlainCommand, Spells, SpellsGen, IsApart, IsCommand, plain_command, plain_named, reads};
 
-/// The names in `run FILE BOARD INPUT OUT`.
+use std::alloc::{AllocError, Global};
+
+/// A command, with its names and numbers (docs/COMMAND_LINE.md).
 #[derive(Clone, Copy, Debug)]
-pub struct RunNames<'a> {
-    pub file: &'a str,
-    pub board: &'a str,
-    pub input: &'a str,
-    pub out: &'a str,
+pub enum Command<'a> {
+    Run {
+        file: &'a str,
+        board: &'a str,
+        input: &'a str,
+        out: &'a str,
+    },
+    Gen {
+        seed: u32,
+        kernels: u32,
+        out: &'a str,
+    },
+    Hex {
+        file: &'a str,
+        out: &'a str,
+    },
+    HexCheck {
+        file: &'a str,
+        hex: &'a str,
+    },
 }
 
-/// The names of a `run` command, or `None` exactly where the words are no command.
-pub fn parse_run(words: &[String]) -> Option<RunNames<'_>>
-    ensures { MatchOption result (IsCommand (texts words.now) → ⊥) (SpellsRun (texts words.now)) }
+/// A name of a command, and the place of its word among the words, from 0.
+#[derive(Debug, Drop)]
+pub struct NamedWord<'a> {
+    pub place: u32,
+    pub name: &'a str,
+}
+
+impl<'a> Command<'a> {
+    ghost use Rattle.std.specs.Prelude.{◌≡◌, IfOk, map};
+    ghost use Rattle.spmlink.specs.Command.{plain_command, plain_named, reads};
+
+    /// The names that the command reads, in the order of the reads.
+    pub fn reads(&self, alloc: Global) -> Result<Vec<NamedWord<'a>>, AllocError>
+        ensures { IfOk result (λ names. map plain_named names.items ≡ reads (plain_command self.now)) }
+    {
+        let names = match *self {
+            Command::Run {
+                file,
+                board,
+                input,
+                ..
+            } => vec![in alloc; named(1, file), named(2, board), named(3, input)]?,
+            Command::Gen { .. } => Vec::new(alloc),
+            Command::Hex { file, .. } => vec![in alloc; named(1, file)]?,
+            Command::HexCheck { file, hex } => vec![in alloc; named(1, file), named(2, hex)]?,
+        };
+        Ok(names)
+    }
+}
+
+fn named(place: u32, name: &str) -> NamedWord<'_>
+    ensures { plain_named result ≡ Rattle.spmlink.specs.Command.named place name.now }
 {
-    let names = run_names(words)?;
-    if are_names(&names) && is_out_apart(&names) {
-        Some(names)
+    NamedWord { place, name }
+}
+
+/// The command that the words are, or `None` exactly where they are none.
+pub fn parse(words: &[String]) -> Option<Command<'_>>
+    ensures { MatchOption result
+        ((command : PlainCommand) → IsCommand (texts words.now) command → ⊥)
+        (λ command. IsCommand (texts words.now) (plain_command command)) }
+{
+    let command = spelled(words)?;
+    if are_names(words) && is_apart(&command) {
+        Some(command)
     } else {
         None
     }
 }
 
-/// The four words behind the word `run`.
-fn run_names(words: &[String]) -> Option<RunNames<'_>>
-    ensures none { IsNone result → (f b i o : List ℕ) →
-        texts words.now ≡ codes "run" ∷ f ∷ b ∷ i ∷ o ∷ [] → ⊥ }
-    ensures some { IfSome result (λ n. texts words.now
-        ≡ codes "run" ∷ n.file.now ∷ n.board.now ∷ n.input.now ∷ n.out.now ∷ []) }
+/// The command that the words spell.
+fn spelled(words: &[String]) -> Option<Command<'_>>
+    ensures { MatchOption result
+        ((command : PlainCommand) → Spells (texts words.now) command → ⊥)
+        (λ command. Spells (texts words.now) (plain_command command)) }
+{
+    if let Some(command) = spelled_run(words) {
+        return Some(command);
+    }
+    if let Some(command) = spelled_gen(words) {
+        return Some(command);
+    }
+    if let Some(command) = spelled_hex(words) {
+        return Some(command);
+    }
+    spelled_hex_check(words)
+}
+
+fn spelled_run(words: &[String]) -> Option<Command<'_>>
+    ensures { MatchOption result
+        ((f b i o : List ℕ) → texts words.now ≡ codes "run" ∷ f ∷ b ∷ i ∷ o ∷ [] → ⊥)
+        (λ command. Spells (texts words.now) (plain_command command)) }
 {
     let [name, file, board, input, out] = words else {
         return None;
     };
     if is_the_word(name.as_str(), "run") {
-        Some(RunNames {
+        Some(Command::Run {
             file: file.as_str(),
             board: board.as_str(),
             input: input.as_str(),
             out: out.as_str(),
+        })
+    } else {
+        None
+    }
+}
+
+fn spelled_gen(words: &[String]) -> Option<Command<'_>>
+    ensures { MatchOption result
+        ((s k : ℕ) (o : List ℕ) → SpellsGen (texts words.now) s k o → ⊥)
+        (λ command. Spells (texts words.now) (plain_command command)) }
+{
+    let [name, seed, kernels, out] = words else {
+        return None;
+    };
+    if !is_the_word(name.as_str(), "gen") {
+        return None;
+    }
+    let Some(seed) = parse_number(seed.as_str(), 0, u32::MAX) else {
+        return None;
+    };
+    let Some(kernels) = parse_number(kernels.as_str(), 1, 64) else {
+        return None;
+    };
+    Some(Command::Gen {
+        seed,
+        kernels,
+        out: out.as_str(),
+    })
+}
+
+fn spelled_hex(words: &[String]) -> Option<Command<'_>>
+    ensures { MatchOption result
+        ((f o : List ℕ) → texts words.now ≡ codes "hex" ∷ f ∷ o ∷ [] → ⊥)
+        (λ command. Spells (texts words.now) (plain_command command)) }
+{
+    let [name, file, out] = words else {
+        return None;
+    };
+    if is_the_word(name.as_str(), "hex") {
+        Some(Command::Hex {
+            file: file.as_str(),
+            out: out.as_str(),
+        })
+    } else {
+        None
+    }
+}
+
+fn spelled_hex_check(words: &[String]) -> Option<Command<'_>>
+    ensures { MatchOption result
+        ((f h : List ℕ) → texts words.now ≡ codes "hexcheck" ∷ f ∷ h ∷ [] → ⊥)
+        (λ command. Spells (texts words.now) (plain_command command)) }
+{
+    let [name, file, hex] = words else {
+        return None;
+    };
+    if is_the_word(name.as_str(), "hexcheck") {
+        Some(Command::HexCheck {
+            file: file.as_str(),
+            hex: hex.as_str(),
         })
     } else {
         None
@@ -50,15 +181,19 @@ fn is_the_word(word: &str, wanted: &str) -> bool
     word == wanted
 }
 
-/// Whether each word may name a file.
-fn are_names(names: &RunNames<'_>) -> bool
-    ensures { IsTrue result ↔ All IsName (names.now.file.now ∷ names.now.board.now
-        ∷ names.now.input.now ∷ names.now.out.now ∷ []) }
+/// Whether no word is empty or begins like an option.
+fn are_names(words: &[String]) -> bool
+    ensures { IsTrue result ↔ AreNames (texts words.now) }
 {
-    is_name(names.file) && is_name(names.board) && is_name(names.input) && is_name(names.out)
+    all_names(words)
 }
 
-/// Whether the word may name a file: it is not empty and does not begin like an option.
+fn all_names(words: &[String]) -> bool
+    ensures { IsTrue result ↔ All IsNameWord words.now }
+{
+    words.iter().all(|word| is_name(word.as_str()))
+}
+
 fn is_name(word: &str) -> bool
     ensures { IsTrue result ↔ IsName word.now }
 {
@@ -68,10 +203,62 @@ fn is_name(word: &str) -> bool
     }
 }
 
-/// Whether the written name differs from those that are read.
-fn is_out_apart(names: &RunNames<'_>) -> bool
-    ensures { IsTrue result ↔ All (λ name. name ≢ names.now.out.now)
-        (names.now.file.now ∷ names.now.board.now ∷ names.now.input.now ∷ []) }
+/// Whether the name that is written differs from those that are read.
+fn is_apart(command: &Command<'_>) -> bool
+    ensures { IsTrue result ↔ IsApart (plain_command command.now) }
 {
-    names.file != names.out && names.board != names.out && names.input != names.out
+    match *command {
+        Command::Run {
+            file,
+            board,
+            input,
+            out,
+        } => file != out && board != out && input != out,
+        Command::Gen { .. } => true,
+        Command::Hex { file, out } => file != out,
+        Command::HexCheck { .. } => true,
+    }
+}
+
+/// The number that a word of 1 to 10 digits spells, where it is from `low` to `high`.
+fn parse_number(word: &str, low: u32, high: u32) -> Option<u32>
+    ensures { MatchOption result
+        ((number : ℕ) → IsNumber low high word.now number → ⊥)
+        (λ number. IsNumber low high word.now number) }
+{
+    let digits = word.as_bytes();
+    if digits.is_empty() || digits.len() > 10 || !are_digits(digits) {
+        return None;
+    }
+    let value = digits_value(digits);
+    if u64::from(low) <= value && value <= u64::from(high) {
+        Some(value as u32)
+    } else {
+        None
+    }
+}
+
+fn are_digits(bytes: &[u8]) -> bool
+    ensures { IsTrue result ↔ All IsDigit bytes.now }
+{
+    bytes.iter().all(|byte| is_digit(*byte))
+}
+
+fn is_digit(byte: u8) -> bool
+    ensures { IsTrue result ↔ IsDigit byte }
+{
+    b'0' <= byte && byte <= b'9'
+}
+
+/// The number that at most ten digits spell.
+fn digits_value(digits: &[u8]) -> u64
+    requires digits { All IsDigit digits.now }
+    requires few { length digits.now ≤ 10 }
+    ensures { result ≡ value_of digits.now }
+{
+    let mut value: u64 = 0;
+    for digit in digits {
+        value = 10 * value + u64::from(*digit - b'0');
+    }
+    value
 }

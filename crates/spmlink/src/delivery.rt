@@ -1,42 +1,122 @@
-ghost use Rattle.std.specs.Prelude.{◌≡◌, OnOk, IfErr};
-ghost use Rattle.spmlink.specs.Delivery.{DeliversAll, FailsToDeliver};
+ghost use Rattle.std.specs.Prelude.{◌≡◌, ◌∷◌, [], OnOk, IfOk, IfErr};
+ghost use Rattle.spmlink.specs.Command.{named};
+ghost use Rattle.spmlink.specs.Refused.{IsReady};
+ghost use Rattle.spmlink.specs.Delivery.{AreReady, SetsReady, FailsToWrite, FailsOnce, DeliversAll, FailsToDeliver};
+ghost use Rattle.spmlink.specs.declared.faults.Refusal.TheVariants as refusal;
+ghost use Rattle.shelf_io.specs.Shelf.{SetsName};
 
+use crate::faults::Refusal;
 use crate::printing::put_text;
 use crate::refused::Refused;
 use shelf_io::{Shelf, ShelfFault, Sink};
+use std::alloc::{AllocError, Global};
+
+/// What is to be written under a name, with the refusal of the write, so that this takes no memory.
+#[derive(Drop)]
+pub struct Output<'a> {
+    pub name: &'a str,
+    pub bytes: Vec<u8>,
+    pub fault: Refused,
+}
 
 /// A result that is ready to be written and printed, with the refusals of the steps that may still
-/// fail, so that these steps take no memory.
+/// fail.
 #[derive(Drop)]
-pub struct Ready {
-    /// What is written.
-    pub output: Vec<u8>,
+pub struct Ready<'a> {
+    /// What is written, in this order.
+    pub outputs: Vec<Output<'a>>,
     /// What is printed.
-    pub line: String,
-    pub write_fault: Refused,
+    pub text: String,
     pub print_fault: Refused,
 }
 
-/// Writes the output under a name, and then prints the line.
+impl<'a> Ready<'a> {
+    ghost use Rattle.std.specs.Prelude.{◌≡◌, ◌∷◌, [], IfOk};
+    ghost use Rattle.spmlink.specs.Command.{named};
+    ghost use Rattle.spmlink.specs.Delivery.{AreReady};
+    ghost use Rattle.spmlink.specs.Refused.{IsReady};
+    ghost use Rattle.spmlink.specs.declared.faults.Refusal.TheVariants as refusal;
+
+    /// A result that is only printed.
+    pub fn printed(alloc: Global, text: String) -> Result<Ready<'a>, AllocError>
+        ensures outputs { IfOk result (λ ready. AreReady [] [] ready.outputs.items) }
+        ensures text { IfOk result (λ ready. ready.text ≡ text) }
+        ensures print_fault { IfOk result (λ ready. IsReady (refusal.Write 0) ready.print_fault) }
+    {
+        let print_fault = Refused::try_new(alloc, &Refusal::Write { place: 0 })?;
+        Ok(Ready {
+            outputs: Vec::new(alloc),
+            text,
+            print_fault,
+        })
+    }
+
+    /// A result that is also written under the name at a place of the command line.
+    pub fn written(
+        alloc: Global,
+        place: u32,
+        name: &'a str,
+        bytes: Vec<u8>,
+        text: String,
+    ) -> Result<Ready<'a>, AllocError>
+        ensures outputs { IfOk result (λ ready. AreReady (named place name.now ∷ []) (bytes.items ∷ []) ready.outputs.items) }
+        ensures text { IfOk result (λ ready. ready.text ≡ text) }
+        ensures print_fault { IfOk result (λ ready. IsReady (refusal.Write 0) ready.print_fault) }
+    {
+        let fault = Refused::try_new(alloc, &Refusal::Write { place })?;
+        let print_fault = Refused::try_new(alloc, &Refusal::Write { place: 0 })?;
+        let outputs = vec![in alloc; Output { name, bytes, fault }]?;
+        Ok(Ready {
+            outputs,
+            text,
+            print_fault,
+        })
+    }
+}
+
+/// Writes the outputs, and then prints the text.
 pub fn deliver<S: Shelf, K: Sink>(
-    ready: Ready,
-    name: &str,
+    ready: Ready<'_>,
     shelf: &mut S,
     out: &mut K,
 ) -> Result<(), Refused>
-    ensures ok { OnOk result (DeliversAll ready name.now
+    ensures ok { OnOk result (DeliversAll ready.entry
         (S.view shelf.old) (S.view shelf.new)
         (K.view out.old) (K.view out.new)) }
-    ensures err { IfErr result (FailsToDeliver ready name.now
+    ensures err { IfErr result (FailsToDeliver ready.entry
         (S.view shelf.old) (S.view shelf.new)
         (K.view out.old) (K.view out.new)) }
 {
-    match shelf.write(name, ready.output.as_slice()) {
-        Ok(()) => match put_text(out, ready.line.as_str()) {
+    match write_all(ready.outputs, shelf) {
+        Ok(()) => match put_text(out, ready.text.as_str()) {
             Ok(()) => Ok(()),
             Err(_) => Err(ready.print_fault),
         },
-        Err(ShelfFault::Failed) => Err(ready.write_fault),
+        Err(refused) => Err(refused),
+    }
+}
+
+/// Writes the outputs, up to the first whose write fails.
+fn write_all<S: Shelf>(outputs: Vec<Output<'_>>, shelf: &mut S) -> Result<(), Refused>
+    ensures ok { OnOk result (SetsReady outputs.entry.items (S.view shelf.old) (S.view shelf.new)) }
+    ensures err { IfErr result (FailsToWrite outputs.entry.items (S.view shelf.old) (S.view shelf.new)) }
+{
+    for output in outputs {
+        match write_one(output, shelf) {
+            Ok(()) => {}
+            Err(refused) => return Err(refused),
+        }
+    }
+    Ok(())
+}
+
+fn write_one<S: Shelf>(output: Output<'_>, shelf: &mut S) -> Result<(), Refused>
+    ensures ok { OnOk result (SetsName output.entry.name.now output.entry.bytes.items (S.view shelf.old) (S.view shelf.new)) }
+    ensures err { IfErr result (FailsOnce output.entry (S.view shelf.old) (S.view shelf.new)) }
+{
+    match shelf.write(output.name, output.bytes.as_slice()) {
+        Ok(()) => Ok(()),
+        Err(ShelfFault::Failed) => Err(output.fault),
         Err(ShelfFault::Memory) => Err(Refused::Memory),
     }
 }

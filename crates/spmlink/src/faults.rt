@@ -1,6 +1,7 @@
 use board_config::BoardFault;
 use elf_reader::ElfFault;
-use std::alloc::{AllocError, Global};
+use hex_image::HexFault;
+use std::alloc::{AllocError, AllocFailed, Global};
 use std::fmt;
 
 /// Why a command has no result.
@@ -16,6 +17,10 @@ pub enum Refusal {
     Board(BoardFault),
     /// The ELF file is not one that is read.
     Elf(ElfFault),
+    /// The text is not one in Intel HEX.
+    Hex(HexFault),
+    /// What was compared differs first at this place.
+    Differs { at: u32 },
     /// No memory was left.
     Memory,
 }
@@ -48,6 +53,8 @@ impl Refusal {
             Refusal::Write { place } => LineParts::new(3, "write", *place, 0),
             Refusal::Board(fault) => LineParts::of_board(fault),
             Refusal::Elf(fault) => LineParts::of_elf(fault),
+            Refusal::Hex(fault) => LineParts::of_hex(fault),
+            Refusal::Differs { at } => LineParts::new(11, "differs", *at, 0),
             Refusal::Memory => LineParts::new(9, "memory", 0, 0),
         }
     }
@@ -60,6 +67,17 @@ impl From<AllocError> for Refusal {
     ghost from_gives = { λ _ fault. fault ≡ refusal.Memory };
 
     fn from(_error: AllocError) -> Refusal {
+        Refusal::Memory
+    }
+}
+
+impl<T: Drop> From<AllocFailed<T>> for Refusal {
+    ghost use Rattle.std.specs.Prelude.{◌≡◌};
+    ghost use Rattle.spmlink.specs.declared.faults.Refusal.TheVariants as refusal;
+
+    ghost from_gives = { λ _ fault. fault ≡ refusal.Memory };
+
+    fn from(_error: AllocFailed<T>) -> Refusal {
         Refusal::Memory
     }
 }
@@ -92,6 +110,20 @@ impl From<ElfFault> for Refusal {
     }
 }
 
+impl From<HexFault> for Refusal {
+    ghost use Rattle.std.specs.Prelude.{◌≡◌};
+    ghost use Rattle.spmlink.specs.FaultLine.{hex_refusal};
+
+    ghost from_gives = { λ fault refusal. refusal ≡ hex_refusal fault };
+
+    fn from(fault: HexFault) -> Refusal {
+        match fault {
+            HexFault::Memory => Refusal::Memory,
+            fault => Refusal::Hex(fault),
+        }
+    }
+}
+
 /// The parts of a fault line, of which the name is there only for some faults.
 #[derive(Clone, Copy)]
 struct LineParts<'a> {
@@ -105,7 +137,7 @@ struct LineParts<'a> {
 impl<'a> LineParts<'a> {
     ghost use Rattle.std.specs.Prelude.{◌≡◌};
     ghost use Rattle.board_config.specs.Faults.{plain_fault};
-    ghost use Rattle.spmlink.specs.FaultLine.{parts, named_parts, plain_parts, board_parts, elf_parts};
+    ghost use Rattle.spmlink.specs.FaultLine.{parts, named_parts, plain_parts, board_parts, elf_parts, hex_parts};
 
     fn new(status: u8, word: &'static str, first: u32, second: u32) -> LineParts<'a>
         ensures { plain_parts result ≡ parts status word.entry.now first second }
@@ -157,9 +189,31 @@ impl<'a> LineParts<'a> {
                 *table,
                 *index,
             ),
+            ElfFault::BadIndex { table, index } => LineParts::new(5, "bad-index", *table, *index),
+            ElfFault::Unsupported { index, kind } => LineParts::new(
+                6,
+                "unsupported",
+                *index,
+                *kind,
+            ),
             ElfFault::OverLimit { what, count } => LineParts::new(5, "over-limit", *what, *count),
+            ElfFault::Compressed { section } => LineParts::new(5, "compressed", *section, 0),
             ElfFault::Overlap { first, second } => LineParts::new(5, "overlap", *first, *second),
             ElfFault::Memory => LineParts::new(9, "memory", 0, 0),
+        }
+    }
+
+    fn of_hex(fault: &HexFault) -> LineParts<'a>
+        ensures { plain_parts result ≡ hex_parts fault.now }
+    {
+        match fault {
+            HexFault::BadRecord { line } => LineParts::new(14, "bad-record", *line, 0),
+            HexFault::BadCheck { line } => LineParts::new(14, "bad-check", *line, 0),
+            HexFault::BadKind { line, kind } => LineParts::new(14, "bad-kind", *line, *kind),
+            HexFault::Twice { line } => LineParts::new(14, "twice", *line, 0),
+            HexFault::NoEnd { lines } => LineParts::new(14, "no-end", *lines, 0),
+            HexFault::Trailing { line } => LineParts::new(14, "trailing", *line, 0),
+            HexFault::Memory => LineParts::new(9, "memory", 0, 0),
         }
     }
 }

@@ -1,16 +1,23 @@
-//! Runs RV32IM programs on a model of a board with a scratchpad memory.
+//! Runs RV32IM programs on a model of a board with a scratchpad memory; generates workloads, and writes and
+//! checks Intel HEX.
 #![tactic(auto)]
 
+#[cfg(test)]
+mod calls;
 #[cfg(test)]
 mod clap_agrees;
 mod commands;
 mod delivery;
 mod faults;
+#[cfg(test)]
+mod file_tests;
+mod hex_files;
 mod outcomes;
 mod performing;
 mod printing;
 mod reading;
 mod refused;
+mod results;
 mod run_file;
 #[cfg(test)]
 mod tests;
@@ -23,7 +30,11 @@ use std::process::ExitCode;
 use std::rt::Env;
 
 /// The commands, as they are told on standard error where the words are none of them.
-const USAGE: &str = "usage: spmlink run FILE BOARD INPUT OUT\n";
+const USAGE: &str = "usage: spmlink run FILE BOARD INPUT OUT
+       spmlink gen SEED KERNELS OUT
+       spmlink hex FILE OUT
+       spmlink hexcheck FILE HEX
+";
 
 /// The words of the command line, without the program's name. A word that is not UTF-8 is in no
 /// command, so there are no words then.

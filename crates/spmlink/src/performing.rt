@@ -1,60 +1,53 @@
 ghost use Rattle.std.specs.Prelude.{◌≡◌, OnOk, IfOk, IfErr};
-ghost use Rattle.spmlink.specs.RunFile.{IsFirstRefusal};
-ghost use Rattle.spmlink.specs.Performing.{IsReadyRun, IsPrepared, RefusesPreparing, Performs, IsRefusedBy};
+ghost use Rattle.spmlink.specs.Command.{HasNumbers, plain_command};
+ghost use Rattle.spmlink.specs.Performing.{IsPrepared, RefusesPreparing, Performs, IsRefusedBy};
 
-use crate::commands::RunNames;
+use crate::commands::Command;
 use crate::delivery::{Ready, deliver};
 use crate::faults::Refusal;
-use crate::reading::{RunTexts, read_inputs};
+use crate::reading::read_all;
 use crate::refused::Refused;
-use crate::run_file::run_texts;
+use crate::results::make_ready;
 use shelf_io::{Shelf, Sink};
 use std::alloc::Global;
 
-/// Makes the result of a `run` command from what it read.
-fn make_ready(alloc: Global, texts: &RunTexts) -> Result<Ready, Refusal>
-    ensures ok { IfOk result (IsReadyRun texts.now) }
-    ensures err { IfErr result (IsFirstRefusal texts.now.board.items texts.now.file.items) }
+/// Reads what a command names, and makes its result.
+fn prepare<'a, S: Shelf>(
+    alloc: Global,
+    command: &Command<'a>,
+    shelf: &mut S,
+) -> Result<Ready<'a>, Refusal>
+    requires { HasNumbers (plain_command command.now) }
+    ensures ok { IfOk result (λ ready. IsPrepared (plain_command command.now) ready (S.view shelf.old) (S.view shelf.new)) }
+    ensures err { IfErr result (RefusesPreparing (plain_command command.now) (S.view shelf.old) (S.view shelf.new)) }
 {
-    let run = run_texts(alloc, texts)?;
-    let write_fault = Refused::try_new(alloc, &Refusal::Write { place: 4 })?;
-    let print_fault = Refused::try_new(alloc, &Refusal::Write { place: 0 })?;
-    Ok(Ready {
-        output: run.output,
-        line: run.line,
-        write_fault,
-        print_fault,
-    })
-}
-
-/// Reads what a `run` command names, and makes its result.
-fn prepare<S: Shelf>(alloc: Global, names: &RunNames<'_>, shelf: &mut S) -> Result<Ready, Refusal>
-    ensures ok { IfOk result (λ ready. IsPrepared names.now ready (S.view shelf.old) (S.view shelf.new)) }
-    ensures err { IfErr result (RefusesPreparing names.now (S.view shelf.old) (S.view shelf.new)) }
-{
-    let texts = read_inputs(alloc, names, shelf)?;
-    match make_ready(alloc, &texts) {
-        Ok(ready) => Ok(ready),
+    let names = command.reads(alloc)?;
+    match read_all(alloc, &names, shelf) {
+        Ok(texts) => match make_ready(alloc, command, &texts) {
+            Ok(ready) => Ok(ready),
+            Err(fault) => Err(fault),
+        },
         Err(fault) => Err(fault),
     }
 }
 
-/// Does what a `run` command asks for.
-pub fn perform_run<S: Shelf, K: Sink>(
+/// Does what a command asks for.
+pub fn perform_command<S: Shelf, K: Sink>(
     alloc: Global,
-    names: &RunNames<'_>,
+    command: &Command<'_>,
     shelf: &mut S,
     out: &mut K,
 ) -> Result<(), Refused>
-    ensures ok { OnOk result (Performs names.now
+    requires { HasNumbers (plain_command command.now) }
+    ensures ok { OnOk result (Performs (plain_command command.now)
         (S.view shelf.old) (S.view shelf.new)
         (K.view out.old) (K.view out.new)) }
-    ensures err { IfErr result (IsRefusedBy names.now
+    ensures err { IfErr result (IsRefusedBy (plain_command command.now)
         (S.view shelf.old) (S.view shelf.new)
         (K.view out.old) (K.view out.new)) }
 {
-    match prepare(alloc, names, shelf) {
-        Ok(ready) => match deliver(ready, names.out, shelf, out) {
+    match prepare(alloc, command, shelf) {
+        Ok(ready) => match deliver(ready, shelf, out) {
             Ok(()) => Ok(()),
             Err(refused) => Err(refused),
         },

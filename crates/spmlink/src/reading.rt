@@ -1,49 +1,63 @@
-ghost use Rattle.std.specs.Prelude.{◌≡◌, IfOk, IfErr};
+ghost use Rattle.std.specs.Prelude.{◌≡◌, List, ◌++◌, ◌∷◌, [], map, IfOk, IfErr, OnOk};
 ghost use Rattle.shelf_io.specs.Shelf.{Holds};
-ghost use Rattle.spmlink.specs.Reading.{RefusesRead, HoldsTexts, RefusesTexts};
+ghost use Rattle.spmlink.specs.Command.{Named, plain_named};
+ghost use Rattle.spmlink.specs.Reading.{contents, HoldsAll, RefusesRead, RefusesReads};
 
-use crate::commands::RunNames;
+use crate::commands::NamedWord;
 use crate::faults::Refusal;
 use shelf_io::{Shelf, ShelfFault};
 use std::alloc::Global;
 
-/// What a `run` command reads.
-#[derive(Drop)]
-pub struct RunTexts {
-    pub file: Vec<u8>,
-    pub board: Vec<u8>,
-    pub input: Vec<u8>,
+/// Reads the bytes under the names, in their order.
+pub fn read_all<S: Shelf>(
+    alloc: Global,
+    names: &[NamedWord<'_>],
+    shelf: &mut S,
+) -> Result<Vec<Vec<u8>>, Refusal>
+    ensures ok { IfOk result (λ texts. HoldsAll (S.view shelf.old) (map plain_named names.now) (contents texts.items)
+        × (S.view shelf.new ≡ S.view shelf.old)) }
+    ensures err { IfErr result (RefusesReads (map plain_named names.now) (S.view shelf.old) (S.view shelf.new)) }
+{
+    let mut texts = Vec::new(alloc);
+    for named in names {
+        match push_text(alloc, &mut texts, named, shelf) {
+            Ok(()) => {}
+            Err(fault) => return Err(fault),
+        }
+    }
+    Ok(texts)
 }
 
-/// Reads the bytes under the name at a place of the command line.
+/// Reads the bytes under a name, and adds them to those of earlier names.
+fn push_text<S: Shelf>(
+    alloc: Global,
+    texts: &mut Vec<Vec<u8>>,
+    named: &NamedWord<'_>,
+    shelf: &mut S,
+) -> Result<(), Refusal>
+    ensures ok { OnOk result ((names : List Named) → HoldsAll (S.view shelf.old) names (contents texts.old.items)
+        → HoldsAll (S.view shelf.old) (names ++ plain_named named.now ∷ []) (contents texts.new.items)) }
+    ensures same { OnOk result (S.view shelf.new ≡ S.view shelf.old) }
+    ensures err { IfErr result (RefusesRead (plain_named named.now) (S.view shelf.old) (S.view shelf.new)) }
+{
+    let text = read_name(alloc, named, shelf)?;
+    texts.push(text)?;
+    Ok(())
+}
+
+/// Reads the bytes under a name.
 fn read_name<S: Shelf>(
     alloc: Global,
+    named: &NamedWord<'_>,
     shelf: &mut S,
-    place: u32,
-    name: &str,
 ) -> Result<Vec<u8>, Refusal>
-    ensures ok { IfOk result (λ bytes. Holds (S.view shelf.old) name.now bytes.items
+    ensures ok { IfOk result (λ bytes. Holds (S.view shelf.old) named.now.name.now bytes.items
         × (S.view shelf.new ≡ S.view shelf.old)) }
-    ensures err { IfErr result (RefusesRead place name.now (S.view shelf.old) (S.view shelf.new)) }
+    ensures err { IfErr result (RefusesRead (plain_named named.now) (S.view shelf.old) (S.view shelf.new)) }
 {
-    match shelf.read(alloc, name) {
+    match shelf.read(alloc, named.name) {
         Ok(bytes) => Ok(bytes),
-        Err(ShelfFault::Failed) => Err(Refusal::Read { place }),
+        Err(ShelfFault::Failed) => Err(Refusal::Read { place: named.place }),
         Err(ShelfFault::Memory) => Err(Refusal::Memory),
     }
-}
-
-/// Reads the file, the board and the input, in this order.
-pub fn read_inputs<S: Shelf>(
-    alloc: Global,
-    names: &RunNames<'_>,
-    shelf: &mut S,
-) -> Result<RunTexts, Refusal>
-    ensures ok { IfOk result (λ t. HoldsTexts names.now t (S.view shelf.old) (S.view shelf.new)) }
-    ensures err { IfErr result (RefusesTexts names.now (S.view shelf.old) (S.view shelf.new)) }
-{
-    let file = read_name(alloc, shelf, 1, names.file)?;
-    let board = read_name(alloc, shelf, 2, names.board)?;
-    let input = read_name(alloc, shelf, 3, names.input)?;
-    Ok(RunTexts { file, board, input })
 }

@@ -7,7 +7,6 @@ ghost use Rattle.spmlink.specs.RunFile.{RunsFrom, RunsTo, IsFirstRefusal};
 
 use crate::faults::Refusal;
 use crate::outcomes::outcome_line;
-use crate::reading::RunTexts;
 use board_config::{Board, read_board};
 use elf_reader::ElfView;
 use flat_machine::Flat;
@@ -23,17 +22,13 @@ pub struct RunResult {
     pub line: String,
 }
 
-/// Runs what a `run` command read.
-pub fn run_texts(alloc: Global, texts: &RunTexts) -> Result<RunResult, Refusal>
-    ensures ok { IfOk result (λ r. RunsTo texts.now.file.items texts.now.board.items
-        texts.now.input.items r.output.items (string_bytes r.line)) }
-    ensures err { IfErr result (IsFirstRefusal texts.now.board.items texts.now.file.items) }
-{
-    run_file(alloc, &texts.file, &texts.board, &texts.input)
-}
-
 /// Runs a file on the flat machine for the board's steps.
-fn run_file(alloc: Global, file: &[u8], board: &[u8], input: &[u8]) -> Result<RunResult, Refusal>
+pub fn run_file(
+    alloc: Global,
+    file: &[u8],
+    board: &[u8],
+    input: &[u8],
+) -> Result<RunResult, Refusal>
     ensures ok { IfOk result (λ r. RunsTo file.now board.now input.now r.output.items (string_bytes r.line)) }
     ensures err { IfErr result (IsFirstRefusal board.now file.now) }
 {

@@ -2,9 +2,9 @@ ghost use Rattle.std.specs.Prelude.{◌≡◌, ◌≢◌, OnOk, IfErr};
 ghost use Rattle.spmlink.specs.Command.{texts};
 ghost use Rattle.spmlink.specs.Answers.{IsDone, HasCause, EndsRefused, Answers};
 
-use crate::commands::parse_run;
+use crate::commands::parse;
 use crate::faults::Refusal;
-use crate::performing::perform_run;
+use crate::performing::perform_command;
 use crate::refused::Refused;
 use shelf_io::{Shelf, Sink};
 use std::alloc::Global;
@@ -48,10 +48,10 @@ fn perform<S: Shelf, K: Sink>(
         (S.view shelf.old) (S.view shelf.new)
         (K.view out.old) (K.view out.new)) }
 {
-    let Some(names) = parse_run(words) else {
+    let Some(command) = parse(words) else {
         return Err(Refused::new(alloc, &Refusal::Usage));
     };
-    match perform_run(alloc, &names, shelf, out) {
+    match perform_command(alloc, &command, shelf, out) {
         Ok(()) => Ok(()),
         Err(refused) => Err(refused),
     }

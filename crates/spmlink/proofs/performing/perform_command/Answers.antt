@@ -1,5 +1,5 @@
 use Rattle.spmlink.proofs.Endings.{performs, refused_delivery, refused_preparing}
-use Rattle.spmlink.proofs.performing.perform_run.Goals as goal
+use Rattle.spmlink.proofs.performing.perform_command.Goals as goal
 
 pub returns-in-Ok-deliver-clause-ok : goal.returns-in-Ok-deliver-clause-ok
 returns-in-Ok-deliver-clause-ok g c = performs _ _ _ _ _ _ _ c.in-Ok.ensures.ok c.in-Ok-deliver.ensures.ok

@@ -1,0 +1,25 @@
+-- The results of the commands, put together.
+use Rattle.std.proofs.Common.{inl, inr, ℕ, List, [], ◌∷◌, Some, refl, sym, subst}
+use Rattle.spmlink.specs.Command.{run_command, hex_command, hex_check_command}
+use Rattle.spmlink.specs.FaultLine.{parts_of}
+use Rattle.spmlink.specs.RunFile.{IsFirstRefusal}
+use Rattle.spmlink.specs.Meaning.{RefusesInputs, RefusesFile, RefusesTexts, memory_wanting, faulty, differing, run_first, hex_first, check_fault, check_difference}
+use Rattle.spmlink.specs.declared.faults.Refusal.{Refusal}
+
+pub run_refused : (board file input : List ℕ) (fault : Refusal) → IsFirstRefusal board file fault
+    → (f b i o : List ℕ) → RefusesInputs (run_command f b i o) (file ∷ board ∷ input ∷ []) fault
+run_refused board file input fault (inl e) f b i o = inl e
+run_refused board file input fault (inr e) f b i o = inr (run_first f b i o file board input refl refl (sym e))
+
+pub hex_refused : (file : List ℕ) (fault : Refusal) → RefusesFile file fault
+    → (f o : List ℕ) → RefusesInputs (hex_command f o) (file ∷ []) fault
+hex_refused file fault (inl e) f o = inl e
+hex_refused file fault (inr e) f o = inr (hex_first f o file refl refl (sym e))
+
+pub check_refused : (file text : List ℕ) (fault : Refusal) → RefusesTexts file text fault
+    → (f h : List ℕ) → RefusesInputs (hex_check_command f h) (file ∷ text ∷ []) fault
+check_refused file text fault (memory_wanting e) f h = inl e
+check_refused file text fault (faulty e) f h = inr (check_fault f h file text (parts_of fault) refl refl e refl)
+check_refused file text fault (differing at none compares e) f h =
+    subst (λ (r : Refusal). RefusesInputs (hex_check_command f h) (file ∷ text ∷ []) r) (sym e)
+    (inr (check_difference f h file text (Some at) refl refl none compares refl))

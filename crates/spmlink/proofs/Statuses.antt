@@ -1,0 +1,93 @@
+-- The statuses of what is told of inputs.
+use Rattle.std.proofs.Common.{◌≡◌, ℕ, ◌≤◌, List, Option, Some, None, option_map, subst, sym, arith}
+use Rattle.fault_order.specs.First.{◌or_else◌}
+use Rattle.elf_reader.specs.Faults.{first_fault}
+use Rattle.elf_reader.specs.declared.fault.ElfFault.{ElfFault}
+use Rattle.elf_reader.specs.declared.fault.ElfFault.TheVariants as elf
+use Rattle.board_config.specs.Keys.{first_key}
+use Rattle.board_config.specs.Faults.{Fault, not_toml, missing, wrong_type, out_of_range, unknown_key, memory, plain_fault}
+use Rattle.hex_image.specs.Reading.{hex_fault}
+use Rattle.hex_image.specs.declared.fault.HexFault.{HexFault}
+use Rattle.hex_image.specs.declared.fault.HexFault.TheVariants as hex
+use Rattle.spmlink.specs.Command.{PlainCommand}
+use Rattle.spmlink.specs.FaultLine.{Parts, board_parts, elf_parts, hex_parts, differs_parts, status_of}
+use Rattle.spmlink.specs.Meaning.{IsFirst, run_first, gen_first, hex_first, check_fault, check_difference}
+use Rattle.spmlink.specs.declared.faults.Refusal.{Refusal}
+use Rattle.spmlink.specs.declared.faults.Refusal.TheVariants as refusal
+
+-- none of them is that of the words or of the outside
+abbrev pub IsOfInputs : Parts → Type 0
+IsOfInputs told = 4 ≤ told.status
+
+board_least : (fault : Fault) → IsOfInputs (board_parts fault)
+board_least not_toml = omega arith
+board_least (missing key) = omega arith
+board_least (wrong_type key) = omega arith
+board_least (out_of_range key) = omega arith
+board_least (unknown_key name) = omega arith
+board_least memory = omega arith
+
+elf_least : (fault : ElfFault) → IsOfInputs (elf_parts fault)
+elf_least (elf.TooShort need have) = omega arith
+elf_least (elf.NotElf at) = omega arith
+elf_least (elf.WrongKind field value) = omega arith
+elf_least (elf.OutOfFile table index) = omega arith
+elf_least (elf.BadIndex table index) = omega arith
+elf_least (elf.Unsupported index kind) = omega arith
+elf_least (elf.OverLimit what count) = omega arith
+elf_least (elf.Compressed section) = omega arith
+elf_least (elf.Overlap first second) = omega arith
+elf_least elf.Memory = omega arith
+
+hex_least : (fault : HexFault) → IsOfInputs (hex_parts fault)
+hex_least (hex.BadRecord line) = omega arith
+hex_least (hex.BadCheck line) = omega arith
+hex_least (hex.BadKind line kind) = omega arith
+hex_least (hex.Twice line) = omega arith
+hex_least (hex.NoEnd lines) = omega arith
+hex_least (hex.Trailing line) = omega arith
+hex_least hex.Memory = omega arith
+
+-- so it is with what is told of an optional fault
+told_least : {E : Type 0} (parts : E → Parts) → ((fault : E) → IsOfInputs (parts fault)) → (fault : Option E) (told : Parts)
+    → option_map parts fault ≡ Some told → IsOfInputs told
+told_least parts least None told e = absurd (cc)
+told_least parts least (Some fault) told e =
+    let same : parts fault ≡ told = cc in subst IsOfInputs same (least fault)
+
+-- and with two in order
+both_least : {E F : Type 0} (parts : E → Parts) (parts' : F → Parts) → ((fault : E) → IsOfInputs (parts fault)) → ((fault : F) → IsOfInputs (parts' fault))
+    → (one : Option E) (other : Option F) (told : Parts)
+    → option_map parts one or_else option_map parts' other ≡ Some told → IsOfInputs told
+both_least parts parts' least least' None other told e = told_least parts' least' other told e
+both_least parts parts' least least' (Some fault) other told e =
+    let same : parts fault ≡ told = cc in subst IsOfInputs same (least fault)
+
+differs_least : (difference : Option ℕ) (told : Parts) → option_map differs_parts difference ≡ Some told → IsOfInputs told
+differs_least None told e = absurd (cc)
+differs_least (Some at) told e =
+    let same : differs_parts at ≡ told = cc in let low : IsOfInputs (differs_parts at) = omega arith in subst IsOfInputs same low
+
+pub first_least : (command : PlainCommand) (inputs : List (List ℕ)) (told : Parts)
+    → IsFirst command inputs (Some told) → IsOfInputs told
+first_least command inputs told (run_first f b i o file board input is are e) =
+    both_least board_parts elf_parts board_least elf_least (first_key board) (first_fault file) told (sym e)
+first_least command inputs told (gen_first s k o is are e) = absurd (cc)
+first_least command inputs told (hex_first f o file is are e) =
+    told_least elf_parts elf_least (first_fault file) told (sym e)
+first_least command inputs told (check_fault f h file text parts is are first e) =
+    let same : parts ≡ told = cc in
+    subst IsOfInputs same (both_least elf_parts hex_parts elf_least hex_least (first_fault file) (hex_fault text) parts first)
+first_least command inputs told (check_difference f h file text difference is are none compares e) =
+    differs_least difference told (sym e)
+
+-- no refusal has status 0
+pub status_positive : (fault : Refusal) → status_of fault ≡ 0 → ⊥
+status_positive refusal.Usage e = omega arith
+status_positive (refusal.Read place) e = omega arith
+status_positive (refusal.Write place) e = omega arith
+status_positive (refusal.Board fault) e = let low = board_least (plain_fault fault) in omega arith
+status_positive (refusal.Elf fault) e = let low = elf_least fault in omega arith
+status_positive (refusal.Hex fault) e = let low = hex_least fault in omega arith
+status_positive (refusal.Differs at) e = omega arith
+status_positive refusal.Memory e = omega arith

@@ -1,0 +1,26 @@
+use Rattle.std.proofs.Common.{List, ℕ, subst}
+use Rattle.spmlink.specs.Command.{run_command, hex_command, hex_check_command}
+use Rattle.spmlink.specs.Meaning.{RefusesInputs}
+use Rattle.spmlink.proofs.Readings.{contents_of_one, contents_of_two, contents_of_three}
+use Rattle.spmlink.proofs.results.make_ready.Goals as goal
+
+pub returns-in-Err-clause-err : goal.returns-in-Err-clause-err
+returns-in-Err-clause-err c =
+    let count = rw c.in-Run.is at c.requires.texts in
+    let are = contents_of_three c.args.texts.now c.index-texts-0.result c.index-texts-1.result c.index-texts-2.result _ _ _ count
+    c.index-texts-0.is c.index-texts-1.is c.index-texts-2.is c.deref.ensures.value c.deref-in-Run.ensures.value c.deref-in-Run-2.ensures.value in
+    let command = run_command c.in-Run.file.now c.in-Run.board.now c.in-Run.input.now c.in-Run.out.now in
+    rw c.in-Run.is (subst (λ (ts : List (List ℕ)). RefusesInputs command ts c.in-Err.fault) are (c.in-Err.ensures.err c.in-Run.file.now c.in-Run.board.now c.in-Run.input.now))
+
+pub returns-in-Err-ready_hex-clause-err : goal.returns-in-Err-ready_hex-clause-err
+returns-in-Err-ready_hex-clause-err c =
+    let count = rw c.in-Hex.is at c.requires.texts in
+    let are = contents_of_one c.args.texts.now c.index-texts-0-in-Hex.result _ count c.index-texts-0-in-Hex.is c.deref-in-Hex.ensures.value in
+    rw c.in-Hex.is (subst (λ (ts : List (List ℕ)). RefusesInputs (hex_command c.in-Hex.file.now c.in-Hex.out.now) ts c.in-Err-ready_hex.fault) are (c.in-Err-ready_hex.ensures.err c.in-Hex.file.now))
+
+pub returns-in-Err-ready_hex_check-clause-err : goal.returns-in-Err-ready_hex_check-clause-err
+returns-in-Err-ready_hex_check-clause-err c =
+    let count = rw c.in-HexCheck.is at c.requires.texts in
+    let are = contents_of_two c.args.texts.now c.index-texts-0-in-HexCheck.result c.index-texts-1-in-HexCheck.result _ _ count
+    c.index-texts-0-in-HexCheck.is c.index-texts-1-in-HexCheck.is c.deref-in-HexCheck.ensures.value c.deref-in-HexCheck-2.ensures.value in
+    rw c.in-HexCheck.is (subst (λ (ts : List (List ℕ)). RefusesInputs (hex_check_command c.in-HexCheck.file.now c.in-HexCheck.hex.now) ts c.in-Err-ready_hex_check.fault) are (c.in-Err-ready_hex_check.ensures.err c.in-HexCheck.file.now c.in-HexCheck.hex.now))

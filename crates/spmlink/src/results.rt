@@ -1,0 +1,106 @@
+ghost use Rattle.std.specs.Prelude.{◌≡◌, ◌∷◌, [], ◌≤◌, ℕ, List, IfOk, IfErr, length, string_bytes};
+ghost use Rattle.spmlink.specs.Command.{HasNumbers, plain_command, reads, run_command, gen_command, hex_command, hex_check_command};
+ghost use Rattle.spmlink.specs.Reading.{contents};
+ghost use Rattle.spmlink.specs.Meaning.{RefusesInputs, kernels_text};
+ghost use Rattle.spmlink.specs.Performing.{IsReadyFor};
+
+use crate::commands::Command;
+use crate::delivery::Ready;
+use crate::faults::Refusal;
+use crate::hex_files::{check_hex, hex_file};
+use crate::run_file::run_file;
+use std::alloc::{AllocError, Global};
+use workload_gen::workload;
+
+/// Makes the result of a command of what it read, one text for each name.
+pub fn make_ready<'a>(
+    alloc: Global,
+    command: &Command<'a>,
+    texts: &[Vec<u8>],
+) -> Result<Ready<'a>, Refusal>
+    requires numbers { HasNumbers (plain_command command.now) }
+    requires texts { length texts.now ≡ length (reads (plain_command command.now)) }
+    ensures ok { IfOk result (IsReadyFor (plain_command command.now) (contents texts.now)) }
+    ensures err { IfErr result (RefusesInputs (plain_command command.now) (contents texts.now)) }
+{
+    match *command {
+        Command::Run { out, .. } => {
+            match ready_run(alloc, out, &texts[0], &texts[1], &texts[2]) {
+                Ok(ready) => Ok(ready),
+                Err(fault) => Err(fault),
+            }
+        }
+        Command::Gen { seed, kernels, out } => ready_gen(alloc, seed, kernels, out),
+        Command::Hex { out, .. } => match ready_hex(alloc, out, &texts[0]) {
+            Ok(ready) => Ok(ready),
+            Err(fault) => Err(fault),
+        },
+        Command::HexCheck { .. } => match ready_hex_check(alloc, &texts[0], &texts[1]) {
+            Ok(ready) => Ok(ready),
+            Err(fault) => Err(fault),
+        },
+    }
+}
+
+fn ready_run<'a>(
+    alloc: Global,
+    out: &'a str,
+    file: &[u8],
+    board: &[u8],
+    input: &[u8],
+) -> Result<Ready<'a>, Refusal>
+    ensures ok { IfOk result (λ ready. (f b i : List ℕ)
+        → IsReadyFor (run_command f b i out.now) (file.now ∷ board.now ∷ input.now ∷ []) ready) }
+    ensures err { IfErr result (λ fault. (f b i : List ℕ)
+        → RefusesInputs (run_command f b i out.now) (file.now ∷ board.now ∷ input.now ∷ []) fault) }
+{
+    match run_file(alloc, file, board, input) {
+        Ok(run) => Ok(Ready::written(alloc, 4, out, run.output, run.line)?),
+        Err(fault) => Err(fault),
+    }
+}
+
+fn ready_gen<'a>(alloc: Global, seed: u32, kernels: u32, out: &'a str) -> Result<Ready<'a>, Refusal>
+    requires some { 1 ≤ kernels }
+    requires few { kernels ≤ 64 }
+    ensures ok { IfOk result (IsReadyFor (gen_command seed kernels out.now) []) }
+    ensures err { IfErr result (RefusesInputs (gen_command seed kernels out.now) []) }
+{
+    let file = workload(alloc, seed, kernels)?;
+    let text = kernels_line(alloc, kernels)?;
+    Ok(Ready::written(alloc, 3, out, file, text)?)
+}
+
+/// The line that tells how many kernels a generated file has.
+fn kernels_line(alloc: Global, kernels: u32) -> Result<String, AllocError>
+    ensures { IfOk result (λ line. string_bytes line ≡ kernels_text kernels) }
+{
+    format!(in alloc; "kernels {kernels}\n")
+}
+
+fn ready_hex<'a>(alloc: Global, out: &'a str, file: &[u8]) -> Result<Ready<'a>, Refusal>
+    ensures ok { IfOk result (λ ready. (f : List ℕ)
+        → IsReadyFor (hex_command f out.now) (file.now ∷ []) ready) }
+    ensures err { IfErr result (λ fault. (f : List ℕ)
+        → RefusesInputs (hex_command f out.now) (file.now ∷ []) fault) }
+{
+    match hex_file(alloc, file) {
+        Ok(hex) => Ok(Ready::written(alloc, 2, out, hex.text, hex.line)?),
+        Err(fault) => Err(fault),
+    }
+}
+
+fn ready_hex_check<'a>(alloc: Global, file: &[u8], hex: &[u8]) -> Result<Ready<'a>, Refusal>
+    ensures ok { IfOk result (λ ready. (f h : List ℕ)
+        → IsReadyFor (hex_check_command f h) (file.now ∷ hex.now ∷ []) ready) }
+    ensures err { IfErr result (λ fault. (f h : List ℕ)
+        → RefusesInputs (hex_check_command f h) (file.now ∷ hex.now ∷ []) fault) }
+{
+    match check_hex(alloc, file, hex) {
+        Ok(()) => {
+            let text = String::from_str(alloc, "same\n")?;
+            Ok(Ready::printed(alloc, text)?)
+        }
+        Err(fault) => Err(fault),
+    }
+}
