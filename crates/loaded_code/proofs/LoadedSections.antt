@@ -1,0 +1,50 @@
+-- Tests over the sections and segments of a view, and the list of those that are loaded.
+use Rattle.std.proofs.Common.{◌≡◌, ◌∙◌, inl, inr, ℕ, zero, suc, ◌+◌, ◌<◌, Bool, true, false, List, [], ◌∷◌, map, length, slice_index_or, refl, sym, ap, arith, add-one, length-append}
+use Rattle.std.proofs.Math.ListN.{get_or-append}
+use Rattle.std.proofs.Math.Seq.{get_or-append_seam}
+use Rattle.std.proofs.lemmas.Bool.{cases_lt}
+use Rattle.std.proofs.lemmas.List.{length-map}
+use Rattle.index_tests.specs.Tests.{any_below}
+use Rattle.index_tests.proofs.TestLemmas.{any_at}
+use Rattle.elf_reader.specs.File.{PlainView}
+use Rattle.elf_reader.specs.Loaded.{is_loaded}
+use Rattle.loaded_code.specs.Marks.{loaded_below, all_loaded}
+
+-- a place of a list that passes is found among those of the list without borrows
+pub found_in : {A B : Type 0} (test : ℕ → Bool) (plain : A → B) (xs : List A) (k : ℕ) → k < length xs → test k ≡ true → any_below test (length (map plain xs)) ≡ true
+found_in test plain xs k below passes = any_at test (length (map plain xs)) k (rw length-map below) passes
+
+-- one more place that does not pass
+pub none_after : (test : ℕ → Bool) (n : ℕ) → any_below test n ≡ false → test n ≡ false → any_below test (n + 1) ≡ false
+none_after test n none fails = rw (add-one, none) fails
+
+-- there is a mark for each section
+pub length_loaded : (v : PlainView) (n : ℕ) → length (loaded_below v n) ≡ n
+length_loaded v zero = refl
+length_loaded v (suc n) =
+    let earlier = length_loaded v n in
+    let more = length-append (loaded_below v n) (is_loaded v n ∷ []) in
+    omega (arith, earlier, more)
+
+pub mark_below : (v : PlainView) (n k : ℕ) → k < n → slice_index_or (loaded_below v n) k false ≡ is_loaded v k
+mark_below v zero k below = absurd (omega arith)
+mark_below v (suc n) k below =
+    let count = length_loaded v n in
+    elim (cases_lt k n) [
+      | inl earlier ↦
+          let inside : k < length (loaded_below v n) = omega (arith, count, earlier) in
+          rw (get_or-append (loaded_below v n) (is_loaded v n ∷ []) false k inside) (mark_below v n k earlier)
+      | inr behind ↦
+          let here : k ≡ length (loaded_below v n) = omega (arith, count, behind, below) in
+          let same : k ≡ n = omega (arith, behind, below) in
+          ap (λ j. slice_index_or (loaded_below v (suc n)) j false) here
+          ∙ get_or-append_seam (loaded_below v n) (is_loaded v n) [] false
+          ∙ ap (is_loaded v) (sym same)
+    ]
+
+-- the mark of section `k`
+pub mark_at : (v : PlainView) (k : ℕ) → k < length v.sections → slice_index_or (all_loaded v) k false ≡ is_loaded v k
+mark_at v k below = mark_below v (length v.sections) k below
+
+pub length_marks : (v : PlainView) → length (all_loaded v) ≡ length v.sections
+length_marks v = length_loaded v (length v.sections)
