@@ -1,0 +1,5 @@
+use Rattle.object_graph.proofs.RangeLemmas.{objects_apart}
+use Rattle.object_graph.proofs.laws.objects_apart.Goals as goal
+
+pub returns : goal.returns
+returns c = objects_apart

@@ -1,0 +1,9 @@
+pub use Rattle.elf_reader.specs.Loaded
+pub use Rattle.loaded_code.specs.Code
+pub use Rattle.loaded_code.specs.Records
+pub mod Ranges
+pub mod Sound
+pub mod Fixed
+pub mod Sites
+pub mod LayoutFaults
+pub mod Laws
