@@ -102,13 +102,16 @@ too_many_fault v board =
     unless (nat_le (objects_below v board (length v.symbols)) 4096)
     (TooManyObjects (capped (objects_below v board (length v.symbols))))
 
--- the first check that fails
-abbrev pub layout_fault : PlainView → Board → Option GraphFault
-layout_fault v board =
+-- the first check that fails of those of where the ranges lie
+abbrev pub places_fault : PlainView → Board → Option GraphFault
+places_fault v board =
     first_below (spm_overlap_fault v board) (length v.segments)
     or_else first_below (patch_overlap_fault v board) (length v.segments)
     or_else patch_far_fault v board
     or_else spm_meets_patch_fault board
     or_else spm_at_zero_fault board
     or_else first_below (no_area_fault v board) (length v.segments)
-    or_else too_many_fault v board
+
+-- the first check that fails
+abbrev pub layout_fault : PlainView → Board → Option GraphFault
+layout_fault v board = places_fault v board or_else too_many_fault v board

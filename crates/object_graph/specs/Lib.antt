@@ -2,6 +2,8 @@ pub use Rattle.elf_reader.specs.Loaded
 pub use Rattle.loaded_code.specs.Code
 pub use Rattle.loaded_code.specs.Records
 pub mod Ranges
+pub mod CodeRanges
+pub mod Extents
 pub mod Sound
 pub mod Fixed
 pub mod Sites

@@ -1,3 +1,4 @@
+use std::alloc::AllocError;
 use thiserror::Error;
 
 /// Why a program doesn't fit a board, the first in this order.
@@ -27,4 +28,15 @@ pub enum GraphFault {
     /// No memory was left.
     #[error("out of memory")]
     Memory,
+}
+
+impl From<AllocError> for GraphFault {
+    ghost use Rattle.std.specs.Prelude.{◌≡◌};
+    ghost use Rattle.object_graph.specs.declared.fault.GraphFault.TheVariants.{Memory};
+
+    ghost from_gives = { λ _ fault. fault ≡ Memory };
+
+    fn from(_error: AllocError) -> GraphFault {
+        GraphFault::Memory
+    }
 }

@@ -1,0 +1,222 @@
+ghost use Rattle.std.specs.Prelude.{◌≡◌, ℕ, ◌+◌, ◌<◌, ◌≤◌, length};
+ghost use Rattle.fault_order.specs.First.{◌or_else◌, Tells, TellsUnless, first_below};
+ghost use Rattle.index_tests.specs.Tests.{any_below};
+ghost use Rattle.elf_reader.specs.File.{plain_segment, plain_view};
+ghost use Rattle.loaded_code.specs.Marks.{all_loaded};
+ghost use Rattle.object_graph.specs.LayoutFaults.{segment_meets, spm_overlap_fault, patch_overlap_fault, has_code, least_below, greatest_below, span_of, patch_far_fault, spm_meets_patch_fault, spm_at_zero_fault, segment_lies_in, lies_in_area, no_area_fault, places_fault};
+
+use crate::code::{is_code_range, range_of};
+use crate::fault::GraphFault;
+use crate::ranges::{end, lies_in, meet, memory_of};
+use board_config::{Board, Range};
+use elf_reader::{ElfView, Segment};
+use loaded_code::loaded_sections;
+use std::alloc::Global;
+
+/// How many bytes a jump reaches forwards (RISC-V Unprivileged ISA, "Unconditional Jumps": JAL).
+const MAX_SPAN: u64 = 1024 * 1024;
+
+/// The least address at which the scratchpad may begin.
+const LEAST_SPM_BASE: u32 = 16;
+
+/// Checks that a program and the ranges of a board are apart or near, as they must be.
+///
+/// The error is the first check that fails, in this order: no segment meets the scratchpad (`SpmOverlap`), and
+/// none the patch range (`PatchOverlap`); the code and the patch range span at most 2^20 bytes (`PatchFar`); the
+/// scratchpad and the patch range are apart (`SpmMeetsPatch`); the scratchpad begins at address 16 or above
+/// (`SpmAtZero`); each segment that has memory lies in main or in one area (`NoArea`). `Memory` comes only
+/// where no memory was left.
+pub fn check_layout(alloc: Global, view: &ElfView, board: &Board) -> Result<(), GraphFault>
+    ensures fault { TellsUnless GraphFault.Memory result (places_fault (plain_view view.now) board.now) }
+{
+    let loaded = loaded_sections(alloc, view)?;
+    check_places(view, board, &loaded)
+}
+
+/// The checks, where it is known which sections are loaded.
+fn check_places(view: &ElfView, board: &Board, loaded: &[bool]) -> Result<(), GraphFault>
+    requires { loaded.now ≡ all_loaded (plain_view view.now) }
+    ensures { Tells result (places_fault (plain_view view.now) board.now) }
+{
+    check_spm_overlaps(view, board)?;
+    check_patch_overlaps(view, board)?;
+    check_ranges(view, board, loaded)
+}
+
+/// The checks behind those of overlaps.
+fn check_ranges(view: &ElfView, board: &Board, loaded: &[bool]) -> Result<(), GraphFault>
+    requires { loaded.now ≡ all_loaded (plain_view view.now) }
+    ensures { Tells result (patch_far_fault (plain_view view.now) board.now or_else spm_meets_patch_fault board.now or_else spm_at_zero_fault board.now or_else first_below (no_area_fault (plain_view view.now) board.now) (length (plain_view view.now).segments)) }
+{
+    check_patch_far(view, board, loaded)?;
+    check_spm_meets_patch(board)?;
+    check_spm_at_zero(board)?;
+    check_areas(view, board)
+}
+
+#[tactic(auto, using(crate::proofs::ViewLemmas::found_first))]
+fn check_spm_overlaps(view: &ElfView, board: &Board) -> Result<(), GraphFault>
+    ensures { Tells result (first_below (spm_overlap_fault (plain_view view.now) board.now) (length (plain_view view.now).segments)) }
+{
+    for g in 0..view.segments.len() {
+        check_spm_overlap(view, board, g)?;
+    }
+    Ok(())
+}
+
+fn check_spm_overlap(view: &ElfView, board: &Board, g: usize) -> Result<(), GraphFault>
+    requires { g < length view.now.segments.items }
+    ensures { Tells result (spm_overlap_fault (plain_view view.now) board.now g) }
+{
+    let segment = &view.segments[g];
+    if segment_meets(segment, &board.spm) {
+        return Err(GraphFault::SpmOverlap {
+            segment: segment.index,
+        });
+    }
+    Ok(())
+}
+
+#[tactic(auto, using(crate::proofs::ViewLemmas::found_first))]
+fn check_patch_overlaps(view: &ElfView, board: &Board) -> Result<(), GraphFault>
+    ensures { Tells result (first_below (patch_overlap_fault (plain_view view.now) board.now) (length (plain_view view.now).segments)) }
+{
+    for g in 0..view.segments.len() {
+        check_patch_overlap(view, board, g)?;
+    }
+    Ok(())
+}
+
+fn check_patch_overlap(view: &ElfView, board: &Board, g: usize) -> Result<(), GraphFault>
+    requires { g < length view.now.segments.items }
+    ensures { Tells result (patch_overlap_fault (plain_view view.now) board.now g) }
+{
+    let segment = &view.segments[g];
+    if segment_meets(segment, &board.patch) {
+        return Err(GraphFault::PatchOverlap {
+            segment: segment.index,
+        });
+    }
+    Ok(())
+}
+
+/// The memory of a segment meets a range.
+fn segment_meets(segment: &Segment, range: &Range) -> bool
+    ensures { result ≡ segment_meets (plain_segment segment.now) range.now }
+{
+    meet(&memory_of(segment), range)
+}
+
+fn check_patch_far(view: &ElfView, board: &Board, loaded: &[bool]) -> Result<(), GraphFault>
+    requires { loaded.now ≡ all_loaded (plain_view view.now) }
+    ensures { Tells result (patch_far_fault (plain_view view.now) board.now) }
+{
+    let span = greatest_end(view, board, loaded) - least_base(view, board, loaded);
+    if span > MAX_SPAN {
+        return Err(GraphFault::PatchFar {
+            span: u32::try_from(span).unwrap_or(u32::MAX),
+        });
+    }
+    Ok(())
+}
+
+/// The least address of the patch range and of the code.
+fn least_base(view: &ElfView, board: &Board, loaded: &[bool]) -> u64
+    requires { loaded.now ≡ all_loaded (plain_view view.now) }
+    ensures value { result ≡ least_below (plain_view view.now) board.now (length (plain_view view.now).sections) }
+    ensures most { result ≤ board.now.patch.base }
+{
+    let mut least = u64::from(board.patch.base);
+    for k in 0..view.sections.len() {
+        if has_code(view, loaded, k) {
+            least = least.min(u64::from(view.sections[k].addr));
+        }
+    }
+    least
+}
+
+/// The address behind the greatest of the patch range and of the code.
+fn greatest_end(view: &ElfView, board: &Board, loaded: &[bool]) -> u64
+    requires { loaded.now ≡ all_loaded (plain_view view.now) }
+    ensures value { result ≡ greatest_below (plain_view view.now) board.now (length (plain_view view.now).sections) }
+    ensures least { board.now.patch.base ≤ result }
+{
+    let mut greatest = end(&board.patch);
+    for k in 0..view.sections.len() {
+        if has_code(view, loaded, k) {
+            greatest = greatest.max(end(&range_of(&view.sections[k])));
+        }
+    }
+    greatest
+}
+
+/// Section `k` is a code range with at least a byte.
+fn has_code(view: &ElfView, loaded: &[bool], k: usize) -> bool
+    requires loaded { loaded.now ≡ all_loaded (plain_view view.now) }
+    requires below { k < length view.now.sections.items }
+    ensures { result ≡ has_code (plain_view view.now) k }
+{
+    is_code_range(view, loaded, k) && view.sections[k].size > 0
+}
+
+fn check_spm_meets_patch(board: &Board) -> Result<(), GraphFault>
+    ensures { Tells result (spm_meets_patch_fault board.now) }
+{
+    if meet(&board.spm, &board.patch) {
+        return Err(GraphFault::SpmMeetsPatch);
+    }
+    Ok(())
+}
+
+fn check_spm_at_zero(board: &Board) -> Result<(), GraphFault>
+    ensures { Tells result (spm_at_zero_fault board.now) }
+{
+    if board.spm.base < LEAST_SPM_BASE {
+        return Err(GraphFault::SpmAtZero);
+    }
+    Ok(())
+}
+
+#[tactic(auto, using(crate::proofs::ViewLemmas::found_first))]
+fn check_areas(view: &ElfView, board: &Board) -> Result<(), GraphFault>
+    ensures { Tells result (first_below (no_area_fault (plain_view view.now) board.now) (length (plain_view view.now).segments)) }
+{
+    for g in 0..view.segments.len() {
+        check_area(view, board, g)?;
+    }
+    Ok(())
+}
+
+fn check_area(view: &ElfView, board: &Board, g: usize) -> Result<(), GraphFault>
+    requires { g < length view.now.segments.items }
+    ensures { Tells result (no_area_fault (plain_view view.now) board.now g) }
+{
+    let segment = &view.segments[g];
+    let memory = memory_of(segment);
+    if memory.size == 0 || lies_in(&board.main, &memory) || lies_in_some_area(board, segment) {
+        return Ok(());
+    }
+    Err(GraphFault::NoArea {
+        segment: segment.index,
+    })
+}
+
+/// The memory of a segment lies in one of the areas.
+fn lies_in_some_area(board: &Board, segment: &Segment) -> bool
+    ensures { result ≡ any_below (lies_in_area board.now (plain_segment segment.now)) (length board.now.areas.items) }
+{
+    for k in 0..board.areas.len() {
+        if lies_in_area(board, segment, k) {
+            return true;
+        }
+    }
+    false
+}
+
+/// The memory of a segment lies in area `k`.
+fn lies_in_area(board: &Board, segment: &Segment, k: usize) -> bool
+    requires { k < length board.now.areas.items }
+    ensures { result ≡ lies_in_area board.now (plain_segment segment.now) k }
+{
+    lies_in(&board.areas[k], &memory_of(segment))
+}
