@@ -1,1 +1,4 @@
 pub mod LeaderLemmas
+pub mod MeaningLemmas
+pub mod WordLemmas
+pub mod EarlyLemmas

@@ -1,7 +1,10 @@
--- What holds of all leaders.
-use Rattle.std.specs.Prelude.{◌≡◌, ℕ, true}
+-- What holds of all leaders, and of the test for a meaning.
+use Rattle.std.specs.Prelude.{◌≡◌, ℕ, ◌<◌, true, false}
+use Rattle.rv_decode.specs.Table.{Means, MeansNothing}
+use Rattle.rv_decode.specs.declared.instructions.Instr.{Instr}
 use Rattle.elf_reader.specs.File.{PlainView}
 use Rattle.loaded_code.specs.Code.{is_code_word}
+use Rattle.code_blocks.specs.Meanings.{has_meaning}
 use Rattle.code_blocks.specs.Leaders.{is_leader, is_indirect}
 
 -- they are words of code
@@ -11,3 +14,9 @@ LeadersAreCode = (v : PlainView) (a : ℕ) → is_leader v a ≡ true → is_cod
 -- those that a jump to an address in a register may reach are among them
 abbrev pub IndirectLeadersAreLeaders : Type 0
 IndirectLeadersAreLeaders = (v : PlainView) (a : ℕ) → is_indirect v a ≡ true → is_leader v a ≡ true
+
+-- a word that passes the test means an instruction, and one that fails it means nothing
+abbrev pub MeaningIsDecided : Type 0
+MeaningIsDecided =
+    (w : ℕ) → w < 4294967296
+    → (has_meaning w ≡ true → (i : Instr) × Means w i) × (has_meaning w ≡ false → MeansNothing w)

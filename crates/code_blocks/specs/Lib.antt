@@ -1,9 +1,11 @@
 pub use Rattle.elf_reader.specs.Loaded
 pub use Rattle.loaded_code.specs.Code
 pub use Rattle.loaded_code.specs.Records
+pub mod Read
 pub mod Words
 pub mod Meanings
 pub mod Leaders
+pub mod Early
 pub mod Ends
 pub mod Functions
 pub mod Laws
