@@ -1,11 +1,9 @@
 -- How a list of leaders grows.
-use Rattle.std.proofs.Common.{◌≡◌, ◌∙◌, ℕ, zero, suc, ◌+◌, ◌/◌, ◌<◌, ◌==◌, Bool, true, false, ◌&&◌, ◌||◌, List, [], ◌∷◌, ◌++◌, length, map, slice_index_or, inl, inr, refl, sym, ap, arith, add-one, nat_eq}
+use Rattle.std.proofs.Common.{◌≡◌, ◌∙◌, ℕ, zero, suc, ◌+◌, ◌/◌, ◌<◌, Bool, true, false, ◌&&◌, ◌||◌, List, length, map, slice_index_or, refl, ap, arith, add-one, nat_eq}
 use Rattle.std.specs.List.{dedup}
-use Rattle.std.proofs.lemmas.Bool.{eqb-true, cases_Bool}
+use Rattle.std.proofs.lemmas.Bool.{eqb-true}
 use Rattle.std.specs.Cmp.{nat_eq_equiv}
-use Rattle.std.proofs.lemmas.Bool.Decides.{nat_tests}
 use Rattle.std.proofs.lemmas.List.{length-map}
-use Rattle.std.proofs.lemmas.List.Folds.{list_any-append}
 use Rattle.std.proofs.lemmas.List.Kept.{Contains-dedup_nat, Contains-from_dedup}
 use Rattle.std.proofs.lemmas.Map.Views.{Contains-from_any, list_any-from_Contains}
 use Rattle.index_tests.proofs.TestLemmas.{same_tests}
@@ -46,26 +44,6 @@ more_by n m false false x y first second = grind (arith, first, second)
 -- one more place of a table
 pub place_more : (n m o c : Bool) (test : ℕ → Bool) (i : ℕ) → m ≡ o || c && any_below test i → n ≡ m || c && test i → n ≡ o || c && any_below test (i + 1)
 place_more n m o c test i first second = rw (add-one i) (more_by n m o c (any_below test i) (test i) first second)
-
--- one more address
-same_address : (a x : ℕ) → (a == x) ≡ (x == a)
-same_address a x = grind (arith, nat_tests)
-
-pub pushed : (v : PlainView) (leaders : List ℕ) (x a : ℕ) → is_code_word v x ≡ true → has (leaders ++ x ∷ []) a ≡ has leaders a || is_code_word v a && (x == a)
-pushed v leaders x a code =
-    list_any-append (λ y. a == y) leaders (x ∷ [])
-    ∙ ap (λ (b : Bool). has leaders a || b)
-    (elim (cases_Bool (x == a)) [
-      | inl same ↦ let is = eqb-true x a same in rw (sym is) (rw code (grind (arith, nat_tests)))
-      | inr other ↦ grind (arith, nat_tests, other)
-    ])
-
-pub passed : (v : PlainView) (leaders : List ℕ) (x a : ℕ) → is_code_word v x ≡ false → has leaders a ≡ has leaders a || is_code_word v a && (x == a)
-passed v leaders x a code =
-    elim (cases_Bool (x == a)) [
-      | inl same ↦ let is = eqb-true x a same in rw (sym is, code) (none_more _ false)
-      | inr other ↦ rw other (none_more _ _)
-    ]
 
 -- tests in two parts
 any_or : (t u : ℕ → Bool) (n : ℕ) → any_below (λ k. t k || u k) n ≡ any_below t n || any_below u n

@@ -26,7 +26,7 @@ pub fn is_code_range(view: &ElfView, loaded: &[bool], k: usize) -> bool
         && (section.flags >> EXECUTABLE_BIT) & 1 == 1
 }
 
-/// Whether section `k` is loaded.
+/// Whether section `k` of `view` is loaded, by the marks of its sections.
 pub(crate) fn is_loaded(view: &ElfView, loaded: &[bool], k: usize) -> bool
     requires marks { loaded.now ≡ all_loaded (plain_view view.now) }
     requires below { k < length view.now.sections.items }
