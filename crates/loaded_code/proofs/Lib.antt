@@ -1,1 +1,2 @@
 pub mod LoadedSections
+pub mod WordLemmas

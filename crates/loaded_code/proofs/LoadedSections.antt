@@ -6,7 +6,8 @@ use Rattle.std.proofs.lemmas.Bool.{cases_lt}
 use Rattle.std.proofs.lemmas.List.{length-map}
 use Rattle.index_tests.specs.Tests.{any_below}
 use Rattle.index_tests.proofs.TestLemmas.{any_at}
-use Rattle.elf_reader.specs.File.{PlainView}
+use Rattle.elf_reader.specs.File.{PlainView, plain_section, plain_view}
+use Rattle.elf_reader.specs.declared.view.ElfView.{ElfView}
 use Rattle.elf_reader.specs.Loaded.{is_loaded}
 use Rattle.loaded_code.specs.Marks.{loaded_below, all_loaded}
 
@@ -48,3 +49,15 @@ mark_at v k below = mark_below v (length v.sections) k below
 
 pub length_marks : (v : PlainView) → length (all_loaded v) ≡ length v.sections
 length_marks v = length_loaded v (length v.sections)
+
+-- the marks of a view's sections: there is one for each, and it tells whether the section is loaded
+pub marks_length : (view : ElfView) (marks : List Bool) (k : ℕ) → marks ≡ all_loaded (plain_view view) → k < length view.sections.items → k < length marks
+marks_length view marks k is below =
+    let count = length_marks (plain_view view) in
+    let inside : k < length (map plain_section view.sections.items) = rw length-map below in
+    rw is (omega (arith, count, inside))
+
+pub mark_is : (view : ElfView) (marks : List Bool) (k : ℕ) → marks ≡ all_loaded (plain_view view) → k < length view.sections.items → slice_index_or marks k false ≡ is_loaded (plain_view view) k
+mark_is view marks k is below =
+    let inside : k < length (map plain_section view.sections.items) = rw length-map below in
+    ap (λ (ms : List Bool). slice_index_or ms k false) is ∙ mark_at (plain_view view) k inside

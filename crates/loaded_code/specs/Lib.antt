@@ -3,3 +3,4 @@ pub use Rattle.elf_reader.specs.Loaded
 pub mod Marks
 pub mod Code
 pub mod Records
+pub mod Read

@@ -13,9 +13,10 @@ use Rattle.loaded_code.specs.Code.{is_code_range, holds_code, is_code_word}
 use Rattle.elf_reader.proofs.SegmentLemmas.{none_of_headers, load_segments_apart}
 use Rattle.elf_reader.proofs.LoadedLemmas.{IsFilled, loaded_found, same_segment, filled_alone, zeroed_apart}
 use Rattle.loaded_code.specs.Records.{symbol_at, reloc_at}
-use Rattle.object_graph.specs.Ranges.{is_executable}
+use Rattle.object_ranges.specs.Ranges.{is_executable}
 use Rattle.object_graph.specs.Laws.{ObjectsOffCode, DataOffCode}
-use Rattle.object_graph.proofs.RangeLemmas.{IsOf, movable_parts}
+use Rattle.object_ranges.proofs.RangeLemmas.{IsOf}
+use Rattle.object_graph.proofs.MovableLemmas.{movable_parts}
 use Rattle.object_graph.proofs.SoundLemmas.{sound_word}
 
 -- the places, in two sections, of a byte that two ranges of these share

@@ -15,7 +15,7 @@ use Rattle.elf_reader.specs.File.{PlainView}
 use Rattle.loaded_code.specs.Code.{is_code_word, image_word}
 use Rattle.elf_reader.specs.declared.view.Reloc.{Reloc}
 use Rattle.loaded_code.specs.Records.{reloc_at, counts, target}
-use Rattle.object_graph.specs.Sound.{is_addi, is_load_word, is_store_word, i_low, s_low, takes_low_i, takes_low_s, distance, names_high, is_paired, is_unpaired}
+use Rattle.sound_relocations.specs.Sound.{is_addi, is_load_word, is_store_word, i_low, s_low, takes_low_i, takes_low_s, distance, names_high, is_paired, is_unpaired}
 use Rattle.object_graph.specs.Laws.{reach, StoresAtLower, HasLower, IsLowOf, DataWordsLead, HighSitesLead, LowSitesLead, LowStoresLead, PairedSitesLead}
 use Rattle.object_graph.proofs.SoundLemmas.{given_both, soundly, IsPair, of_two, kind_parts, only_word, only_high, only_low, only_pair}
 

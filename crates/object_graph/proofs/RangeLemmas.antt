@@ -1,146 +1,109 @@
--- What holds of the symbol of an object, and of an object that may move.
-use Rattle.std.proofs.Common.{◌≡◌, ◌⊎◌, inl, inr, ℕ, ◌+◌, ◌<◌, ◌≤◌, ◌==◌, nat_lt, nat_le, Bool, true, false, not, ◌&&◌, ◌||◌, length, refl, subst, arith}
-use Rattle.std.proofs.lemmas.Bool.{leb-true, ltb-true, eqb-true}
-use Rattle.index_tests.specs.Tests.{lies_in, meets}
-use Rattle.index_tests.proofs.TestLemmas.{neither, both, not_true, any_found, none_at}
-use Rattle.elf_reader.specs.File.{PlainSymbol, PlainView}
-use Rattle.elf_reader.specs.Loaded.{is_loaded}
-use Rattle.board_config.specs.declared.board.Board.{Board}
-use Rattle.loaded_code.specs.Records.{symbol_at}
-use Rattle.object_graph.specs.Ranges.{is_executable, owner_of, has_extent, has_owner, has_range, is_of, is_symbol_of, is_range}
-use Rattle.object_graph.specs.Fixed.{meets_range, is_overlapped, is_in_zeros, is_listed, is_strayed, is_unsound, is_shared, is_fixed, is_movable}
-use Rattle.object_graph.specs.Laws.{ObjectsApart}
+-- The ranges of a list of just the objects that may move.
+use Rattle.std.proofs.Common.{◌≡◌, ◌∙◌, ◌⊎◌, inl, inr, ℕ, zero, suc, ◌+◌, ◌-◌, ◌%◌, ◌<◌, ◌≤◌, ◌==◌, ◌&&◌, true, false, List, length, slice_index_or, refl, sym, ap, subst, arith}
+use Rattle.std.proofs.lemmas.Bool.{cases_eq, cases_lt, eq-eqb}
+use Rattle.std.proofs.lemmas.Bool.Decides.{nat_tests}
+use Rattle.std.proofs.lemmas.List.Folds.{list_any_at}
+use Rattle.index_tests.specs.Tests.{meets}
+use Rattle.index_tests.proofs.TestLemmas.{both}
+use Rattle.std.proofs.lemmas.List.{get_or_default}
+use Rattle.word_bits.specs.Words.{minus}
+use Rattle.elf_reader.specs.File.{PlainView, plain_view}
+use Rattle.elf_reader.specs.declared.view.ElfView.{ElfView}
+use Rattle.elf_reader.specs.declared.view.Reloc.{Reloc}
+use Rattle.loaded_code.specs.Records.{symbol_at, no_reloc, reloc_at, target}
+use Rattle.object_ranges.specs.declared.extents.Extent.{Extent}
+use Rattle.object_ranges.specs.Ranges.{is_range}
+use Rattle.object_ranges.specs.Extents.{is_extent, no_extent, extent_at}
+use Rattle.object_ranges.proofs.ExtentLemmas.{both_made}
+use Rattle.object_ranges.proofs.RangeLemmas.{HasExtent, extent_of}
+use Rattle.sound_relocations.specs.Sound.{is_meant, displacement}
+use Rattle.movable_ranges.specs.Fixed.{is_fixed, is_movable}
+use Rattle.object_graph.specs.Gathered.{AreMovable}
+use Rattle.object_graph.proofs.MovableLemmas.{movable_parts}
+use Rattle.object_graph.proofs.OneSiteLemmas.{meant_both}
 
--- the symbol of an object
-pub record HasRange (v : PlainView) (s : PlainSymbol) : Type 0 where
-  pub kind : s.kind ≡ 1
-  pub filled : 0 < s.size
-  pub placed : 0 < s.value
-  pub ends : s.value + s.size ≤ 4294967295
-  pub owner : s.section < length v.sections
-  pub loaded : is_loaded v s.section ≡ true
-  pub no_code : is_executable (owner_of v s) ≡ false
-  pub lies : lies_in (owner_of v s).addr (owner_of v s).size s.value s.size ≡ true
+-- each of them may move
+pub moves_at : (v : PlainView) (ranges : List Extent) (m : AreMovable v ranges) (k : ℕ) → k < length ranges → is_movable v m.board (extent_at ranges k).home (extent_at ranges k).size ≡ true
+moves_at v ranges m k below =
+    let e = extent_at ranges k in
+    let itself = both_made (e.home == e.home) (e.size == e.size) (eq-eqb e.home e.home refl) (eq-eqb e.size e.size refl) in
+    sym (m.exact e.home e.size) ∙ list_any_at (is_extent e.home e.size) ranges k no_extent below itself
 
-pub range_parts : (v : PlainView) (s : PlainSymbol) → has_range v s ≡ true → HasRange v s
-range_parts v s passes =
-    let owner = nat_lt s.section (length v.sections) in
-    let loaded = is_loaded v s.section in
-    let code = is_executable (owner_of v s) in
-    let lies = lies_in (owner_of v s).addr (owner_of v s).size s.value s.size in
-    let filled = nat_lt 0 s.size in
-    let placed = nat_lt 0 s.value in
-    let ends = nat_le (s.value + s.size) 4294967295 in
-    let whole = both ((s.kind == 1) && has_extent s) (has_owner v s) passes in
-    let front = both (s.kind == 1) (has_extent s) whole.0 in
-    let extent = both (filled && placed) ends front.1 in
-    let begins = both filled placed extent.0 in
-    let owned = both (owner && loaded && not code) lies whole.1 in
-    let plain = both (owner && loaded) (not code) owned.0 in
-    let inner = both owner loaded plain.0 in
-    record {
-      kind = eqb-true s.kind 1 front.0;
-      filled = ltb-true 0 s.size begins.0;
-      placed = ltb-true 0 s.value begins.1;
-      ends = leb-true (s.value + s.size) 4294967295 extent.1;
-      owner = ltb-true s.section (length v.sections) inner.0;
-      loaded = inner.1;
-      no_code = not_true code plain.1;
-      lies = owned.1;
-    }
+pub range_at : (v : PlainView) (ranges : List Extent) (m : AreMovable v ranges) (k : ℕ) → k < length ranges → is_range v (extent_at ranges k).home (extent_at ranges k).size ≡ true
+range_at v ranges m k below =
+    let e = extent_at ranges k in
+    (both (is_range v e.home e.size) _ (moves_at v ranges m k below)).0
 
--- a symbol of the object of `n` bytes at `home`
-pub record IsOf (v : PlainView) (home n : ℕ) (s : PlainSymbol) : Type 0 where
-  pub test : has_range v s ≡ true
-  pub range : HasRange v s
-  pub value : s.value ≡ home
-  pub size : s.size ≡ n
+-- and has a home behind address 0, bytes, and an end below 2 ^ 32
+pub extent_fits : (v : PlainView) (ranges : List Extent) (m : AreMovable v ranges) (k : ℕ) → k < length ranges → HasExtent (extent_at ranges k).home (extent_at ranges k).size
+extent_fits v ranges m k below =
+    let e = extent_at ranges k in
+    let moves = movable_parts v m.board e.home e.size (moves_at v ranges m k below) in
+    extent_of v e.home e.size (symbol_at v moves.symbol) moves.of
 
-pub of_parts : (v : PlainView) (home n : ℕ) (s : PlainSymbol) → is_of v home n s ≡ true → IsOf v home n s
-of_parts v home n s passes =
-    let last = both (has_range v s && (s.value == home)) (s.size == n) passes in
-    let first = both (has_range v s) (s.value == home) last.0 in
-    record {
-      test = first.0;
-      range = range_parts v s first.0;
-      value = eqb-true s.value home first.1;
-      size = eqb-true s.size n last.1;
-    }
+-- relocation `i` of a view, read from it
+pub reloc_is : (view : ElfView) (i : ℕ) (r : Reloc) → i < length view.relocs.items → r ≡ slice_index_or view.relocs.items i r → reloc_at (plain_view view) i ≡ r
+reloc_is view i r below is = get_or_default view.relocs.items i no_reloc r below ∙ sym is
 
--- an object that may move: it has a symbol, and no rule fixes it
-pub record Moves (v : PlainView) (home n : ℕ) : Type 0 where
-  pub symbol : ℕ
-  pub below : symbol < length v.symbols
-  pub of : IsOf v home n (symbol_at v symbol)
-  pub alone : is_overlapped v home n ≡ false
-  pub sound : is_unsound v home n ≡ false
-  pub unshared : is_shared v home n ≡ false
+-- how far a target lies behind the home of one of them
+pub offset_is : (view : ElfView) (ranges : List Extent) (m : AreMovable (plain_view view) ranges) (k i a : ℕ) (r : Reloc) → k < length ranges → i < length view.relocs.items → r ≡ slice_index_or view.relocs.items i r → a ≡ target (plain_view view) r → (a + (4294967296 - (extent_at ranges k).home)) % 4294967296 ≡ displacement (plain_view view) (extent_at ranges k).home (reloc_at (plain_view view) i)
+offset_is view ranges m k i a r below inside is leads =
+    let v = plain_view view in
+    let fits = extent_fits v ranges m k below in
+    let home = (extent_at ranges k).home in
+    let ends = fits.ends in
+    let same : a ≡ target v (reloc_at v i) = leads ∙ ap (target v) (sym (reloc_is view i r inside is)) in
+    wrapped a home (omega (arith, ends)) ∙ ap (λ (b : ℕ). minus b home) same
+  where
+    wrapped : (b home : ℕ) → home < 4294967296 → (b + (4294967296 - home)) % 4294967296 ≡ minus b home
+    wrapped b home fits = omega (arith, fits)
 
-pub movable_parts : (v : PlainView) (board : Board) (home n : ℕ) → is_movable v board home n ≡ true → Moves v home n
-movable_parts v board home n movable =
-    let a = is_overlapped v home n in
-    let b = is_in_zeros v board home n in
-    let c = is_listed v board home n in
-    let d = is_strayed v home n in
-    let e = is_unsound v home n in
-    let f = is_shared v home n in
-    let whole = both (is_range v home n) (not (is_fixed v board home n)) movable in
-    let (k, below, passes) = any_found (is_symbol_of v home n) (length v.symbols) whole.0 in
-    let free = not_true (is_fixed v board home n) whole.1 in
-    let shares = neither (a || b || c || d || e) f free in
-    let unsound = neither (a || b || c || d) e shares.0 in
-    let strays = neither (a || b || c) d unsound.0 in
-    let lists = neither (a || b) c strays.0 in
-    let overlaps = neither a b lists.0 in
-    record {
-      symbol = k;
-      below = below;
-      of = of_parts v home n (symbol_at v k) passes;
-      alone = overlaps.0;
-      sound = unsound.1;
-      unshared = shares.1;
-    }
-
--- the object begins behind address 0, has bytes, and ends below 2 ^ 32
-pub record HasExtent (home n : ℕ) : Type 0 where
-  pub filled : 0 < n
-  pub placed : 0 < home
-  pub ends : home + n ≤ 4294967295
-
-pub extent_of : (v : PlainView) (home n : ℕ) (s : PlainSymbol) → IsOf v home n s → HasExtent home n
-extent_of v home n s of =
-    let range = of.range in
-    let value = of.value in
-    let size = of.size in
-    record {
-      filled = omega (arith, size, range.filled);
-      placed = omega (arith, value, range.placed);
-      ends = omega (arith, value, size, range.ends);
-    }
-
--- two ranges of which the second is the first's, or meets it not
-same_or_apart : (has meet here fits : Bool) → has && meet && not (here && fits) ≡ false → has ≡ true → (meet ≡ false) ⊎ ((here ≡ true) × (fits ≡ true))
-same_or_apart has true true true none found = inr (refl, refl)
-same_or_apart has true true false none found = grind (arith, none, found)
-same_or_apart has true false fits none found = grind (arith, none, found)
-same_or_apart has false here fits none found = inl refl
-
-alone_at : (v : PlainView) (home n home' n' : ℕ) (s : PlainSymbol) → IsOf v home' n' s → has_range v s && meets home n s.value s.size && not ((s.value == home) && (s.size == n)) ≡ false → (meets home n home' n' ≡ false) ⊎ ((home ≡ home') × (n ≡ n'))
-alone_at v home n home' n' s of none =
-    let value = of.value in
-    let size = of.size in
-    let meet = meets home n s.value s.size in
-    elim (same_or_apart (has_range v s) meet (s.value == home) (s.size == n) none of.test) [
-      | inl apart ↦ inl (subst (λ (m : ℕ). meets home n home' m ≡ false) size (subst (λ (a : ℕ). meets home n a s.size ≡ false) value apart))
-      | inr same ↦
-          let here = eqb-true s.value home same.0 in
-          let fits = eqb-true s.size n same.1 in
-          inr (omega (arith, here, value), omega (arith, fits, size))
+-- two of one home are the same
+pub same_place : (v : PlainView) (ranges : List Extent) (m : AreMovable v ranges) (k j : ℕ) → k < length ranges → j < length ranges → (extent_at ranges k).home ≡ (extent_at ranges j).home → k ≡ j
+same_place v ranges m k j below below' same =
+    elim (cases_eq k j) [
+      | inl equal ↦ equal
+      | inr other ↦ elim (cases_lt k j) [
+        | inl before ↦
+            let apart = m.apart k j no_extent before below' in
+            let filled = m.filled k no_extent below in
+            absurd (omega (arith, same, apart, filled))
+        | inr behind ↦
+            let apart = m.apart j k no_extent (omega (arith, other, behind)) below in
+            let filled = m.filled j no_extent below' in
+            absurd (omega (arith, same, apart, filled))
+      ]
     ]
 
-pub objects_apart : ObjectsApart
-objects_apart v board home n home' n' movable movable' =
-    let first = movable_parts v board home n movable in
-    let second = movable_parts v board home' n' movable' in
-    let s = symbol_at v second.symbol in
-    alone_at v home n home' n' s second.of (none_at (meets_range v home n) (length v.symbols) second.symbol second.below first.alone)
+apart_meets : (a n b m : ℕ) → a + n ≤ b → meets a n b m ≡ false
+apart_meets a n b m apart = grind (arith, nat_tests, apart)
+
+apart_turned : (a n b m : ℕ) → a + n ≤ b → meets b m a n ≡ false
+apart_turned a n b m apart = grind (arith, nat_tests, apart)
+
+-- two of different places share no byte
+share_none : (v : PlainView) (ranges : List Extent) (m : AreMovable v ranges) (k j : ℕ) → k < length ranges → j < length ranges → (meets (extent_at ranges k).home (extent_at ranges k).size (extent_at ranges j).home (extent_at ranges j).size ≡ false) ⊎ (((extent_at ranges k).home ≡ (extent_at ranges j).home) × ((extent_at ranges k).size ≡ (extent_at ranges j).size))
+share_none v ranges m k j below below' =
+    elim (cases_eq k j) [
+      | inl equal ↦ inr (subst (λ (i : ℕ). (extent_at ranges k).home ≡ (extent_at ranges i).home) equal refl, subst (λ (i : ℕ). (extent_at ranges k).size ≡ (extent_at ranges i).size) equal refl)
+      | inr other ↦ elim (cases_lt k j) [
+        | inl before ↦ inl (apart_meets _ _ _ _ (m.apart k j no_extent before below'))
+        | inr behind ↦ inl (apart_turned _ _ _ _ (m.apart j k no_extent (omega (arith, other, behind)) below))
+      ]
+    ]
+
+-- one relocation means one of them
+pub meant_once : (v : PlainView) (ranges : List Extent) (m : AreMovable v ranges) (k j i : ℕ) → k < length ranges → j < length ranges → is_meant v (extent_at ranges k).home (extent_at ranges k).size (reloc_at v i) ≡ true → is_meant v (extent_at ranges j).home (extent_at ranges j).size (reloc_at v i) ≡ true → k ≡ j
+meant_once v ranges m k j i below below' first second =
+    let a = extent_at ranges k in
+    let b = extent_at ranges j in
+    same_place v ranges m k j below below' (meant_both v a.home a.size b.home b.size (reloc_at v i) (share_none v ranges m k j below below') first second).0
+
+-- so its place is at most its home
+pub place_within : (v : PlainView) (ranges : List Extent) (m : AreMovable v ranges) (k : ℕ) → k < length ranges → k ≤ (extent_at ranges k).home
+place_within v ranges m zero below = omega arith
+place_within v ranges m (suc k) below =
+    let earlier = place_within v ranges m k (omega arith) in
+    let apart = m.apart k (suc k) no_extent (omega arith) below in
+    let filled = m.filled k no_extent (omega arith) in
+    omega (arith, earlier, apart, filled)

@@ -12,11 +12,12 @@ use Rattle.loaded_code.specs.Code.{is_code_word, image_word}
 use Rattle.elf_reader.specs.declared.view.Reloc.{Reloc}
 use Rattle.board_config.specs.declared.board.Board.{Board}
 use Rattle.loaded_code.specs.Records.{symbol_at, reloc_at, counts, target, is_mute}
-use Rattle.object_graph.specs.Ranges.{is_executable}
-use Rattle.object_graph.specs.Sound.{is_meant, displacement, holds_data, cuts_range, changes_word, is_sound_word, u_high, takes_low_i, takes_low_s, is_sound_high, is_sound_low, distance, is_unpaired, is_call_at, is_sound_pair, is_sound_kind, is_sound}
-use Rattle.object_graph.specs.Fixed.{is_unsound_by, is_movable}
+use Rattle.object_ranges.specs.Ranges.{is_executable}
+use Rattle.sound_relocations.specs.Sound.{is_meant, displacement, holds_data, cuts_range, changes_word, is_sound_word, u_high, takes_low_i, takes_low_s, is_sound_high, is_sound_low, distance, is_unpaired, is_call_at, is_sound_pair, is_sound_kind, is_sound}
+use Rattle.movable_ranges.specs.Fixed.{is_unsound_by, is_movable}
 use Rattle.object_graph.specs.Laws.{MeansBy}
-use Rattle.object_graph.proofs.RangeLemmas.{HasExtent, extent_of, movable_parts}
+use Rattle.object_ranges.proofs.RangeLemmas.{HasExtent, extent_of}
+use Rattle.object_graph.proofs.MovableLemmas.{movable_parts}
 
 -- a target that lies a displacement behind a home: nothing wraps
 behind_home : (a home n : ℕ) → HasExtent home n → a < 4294967296 → minus a home ≤ n → a ≡ home + minus a home

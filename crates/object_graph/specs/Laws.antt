@@ -13,8 +13,10 @@ use Rattle.elf_reader.specs.Faults.{first_fault}
 use Rattle.loaded_code.specs.Code.{is_code_word, image_word}
 use Rattle.board_config.specs.declared.board.Board.{Board}
 use Rattle.loaded_code.specs.Records.{reloc_at, counts}
-use Rattle.object_graph.specs.Sound.{is_meant, displacement, names_high}
-use Rattle.object_graph.specs.Fixed.{is_site_of, is_movable}
+use Rattle.sound_relocations.specs.Sound.{is_meant, displacement, names_high}
+use Rattle.movable_ranges.specs.Fixed.{is_site_of, is_movable}
+use Rattle.object_graph.specs.Sites.{is_site}
+use Rattle.object_graph.specs.Graphs.{gives_offset}
 
 -- two that are not the same share no byte
 abbrev pub ObjectsApart : Type 0
@@ -135,3 +137,17 @@ abbrev pub SitesApart : Type 0
 SitesApart =
     (v : PlainView) (board : Board) (i j : ℕ) → GivesSite v board i → GivesSite v board j
     → meets (reloc_at v i).at 4 (reloc_at v j).at 4 ≡ true → i ≡ j
+
+-- ---- one place a site
+
+-- one relocation gives a site of at most one object that may move
+abbrev pub OneObjectASite : Type 0
+OneObjectASite =
+    (v : PlainView) (board : Board) (home n home' n' j : ℕ) → is_site v board home n j ≡ true → is_site v board home' n' j ≡ true
+    → (home ≡ home') × (n ≡ n')
+
+-- and of one place of it
+abbrev pub OneOffsetASite : Type 0
+OneOffsetASite =
+    (v : PlainView) (board : Board) (home n offset offset' j : ℕ) → is_movable v board home n ≡ true → gives_offset v home n offset j ≡ true → gives_offset v home n offset' j ≡ true
+    → offset ≡ offset'

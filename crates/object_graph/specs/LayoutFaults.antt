@@ -8,8 +8,8 @@ use Rattle.loaded_code.specs.Code.{is_code_range}
 use Rattle.loaded_code.specs.Records.{symbol_at}
 use Rattle.board_config.specs.declared.board.Board.{Board}
 use Rattle.board_config.specs.declared.board.Range.{Range}
-use Rattle.object_graph.specs.Ranges.{has_range}
-use Rattle.object_graph.specs.Fixed.{is_movable}
+use Rattle.object_ranges.specs.Ranges.{has_range}
+use Rattle.movable_ranges.specs.Fixed.{is_movable}
 use Rattle.object_graph.specs.Sites.{no_area}
 use Rattle.object_graph.specs.declared.fault.GraphFault.{GraphFault}
 use Rattle.object_graph.specs.declared.fault.GraphFault.TheVariants.{SpmOverlap, PatchOverlap, PatchFar, SpmMeetsPatch, SpmAtZero, NoArea, TooManyObjects}

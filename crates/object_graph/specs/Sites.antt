@@ -8,9 +8,9 @@ use Rattle.loaded_code.specs.Code.{is_code_range}
 use Rattle.loaded_code.specs.Records.{symbol_at, reloc_at}
 use Rattle.board_config.specs.declared.board.Board.{Board}
 use Rattle.board_config.specs.declared.board.Range.{Range}
-use Rattle.object_graph.specs.Ranges.{has_range, inside}
-use Rattle.object_graph.specs.Sound.{is_sound_word}
-use Rattle.object_graph.specs.Fixed.{leads_to, is_site_of, is_movable}
+use Rattle.object_ranges.specs.Ranges.{has_range, inside}
+use Rattle.sound_relocations.specs.Sound.{is_sound_word}
+use Rattle.movable_ranges.specs.Fixed.{leads_to, is_site_of, is_movable}
 
 -- relocation `j` gives a site of the object of `n` bytes at `home`, which may move
 abbrev pub is_site : PlainView → Board → ℕ → ℕ → ℕ → Bool

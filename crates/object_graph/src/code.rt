@@ -7,13 +7,8 @@ ghost use Rattle.object_graph.specs.CodeRanges.{section_range, code_ranges_of};
 
 use board_config::Range;
 use elf_reader::{ElfView, Section};
+use loaded_code::is_code_range;
 use std::alloc::{AllocError, Global};
-
-/// `sh_type` of a section with content (ELF, "Sections": `SHT_PROGBITS`).
-const SHT_PROGBITS: u32 = 1;
-
-/// The bit of `sh_flags` that an executable section has (ELF, "Sections": `SHF_EXECINSTR`).
-const EXECINSTR_BIT: u32 = 2;
 
 /// The addresses of the code of a program, a range for each executable section with content that is loaded, in
 /// the order of the sections. A section of size 0 gives an empty range. `loaded` tells of each section whether
@@ -29,23 +24,6 @@ pub fn code_ranges(alloc: Global, view: &ElfView, loaded: &[bool]) -> Result<Vec
         }
     }
     Ok(ranges)
-}
-
-/// Section `k` is a code range.
-#[tactic(auto, using(crate::proofs::ViewLemmas::mark_stands, crate::proofs::ViewLemmas::mark_tells))]
-pub(crate) fn is_code_range(view: &ElfView, loaded: &[bool], k: usize) -> bool
-    requires loaded { loaded.now ≡ all_loaded (plain_view view.now) }
-    requires below { k < length view.now.sections.items }
-    ensures { result ≡ is_code_range (plain_view view.now) k }
-{
-    loaded[k] && is_executable(&view.sections[k])
-}
-
-/// A section has content and is executable.
-fn is_executable(section: &Section) -> bool
-    ensures { result ≡ ((section.now.kind == 1) && bit_of section.now.flags 2) }
-{
-    section.kind == SHT_PROGBITS && (section.flags >> EXECINSTR_BIT) & 1 == 1
 }
 
 /// The addresses of a section.

@@ -1,4 +1,4 @@
-ghost use Rattle.object_graph.specs.Laws.{ObjectsApart, ObjectsOffCode, DataOffCode, DataWordsLead, HighSitesLead, LowSitesLead, LowStoresLead, PairedSitesLead, SitesApart};
+ghost use Rattle.object_graph.specs.Laws.{ObjectsApart, ObjectsOffCode, DataOffCode, DataWordsLead, HighSitesLead, LowSitesLead, LowStoresLead, PairedSitesLead, SitesApart, OneObjectASite, OneOffsetASite};
 
 /// Two objects that may move share no byte.
 pub fn objects_apart()
@@ -45,4 +45,14 @@ pub fn paired_sites_lead()
 /// No two relocations make the address of an object that may move at the same word.
 pub fn sites_apart()
     ensures { SitesApart }
+{}
+
+/// One relocation gives a site of at most one object that may move.
+pub fn one_object_a_site()
+    ensures { OneObjectASite }
+{}
+
+/// A site leads to one place of its object.
+pub fn one_offset_a_site()
+    ensures { OneOffsetASite }
 {}

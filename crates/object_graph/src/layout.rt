@@ -5,12 +5,12 @@ ghost use Rattle.elf_reader.specs.File.{plain_segment, plain_view};
 ghost use Rattle.loaded_code.specs.Marks.{all_loaded};
 ghost use Rattle.object_graph.specs.LayoutFaults.{segment_meets, spm_overlap_fault, patch_overlap_fault, has_code, least_below, greatest_below, span_of, patch_far_fault, spm_meets_patch_fault, spm_at_zero_fault, segment_lies_in, lies_in_area, no_area_fault, places_fault};
 
-use crate::code::{is_code_range, range_of};
+use crate::code::range_of;
 use crate::fault::GraphFault;
 use crate::ranges::{end, lies_in, meet, memory_of};
 use board_config::{Board, Range};
 use elf_reader::{ElfView, Segment};
-use loaded_code::loaded_sections;
+use loaded_code::{is_code_range, loaded_sections};
 use std::alloc::Global;
 
 /// How many bytes a jump reaches forwards (RISC-V Unprivileged ISA, "Unconditional Jumps": JAL).
@@ -34,7 +34,7 @@ pub fn check_layout(alloc: Global, view: &ElfView, board: &Board) -> Result<(), 
 }
 
 /// The checks, where it is known which sections are loaded.
-fn check_places(view: &ElfView, board: &Board, loaded: &[bool]) -> Result<(), GraphFault>
+pub(crate) fn check_places(view: &ElfView, board: &Board, loaded: &[bool]) -> Result<(), GraphFault>
     requires { loaded.now ≡ all_loaded (plain_view view.now) }
     ensures { Tells result (places_fault (plain_view view.now) board.now) }
 {

@@ -1,28 +1,30 @@
-//! Which objects of a program may move, and where their addresses are made. So far: definitions and laws; the
-//! ranges of objects and which of them meet; and whether a program fits a board.
+//! The objects of a program that may move, where their addresses are made, and whether the program fits a board.
 #![tactic(auto)]
 
+mod building;
 mod code;
-mod extents;
 mod fault;
 mod laws;
 mod layout;
-mod overlaps;
+mod leads;
+mod lookups;
+mod objects;
+mod parts;
+mod places;
 mod ranges;
-mod symbol_ranges;
+mod sites;
+mod words;
 
+pub use building::graph;
 pub use code::code_ranges;
-pub use extents::Extent;
 pub use fault::GraphFault;
 pub use laws::{
     data_off_code, data_words_lead, high_sites_lead, low_sites_lead, low_stores_lead,
-    objects_apart, objects_off_code, paired_sites_lead, sites_apart,
+    objects_apart, objects_off_code, one_object_a_site, one_offset_a_site, paired_sites_lead,
+    sites_apart,
 };
 pub use layout::check_layout;
-pub use overlaps::overlapped;
-pub use symbol_ranges::object_ranges;
+pub use parts::{DataWord, Graph, Object, Site, SiteKind};
 
-#[cfg(test)]
-mod range_tests;
 #[cfg(test)]
 mod tests;

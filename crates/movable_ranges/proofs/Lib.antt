@@ -1,0 +1,8 @@
+pub mod ApartLemmas
+pub mod SoundLemmas
+pub mod NameLemmas
+pub mod StrayLemmas
+pub mod LeadLemmas
+pub mod SiteLemmas
+pub mod UnmarkedLemmas
+pub mod MarkLemmas

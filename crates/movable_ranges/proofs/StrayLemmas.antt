@@ -1,0 +1,46 @@
+-- That a relocation strays into some object of a section just where the range of some symbol of it is hit.
+use Rattle.std.proofs.Common.{◌≡◌, ◌∙◌, ℕ, ◌==◌, Bool, true, false, ◌&&◌, ◌||◌, length, ap}
+use Rattle.index_tests.specs.Tests.{any_below}
+use Rattle.index_tests.proofs.TestLemmas.{both, same_tests, any_found, any_at}
+use Rattle.elf_reader.specs.File.{PlainView}
+use Rattle.loaded_code.specs.Records.{symbol_at, reloc_at, counts, symbol_of, target}
+use Rattle.object_ranges.specs.Ranges.{has_range, inside}
+use Rattle.object_ranges.proofs.ExtentLemmas.{both_made}
+use Rattle.movable_ranges.specs.Fixed.{is_stray, is_strayed_into, strays_into}
+use Rattle.movable_ranges.specs.Strays.{strays_by, is_hit, is_hit_in}
+
+hit_strays : (v : PlainView) (s : ℕ) → any_below (is_hit_in v s) (length v.symbols) ≡ true → any_below (strays_into v s) (length v.relocs) ≡ true
+hit_strays v s found =
+    let (k, below, hit) = any_found (is_hit_in v s) (length v.symbols) found in
+    let t = symbol_at v k in
+    let last = both (has_range v t && is_hit v t.value t.size) (t.section == s) hit in
+    let first = both (has_range v t) (is_hit v t.value t.size) last.0 in
+    let (i, within, strays) = any_found (strays_by v (inside t.value t.size)) (length v.relocs) first.1 in
+    let r = reloc_at v i in
+    let leads = inside t.value t.size (symbol_of v r).value || inside t.value t.size (target v r) in
+    let parts = both (counts v r && is_stray v (symbol_of v r)) leads strays in
+    let owned = both_made (has_range v t) (t.section == s) first.0 last.1 in
+    let into = both_made (has_range v t && (t.section == s)) leads owned parts.1 in
+    let some = any_at (is_strayed_into v s r) (length v.symbols) k below into in
+    any_at (strays_into v s) (length v.relocs) i within (both_made (counts v r && is_stray v (symbol_of v r)) (any_below (is_strayed_into v s r) (length v.symbols)) parts.0 some)
+
+strays_hit : (v : PlainView) (s : ℕ) → any_below (strays_into v s) (length v.relocs) ≡ true → any_below (is_hit_in v s) (length v.symbols) ≡ true
+strays_hit v s found =
+    let (i, within, strays) = any_found (strays_into v s) (length v.relocs) found in
+    let r = reloc_at v i in
+    let outer = both (counts v r && is_stray v (symbol_of v r)) (any_below (is_strayed_into v s r) (length v.symbols)) strays in
+    let (k, below, into) = any_found (is_strayed_into v s r) (length v.symbols) outer.1 in
+    let t = symbol_at v k in
+    let leads = inside t.value t.size (symbol_of v r).value || inside t.value t.size (target v r) in
+    let parts = both (has_range v t && (t.section == s)) leads into in
+    let owned = both (has_range v t) (t.section == s) parts.0 in
+    let by = both_made (counts v r && is_stray v (symbol_of v r)) leads outer.0 parts.1 in
+    let hit = any_at (strays_by v (inside t.value t.size)) (length v.relocs) i within by in
+    any_at (is_hit_in v s) (length v.symbols) k below (both_made (has_range v t && is_hit v t.value t.size) (t.section == s) (both_made (has_range v t) (is_hit v t.value t.size) owned.0 hit) owned.1)
+
+pub strayed_is : (v : PlainView) (s : ℕ) → any_below (is_hit_in v s) (length v.symbols) ≡ any_below (strays_into v s) (length v.relocs)
+strayed_is v s = same_tests _ _ (hit_strays v s) (strays_hit v s)
+
+pub strayed_by : (v : PlainView) (s : ℕ) (new old : Bool) → new ≡ (old || any_below (is_hit_in v s) (length v.symbols)) → old ≡ false → new ≡ any_below (strays_into v s) (length v.relocs)
+strayed_by v s new old adds none =
+    adds ∙ ap (λ (b : Bool). b || any_below (is_hit_in v s) (length v.symbols)) none ∙ strayed_is v s

@@ -1,0 +1,10 @@
+use Rattle.std.proofs.Common.{◌≡◌, ℕ, Bool}
+use Rattle.std.specs.List.{list_any}
+use Rattle.index_tests.specs.Tests.{any_below}
+use Rattle.elf_reader.specs.File.{plain_view}
+use Rattle.movable_ranges.specs.Strays.{strays_by}
+use Rattle.movable_ranges.proofs.straying.stray_addresses.Given as goal
+
+abbrev pub invariant-loop-i : goal.invariant-loop-i
+invariant-loop-i l =
+    (test : ℕ → Bool) → list_any test l.strays.items ≡ any_below (strays_by (plain_view l.view) test) l.i

@@ -1,0 +1,18 @@
+use Rattle.elf_reader.specs.File.{plain_view}
+use Rattle.object_ranges.proofs.ExtentLemmas.{ok_then}
+use Rattle.movable_ranges.proofs.UnmarkedLemmas.{kept_still_apart, kept_filled, movable_kept}
+use Rattle.movable_ranges.proofs.top.movable_ranges.Goals as goal
+
+pub returns-clause-apart : goal.returns-clause-apart
+returns-clause-apart c =
+    ok_then c.unmarked.result _ _ (λ kept made. kept_still_apart c.in_ok-apart.apart.items c.deref-2.result.now kept.items c.deref-3.result.now c.deref-2.ensures.value made c.in_ok-apart.ensures.apart) c.unmarked.ensures
+
+pub returns-clause-exact : goal.returns-clause-exact
+returns-clause-exact c =
+    let ranges = c.in_ok-apart.apart.items in
+    let marks = c.in_ok-stuck.stuck.items in
+    ok_then c.unmarked.result _ _ (λ kept made home n. movable_kept (plain_view c.args.view.now) c.args.board.now ranges c.deref.result.now c.deref-2.result.now kept.items marks c.deref-3.result.now home n c.deref.ensures.value c.deref-2.ensures.value c.deref-3.ensures.value made c.in_ok-apart.ensures.exact c.in_ok-stuck.ensures) c.unmarked.ensures
+
+pub returns-clause-filled : goal.returns-clause-filled
+returns-clause-filled c =
+    ok_then c.unmarked.result _ _ (λ kept made. kept_filled c.in_ok-apart.apart.items c.deref-2.result.now kept.items c.deref-3.result.now c.deref-2.ensures.value made c.in_ok-apart.ensures.filled) c.unmarked.ensures

@@ -1,0 +1,10 @@
+use Rattle.std.proofs.Common.{◌≡◌, ℕ, Bool}
+use Rattle.std.specs.List.{count_by}
+use Rattle.sorted_numbers.specs.Sorted.{count_below}
+use Rattle.elf_reader.specs.File.{plain_view}
+use Rattle.movable_ranges.specs.Shares.{gives_by}
+use Rattle.movable_ranges.proofs.words.site_addresses.Given as goal
+
+abbrev pub invariant-loop-j : goal.invariant-loop-j
+invariant-loop-j l =
+    (test : ℕ → Bool) → count_by test l.sites.items ≡ count_below (gives_by (plain_view l.view) test) l.j

@@ -1,0 +1,12 @@
+pub use Rattle.elf_reader.specs.Loaded
+pub use Rattle.loaded_code.specs.Records
+pub use Rattle.object_ranges.specs.Ranges
+pub use Rattle.object_ranges.specs.Extents
+pub use Rattle.sound_relocations.specs.Sound
+pub use Rattle.sound_relocations.specs.Marks
+pub mod Fixed
+pub mod Apart
+pub mod Meant
+pub mod Strays
+pub mod Shares
+pub mod Rules

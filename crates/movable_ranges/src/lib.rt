@@ -1,0 +1,19 @@
+//! Which objects of a program may move.
+#![tactic(auto)]
+
+mod apart;
+mod cover;
+mod marks;
+mod meaning;
+mod naming;
+mod sharing;
+mod soundness;
+mod straying;
+mod top;
+mod words;
+
+pub use meaning::meant_range;
+pub use top::movable_ranges;
+
+#[cfg(test)]
+mod tests;

@@ -1,0 +1,95 @@
+ghost use Rattle.std.specs.Prelude.{◌≡◌, ℕ, ◌<◌, true, false, length, MatchOption};
+ghost use Rattle.elf_reader.specs.File.{plain_symbol, plain_view};
+ghost use Rattle.loaded_code.specs.Marks.{all_loaded};
+ghost use Rattle.loaded_code.specs.Records.{reloc_at, target};
+ghost use Rattle.object_ranges.specs.Ranges.{is_of};
+ghost use Rattle.object_ranges.specs.Extents.{extent_at, IsFilled};
+ghost use Rattle.sound_relocations.specs.Sound.{is_meant};
+ghost use Rattle.movable_ranges.specs.Apart.{IsApart, IsBelow, Finds};
+ghost use Rattle.movable_ranges.specs.Meant.{means_by};
+
+use crate::apart::{place_holding, place_of};
+use elf_reader::{ElfView, Reloc, Symbol};
+use loaded_code::target;
+use object_ranges::{Extent, has_range};
+
+/// The type of the symbols of sections (`STT_SECTION`).
+pub(crate) const STT_SECTION: u8 = 3;
+
+/// The range of a list that relocation `i` means, if it means one of them: the range of its symbol, or that
+/// in which its target lies if its symbol is that of a section. `loaded` are the marks of the loaded sections;
+/// the ranges ascend, share no byte, and have bytes.
+///
+/// The time grows with the logarithm of the number of ranges.
+pub fn meant_range(view: &ElfView, loaded: &[bool], ranges: &[Extent], i: usize) -> Option<usize>
+    requires marks { loaded.now ≡ all_loaded (plain_view view.now) }
+    requires apart { IsApart ranges.now }
+    requires filled { IsFilled ranges.now }
+    requires below { i < length view.now.relocs.items }
+    ensures { MatchOption result ((k : ℕ) → k < length ranges.now → is_meant (plain_view view.now) (extent_at ranges.now k).home (extent_at ranges.now k).size (reloc_at (plain_view view.now) i) ≡ false) (λ k. (k < length ranges.now) × (is_meant (plain_view view.now) (extent_at ranges.now k).home (extent_at ranges.now k).size (reloc_at (plain_view view.now) i) ≡ true)) }
+{
+    match place_meant(view, loaded, ranges, &view.relocs[i]) {
+        Some(k) => Some(k),
+        None => None,
+    }
+}
+
+/// The range that a relocation means.
+pub(crate) fn place_meant(
+    view: &ElfView,
+    loaded: &[bool],
+    ranges: &[Extent],
+    reloc: &Reloc,
+) -> Option<usize>
+    requires marks { loaded.now ≡ all_loaded (plain_view view.now) }
+    requires apart { IsApart ranges.now }
+    requires filled { IsFilled ranges.now }
+    ensures found { Finds (λ home n. is_meant (plain_view view.now) home n reloc.now) ranges.now result }
+    ensures below { IsBelow (length ranges.now) result }
+{
+    match view.symbols.get(reloc.symbol as usize) {
+        Some(symbol) => place_by_symbol(view, loaded, ranges, reloc, symbol),
+        None => None,
+    }
+}
+
+/// The range that a relocation with this symbol means.
+fn place_by_symbol(
+    view: &ElfView,
+    loaded: &[bool],
+    ranges: &[Extent],
+    reloc: &Reloc,
+    symbol: &Symbol,
+) -> Option<usize>
+    requires marks { loaded.now ≡ all_loaded (plain_view view.now) }
+    requires apart { IsApart ranges.now }
+    requires filled { IsFilled ranges.now }
+    ensures found { Finds (means_by (plain_view view.now) (plain_symbol symbol.now) (target (plain_view view.now) reloc.now)) ranges.now result }
+    ensures below { IsBelow (length ranges.now) result }
+{
+    if symbol.kind == STT_SECTION {
+        place_holding(ranges, target(view, reloc))
+    } else {
+        place_of_symbol(view, loaded, ranges, symbol)
+    }
+}
+
+/// The range of a symbol.
+pub(crate) fn place_of_symbol(
+    view: &ElfView,
+    loaded: &[bool],
+    ranges: &[Extent],
+    symbol: &Symbol,
+) -> Option<usize>
+    requires marks { loaded.now ≡ all_loaded (plain_view view.now) }
+    requires apart { IsApart ranges.now }
+    requires filled { IsFilled ranges.now }
+    ensures found { Finds (λ home n. is_of (plain_view view.now) home n (plain_symbol symbol.now)) ranges.now result }
+    ensures below { IsBelow (length ranges.now) result }
+{
+    if has_range(view, loaded, symbol) {
+        place_of(ranges, symbol.value, symbol.size)
+    } else {
+        None
+    }
+}

@@ -1,0 +1,150 @@
+ghost use Rattle.std.specs.Prelude.{◌≡◌, ℕ, ◌<◌, ◌==◌, ◌||◌, length};
+ghost use Rattle.index_tests.specs.Tests.{any_below};
+ghost use Rattle.elf_reader.specs.File.{plain_symbol, plain_view};
+ghost use Rattle.loaded_code.specs.Marks.{all_loaded};
+ghost use Rattle.object_ranges.specs.Ranges.{owner_of};
+ghost use Rattle.object_ranges.specs.Extents.{IsFilled};
+ghost use Rattle.movable_ranges.specs.Fixed.{is_listed_name, stands_in_zeros, has_listed_name, is_in_zeros, is_listed};
+ghost use Rattle.movable_ranges.specs.Apart.{IsApart, IsBelow, Finds, AddsRule};
+
+use crate::marks::mark;
+use crate::meaning::place_of_symbol;
+use board_config::Board;
+use elf_reader::{ElfView, Symbol};
+use object_ranges::Extent;
+
+/// The type of sections without content (`SHT_NOBITS`).
+const SHT_NOBITS: u32 = 8;
+
+/// Marks the ranges in sections without content, if the board doesn't let these move.
+pub(crate) fn mark_zeros(
+    marks: &mut [bool],
+    view: &ElfView,
+    board: &Board,
+    loaded: &[bool],
+    ranges: &[Extent],
+)
+    requires marks { loaded.now ≡ all_loaded (plain_view view.now) }
+    requires apart { IsApart ranges.now }
+    requires filled { IsFilled ranges.now }
+    requires len { length marks.old ≡ length ranges.now }
+    ensures adds { AddsRule (is_in_zeros (plain_view view.now) board.now) ranges.now marks.old marks.new }
+    ensures len { length marks.new ≡ length marks.old }
+{
+    if !board.bss_movable {
+        mark_all_zeros(marks, view, loaded, ranges);
+    }
+}
+
+/// Marks the ranges in sections without content.
+fn mark_all_zeros(marks: &mut [bool], view: &ElfView, loaded: &[bool], ranges: &[Extent])
+    requires marks { loaded.now ≡ all_loaded (plain_view view.now) }
+    requires apart { IsApart ranges.now }
+    requires filled { IsFilled ranges.now }
+    requires len { length marks.old ≡ length ranges.now }
+    ensures adds { AddsRule (λ home n. any_below (stands_in_zeros (plain_view view.now) home n) (length (plain_view view.now).symbols)) ranges.now marks.old marks.new }
+    ensures len { length marks.new ≡ length marks.old }
+{
+    for k in 0..view.symbols.len() {
+        mark(marks, place_in_zeros(view, loaded, ranges, k));
+    }
+}
+
+/// The range of symbol `k`, if it stands in a section without content.
+fn place_in_zeros(view: &ElfView, loaded: &[bool], ranges: &[Extent], k: usize) -> Option<usize>
+    requires marks { loaded.now ≡ all_loaded (plain_view view.now) }
+    requires apart { IsApart ranges.now }
+    requires filled { IsFilled ranges.now }
+    requires below { k < length view.now.symbols.items }
+    ensures found { Finds (λ home n. stands_in_zeros (plain_view view.now) home n k) ranges.now result }
+    ensures below { IsBelow (length ranges.now) result }
+{
+    let symbol = &view.symbols[k];
+    if owner_has_no_content(view, symbol) {
+        place_of_symbol(view, loaded, ranges, symbol)
+    } else {
+        None
+    }
+}
+
+/// The section of a symbol has no content.
+fn owner_has_no_content(view: &ElfView, symbol: &Symbol) -> bool
+    ensures { result ≡ ((owner_of (plain_view view.now) (plain_symbol symbol.now)).kind == 8) }
+{
+    match view.sections.get(symbol.section as usize) {
+        Some(section) => section.kind == SHT_NOBITS,
+        None => false,
+    }
+}
+
+/// Marks the ranges of which a name stands in the board's list, or that of their section.
+pub(crate) fn mark_listed(
+    marks: &mut [bool],
+    view: &ElfView,
+    board: &Board,
+    loaded: &[bool],
+    ranges: &[Extent],
+)
+    requires marks { loaded.now ≡ all_loaded (plain_view view.now) }
+    requires apart { IsApart ranges.now }
+    requires filled { IsFilled ranges.now }
+    requires len { length marks.old ≡ length ranges.now }
+    ensures adds { AddsRule (is_listed (plain_view view.now) board.now) ranges.now marks.old marks.new }
+    ensures len { length marks.new ≡ length marks.old }
+{
+    for k in 0..view.symbols.len() {
+        mark(marks, listed_place(view, board, loaded, ranges, k));
+    }
+}
+
+/// The range of symbol `k`, if its name or that of its section stands in the board's list.
+fn listed_place(
+    view: &ElfView,
+    board: &Board,
+    loaded: &[bool],
+    ranges: &[Extent],
+    k: usize,
+) -> Option<usize>
+    requires marks { loaded.now ≡ all_loaded (plain_view view.now) }
+    requires apart { IsApart ranges.now }
+    requires filled { IsFilled ranges.now }
+    requires below { k < length view.now.symbols.items }
+    ensures found { Finds (λ home n. has_listed_name (plain_view view.now) board.now home n k) ranges.now result }
+    ensures below { IsBelow (length ranges.now) result }
+{
+    let symbol = &view.symbols[k];
+    if has_listed_name(view, board, symbol) {
+        place_of_symbol(view, loaded, ranges, symbol)
+    } else {
+        None
+    }
+}
+
+/// The name of a symbol stands in the board's list, or that of its section.
+fn has_listed_name(view: &ElfView, board: &Board, symbol: &Symbol) -> bool
+    ensures { result ≡ (is_listed_name board.now symbol.now.name.now || is_listed_name board.now (owner_of (plain_view view.now) (plain_symbol symbol.now)).name) }
+{
+    is_listed_name(board, symbol.name) || is_listed_name(board, owner_name(view, symbol))
+}
+
+/// The name of the section of a symbol; empty where it has none.
+fn owner_name<'a>(view: &ElfView<'a>, symbol: &Symbol) -> &'a [u8]
+    ensures { result.now ≡ (owner_of (plain_view view.now) (plain_symbol symbol.now)).name }
+{
+    match view.sections.get(symbol.section as usize) {
+        Some(section) => section.name,
+        None => &[],
+    }
+}
+
+/// A name stands in the board's list.
+fn is_listed_name(board: &Board, name: &[u8]) -> bool
+    ensures { result ≡ is_listed_name board.now name.now }
+{
+    for listed in &board.fix {
+        if listed.as_bytes() == name {
+            return true;
+        }
+    }
+    false
+}

@@ -1,0 +1,151 @@
+ghost use Rattle.std.specs.Prelude.{◌≡◌, ℕ, ◌<◌, ◌&&◌, not, nat_le, length};
+ghost use Rattle.elf_reader.specs.File.{plain_view};
+ghost use Rattle.loaded_code.specs.Marks.{all_loaded};
+ghost use Rattle.loaded_code.specs.Records.{reloc_at, is_mute};
+ghost use Rattle.object_ranges.specs.Extents.{extent_at, IsFilled};
+ghost use Rattle.sound_relocations.specs.Marks.{all_sound};
+ghost use Rattle.sound_relocations.specs.Sound.{displacement, is_meant, is_sound_kind, is_sound_pair};
+ghost use Rattle.movable_ranges.specs.Fixed.{is_unsound_by, is_unsound};
+ghost use Rattle.movable_ranges.specs.Apart.{IsApart, IsBelow, Finds, AddsRule};
+ghost use Rattle.movable_ranges.specs.Meant.{is_direct, is_site_kind, leads_inside};
+
+use crate::marks::mark;
+use crate::meaning::place_meant;
+use elf_reader::{ElfView, Reloc};
+use loaded_code::{counts, target};
+use object_ranges::Extent;
+
+/// The kind of relocations of AUIPCs (`R_RISCV_PCREL_HI20`).
+const PCREL_HI20: u32 = 23;
+
+/// Marks the ranges that a relocation means that isn't sound.
+pub(crate) fn mark_unsound(
+    marks: &mut [bool],
+    view: &ElfView,
+    loaded: &[bool],
+    sound: &[bool],
+    ranges: &[Extent],
+)
+    requires marks { loaded.now ≡ all_loaded (plain_view view.now) }
+    requires sound { sound.now ≡ all_sound (plain_view view.now) }
+    requires apart { IsApart ranges.now }
+    requires filled { IsFilled ranges.now }
+    requires len { length marks.old ≡ length ranges.now }
+    ensures adds { AddsRule (is_unsound (plain_view view.now)) ranges.now marks.old marks.new }
+    ensures len { length marks.new ≡ length marks.old }
+{
+    for i in 0..view.relocs.len() {
+        mark(marks, unsound_place(view, loaded, sound, ranges, i));
+    }
+}
+
+/// The range that relocation `i` means, if it isn't sound.
+fn unsound_place(
+    view: &ElfView,
+    loaded: &[bool],
+    sound: &[bool],
+    ranges: &[Extent],
+    i: usize,
+) -> Option<usize>
+    requires marks { loaded.now ≡ all_loaded (plain_view view.now) }
+    requires sound { sound.now ≡ all_sound (plain_view view.now) }
+    requires apart { IsApart ranges.now }
+    requires filled { IsFilled ranges.now }
+    requires below { i < length view.now.relocs.items }
+    ensures found { Finds (λ home n. is_unsound_by (plain_view view.now) home n i) ranges.now result }
+    ensures below { IsBelow (length ranges.now) result }
+{
+    let reloc = &view.relocs[i];
+    if counts(view, loaded, reloc) && !is_mute(reloc.kind) {
+        misled_place(view, loaded, ranges, reloc, is_sound(view, sound, i))
+    } else {
+        None
+    }
+}
+
+/// The range that a relocation means, but for one into which or to whose end it leads by a sound kind.
+fn misled_place(
+    view: &ElfView,
+    loaded: &[bool],
+    ranges: &[Extent],
+    reloc: &Reloc,
+    is_sound: bool,
+) -> Option<usize>
+    requires marks { loaded.now ≡ all_loaded (plain_view view.now) }
+    requires apart { IsApart ranges.now }
+    requires filled { IsFilled ranges.now }
+    ensures found { Finds (λ home n. is_meant (plain_view view.now) home n reloc.now && not (nat_le (displacement (plain_view view.now) home reloc.now) n && is_sound)) ranges.now result }
+    ensures below { IsBelow (length ranges.now) result }
+{
+    match place_meant(view, loaded, ranges, reloc) {
+        Some(k) if !(leads_into(view, &ranges[k], reloc) && is_sound) => Some(k),
+        _ => None,
+    }
+}
+
+/// The range that a relocation means, if it leads into it or to its end.
+pub(crate) fn leading_place(
+    view: &ElfView,
+    loaded: &[bool],
+    ranges: &[Extent],
+    reloc: &Reloc,
+) -> Option<usize>
+    requires marks { loaded.now ≡ all_loaded (plain_view view.now) }
+    requires apart { IsApart ranges.now }
+    requires filled { IsFilled ranges.now }
+    ensures found { Finds (leads_inside (plain_view view.now) reloc.now) ranges.now result }
+    ensures below { IsBelow (length ranges.now) result }
+{
+    match place_meant(view, loaded, ranges, reloc) {
+        Some(k) if leads_into(view, &ranges[k], reloc) => Some(k),
+        _ => None,
+    }
+}
+
+/// A relocation leads into a range that it means, or to its end.
+fn leads_into(view: &ElfView, range: &Extent, reloc: &Reloc) -> bool
+    ensures { result ≡ nat_le (displacement (plain_view view.now) range.now.home reloc.now) range.now.size }
+{
+    target(view, reloc).wrapping_sub(range.home) <= range.size
+}
+
+/// Kinds that change nothing: NONE, ALIGN and RELAX (RISC-V psABI, "Relocations").
+fn is_mute(kind: u32) -> bool
+    ensures { result ≡ is_mute kind }
+{
+    matches!(kind, 0 | 43 | 51)
+}
+
+/// The kind of relocation `i` is sound.
+fn is_sound(view: &ElfView, sound: &[bool], i: usize) -> bool
+    requires sound { sound.now ≡ all_sound (plain_view view.now) }
+    requires below { i < length view.now.relocs.items }
+    ensures { result ≡ is_sound_kind (plain_view view.now) i }
+{
+    sound[i]
+}
+
+/// It is, and gives a site at the instruction that it changes.
+pub(crate) fn is_direct(view: &ElfView, sound: &[bool], i: usize) -> bool
+    requires sound { sound.now ≡ all_sound (plain_view view.now) }
+    requires below { i < length view.now.relocs.items }
+    ensures { result ≡ is_direct (plain_view view.now) i }
+{
+    is_sound(view, sound, i) && is_site_kind(view.relocs[i].kind)
+}
+
+/// The kinds that do: PCREL_HI20, HI20, LO12_I and LO12_S.
+fn is_site_kind(kind: u32) -> bool
+    ensures { result ≡ is_site_kind kind }
+{
+    matches!(kind, PCREL_HI20 | 26..=28)
+}
+
+/// It is, and it changes an AUIPC.
+pub(crate) fn is_pair(view: &ElfView, sound: &[bool], i: usize) -> bool
+    requires sound { sound.now ≡ all_sound (plain_view view.now) }
+    requires below { i < length view.now.relocs.items }
+    ensures { result ≡ is_sound_pair (plain_view view.now) (reloc_at (plain_view view.now) i) }
+{
+    is_sound(view, sound, i) && view.relocs[i].kind == PCREL_HI20
+}

@@ -1,0 +1,42 @@
+-- Sites and words of data that are the same.
+use Rattle.std.proofs.Common.{◌≡◌, ◌≢◌, ◌∙◌, ℕ, ◌<◌, ◌==◌, Bool, true, ◌&&◌, List, length, get_or, refl, sym, ap, arith}
+use Rattle.std.proofs.lemmas.Bool.{eqb-true, eq-eqb}
+use Rattle.std.proofs.lemmas.List.{get_or_default}
+use Rattle.index_tests.proofs.TestLemmas.{both}
+use Rattle.object_graph.specs.declared.parts.Site.{Site}
+use Rattle.object_graph.specs.declared.parts.DataWord.{DataWord}
+use Rattle.object_graph.specs.Graphs.{same_part, same_site, same_word}
+use Rattle.object_graph.specs.Gathered.{site_place, word_place}
+use Rattle.object_graph.proofs.GivenLemmas.{same_as_itself}
+
+pub site_alike : (s t : Site) → same_site s t ≡ true → site_place s ≡ site_place t
+site_alike s t same =
+    let third = both ((s.at == t.at) && same_part s.kind t.kind && (s.object == t.object)) (s.offset == t.offset) same in
+    let second = both ((s.at == t.at) && same_part s.kind t.kind) (s.object == t.object) third.0 in
+    eqb-true s.at t.at (both (s.at == t.at) (same_part s.kind t.kind) second.0).0
+
+pub word_alike : (d e : DataWord) → same_word d e ≡ true → word_place d ≡ word_place e
+word_alike d e same =
+    let second = both ((d.at == e.at) && (d.object == e.object)) (d.offset == e.offset) same in
+    eqb-true d.at e.at (both (d.at == e.at) (d.object == e.object) second.0).0
+
+four_true : (a b c d : Bool) → a ≡ true → b ≡ true → c ≡ true → d ≡ true → a && b && c && d ≡ true
+four_true a b c d first second third last = grind (arith, first, second, third, last)
+
+three_true : (a b c : Bool) → a ≡ true → b ≡ true → c ≡ true → a && b && c ≡ true
+three_true a b c first second third = grind (arith, first, second, third)
+
+pub site_itself : (s : Site) → same_site s s ≡ true
+site_itself s =
+    four_true (s.at == s.at) (same_part s.kind s.kind) (s.object == s.object) (s.offset == s.offset) (eq-eqb _ _ refl) (same_as_itself s.kind) (eq-eqb _ _ refl) (eq-eqb _ _ refl)
+
+pub word_itself : (d : DataWord) → same_word d d ≡ true
+word_itself d =
+    three_true (d.at == d.at) (d.object == d.object) (d.offset == d.offset) (eq-eqb _ _ refl) (eq-eqb _ _ refl) (eq-eqb _ _ refl)
+
+-- the address of an element, read with any default
+pub site_alike_read : (xs : List Site) (k a : ℕ) (d e : Site) → k < length xs → (get_or xs k d).at ≢ a → site_place (get_or xs k e) ≢ a
+site_alike_read xs k a d e below other same = other (ap site_place (get_or_default xs k d e below) ∙ same)
+
+pub word_alike_read : (xs : List DataWord) (k a : ℕ) (d e : DataWord) → k < length xs → (get_or xs k d).at ≢ a → word_place (get_or xs k e) ≢ a
+word_alike_read xs k a d e below other same = other (ap word_place (get_or_default xs k d e below) ∙ same)

@@ -1,0 +1,10 @@
+use Rattle.elf_reader.specs.File.{plain_view}
+use Rattle.object_graph.specs.Graphs.{same_site}
+use Rattle.object_graph.specs.Gathered.{HasGiven, AreSeparate, gives_high, site_place}
+use Rattle.object_graph.proofs.sites.high_sites.Given as goal
+
+abbrev pub invariant-loop-i : goal.invariant-loop-i
+invariant-loop-i l = record {
+  exact : HasGiven same_site (gives_high (plain_view l.view) l.ranges) l.sites.items l.i;
+  apart : AreSeparate site_place l.sites.items;
+}

@@ -1,0 +1,123 @@
+ghost use Rattle.std.specs.Prelude.{◌≡◌, ℕ, ◌≤◌, nat_le, length, map, IfOk};
+ghost use Rattle.std.specs.List.{All};
+ghost use Rattle.fault_order.specs.First.{Tells, TellsUnless, unless};
+ghost use Rattle.elf_reader.specs.File.{plain_view};
+ghost use Rattle.loaded_code.specs.Marks.{all_loaded};
+ghost use Rattle.loaded_code.specs.Read.{IsRead};
+ghost use Rattle.sound_relocations.specs.Marks.{all_sound};
+ghost use Rattle.object_graph.specs.declared.fault.GraphFault.TheVariants.{TooManyObjects};
+ghost use Rattle.object_graph.specs.LayoutFaults.{capped, too_many_fault, layout_fault};
+ghost use Rattle.object_graph.specs.Graphs.{IsGraph};
+ghost use Rattle.object_graph.specs.Gathered.{AreMovableOf};
+
+use crate::code::code_ranges;
+use crate::fault::GraphFault;
+use crate::layout::check_places;
+use crate::objects::objects;
+use crate::parts::Graph;
+use crate::sites::sites;
+use crate::words::data_words;
+use board_config::Board;
+use elf_reader::ElfView;
+use loaded_code::loaded_sections;
+use movable_ranges::movable_ranges;
+use object_ranges::Extent;
+use sound_relocations::sound_kinds;
+use std::alloc::{AllocError, Global};
+
+/// How many objects may move at most.
+const MAX_OBJECTS: usize = 4096;
+
+/// The graph of a file and a board: the objects that may move, where their addresses are made, and the code.
+///
+/// The error is the first check that fails, in this order: no segment meets the scratchpad (`SpmOverlap`), and
+/// none the patch range (`PatchOverlap`); the code and the patch range span at most 2^20 bytes (`PatchFar`); the
+/// scratchpad and the patch range are apart (`SpmMeetsPatch`); the scratchpad begins at address 16 or above
+/// (`SpmAtZero`); each segment that has memory lies in main or in one area (`NoArea`); at most 4,096 objects may
+/// move (`TooManyObjects`). `Memory` comes only where no memory was left.
+///
+/// The time grows with n log n, where n is the number of symbols and relocations.
+pub fn graph(alloc: Global, view: &ElfView, board: &Board) -> Result<Graph, GraphFault>
+    requires { IsRead view.now }
+    ensures fault { TellsUnless GraphFault.Memory result (layout_fault (plain_view view.now) board.now) }
+    ensures graph { IfOk result (IsGraph (plain_view view.now) board.now) }
+{
+    let loaded = loaded_sections(alloc, view)?;
+    check_places(view, board, &loaded)?;
+    build(alloc, view, board, &loaded)
+}
+
+/// The graph of a program that lies where it may.
+fn build(alloc: Global, view: &ElfView, board: &Board, loaded: &[bool]) -> Result<Graph, GraphFault>
+    requires read { IsRead view.now }
+    requires marks { loaded.now ≡ all_loaded (plain_view view.now) }
+    ensures fault { TellsUnless GraphFault.Memory result (too_many_fault (plain_view view.now) board.now) }
+    ensures graph { IfOk result (IsGraph (plain_view view.now) board.now) }
+{
+    let sound = sound_kinds(alloc, view, loaded)?;
+    let ranges = movable_ranges(alloc, view, board, loaded, &sound)?;
+    gather_few(alloc, view, board, loaded, &sound, &ranges)
+}
+
+/// The graph of the objects of these ranges, if they are few enough.
+fn gather_few(
+    alloc: Global,
+    view: &ElfView,
+    board: &Board,
+    loaded: &[bool],
+    sound: &[bool],
+    ranges: &[Extent],
+) -> Result<Graph, GraphFault>
+    requires read { IsRead view.now }
+    requires marks { loaded.now ≡ all_loaded (plain_view view.now) }
+    requires sound { sound.now ≡ all_sound (plain_view view.now) }
+    requires movable { AreMovableOf (plain_view view.now) board.now ranges.now }
+    ensures fault { TellsUnless GraphFault.Memory result (too_many_fault (plain_view view.now) board.now) }
+    ensures graph { IfOk result (IsGraph (plain_view view.now) board.now) }
+{
+    match check_count(ranges) {
+        Ok(()) => Ok(gather(alloc, view, board, loaded, sound, ranges)?),
+        Err(fault) => Err(fault),
+    }
+}
+
+/// At most 4,096 objects may move.
+fn check_count(ranges: &[Extent]) -> Result<(), GraphFault>
+    ensures { Tells result (unless (nat_le (length ranges.now) 4096) (TooManyObjects (capped (length ranges.now)))) }
+{
+    if ranges.len() > MAX_OBJECTS {
+        return Err(GraphFault::TooManyObjects {
+            count: u32::try_from(ranges.len()).unwrap_or(u32::MAX),
+        });
+    }
+    Ok(())
+}
+
+/// The graph of the objects of these ranges.
+fn gather(
+    alloc: Global,
+    view: &ElfView,
+    board: &Board,
+    loaded: &[bool],
+    sound: &[bool],
+    ranges: &[Extent],
+) -> Result<Graph, AllocError>
+    requires read { IsRead view.now }
+    requires marks { loaded.now ≡ all_loaded (plain_view view.now) }
+    requires sound { sound.now ≡ all_sound (plain_view view.now) }
+    requires movable { AreMovableOf (plain_view view.now) board.now ranges.now }
+    requires few { length ranges.now ≤ 4096 }
+    ensures { IfOk result (IsGraph (plain_view view.now) board.now) }
+{
+    let objects = objects(alloc, view, loaded, ranges)?;
+    let sites = sites(alloc, view, loaded, ranges, sound)?;
+    let data_words = data_words(alloc, view, loaded, ranges, sound)?;
+    let code = code_ranges(alloc, view, loaded)?;
+    Ok(Graph {
+        grain: board.grain,
+        objects,
+        sites,
+        data_words,
+        code,
+    })
+}

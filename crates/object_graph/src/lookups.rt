@@ -1,0 +1,87 @@
+ghost use Rattle.std.specs.Prelude.{◌≡◌, ℕ, ◌<◌, ◌==◌, true, false, ◌&&◌, length, MatchOption};
+ghost use Rattle.std.specs.List.{list_any};
+ghost use Rattle.object_graph.specs.declared.parts.Site.{Site};
+ghost use Rattle.object_graph.specs.declared.parts.DataWord.{DataWord};
+ghost use Rattle.object_ranges.specs.Ranges.{inside};
+ghost use Rattle.object_graph.specs.Graphs.{object_at, same_site, same_word};
+ghost use Rattle.object_graph.specs.Lookups.{AreLaidOut};
+ghost use Rattle.object_graph.specs.Gathered.{gives, AreInOrder, site_place, word_place};
+
+use crate::parts::{DataWord, Graph, Object, Site};
+
+impl Graph {
+    ghost use Rattle.std.specs.Prelude.{◌≡◌, ℕ, ◌<◌, ◌==◌, true, false, length, MatchOption};
+    ghost use Rattle.std.specs.List.{list_any};
+    ghost use Rattle.object_ranges.specs.Ranges.{inside};
+    ghost use Rattle.object_graph.specs.Graphs.{object_at, same_site, same_word};
+    ghost use Rattle.object_graph.specs.Lookups.{IsSomeGraph, stands_at, begins_at};
+
+    /// The number of the object that has the byte at `address`, if one has it.
+    pub fn object_at(&self, address: u32) -> Option<u32>
+        requires { IsSomeGraph self.now }
+        ensures { MatchOption result ((k : ℕ) → k < length self.now.objects.items → inside (object_at self.now.objects.items k).home (object_at self.now.objects.items k).size address ≡ false) (λ k. (k < length self.now.objects.items) × (inside (object_at self.now.objects.items k).home (object_at self.now.objects.items k).size address ≡ true)) }
+    {
+        find_object(&self.objects, address)
+    }
+
+    /// The site whose instruction stands at `address`, if there is one.
+    pub fn site_at(&self, address: u32) -> Option<Site>
+        requires { IsSomeGraph self.now }
+        ensures { MatchOption result (list_any (stands_at address) self.now.sites.items ≡ false) (λ s. (list_any (same_site s) self.now.sites.items ≡ true) × (s.at ≡ address)) }
+    {
+        find_site(&self.sites, address)
+    }
+
+    /// The word of data that begins at `address`, if there is one.
+    pub fn data_word_at(&self, address: u32) -> Option<DataWord>
+        requires { IsSomeGraph self.now }
+        ensures { MatchOption result (list_any (begins_at address) self.now.data_words.items ≡ false) (λ d. (list_any (same_word d) self.now.data_words.items ≡ true) × (d.at ≡ address)) }
+    {
+        find_word(&self.data_words, address)
+    }
+}
+
+/// The place of the object that has the byte at `address`, if one has it. The objects ascend, share no byte, and
+/// have bytes.
+fn find_object(objects: &[Object], address: u32) -> Option<u32>
+    requires { AreLaidOut objects.now }
+    ensures { MatchOption result ((k : ℕ) → k < length objects.now → inside (object_at objects.now k).home (object_at objects.now k).size address ≡ false) (λ k. (k < length objects.now) × (inside (object_at objects.now k).home (object_at objects.now k).size address ≡ true)) }
+{
+    let count = objects.partition_point(|object| object.home <= address);
+    if count == 0 || !has_byte(&objects[count - 1], address) {
+        return None;
+    }
+    Some((count - 1) as u32)
+}
+
+/// The byte at `address` is the object's.
+fn has_byte(object: &Object, address: u32) -> bool
+    ensures { result ≡ inside object.now.home object.now.size address }
+{
+    let end = u64::from(object.home) + u64::from(object.size);
+    object.home <= address && u64::from(address) < end
+}
+
+/// The site at `address`, if there is one. The sites stand by address, and no two meet.
+pub(crate) fn find_site(sites: &[Site], address: u32) -> Option<Site>
+    requires { AreInOrder site_place sites.now }
+    ensures { (s : Site) → gives same_site s result ≡ (list_any (same_site s) sites.now && (s.at == address)) }
+{
+    let place = sites.partition_point(|site| site.at < address);
+    if place == sites.len() || sites[place].at != address {
+        return None;
+    }
+    Some(sites[place])
+}
+
+/// The word of data at `address`, if there is one. The words stand by address, and no two meet.
+pub(crate) fn find_word(words: &[DataWord], address: u32) -> Option<DataWord>
+    requires { AreInOrder word_place words.now }
+    ensures { (d : DataWord) → gives same_word d result ≡ (list_any (same_word d) words.now && (d.at == address)) }
+{
+    let place = words.partition_point(|word| word.at < address);
+    if place == words.len() || words[place].at != address {
+        return None;
+    }
+    Some(words[place])
+}

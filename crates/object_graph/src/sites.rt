@@ -1,0 +1,264 @@
+ghost use Rattle.std.specs.Prelude.{◌≡◌, ℕ, ◌<◌, ◌≤◌, ◌==◌, Bool, true, ◌||◌, ◌++◌, length, IfOk};
+ghost use Rattle.std.specs.List.{list_any};
+ghost use Rattle.elf_reader.specs.File.{plain_view};
+ghost use Rattle.loaded_code.specs.Marks.{all_loaded};
+ghost use Rattle.loaded_code.specs.Records.{symbol_at, reloc_at};
+ghost use Rattle.sound_relocations.specs.Sound.{is_pair_low, is_sound_kind};
+ghost use Rattle.sound_relocations.specs.Marks.{all_sound};
+ghost use Rattle.object_graph.specs.declared.parts.SiteKind.{SiteKind};
+ghost use Rattle.object_graph.specs.declared.parts.Site.{Site};
+ghost use Rattle.object_graph.specs.Graphs.{makes_part, same_part, same_site};
+ghost use Rattle.object_graph.specs.Gathered.{listed, gives, GivesJust, AreSeparate, AreInOrder, AreMovable, gives_alone, gives_high, gives_low, is_site_in, site_place, AreHighs, AreSites};
+
+use crate::leads::lead_of;
+use crate::lookups::find_site;
+use crate::parts::{Site, SiteKind};
+use elf_reader::ElfView;
+use loaded_code::counts;
+use object_ranges::Extent;
+use std::alloc::{AllocError, Global};
+
+/// `R_RISCV_PCREL_HI20` (RISC-V psABI, "Relocations").
+const PCREL_HI20: u32 = 23;
+
+/// The sites of the objects of these ranges, by address. `loaded` and `sound` are the marks of the loaded
+/// sections and of the relocations of a sound kind. It fails only where no memory was left.
+///
+/// The time grows with n log n, where n is the number of relocations.
+pub(crate) fn sites(
+    alloc: Global,
+    view: &ElfView,
+    loaded: &[bool],
+    ranges: &[Extent],
+    sound: &[bool],
+) -> Result<Vec<Site>, AllocError>
+    requires marks { loaded.now ≡ all_loaded (plain_view view.now) }
+    requires sound { sound.now ≡ all_sound (plain_view view.now) }
+    requires movable { AreMovable (plain_view view.now) ranges.now }
+    requires few { length ranges.now ≤ 4096 }
+    ensures { IfOk result (λ sites. AreSites (plain_view view.now) ranges.now sites.items) }
+{
+    let highs = high_sites(alloc, view, loaded, ranges, sound)?;
+    let mut sites = Vec::new(alloc);
+    for i in 0..view.relocs.len() {
+        let site = site_of(view, loaded, ranges, sound, &highs, i);
+        push_site(&mut sites, site)?;
+    }
+    sort_sites(&mut sites);
+    Ok(sites)
+}
+
+/// The sites of the AUIPCs of pairs, by address.
+fn high_sites(
+    alloc: Global,
+    view: &ElfView,
+    loaded: &[bool],
+    ranges: &[Extent],
+    sound: &[bool],
+) -> Result<Vec<Site>, AllocError>
+    requires marks { loaded.now ≡ all_loaded (plain_view view.now) }
+    requires sound { sound.now ≡ all_sound (plain_view view.now) }
+    requires movable { AreMovable (plain_view view.now) ranges.now }
+    requires few { length ranges.now ≤ 4096 }
+    ensures { IfOk result (λ sites. AreHighs (plain_view view.now) ranges.now sites.items) }
+{
+    let mut sites = Vec::new(alloc);
+    for i in 0..view.relocs.len() {
+        let site = high_site(view, loaded, ranges, sound, i);
+        push_site(&mut sites, site)?;
+    }
+    sort_sites(&mut sites);
+    Ok(sites)
+}
+
+/// Adds a site, if there is one.
+fn push_site(sites: &mut Vec<Site>, site: Option<Site>) -> Result<(), AllocError>
+    ensures { IfOk result (λ _. sites.new.items ≡ sites.old.items ++ listed site) }
+{
+    if let Some(found) = site {
+        sites.push(found)?;
+    }
+    Ok(())
+}
+
+/// Puts sites, of which no two meet, in the order of their addresses.
+fn sort_sites(sites: &mut Vec<Site>)
+    requires { AreSeparate site_place sites.old.items }
+    ensures apart { AreInOrder site_place sites.new.items }
+    ensures same { (test : Site → Bool) → list_any test sites.new.items ≡ list_any test sites.old.items }
+{
+    sites.sort_unstable_by_key(|site| site.at);
+}
+
+/// The site that relocation `i` gives, if it gives one.
+fn site_of(
+    view: &ElfView,
+    loaded: &[bool],
+    ranges: &[Extent],
+    sound: &[bool],
+    highs: &[Site],
+    i: usize,
+) -> Option<Site>
+    requires marks { loaded.now ≡ all_loaded (plain_view view.now) }
+    requires sound { sound.now ≡ all_sound (plain_view view.now) }
+    requires movable { AreMovable (plain_view view.now) ranges.now }
+    requires few { length ranges.now ≤ 4096 }
+    requires highs { AreHighs (plain_view view.now) ranges.now highs.now }
+    requires below { i < length view.now.relocs.items }
+    ensures { GivesJust same_site (is_site_in (plain_view view.now) ranges.now) result i }
+{
+    if is_pair_low(view.relocs[i].kind) {
+        low_site(view, loaded, ranges, highs, i)
+    } else {
+        direct_site(view, loaded, ranges, sound, i)
+    }
+}
+
+/// The site that relocation `i` gives as the AUIPC of a pair.
+fn high_site(
+    view: &ElfView,
+    loaded: &[bool],
+    ranges: &[Extent],
+    sound: &[bool],
+    i: usize,
+) -> Option<Site>
+    requires marks { loaded.now ≡ all_loaded (plain_view view.now) }
+    requires sound { sound.now ≡ all_sound (plain_view view.now) }
+    requires movable { AreMovable (plain_view view.now) ranges.now }
+    requires few { length ranges.now ≤ 4096 }
+    requires below { i < length view.now.relocs.items }
+    ensures { GivesJust same_site (gives_high (plain_view view.now) ranges.now) result i }
+{
+    if view.relocs[i].kind == PCREL_HI20 {
+        direct_site(view, loaded, ranges, sound, i)
+    } else {
+        None
+    }
+}
+
+/// The site that relocation `i` gives by itself.
+fn direct_site(
+    view: &ElfView,
+    loaded: &[bool],
+    ranges: &[Extent],
+    sound: &[bool],
+    i: usize,
+) -> Option<Site>
+    requires marks { loaded.now ≡ all_loaded (plain_view view.now) }
+    requires sound { sound.now ≡ all_sound (plain_view view.now) }
+    requires movable { AreMovable (plain_view view.now) ranges.now }
+    requires few { length ranges.now ≤ 4096 }
+    requires below { i < length view.now.relocs.items }
+    ensures { GivesJust same_site (gives_alone (plain_view view.now) ranges.now) result i }
+{
+    let reloc = &view.relocs[i];
+    let Some(kind) = part_of(reloc.kind) else {
+        return None;
+    };
+    if !is_sound(view, sound, i) {
+        return None;
+    }
+    match lead_of(view, loaded, ranges, i) {
+        Some(lead) => Some(Site {
+            at: reloc.at,
+            kind,
+            object: lead.object,
+            offset: lead.offset,
+        }),
+        None => None,
+    }
+}
+
+/// The site that relocation `i` gives as the lower part of a pair, of which `highs` are the AUIPCs.
+fn low_site(
+    view: &ElfView,
+    loaded: &[bool],
+    ranges: &[Extent],
+    highs: &[Site],
+    i: usize,
+) -> Option<Site>
+    requires marks { loaded.now ≡ all_loaded (plain_view view.now) }
+    requires highs { AreHighs (plain_view view.now) ranges.now highs.now }
+    requires below { i < length view.now.relocs.items }
+    requires low { is_pair_low (reloc_at (plain_view view.now) i).kind ≡ true }
+    ensures { GivesJust same_site (gives_low (plain_view view.now) ranges.now) result i }
+{
+    let reloc = &view.relocs[i];
+    let Some(kind) = part_of(reloc.kind) else {
+        return None;
+    };
+    if !counts(view, loaded, reloc) {
+        return None;
+    }
+    match find_site(highs, symbol_value(view, reloc.symbol as usize)) {
+        Some(high) => Some(Site {
+            at: reloc.at,
+            kind,
+            object: high.object,
+            offset: high.offset,
+        }),
+        None => None,
+    }
+}
+
+/// The value of symbol `k`, and 0 behind the last.
+fn symbol_value(view: &ElfView, k: usize) -> u32
+    ensures { result ≡ (symbol_at (plain_view view.now) k).value }
+{
+    match view.symbols.get(k) {
+        Some(symbol) => symbol.value,
+        None => 0,
+    }
+}
+
+/// Relocation `i` is of a sound kind.
+pub(crate) fn is_sound(view: &ElfView, sound: &[bool], i: usize) -> bool
+    requires sound { sound.now ≡ all_sound (plain_view view.now) }
+    requires below { i < length view.now.relocs.items }
+    ensures { result ≡ is_sound_kind (plain_view view.now) i }
+{
+    sound[i]
+}
+
+/// Which part of an address a relocation of this kind makes, if it makes one.
+fn part_of(kind: u32) -> Option<SiteKind>
+    ensures { (part : SiteKind) → gives same_part part result ≡ makes_part part kind }
+{
+    if is_upper(kind) {
+        Some(SiteKind::Hi)
+    } else if is_lower(kind) {
+        Some(SiteKind::LowI)
+    } else if is_stored(kind) {
+        Some(SiteKind::LowS)
+    } else {
+        None
+    }
+}
+
+/// The upper part: PCREL_HI20 and HI20.
+fn is_upper(kind: u32) -> bool
+    ensures { result ≡ (kind == 26) || (kind == 23) }
+{
+    matches!(kind, 23 | 26)
+}
+
+/// The lower part in an ADDI or a load: PCREL_LO12_I and LO12_I.
+fn is_lower(kind: u32) -> bool
+    ensures { result ≡ (kind == 27) || (kind == 24) }
+{
+    matches!(kind, 24 | 27)
+}
+
+/// The lower part in a store: PCREL_LO12_S and LO12_S.
+fn is_stored(kind: u32) -> bool
+    ensures { result ≡ (kind == 28) || (kind == 25) }
+{
+    matches!(kind, 25 | 28)
+}
+
+/// The lower part of a pair: PCREL_LO12_I and PCREL_LO12_S.
+fn is_pair_low(kind: u32) -> bool
+    ensures { result ≡ is_pair_low kind }
+{
+    matches!(kind, 24 | 25)
+}

@@ -1,0 +1,95 @@
+ghost use Rattle.std.specs.Prelude.{◌≡◌, ◌<◌, ◌≤◌, Bool, ◌++◌, length, IfOk};
+ghost use Rattle.std.specs.List.{list_any};
+ghost use Rattle.elf_reader.specs.File.{plain_view};
+ghost use Rattle.loaded_code.specs.Marks.{all_loaded};
+ghost use Rattle.sound_relocations.specs.Marks.{all_sound};
+ghost use Rattle.object_graph.specs.declared.parts.DataWord.{DataWord};
+ghost use Rattle.object_graph.specs.Graphs.{same_word};
+ghost use Rattle.object_graph.specs.Gathered.{listed, GivesJust, AreSeparate, AreInOrder, AreMovable, is_word_in, word_place, AreWords};
+
+use crate::leads::lead_of;
+use crate::parts::DataWord;
+use crate::sites::is_sound;
+use elf_reader::ElfView;
+use object_ranges::Extent;
+use std::alloc::{AllocError, Global};
+
+/// `R_RISCV_32` (RISC-V psABI, "Relocations").
+const WORD: u32 = 1;
+
+/// The words of data that lead to the objects of these ranges, by address. `loaded` and `sound` are the marks
+/// of the loaded sections and of the relocations of a sound kind. It fails only where no memory was left.
+///
+/// The time grows with n log n, where n is the number of relocations.
+pub(crate) fn data_words(
+    alloc: Global,
+    view: &ElfView,
+    loaded: &[bool],
+    ranges: &[Extent],
+    sound: &[bool],
+) -> Result<Vec<DataWord>, AllocError>
+    requires marks { loaded.now ≡ all_loaded (plain_view view.now) }
+    requires sound { sound.now ≡ all_sound (plain_view view.now) }
+    requires movable { AreMovable (plain_view view.now) ranges.now }
+    requires few { length ranges.now ≤ 4096 }
+    ensures { IfOk result (λ words. AreWords (plain_view view.now) ranges.now words.items) }
+{
+    let mut words = Vec::new(alloc);
+    for i in 0..view.relocs.len() {
+        let word = word_of(view, loaded, ranges, sound, i);
+        push_word(&mut words, word)?;
+    }
+    sort_words(&mut words);
+    Ok(words)
+}
+
+/// Adds a word of data, if there is one.
+fn push_word(words: &mut Vec<DataWord>, word: Option<DataWord>) -> Result<(), AllocError>
+    ensures { IfOk result (λ _. words.new.items ≡ words.old.items ++ listed word) }
+{
+    if let Some(found) = word {
+        words.push(found)?;
+    }
+    Ok(())
+}
+
+/// Puts words, of which no two meet, in the order of their addresses.
+fn sort_words(words: &mut Vec<DataWord>)
+    requires { AreSeparate word_place words.old.items }
+    ensures apart { AreInOrder word_place words.new.items }
+    ensures same { (test : DataWord → Bool) → list_any test words.new.items ≡ list_any test words.old.items }
+{
+    words.sort_unstable_by_key(|word| word.at);
+}
+
+/// The word of data that relocation `i` gives, if it gives one.
+fn word_of(
+    view: &ElfView,
+    loaded: &[bool],
+    ranges: &[Extent],
+    sound: &[bool],
+    i: usize,
+) -> Option<DataWord>
+    requires marks { loaded.now ≡ all_loaded (plain_view view.now) }
+    requires sound { sound.now ≡ all_sound (plain_view view.now) }
+    requires movable { AreMovable (plain_view view.now) ranges.now }
+    requires few { length ranges.now ≤ 4096 }
+    requires below { i < length view.now.relocs.items }
+    ensures { GivesJust same_word (is_word_in (plain_view view.now) ranges.now) result i }
+{
+    let reloc = &view.relocs[i];
+    if reloc.kind != WORD {
+        return None;
+    }
+    if !is_sound(view, sound, i) {
+        return None;
+    }
+    let Some(lead) = lead_of(view, loaded, ranges, i) else {
+        return None;
+    };
+    Some(DataWord {
+        at: reloc.at,
+        object: lead.object,
+        offset: lead.offset,
+    })
+}

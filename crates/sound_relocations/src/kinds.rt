@@ -1,0 +1,68 @@
+// The kinds of relocations (RISC-V psABI, "Relocations").
+ghost use Rattle.std.specs.Prelude.{◌≡◌};
+ghost use Rattle.loaded_code.specs.Records.{is_mute, is_call_kind, is_half_kind, is_byte_kind, width_of};
+ghost use Rattle.sound_relocations.specs.Sound.{is_pair_low};
+
+pub(crate) const R_RISCV_32: u32 = 1;
+
+pub(crate) const R_RISCV_PCREL_HI20: u32 = 23;
+
+pub(crate) const R_RISCV_PCREL_LO12_I: u32 = 24;
+
+pub(crate) const R_RISCV_PCREL_LO12_S: u32 = 25;
+
+pub(crate) const R_RISCV_HI20: u32 = 26;
+
+pub(crate) const R_RISCV_LO12_I: u32 = 27;
+
+pub(crate) const R_RISCV_LO12_S: u32 = 28;
+
+/// NONE, ALIGN and RELAX, which change nothing.
+pub(crate) fn is_mute(kind: u32) -> bool
+    ensures { result ≡ is_mute kind }
+{
+    matches!(kind, 0 | 43 | 51)
+}
+
+/// CALL and CALL_PLT.
+pub(crate) fn is_call_kind(kind: u32) -> bool
+    ensures { result ≡ is_call_kind kind }
+{
+    matches!(kind, 18 | 19)
+}
+
+/// ADD16, SUB16 and SET16.
+fn is_half_kind(kind: u32) -> bool
+    ensures { result ≡ is_half_kind kind }
+{
+    matches!(kind, 34 | 38 | 55)
+}
+
+/// ADD8, SUB8, SUB6, SET6, SET8, SET_ULEB128 and SUB_ULEB128.
+fn is_byte_kind(kind: u32) -> bool
+    ensures { result ≡ is_byte_kind kind }
+{
+    matches!(kind, 33 | 37 | 52 | 53 | 54 | 60 | 61)
+}
+
+/// PCREL_LO12_I and PCREL_LO12_S.
+pub(crate) fn is_pair_low(kind: u32) -> bool
+    ensures { result ≡ is_pair_low kind }
+{
+    kind == R_RISCV_PCREL_LO12_I || kind == R_RISCV_PCREL_LO12_S
+}
+
+/// How many bytes a relocation of this kind changes.
+pub(crate) fn width_of(kind: u32) -> u32
+    ensures { result ≡ width_of kind }
+{
+    if is_call_kind(kind) {
+        8
+    } else if is_half_kind(kind) {
+        2
+    } else if is_byte_kind(kind) {
+        1
+    } else {
+        4
+    }
+}

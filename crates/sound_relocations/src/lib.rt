@@ -1,0 +1,16 @@
+//! Which relocations tell all that is to be known of how an address is made.
+#![tactic(auto)]
+
+mod fields;
+mod kinds;
+mod listing;
+mod lists;
+mod marks;
+mod pairs;
+mod standing;
+mod words;
+
+pub use marks::sound_kinds;
+
+#[cfg(test)]
+mod tests;

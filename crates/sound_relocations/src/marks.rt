@@ -1,0 +1,48 @@
+ghost use Rattle.std.specs.Prelude.{◌≡◌, ◌<◌, length, IfOk};
+ghost use Rattle.elf_reader.specs.File.{plain_view};
+ghost use Rattle.loaded_code.specs.Marks.{all_loaded};
+ghost use Rattle.loaded_code.specs.Read.{IsRead};
+ghost use Rattle.sound_relocations.specs.Sound.{is_sound_kind};
+ghost use Rattle.sound_relocations.specs.Marks.{all_sound};
+ghost use Rattle.sound_relocations.specs.Lists.{AreListsOf};
+
+use crate::listing::relocation_lists;
+use crate::lists::RelocationLists;
+use crate::pairs::{is_sound_high, is_sound_low, is_sound_pair};
+use crate::words::is_sound_word;
+use elf_reader::ElfView;
+use std::alloc::{AllocError, Global};
+
+/// Whether each relocation of a view tells all that is to be known of how its address is made, in the order
+/// of the relocations: a word of data that holds it, the instructions of its upper and its lower part, and
+/// pairs relative to an AUIPC (RISC-V psABI, "Absolute Addresses" and "PC-Relative Symbol Addresses").
+/// `loaded` are the marks of the loaded sections. It fails only where no memory was left.
+///
+/// The time grows with (s + r) log (s + r), where s and r are the numbers of symbols and relocations.
+pub fn sound_kinds(alloc: Global, view: &ElfView, loaded: &[bool]) -> Result<Vec<bool>, AllocError>
+    requires read { IsRead view.now }
+    requires marks { loaded.now ≡ all_loaded (plain_view view.now) }
+    ensures { IfOk result (λ marks. marks.items ≡ all_sound (plain_view view.now)) }
+{
+    let lists = relocation_lists(alloc, view, loaded)?;
+    let mut marks = Vec::new(alloc);
+    for i in 0..view.relocs.len() {
+        marks.push(is_sound_kind(view, loaded, &lists, i))?;
+    }
+    Ok(marks)
+}
+
+/// Relocation `i` is of a sound kind.
+fn is_sound_kind(view: &ElfView, loaded: &[bool], lists: &RelocationLists, i: usize) -> bool
+    requires read { IsRead view.now }
+    requires marks { loaded.now ≡ all_loaded (plain_view view.now) }
+    requires lists { AreListsOf (plain_view view.now) lists.now }
+    requires below { i < length view.now.relocs.items }
+    ensures { result ≡ is_sound_kind (plain_view view.now) i }
+{
+    let reloc = &view.relocs[i];
+    is_sound_word(view, loaded, lists, i)
+        || is_sound_high(view, loaded, reloc)
+        || is_sound_low(view, loaded, reloc)
+        || is_sound_pair(view, loaded, lists, i)
+}

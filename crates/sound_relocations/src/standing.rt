@@ -1,0 +1,88 @@
+ghost use Rattle.std.specs.Prelude.{◌≡◌, ◌<◌, true, false, length, MatchOption};
+ghost use Rattle.index_tests.specs.Tests.{any_below};
+ghost use Rattle.elf_reader.specs.File.{plain_view};
+ghost use Rattle.elf_reader.specs.Loaded.{is_loaded};
+ghost use Rattle.loaded_code.specs.Marks.{all_loaded};
+ghost use Rattle.loaded_code.specs.Code.{is_code_word, image_word};
+ghost use Rattle.loaded_code.specs.Read.{IsRead};
+ghost use Rattle.sound_relocations.specs.Sound.{holds_data};
+
+use elf_reader::ElfView;
+use loaded_code::{holds_code, word_in};
+
+/// `SHT_PROGBITS`: a section with content.
+const SHT_PROGBITS: u32 = 1;
+
+/// `SHF_EXECINSTR`, the bit of `sh_flags` for executable content.
+const EXECUTABLE_BIT: u32 = 2;
+
+/// The word of code at `address`, if one stands there.
+pub(crate) fn code_word(view: &ElfView, loaded: &[bool], address: u32) -> Option<u32>
+    requires read { IsRead view.now }
+    requires marks { loaded.now ≡ all_loaded (plain_view view.now) }
+    ensures { MatchOption result (is_code_word (plain_view view.now) address ≡ false) (λ word. (is_code_word (plain_view view.now) address ≡ true) × (word ≡ image_word (plain_view view.now) address)) }
+{
+    if address % 4 != 0 {
+        return None;
+    }
+    for k in 0..view.sections.len() {
+        if holds_code(view, loaded, address, k) {
+            return Some(word_in(view, k, address));
+        }
+    }
+    None
+}
+
+/// The word of data at `address`, if a section holds it.
+pub(crate) fn data_word(view: &ElfView, loaded: &[bool], address: u32) -> Option<u32>
+    requires read { IsRead view.now }
+    requires marks { loaded.now ≡ all_loaded (plain_view view.now) }
+    ensures { MatchOption result (any_below (holds_data (plain_view view.now) address) (length (plain_view view.now).sections) ≡ false) (λ word. (any_below (holds_data (plain_view view.now) address) (length (plain_view view.now).sections) ≡ true) × (word ≡ image_word (plain_view view.now) address)) }
+{
+    for k in 0..view.sections.len() {
+        if holds_data(view, loaded, address, k) {
+            return Some(data_word_in(view, k, address));
+        }
+    }
+    None
+}
+
+/// The four bytes from `address` lie in section `k`, which is loaded, has content and holds no code.
+fn holds_data(view: &ElfView, loaded: &[bool], address: u32, k: usize) -> bool
+    requires marks { loaded.now ≡ all_loaded (plain_view view.now) }
+    requires below { k < length view.now.sections.items }
+    ensures { result ≡ holds_data (plain_view view.now) address k }
+{
+    let section = &view.sections[k];
+    let (start, at) = (u64::from(section.addr), u64::from(address));
+    is_loaded(view, loaded, k)
+        && section.kind == SHT_PROGBITS
+        && (section.flags >> EXECUTABLE_BIT) & 1 != 1
+        && start <= at
+        && at + 4 <= start + u64::from(section.size)
+}
+
+/// Section `k` is loaded, by the marks of the sections.
+fn is_loaded(view: &ElfView, loaded: &[bool], k: usize) -> bool
+    requires marks { loaded.now ≡ all_loaded (plain_view view.now) }
+    requires below { k < length view.now.sections.items }
+    ensures { result ≡ is_loaded (plain_view view.now) k }
+{
+    loaded[k]
+}
+
+/// The word at `address` when the program starts, which section `k` holds.
+fn data_word_in(view: &ElfView, k: usize, address: u32) -> u32
+    requires read { IsRead view.now }
+    requires holds { holds_data (plain_view view.now) address k ≡ true }
+    ensures { result ≡ image_word (plain_view view.now) address }
+{
+    let section = &view.sections[k];
+    let at = (address - section.addr) as usize;
+    u32::from_le_bytes([
+        section.bytes[at],
+        section.bytes[at + 1],
+        section.bytes[at + 2],
+        section.bytes[at + 3],
+    ])
+}
