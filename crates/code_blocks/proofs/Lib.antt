@@ -1,4 +1,11 @@
-pub mod LeaderLemmas
-pub mod MeaningLemmas
-pub mod WordLemmas
-pub mod EarlyLemmas
+pub mod ListLemmas
+pub mod RangeLemmas
+pub mod StepLemmas
+pub mod CountLemmas
+pub mod KeyLemmas
+pub mod KeptLemmas
+pub mod SweepLemmas
+pub mod OwnerLemmas
+pub mod TextLemmas
+pub mod NumberLemmas
+pub mod CodeLemmas

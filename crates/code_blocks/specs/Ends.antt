@@ -5,9 +5,9 @@ use Rattle.rv_decode.specs.Fields.{rd_of}
 use Rattle.elf_reader.specs.File.{PlainView}
 use Rattle.elf_reader.specs.Loaded.{section_at}
 use Rattle.loaded_code.specs.Code.{holds_code, image_word}
-use Rattle.code_blocks.specs.Words.{is_branch, is_jal, is_jalr, links, branch_target, jal_target, pair_target}
-use Rattle.code_blocks.specs.Meanings.{is_ebreak, has_meaning}
-use Rattle.code_blocks.specs.Leaders.{is_call_pair, is_leader}
+use Rattle.code_leaders.specs.Words.{is_branch, is_jal, is_jalr, links, branch_target, jal_target, pair_target}
+use Rattle.code_leaders.specs.Meanings.{is_ebreak, has_meaning}
+use Rattle.code_leaders.specs.Leaders.{is_call_pair, is_leader}
 use Rattle.code_blocks.specs.declared.ends.End.{End}
 use Rattle.code_blocks.specs.declared.ends.End.TheVariants.{Fall, Branch, Jump, Call, Tail, Indirect, Stop}
 

@@ -1,23 +1,32 @@
-//! The basic blocks of a program's code: so far where they begin, and which words mean an instruction.
+//! The basic blocks of a program's code, how they end, and its functions.
 #![tactic(auto)]
 
-mod code_ranges;
-mod code_words;
-mod early;
+mod building;
+mod candidates;
+mod edges;
 mod ends;
-mod fields;
-mod flow;
-mod laws;
-mod meanings;
-mod targets;
+mod fault;
+mod functions_kept;
+mod parts;
+mod ranges;
+mod steps;
+mod texts;
+mod walking;
 
-pub use code_ranges::{holds_code, is_code_range, is_code_word};
-pub use code_words::word_in;
-pub use early::early_leaders;
+pub use building::blocks;
 pub use ends::End;
-pub use laws::{indirect_leaders_are_leaders, leaders_are_code, meaning_is_decided};
-pub use meanings::{has_meaning, is_auipc, is_branch, is_ebreak, is_jal, is_jalr, links};
-pub use targets::{branch_target, jal_target, pair_target};
+pub use fault::CodeFault;
+pub use parts::{Block, Code, Function, Unit};
 
+#[cfg(test)]
+mod compiled_files;
+#[cfg(test)]
+mod compiled_tests;
+#[cfg(test)]
+mod program_checks;
+#[cfg(test)]
+mod program_files;
+#[cfg(test)]
+mod program_tests;
 #[cfg(test)]
 mod tests;

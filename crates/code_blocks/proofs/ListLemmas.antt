@@ -1,0 +1,68 @@
+-- Tests over lists of numbers.
+use Rattle.std.proofs.Common.{◌≡◌, ◌∙◌, inl, inr, ℕ, ◌<◌, ◌==◌, Bool, true, false, ◌||◌, List, [], ◌∷◌, map, length, slice_index_or, refl, sym, ap}
+use Rattle.std.specs.List.{list_any, dedup, Contains}
+use Rattle.std.proofs.Math.Dec.{eqb}
+use Rattle.std.proofs.lemmas.List.Kept.{Contains-from_dedup, Contains-dedup_nat}
+use Rattle.std.proofs.lemmas.Bool.{eqb-true, eq-eqb}
+use Rattle.std.proofs.lemmas.List.Folds.{list_any_at, Any-from_list_any}
+use Rattle.index_tests.proofs.TestLemmas.{either, same_tests}
+use Rattle.code_leaders.specs.Early.{has}
+
+-- a list passes a test where the list that it is made from passes the test of what is made
+pub any_map : {A B : Type 0} (f : A → B) (test : B → Bool) (xs : List A) → list_any test (map f xs) ≡ list_any (λ x. test (f x)) xs
+any_map f test [] = refl
+any_map f test (x ∷ xs) = ap (λ (b : Bool). test (f x) || b) (any_map f test xs)
+
+left_or : (a b : Bool) → a ≡ true → a || b ≡ true
+left_or true b is = refl
+left_or false b is = cc
+
+right_or : (a b : Bool) → b ≡ true → a || b ≡ true
+right_or true b is = refl
+right_or false b is = is
+
+pub has_first : (x : ℕ) (xs : List ℕ) → has (x ∷ xs) x ≡ true
+has_first x xs = left_or (x == x) (has xs x) (eq-eqb x x refl)
+
+pub has_later : (x : ℕ) (xs : List ℕ) (a : ℕ) → has xs a ≡ true → has (x ∷ xs) a ≡ true
+has_later x xs a found = right_or (a == x) (has xs a) found
+
+-- tests that are the same at each number of a list
+pub any_same_in : (t u : ℕ → Bool) (xs : List ℕ) → ((x : ℕ) → has xs x ≡ true → t x ≡ u x) → list_any t xs ≡ list_any u xs
+any_same_in t u [] same = refl
+any_same_in t u (x ∷ xs) same =
+    let here = same x (has_first x xs) in
+    let later = any_same_in t u xs (λ y found. same y (has_later x xs y found)) in
+    rw (here, later) refl
+
+-- a number of the list that passes
+pub any_in : (test : ℕ → Bool) (xs : List ℕ) (x : ℕ) → has xs x ≡ true → test x ≡ true → list_any test xs ≡ true
+any_in test [] x found passes = cc
+any_in test (y ∷ xs) x found passes =
+    elim (either (x == y) (has xs x) found) [
+      | inl here ↦ left_or (test y) (list_any test xs) (ap test (sym (eqb-true x y here)) ∙ passes)
+      | inr later ↦ right_or (test y) (list_any test xs) (any_in test xs x later passes)
+    ]
+
+-- the number at a place is in the list
+pub has_at : (xs : List ℕ) (k d : ℕ) → k < length xs → has xs (slice_index_or xs k d) ≡ true
+has_at xs k d below =
+    list_any_at (λ x. slice_index_or xs k d == x) xs k d below (eq-eqb (slice_index_or xs k d) (slice_index_or xs k d) refl)
+
+-- ---- a list sorted, and with each number once
+
+contained : (test : ℕ → Bool) (xs : List ℕ) (x : ℕ) → Contains xs x → test x ≡ true → list_any test xs ≡ true
+contained test xs x (k, below, here) passes = list_any_at test xs k x below (ap test here ∙ passes)
+
+from_dedup : (test : ℕ → Bool) (xs : List ℕ) → list_any test (dedup eqb xs) ≡ true → list_any test xs ≡ true
+from_dedup test xs found =
+    let (k, x, below, here, passes) = Any-from_list_any test (dedup eqb xs) found in
+    contained test xs x (Contains-from_dedup eqb xs x (k, below, here)) passes
+
+into_dedup : (test : ℕ → Bool) (xs : List ℕ) → list_any test xs ≡ true → list_any test (dedup eqb xs) ≡ true
+into_dedup test xs found =
+    let (k, x, below, here, passes) = Any-from_list_any test xs found in
+    contained test (dedup eqb xs) x (Contains-dedup_nat xs x (k, below, here)) passes
+
+pub any_dedup : (test : ℕ → Bool) (xs : List ℕ) → list_any test (dedup eqb xs) ≡ list_any test xs
+any_dedup test xs = same_tests (list_any test (dedup eqb xs)) (list_any test xs) (from_dedup test xs) (into_dedup test xs)

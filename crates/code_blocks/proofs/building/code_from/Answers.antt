@@ -1,0 +1,11 @@
+use Rattle.std.proofs.Common.{refl}
+use Rattle.elf_reader.specs.File.{plain_view}
+use Rattle.code_blocks.proofs.CodeLemmas.{is_code}
+use Rattle.code_blocks.proofs.building.code_from.Goals as goal
+
+pub all_blocks-requires-clause-apart : goal.all_blocks-requires-clause-apart
+all_blocks-requires-clause-apart c = rw c.deref.ensures.value c.in_ok-functions.ensures.apart
+
+pub returns : goal.returns
+returns c =
+    is_code (plain_view c.args.view.now) c.args.leaders c.deref.result.now _ c.requires.leaders c.in_ok-functions.ensures c.deref.ensures.value c.in_ok-blocks.ensures.starts c.in_ok-blocks.ensures.blocks refl refl

@@ -1,0 +1,18 @@
+use Rattle.std.proofs.Common.{◌+◌, arith}
+use Rattle.elf_reader.specs.File.{plain_view}
+use Rattle.code_leaders.proofs.PairLemmas.{pair_is_code}
+use Rattle.code_blocks.proofs.RangeLemmas.{code_fits}
+use Rattle.code_blocks.proofs.steps.pair_end.Goals as goal
+
+pub overflow_add-address : goal.overflow_add-address
+overflow_add-address c =
+    let fits = code_fits c.args.view.now c.args.address c.requires.read (pair_is_code (plain_view c.args.view.now) c.args.address c.requires.pair).0 in
+    omega (arith, fits)
+
+pub code_word-second-requires-clause-code : goal.code_word-second-requires-clause-code
+code_word-second-requires-clause-code c = (pair_is_code (plain_view c.args.view.now) c.args.address c.requires.pair).1
+
+pub overflow_add-result : goal.overflow_add-result
+overflow_add-result c =
+    let fits = code_fits c.args.view.now (c.args.address + 4) c.requires.read (pair_is_code (plain_view c.args.view.now) c.args.address c.requires.pair).1 in
+    omega (arith, fits)

@@ -1,0 +1,9 @@
+use Rattle.std.proofs.Common.{◌≡◌, false}
+use Rattle.index_tests.specs.Tests.{any_below}
+use Rattle.elf_reader.specs.File.{plain_view}
+use Rattle.code_leaders.specs.Words.{passes_in}
+use Rattle.code_blocks.specs.Blocks.{is_any}
+use Rattle.code_blocks.proofs.texts.has_text.Given as goal
+
+abbrev pub invariant-loop-k : goal.invariant-loop-k
+invariant-loop-k l = any_below (passes_in (plain_view l.view) is_any) l.k ≡ false

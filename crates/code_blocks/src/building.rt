@@ -1,0 +1,154 @@
+ghost use Rattle.std.specs.Prelude.{◌≡◌, ◌^◌, ◌<◌, nat_le, min, length, map, IfOk};
+ghost use Rattle.std.specs.List.{All};
+ghost use Rattle.fault_order.specs.First.{◌or_else◌, unless, Tells, TellsUnless};
+ghost use Rattle.elf_reader.specs.File.{plain_view};
+ghost use Rattle.loaded_code.specs.Marks.{all_loaded};
+ghost use Rattle.loaded_code.specs.Code.{is_code_word};
+ghost use Rattle.loaded_code.specs.Read.{IsRead};
+ghost use Rattle.code_leaders.specs.Words.{any_code_word};
+ghost use Rattle.code_leaders.specs.AllLeaders.{IsLeaders};
+ghost use Rattle.code_blocks.specs.Blocks.{start_of, IsBlock, IsCode, is_any, block_count, code_fault};
+ghost use Rattle.code_blocks.specs.Kept.{AreKept, AreApart};
+
+use crate::fault::CodeFault;
+use crate::functions_kept::{function_of, kept_functions};
+use crate::parts::{Block, Code, Function};
+use crate::texts::has_text;
+use crate::walking::walk_from;
+use code_leaders::{Leaders, leaders};
+use elf_reader::ElfView;
+use loaded_code::{is_code_word, loaded_sections};
+use std::alloc::{AllocError, Global};
+
+/// The most blocks that a program may have.
+const MOST_BLOCKS: usize = 65_536;
+
+/// The blocks of a program's code, its functions, and the leaders that a jump to an address in a register may
+/// reach. A word that means no instruction refuses nothing: its block ends there.
+///
+/// The time grows with n log n, where n is the number of words of code, symbols and relocations, times the
+/// number of sections.
+pub fn blocks(alloc: Global, view: &ElfView) -> Result<Code, CodeFault>
+    requires { IsRead view.now }
+    ensures fault { TellsUnless CodeFault.Memory result (code_fault (plain_view view.now)) }
+    ensures code { IfOk result (IsCode (plain_view view.now)) }
+{
+    let loaded = loaded_sections(alloc, view)?;
+    check_entry(view, &loaded)?;
+    let leaders = leaders(alloc, view, &loaded)?;
+    check_count(view, &leaders)?;
+    match code_from(alloc, view, &loaded, leaders) {
+        Ok(code) => Ok(code),
+        Err(_) => Err(CodeFault::Memory),
+    }
+}
+
+/// There is code, and the entry is a word of it.
+fn check_entry(view: &ElfView, loaded: &[bool]) -> Result<(), CodeFault>
+    requires { loaded.now ≡ all_loaded (plain_view view.now) }
+    ensures { Tells result (unless (any_code_word (plain_view view.now) is_any) CodeFault.NoText or_else unless (is_code_word (plain_view view.now) (plain_view view.now).entry) CodeFault.EntryNotLeader) }
+{
+    if !has_text(view, loaded) {
+        return Err(CodeFault::NoText);
+    }
+    if !is_code_word(view, loaded, view.entry) {
+        return Err(CodeFault::EntryNotLeader);
+    }
+    Ok(())
+}
+
+/// There are not too many blocks.
+fn check_count(view: &ElfView, leaders: &Leaders) -> Result<(), CodeFault>
+    requires read { IsRead view.now }
+    requires leaders { IsLeaders (plain_view view.now) leaders.now }
+    ensures { Tells result (unless (nat_le (block_count (plain_view view.now)) 65536) (CodeFault.TooManyBlocks (min (block_count (plain_view view.now)) 4294967295))) }
+{
+    let count = count_blocks(view, leaders);
+    if count > MOST_BLOCKS {
+        return Err(CodeFault::TooManyBlocks {
+            count: u32::try_from(count).unwrap_or(u32::MAX),
+        });
+    }
+    Ok(())
+}
+
+/// How many blocks begin.
+fn count_blocks(view: &ElfView, leaders: &Leaders) -> usize
+    requires read { IsRead view.now }
+    requires leaders { IsLeaders (plain_view view.now) leaders.now }
+    ensures { result ≡ block_count (plain_view view.now) }
+{
+    leaders.all.len()
+}
+
+/// The code of which these are the leaders.
+fn code_from(
+    alloc: Global,
+    view: &ElfView,
+    loaded: &[bool],
+    leaders: Leaders,
+) -> Result<Code, AllocError>
+    requires read { IsRead view.now }
+    requires marks { loaded.now ≡ all_loaded (plain_view view.now) }
+    requires leaders { IsLeaders (plain_view view.now) leaders }
+    ensures { IfOk result (IsCode (plain_view view.now)) }
+{
+    let functions = kept_functions(alloc, view, loaded)?;
+    let blocks = all_blocks(alloc, view, loaded, &leaders, &functions)?;
+    Ok(Code {
+        functions,
+        blocks,
+        indirect: leaders.indirect,
+        entry: view.entry,
+    })
+}
+
+/// The block at each leader.
+fn all_blocks(
+    alloc: Global,
+    view: &ElfView,
+    loaded: &[bool],
+    leaders: &Leaders,
+    functions: &[Function],
+) -> Result<Vec<Block>, AllocError>
+    requires read { IsRead view.now }
+    requires marks { loaded.now ≡ all_loaded (plain_view view.now) }
+    requires leaders { IsLeaders (plain_view view.now) leaders.now }
+    requires apart { AreApart functions.now }
+    requires few { length functions.now < 2 ^ 32 }
+    ensures starts { IfOk result (λ blocks. map start_of blocks.items ≡ leaders.now.all.items) }
+    ensures blocks { IfOk result (λ blocks. All (IsBlock (plain_view view.now) functions.now) blocks.items) }
+{
+    let mut blocks = Vec::new(alloc);
+    for start in &leaders.all {
+        let block = block_from(alloc, view, loaded, leaders, functions, *start)?;
+        blocks.push(block)?;
+    }
+    Ok(blocks)
+}
+
+/// The block that begins at `start`.
+fn block_from(
+    alloc: Global,
+    view: &ElfView,
+    loaded: &[bool],
+    leaders: &Leaders,
+    functions: &[Function],
+    start: u32,
+) -> Result<Block, AllocError>
+    requires read { IsRead view.now }
+    requires marks { loaded.now ≡ all_loaded (plain_view view.now) }
+    requires leaders { IsLeaders (plain_view view.now) leaders.now }
+    requires apart { AreApart functions.now }
+    requires few { length functions.now < 2 ^ 32 }
+    ensures start { IfOk result (λ block. block.start ≡ start) }
+    ensures block { IfOk result (IsBlock (plain_view view.now) functions.now) }
+{
+    let walk = walk_from(alloc, view, loaded, leaders, start)?;
+    Ok(Block {
+        start,
+        units: walk.units,
+        end: walk.end,
+        function: function_of(functions, start),
+    })
+}

@@ -1,0 +1,30 @@
+use std::alloc::AllocError;
+use thiserror::Error;
+
+/// Why the code of a program can't be split into blocks, the first in this order.
+#[derive(Clone, Copy, Debug, PartialEq, Eq, Error)]
+pub enum CodeFault {
+    /// No code range has a word.
+    #[error("no word of code")]
+    NoText,
+    /// The entry isn't a word of code.
+    #[error("the entry is no word of code")]
+    EntryNotLeader,
+    /// More than 65,536 blocks begin.
+    #[error("{count} blocks")]
+    TooManyBlocks { count: u32 },
+    /// No memory was left.
+    #[error("out of memory")]
+    Memory,
+}
+
+impl From<AllocError> for CodeFault {
+    ghost use Rattle.std.specs.Prelude.{◌≡◌};
+    ghost use Rattle.code_blocks.specs.declared.fault.CodeFault.TheVariants.{Memory};
+
+    ghost from_gives = { λ _ fault. fault ≡ Memory };
+
+    fn from(_error: AllocError) -> CodeFault {
+        CodeFault::Memory
+    }
+}

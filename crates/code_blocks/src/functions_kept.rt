@@ -1,0 +1,91 @@
+ghost use Rattle.std.specs.Prelude.{◌≡◌, ℕ, ◌+◌, ◌++◌, ◌∷◌, [], ◌^◌, ◌<◌, ◌≤◌, nat_lt, true, false, length, map, IfOk, MatchOption, slice_index_or};
+ghost use Rattle.std.specs.List.{All, list_any};
+ghost use Rattle.elf_reader.specs.File.{plain_view};
+ghost use Rattle.loaded_code.specs.Marks.{all_loaded};
+ghost use Rattle.loaded_code.specs.Records.{symbol_at};
+ghost use Rattle.loaded_code.specs.Read.{IsRead};
+ghost use Rattle.code_blocks.specs.Blocks.{IsFunction, IsFunctionOf, name_of};
+ghost use Rattle.code_blocks.specs.Kept.{name_in, AreKeys, AreKept, AreApart};
+
+use crate::candidates::function_keys;
+use crate::parts::Function;
+use elf_reader::ElfView;
+use std::alloc::{AllocError, Global};
+
+/// The functions of a program, by start: of those that overlap the first, and of those that start together the
+/// largest.
+pub(crate) fn kept_functions(
+    alloc: Global,
+    view: &ElfView,
+    loaded: &[bool],
+) -> Result<Vec<Function>, AllocError>
+    requires read { IsRead view.now }
+    requires marks { loaded.now ≡ all_loaded (plain_view view.now) }
+    ensures { IfOk result (λ functions. AreKept (plain_view view.now) functions.items) }
+{
+    let keys = function_keys(alloc, view, loaded)?;
+    keep_apart(alloc, view, &keys)
+}
+
+/// Those functions, of all in their order, that meet no earlier one that is kept.
+fn keep_apart(alloc: Global, view: &ElfView, keys: &[u128]) -> Result<Vec<Function>, AllocError>
+    requires read { IsRead view.now }
+    requires keys { AreKeys (plain_view view.now) keys.now }
+    ensures { IfOk result (λ functions. AreKept (plain_view view.now) functions.items) }
+{
+    let mut functions = Vec::new(alloc);
+    let mut reach = 0;
+    for key in keys {
+        reach = keep(&mut functions, view, reach, name_in(*key))?;
+    }
+    Ok(functions)
+}
+
+/// The symbol in a key.
+fn name_in(key: u128) -> u32
+    ensures { result ≡ name_in key }
+{
+    (key % 0x1_0000_0000) as u32
+}
+
+/// Adds the function of symbol `name`, unless it begins before `reach`, the end of the last one. Gives the new
+/// end.
+fn keep(
+    functions: &mut Vec<Function>,
+    view: &ElfView,
+    reach: u64,
+    name: u32,
+) -> Result<u64, AllocError>
+    requires { name < length view.now.symbols.items }
+    ensures left { IfOk result (λ next. nat_lt (symbol_at (plain_view view.now) name).value reach ≡ true → (functions.new.items ≡ functions.old.items) × (next ≡ reach)) }
+    ensures kept { IfOk result (λ next. nat_lt (symbol_at (plain_view view.now) name).value reach ≡ false → (functions.new.items ≡ functions.old.items ++ record { name = name; start = (symbol_at (plain_view view.now) name).value; size = (symbol_at (plain_view view.now) name).size } ∷ []) × (next ≡ (symbol_at (plain_view view.now) name).value + (symbol_at (plain_view view.now) name).size)) }
+{
+    let symbol = &view.symbols[name as usize];
+    if u64::from(symbol.value) < reach {
+        return Ok(reach);
+    }
+    functions.push(Function {
+        name,
+        start: symbol.value,
+        size: symbol.size,
+    })?;
+    Ok(u64::from(symbol.value) + u64::from(symbol.size))
+}
+
+/// The function in whose range an address lies: its place among those that are kept.
+pub(crate) fn function_of(functions: &[Function], address: u32) -> Option<u32>
+    requires apart { AreApart functions.now }
+    requires few { length functions.now < 2 ^ 32 }
+    ensures { IsFunctionOf functions.now address result }
+{
+    let count = functions.partition_point(|function| function.start <= address);
+    if count == 0 {
+        return None;
+    }
+    let last = &functions[count - 1];
+    if address - last.start < last.size {
+        Some((count - 1) as u32)
+    } else {
+        None
+    }
+}

@@ -1,0 +1,49 @@
+ghost use Rattle.std.specs.Prelude.{◌≡◌, ℕ, ◌+◌, ◌-◌, ◌/◌, true, false, length, MatchOption};
+ghost use Rattle.index_tests.specs.Tests.{any_below};
+ghost use Rattle.fault_order.specs.First.{first_below};
+ghost use Rattle.elf_reader.specs.File.{plain_view};
+ghost use Rattle.elf_reader.specs.Loaded.{section_at};
+ghost use Rattle.loaded_code.specs.Marks.{all_loaded};
+ghost use Rattle.loaded_code.specs.Code.{holds_code, is_code_word, image_word};
+ghost use Rattle.loaded_code.specs.Read.{IsRead};
+ghost use Rattle.code_blocks.specs.Ends.{range_at};
+
+use elf_reader::ElfView;
+use loaded_code::{holds_code, word_in};
+
+/// The lowest code range that holds the word at `address`.
+pub(crate) fn lowest_range(view: &ElfView, loaded: &[bool], address: u32) -> Option<usize>
+    requires { loaded.now ≡ all_loaded (plain_view view.now) }
+    ensures first { result ≡ first_below (range_at (plain_view view.now) address) (length (plain_view view.now).sections) }
+    ensures holds { MatchOption result (any_below (holds_code (plain_view view.now) address) (length (plain_view view.now).sections) ≡ false) (λ k. holds_code (plain_view view.now) address k ≡ true) }
+{
+    for k in 0..view.sections.len() {
+        if holds_code(view, loaded, address, k) {
+            return Some(k);
+        }
+    }
+    None
+}
+
+/// How many words code range `k` has from `address` on, where it holds one.
+pub(crate) fn words_from(view: &ElfView, k: usize, address: u32) -> u32
+    requires read { IsRead view.now }
+    requires holds { holds_code (plain_view view.now) address k ≡ true }
+    ensures { result ≡ ((section_at (plain_view view.now) k).addr + (section_at (plain_view view.now) k).size - address) / 4 }
+{
+    let section = &view.sections[k];
+    (section.addr + section.size - address) / 4
+}
+
+/// The word of code at `address`.
+pub(crate) fn code_word(view: &ElfView, loaded: &[bool], address: u32) -> u32
+    requires read { IsRead view.now }
+    requires marks { loaded.now ≡ all_loaded (plain_view view.now) }
+    requires code { is_code_word (plain_view view.now) address ≡ true }
+    ensures { result ≡ image_word (plain_view view.now) address }
+{
+    match lowest_range(view, loaded, address) {
+        Some(k) => word_in(view, k, address),
+        None => 0,
+    }
+}

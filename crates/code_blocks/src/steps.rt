@@ -1,0 +1,168 @@
+ghost use Rattle.std.specs.Prelude.{◌≡◌, ℕ, ◌+◌, ◌^◌, ◌<◌, true, if◌then◌else◌, MatchOption};
+ghost use Rattle.std.specs.List.Sorted.{IsStrictlyIncreasing};
+ghost use Rattle.word_bits.specs.Words.{offset};
+ghost use Rattle.rv_decode.specs.Fields.{rd_of, j_immediate};
+ghost use Rattle.rv_decode.specs.Table.{Means, MeansNothing};
+ghost use Rattle.elf_reader.specs.File.{plain_view};
+ghost use Rattle.loaded_code.specs.Marks.{all_loaded};
+ghost use Rattle.loaded_code.specs.Code.{image_word};
+ghost use Rattle.loaded_code.specs.Read.{IsRead};
+ghost use Rattle.code_leaders.specs.Words.{links};
+ghost use Rattle.code_leaders.specs.Leaders.{is_call_pair};
+ghost use Rattle.code_leaders.specs.Early.{has};
+ghost use Rattle.code_leaders.specs.AllLeaders.{IsLeaders};
+ghost use Rattle.code_blocks.specs.Ends.{pair_end, jump_end};
+ghost use Rattle.code_blocks.specs.Steps.{end_behind};
+
+use crate::ends::End;
+use crate::parts::Unit;
+use crate::ranges::code_word;
+use code_leaders::{
+    Leaders, branch_target, has_meaning, is_branch, is_ebreak, is_jal, is_jalr, jal_target, links,
+    pair_target,
+};
+use elf_reader::ElfView;
+use rv_decode::decode;
+
+/// The unit that `word` begins, which stands at `address`.
+pub(crate) fn unit_at(leaders: &Leaders, address: u32, word: u32) -> Unit
+    requires { IsStrictlyIncreasing leaders.now.pairs.items }
+    ensures at { result.at ≡ address }
+    ensures words { result.words ≡ (if has leaders.now.pairs.items address then 2 else 1) }
+    ensures raw { result.raw ≡ word }
+    ensures instr { MatchOption result.instr (MeansNothing word) (Means word) }
+{
+    let is_pair = leaders.is_pair(address);
+    Unit {
+        at: address,
+        words: if is_pair { 2 } else { 1 },
+        instr: decode(word),
+        raw: word,
+    }
+}
+
+/// How a block ends behind its unit at `address`, if it does: by the unit, of which `word` is the first word,
+/// or where the next block begins.
+pub(crate) fn end_behind(
+    view: &ElfView,
+    loaded: &[bool],
+    leaders: &Leaders,
+    address: u32,
+    word: u32,
+) -> Option<End>
+    requires read { IsRead view.now }
+    requires marks { loaded.now ≡ all_loaded (plain_view view.now) }
+    requires leaders { IsLeaders (plain_view view.now) leaders.now }
+    requires word { word ≡ image_word (plain_view view.now) address }
+    requires fits { address + 4 < 2 ^ 32 }
+    ensures { result ≡ end_behind (plain_view view.now) address }
+{
+    if !has_meaning(word) {
+        return Some(End::Stop);
+    }
+    match jump_end(view, loaded, leaders, address, word) {
+        Some(end) => Some(end),
+        None => fall_end(leaders, address),
+    }
+}
+
+/// A block falls to the next address where a block begins there.
+fn fall_end(leaders: &Leaders, address: u32) -> Option<End>
+    requires ascending { IsStrictlyIncreasing leaders.now.all.items }
+    requires fits { address + 4 < 2 ^ 32 }
+    ensures { result ≡ (if has leaders.now.all.items (address + 4) then Some (End.Fall (address + 4)) else None) }
+{
+    let next = address + 4;
+    if leaders.is_leader(next) {
+        Some(End::Fall { next })
+    } else {
+        None
+    }
+}
+
+/// The end that the unit at `address` makes, if it is a jump or EBREAK.
+fn jump_end(
+    view: &ElfView,
+    loaded: &[bool],
+    leaders: &Leaders,
+    address: u32,
+    word: u32,
+) -> Option<End>
+    requires read { IsRead view.now }
+    requires marks { loaded.now ≡ all_loaded (plain_view view.now) }
+    requires leaders { IsLeaders (plain_view view.now) leaders.now }
+    requires word { word ≡ image_word (plain_view view.now) address }
+    requires fits { address + 4 < 2 ^ 32 }
+    ensures { result ≡ jump_end (plain_view view.now) address }
+{
+    if leaders.is_pair(address) {
+        Some(pair_end(view, loaded, address, word))
+    } else if is_branch(word) {
+        Some(End::Branch {
+            target: branch_target(address, word),
+            next: address + 4,
+        })
+    } else if is_jal(word) {
+        Some(jal_end(address, word))
+    } else if is_jalr(word) {
+        Some(jalr_end(address, word))
+    } else if is_ebreak(word) {
+        Some(End::Stop)
+    } else {
+        None
+    }
+}
+
+/// The end of a call pair at `address`.
+fn pair_end(view: &ElfView, loaded: &[bool], address: u32, word: u32) -> End
+    requires read { IsRead view.now }
+    requires marks { loaded.now ≡ all_loaded (plain_view view.now) }
+    requires pair { is_call_pair (plain_view view.now) address ≡ true }
+    requires word { word ≡ image_word (plain_view view.now) address }
+    ensures { result ≡ pair_end (plain_view view.now) address }
+{
+    let second = code_word(view, loaded, address + 4);
+    let target = pair_target(address, word, second);
+    if links(second) {
+        End::Call {
+            target,
+            back: address + 8,
+            link: rd(second),
+        }
+    } else {
+        End::Tail { target }
+    }
+}
+
+/// The end of a JAL at `address`.
+fn jal_end(address: u32, word: u32) -> End
+    requires { address + 4 < 2 ^ 32 }
+    ensures { result ≡ (if links word then End.Call (offset address (j_immediate word)) (address + 4) (rd_of word) else End.Jump (offset address (j_immediate word))) }
+{
+    let target = jal_target(address, word);
+    if links(word) {
+        End::Call {
+            target,
+            back: address + 4,
+            link: rd(word),
+        }
+    } else {
+        End::Jump { target }
+    }
+}
+
+/// The end of a JALR at `address` that is of no pair.
+fn jalr_end(address: u32, word: u32) -> End
+    requires { address + 4 < 2 ^ 32 }
+    ensures { result ≡ (if links word then End.Indirect (Some (address + 4)) else End.Indirect None) }
+{
+    let back = if links(word) { Some(address + 4) } else { None };
+    End::Indirect { back }
+}
+
+/// The register that a word writes (RISC-V Unprivileged ISA, "Base Instruction Formats").
+fn rd(word: u32) -> u8
+    ensures { result ≡ rd_of word }
+{
+    ((word >> 7) & 0x1f) as u8
+}

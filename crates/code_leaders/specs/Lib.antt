@@ -1,0 +1,12 @@
+pub use Rattle.elf_reader.specs.Loaded
+pub use Rattle.loaded_code.specs.Code
+pub use Rattle.loaded_code.specs.Records
+pub use Rattle.loaded_code.specs.Read
+pub mod Words
+pub mod Meanings
+pub mod Leaders
+pub mod Early
+pub mod Flow
+pub mod Pairs
+pub mod AllLeaders
+pub mod Laws

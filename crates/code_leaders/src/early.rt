@@ -1,0 +1,131 @@
+ghost use Rattle.std.specs.Prelude.{◌≡◌, ℕ, ◌<◌, ◌==◌, ◌&&◌, ◌||◌, length, OnOk, IfOk};
+ghost use Rattle.std.specs.List.Sorted.{IsStrictlyIncreasing};
+ghost use Rattle.index_tests.specs.Tests.{any_below};
+ghost use Rattle.elf_reader.specs.File.{plain_view};
+ghost use Rattle.loaded_code.specs.Marks.{all_loaded};
+ghost use Rattle.loaded_code.specs.Code.{is_code_word};
+ghost use Rattle.loaded_code.specs.Records.{symbol_at};
+ghost use Rattle.loaded_code.specs.Read.{IsRead};
+ghost use Rattle.code_leaders.specs.Leaders.{is_function_at, makes_no_address, makes_address, is_named, is_early};
+ghost use Rattle.code_leaders.specs.Early.{has};
+
+use crate::flow::{FlowRule, add_flow};
+use crate::search::arrange;
+use elf_reader::ElfView;
+use loaded_code::{counts, is_code_word, target};
+use std::alloc::{AllocError, Global};
+
+/// `STT_FUNC`: a symbol of a function.
+const STT_FUNC: u8 = 2;
+
+/// The addresses at which basic blocks begin by the rules that rest on no call pair, in ascending order and
+/// each once. `loaded` are the marks of the loaded sections. It fails only where no memory was left.
+pub fn early_leaders(alloc: Global, view: &ElfView, loaded: &[bool]) -> Result<Vec<u32>, AllocError>
+    requires read { IsRead view.now }
+    requires marks { loaded.now ≡ all_loaded (plain_view view.now) }
+    ensures ascending { IfOk result (λ leaders. IsStrictlyIncreasing leaders.items) }
+    ensures exact { IfOk result (λ leaders. (a : ℕ) → has leaders.items a ≡ is_early (plain_view view.now) a) }
+{
+    let mut leaders = Vec::new(alloc);
+    add_named(&mut leaders, view, loaded)?;
+    add_flow(&mut leaders, view, loaded, FlowRule::All)?;
+    arrange(&mut leaders);
+    Ok(leaders)
+}
+
+/// Adds an address where it is a word of code.
+pub(crate) fn add_leader(
+    leaders: &mut Vec<u32>,
+    view: &ElfView,
+    loaded: &[bool],
+    address: u32,
+) -> Result<(), AllocError>
+    requires { loaded.now ≡ all_loaded (plain_view view.now) }
+    ensures { OnOk result ((a : ℕ) → has leaders.new.items a ≡ has leaders.old.items a || is_code_word (plain_view view.now) a && (address == a)) }
+{
+    if !is_code_word(view, loaded, address) {
+        return Ok(());
+    }
+    leaders.push(address)?;
+    Ok(())
+}
+
+/// Adds the entry, the addresses of functions, and those that relocations make.
+pub(crate) fn add_named(
+    leaders: &mut Vec<u32>,
+    view: &ElfView,
+    loaded: &[bool],
+) -> Result<(), AllocError>
+    requires { loaded.now ≡ all_loaded (plain_view view.now) }
+    ensures { OnOk result ((a : ℕ) → has leaders.new.items a ≡ has leaders.old.items a || is_code_word (plain_view view.now) a && is_named (plain_view view.now) a) }
+{
+    add_leader(leaders, view, loaded, view.entry)?;
+    add_functions(leaders, view, loaded)?;
+    add_addresses(leaders, view, loaded)
+}
+
+fn add_functions(leaders: &mut Vec<u32>, view: &ElfView, loaded: &[bool]) -> Result<(), AllocError>
+    requires { loaded.now ≡ all_loaded (plain_view view.now) }
+    ensures { OnOk result ((a : ℕ) → has leaders.new.items a ≡ has leaders.old.items a || is_code_word (plain_view view.now) a && any_below (is_function_at (plain_view view.now) a) (length (plain_view view.now).symbols)) }
+{
+    for k in 0..view.symbols.len() {
+        add_function(leaders, view, loaded, k)?;
+    }
+    Ok(())
+}
+
+/// Adds the address of symbol `k` where it is of a function.
+fn add_function(
+    leaders: &mut Vec<u32>,
+    view: &ElfView,
+    loaded: &[bool],
+    k: usize,
+) -> Result<(), AllocError>
+    requires marks { loaded.now ≡ all_loaded (plain_view view.now) }
+    requires below { k < length view.now.symbols.items }
+    ensures { OnOk result ((a : ℕ) → has leaders.new.items a ≡ has leaders.old.items a || is_code_word (plain_view view.now) a && is_function_at (plain_view view.now) a k) }
+{
+    let symbol = &view.symbols[k];
+    if symbol.kind == STT_FUNC {
+        add_leader(leaders, view, loaded, symbol.value)
+    } else {
+        Ok(())
+    }
+}
+
+fn add_addresses(leaders: &mut Vec<u32>, view: &ElfView, loaded: &[bool]) -> Result<(), AllocError>
+    requires { loaded.now ≡ all_loaded (plain_view view.now) }
+    ensures { OnOk result ((a : ℕ) → has leaders.new.items a ≡ has leaders.old.items a || is_code_word (plain_view view.now) a && any_below (makes_address (plain_view view.now) a) (length (plain_view view.now).relocs)) }
+{
+    for i in 0..view.relocs.len() {
+        add_address(leaders, view, loaded, i)?;
+    }
+    Ok(())
+}
+
+/// Adds the address that relocation `i` makes.
+fn add_address(
+    leaders: &mut Vec<u32>,
+    view: &ElfView,
+    loaded: &[bool],
+    i: usize,
+) -> Result<(), AllocError>
+    requires marks { loaded.now ≡ all_loaded (plain_view view.now) }
+    requires below { i < length view.now.relocs.items }
+    ensures { OnOk result ((a : ℕ) → has leaders.new.items a ≡ has leaders.old.items a || is_code_word (plain_view view.now) a && makes_address (plain_view view.now) a i) }
+{
+    let reloc = &view.relocs[i];
+    if counts(view, loaded, reloc) && !makes_no_address(reloc.kind) {
+        add_leader(leaders, view, loaded, target(view, reloc))
+    } else {
+        Ok(())
+    }
+}
+
+/// Relocations of this kind make no address: NONE, BRANCH, JAL, CALL, CALL_PLT, PCREL_LO12_I, PCREL_LO12_S,
+/// ALIGN and RELAX (RISC-V psABI, "Relocations").
+fn makes_no_address(kind: u32) -> bool
+    ensures { result ≡ makes_no_address kind }
+{
+    matches!(kind, 0 | 16..=19 | 24 | 25 | 43 | 51)
+}
