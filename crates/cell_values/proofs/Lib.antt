@@ -1,0 +1,3 @@
+pub mod Reloads
+pub mod Immediates
+pub mod Words

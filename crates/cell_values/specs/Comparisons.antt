@@ -1,0 +1,57 @@
+-- What branches know of values.
+use Rattle.std.specs.Prelude.{ℕ, ◌==◌, nat_lt, nat_le, Bool, true, false, not, ◌&&◌, if◌then◌else◌, Option, Some, None}
+use Rattle.rv_decode.specs.Acts.{is_taken}
+use Rattle.rv_decode.specs.declared.instructions.BranchKind.{BranchKind}
+use Rattle.rv_decode.specs.declared.instructions.BranchKind.TheVariants.{Beq, Bne, Blt, Bge, Bltu, Bgeu}
+use Rattle.cell_values.specs.Objects.{Objects}
+use Rattle.cell_values.specs.declared.values.Val.{Val}
+use Rattle.cell_values.specs.declared.values.Val.TheVariants.{Int, Addr}
+
+-- an answer that is known on a condition alone
+abbrev pub known_if : Bool → Bool → Option Bool
+known_if true answer = Some answer
+known_if false answer = None
+
+-- two addresses of one object of `size` bytes: they are the same where their offsets are, and in the order
+-- of these up to the object's end
+abbrev pub within : ℕ → ℕ → ℕ → Bool
+within size d e = nat_le d size && nat_le e size
+
+abbrev pub same_object : ℕ → BranchKind → ℕ → ℕ → Option Bool
+same_object size Beq d e = Some (d == e)
+same_object size Bne d e = Some (not (d == e))
+same_object size Bltu d e = known_if (within size d e) (nat_lt d e)
+same_object size Bgeu d e = known_if (within size d e) (not (nat_lt d e))
+same_object size Blt d e = None
+same_object size Bge d e = None
+
+-- two addresses of unequal objects, both inside: they are not the same
+abbrev pub other_object : Bool → BranchKind → Option Bool
+other_object inside Beq = known_if inside false
+other_object inside Bne = known_if inside true
+other_object inside kind = None
+
+-- an address up to the end of its object, and 0: they are not the same, and 0 is below
+abbrev pub above_zero : Bool → BranchKind → Option Bool
+above_zero near Beq = known_if near false
+above_zero near Bne = known_if near true
+above_zero near Bltu = known_if near false
+above_zero near Bgeu = known_if near true
+above_zero near kind = None
+
+abbrev pub zero_below : Bool → BranchKind → Option Bool
+zero_below near Beq = known_if near false
+zero_below near Bne = known_if near true
+zero_below near Bltu = known_if near true
+zero_below near Bgeu = known_if near false
+zero_below near kind = None
+
+-- whether a branch is taken, where it is known
+abbrev pub compare : Objects → BranchKind → Val → Val → Option Bool
+compare os kind (Int a) (Int b) = Some (is_taken kind a b)
+compare os kind (Addr o d) (Addr p e) =
+    if o == p then same_object (os.size o) kind d e
+    else other_object (nat_lt d (os.size o) && nat_lt e (os.size p)) kind
+compare os kind (Addr o d) (Int n) = above_zero ((n == 0) && nat_le d (os.size o)) kind
+compare os kind (Int n) (Addr o d) = zero_below ((n == 0) && nat_le d (os.size o)) kind
+compare os kind a b = None

@@ -1,0 +1,102 @@
+ghost use Rattle.std.specs.Prelude.{◌≡◌, ◌<◌, length};
+ghost use Rattle.cell_values.specs.Objects.{IsOfGraph, objects_of, object_of};
+ghost use Rattle.cell_values.specs.Comparisons.{compare, known_if, within, same_object, other_object, above_zero, zero_below};
+
+use crate::values::Val;
+use object_graph::Graph;
+use rv_decode::{BranchKind, takes};
+
+/// Whether a branch of this kind is taken on two values; `None` where that is not known
+/// (RISC-V Unprivileged ISA, "Conditional Branches").
+pub fn compare(kind: BranchKind, a: &Val, b: &Val, graph: &Graph) -> Option<bool>
+    requires a { IsOfGraph graph.now a.now }
+    requires b { IsOfGraph graph.now b.now }
+    ensures { result ≡ compare (objects_of graph.now) kind a.now b.now }
+{
+    match (*a, *b) {
+        (Val::Int(a), Val::Int(b)) => Some(takes(kind, a, b)),
+        (Val::Addr { obj, off }, Val::Addr { obj: peer, off: at }) if obj == peer => {
+            let size = size_of(obj, graph);
+            same_object(size, kind, off, at)
+        }
+        (Val::Addr { obj, off }, Val::Addr { obj: peer, off: at }) => {
+            let inside = off < size_of(obj, graph) && at < size_of(peer, graph);
+            other_object(inside, kind)
+        }
+        (Val::Addr { obj, off }, Val::Int(n)) => {
+            above_zero(n == 0 && off <= size_of(obj, graph), kind)
+        }
+        (Val::Int(n), Val::Addr { obj, off }) => {
+            zero_below(n == 0 && off <= size_of(obj, graph), kind)
+        }
+        _ => None,
+    }
+}
+
+/// How many bytes an object has.
+fn size_of(obj: u32, graph: &Graph) -> u32
+    requires { obj < length graph.now.objects.items }
+    ensures { result ≡ (object_of graph.now obj).size }
+{
+    graph.objects[obj as usize].size
+}
+
+/// Two addresses of one object of `size` bytes.
+fn same_object(size: u32, kind: BranchKind, off: u32, at: u32) -> Option<bool>
+    ensures { result ≡ same_object size kind off at }
+{
+    match kind {
+        BranchKind::Beq => Some(off == at),
+        BranchKind::Bne => Some(off != at),
+        BranchKind::Bltu => known_if(is_within(size, off, at), off < at),
+        BranchKind::Bgeu => known_if(is_within(size, off, at), off >= at),
+        BranchKind::Blt | BranchKind::Bge => None,
+    }
+}
+
+/// Two offsets are no greater than an object's size.
+fn is_within(size: u32, off: u32, at: u32) -> bool
+    ensures { result ≡ within size off at }
+{
+    off <= size && at <= size
+}
+
+/// Two addresses of unequal objects, which lie inside them or not.
+fn other_object(inside: bool, kind: BranchKind) -> Option<bool>
+    ensures { result ≡ other_object inside kind }
+{
+    match kind {
+        BranchKind::Beq => known_if(inside, false),
+        BranchKind::Bne => known_if(inside, true),
+        _ => None,
+    }
+}
+
+/// An address and a number; `near` says that the one lies up to the end of its object and the other is 0.
+fn above_zero(near: bool, kind: BranchKind) -> Option<bool>
+    ensures { result ≡ above_zero near kind }
+{
+    match kind {
+        BranchKind::Beq | BranchKind::Bltu => known_if(near, false),
+        BranchKind::Bne | BranchKind::Bgeu => known_if(near, true),
+        BranchKind::Blt | BranchKind::Bge => None,
+    }
+}
+
+/// A number and an address; `near` says that the one is 0 and the other lies up to the end of its object.
+fn zero_below(near: bool, kind: BranchKind) -> Option<bool>
+    ensures { result ≡ zero_below near kind }
+{
+    match kind {
+        BranchKind::Beq | BranchKind::Bgeu => known_if(near, false),
+        BranchKind::Bne | BranchKind::Bltu => known_if(near, true),
+        BranchKind::Blt | BranchKind::Bge => None,
+    }
+}
+
+/// An answer that is known on a condition alone.
+fn known_if(condition: bool, answer: bool) -> Option<bool>
+    ensures { result ≡ known_if condition answer }
+{
+    if condition { Some(answer) } else { None }
+}
