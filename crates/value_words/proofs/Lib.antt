@@ -1,0 +1,11 @@
+pub mod Bits
+pub mod Sums
+pub mod Lows
+pub mod Branches
+pub mod Operations
+pub mod Immediates
+pub mod Sites
+pub mod Stores
+pub mod Loads
+pub mod Makes
+pub mod Keeps
