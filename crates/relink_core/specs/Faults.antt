@@ -1,0 +1,61 @@
+-- The faults of an analysis, in their order.
+use Rattle.std.specs.Prelude.{◌≡◌, ◌≢◌, ◌⊎◌, ℕ, ◌==◌, nat_le, Bool, not, if◌then◌else◌, List, Option, option_map}
+use Rattle.fault_order.specs.First.{◌or_else◌, unless}
+use Rattle.elf_reader.specs.Layout.{program_header_count}
+use Rattle.elf_reader.specs.File.{PlainView, view_in}
+use Rattle.elf_reader.specs.Faults.{first_fault}
+use Rattle.elf_reader.specs.declared.fault.ElfFault.TheVariants as elf
+use Rattle.board_config.specs.declared.board.Board.{Board}
+use Rattle.object_graph.specs.LayoutFaults.{layout_fault}
+use Rattle.object_graph.specs.declared.fault.GraphFault.TheVariants as graph
+use Rattle.code_blocks.specs.Blocks.{code_fault}
+use Rattle.code_blocks.specs.declared.fault.CodeFault.TheVariants as code
+use Rattle.relink_core.specs.declared.fault.AnalyseFault.{AnalyseFault}
+use Rattle.relink_core.specs.declared.fault.AnalyseFault.TheVariants as analyse
+
+-- ---- the faults of the parts
+
+-- what becomes of the fault of a part: its want of memory is the analysis's, and every other fault is wrapped
+abbrev pub Becomes : {P : Type 0} → P → (P → AnalyseFault) → P → AnalyseFault → Type 0
+Becomes memory wrap part fault =
+    ((part ≡ memory) × (fault ≡ analyse.Memory)) ⊎ ((part ≢ memory) × (fault ≡ wrap part))
+
+-- a fault is not a part's own want of memory
+abbrev pub IsOutermost : AnalyseFault → Type 0
+IsOutermost (analyse.Elf part) = part ≢ elf.Memory
+IsOutermost (analyse.Graph part) = part ≢ graph.Memory
+IsOutermost (analyse.PatchTooSmall need have) = Unit
+IsOutermost (analyse.Code part) = part ≢ code.Memory
+IsOutermost analyse.Memory = Unit
+
+-- ---- the checks
+
+-- A file has at most 64 program headers, and a result has one more than the program.
+abbrev pub headers_fault : ℕ → Option AnalyseFault
+headers_fault count = unless (not (count == 64)) (analyse.Elf (elf.OverLimit 2 64))
+
+-- the first fault of a file to which a program header is to be added
+abbrev pub file_fault : List ℕ → Option AnalyseFault
+file_fault file = option_map analyse.Elf (first_fault file) or_else headers_fault (program_header_count file)
+
+-- How many bytes the patch range has at least: the control words and the start stub without a job are 21
+-- words, and a FENCE.I is one more.
+abbrev pub least_patch : Bool → ℕ
+least_patch fence_i = if fence_i then 88 else 84
+
+abbrev pub patch_fault : Board → Option AnalyseFault
+patch_fault board =
+    unless (nat_le (least_patch board.fence_i) board.patch.size)
+    (analyse.PatchTooSmall (least_patch board.fence_i) board.patch.size)
+
+-- the first fault of where the program lies, with the patch range's size behind the checks of the layout
+abbrev pub places_fault : PlainView → Board → Option AnalyseFault
+places_fault v board = option_map analyse.Graph (layout_fault v board) or_else patch_fault board
+
+-- the first fault of a program that is read
+abbrev pub view_fault : PlainView → Board → Option AnalyseFault
+view_fault v board = places_fault v board or_else option_map analyse.Code (code_fault v)
+
+-- the first fault of a file and a board
+abbrev pub analyse_fault : List ℕ → Board → Option AnalyseFault
+analyse_fault file board = file_fault file or_else view_fault (view_in file) board
