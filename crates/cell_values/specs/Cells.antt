@@ -1,5 +1,5 @@
 -- Values in memory.
-use Rattle.std.specs.Prelude.{ℕ, ◌<◌, ◌==◌, length, Bool, true, false, ◌&&◌, if◌then◌else◌, List, [], ◌∷◌}
+use Rattle.std.specs.Prelude.{ℕ, ◌+◌, ◌<◌, ◌==◌, length, Bool, true, false, ◌&&◌, if◌then◌else◌, List, [], ◌∷◌}
 use Rattle.word_bits.specs.Words.{half_of, word_of, byte_of}
 use Rattle.object_graph.specs.declared.parts.Graph.{Graph}
 use Rattle.cell_values.specs.declared.values.Val.{Val}
@@ -57,3 +57,12 @@ byte_value extend Mist = Unknown
 abbrev pub half_value : (ℕ → ℕ) → Cell → Cell → Val
 half_value extend (Byte a) (Byte b) = Int (extend (half_of a b))
 half_value extend first second = Unknown
+
+-- a table with one entry changed
+unfoldable pub put_at : {A : Type 0} → (ℕ → A) → ℕ → A → ℕ → A
+put_at table k x = λ j. if j == k then x else table j
+
+-- cells put from a place on
+abbrev pub put_cells : (ℕ → Cell) → ℕ → List Cell → ℕ → Cell
+put_cells table k [] = table
+put_cells table k (c ∷ cs) = put_cells (put_at table k c) (k + 1) cs

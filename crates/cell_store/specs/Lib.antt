@@ -1,0 +1,2 @@
+pub use Rattle.cell_values.specs.Cells
+pub mod Stored

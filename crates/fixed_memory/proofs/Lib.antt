@@ -1,0 +1,4 @@
+pub mod LookupLemmas
+pub mod SpanLemmas
+pub mod BoundLemmas
+pub mod KindLemmas
