@@ -1,0 +1,144 @@
+-- How many words follow a word of code: its code range is the only one that holds it.
+use Rattle.std.proofs.Common.{◌≡◌, ◌⊎◌, inl, inr, ℕ, zero, suc, ◌+◌, ◌-◌, ◌*◌, ◌/◌, ◌<◌, ◌==◌, ◌%◌, Bool, true, false, ◌&&◌, not, ◌≤◌, List, length, Option, Some, None, refl, sym, ◌∙◌, ap, subst, arith}
+use Rattle.std.proofs.lemmas.Bool.{eqb-true, both_ways}
+use Rattle.std.proofs.lemmas.Bool.Decides.{nat_tests}
+use Rattle.fault_order.specs.First.{◌or_else◌, first_below, unless}
+use Rattle.index_tests.specs.Tests.{any_below, lies_in}
+use Rattle.index_tests.proofs.TestLemmas.{both, any_found, any_at}
+use Rattle.elf_reader.specs.Sections.{bit_of}
+use Rattle.elf_reader.specs.File.{PlainView, plain_view, view_in}
+use Rattle.elf_reader.specs.Loadable.{AreApart}
+use Rattle.elf_reader.specs.Loaded.{section_at, segment_at, is_loaded}
+use Rattle.elf_reader.specs.declared.view.ElfView.{ElfView}
+use Rattle.elf_reader.proofs.SegmentLemmas.{none_of_headers, load_segments_apart}
+use Rattle.elf_reader.proofs.LoadedLemmas.{IsFilled, loaded_found, same_segment, filled_alone, zeroed_apart}
+use Rattle.loaded_code.specs.Code.{is_code_range, holds_code, is_code_word}
+use Rattle.loaded_code.specs.Read.{IsRead}
+use Rattle.loaded_code.proofs.WordLemmas.{same_view, range_below, word_fits}
+use Rattle.code_blocks.specs.Ends.{range_at, words_left_in, words_left}
+use Rattle.code_blocks.proofs.RangeLemmas.{code_held, no_range, word_held}
+
+-- ---- one code range
+
+-- a loaded section of content with a word
+record HasWord (v : PlainView) (a k : ℕ) : Type 0 where
+  loaded : is_loaded v k ≡ true
+  kind : (section_at v k).kind ≡ 1
+  lies : lies_in (section_at v k).addr (section_at v k).size a 4 ≡ true
+
+has_word : (v : PlainView) (a k : ℕ) → holds_code v a k ≡ true → HasWord v a k
+has_word v a k holds =
+    let s = section_at v k in
+    let whole = both (is_code_range v k) (lies_in s.addr s.size a 4) holds in
+    let range = both (is_loaded v k && (s.kind == 1)) (bit_of s.flags 2) whole.0 in
+    let front = both (is_loaded v k) (s.kind == 1) range.0 in
+    record { loaded = front.0; kind = eqb-true s.kind 1 front.1; lies = whole.1 }
+
+-- how far behind a section's beginning an address lies
+place_inside : (addr size a : ℕ) → lies_in addr size a 4 ≡ true → (a - addr < size) × (addr + (a - addr) ≡ a)
+place_inside addr size a lies = (grind (arith, nat_tests, lies), grind (arith, nat_tests, lies))
+
+one_section : (v : PlainView) (a j k : ℕ) → AreApart v.segments → k < length v.sections → HasWord v a j → HasWord v a k → k ≡ j
+one_section v a j k apart below has_j has_k =
+    let s = section_at v j in
+    let t = section_at v k in
+    let at_j = place_inside s.addr s.size a has_j.lies in
+    let at_k = place_inside t.addr t.size a has_k.lies in
+    let same : s.addr + (a - s.addr) ≡ t.addr + (a - t.addr) = at_j.1 ∙ sym at_k.1 in
+    let (g, facts) = loaded_found v k has_k.loaded in
+    let (h, other) = loaded_found v j has_j.loaded in
+    let same_g : h ≡ g = same_segment v k g j h (a - t.addr) (a - s.addr) apart facts other at_k.0 at_j.0 same in
+    let filled_other : IsFilled v j h (section_at v j) (segment_at v h) = elim other.rest [
+      | inl filled ↦ filled
+      | inr zeroed ↦ let wrong = zeroed.kind in let kind = has_j.kind in absurd (omega (arith, kind, wrong))
+    ] in
+    let filled_here : IsFilled v j g (section_at v j) (segment_at v g) = subst (λ (m : ℕ). IsFilled v j m (section_at v j) (segment_at v m)) same_g filled_other in
+    elim facts.rest [
+      | inl filled ↦ filled_alone v j k g (a - s.addr) (a - t.addr) filled_here filled below at_j.0 at_k.0 (sym same)
+      | inr zeroed ↦ absurd (zeroed_apart v j g (a - s.addr) (a - t.addr) (section_at v j) (section_at v k) (segment_at v g) filled_here zeroed at_j.0 (sym same))
+    ]
+
+segments_apart : (view : ElfView) → IsRead view → AreApart (plain_view view).segments
+segments_apart view read =
+    let (file, is, none) = read in
+    subst (λ (v : PlainView). AreApart v.segments) (sym (same_view file view is)) (load_segments_apart file (none_of_headers file none))
+
+pub one_range : (view : ElfView) (a j k : ℕ) → IsRead view → k < length (plain_view view).sections → holds_code (plain_view view) a j ≡ true → holds_code (plain_view view) a k ≡ true → k ≡ j
+one_range view a j k read below holds_j holds_k =
+    let v = plain_view view in
+    one_section v a j k (segments_apart view read) below (has_word v a j holds_j) (has_word v a k holds_k)
+
+-- ---- the words left
+
+held_of : (holds : Bool) (k j : ℕ) → unless (not holds) k ≡ Some j → (holds ≡ true) × (j ≡ k)
+held_of true k j some = let e : k ≡ j = cc in (refl, sym e)
+held_of false k j some = cc
+
+some_after : (v : PlainView) (a n j : ℕ) (o : Option ℕ) → (o ≡ Some j → (holds_code v a j ≡ true) × (j < n)) → o or_else range_at v a n ≡ Some j → (holds_code v a j ≡ true) × (j < suc n)
+some_after v a n j None earlier some =
+    let here = held_of (holds_code v a n) n j some in
+    let same = here.1 in
+    (subst (λ (k : ℕ). holds_code v a k ≡ true) (sym same) here.0, omega (arith, same))
+some_after v a n j (Some k) earlier some = let before = earlier some in let less = before.1 in (before.0, omega (arith, less))
+
+some_range : (v : PlainView) (a n j : ℕ) → first_below (range_at v a) n ≡ Some j → (holds_code v a j ≡ true) × (j < n)
+some_range v a zero j some = cc
+some_range v a (suc n) j some = some_after v a n j (first_below (range_at v a) n) (some_range v a n j) some
+
+-- a code word's range, and the words from it on
+pub record HasLeft (v : PlainView) (a k : ℕ) : Type 0 where
+  pub below : k < length v.sections
+  pub holds : holds_code v a k ≡ true
+  pub left : words_left v a ≡ ((section_at v k).addr + (section_at v k).size - a) / 4
+
+first_of : (view : ElfView) (a k : ℕ) (o : Option ℕ) → IsRead view → k < length (plain_view view).sections → holds_code (plain_view view) a k ≡ true → first_below (range_at (plain_view view) a) (length (plain_view view).sections) ≡ o → o ≡ Some k
+first_of view a k None read below holds is =
+    let v = plain_view view in
+    absurd (both_ways (any_below (holds_code v a) (length v.sections)) (no_range v a (length v.sections) is) (any_at (holds_code v a) (length v.sections) k below holds))
+first_of view a k (Some j) read below holds is =
+    let v = plain_view view in
+    let (held, less) = some_range v a (length v.sections) j is in
+    ap Some (one_range view a k j read less holds held)
+
+pub left_in : (view : ElfView) (a k : ℕ) → IsRead view → k < length (plain_view view).sections → holds_code (plain_view view) a k ≡ true → HasLeft (plain_view view) a k
+left_in view a k read below holds =
+    let v = plain_view view in
+    record {
+      below = below;
+      holds = holds;
+      left = ap (words_left_in v a) (first_of view a k (first_below (range_at v a) (length v.sections)) read below holds refl);
+    }
+
+pub left_at : (view : ElfView) (a : ℕ) → IsRead view → is_code_word (plain_view view) a ≡ true → (k : ℕ) × HasLeft (plain_view view) a k
+left_at view a read code =
+    let v = plain_view view in
+    let (k, below, holds) = any_found (holds_code v a) (length v.sections) (code_held v a code) in
+    (k, left_in view a k read below holds)
+
+-- each word on the way has one less
+pub left_further : (view : ElfView) (a k i : ℕ) → IsRead view → HasLeft (plain_view view) a k → i < words_left (plain_view view) a → HasLeft (plain_view view) (a + 4 * i) k
+left_further view a k i read has less =
+    let v = plain_view view in
+    let fewer : i < ((section_at v k).addr + (section_at v k).size - a) / 4 = rw (sym has.left) less in
+    left_in view (a + 4 * i) k read has.below (word_held v k a i has.holds fewer)
+
+pub one_less : (view : ElfView) (a k i : ℕ) → IsRead view → HasLeft (plain_view view) a k → i < words_left (plain_view view) a → words_left (plain_view view) (a + 4 * i) + i ≡ words_left (plain_view view) a
+one_less view a k i read has less =
+    let v = plain_view view in
+    let s = section_at v k in
+    let further = left_further view a k i read has less in
+    let here = has.left in
+    let there = further.left in
+    omega (arith, here, there, less)
+
+pub left_below : (view : ElfView) (a k : ℕ) → IsRead view → HasLeft (plain_view view) a k → a + 4 < 4294967296
+left_below view a k read has = word_fits view k a read has.holds
+
+pub some_left : (view : ElfView) (a k : ℕ) → HasLeft (plain_view view) a k → 0 < words_left (plain_view view) a
+some_left view a k has =
+    let v = plain_view view in
+    let s = section_at v k in
+    let lies = (has_word v a k has.holds).lies in
+    let left = has.left in
+    let room : a + 4 ≤ s.addr + s.size = grind (arith, nat_tests, lies) in
+    omega (arith, left, room)

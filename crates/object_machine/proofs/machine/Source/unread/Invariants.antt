@@ -1,0 +1,9 @@
+use Rattle.std.proofs.Common.{◌≡◌, None}
+use Rattle.fault_order.specs.First.{first_below}
+use Rattle.object_machine.specs.Calls.{unread}
+use Rattle.object_machine.specs.Machine.{seen, seen_state}
+use Rattle.object_machine.proofs.machine.Source.unread.Given as goal
+
+-- the bytes so far can be read
+abbrev pub invariant-loop-i : goal.invariant-loop-i
+invariant-loop-i l = first_below (unread (seen l.self) (seen_state l.self)) l.i ≡ None

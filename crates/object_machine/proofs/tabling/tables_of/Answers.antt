@@ -1,0 +1,40 @@
+use Rattle.std.proofs.Common.{◌≡◌, ℕ, refl, ◌∙◌}
+use Rattle.elf_reader.specs.File.{plain_view}
+use Rattle.object_graph.specs.Sites.{is_fixed_memory}
+use Rattle.object_machine.specs.Layout.{is_in_some}
+use Rattle.object_machine.proofs.TableLemmas.{fixed_agrees, are_tables, agree}
+use Rattle.object_machine.proofs.tabling.tables_of.Goals as goal
+
+pub invariant_of-result : goal.invariant_of-result
+invariant_of-result c =
+    let v = plain_view c.args.view.now in
+    let board = c.args.board.now in
+    let g = c.args.graph.now in
+    let code = c.args.code.now in
+    let laid = c.in_ok-laid.laid in
+    let reached = c.in_ok-reached.reached.items in
+    let fixed = c.in_ok-fixed.fixed.items in
+    let agrees = fixed_agrees v board fixed c.requires.lawful c.in_ok-fixed.ensures.exact in
+    let is_reached = c.in_ok-reached.ensures ∙ c.deref-2.ensures.value in
+    let are = are_tables v board g c.in_ok-objects.objects code laid reached fixed c.requires.graph c.requires.grain c.requires.code c.in_ok-objects.ensures (c.in_ok-laid.ensures board) is_reached agrees in
+    record {
+      grain = are.grain;
+      below = are.below;
+      apart = are.apart;
+      off = are.off;
+      fit = are.fit;
+      joined = are.joined;
+      begun = are.begun;
+      ascending = are.ascending;
+      reached_ascending = are.reached_ascending;
+      among = are.among;
+      ranges = c.in_ok-fixed.ensures.apart;
+    }
+
+pub returns-clause-program : goal.returns-clause-program
+returns-clause-program c =
+    let v = plain_view c.args.view.now in
+    let board = c.args.board.now in
+    let agrees = fixed_agrees v board c.in_ok-fixed.fixed.items c.requires.lawful c.in_ok-fixed.ensures.exact in
+    let is_reached = c.in_ok-reached.ensures ∙ c.deref-2.ensures.value in
+    agree v board c.args.graph.now c.args.code.now c.in_ok-laid.laid _ c.requires.code c.in_ok-objects.ensures (c.in_ok-laid.ensures board) refl refl is_reached agrees

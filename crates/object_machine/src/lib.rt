@@ -1,0 +1,23 @@
+//! A machine on which the objects that may move have no addresses.
+#![tactic(auto)]
+
+mod events;
+mod extending;
+mod footprints;
+mod laws;
+mod machine;
+mod preparing;
+mod spots;
+mod starting;
+mod tables;
+mod tabling;
+mod units;
+mod widths;
+
+pub use events::{Access, Event, Outcome};
+pub use footprints::{AccessKind, Footprint};
+pub use laws::{ended_stays, is_determined, output_grows, steps_compose};
+pub use machine::Source;
+
+#[cfg(test)]
+mod tests;

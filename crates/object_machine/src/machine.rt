@@ -1,0 +1,219 @@
+ghost use Rattle.std.specs.Prelude.{◌≡◌, ◌+◌, ◌<◌, ◌≤◌, ℕ, length};
+ghost use Rattle.std.specs.List.{All};
+ghost use Rattle.cell_values.specs.Objects.{IsOfGraph};
+ghost use Rattle.cell_values.specs.Cells.{IsCellOfGraph};
+ghost use Rattle.cell_store.specs.Stored.{cells_of};
+ghost use Rattle.object_machine.specs.Units.{unit_in};
+ghost use Rattle.object_machine.specs.OfGraph.{values_prop, cells_prop};
+
+mod calling;
+mod loading;
+mod moving;
+mod performing;
+mod places;
+mod registers;
+mod storing;
+
+use crate::events::{Access, Event, Outcome};
+use crate::footprints::Footprint;
+use crate::starting::first_memory;
+use crate::tables::Tables;
+use crate::tabling::tables_of;
+use crate::units::Prepared;
+use board_config::Board;
+use cell_store::CellStore;
+use cell_values::Val;
+use code_blocks::Code;
+use elf_reader::ElfView;
+use object_graph::Graph;
+use std::alloc::{AllocError, Global};
+
+/// A machine that runs a program unit by unit, and whose objects that may move have no addresses.
+#[derive(Drop)]
+pub struct Source {
+    pub(crate) tables: Tables,
+    // the cells of fixed memory and of objects, these where their homes are
+    pub(crate) memory: CellStore,
+    // the place of the next unit
+    pub(crate) place: usize,
+    pub(crate) pc: u32,
+    pub(crate) regs: [Val; 32],
+    pub(crate) input: Vec<u8>,
+    // how many bytes of the input were read
+    pub(crate) taken: usize,
+    pub(crate) output: Vec<u8>,
+    pub(crate) outcome: Outcome,
+    ghost inside: { place < length tables.units.items },
+    ghost at: { (unit_in tables.units.items place).at ≡ pc },
+    ghost below: { pc + 4 < 4294967296 },
+    ghost values: { All (IsOfGraph tables.graph) regs } by { values_prop tables.graph regs },
+    ghost cells: { (a : ℕ) → IsCellOfGraph tables.graph (cells_of memory a) } by { cells_prop tables.graph (cells_of memory) },
+    ghost taken_of_input: { taken ≤ length input.items },
+}
+
+impl Source {
+    ghost use Rattle.std.specs.Prelude.{IfOk, true};
+    ghost use Rattle.elf_reader.specs.File.{plain_view};
+    ghost use Rattle.board_config.specs.Board.{IsLawful};
+    ghost use Rattle.loaded_code.specs.Read.{IsRead};
+    ghost use Rattle.object_graph.specs.Graphs.{IsGraph};
+    ghost use Rattle.code_leaders.specs.Leaders.{is_leader};
+    ghost use Rattle.code_blocks.specs.Blocks.{IsCode};
+    ghost use Rattle.cell_values.specs.Objects.{IsGrain};
+    ghost use Rattle.object_machine.specs.Program.{program_of};
+    ghost use Rattle.object_machine.specs.Start.{start_of};
+    ghost use Rattle.object_machine.specs.Machine.{state_of, IsProgram};
+
+    /// A machine at the entry of a file, on a board. Its program reads `input`.
+    ///
+    /// It fails only where no memory was left.
+    pub fn new(
+        alloc: Global,
+        view: &ElfView,
+        graph: &Graph,
+        code: &Code,
+        board: &Board,
+        input: &[u8],
+    ) -> Result<Source, AllocError>
+        requires read { IsRead view.now }
+        requires graph { IsGraph (plain_view view.now) board.now graph.now }
+        requires code { IsCode (plain_view view.now) code.now }
+        requires lawful { IsLawful board.now }
+        requires grain { IsGrain graph.now.grain }
+        requires entry { is_leader (plain_view view.now) view.now.entry ≡ true }
+        ensures program { IfOk result (IsProgram (program_of (plain_view view.now) board.now graph.now)) }
+        ensures start { let p = program_of (plain_view view.now) board.now graph.now in
+            IfOk result (λ m. state_of p m ≡ start_of (plain_view view.now) p graph.now input.now) }
+    {
+        let tables = tables_of(alloc, view, board, graph, code)?;
+        let memory = first_memory(alloc, &view.segments, &graph.data_words)?;
+        let place = tables.place_of_block(u64::from(view.entry));
+        Ok(Source {
+            tables,
+            memory,
+            place,
+            pc: view.entry,
+            regs: [Val::Int(0); 32],
+            input: Vec::from_slice(alloc, input)?,
+            taken: 0,
+            output: Vec::new(alloc),
+            outcome: Outcome::GoesOn,
+        })
+    }
+}
+
+impl Source {
+    ghost use Rattle.std.specs.Prelude.{Option, MatchBool, IfOk, OnOk, OnErr};
+    ghost use Rattle.rv_decode.specs.declared.instructions.Instr.{Instr};
+    ghost use Rattle.object_machine.specs.Program.{Program};
+    ghost use Rattle.object_machine.specs.Step.{Step, Reads};
+    ghost use Rattle.object_machine.specs.Footprints.{footprint_of};
+    ghost use Rattle.object_machine.specs.Runs.{Steps, HasEnded};
+    ghost use Rattle.object_machine.specs.Machine.{state_of, seen_state, here, IsProgram, StepsFrom, Becomes, when_going};
+
+    /// Takes one step. A machine that has ended stays as it is, and tells the same outcome again.
+    ///
+    /// On an error, which comes only where no memory was left, the step was not taken.
+    pub fn step(&mut self) -> Result<Event, AllocError>
+        ensures step { IfOk result (λ event. (p : Program) → IsProgram p self.old → IsProgram p self.new × Step p (state_of p self.old) event (state_of p self.new)) }
+        ensures err { OnErr result ((p : Program) → IsProgram p self.old → IsProgram p self.new × (state_of p self.new ≡ state_of p self.old)) }
+    {
+        match self.step_seen() {
+            Ok(event) => Ok(event),
+            Err(error) => Err(error),
+        }
+    }
+
+    /// Takes one step, as the tables tell it.
+    fn step_seen(&mut self) -> Result<Event, AllocError>
+        ensures step { IfOk result (λ event. StepsFrom self.old.outcome self.old event (seen_state self.new)) }
+        ensures tables { self.new.tables ≡ self.old.tables }
+        ensures err { OnErr result (seen_state self.new ≡ seen_state self.old) }
+    {
+        let at = self.pc;
+        if self.has_ended() {
+            return Ok(self.event(at, None));
+        }
+        let unit = self.tables.units[self.place];
+        let access = self.perform(&unit)?;
+        Ok(self.event(at, access))
+    }
+
+    /// Takes `n` steps and tells what has become of the machine. Once it has ended, the steps that are left take
+    /// no time, since they change nothing.
+    ///
+    /// On an error, which comes only where no memory was left, fewer steps were taken, each of them whole.
+    pub fn run(&mut self, n: u64) -> Result<Outcome, AllocError>
+        ensures steps { OnOk result ((p : Program) → IsProgram p self.old → IsProgram p self.new × Steps p n (state_of p self.old) (state_of p self.new)) }
+        ensures outcome { IfOk result (λ outcome. outcome ≡ self.new.outcome) }
+        ensures err { OnErr result ((p : Program) → IsProgram p self.old → IsProgram p self.new × ((k : ℕ) × ((k < n) × Steps p k (state_of p self.old) (state_of p self.new)))) }
+    {
+        for _ in 0..n {
+            if self.has_ended() {
+                break;
+            }
+            self.step()?;
+        }
+        Ok(self.outcome)
+    }
+
+    /// The bytes that the program wrote so far.
+    pub fn output(&self) -> &[u8]
+        ensures { (p : Program) → result.now ≡ (state_of p self.now).output }
+    {
+        &self.output
+    }
+
+    /// The address of the next unit (pc).
+    pub fn at(&self) -> u32
+        ensures { (p : Program) → result ≡ (state_of p self.now).pc }
+    {
+        self.pc
+    }
+
+    /// What the next unit asks of memory: the words that are fetched, and whether it is a load or a store. A
+    /// machine that has ended tells it of the unit that it ended at.
+    pub fn footprint(&self) -> Footprint
+        ensures { (p : Program) → IsProgram p self.now → (read : Option Instr) × (Reads (p.word (state_of p self.now).pc) read × (result ≡ footprint_of p (state_of p self.now).pc read)) }
+    {
+        self.present().footprint()
+    }
+
+    /// The next unit.
+    fn present(&self) -> Prepared
+        ensures { result ≡ here self.now }
+    {
+        self.tables.units[self.place]
+    }
+
+    /// What has become of the machine.
+    pub fn outcome(&self) -> Outcome
+        ensures { (p : Program) → result ≡ (state_of p self.now).outcome }
+    {
+        self.outcome
+    }
+
+    /// Whether the machine goes on no more.
+    fn has_ended(&self) -> bool
+        ensures { MatchBool result (HasEnded self.now.outcome) (self.now.outcome ≡ Outcome.GoesOn) }
+    {
+        match self.outcome {
+            Outcome::GoesOn => false,
+            Outcome::Exited(_) | Outcome::Trapped { .. } | Outcome::AddressFault { .. } => true,
+        }
+    }
+
+    /// What a step that began at `at` tells.
+    fn event(&self, at: u32, access: Option<Access>) -> Event
+        ensures { result ≡ record { at = at; outcome = self.now.outcome; access = when_going self.now.outcome access } }
+    {
+        Event {
+            at,
+            outcome: self.outcome,
+            access: match self.outcome {
+                Outcome::GoesOn => access,
+                _ => None,
+            },
+        }
+    }
+}

@@ -1,0 +1,172 @@
+ghost use Rattle.std.specs.Prelude.{◌≡◌, ℕ, ◌+◌, ◌<◌, nat_lt, true, false, [], ◌∷◌, ◌++◌, length, IfOk, OnOk};
+ghost use Rattle.std.specs.List.{All};
+ghost use Rattle.index_tests.specs.Tests.{any_below};
+ghost use Rattle.elf_reader.specs.File.{plain_view};
+ghost use Rattle.loaded_code.specs.Marks.{all_loaded};
+ghost use Rattle.loaded_code.specs.Code.{holds_code, is_code_word, image_word};
+ghost use Rattle.loaded_code.specs.Read.{IsRead};
+ghost use Rattle.object_graph.specs.Lookups.{IsSomeGraph};
+ghost use Rattle.code_blocks.specs.Blocks.{IsUnit};
+ghost use Rattle.board_config.specs.declared.board.Board.{Board};
+ghost use Rattle.rv_decode.specs.Fields.{rd_of};
+ghost use Rattle.code_blocks.specs.Blocks.{IsCode};
+ghost use Rattle.object_machine.specs.Preparing.{IsPairOf, IsPreparedOf, ArePrepared, IsLaid, HasObjects};
+
+use crate::units::{Pair, Prepared};
+use code_blocks::{Code, Unit};
+use code_leaders::{links, pair_target};
+use elf_reader::ElfView;
+use loaded_code::{holds_code, word_in};
+use object_graph::Graph;
+use std::alloc::{AllocError, Global};
+
+/// The units of blocks one behind the other, and where each block begins.
+#[derive(Drop)]
+pub(crate) struct Laid {
+    pub(crate) units: Vec<Prepared>,
+    /// The address of each block.
+    pub(crate) starts: Vec<u64>,
+    /// The place of its first unit.
+    pub(crate) places: Vec<usize>,
+}
+
+/// The word of code at an address.
+fn code_word(view: &ElfView, loaded: &[bool], address: u32) -> u32
+    requires read { IsRead view.now }
+    requires marks { loaded.now ≡ all_loaded (plain_view view.now) }
+    requires code { is_code_word (plain_view view.now) address ≡ true }
+    ensures { result ≡ image_word (plain_view view.now) address }
+{
+    for k in 0..view.sections.len() {
+        if holds_code(view, loaded, address, k) {
+            return word_in(view, k, address);
+        }
+    }
+    0
+}
+
+/// The register that a word writes (RISC-V Unprivileged ISA, "Base Instruction Formats").
+fn rd(word: u32) -> u8
+    ensures { result ≡ rd_of word }
+{
+    ((word >> 7) & 0x1f) as u8
+}
+
+/// The call of two words that a unit is.
+fn pair_of(view: &ElfView, loaded: &[bool], unit: &Unit) -> Option<Pair>
+    requires read { IsRead view.now }
+    requires marks { loaded.now ≡ all_loaded (plain_view view.now) }
+    requires unit { IsUnit (plain_view view.now) unit.now }
+    ensures { IsPairOf (plain_view view.now) unit.now.at result }
+{
+    if unit.words == 1 {
+        return None;
+    }
+    let second = code_word(view, loaded, unit.at + 4);
+    Some(Pair {
+        target: pair_target(unit.at, unit.raw, second),
+        register: rd(unit.raw),
+        links: links(second),
+    })
+}
+
+/// A unit with what a step asks of it; `goes_on` says that another of its block follows.
+fn prepared(view: &ElfView, loaded: &[bool], graph: &Graph, unit: &Unit, goes_on: bool) -> Prepared
+    requires read { IsRead view.now }
+    requires marks { loaded.now ≡ all_loaded (plain_view view.now) }
+    requires graph { IsSomeGraph graph.now }
+    requires unit { IsUnit (plain_view view.now) unit.now }
+    ensures { IsPreparedOf (plain_view view.now) graph.now unit.now goes_on result }
+{
+    Prepared {
+        at: unit.at,
+        instr: unit.instr,
+        pair: pair_of(view, loaded, unit),
+        site: graph.site_at(unit.at),
+        goes_on,
+    }
+}
+
+/// The units of a block.
+fn prepared_units(
+    alloc: Global,
+    view: &ElfView,
+    loaded: &[bool],
+    graph: &Graph,
+    units: &[Unit],
+) -> Result<Vec<Prepared>, AllocError>
+    requires read { IsRead view.now }
+    requires marks { loaded.now ≡ all_loaded (plain_view view.now) }
+    requires graph { IsSomeGraph graph.now }
+    requires units { All (IsUnit (plain_view view.now)) units.now }
+    ensures { IfOk result (λ rs. ArePrepared (plain_view view.now) graph.now units.now (length units.now) rs.items) }
+{
+    let mut out = Vec::new(alloc);
+    for k in 0..units.len() {
+        out.push(prepared(view, loaded, graph, &units[k], k + 1 < units.len()))?;
+    }
+    Ok(out)
+}
+
+/// The units of all blocks.
+pub(crate) fn lay_blocks(
+    alloc: Global,
+    view: &ElfView,
+    loaded: &[bool],
+    graph: &Graph,
+    code: &Code,
+) -> Result<Laid, AllocError>
+    requires read { IsRead view.now }
+    requires marks { loaded.now ≡ all_loaded (plain_view view.now) }
+    requires graph { IsSomeGraph graph.now }
+    requires code { IsCode (plain_view view.now) code.now }
+    ensures { IfOk result (λ laid. (board : Board) → IsLaid (plain_view view.now) board graph.now code.now.blocks.items (length code.now.blocks.items) laid) }
+{
+    let mut laid = Laid {
+        units: Vec::new(alloc),
+        starts: Vec::new(alloc),
+        places: Vec::new(alloc),
+    };
+    for i in 0..code.blocks.len() {
+        let block = &code.blocks[i];
+        let units = prepared_units(alloc, view, loaded, graph, &block.units)?;
+        lay(&mut laid, block.start, &units)?;
+    }
+    Ok(laid)
+}
+
+/// Puts the units of the block that begins at `start` behind the others.
+fn lay(laid: &mut Laid, start: u32, units: &[Prepared]) -> Result<(), AllocError>
+    ensures units { OnOk result (laid.new.units.items ≡ laid.old.units.items ++ units.now) }
+    ensures starts { OnOk result (laid.new.starts.items ≡ laid.old.starts.items ++ start ∷ []) }
+    ensures places { OnOk result (laid.new.places.items ≡ laid.old.places.items ++ length laid.old.units.items ∷ []) }
+{
+    laid.places.push(laid.units.len())?;
+    laid.starts.push(u64::from(start))?;
+    laid.units.extend_from_slice(units)?;
+    Ok(())
+}
+
+/// Addresses as wider numbers.
+pub(crate) fn widened(alloc: Global, addresses: &[u32]) -> Result<Vec<u64>, AllocError>
+    ensures { IfOk result (λ wide. wide.items ≡ addresses.now) }
+{
+    let mut wide = Vec::new(alloc);
+    for address in addresses {
+        wide.push(u64::from(*address))?;
+    }
+    Ok(wide)
+}
+
+/// A graph with the objects of another alone.
+pub(crate) fn objects_alone(alloc: Global, graph: &Graph) -> Result<Graph, AllocError>
+    ensures { IfOk result (HasObjects graph.now) }
+{
+    Ok(Graph {
+        grain: graph.grain,
+        objects: Vec::from_slice(alloc, &graph.objects)?,
+        sites: Vec::new(alloc),
+        data_words: Vec::new(alloc),
+        code: Vec::new(alloc),
+    })
+}

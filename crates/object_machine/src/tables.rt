@@ -1,0 +1,79 @@
+ghost use Rattle.std.specs.Prelude.{◌≡◌, true, length};
+ghost use Rattle.std.specs.List.Sorted.{IsStrictlyIncreasing};
+ghost use Rattle.object_machine.specs.Units.{AreFit, AreJoined, AreStarts};
+ghost use Rattle.object_machine.specs.Layout.{AreAscending, EndBelow, LieApart, LieOff, AreAmong, is_grain};
+
+use crate::units::Prepared;
+use board_config::Range;
+use fixed_memory::lies_in_some;
+use object_graph::Graph;
+use sorted_numbers::place_of;
+
+/// What of a program never changes while it runs.
+#[derive(Drop)]
+pub(crate) struct Tables {
+    /// The objects that may move.
+    pub(crate) graph: Graph,
+    /// The units of all blocks, one block behind the other.
+    pub(crate) units: Vec<Prepared>,
+    /// Where the blocks begin, ascending, and the place of the first unit of each.
+    pub(crate) starts: Vec<u64>,
+    pub(crate) places: Vec<usize>,
+    /// The starts that a jump by a register may reach, ascending.
+    pub(crate) reached: Vec<u64>,
+    /// Memory that stays as it is, ascending.
+    pub(crate) fixed: Vec<Range>,
+    pub(crate) ghost grain: { is_grain graph.grain ≡ true },
+    pub(crate) ghost below: { EndBelow graph },
+    pub(crate) ghost apart: { LieApart graph },
+    pub(crate) ghost off: { LieOff fixed.items graph },
+    pub(crate) ghost fit: { AreFit (length graph.objects.items) units.items },
+    pub(crate) ghost joined: { AreJoined units.items },
+    pub(crate) ghost begun: { AreStarts units.items starts.items places.items },
+    pub(crate) ghost ascending: { IsStrictlyIncreasing starts.items },
+    pub(crate) ghost reached_ascending: { IsStrictlyIncreasing reached.items },
+    pub(crate) ghost among: { AreAmong reached.items starts.items },
+    pub(crate) ghost ranges: { AreAscending fixed.items },
+}
+
+impl Tables {
+    ghost use Rattle.std.specs.Prelude.{false, MatchOption};
+    ghost use Rattle.code_leaders.specs.Early.{has};
+    ghost use Rattle.object_machine.specs.Units.{IsUnitAt};
+    ghost use Rattle.object_machine.specs.Layout.{is_in_some};
+
+    /// Whether fixed memory lies at an address, by binary search.
+    pub(crate) fn is_fixed(&self, address: u32) -> bool
+        ensures { result ≡ is_in_some self.now.fixed.items address }
+    {
+        lies_in_some(&self.fixed, address)
+    }
+
+    /// The first unit of the block that begins at an address, if one does, by binary search.
+    pub(crate) fn block_at(&self, address: u64) -> Option<usize>
+        ensures { MatchOption result (has self.now.starts.items address ≡ false) (λ k. (has self.now.starts.items address ≡ true) × IsUnitAt self.now.units.items k address) }
+    {
+        match place_of(&self.starts, address) {
+            Some(k) => Some(self.places[k]),
+            None => None,
+        }
+    }
+
+    /// The first unit of the block that begins at an address.
+    pub(crate) fn place_of_block(&self, address: u64) -> usize
+        requires { has self.now.starts.items address ≡ true }
+        ensures { IsUnitAt self.now.units.items result address }
+    {
+        self.block_at(address).unwrap()
+    }
+
+    /// The first unit of the block at an address, if a jump by a register may reach that.
+    pub(crate) fn reached_at(&self, address: u64) -> Option<usize>
+        ensures { MatchOption result (has self.now.reached.items address ≡ false) (λ k. (has self.now.reached.items address ≡ true) × IsUnitAt self.now.units.items k address) }
+    {
+        match place_of(&self.reached, address) {
+            Some(_) => self.block_at(address),
+            None => None,
+        }
+    }
+}

@@ -1,0 +1,51 @@
+ghost use Rattle.std.specs.Prelude.{◌≡◌, IfOk};
+ghost use Rattle.elf_reader.specs.File.{plain_view};
+ghost use Rattle.board_config.specs.Board.{IsLawful};
+ghost use Rattle.loaded_code.specs.Read.{IsRead};
+ghost use Rattle.object_graph.specs.Graphs.{IsGraph};
+ghost use Rattle.code_blocks.specs.Blocks.{IsCode};
+ghost use Rattle.cell_values.specs.Objects.{IsGrain};
+ghost use Rattle.object_machine.specs.Program.{program_of};
+ghost use Rattle.object_machine.specs.Machine.{Agrees};
+ghost use Rattle.object_machine.specs.Preparing.{HasObjects};
+
+use crate::preparing::{lay_blocks, objects_alone, widened};
+use crate::tables::Tables;
+use board_config::Board;
+use code_blocks::Code;
+use elf_reader::ElfView;
+use fixed_memory::fixed_ranges;
+use loaded_code::loaded_sections;
+use object_graph::Graph;
+use std::alloc::{AllocError, Global};
+
+/// The tables of a program on a board.
+pub(crate) fn tables_of(
+    alloc: Global,
+    view: &ElfView,
+    board: &Board,
+    graph: &Graph,
+    code: &Code,
+) -> Result<Tables, AllocError>
+    requires read { IsRead view.now }
+    requires lawful { IsLawful board.now }
+    requires graph { IsGraph (plain_view view.now) board.now graph.now }
+    requires grain { IsGrain graph.now.grain }
+    requires code { IsCode (plain_view view.now) code.now }
+    ensures program { IfOk result (Agrees (program_of (plain_view view.now) board.now graph.now)) }
+    ensures graph { IfOk result (λ t. HasObjects graph.now t.graph) }
+{
+    let loaded = loaded_sections(alloc, view)?;
+    let objects = objects_alone(alloc, graph)?;
+    let laid = lay_blocks(alloc, view, &loaded, graph, code)?;
+    let reached = widened(alloc, &code.indirect)?;
+    let fixed = fixed_ranges(alloc, view, board, graph)?;
+    Ok(Tables {
+        graph: objects,
+        units: laid.units,
+        starts: laid.starts,
+        places: laid.places,
+        reached,
+        fixed,
+    })
+}
