@@ -1,0 +1,14 @@
+pub mod Numbers
+pub mod Lists
+pub mod Objects
+pub mod Memory
+pub mod Words
+pub mod Sites
+pub mod Sound
+pub mod Start
+pub mod Named
+pub mod Making
+pub mod Units
+pub mod Orders
+pub mod Parts
+pub mod Single

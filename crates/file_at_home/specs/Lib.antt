@@ -1,0 +1,3 @@
+pub use Rattle.simulation.specs.Laws as SimulationLaws
+pub mod Home
+pub mod Laws

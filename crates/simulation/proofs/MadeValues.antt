@@ -1,0 +1,183 @@
+-- The AUIPC beside an upper part made it: values that operations leave and loads take, and cells that stores put.
+use Rattle.std.proofs.Common.{◌≡◌, inl, inr, ℕ, ◌+◌, ◌-◌, ◌<◌, ◌≤◌, ◌==◌, nat_lt, nat_le, Bool, true, false, ◌&&◌, if◌then◌else◌, slice_index_or, Option, Some, None, ℤ, subst, arith}
+use Rattle.std.specs.Int.{cast_unsigned, w32}
+use Rattle.std.proofs.lemmas.Bool.{cases_lt, cond_both}
+use Rattle.rv_decode.specs.declared.instructions.BranchKind.TheVariants.{Bltu}
+use Rattle.rv_decode.specs.declared.instructions.ImmKind.{ImmKind}
+use Rattle.rv_decode.specs.declared.instructions.RegKind.{RegKind}
+use Rattle.rv_decode.specs.declared.instructions.RegKind.TheVariants.{Add, Sub, Sltu, Xor, Or, And}
+use Rattle.cell_values.specs.Objects.{Objects, home_address, low_of}
+use Rattle.cell_values.specs.Comparisons.{compare}
+use Rattle.cell_values.specs.Operations.{of_lows, by_lows, added, subtracted, kept_bits, masked_low, masked_address, masked, changed_address, changed, flagged, numbered, op_reg, operation_of, op_imm, same_chunk, low_site}
+use Rattle.cell_values.specs.Cells.{split, is_part, whole_word, join, byte_value, half_value}
+use Rattle.cell_values.specs.declared.values.Val.{Val}
+use Rattle.cell_values.specs.declared.values.Val.TheVariants.{Int, Addr, Hi, Low, Piece, Unknown}
+use Rattle.cell_values.specs.declared.values.Cell.{Cell}
+use Rattle.cell_values.specs.declared.values.Cell.TheVariants.{Byte, Part, Mist}
+use Rattle.value_words.specs.Makers.{Maker, Mixed, same_maker, joined_maker}
+use Rattle.value_words.proofs.Stores.{first_cells}
+use Rattle.object_machine.specs.Program.{Program}
+use Rattle.object_machine.specs.State.{Cells}
+use Rattle.simulation.specs.Made.{MakesPart, IsMade, CellIsMade}
+use Rattle.simulation.proofs.Puts.{ChangedIn}
+
+-- ---- operations leave no part of an address
+
+abbrev pub IsNoPart : Val → Type 0
+IsNoPart (Hi o d) = ⊥
+IsNoPart (Piece hi o d k) = ⊥
+IsNoPart x = Unit {0}
+
+pub no_part_made : (p : Program) (maker : Maker) (x : Val) → IsNoPart x → IsMade p maker x
+no_part_made p maker (Hi o d) none = absurd none
+no_part_made p maker (Piece hi o d k) none = absurd none
+no_part_made p maker x none = tt
+
+pub chosen : (test : Bool) (x y : Val) → IsNoPart x → IsNoPart y → IsNoPart (if test then x else y)
+chosen true x y first second = first
+chosen false x y first second = second
+
+module _ (os : Objects) where
+  of_lows_plain : (kind : RegKind) (a b : Option ℕ) → IsNoPart (of_lows kind os.grain a b)
+  of_lows_plain kind (Some a) (Some b) = tt
+  of_lows_plain kind (Some a) None = tt
+  of_lows_plain kind None b = tt
+
+  lows_plain : (kind : RegKind) (a b : Val) → IsNoPart (by_lows os kind a b)
+  lows_plain kind a b = of_lows_plain kind (low_of os a) (low_of os b)
+
+  added_plain : (a b : Val) → IsNoPart (added os a b)
+  added_plain (Int a) (Int b) = tt
+  added_plain (Addr o d) (Int n) = tt
+  added_plain (Int n) (Addr o d) = tt
+  added_plain a b = lows_plain Add a b
+
+  subtracted_plain : (a b : Val) → IsNoPart (subtracted os a b)
+  subtracted_plain (Int a) (Int b) = tt
+  subtracted_plain (Addr o d) (Int n) = tt
+  subtracted_plain (Addr o d) (Addr q e) =
+      cond_both (o == q) _ _ IsNoPart (λ same. tt) (λ other. lows_plain Sub (Addr o d) (Addr q e))
+  subtracted_plain a b = lows_plain Sub a b
+
+  kept_plain : (m : ℕ) (low : Option ℕ) → IsNoPart (kept_bits m low)
+  kept_plain m (Some low) = tt
+  kept_plain m None = tt
+
+  masked_low_plain : (m : ℕ) (a : Val) → IsNoPart (masked_low os m a)
+  masked_low_plain m a =
+      cond_both (nat_lt m os.grain) _ _ IsNoPart (λ small. kept_plain m (low_of os a)) (λ other. lows_plain And (Int m) a)
+
+  masked_address_plain : (o d m : ℕ) → IsNoPart (masked_address os o d m)
+  masked_address_plain o d m =
+      cond_both (nat_le (4294967296 - os.grain) m) _ _ IsNoPart (λ high. tt) (λ other. masked_low_plain m (Addr o d))
+
+  masked_plain : (a b : Val) → IsNoPart (masked os a b)
+  masked_plain (Int a) (Int b) = tt
+  masked_plain (Addr o d) (Int m) = masked_address_plain o d m
+  masked_plain (Int m) (Addr o d) = masked_address_plain o d m
+  masked_plain a (Int m) = masked_low_plain m a
+  masked_plain (Int m) b = masked_low_plain m b
+  masked_plain a b = lows_plain And a b
+
+  changed_address_plain : (kind : RegKind) (o d m : ℕ) → IsNoPart (changed_address os kind o d m)
+  changed_address_plain kind o d m =
+      cond_both (nat_lt m os.grain) _ _ IsNoPart (λ small. tt) (λ other. lows_plain kind (Addr o d) (Int m))
+
+  changed_plain : (kind : RegKind) (a b : Val) → IsNoPart (changed os kind a b)
+  changed_plain kind (Int a) (Int b) = tt
+  changed_plain kind (Addr o d) (Int m) = changed_address_plain kind o d m
+  changed_plain kind (Int m) (Addr o d) = changed_address_plain kind o d m
+  changed_plain kind a b = lows_plain kind a b
+
+  flagged_plain : (known : Option Bool) → IsNoPart (flagged known)
+  flagged_plain (Some less) = tt
+  flagged_plain None = tt
+
+  numbered_plain : (kind : RegKind) (a b : Val) → IsNoPart (numbered kind a b)
+  numbered_plain kind (Int a) (Int b) = tt
+  numbered_plain kind a b = tt
+
+  pub reg_plain : (kind : RegKind) (a b : Val) → IsNoPart (op_reg os kind a b)
+  reg_plain Add a b = added_plain a b
+  reg_plain Sub a b = subtracted_plain a b
+  reg_plain And a b = masked_plain a b
+  reg_plain Or a b = changed_plain Or a b
+  reg_plain Xor a b = changed_plain Xor a b
+  reg_plain Sltu a b = flagged_plain (compare os Bltu a b)
+  reg_plain kind a b = numbered_plain kind a b
+
+  pub imm_plain : (kind : ImmKind) (a : Val) (imm : ℤ) → IsNoPart (op_imm os kind a imm)
+  imm_plain kind (Int n) imm = tt
+  imm_plain kind a imm = reg_plain (operation_of kind) a (Int (cast_unsigned w32 imm))
+
+  pub site_plain : (a : Val) (o e : ℕ) → IsNoPart (low_site os a o e)
+  site_plain (Hi q d) o e =
+      chosen ((q == o) && same_chunk os.grain (home_address os o d) (home_address os o e)) (Addr o e) Unknown tt tt
+  site_plain a o e = tt
+
+-- ---- loads
+
+module _ (p : Program) where
+  pub byte_made : (extend : ℕ → ℕ) (maker : Maker) (c : Cell) → CellIsMade p maker c → IsMade p maker (byte_value extend c)
+  byte_made extend maker (Byte b) made = tt
+  byte_made extend maker (Part true o d k) made = made
+  byte_made extend maker (Part false o d k) made = tt
+  byte_made extend maker Mist made = tt
+
+  pub half_made : (extend : ℕ → ℕ) (maker : Maker) (c d : Cell) → IsMade p maker (half_value extend c d)
+  half_made extend maker (Byte a) (Byte b) = tt
+  half_made extend maker c d = tt
+
+  joined_made : (a b c e : Maker) (o d : ℕ) → MakesPart p a o d → IsMade p (joined_maker a b c e) (Hi o d)
+  joined_made a b c e o d made =
+      cond_both (same_maker a b && same_maker a c && same_maker a e) a Mixed (λ maker. MakesPart p maker o d)
+      (λ same. made) (λ other. tt)
+
+  pub join_made : (a b c e : Maker) (first second third fourth : Cell) → CellIsMade p a first → IsMade p (joined_maker a b c e) (join first second third fourth)
+  join_made a b c e (Byte i) (Byte j) (Byte k) (Byte n) made = tt
+  join_made a b c e (Part true o d k) second third fourth made =
+      cond_both ((k == 0) && is_part true o d 1 second && is_part true o d 2 third && is_part true o d 3 fourth)
+      (whole_word true o d) Unknown (IsMade p (joined_maker a b c e)) (λ parts. joined_made a b c e o d made) (λ other. tt)
+  join_made a b c e (Part false o d k) second third fourth made =
+      cond_both ((k == 0) && is_part false o d 1 second && is_part false o d 2 third && is_part false o d 3 fourth)
+      (whole_word false o d) Unknown (IsMade p (joined_maker a b c e)) (λ parts. tt) (λ other. tt)
+  join_made a b c e first second third fourth made = tt
+
+  -- ---- stores
+
+  pub split_made : (maker : Maker) (x : Val) → IsMade p maker x → (k : ℕ) → k < 4 → CellIsMade p maker (slice_index_or (split x) k Mist)
+  split_made maker (Int n) made =
+      first_cells (λ k. CellIsMade p maker (slice_index_or (split (Int n)) k Mist)) tt tt tt tt
+  split_made maker (Addr o d) made =
+      first_cells (λ k. CellIsMade p maker (slice_index_or (split (Addr o d)) k Mist)) tt tt tt tt
+  split_made maker (Hi o d) made =
+      first_cells (λ k. CellIsMade p maker (slice_index_or (split (Hi o d)) k Mist)) made made made made
+  split_made maker (Low n) made =
+      first_cells (λ k. CellIsMade p maker (slice_index_or (split (Low n)) k Mist)) tt tt tt tt
+  split_made maker (Piece true o d j) made =
+      first_cells (λ k. CellIsMade p maker (slice_index_or (split (Piece true o d j)) k Mist)) made tt tt tt
+  split_made maker (Piece false o d j) made =
+      first_cells (λ k. CellIsMade p maker (slice_index_or (split (Piece false o d j)) k Mist)) tt tt tt tt
+  split_made maker Unknown made =
+      first_cells (λ k. CellIsMade p maker (slice_index_or (split Unknown) k Mist)) tt tt tt tt
+
+  -- cells and makers that change at the same places
+  pub changed_made : (old new : Cells) (old_makers new_makers : ℕ → Maker) (k n : ℕ) (xs : ℕ → Cell) (maker : Maker) → ChangedIn old new k n xs → ChangedIn old_makers new_makers k n (λ i. maker) → ((a : ℕ) → CellIsMade p (old_makers a) (old a)) → ((i : ℕ) → i < n → CellIsMade p maker (xs i)) → (a : ℕ) → CellIsMade p (new_makers a) (new a)
+  changed_made old new old_makers new_makers k n xs maker cells makers before put a =
+      elim (cases_lt a k) [
+        | inl low ↦ elsewhere (λ i below same. omega arith)
+        | inr high ↦ elim (cases_lt (a - k) n) [ inl below ↦ here below high | inr beyond ↦ elsewhere (λ i below same. omega arith) ]
+      ]
+    where
+      elsewhere : ((i : ℕ) → i < n → a ≡ k + i → ⊥) → CellIsMade p (new_makers a) (new a)
+      elsewhere other =
+          let cell = cells.outside a other in
+          let made = makers.outside a other in
+          rw (cell, made) (before a)
+
+      here : a - k < n → k ≤ a → CellIsMade p (new_makers a) (new a)
+      here below high =
+          let same : k + (a - k) ≡ a = omega arith in
+          let cell : new a ≡ xs (a - k) = subst (λ b. new b ≡ xs (a - k)) same (cells.inside (a - k) below) in
+          let made : new_makers a ≡ maker = subst (λ b. new_makers b ≡ maker) same (makers.inside (a - k) below) in
+          rw (cell, made) (put (a - k) below)

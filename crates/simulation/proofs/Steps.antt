@@ -1,0 +1,335 @@
+-- Parts of the proofs of one step: what is fetched and read, and what a written register leaves.
+use Rattle.std.proofs.Common.{◌≡◌, ◌⊎◌, inl, inr, ℕ, ◌+◌, ◌<◌, ◌==◌, true, false, not, [], ◌∷◌, Option, Some, None, refl, sym, ◌∙◌, subst, arith}
+use Rattle.std.specs.Prelude.{Contains}
+use Rattle.std.specs.Bool.{MatchBool}
+use Rattle.std.proofs.lemmas.Grind.{common_steps}
+use Rattle.std.proofs.lemmas.List.Elements.{filter-append, Contains-append_right}
+use Rattle.std.proofs.lemmas.Bool.{cases_eq, cond_both, cond-true}
+use Rattle.std.proofs.lemmas.Bool.Decides.{nat_tests}
+use Rattle.word_bits.specs.Words.{plus}
+use Rattle.word_bits.specs.Memory.{put, word_at}
+use Rattle.rv_decode.specs.Table.{Means}
+use Rattle.rv_decode.specs.Acts.{Registers, register, with_register, used, defined, without_zero}
+use Rattle.rv_decode.specs.declared.instructions.Instr.{Instr}
+use Rattle.rv_decode.proofs.Words.{keeps_words}
+use Rattle.flat_machine.specs.declared.events.FlatOutcome as flat
+use Rattle.flat_machine.specs.declared.events.FlatEvent.{FlatEvent}
+use Rattle.flat_machine.specs.Mapping.{can_access}
+use Rattle.flat_machine.specs.State.{State, trap}
+use Rattle.flat_machine.specs.Step.{Performs, ReadsNothing, StepAt, Step, performed, event_of}
+use Rattle.flat_machine.specs.Step.{Reads as FlatReads}
+use Rattle.flat_machine.specs.Sizes.{HasWords}
+use Rattle.flat_machine.proofs.Runs.{performs_meaning}
+use Rattle.flat_machine.proofs.Words.{step_words}
+use Rattle.cell_values.specs.Laws.{HoldsWord}
+use Rattle.cell_values.specs.declared.values.Val.{Val}
+use Rattle.cell_values.specs.declared.values.Val.TheVariants.{Int}
+use Rattle.value_words.specs.Makers.{Maker}
+use Rattle.value_words.specs.Stands.{Stands}
+use Rattle.cell_values.specs.Cells.{put_at}
+use Rattle.object_machine.specs.declared.events.Outcome.TheVariants.{GoesOn, AddressFault}
+use Rattle.object_machine.specs.Program.{Program}
+use Rattle.object_machine.specs.State.{Values, SourceState, value, with_value, wrote, faulted}
+use Rattle.object_machine.specs.Flow.{falls_on, jumps}
+use Rattle.object_machine.specs.Step.{Reads, acts, next_state}
+use Rattle.object_machine.specs.Paired.{Makers, makers_by, makers_after, is_paired_by, is_paired_step}
+use Rattle.simulation.specs.Setups.{Setup}
+use Rattle.simulation.specs.Units.{StandsAt}
+use Rattle.simulation.specs.Relation.{Alike, After, Leads}
+use Rattle.simulation.proofs.OneUnit.{Ready}
+
+-- ---- what is fetched
+
+-- the flat machine goes on at an address, and what stands still is in its memory
+pub record Fetches (l : Setup) (r u : ℕ) (t : State) : Type 0 where
+  pub at : t.hart.pc ≡ u
+  pub map : t.map ≡ l.map
+  pub going : t.outcome ≡ flat.TheVariants.GoesOn
+  pub words : HasWords t
+  pub still : (a : ℕ) → l.is_still r a ≡ true → t.hart.mem a ≡ l.still r a
+
+module _ (l : Setup) (r u w : ℕ) (t : State) (here : Fetches l r u t) (stands : StandsAt l r u w) where
+  word_still : u < 4294967296 → word_at t.hart.mem u ≡ w
+  word_still below =
+      let first : plus u 0 ≡ u = omega arith in
+      let at_first = stands.still 0 (omega arith) in
+      let byte_0 = here.still u (rw first at at_first) in
+      let byte_1 = here.still (plus u 1) (stands.still 1 (omega arith)) in
+      let byte_2 = here.still (plus u 2) (stands.still 2 (omega arith)) in
+      let byte_3 = here.still (plus u 3) (stands.still 3 (omega arith)) in
+      let whole = stands.word in
+      rw (byte_0, byte_1, byte_2, byte_3) whole
+
+  word_there : word_at t.hart.mem t.hart.pc ≡ w
+  word_there =
+      let below : u < 4294967296 = subst (λ a. a < 4294967296) here.at here.words.hart.pc in
+      subst (λ a. word_at t.hart.mem a ≡ w) (sym here.at) (word_still below)
+
+  may_fetch : can_access t.map t.hart.pc 4 ≡ true
+  may_fetch =
+      subst (λ q. can_access q t.hart.pc 4 ≡ true) (sym here.map)
+      (subst (λ a. can_access l.map a 4 ≡ true) (sym here.at) stands.fetched)
+
+  -- the instruction that a word means is performed
+  pub fetches : (j : Instr) → Means w j → Step t (event_of t j) (performed t j)
+  fetches j means = performs_meaning t j here.going may_fetch (subst (λ x. Means x j) (sym word_there) means)
+
+  pub fetched_words : (j : Instr) → Means w j → HasWords (performed t j)
+  fetched_words j means = step_words keeps_words t (performed t j) (event_of t j) here.words (fetches j means)
+
+  -- one that means nothing is a trap
+  pub fetches_nothing : FlatReads w None → (e : FlatEvent) × Step t e (trap t)
+  fetches_nothing means =
+      let e : FlatEvent = record { at = t.hart.pc; outcome = (trap t).outcome; word = word_at t.hart.mem t.hart.pc; access = None } in
+      let step : Performs t e (trap t) None =
+      record { reads = subst (λ x. FlatReads x None) (sym word_there) means; state = refl; event = refl } in (
+        e,
+        subst (λ o. StepAt o t e (trap t)) (sym here.going)
+            (subst (λ b. MatchBool b ((read : Option Instr) × Performs t e (trap t) read) (ReadsNothing t e (trap t) (trap t)))
+            (sym may_fetch) (None, step)),
+      )
+
+pub ready_fetches : (p : Program) (l : Setup) (live arrive : ℕ → ℕ → Type 0) (r : ℕ) (s : SourceState) (m : Makers) (t : State) → Ready p l live arrive r s m t → Fetches l r s.pc t
+ready_fetches p l live arrive r s m t ready =
+    record {
+      at = ready.at;
+      map = ready.alike.map;
+      going = ready.alike.going;
+      words = ready.alike.words;
+      still = ready.alike.still;
+    }
+
+-- ---- where steps lead
+
+module _ (p : Program) (l : Setup) (live arrive : ℕ → ℕ → Type 0) (r : ℕ) (t : State) where
+  -- by one event and by two
+  pub leads_one : (n : SourceState) (m : Makers) (e : FlatEvent) (t' : State) → Step t e t' → After n.outcome p l live arrive r n m t' → Leads 2 p l live arrive r n m t
+  leads_one n m e t' step after = (e ∷ [], (t', ((t', (step, refl)), (omega arith, after))))
+
+  pub leads_two : (n : SourceState) (m : Makers) (e f : FlatEvent) (t' t'' : State) → Step t e t' → Step t' f t'' → After n.outcome p l live arrive r n m t'' → Leads 2 p l live arrive r n m t
+  leads_two n m e f t' t'' step more after =
+      (e ∷ f ∷ [], (t'', ((t', (step, (t'', (more, refl)))), (omega arith, after))))
+
+  -- a fault promises nothing
+  pub fault_leads : (n : SourceState) (m : Makers) (pc why : ℕ) → n.outcome ≡ AddressFault pc why → Leads 2 p l live arrive r n m t
+  fault_leads n m pc why fault =
+      ([], (t, (refl, (omega arith, subst (λ o. After o p l live arrive r n m t) (sym fault) tt))))
+
+  -- to the next word, to a block, or into a fault
+  pub falls_leads : (s s' : SourceState) (m : Makers) → (falls_on p s s' ≡ record s' { pc = s.pc + 4 } → Leads 2 p l live arrive r (record s' { pc = s.pc + 4 }) m t) → Leads 2 p l live arrive r (falls_on p s s') m t
+  falls_leads s s' m on =
+      cond_both (p.falls s.pc) (record s' { pc = s.pc + 4 }) (faulted s 6) (λ n. Leads 2 p l live arrive r n m t)
+      (λ falls. on (cond-true (p.falls s.pc) (record s' { pc = s.pc + 4 }) (faulted s 6) falls))
+      (λ other. fault_leads (faulted s 6) m s.pc 6 refl)
+
+  pub jumps_leads : (s s' : SourceState) (a : ℕ) (m : Makers) → (jumps p s a s' ≡ record s' { pc = a } → Leads 2 p l live arrive r (record s' { pc = a }) m t) → Leads 2 p l live arrive r (jumps p s a s') m t
+  jumps_leads s s' a m on =
+      cond_both (p.is_block a) (record s' { pc = a }) (faulted s 6) (λ n. Leads 2 p l live arrive r n m t)
+      (λ block. on (cond-true (p.is_block a) (record s' { pc = a }) (faulted s 6) block))
+      (λ other. fault_leads (faulted s 6) m s.pc 6 refl)
+
+  -- where the other machine goes on
+  pub after_going : (n : SourceState) (m : Makers) (t' : State) → n.outcome ≡ GoesOn → Alike p l live r n.pc n m t' → arrive n.pc t'.hart.pc → After n.outcome p l live arrive r n m t'
+  after_going n m t' going alike arrives = subst (λ o. After o p l live arrive r n m t') (sym going) (alike, arrives)
+
+-- ---- registers
+
+pub value_zero : (regs : Values) (k : ℕ) → k ≡ 0 → value regs k ≡ Int 0
+value_zero regs k zero_register = grind (arith, nat_tests)
+
+pub register_zero : (f : Registers) (k : ℕ) → k ≡ 0 → register f k ≡ 0
+register_zero f k zero_register = grind (arith, nat_tests)
+
+-- a register holds a word
+pub register_word : (f : Registers) (k : ℕ) → ((j : ℕ) → f j < 4294967296) → register f k < 4294967296
+register_word f k words = let here = words k in grind (arith, nat_tests)
+
+pub value_wrote : (regs : Values) (rd k : ℕ) (x : Val) → k ≡ rd → (k ≡ 0 → ⊥) → value (with_value regs rd x) k ≡ x
+unfolding put_at
+value_wrote regs rd k x same other = grind (arith, nat_tests)
+
+pub value_other : (regs : Values) (rd k : ℕ) (x : Val) → (k ≡ rd → ⊥) → value (with_value regs rd x) k ≡ value regs k
+unfolding put_at
+value_other regs rd k x other = grind (arith, nat_tests)
+
+pub register_wrote : (f : Registers) (rd w : ℕ) → (rd ≡ 0 → ⊥) → register (with_register f rd w) rd ≡ w
+unfolding put
+register_wrote f rd w other = grind (arith, nat_tests)
+
+pub register_other : (f : Registers) (rd w k : ℕ) → (k ≡ rd → ⊥) → register (with_register f rd w) k ≡ register f k
+unfolding put
+register_other f rd w k other = grind (arith, nat_tests)
+
+pub put_there : (table : ℕ → Maker) (k : ℕ) (maker : Maker) → put_at table k maker k ≡ maker
+unfolding put_at
+put_there table k maker = grind (arith, nat_tests)
+
+pub put_other : (table : ℕ → Maker) (k : ℕ) (maker : Maker) (j : ℕ) → (j ≡ k → ⊥) → put_at table k maker j ≡ table j
+unfolding put_at
+put_other table k maker j other = grind (arith, nat_tests)
+
+-- nothing but register `rd` was written: the flat machine has `w` there, if it isn't x0
+pub record Writes (rd w : ℕ) (old new : Registers) : Type 0 where
+  pub here : (rd ≡ 0 → ⊥) → register new rd ≡ w
+  pub others : (k : ℕ) → (k ≡ rd → ⊥) → register new k ≡ register old k
+
+pub with_writes : (f : Registers) (rd w : ℕ) → Writes rd w f (with_register f rd w)
+with_writes f rd w = record { here = register_wrote f rd w; others = register_other f rd w }
+
+-- the registers of a state `s` and of one that is like it at `u`, after a write of `x` and `w`, for a unit at `v`
+module _ (p : Program) (l : Setup) (live : ℕ → ℕ → Type 0) (r u v : ℕ) (s : SourceState) (m : Makers) (t : State) (alike : Alike p l live r u s m t) (rd w : ℕ) (x : Val) (makers : ℕ → Maker) (f : Registers) (keeps : (k : ℕ) → live v k → (k ≡ rd → ⊥) → live u k) (made : (k : ℕ) → (k ≡ rd → ⊥) → makers k ≡ m.regs k) (writes : Writes rd w t.hart.regs f) (stands : Stands p.objects (l.place r) (l.upper r) (makers rd) x w) (holds : HoldsWord x) where
+  zero_stands : (k : ℕ) → k ≡ 0 → Stands p.objects (l.place r) (l.upper r) (makers k) (value (with_value s.regs rd x) k) (register f k)
+  zero_stands k is =
+      let first = value_zero (with_value s.regs rd x) k is in
+      let second = register_zero f k is in
+      rw (first, second) refl
+
+  there_stands : (k : ℕ) → k ≡ rd → (k ≡ 0 → ⊥) → Stands p.objects (l.place r) (l.upper r) (makers k) (value (with_value s.regs rd x) k) (register f k)
+  there_stands k same other =
+      let first = value_wrote s.regs rd k x same other in
+      let second : register f k ≡ w = subst (λ j. (j ≡ 0 → ⊥) → register f j ≡ w) (sym same) writes.here other in
+      let third : Stands p.objects (l.place r) (l.upper r) (makers k) x w =
+      subst (λ j. Stands p.objects (l.place r) (l.upper r) (makers j) x w) (sym same) stands in
+      rw (first, second) third
+
+  other_stands : (k : ℕ) → live v k → (k ≡ rd → ⊥) → Stands p.objects (l.place r) (l.upper r) (makers k) (value (with_value s.regs rd x) k) (register f k)
+  other_stands k lives other =
+      let first = value_other s.regs rd k x other in
+      let second = writes.others k other in
+      let third = made k other in
+      rw (first, second, third) (alike.regs k (keeps k lives other))
+
+  pub regs_wrote : (k : ℕ) → live v k → Stands p.objects (l.place r) (l.upper r) (makers k) (value (with_value s.regs rd x) k) (register f k)
+  regs_wrote k lives =
+      elim (cases_eq k 0) [
+        | inl is ↦ zero_stands k is
+        | inr nonzero ↦ elim (cases_eq k rd) [ inl same ↦ there_stands k same nonzero | inr other ↦ other_stands k lives other ]
+      ]
+
+  pub values_wrote : (k : ℕ) → live v k → HoldsWord (value (with_value s.regs rd x) k)
+  values_wrote k lives =
+      elim (cases_eq k 0) [
+        | inl is ↦ let zero_value = value_zero (with_value s.regs rd x) k is in rw zero_value (omega arith)
+        | inr nonzero ↦ elim (cases_eq k rd) [
+          | inl same ↦ let first = value_wrote s.regs rd k x same nonzero in rw first holds
+          | inr other ↦ let first = value_other s.regs rd k x other in rw first (alike.values k (keeps k lives other))
+        ]
+      ]
+
+  -- the states are alike again, with the pc's anywhere
+  pub wrote_on : (c : ℕ) → HasWords (record t { hart = record { pc = c; regs = f; mem = t.hart.mem } }) → Alike p l live r v (record (wrote s rd x) { pc = v }) (record m { regs = makers }) (record t { hart = record { pc = c; regs = f; mem = t.hart.mem } })
+  wrote_on c words =
+      record {
+        regs = regs_wrote;
+        values = values_wrote;
+        fixed = alike.fixed;
+        cells = alike.cells;
+        fixed_words = alike.fixed_words;
+        cell_words = alike.cell_words;
+        still = alike.still;
+        map = alike.map;
+        going = alike.going;
+        source_going = alike.source_going;
+        words = words;
+        input = alike.input;
+        output = alike.output;
+      }
+
+-- ---- what an instruction reads and writes
+
+pub one_read : (k : ℕ) → (k ≡ 0) ⊎ Contains (without_zero (k ∷ [])) k
+one_read k = elim (cases_eq k 0) [ inl is ↦ inl is | inr other ↦ inr (grind (arith, nat_tests, common_steps)) ]
+
+pub first_read : (k j : ℕ) → (k ≡ 0) ⊎ Contains (without_zero (k ∷ j ∷ [])) k
+first_read k j =
+    elim (cases_eq k 0) [
+      | inl is ↦ inl is
+      | inr other ↦
+          let listed : k ∷ without_zero (j ∷ []) ≡ without_zero (k ∷ j ∷ []) = grind (arith, nat_tests, common_steps) in
+          inr (subst (λ ks. Contains ks k) listed (0, omega arith, refl))
+    ]
+
+pub second_read : (k j : ℕ) → (j ≡ 0) ⊎ Contains (without_zero (k ∷ j ∷ [])) j
+second_read k j =
+    elim (one_read j) [
+      | inl is ↦ inl is
+      | inr has ↦
+          inr (subst (λ ks. Contains ks j) (sym (filter-append (λ n. not (n == 0)) (k ∷ []) (j ∷ [])))
+          (Contains-append_right (without_zero (k ∷ [])) (without_zero (j ∷ [])) j has))
+    ]
+
+pub one_written : (k j : ℕ) → Contains (without_zero (k ∷ [])) j → j ≡ k
+one_written k j has = grind (arith, nat_tests, common_steps)
+
+pub none_written : (j : ℕ) → Contains [] j → ⊥
+none_written j has = grind (arith, common_steps)
+
+-- what makes the step of one instruction a paired one
+pub paired_by : (p : Program) (s : SourceState) (m : Makers) (i : Instr) → p.is_pair s.pc ≡ false → is_paired_step p s m (Some i) ≡ true → is_paired_by p s m i ≡ true
+paired_by p s m i single paired = rw single at paired
+
+-- what both machines read in a register
+pub record Operand (p : Program) (l : Setup) (r k : ℕ) (s : SourceState) (m : Makers) (t : State) : Type 0 where
+  pub stands : Stands p.objects (l.place r) (l.upper r) (m.regs k) (value s.regs k) (register t.hart.regs k)
+  pub holds : HoldsWord (value s.regs k)
+  pub word : register t.hart.regs k < 4294967296
+
+-- an instruction that is no call of two words
+module _ (p : Program) (l : Setup) (live arrive : ℕ → ℕ → Type 0) (r : ℕ) (s : SourceState) (m : Makers) (t : State) (i : Instr) (ready : Ready p l live arrive r s m t) (single : p.is_pair s.pc ≡ false) (reads : Reads (p.word s.pc) (Some i)) where
+  live_read : (k : ℕ) → live s.pc k → Operand p l r k s m t
+  live_read k lives =
+      record {
+        stands = ready.alike.regs k lives;
+        holds = ready.alike.values k lives;
+        word = register_word t.hart.regs k ready.alike.words.hart.regs;
+      }
+
+  zero_read : (k : ℕ) → k ≡ 0 → Operand p l r k s m t
+  zero_read k is =
+      let first = value_zero s.regs k is in
+      let second = register_zero t.hart.regs k is in
+      record {
+        stands = rw (first, second) refl;
+        holds = rw first (omega arith);
+        word = rw second (omega arith);
+      }
+
+  pub reads_on : (k : ℕ) → (k ≡ 0) ⊎ Contains (used i) k → Operand p l r k s m t
+  reads_on k (inl is) = zero_read k is
+  reads_on k (inr has) = live_read k (ready.rules.uses s.pc k i single reads has)
+
+  pub next_acts : next_state p s (Some i) ≡ acts p s i (p.site s.pc)
+  next_acts = rw single refl
+
+  pub next_makers : makers_after p s m (Some i) ≡ makers_by p s m i
+  next_makers = rw single refl
+
+  -- what matters behind it and isn't written matters at it
+  pub keeps_on : (n : SourceState) → acts p s i (p.site s.pc) ≡ n → n.outcome ≡ GoesOn → (k : ℕ) → live n.pc k → (Contains (defined i) k → ⊥) → live s.pc k
+  keeps_on n is =
+      subst (λ q. q.outcome ≡ GoesOn → (k : ℕ) → live q.pc k → (Contains (defined i) k → ⊥) → live s.pc k) (next_acts ∙ is)
+      (λ going k lives other. ready.rules.keeps s i k ready.alike.source_going single reads going lives other)
+
+  -- it leads where its own effect leads
+  pub acts_leads : Leads 2 p l live arrive r (acts p s i (p.site s.pc)) (makers_by p s m i) t → Leads 2 p l live arrive r (next_state p s (Some i)) (makers_after p s m (Some i)) t
+  acts_leads leads = rw (next_acts, next_makers) leads
+
+  -- into a fault
+  pub faults_both : (why : ℕ) → acts p s i (p.site s.pc) ≡ faulted s why → Leads 2 p l live arrive r (next_state p s (Some i)) (makers_after p s m (Some i)) t
+  faults_both why effect =
+      acts_leads
+      (subst (λ n. Leads 2 p l live arrive r n (makers_by p s m i) t) (sym effect)
+      (fault_leads p l live arrive r t (faulted s why) (makers_by p s m i) s.pc why refl))
+
+  -- and the flat machine at an instruction that stands for it
+  pub performs_leads : (w : ℕ) (j : Instr) (n : SourceState) (m' : Makers) → StandsAt l r s.pc w → Means w j → After n.outcome p l live arrive r n m' (performed t j) → Leads 2 p l live arrive r n m' t
+  performs_leads w j n m' stands means after =
+      leads_one p l live arrive r t n m' (event_of t j) (performed t j)
+      (fetches l r s.pc w t (ready_fetches p l live arrive r s m t ready) stands j means) after
+
+  -- the flat pc at the next word
+  pub next_pc : plus t.hart.pc 4 ≡ s.pc + 4
+  next_pc = let below = ready.unit.below in let here = ready.at in omega arith
+
+  pub falls_home : arrive (s.pc + 4) (plus t.hart.pc 4)
+  falls_home = subst (λ a. arrive (s.pc + 4) a) (sym next_pc) (ready.home (s.pc + 4))

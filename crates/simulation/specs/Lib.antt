@@ -1,0 +1,9 @@
+pub use Rattle.flat_machine.specs.Runs
+pub use Rattle.value_words.specs.Stands
+pub use Rattle.object_machine.specs.Paired
+pub mod Setups
+pub mod Made
+pub mod Units
+pub mod Relation
+pub mod Rules
+pub mod Laws

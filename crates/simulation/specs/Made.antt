@@ -1,0 +1,36 @@
+-- The AUIPC that is kept beside an upper part made this very part: so it is at the start, and after each step.
+use Rattle.std.specs.Prelude.{◌≡◌, ℕ, true, Some}
+use Rattle.rv_decode.specs.Table.{Means}
+use Rattle.rv_decode.specs.declared.instructions.Instr.TheVariants.{Auipc}
+use Rattle.cell_values.specs.declared.values.Val.{Val}
+use Rattle.cell_values.specs.declared.values.Val.TheVariants.{Hi, Piece}
+use Rattle.cell_values.specs.declared.values.Cell.{Cell}
+use Rattle.cell_values.specs.declared.values.Cell.TheVariants.{Part}
+use Rattle.value_words.specs.Makers.{Maker, ByAuipc}
+use Rattle.object_machine.specs.Program.{Program}
+use Rattle.object_machine.specs.State.{SourceState, value}
+use Rattle.object_machine.specs.Paired.{Makers}
+
+-- the word at an address is an AUIPC
+abbrev pub IsAuipcAt : Program → ℕ → Type 0
+IsAuipcAt p a = (rd : ℕ) × ((n : ℕ) × Means (p.word a) (Auipc rd n))
+
+-- the AUIPC is there, and is a site of the address
+abbrev pub MakesPart : Program → Maker → ℕ → ℕ → Type 0
+MakesPart p (ByAuipc a) o d = (p.site a ≡ Some (record { object = o; offset = d })) × IsAuipcAt p a
+MakesPart p maker o d = Unit {0}
+
+abbrev pub IsMade : Program → Maker → Val → Type 0
+IsMade p maker (Hi o d) = MakesPart p maker o d
+IsMade p maker (Piece true o d k) = MakesPart p maker o d
+IsMade p maker x = Unit {0}
+
+abbrev pub CellIsMade : Program → Maker → Cell → Type 0
+CellIsMade p maker (Part true o d k) = MakesPart p maker o d
+CellIsMade p maker c = Unit {0}
+
+-- in registers and in memory
+pub record AreMade (p : Program) (s : SourceState) (m : Makers) : Type 0 where
+  pub regs : (k : ℕ) → IsMade p (m.regs k) (value s.regs k)
+  pub fixed : (a : ℕ) → CellIsMade p (m.fixed a) (s.fixed a)
+  pub cells : (o i : ℕ) → CellIsMade p (m.cells o i) (s.cells o i)
