@@ -1,0 +1,2 @@
+mod CostLemmas
+mod PriceLemmas
