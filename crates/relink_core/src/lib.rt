@@ -3,9 +3,11 @@
 
 mod analysis;
 mod fault;
+mod laws;
 
 pub use analysis::{Analysis, analyse};
 pub use fault::AnalyseFault;
+pub use laws::unmoved_file_keeps;
 
 #[cfg(test)]
 mod tests;
