@@ -31,6 +31,8 @@ input_cause : (fault : Refusal) (words : List (List ℕ)) (old new : ShelfView) 
     → InputFails words fault old new → mid ≡ sink → Cause fault words old new sink mid
 input_cause (refusal.Board fault) words old new sink mid f same = (f, same)
 input_cause (refusal.Elf fault) words old new sink mid f same = (f, same)
+input_cause (refusal.Analyse fault) words old new sink mid f same = (f, same)
+input_cause (refusal.AddressFault pc why) words old new sink mid f same = (f, same)
 input_cause (refusal.Hex fault) words old new sink mid f same = (f, same)
 input_cause (refusal.Differs at) words old new sink mid f same = (f, same)
 input_cause refusal.Usage words old new sink mid f same =

@@ -38,7 +38,7 @@ sets_all (w ∷ names) [] ready old new r s = absurd r
 sets_all (w ∷ names) (x ∷ outputs) [] old new r s = absurd r
 sets_all (w ∷ names) (x ∷ outputs) (o ∷ ready) old new r s =
     let (mid, set, rest) = s in
-    (mid, named_set _ _ _ _ old mid r.0 r.1 set, sets_all names outputs ready mid new r.3 rest)
+    (mid, named_set _ _ _ _ old mid r.0.name r.0.bytes set, sets_all names outputs ready mid new r.1 rest)
 
 -- a write of them failed, or wanted memory, and `r` is the refusal of that
 abbrev WriteFailure : List Named → List (List ℕ) → ShelfView → ShelfView → Refused → Type 0
@@ -56,15 +56,15 @@ write_failure (w ∷ names) (x ∷ outputs) [] old new r a f = absurd a
 write_failure (w ∷ names) (x ∷ outputs) (o ∷ ready) old new r a (inl (write_fails e lost)) =
     inl (
       w.place,
-      inl (refl, subst (λ (n : List ℕ). LosesName n old new) a.0 lost),
-      subst (IsReady (refusal.Write w.place)) (sym e) a.2,
+      inl (refl, subst (λ (n : List ℕ). LosesName n old new) a.0.name lost),
+      subst (IsReady (refusal.Write w.place)) (sym e) a.0.fault,
     )
 write_failure (w ∷ names) (x ∷ outputs) (o ∷ ready) old new r a (inl (wants_memory e same)) =
     inr (inl same, subst (IsReady refusal.Memory) (sym e) memory_ready)
 write_failure (w ∷ names) (x ∷ outputs) (o ∷ ready) old new r a (inr later) =
     let (mid, set, f) = later in
-    let set' = named_set _ _ _ _ old mid a.0 a.1 set in
-    elim (write_failure names outputs ready mid new r a.3 f) [
+    let set' = named_set _ _ _ _ old mid a.0.name a.0.bytes set in
+    elim (write_failure names outputs ready mid new r a.1 f) [
       | inl lost ↦ inl (lost.0, inr (mid, set', lost.1), lost.2)
       | inr wants ↦ inr (inr (mid, set', wants.0), wants.1)
     ]

@@ -11,7 +11,8 @@ use Rattle.spmlink.specs.FaultLine.{Parts, status_of, fault_line, parts_of}
 use Rattle.spmlink.specs.Delivery.{LosesOne}
 use Rattle.spmlink.specs.Refused.{PutsLine, refused_status, refused_line}
 use Rattle.spmlink.specs.Reading.{HoldsAll}
-use Rattle.spmlink.specs.Meaning.{Compares, IsFirst, run_first, gen_first, hex_first, check_difference, Yields, runs, generates, writes_hex, agrees}
+use Rattle.spmlink.specs.RelinkFile.{of_none}
+use Rattle.spmlink.specs.Meaning.{Compares, IsFirst, run_first, relink_first, gen_first, hex_first, check_difference, Yields, runs, relinks, generates, writes_hex, agrees}
 use Rattle.spmlink.specs.Answers.{IsDone, Cause, HasCause, EndsRefused, InputFails, AnswersInputs, AnswersUsage, AnswersCommand, TellsAll}
 use Rattle.spmlink.specs.declared.refused.Refused.{Refused}
 use Rattle.spmlink.specs.declared.faults.Refusal.{Refusal}
@@ -31,6 +32,9 @@ yields_first : (command : PlainCommand) (inputs outputs : List (List ℕ)) (text
     → Yields command inputs outputs text → IsFirst command inputs None
 yields_first command inputs outputs text (runs f b i o file board input output is are outs ran) =
     run_first f b i o file board input is are (sym ran.sound)
+yields_first command inputs outputs text (relinks f b i o c file board input certificate out is are outs made) =
+    relink_first f b i o c file board input is are
+    (of_none made.board made.energy made.outcome made.accepts made.profiled made.no_address_fault refl)
 yields_first command inputs outputs text (generates s k o is are outs printed) = gen_first s k o is are refl
 yields_first command inputs outputs text (writes_hex f o file is are none outs printed) = hex_first f o file is are (sym none)
 yields_first command inputs outputs text (agrees f h file hex_text is are none spelled outs printed) =
@@ -104,6 +108,8 @@ refused_usage (refusal.Write place) status words old new sink mid e (inr x) none
     absurd (none x.delivers.produces.command x.delivers.produces.is_command)
 refused_usage (refusal.Board fault) status words old new sink mid e c none = absurd (none c.0.command c.0.is_command)
 refused_usage (refusal.Elf fault) status words old new sink mid e c none = absurd (none c.0.command c.0.is_command)
+refused_usage (refusal.Analyse fault) status words old new sink mid e c none = absurd (none c.0.command c.0.is_command)
+refused_usage (refusal.AddressFault pc why) status words old new sink mid e c none = absurd (none c.0.command c.0.is_command)
 refused_usage (refusal.Hex fault) status words old new sink mid e c none = absurd (none c.0.command c.0.is_command)
 refused_usage (refusal.Differs at) status words old new sink mid e c none = absurd (none c.0.command c.0.is_command)
 refused_usage refusal.Memory status words old new sink mid e c none = inr e
@@ -134,6 +140,10 @@ refused_command (refusal.Board fault) status words old new sink mid sink' e c li
     inl (input_answers (refusal.Board fault) status words old new e c.0 command inputs is told)
 refused_command (refusal.Elf fault) status words old new sink mid sink' e c line command inputs is told nothing =
     inl (input_answers (refusal.Elf fault) status words old new e c.0 command inputs is told)
+refused_command (refusal.Analyse fault) status words old new sink mid sink' e c line command inputs is told nothing =
+    inl (input_answers (refusal.Analyse fault) status words old new e c.0 command inputs is told)
+refused_command (refusal.AddressFault pc why) status words old new sink mid sink' e c line command inputs is told nothing =
+    inl (input_answers (refusal.AddressFault pc why) status words old new e c.0 command inputs is told)
 refused_command (refusal.Hex fault) status words old new sink mid sink' e c line command inputs is told nothing =
     inl (input_answers (refusal.Hex fault) status words old new e c.0 command inputs is told)
 refused_command (refusal.Differs at) status words old new sink mid sink' e c line command inputs is told nothing =

@@ -5,6 +5,7 @@ pub mod Causes
 pub mod OneCommand
 pub mod Exactness
 pub mod Running
+pub mod Relinking
 pub mod Refusals
 pub mod Readings
 pub mod Writings

@@ -6,12 +6,19 @@ use Rattle.elf_reader.specs.declared.fault.ElfFault.{ElfFault}
 use Rattle.elf_reader.specs.declared.fault.ElfFault.TheVariants as elf
 use Rattle.board_config.specs.Keys.{first_key}
 use Rattle.board_config.specs.Faults.{Fault, not_toml, missing, wrong_type, out_of_range, unknown_key, memory, plain_fault}
+use Rattle.object_graph.specs.declared.fault.GraphFault.{GraphFault}
+use Rattle.object_graph.specs.declared.fault.GraphFault.TheVariants as graph
+use Rattle.code_blocks.specs.declared.fault.CodeFault.{CodeFault}
+use Rattle.code_blocks.specs.declared.fault.CodeFault.TheVariants as code
+use Rattle.relink_core.specs.declared.fault.AnalyseFault.{AnalyseFault}
+use Rattle.relink_core.specs.declared.fault.AnalyseFault.TheVariants as analyse
 use Rattle.hex_image.specs.Reading.{hex_fault}
 use Rattle.hex_image.specs.declared.fault.HexFault.{HexFault}
 use Rattle.hex_image.specs.declared.fault.HexFault.TheVariants as hex
 use Rattle.spmlink.specs.Command.{PlainCommand}
-use Rattle.spmlink.specs.FaultLine.{Parts, board_parts, elf_parts, hex_parts, differs_parts, status_of}
-use Rattle.spmlink.specs.Meaning.{IsFirst, run_first, gen_first, hex_first, check_fault, check_difference}
+use Rattle.spmlink.specs.FaultLine.{Parts, board_parts, elf_parts, graph_parts, code_parts, analyse_parts, address_parts, hex_parts, differs_parts, status_of}
+use Rattle.spmlink.specs.RelinkFile.{TellsRelink, of_board, of_analysis, of_run, of_none}
+use Rattle.spmlink.specs.Meaning.{IsFirst, run_first, relink_first, gen_first, hex_first, check_fault, check_difference}
 use Rattle.spmlink.specs.declared.faults.Refusal.{Refusal}
 use Rattle.spmlink.specs.declared.faults.Refusal.TheVariants as refusal
 
@@ -48,6 +55,39 @@ hex_least (hex.NoEnd lines) = omega arith
 hex_least (hex.Trailing line) = omega arith
 hex_least hex.Memory = omega arith
 
+graph_least : (fault : GraphFault) → IsOfInputs (graph_parts fault)
+graph_least (graph.SpmOverlap segment) = omega arith
+graph_least (graph.PatchOverlap segment) = omega arith
+graph_least (graph.PatchFar span) = omega arith
+graph_least graph.SpmMeetsPatch = omega arith
+graph_least graph.SpmAtZero = omega arith
+graph_least (graph.NoArea segment) = omega arith
+graph_least (graph.TooManyObjects count) = omega arith
+graph_least graph.Memory = omega arith
+
+code_least : (fault : CodeFault) → IsOfInputs (code_parts fault)
+code_least code.NoText = omega arith
+code_least code.EntryNotLeader = omega arith
+code_least (code.TooManyBlocks count) = omega arith
+code_least code.Memory = omega arith
+
+analyse_least : (fault : AnalyseFault) → IsOfInputs (analyse_parts fault)
+analyse_least (analyse.Elf fault) = elf_least fault
+analyse_least (analyse.Graph fault) = graph_least fault
+analyse_least (analyse.PatchTooSmall need have) = omega arith
+analyse_least (analyse.Code fault) = code_least fault
+analyse_least analyse.Memory = omega arith
+
+relink_least : (board file input : List ℕ) (told : Parts) → TellsRelink board file input (Some told) → IsOfInputs told
+relink_least board file input told (of_board fault first e) =
+    let same : board_parts fault ≡ told = cc in subst IsOfInputs same (board_least fault)
+relink_least board file input told (of_analysis b fault is sound first e) =
+    let same : analyse_parts fault ≡ told = cc in subst IsOfInputs same (analyse_least fault)
+relink_least board file input told (of_run b energy pc why accepts profiled e) =
+    let same : address_parts pc why ≡ told = cc in
+    let low : IsOfInputs (address_parts pc why) = omega arith in subst IsOfInputs same low
+relink_least board file input told (of_none b energy outcome accepts profiled no_fault e) = absurd (cc)
+
 -- so it is with what is told of an optional fault
 told_least : {E : Type 0} (parts : E → Parts) → ((fault : E) → IsOfInputs (parts fault)) → (fault : Option E) (told : Parts)
     → option_map parts fault ≡ Some told → IsOfInputs told
@@ -72,6 +112,8 @@ pub first_least : (command : PlainCommand) (inputs : List (List ℕ)) (told : Pa
     → IsFirst command inputs (Some told) → IsOfInputs told
 first_least command inputs told (run_first f b i o file board input is are e) =
     both_least board_parts elf_parts board_least elf_least (first_key board) (first_fault file) told (sym e)
+first_least command inputs told (relink_first f b i o c file board input is are tells) =
+    relink_least board file input told tells
 first_least command inputs told (gen_first s k o is are e) = absurd (cc)
 first_least command inputs told (hex_first f o file is are e) =
     told_least elf_parts elf_least (first_fault file) told (sym e)
@@ -88,6 +130,8 @@ status_positive (refusal.Read place) e = omega arith
 status_positive (refusal.Write place) e = omega arith
 status_positive (refusal.Board fault) e = let low = board_least (plain_fault fault) in omega arith
 status_positive (refusal.Elf fault) e = let low = elf_least fault in omega arith
+status_positive (refusal.Analyse fault) e = let low = analyse_least fault in omega arith
+status_positive (refusal.AddressFault pc why) e = omega arith
 status_positive (refusal.Hex fault) e = let low = hex_least fault in omega arith
 status_positive (refusal.Differs at) e = omega arith
 status_positive refusal.Memory e = omega arith

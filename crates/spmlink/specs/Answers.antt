@@ -90,6 +90,10 @@ Cause (refusal.Board fault) words old new sink mid =
     InputFails words (refusal.Board fault) old new × (mid ≡ sink)
 Cause (refusal.Elf fault) words old new sink mid =
     InputFails words (refusal.Elf fault) old new × (mid ≡ sink)
+Cause (refusal.Analyse fault) words old new sink mid =
+    InputFails words (refusal.Analyse fault) old new × (mid ≡ sink)
+Cause (refusal.AddressFault pc why) words old new sink mid =
+    InputFails words (refusal.AddressFault pc why) old new × (mid ≡ sink)
 Cause (refusal.Hex fault) words old new sink mid =
     InputFails words (refusal.Hex fault) old new × (mid ≡ sink)
 Cause (refusal.Differs at) words old new sink mid =

@@ -44,6 +44,7 @@ pub record IsNumber (low high : ℕ) (word : List ℕ) (number : ℕ) : Type 0 w
 -- a command, with its names and numbers
 pub data PlainCommand : Type 0 where
   run_command : (file board input out : List ℕ) → PlainCommand
+  relink_command : (file board input out cert : List ℕ) → PlainCommand
   gen_command : (seed kernels : ℕ) (out : List ℕ) → PlainCommand
   hex_command : (file out : List ℕ) → PlainCommand
   hex_check_command : (file hex : List ℕ) → PlainCommand
@@ -56,10 +57,12 @@ pub record SpellsGen (words : List (List ℕ)) (seed kernels : ℕ) (out : List 
   pub is_seed : IsNumber 0 4294967295 seed_word seed
   pub is_kernels : IsNumber 1 64 kernels_word kernels
 
--- the words of a command: `run FILE BOARD INPUT OUT`, `gen SEED KERNELS OUT`, `hex FILE OUT`,
--- `hexcheck FILE HEX`
+-- the words of a command: `run FILE BOARD INPUT OUT`, `relink FILE BOARD INPUT OUT CERT`,
+-- `gen SEED KERNELS OUT`, `hex FILE OUT`, `hexcheck FILE HEX`
 abbrev pub Spells : List (List ℕ) → PlainCommand → Type 0
 Spells words (run_command file board input out) = words ≡ codes "run" ∷ file ∷ board ∷ input ∷ out ∷ []
+Spells words (relink_command file board input out cert) =
+    words ≡ codes "relink" ∷ file ∷ board ∷ input ∷ out ∷ cert ∷ []
 Spells words (gen_command seed kernels out) = SpellsGen words seed kernels out
 Spells words (hex_command file out) = words ≡ codes "hex" ∷ file ∷ out ∷ []
 Spells words (hex_check_command file hex) = words ≡ codes "hexcheck" ∷ file ∷ hex ∷ []
@@ -75,6 +78,7 @@ named at text = record { place = at; name = text }
 -- the names that a command reads, in the order of the reads
 abbrev pub reads : PlainCommand → List Named
 reads (run_command file board input out) = named 1 file ∷ named 2 board ∷ named 3 input ∷ []
+reads (relink_command file board input out cert) = named 1 file ∷ named 2 board ∷ named 3 input ∷ []
 reads (gen_command seed kernels out) = []
 reads (hex_command file out) = named 1 file ∷ []
 reads (hex_check_command file hex) = named 1 file ∷ named 2 hex ∷ []
@@ -82,6 +86,7 @@ reads (hex_check_command file hex) = named 1 file ∷ named 2 hex ∷ []
 -- the names that a command writes, in the order of the writes
 abbrev pub writes : PlainCommand → List Named
 writes (run_command file board input out) = named 4 out ∷ []
+writes (relink_command file board input out cert) = named 5 cert ∷ named 4 out ∷ []
 writes (gen_command seed kernels out) = named 3 out ∷ []
 writes (hex_command file out) = named 2 out ∷ []
 writes (hex_check_command file hex) = []
@@ -91,10 +96,11 @@ abbrev pub DiffersFrom : List Named → List ℕ → Type 0
 DiffersFrom [] name = Unit
 DiffersFrom (other ∷ others) name = (other.name ≢ name) × DiffersFrom others name
 
--- so does each of the names that are written from each of those that are read
+-- so does each of the names that are written from each of those that are read, and from the others that are
+-- written
 abbrev pub AreApart : List Named → List Named → Type 0
 AreApart others [] = Unit
-AreApart others (w ∷ names) = DiffersFrom others w.name × AreApart others names
+AreApart others (w ∷ names) = DiffersFrom others w.name × DiffersFrom names w.name × AreApart others names
 
 abbrev pub IsApart : PlainCommand → Type 0
 IsApart command = AreApart (reads command) (writes command)
@@ -108,6 +114,7 @@ pub record IsCommand (words : List (List ℕ)) (command : PlainCommand) : Type 0
 -- the numbers of a command are in their ranges
 abbrev pub HasNumbers : PlainCommand → Type 0
 HasNumbers (run_command file board input out) = Unit
+HasNumbers (relink_command file board input out cert) = Unit
 HasNumbers (gen_command seed kernels out) = (1 ≤ kernels) × (kernels ≤ 64)
 HasNumbers (hex_command file out) = Unit
 HasNumbers (hex_check_command file hex) = Unit
@@ -115,6 +122,8 @@ HasNumbers (hex_check_command file hex) = Unit
 -- a command as it was read from the words
 abbrev pub plain_command : Command → PlainCommand
 plain_command (code.Run file board input out) = run_command file.now board.now input.now out.now
+plain_command (code.Relink file board input out cert) =
+    relink_command file.now board.now input.now out.now cert.now
 plain_command (code.Gen seed kernels out) = gen_command seed kernels out.now
 plain_command (code.Hex file out) = hex_command file.now out.now
 plain_command (code.HexCheck file hex) = hex_check_command file.now hex.now

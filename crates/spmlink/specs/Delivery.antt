@@ -34,7 +34,13 @@ WantsInOne (w ∷ names) (output ∷ outputs) old new =
     (new.content ≡ old.content)
     ⊎ ((mid : ShelfView) × SetsName w.name output old mid × WantsInOne names outputs mid new)
 
--- outputs that stand ready: each under its name, with the refusal of its write
+-- an output that stands ready under a name, with the refusal of its write
+pub record IsOutput (w : Named) (output : List ℕ) (o : Output) : Type 0 where
+  pub name : o.name.now ≡ w.name
+  pub bytes : o.bytes.items ≡ output
+  pub fault : IsReady (refusal.Write w.place) o.fault
+
+-- outputs that stand ready, each under its name
 abbrev pub AreReady : List Named → List (List ℕ) → List Output → Type 0
 AreReady [] [] [] = Unit
 AreReady [] [] (o ∷ ready) = ⊥
@@ -42,7 +48,7 @@ AreReady [] (output ∷ outputs) ready = ⊥
 AreReady (w ∷ names) [] ready = ⊥
 AreReady (w ∷ names) (output ∷ outputs) [] = ⊥
 AreReady (w ∷ names) (output ∷ outputs) (o ∷ ready) =
-    (o.name.now ≡ w.name) × (o.bytes.items ≡ output) × IsReady (refusal.Write w.place) o.fault × AreReady names outputs ready
+    IsOutput w output o × AreReady names outputs ready
 
 -- the same, from the outputs that stand ready
 abbrev pub SetsReady : List Output → ShelfView → ShelfView → Type 0

@@ -8,6 +8,12 @@ use Rattle.hex_image.specs.declared.fault.HexFault.TheVariants as hex
 use Rattle.board_config.specs.declared.board.BoardFault.{BoardFault}
 use Rattle.board_config.specs.declared.board.BoardFault.TheVariants as board
 use Rattle.board_config.specs.Faults.{Fault, not_toml, missing, wrong_type, out_of_range, unknown_key, memory, plain_fault}
+use Rattle.object_graph.specs.declared.fault.GraphFault.{GraphFault}
+use Rattle.object_graph.specs.declared.fault.GraphFault.TheVariants as graph
+use Rattle.code_blocks.specs.declared.fault.CodeFault.{CodeFault}
+use Rattle.code_blocks.specs.declared.fault.CodeFault.TheVariants as code
+use Rattle.relink_core.specs.declared.fault.AnalyseFault.{AnalyseFault}
+use Rattle.relink_core.specs.declared.fault.AnalyseFault.TheVariants as analyse
 use Rattle.spmlink.specs.declared.faults.Refusal.{Refusal}
 use Rattle.spmlink.specs.declared.faults.Refusal.TheVariants as refusal
 use Rattle.spmlink.specs.declared.faults.LineParts.{LineParts}
@@ -61,6 +67,33 @@ hex_parts (hex.NoEnd lines) = parts 14 (codes "no-end") lines 0
 hex_parts (hex.Trailing line) = parts 14 (codes "trailing") line 0
 hex_parts hex.Memory = parts 9 (codes "memory") 0 0
 
+abbrev pub graph_parts : GraphFault → Parts
+graph_parts (graph.SpmOverlap segment) = parts 7 (codes "spm-overlap") segment 0
+graph_parts (graph.PatchOverlap segment) = parts 7 (codes "patch-overlap") segment 0
+graph_parts (graph.PatchFar span) = parts 7 (codes "patch-far") span 0
+graph_parts graph.SpmMeetsPatch = parts 7 (codes "spm-meets-patch") 0 0
+graph_parts graph.SpmAtZero = parts 7 (codes "spm-at-zero") 0 0
+graph_parts (graph.NoArea segment) = parts 7 (codes "no-area") segment 0
+graph_parts (graph.TooManyObjects count) = parts 7 (codes "too-many-objects") count 0
+graph_parts graph.Memory = parts 9 (codes "memory") 0 0
+
+abbrev pub code_parts : CodeFault → Parts
+code_parts code.NoText = parts 5 (codes "no-text") 0 0
+code_parts code.EntryNotLeader = parts 5 (codes "entry-not-leader") 0 0
+code_parts (code.TooManyBlocks count) = parts 5 (codes "too-many-blocks") count 0
+code_parts code.Memory = parts 9 (codes "memory") 0 0
+
+abbrev pub analyse_parts : AnalyseFault → Parts
+analyse_parts (analyse.Elf fault) = elf_parts fault
+analyse_parts (analyse.Graph fault) = graph_parts fault
+analyse_parts (analyse.PatchTooSmall need have) = parts 7 (codes "patch-too-small") need have
+analyse_parts (analyse.Code fault) = code_parts fault
+analyse_parts analyse.Memory = parts 9 (codes "memory") 0 0
+
+-- the unit at `pc` of the program can't be performed where objects have no addresses, for the reason `why`
+abbrev pub address_parts : ℕ → ℕ → Parts
+address_parts pc why = parts 8 (codes "address-fault") pc why
+
 -- a difference at a place
 abbrev pub differs_parts : ℕ → Parts
 differs_parts at = parts 11 (codes "differs") at 0
@@ -71,6 +104,8 @@ parts_of (refusal.Read place) = parts 2 (codes "read") place 0
 parts_of (refusal.Write place) = parts 3 (codes "write") place 0
 parts_of (refusal.Board fault) = board_parts (plain_fault fault)
 parts_of (refusal.Elf fault) = elf_parts fault
+parts_of (refusal.Analyse fault) = analyse_parts fault
+parts_of (refusal.AddressFault pc why) = address_parts pc why
 parts_of (refusal.Hex fault) = hex_parts fault
 parts_of (refusal.Differs at) = differs_parts at
 parts_of refusal.Memory = parts 9 (codes "memory") 0 0
@@ -105,6 +140,10 @@ board_refusal fault = refusal.Board fault
 abbrev pub elf_refusal : ElfFault → Refusal
 elf_refusal elf.Memory = refusal.Memory
 elf_refusal fault = refusal.Elf fault
+
+abbrev pub analyse_refusal : AnalyseFault → Refusal
+analyse_refusal analyse.Memory = refusal.Memory
+analyse_refusal fault = refusal.Analyse fault
 
 abbrev pub hex_refusal : HexFault → Refusal
 hex_refusal hex.Memory = refusal.Memory

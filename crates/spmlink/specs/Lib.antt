@@ -4,6 +4,7 @@ pub mod Refused
 pub mod Reading
 pub mod Delivery
 pub mod RunFile
+pub mod RelinkFile
 pub mod Meaning
 pub mod Performing
 pub mod Answers

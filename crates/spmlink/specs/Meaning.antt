@@ -10,9 +10,10 @@ use Rattle.hex_image.specs.Runs.{ByteMap, file_map}
 use Rattle.hex_image.specs.Text.{hex_text, hex_records}
 use Rattle.hex_image.specs.Reading as hex
 use Rattle.hex_image.specs.Difference.{IsDifference}
-use Rattle.spmlink.specs.Command.{PlainCommand, run_command, gen_command, hex_command, hex_check_command}
+use Rattle.spmlink.specs.Command.{PlainCommand, run_command, relink_command, gen_command, hex_command, hex_check_command}
 use Rattle.spmlink.specs.FaultLine.{Parts, elf_parts, hex_parts, differs_parts, parts_of}
 use Rattle.spmlink.specs.RunFile.{RunsTo, first_refusal}
+use Rattle.spmlink.specs.RelinkFile.{RelinksTo, TellsRelink}
 use Rattle.spmlink.specs.declared.faults.Refusal.{Refusal}
 use Rattle.spmlink.specs.declared.faults.Refusal.TheVariants as refusal
 
@@ -51,6 +52,9 @@ pub data IsFirst (command : PlainCommand) (inputs : List (List ℕ)) (told : Opt
   run_first : (file_name board_name input_name out_name file board input : List ℕ)
       → command ≡ run_command file_name board_name input_name out_name → inputs ≡ file ∷ board ∷ input ∷ []
       → told ≡ first_refusal board file → IsFirst command inputs told
+  relink_first : (file_name board_name input_name out_name cert_name file board input : List ℕ)
+      → command ≡ relink_command file_name board_name input_name out_name cert_name
+      → inputs ≡ file ∷ board ∷ input ∷ [] → TellsRelink board file input told → IsFirst command inputs told
   gen_first : (seed kernels : ℕ) (out_name : List ℕ)
       → command ≡ gen_command seed kernels out_name → inputs ≡ [] → told ≡ None → IsFirst command inputs told
   hex_first : (file_name out_name file : List ℕ)
@@ -69,6 +73,10 @@ pub data Yields (command : PlainCommand) (inputs outputs : List (List ℕ)) (tex
   runs : (file_name board_name input_name out_name file board input output : List ℕ)
       → command ≡ run_command file_name board_name input_name out_name → inputs ≡ file ∷ board ∷ input ∷ []
       → outputs ≡ output ∷ [] → RunsTo file board input output text → Yields command inputs outputs text
+  relinks : (file_name board_name input_name out_name cert_name file board input certificate out : List ℕ)
+      → command ≡ relink_command file_name board_name input_name out_name cert_name
+      → inputs ≡ file ∷ board ∷ input ∷ [] → outputs ≡ certificate ∷ out ∷ []
+      → RelinksTo file board input certificate out text → Yields command inputs outputs text
   generates : (seed kernels : ℕ) (out_name : List ℕ)
       → command ≡ gen_command seed kernels out_name → inputs ≡ []
       → outputs ≡ built (workload_plan seed kernels) ∷ [] → text ≡ kernels_text kernels

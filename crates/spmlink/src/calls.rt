@@ -25,17 +25,29 @@ pub(crate) struct Call<'a> {
     pub failing_put: Option<u64>,
 }
 
-/// What a call answered: its status, what it printed, and what stands under `out`.
+/// What a call answered: its status, what it printed, and what stands under `out` and `cert`.
 #[derive(Drop)]
 pub(crate) struct Answer {
     pub status: u8,
     pub printed: Vec<u8>,
     pub out: Option<Vec<u8>>,
+    pub cert: Option<Vec<u8>>,
 }
+
+pub(crate) const RELINK: [&str; 6] = ["relink", "prog", "board", "input", "out", "cert"];
 
 pub(crate) const RUN: [&str; 5] = ["run", "prog", "board", "input", "out"];
 
 impl<'a> Call<'a> {
+    /// A `relink` of a file for a board, in which nothing fails.
+    pub fn relink(file: &'a [u8], board: &'a [u8]) -> Call<'a> {
+        Call {
+            words: &RELINK,
+            board,
+            ..Call::of(file)
+        }
+    }
+
     /// A `run` of a file on the default board, in which nothing fails.
     pub fn of(file: &'a [u8]) -> Call<'a> {
         Call {
@@ -76,10 +88,12 @@ impl<'a> Call<'a> {
         let status = run(alloc, &self.words(alloc)?, &mut shelf, &mut out);
         let printed = out.bytes().to_vec(alloc)?;
         let out = shelf.read(alloc, "out").ok();
+        let cert = shelf.read(alloc, "cert").ok();
         Ok(Answer {
             status,
             printed,
             out,
+            cert,
         })
     }
 }

@@ -5,8 +5,9 @@ use std::test::Fail;
 
 /// The same commands as `clap` has them: subcommands with required positional words.
 fn commands<'a>(alloc: Global) -> Result<Command<'a>, Error> {
-    let all: [(&'static str, &'static [&'static str]); 4] = [
+    let all: [(&'static str, &'static [&'static str]); 5] = [
         ("run", &["FILE", "BOARD", "INPUT", "OUT"]),
+        ("relink", &["FILE", "BOARD", "INPUT", "OUT", "CERT"]),
         ("gen", &["SEED", "KERNELS", "OUT"]),
         ("hex", &["FILE", "OUT"]),
         ("hexcheck", &["FILE", "HEX"]),
@@ -49,12 +50,15 @@ fn accepts(alloc: Global, words: &[&str]) -> Result<bool, AllocError> {
 
 #[test]
 fn clap_accepts_the_same_lines(rt: HostRuntime) -> Result<(), Fail> {
-    let lines: [(&[&str], bool); 11] = [
+    let lines: [(&[&str], bool); 14] = [
         (&["run", "prog", "board", "input", "out"], true),
         (&["run", "same", "same", "same", "out"], true),
+        (&["relink", "prog", "board", "input", "out", "cert"], true),
+        (&["relink", "same", "same", "same", "out", "cert"], true),
         (&["gen", "5", "5", "5"], true),
         (&["hex", "prog", "out"], true),
         (&["hexcheck", "prog", "prog"], true),
+        (&["relink", "prog", "board", "input", "out"], false),
         (&["gen", "0", "4"], false),
         (&["hex", "prog"], false),
         (&["run", "a", "b", "c"], false),

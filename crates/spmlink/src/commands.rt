@@ -12,6 +12,13 @@ pub enum Command<'a> {
         input: &'a str,
         out: &'a str,
     },
+    Relink {
+        file: &'a str,
+        board: &'a str,
+        input: &'a str,
+        out: &'a str,
+        cert: &'a str,
+    },
     Gen {
         seed: u32,
         kernels: u32,
@@ -44,6 +51,12 @@ impl<'a> Command<'a> {
     {
         let names = match *self {
             Command::Run {
+                file,
+                board,
+                input,
+                ..
+            } => vec![in alloc; named(1, file), named(2, board), named(3, input)]?,
+            Command::Relink {
                 file,
                 board,
                 input,
@@ -86,6 +99,9 @@ fn spelled(words: &[String]) -> Option<Command<'_>>
     if let Some(command) = spelled_run(words) {
         return Some(command);
     }
+    if let Some(command) = spelled_relink(words) {
+        return Some(command);
+    }
     if let Some(command) = spelled_gen(words) {
         return Some(command);
     }
@@ -109,6 +125,27 @@ fn spelled_run(words: &[String]) -> Option<Command<'_>>
             board: board.as_str(),
             input: input.as_str(),
             out: out.as_str(),
+        })
+    } else {
+        None
+    }
+}
+
+fn spelled_relink(words: &[String]) -> Option<Command<'_>>
+    ensures { MatchOption result
+        ((f b i o c : List ℕ) → texts words.now ≡ codes "relink" ∷ f ∷ b ∷ i ∷ o ∷ c ∷ [] → ⊥)
+        (λ command. Spells (texts words.now) (plain_command command)) }
+{
+    let [name, file, board, input, out, cert] = words else {
+        return None;
+    };
+    if is_the_word(name.as_str(), "relink") {
+        Some(Command::Relink {
+            file: file.as_str(),
+            board: board.as_str(),
+            input: input.as_str(),
+            out: out.as_str(),
+            cert: cert.as_str(),
         })
     } else {
         None
@@ -203,7 +240,7 @@ fn is_name(word: &str) -> bool
     }
 }
 
-/// Whether the name that is written differs from those that are read.
+/// Whether each name that is written differs from all others.
 fn is_apart(command: &Command<'_>) -> bool
     ensures { IsTrue result ↔ IsApart (plain_command command.now) }
 {
@@ -213,11 +250,25 @@ fn is_apart(command: &Command<'_>) -> bool
             board,
             input,
             out,
-        } => file != out && board != out && input != out,
+        } => is_new(out, file, board, input),
+        Command::Relink {
+            file,
+            board,
+            input,
+            out,
+            cert,
+        } => is_new(cert, file, board, input) && out != cert && is_new(out, file, board, input),
         Command::Gen { .. } => true,
         Command::Hex { file, out } => file != out,
         Command::HexCheck { .. } => true,
     }
+}
+
+/// Whether a name that is written differs from three that are read.
+fn is_new(name: &str, file: &str, board: &str, input: &str) -> bool
+    ensures { IsTrue result ↔ (file.now ≢ name.now) × (board.now ≢ name.now) × (input.now ≢ name.now) }
+{
+    file != name && board != name && input != name
 }
 
 /// The number that a word of 1 to 10 digits spells, where it is from `low` to `high`.

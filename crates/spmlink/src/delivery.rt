@@ -19,6 +19,25 @@ pub struct Output<'a> {
     pub fault: Refused,
 }
 
+impl<'a> Output<'a> {
+    ghost use Rattle.std.specs.Prelude.{IfOk};
+    ghost use Rattle.spmlink.specs.Command.{named};
+    ghost use Rattle.spmlink.specs.Delivery.{IsOutput};
+
+    /// What is to be written under the name at a place of the command line.
+    pub fn new(
+        alloc: Global,
+        place: u32,
+        name: &'a str,
+        bytes: Vec<u8>,
+    ) -> Result<Output<'a>, AllocError>
+        ensures { IfOk result (IsOutput (named place name.now) bytes.items) }
+    {
+        let fault = Refused::try_new(alloc, &Refusal::Write { place })?;
+        Ok(Output { name, bytes, fault })
+    }
+}
+
 /// A result that is ready to be written and printed, with the refusals of the steps that may still
 /// fail.
 #[derive(Drop)]
@@ -63,9 +82,29 @@ impl<'a> Ready<'a> {
         ensures text { IfOk result (λ ready. ready.text ≡ text) }
         ensures print_fault { IfOk result (λ ready. IsReady (refusal.Write 0) ready.print_fault) }
     {
-        let fault = Refused::try_new(alloc, &Refusal::Write { place })?;
+        let output = Output::new(alloc, place, name, bytes)?;
         let print_fault = Refused::try_new(alloc, &Refusal::Write { place: 0 })?;
-        let outputs = vec![in alloc; Output { name, bytes, fault }]?;
+        let outputs = vec![in alloc; output]?;
+        Ok(Ready {
+            outputs,
+            text,
+            print_fault,
+        })
+    }
+
+    /// A result that is also written under two names, in this order.
+    pub fn written_twice(
+        alloc: Global,
+        first: Output<'a>,
+        second: Output<'a>,
+        text: String,
+    ) -> Result<Ready<'a>, AllocError>
+        ensures outputs { IfOk result (λ ready. ready.outputs.items ≡ first.entry ∷ second.entry ∷ []) }
+        ensures text { IfOk result (λ ready. ready.text ≡ text) }
+        ensures print_fault { IfOk result (λ ready. IsReady (refusal.Write 0) ready.print_fault) }
+    {
+        let print_fault = Refused::try_new(alloc, &Refusal::Write { place: 0 })?;
+        let outputs = vec![in alloc; first, second]?;
         Ok(Ready {
             outputs,
             text,

@@ -1,6 +1,9 @@
 use board_config::BoardFault;
+use code_blocks::CodeFault;
 use elf_reader::ElfFault;
 use hex_image::HexFault;
+use object_graph::GraphFault;
+use relink_core::AnalyseFault;
 use std::alloc::{AllocError, AllocFailed, Global};
 use std::fmt;
 
@@ -17,6 +20,11 @@ pub enum Refusal {
     Board(BoardFault),
     /// The ELF file is not one that is read.
     Elf(ElfFault),
+    /// The ELF file is not one that can be relinked for the board.
+    Analyse(AnalyseFault),
+    /// The unit at `pc` of the program, run to measure it, can't be performed where objects have no addresses,
+    /// for the reason `why` of `object_machine::Outcome`.
+    AddressFault { pc: u32, why: u32 },
     /// The text is not one in Intel HEX.
     Hex(HexFault),
     /// What was compared differs first at this place.
@@ -53,6 +61,8 @@ impl Refusal {
             Refusal::Write { place } => LineParts::new(3, "write", *place, 0),
             Refusal::Board(fault) => LineParts::of_board(fault),
             Refusal::Elf(fault) => LineParts::of_elf(fault),
+            Refusal::Analyse(fault) => LineParts::of_analysis(fault),
+            Refusal::AddressFault { pc, why } => LineParts::new(8, "address-fault", *pc, *why),
             Refusal::Hex(fault) => LineParts::of_hex(fault),
             Refusal::Differs { at } => LineParts::new(11, "differs", *at, 0),
             Refusal::Memory => LineParts::new(9, "memory", 0, 0),
@@ -110,6 +120,20 @@ impl From<ElfFault> for Refusal {
     }
 }
 
+impl From<AnalyseFault> for Refusal {
+    ghost use Rattle.std.specs.Prelude.{◌≡◌};
+    ghost use Rattle.spmlink.specs.FaultLine.{analyse_refusal};
+
+    ghost from_gives = { λ fault refusal. refusal ≡ analyse_refusal fault };
+
+    fn from(fault: AnalyseFault) -> Refusal {
+        match fault {
+            AnalyseFault::Memory => Refusal::Memory,
+            fault => Refusal::Analyse(fault),
+        }
+    }
+}
+
 impl From<HexFault> for Refusal {
     ghost use Rattle.std.specs.Prelude.{◌≡◌};
     ghost use Rattle.spmlink.specs.FaultLine.{hex_refusal};
@@ -137,7 +161,7 @@ struct LineParts<'a> {
 impl<'a> LineParts<'a> {
     ghost use Rattle.std.specs.Prelude.{◌≡◌};
     ghost use Rattle.board_config.specs.Faults.{plain_fault};
-    ghost use Rattle.spmlink.specs.FaultLine.{parts, named_parts, plain_parts, board_parts, elf_parts, hex_parts};
+    ghost use Rattle.spmlink.specs.FaultLine.{parts, named_parts, plain_parts, board_parts, elf_parts, graph_parts, code_parts, analyse_parts, hex_parts};
 
     fn new(status: u8, word: &'static str, first: u32, second: u32) -> LineParts<'a>
         ensures { plain_parts result ≡ parts status word.entry.now first second }
@@ -200,6 +224,54 @@ impl<'a> LineParts<'a> {
             ElfFault::Compressed { section } => LineParts::new(5, "compressed", *section, 0),
             ElfFault::Overlap { first, second } => LineParts::new(5, "overlap", *first, *second),
             ElfFault::Memory => LineParts::new(9, "memory", 0, 0),
+        }
+    }
+
+    fn of_analysis(fault: &AnalyseFault) -> LineParts<'a>
+        ensures { plain_parts result ≡ analyse_parts fault.now }
+    {
+        match fault {
+            AnalyseFault::Elf(fault) => LineParts::of_elf(fault),
+            AnalyseFault::Graph(fault) => LineParts::of_graph(fault),
+            AnalyseFault::PatchTooSmall { need, have } => LineParts::new(
+                7,
+                "patch-too-small",
+                *need,
+                *have,
+            ),
+            AnalyseFault::Code(fault) => LineParts::of_code(fault),
+            AnalyseFault::Memory => LineParts::new(9, "memory", 0, 0),
+        }
+    }
+
+    fn of_graph(fault: &GraphFault) -> LineParts<'a>
+        ensures { plain_parts result ≡ graph_parts fault.now }
+    {
+        match fault {
+            GraphFault::SpmOverlap { segment } => LineParts::new(7, "spm-overlap", *segment, 0),
+            GraphFault::PatchOverlap { segment } => LineParts::new(7, "patch-overlap", *segment, 0),
+            GraphFault::PatchFar { span } => LineParts::new(7, "patch-far", *span, 0),
+            GraphFault::SpmMeetsPatch => LineParts::new(7, "spm-meets-patch", 0, 0),
+            GraphFault::SpmAtZero => LineParts::new(7, "spm-at-zero", 0, 0),
+            GraphFault::NoArea { segment } => LineParts::new(7, "no-area", *segment, 0),
+            GraphFault::TooManyObjects { count } => LineParts::new(
+                7,
+                "too-many-objects",
+                *count,
+                0,
+            ),
+            GraphFault::Memory => LineParts::new(9, "memory", 0, 0),
+        }
+    }
+
+    fn of_code(fault: &CodeFault) -> LineParts<'a>
+        ensures { plain_parts result ≡ code_parts fault.now }
+    {
+        match fault {
+            CodeFault::NoText => LineParts::new(5, "no-text", 0, 0),
+            CodeFault::EntryNotLeader => LineParts::new(5, "entry-not-leader", 0, 0),
+            CodeFault::TooManyBlocks { count } => LineParts::new(5, "too-many-blocks", *count, 0),
+            CodeFault::Memory => LineParts::new(9, "memory", 0, 0),
         }
     }
 

@@ -1,97 +1,10 @@
 use crate::calls::{Call, OK_FILE};
-use elf_reader::Reloc;
+use crate::programs::{ADDRESS, SUMS, table_reloc, with_table};
 use std::alloc::{AllocError, Global};
 use std::test::Fail;
-use workload_gen::{FileSpec, SectionSpec, SymbolSpec, build};
-
-/// A program that sums a table some times over, and exits with the low byte of the sum, 64.
-const SUMS: [u32; 15] = [
-    0x0640_0713,
-    0x0001_1537,
-    0x0005_0513,
-    0x1005_0593,
-    0x0000_0613,
-    0x0005_2683,
-    0x00d6_0633,
-    0x0045_0513,
-    0xfeb5_1ae3,
-    0xfff7_0713,
-    0xfc07_1ee3,
-    0x0006_0513,
-    0x05d0_0893,
-    0x0000_0073,
-    0x0000_006f,
-];
-
-/// A section of words that no relocation changes.
-fn section(
-    alloc: Global,
-    name: &str,
-    addr: u32,
-    flags: u32,
-    words: &[u32],
-) -> Result<SectionSpec, AllocError> {
-    let mut bytes = Vec::new(alloc);
-    for word in words {
-        bytes.extend_from_slice(&word.to_le_bytes())?;
-    }
-    Ok(SectionSpec {
-        name: String::from_str(alloc, name)?,
-        addr,
-        flags,
-        bytes,
-        empty: 0,
-        relocs: Vec::new(alloc),
-    })
-}
-
-/// A relocation to the symbol of the table.
-fn table_reloc(at: u32, kind: u32) -> Reloc {
-    Reloc {
-        at,
-        kind,
-        symbol: 2,
-        addend: 0,
-        section: 0,
-    }
-}
-
-/// The file of that program: 848 bytes, with seven section headers, three symbols and these relocations.
-fn table_file(alloc: Global, relocs: &[Reloc]) -> Result<Vec<u8>, AllocError> {
-    let mut text = section(alloc, ".text", 0x1_0000, 6, &SUMS)?;
-    text.relocs = relocs.to_vec(alloc)?;
-    let table = section(alloc, ".data", 0x1_1000, 3, &[1; 64])?;
-    let main = SymbolSpec {
-        name: String::from_str(alloc, "main")?,
-        value: 0x1_0000,
-        size: 60,
-        kind: 2,
-        section: 1,
-    };
-    let object = SymbolSpec {
-        name: String::from_str(alloc, "table")?,
-        value: 0x1_1000,
-        size: 256,
-        kind: 1,
-        section: 2,
-    };
-    let spec = FileSpec {
-        entry: 0x1_0000,
-        sections: vec![in alloc; text, table]?,
-        symbols: vec![in alloc; main, object]?,
-    };
-    build(alloc, &spec)
-}
-
-/// The relocations of the table's address.
-const RELOCS: [(u32, u32); 2] = [(0x1_0004, 26), (0x1_0008, 27)];
 
 fn sound_file(alloc: Global) -> Result<Vec<u8>, AllocError> {
-    let [high, low] = RELOCS;
-    table_file(
-        alloc,
-        &[table_reloc(high.0, high.1), table_reloc(low.0, low.1)],
-    )
+    with_table(alloc, &SUMS, &ADDRESS, 3)
 }
 
 #[test]
@@ -106,13 +19,9 @@ fn runs_a_file_with_sections(rt: HostRuntime) -> Result<(), Fail> {
 
 #[test]
 fn refuses_an_unsupported_relocation(rt: HostRuntime) -> Result<(), Fail> {
-    let [high, low] = RELOCS;
-    let relocs = [
-        table_reloc(high.0, high.1),
-        table_reloc(low.0, low.1),
-        table_reloc(0x1_000c, 47),
-    ];
-    let file = table_file(rt.alloc(), &relocs)?;
+    let [high, low] = ADDRESS;
+    let relocs = [high, low, table_reloc(0x1_000c, 47, 0)];
+    let file = with_table(rt.alloc(), &SUMS, &relocs, 3)?;
     let answer = Call::of(&file).answer(rt.alloc())?;
     assert_eq!(rt;
         answer.printed.as_slice(),

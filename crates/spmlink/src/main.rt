@@ -1,5 +1,5 @@
-//! Runs RV32IM programs on a model of a board with a scratchpad memory; generates workloads, and writes and
-//! checks Intel HEX.
+//! Runs RV32IM programs on a model of a board with a scratchpad memory, and relinks them for it; generates
+//! workloads, and writes and checks Intel HEX.
 #![tactic(auto)]
 
 #[cfg(test)]
@@ -15,8 +15,13 @@ mod hex_files;
 mod outcomes;
 mod performing;
 mod printing;
+#[cfg(test)]
+mod programs;
 mod reading;
 mod refused;
+mod relink_file;
+#[cfg(test)]
+mod relink_tests;
 mod results;
 mod run_file;
 #[cfg(test)]
@@ -31,6 +36,7 @@ use std::rt::Env;
 
 /// The commands, as they are told on standard error where the words are none of them.
 const USAGE: &str = "usage: spmlink run FILE BOARD INPUT OUT
+       spmlink relink FILE BOARD INPUT OUT CERT
        spmlink gen SEED KERNELS OUT
        spmlink hex FILE OUT
        spmlink hexcheck FILE HEX

@@ -1,13 +1,14 @@
 ghost use Rattle.std.specs.Prelude.{◌≡◌, ◌∷◌, [], ◌≤◌, ℕ, List, IfOk, IfErr, length, string_bytes};
-ghost use Rattle.spmlink.specs.Command.{HasNumbers, plain_command, reads, run_command, gen_command, hex_command, hex_check_command};
+ghost use Rattle.spmlink.specs.Command.{HasNumbers, plain_command, reads, run_command, relink_command, gen_command, hex_command, hex_check_command};
 ghost use Rattle.spmlink.specs.Reading.{contents};
 ghost use Rattle.spmlink.specs.Meaning.{RefusesInputs, kernels_text};
 ghost use Rattle.spmlink.specs.Performing.{IsReadyFor};
 
 use crate::commands::Command;
-use crate::delivery::Ready;
+use crate::delivery::{Output, Ready};
 use crate::faults::Refusal;
 use crate::hex_files::{check_hex, hex_file};
+use crate::relink_file::relink_file;
 use crate::run_file::run_file;
 use std::alloc::{AllocError, Global};
 use workload_gen::workload;
@@ -26,6 +27,12 @@ pub fn make_ready<'a>(
     match *command {
         Command::Run { out, .. } => {
             match ready_run(alloc, out, &texts[0], &texts[1], &texts[2]) {
+                Ok(ready) => Ok(ready),
+                Err(fault) => Err(fault),
+            }
+        }
+        Command::Relink { out, cert, .. } => {
+            match ready_relink(alloc, out, cert, &texts[0], &texts[1], &texts[2]) {
                 Ok(ready) => Ok(ready),
                 Err(fault) => Err(fault),
             }
@@ -56,6 +63,29 @@ fn ready_run<'a>(
 {
     match run_file(alloc, file, board, input) {
         Ok(run) => Ok(Ready::written(alloc, 4, out, run.output, run.line)?),
+        Err(fault) => Err(fault),
+    }
+}
+
+fn ready_relink<'a>(
+    alloc: Global,
+    out: &'a str,
+    cert: &'a str,
+    file: &[u8],
+    board: &[u8],
+    input: &[u8],
+) -> Result<Ready<'a>, Refusal>
+    ensures ok { IfOk result (λ ready. (f b i : List ℕ)
+        → IsReadyFor (relink_command f b i out.now cert.now) (file.now ∷ board.now ∷ input.now ∷ []) ready) }
+    ensures err { IfErr result (λ fault. (f b i : List ℕ)
+        → RefusesInputs (relink_command f b i out.now cert.now) (file.now ∷ board.now ∷ input.now ∷ []) fault) }
+{
+    match relink_file(alloc, file, board, input) {
+        Ok(relinked) => {
+            let first = Output::new(alloc, 5, cert, relinked.certificate)?;
+            let second = Output::new(alloc, 4, out, relinked.file)?;
+            Ok(Ready::written_twice(alloc, first, second, relinked.report)?)
+        }
         Err(fault) => Err(fault),
     }
 }

@@ -1,5 +1,5 @@
 use Rattle.std.proofs.Common.{List, ℕ, subst}
-use Rattle.spmlink.specs.Command.{run_command, hex_command, hex_check_command}
+use Rattle.spmlink.specs.Command.{run_command, relink_command, hex_command, hex_check_command}
 use Rattle.spmlink.specs.Meaning.{RefusesInputs}
 use Rattle.spmlink.proofs.Readings.{contents_of_one, contents_of_two, contents_of_three}
 use Rattle.spmlink.proofs.results.make_ready.Goals as goal
@@ -11,6 +11,15 @@ returns-in-Err-clause-err c =
     c.index-texts-0.is c.index-texts-1.is c.index-texts-2.is c.deref.ensures.value c.deref-in-Run.ensures.value c.deref-in-Run-2.ensures.value in
     let command = run_command c.in-Run.file.now c.in-Run.board.now c.in-Run.input.now c.in-Run.out.now in
     rw c.in-Run.is (subst (λ (ts : List (List ℕ)). RefusesInputs command ts c.in-Err.fault) are (c.in-Err.ensures.err c.in-Run.file.now c.in-Run.board.now c.in-Run.input.now))
+
+pub returns-in-Err-ready_relink-clause-err : goal.returns-in-Err-ready_relink-clause-err
+returns-in-Err-ready_relink-clause-err c =
+    let count = rw c.in-Relink.is at c.requires.texts in
+    let are = contents_of_three c.args.texts.now c.index-texts-0-in-Relink.result c.index-texts-1-in-Relink.result c.index-texts-2-in-Relink.result _ _ _ count
+    c.index-texts-0-in-Relink.is c.index-texts-1-in-Relink.is c.index-texts-2-in-Relink.is c.deref-in-Relink.ensures.value c.deref-in-Relink-2.ensures.value c.deref-in-Relink-3.ensures.value in
+    let w = c.in-Relink in
+    let command = relink_command w.file.now w.board.now w.input.now w.out.now w.cert.now in
+    rw w.is (subst (λ (ts : List (List ℕ)). RefusesInputs command ts c.in-Err-ready_relink.fault) are (c.in-Err-ready_relink.ensures.err w.file.now w.board.now w.input.now))
 
 pub returns-in-Err-ready_hex-clause-err : goal.returns-in-Err-ready_hex-clause-err
 returns-in-Err-ready_hex-clause-err c =
