@@ -1,0 +1,13 @@
+pub mod EdgeLemmas
+pub mod CountLemmas
+pub mod TestLemmas
+pub mod MoveLemmas
+pub mod TallyLemmas
+pub mod JoinLemmas
+pub mod FillLemmas
+pub mod RoomLemmas
+pub mod LeadLemmas
+pub mod RunLemmas
+pub mod StepLemmas
+pub mod FindLemmas
+pub mod LoopLemmas

@@ -1,0 +1,9 @@
+pub use Rattle.object_machine.specs.Step
+pub mod Move
+pub mod Moves
+pub mod Standing
+pub mod Counts
+pub mod Tallies
+pub mod Tally
+pub mod Running
+pub mod Laws

@@ -1,0 +1,86 @@
+ghost use Rattle.std.specs.Prelude.{◌≡◌, ◌+◌, ◌<◌, true, false, length, slice_index};
+ghost use Rattle.std.specs.List.Sorted.{IsStrictlyIncreasing};
+ghost use Rattle.code_leaders.specs.Early.{has};
+ghost use Rattle.code_blocks.specs.Numbers.{starts_of};
+ghost use Rattle.profile_runner.specs.Move.{is_going};
+ghost use Rattle.profile_runner.specs.Tallies.{IsBlockAt, IsNext};
+
+use code_blocks::Code;
+use object_machine::Outcome;
+
+/// Whether a machine goes on.
+pub(crate) fn is_going(outcome: &Outcome) -> bool
+    ensures { result ≡ is_going outcome.now }
+{
+    match *outcome {
+        Outcome::GoesOn => true,
+        Outcome::Exited(_) | Outcome::Trapped { .. } | Outcome::AddressFault { .. } => false,
+    }
+}
+
+/// The block that begins where a step led, if the machine goes on and one does. `near` is the block of the step.
+pub(crate) fn next_block(code: &Code, near: u32, outcome: &Outcome, address: u32) -> Option<u32>
+    requires ascending { IsStrictlyIncreasing (starts_of code.now) }
+    requires near { near < length code.now.blocks.items }
+    ensures { IsNext (starts_of code.now) (is_going outcome.now) address result }
+{
+    match *outcome {
+        Outcome::GoesOn => block_from(code, near, address),
+        Outcome::Exited(_) | Outcome::Trapped { .. } | Outcome::AddressFault { .. } => None,
+    }
+}
+
+/// The block that begins at an address, if one does. It takes less time where the address is inside block `near`.
+fn block_from(code: &Code, near: u32, address: u32) -> Option<u32>
+    requires ascending { IsStrictlyIncreasing (starts_of code.now) }
+    requires near { near < length code.now.blocks.items }
+    ensures { IsBlockAt (starts_of code.now) address result }
+{
+    if is_inside(code, near, address) {
+        return None;
+    }
+    block_at(code, address)
+}
+
+/// The block that begins at an address, if one does, by binary search.
+pub(crate) fn block_at(code: &Code, address: u32) -> Option<u32>
+    requires { IsStrictlyIncreasing (starts_of code.now) }
+    ensures { IsBlockAt (starts_of code.now) address result }
+{
+    match code.block_at(address) {
+        Some(block) => Some(block),
+        None => None,
+    }
+}
+
+/// Whether the address is behind the start of block `near` and before that of the next.
+fn is_inside(code: &Code, near: u32, address: u32) -> bool
+    requires ascending { IsStrictlyIncreasing (starts_of code.now) }
+    requires near { near < length code.now.blocks.items }
+    ensures { result ≡ true → has (starts_of code.now) address ≡ false }
+{
+    if begins_before(code, near as usize, address) {
+        begins_behind(code, near as usize + 1, address)
+    } else {
+        false
+    }
+}
+
+/// Whether block `k` begins before an address.
+fn begins_before(code: &Code, k: usize, address: u32) -> bool
+    requires { k < length code.now.blocks.items }
+    ensures { result ≡ true → slice_index (starts_of code.now) k < address }
+{
+    code.blocks[k].start < address
+}
+
+/// Whether block `k`, if there is one, begins behind an address.
+fn begins_behind(code: &Code, k: usize, address: u32) -> bool
+    ensures { result ≡ true → k < length code.now.blocks.items → address < slice_index (starts_of code.now) k }
+{
+    if k < code.blocks.len() {
+        address < code.blocks[k].start
+    } else {
+        true
+    }
+}

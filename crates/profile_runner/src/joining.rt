@@ -1,0 +1,44 @@
+ghost use Rattle.std.specs.Prelude.{◌≡◌, ◌<◌, ℕ, List, length, IfOk};
+ghost use Rattle.profile_runner.specs.Move.{Move};
+ghost use Rattle.profile_runner.specs.Counts.{IsProfile};
+ghost use Rattle.profile_runner.specs.Tallies.{plain_edges, joined_below};
+ghost use Rattle.profile_runner.specs.Tally.{IsTally};
+
+use crate::counts::{Edge, Profile};
+use crate::tally::Tally;
+use object_machine::Outcome;
+use std::alloc::{AllocError, Global};
+
+/// The profile of a run of which this was counted, one step at least, and which ended so.
+pub(crate) fn profile_of(
+    alloc: Global,
+    tally: Tally,
+    outcome: Outcome,
+) -> Result<Profile, AllocError>
+    ensures { IfOk result (λ q. (starts regions : List ℕ) (last size : ℕ) (moves : List Move) → IsTally starts regions last size moves tally → 0 < length moves → IsProfile starts regions last size moves outcome q) }
+{
+    let edges = joined(alloc, &tally.edges)?;
+    Ok(Profile {
+        steps: tally.steps,
+        outcome,
+        arrivals: tally.arrivals,
+        edges,
+        last: (tally.block, tally.units),
+        reads: tally.reads,
+        writes: tally.writes,
+        enters: tally.changes.enters,
+        leaves: tally.changes.leaves,
+        switches: tally.changes.switches,
+    })
+}
+
+/// All rows, one behind the other.
+fn joined(alloc: Global, rows: &[Vec<Edge>]) -> Result<Vec<Edge>, AllocError>
+    ensures { IfOk result (λ edges. edges.items ≡ joined_below (plain_edges rows.now) (length rows.now)) }
+{
+    let mut edges = Vec::new(alloc);
+    for row in rows {
+        edges.extend_from_slice(row)?;
+    }
+    Ok(edges)
+}

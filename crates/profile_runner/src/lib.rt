@@ -1,0 +1,22 @@
+//! How often blocks, edges and accesses happen in a run of the machine without addresses.
+#![tactic(auto)]
+
+mod changes;
+mod counts;
+mod edges;
+mod fault;
+mod filling;
+mod finding;
+mod joining;
+mod laws;
+mod rows;
+mod running;
+mod tally;
+
+pub use counts::{Edge, Profile};
+pub use fault::ProfileFault;
+pub use laws::{moves_are_determined, moves_are_few, moves_are_steps};
+pub use running::profile;
+
+#[cfg(test)]
+mod tests;

@@ -1,0 +1,130 @@
+ghost use Rattle.std.specs.Prelude.{◌≡◌, ◌<◌, ℕ, Option, true, length, IfOk, OnOk};
+ghost use Rattle.std.specs.List.Sorted.{IsStrictlyIncreasing};
+ghost use Rattle.code_leaders.specs.Early.{has};
+ghost use Rattle.code_blocks.specs.Numbers.{starts_of};
+ghost use Rattle.object_machine.specs.Program.{Program};
+ghost use Rattle.object_machine.specs.Machine.{state_of, IsProgram};
+ghost use Rattle.profile_runner.specs.Tallies.{IsBlockAt, block_now};
+ghost use Rattle.profile_runner.specs.Tally.{HasRoom, IsNew};
+ghost use Rattle.profile_runner.specs.Running.{HasStarted, fault_of, IsMachineOf, IsCounted, IsAll, TellsOfRun};
+
+use crate::counts::Profile;
+use crate::fault::ProfileFault;
+use crate::filling::nothing_counted;
+use crate::finding::{block_at, is_going, next_block};
+use crate::joining::profile_of;
+use crate::tally::Tally;
+use code_blocks::Code;
+use object_graph::Graph;
+use object_machine::{Outcome, Source};
+use region_former::RegionTable;
+use std::alloc::{AllocError, Global};
+
+/// Runs a program for `n` steps, or until it ends, and counts what happens. The machine must be at the start of
+/// a block, as it is at the start; `code`, `graph` and `regions` are those of its program.
+///
+/// Each step takes the time of a binary search among the blocks, where it ends a block, and little else.
+///
+/// It fails with `AddressFault` exactly where the run meets one within `n` steps.
+pub fn profile(
+    alloc: Global,
+    source: &mut Source,
+    code: &Code,
+    graph: &Graph,
+    regions: &RegionTable,
+    n: u64,
+) -> Result<Profile, ProfileFault>
+    requires started { HasStarted graph.now code.now source.old }
+    requires regions { length regions.now.of_block.items ≡ length code.now.blocks.items }
+    requires some { 0 < n }
+    ensures program { OnOk result ((p : Program) → IsProgram p source.old → IsProgram p source.new) }
+    ensures run { (p : Program) → IsProgram p source.old → TellsOfRun (starts_of code.now) regions.now.of_block.items regions.now.count (length graph.now.objects.items) p n (state_of p source.old) (state_of p source.new) result }
+{
+    let first = first_block(code, source.at());
+    let blocks = code.blocks.len();
+    let objects = graph.objects.len();
+    let mut tally = nothing_counted(alloc, blocks, objects, regions.count, first)?;
+    take_steps(&mut tally, source, code, regions, first, n)?;
+    if let Some(fault) = fault_of(&source.outcome()) {
+        return Err(fault);
+    }
+    match profile_of(alloc, tally, source.outcome()) {
+        Ok(profile) => Ok(profile),
+        Err(_) => Err(ProfileFault::Memory),
+    }
+}
+
+/// The fault of a run that ended so, if it met one.
+fn fault_of(outcome: &Outcome) -> Option<ProfileFault>
+    ensures { result ≡ fault_of outcome.now }
+{
+    match *outcome {
+        Outcome::AddressFault { pc, why } => Some(ProfileFault::AddressFault { pc, why }),
+        Outcome::GoesOn | Outcome::Exited(_) | Outcome::Trapped { .. } => None,
+    }
+}
+
+/// The block that begins at an address.
+fn first_block(code: &Code, address: u32) -> u32
+    requires ascending { IsStrictlyIncreasing (starts_of code.now) }
+    requires begins { has (starts_of code.now) address ≡ true }
+    ensures { IsBlockAt (starts_of code.now) address (Some result) }
+{
+    block_at(code, address).unwrap()
+}
+
+/// Takes `n` steps, or fewer where the machine ends, and counts them. The first unit is of block `first`.
+fn take_steps(
+    tally: &mut Tally,
+    source: &mut Source,
+    code: &Code,
+    regions: &RegionTable,
+    first: u32,
+    n: u64,
+) -> Result<(), AllocError>
+    requires machine { IsMachineOf (starts_of code.now) source.old }
+    requires regions { length regions.now.of_block.items ≡ length code.now.blocks.items }
+    requires begins { (p : Program) → IsProgram p source.old → IsBlockAt (starts_of code.now) (state_of p source.old).pc (Some first) }
+    requires nothing { (size : ℕ) × IsNew (length code.now.blocks.items) size regions.now.count first tally.old }
+    ensures program { OnOk result ((p : Program) → IsProgram p source.old → IsProgram p source.new) }
+    ensures run { OnOk result ((p : Program) (size : ℕ) → IsProgram p source.old → IsNew (length code.now.blocks.items) size regions.now.count first tally.old → IsAll (starts_of code.now) regions.now.of_block.items regions.now.count size p (state_of p source.old) (state_of p source.new) n tally.new) }
+{
+    let mut coming = Some(first);
+    for _ in 0..n {
+        if !is_going(&source.outcome()) {
+            break;
+        }
+        coming = count_step(tally, source, code, regions, coming)?;
+    }
+    Ok(())
+}
+
+/// Takes a step and counts it. It tells the block that begins behind it, if the machine goes on and one does;
+/// `coming` is the one that begins with it.
+fn count_step(
+    tally: &mut Tally,
+    source: &mut Source,
+    code: &Code,
+    regions: &RegionTable,
+    coming: Option<u32>,
+) -> Result<Option<u32>, AllocError>
+    requires ascending { IsStrictlyIncreasing (starts_of code.now) }
+    requires near { block_now coming tally.old.block < length code.now.blocks.items }
+    requires room { (next : Option ℕ) → HasRoom regions.now.of_block.items coming next tally.old }
+    ensures { IfOk result (λ next. (p : Program) → IsProgram p source.old → IsCounted (starts_of code.now) regions.now.of_block.items p source.old source.new coming next tally.old tally.new) }
+{
+    let event = source.step()?;
+    let near = block_now(coming, tally.block);
+    let next = next_block(code, near, &event.outcome, source.at());
+    match tally.count(regions, coming, event.access, next) {
+        Ok(()) => Ok(next),
+        Err(error) => Err(error),
+    }
+}
+
+/// The block of a unit: the one that begins with it, or else that of the unit before.
+fn block_now(coming: Option<u32>, block: u32) -> u32
+    ensures { result ≡ block_now coming block }
+{
+    coming.unwrap_or(block)
+}

@@ -1,0 +1,126 @@
+ghost use Rattle.std.specs.Prelude.{◌≡◌, ◌<◌, ℕ, length};
+ghost use Rattle.profile_runner.specs.Counts.{plain_rows, row_of, entry};
+ghost use Rattle.profile_runner.specs.Standing.{entered};
+ghost use Rattle.profile_runner.specs.Tallies.{AddsIn, is_entry};
+
+use crate::changes::Changes;
+use crate::counts::Edge;
+use crate::edges::add_edge_in;
+use crate::rows::{bump, bump_in};
+use object_machine::Access;
+use region_former::RegionTable;
+use std::alloc::AllocError;
+
+/// What has been counted of a run so far.
+#[derive(Drop)]
+pub(crate) struct Tally {
+    pub(crate) steps: u64,
+    pub(crate) arrivals: Vec<u64>,
+    /// The edges from each block, by where they lead.
+    pub(crate) edges: Vec<Vec<Edge>>,
+    pub(crate) reads: Vec<Vec<u64>>,
+    pub(crate) writes: Vec<Vec<u64>>,
+    pub(crate) changes: Changes,
+    /// The block that began last, and how many of its units ran.
+    pub(crate) block: u32,
+    pub(crate) units: u32,
+    /// The current region.
+    pub(crate) region: u32,
+}
+
+impl Tally {
+    ghost use Rattle.std.specs.Prelude.{OnOk};
+    ghost use Rattle.profile_runner.specs.Tally.{HasRoomToBegin, HasRoomForBlock, HasRoomToAccess, HasRoomToLead, HasRoom, HasBegun, HasAccessed, HasLed, HasCounted};
+    ghost use Rattle.profile_runner.specs.Tallies.{plain_edges, region_now, block_now};
+
+    /// Counts one step: which block begins with it, if one does, its access, and to which block it leads, if the
+    /// machine goes on to one.
+    pub(crate) fn count(
+        &mut self,
+        regions: &RegionTable,
+        coming: Option<u32>,
+        access: Option<Access>,
+        next: Option<u32>,
+    ) -> Result<(), AllocError>
+        requires { HasRoom regions.now.of_block.items coming next self.old }
+        ensures { OnOk result (HasCounted regions.now.of_block.items coming access next self.old self.new) }
+    {
+        self.begin(regions, coming);
+        self.access(access);
+        self.steps += 1;
+        match self.lead(next) {
+            Ok(()) => Ok(()),
+            Err(error) => Err(error),
+        }
+    }
+
+    /// A unit begins, and a block with it or none.
+    fn begin(&mut self, regions: &RegionTable, coming: Option<u32>)
+        requires { HasRoomToBegin regions.now.of_block.items coming self.old }
+        ensures { HasBegun regions.now.of_block.items coming self.old self.new }
+    {
+        match coming {
+            Some(block) => self.begin_block(regions, block),
+            None => self.units += 1,
+        }
+    }
+
+    /// A block begins.
+    fn begin_block(&mut self, regions: &RegionTable, block: u32)
+        requires { HasRoomForBlock regions.now.of_block.items block self.old }
+        ensures { HasBegun regions.now.of_block.items (Some block) self.old self.new }
+    {
+        let after = entered(self.region, regions.of_block[block as usize]);
+        bump(&mut self.arrivals, block as usize);
+        self.changes.count(self.region, after);
+        self.block = block;
+        self.units = 1;
+        self.region = after;
+    }
+
+    /// A load or a store on an object, if there is one.
+    fn access(&mut self, access: Option<Access>)
+        requires { HasRoomToAccess self.old.region (plain_rows self.old.reads.items) (plain_rows self.old.writes.items) }
+        ensures { HasAccessed access self.old self.new }
+    {
+        match access {
+            Some(access) if access.write => {
+                count_in(&mut self.writes, access.object, self.region);
+            }
+            Some(access) => count_in(&mut self.reads, access.object, self.region),
+            None => {}
+        }
+    }
+
+    /// Control goes to a block, or to none.
+    fn lead(&mut self, next: Option<u32>) -> Result<(), AllocError>
+        requires { HasRoomToLead next self.old.block (plain_edges self.old.edges.items) }
+        ensures { OnOk result (HasLed next self.old self.new) }
+    {
+        match next {
+            Some(to) => match add_edge_in(&mut self.edges, self.block, to) {
+                Ok(()) => Ok(()),
+                Err(error) => Err(error),
+            },
+            None => Ok(()),
+        }
+    }
+}
+
+/// The region that is current once a block of this region began: a block of none leaves it as it is.
+fn entered(current: u32, region: u32) -> u32
+    ensures { result ≡ entered current region }
+{
+    if region == 0 { current } else { region }
+}
+
+/// One more in row `object`, if there is one, and column `region`.
+fn count_in(table: &mut Vec<Vec<u64>>, object: u32, region: u32)
+    requires column { (j : ℕ) → j < length table.old.items → region < length (row_of (plain_rows table.old.items) j) }
+    requires room { (j : ℕ) → j < length table.old.items → entry (plain_rows table.old.items) j region < 18446744073709551615 }
+    ensures { AddsIn (plain_rows table.old.items) (plain_rows table.new.items) (is_entry object region) }
+{
+    if (object as usize) < table.len() {
+        bump_in(table, object as usize, region as usize);
+    }
+}

@@ -1,0 +1,1 @@
+pub use Rattle.code_blocks.specs.Blocks
