@@ -1,0 +1,105 @@
+-- A result that keeps the meaning of a program is like it where it is looked at.
+use Rattle.std.proofs.Common.{◌≡◌, ℕ, ◌+◌, ◌-◌, ◌*◌, ◌≤◌, ◌⊎◌, inl, inr, List, [], ◌++◌, length, sym, ◌∙◌, ap, subst, arith, length-append}
+use Rattle.std.proofs.lemmas.List.{append-nil, nil_from_length}
+use Rattle.rv_decode.specs.Table.{OneInstruction}
+use Rattle.elf_reader.specs.File.{view_in}
+use Rattle.elf_reader.specs.Loadable.{AreBytes}
+use Rattle.board_config.specs.declared.board.Board.{Board}
+use Rattle.flat_machine.specs.State.{State}
+use Rattle.flat_machine.specs.Runs as flat_runs
+use Rattle.flat_machine.specs.declared.events.FlatOutcome.TheVariants as flat
+use Rattle.flat_machine.proofs.Runs as flat_lemmas
+use Rattle.flat_machine.proofs.Outputs.{steps_extend}
+use Rattle.object_graph.specs.Graphs.{IsGraph}
+use Rattle.object_graph.specs.declared.parts.Graph.{Graph}
+use Rattle.object_machine.specs.declared.events.Outcome.{Outcome}
+use Rattle.object_machine.specs.declared.events.Outcome.TheVariants.{GoesOn, Exited, Trapped, AddressFault}
+use Rattle.object_machine.specs.State.{SourceState}
+use Rattle.object_machine.specs.Paired.{at_start}
+use Rattle.simulation.specs.Laws.{EndsAlike}
+use Rattle.file_at_home.specs.Laws.{program_in, source_start, file_start}
+use Rattle.relink_core.specs.Keeps.{most_steps, KeepsPaired}
+use Rattle.compare_runner.specs.declared.comparing.Comparison.{Comparison}
+use Rattle.compare_runner.specs.declared.comparing.Comparison.TheVariants.{Differs}
+use Rattle.compare_runner.specs.Comparing.{RunsUntil, IsFar, AreAlike, Tells, JudgesRun}
+use Rattle.compare_runner.specs.Laws.{IsPairedRun, ComparesFiles}
+use Rattle.compare_runner.proofs.UntilLemmas.{not_past, holds_at}
+use Rattle.compare_runner.proofs.PairedLemmas.{paired_first}
+
+abbrev IsNoFault : Outcome → Type 0
+IsNoFault (AddressFault pc why) = ⊥
+IsNoFault o = Unit {0}
+
+-- ---- runs and lists
+
+-- what is left of a longer run behind a shorter one
+steps_between : OneInstruction → (j k : ℕ) (s t u : State) → j ≤ k → flat_runs.Steps j s t → flat_runs.Steps k s u → flat_runs.Steps (k - j) t u
+steps_between one j k s t u le first all =
+    let sum : k ≡ j + (k - j) = omega (arith, le) in
+    let parts = flat_lemmas.steps_cut j (k - j) s u (subst (λ (i : ℕ). flat_runs.Steps i s u) sum all) in
+    subst (λ (x : State). flat_runs.Steps (k - j) x u) (flat_lemmas.one_run one j s parts.0 t parts.1.0 first) parts.1.1
+
+-- nothing was added to a list that is no longer
+nothing_more : (xs ys more : List ℕ) → xs ≡ ys ++ more → length xs ≤ length ys → ys ≡ xs
+nothing_more xs ys more e short =
+    let long = ap length e ∙ length-append ys more in
+    let none : more ≡ [] = nil_from_length more (omega (arith, short, long)) in
+    sym (e ∙ (ap (λ (zs : List ℕ). ys ++ zs) none ∙ append-nil ys))
+
+-- ---- where the result is looked at
+
+module _ (one : OneInstruction) (most : ℕ) (start t u : State) (m j : ℕ) (within : j ≤ most) (ran : flat_runs.Steps j start u) where
+  -- it is run far enough, and no further than to a state in which it is
+  reached : (o : Outcome) (n : ℕ) → IsFar o n u → RunsUntil State flat_runs.Steps (IsFar o n) most start m t → IsFar o n t × flat_runs.Steps (j - m) t u
+  reached o n far until =
+      let past = not_past State flat_runs.Steps (IsFar o n) (flat_lemmas.one_run one) most start m t j u until ran far in (
+        holds_at State flat_runs.Steps (IsFar o n) (flat_lemmas.one_run one) most start m t j u until within ran far,
+        steps_between one m j start t u past until.ran ran,
+      )
+
+  -- one that has caught up has written no more than one that wrote the same
+  caught_up : (k : ℕ) (xs : List ℕ) → flat_runs.Steps k t u → u.output ≡ xs → flat_runs.HasEnded t.outcome ⊎ (length xs ≤ length t.output) → t.output ≡ xs
+  caught_up k xs rest e (inl over) = ap (λ (x : State). x.output) (sym (flat_lemmas.ended_steps k t u over rest)) ∙ e
+  caught_up k xs rest e (inr short) =
+      let more = steps_extend k t u rest in nothing_more xs t.output more.0 (sym e ∙ more.1) short
+
+  -- one that has ended stays
+  stays : (k : ℕ) → flat_runs.Steps k t u → flat_runs.HasEnded t.outcome ⊎ ⊥ → u ≡ t
+  stays k rest (inl over) = flat_lemmas.ended_steps k t u over rest
+  stays k rest (inr none) = absurd none
+
+  -- where it ends as its program did, it is like that where it is looked at
+  pub alike_by : (o : Outcome) (s : SourceState) → IsNoFault o → EndsAlike o s u → RunsUntil State flat_runs.Steps (IsFar o (length s.output)) most start m t → AreAlike o s.output t.outcome t.output
+  alike_by GoesOn s no_fault ends until =
+      let long = ap length ends.1 in
+      let short : length s.output ≤ length u.output = omega (arith, long) in
+      let there = reached GoesOn (length s.output) (inr short) until in
+      ([], caught_up (j - m) s.output there.1 ends.1 there.0 ∙ sym (append-nil s.output))
+  alike_by (Exited code) s no_fault ends until =
+      let there = reached (Exited code) (length s.output) (inl (subst flat_runs.HasEnded (sym ends.0) tt)) until in
+      subst (λ (x : State). (x.outcome ≡ flat.Exited code) × (x.output ≡ s.output)) (stays (j - m) there.1 there.0) ends
+  alike_by (Trapped pc) s no_fault ends until =
+      let there = reached (Trapped pc) (length s.output) (inl (subst flat_runs.HasEnded (sym ends.0.1) tt)) until in
+      subst (λ (x : State). ((a : ℕ) × (x.outcome ≡ flat.Trapped a)) × (x.output ≡ s.output)) (stays (j - m) there.1 there.0) ends
+  alike_by (AddressFault pc why) s no_fault ends until = absurd no_fault
+
+-- ---- the law
+
+judged_by : (o : Outcome) (judges : Comparison → Type 0) (at : ℕ) → Tells o judges (Differs at) → IsNoFault o × judges (Differs at)
+judged_by GoesOn judges at told = (tt, told)
+judged_by (Exited code) judges at told = (tt, told)
+judged_by (Trapped pc) judges at told = (tt, told)
+judged_by (AddressFault pc why) judges at told = absurd (cc)
+
+pub never_differs : OneInstruction → (file out : List ℕ) (board : Board) (g : Graph) (input : List ℕ) (n at : ℕ) → KeepsPaired file out board → IsGraph (view_in file) board g → AreBytes input → IsPairedRun file board g input n → ComparesFiles file out board g input n (Differs at) → ⊥
+never_differs one file out board g input n at keeps graph bytes paired compares =
+    let k = compares.0 in
+    let s = compares.1.0 in
+    let ends = compares.1.1.0 in
+    let start = file_start out board input in
+    let most = (k + 1) * most_steps board in
+    let first = paired_first one (program_in file board g) n k (source_start file board g input) paired.0 s at_start ends.within paired.1 ends.ran in
+    let kept = keeps g input k s graph bytes first in
+    let told = judged_by s.outcome (JudgesRun board k s start) at compares.1.1.1 in
+    let run = told.1 in
+    run.1.1.1.0 (alike_by one most start run.1.0 kept.1.0 run.0 kept.0 kept.1.1.0 kept.1.1.1.0 s.outcome s told.0 kept.1.1.1.1 run.1.1.0)
