@@ -1,0 +1,142 @@
+-- A walk over the text of a tree.
+use Rattle.std.proofs.Common.{◌≡◌, ◌∙◌, ◌↔◌, IsTrue, ℕ, zero, suc, ◌-◌, ◌+◌, ◌*◌, ◌<◌, ◌≤◌, Bool, List, [], ◌∷◌, length, get_or, slice_index, slice_set, Result, Ok, Err, refl, sym, ap, subst, arith}
+use Rattle.std.specs.Result.{OnOk}
+use Rattle.std.proofs.lemmas.List.Sums.{sum_by-cons}
+use Rattle.placement_programme.specs.Plain.{PlainSide}
+use Rattle.placement_programme.specs.Bounds.{RowsWithin, IsWithinBounds, row_of, value_of}
+use Rattle.placement_programme.specs.Programme.{gain_at, weight_in, weights_at}
+use Rattle.placement_programme.proofs.TakeLemmas.{below_same}
+use Rattle.placement_programme.proofs.WeightLemmas.{weights_are}
+use Rattle.certificate_checker.specs.declared.fault.CertFault.{CertFault}
+use Rattle.certificate_checker.specs.declared.fields.Part.TheVariants.{Node}
+use Rattle.certificate_checker.specs.declared.walking.Failing.{Failing}
+use Rattle.certificate_checker.specs.Nodes.{PlainTree, branch, over, dual, leaf}
+use Rattle.certificate_checker.specs.Marks.{mark}
+use Rattle.certificate_checker.specs.Rules.{kept, moved, BranchHolds, KeepsRule, DualHolds}
+use Rattle.certificate_checker.specs.Shows.{in_32_bits}
+use Rattle.certificate_checker.specs.Parts.{kept_part, moved_part, SumsHold}
+use Rattle.certificate_checker.specs.Prices.{priced_by}
+use Rattle.certificate_checker.specs.Digits.{number_at}
+use Rattle.certificate_checker.specs.declared.fields.Part.{Part}
+use Rattle.certificate_checker.specs.Reading.{number_in, entries_at, over_at, dual_at, tree_at, cut_off, below_all}
+use Rattle.certificate_checker.specs.Walks.{FailsIn, Walks}
+use Rattle.certificate_checker.specs.Loading.{IsLoaded, IsSingle, behind_of, both_of}
+use Rattle.certificate_checker.proofs.Failures.{zero_fails, one_fails, both_hold, marks_one, marks_back}
+use Rattle.certificate_checker.proofs.FieldLaws.{ranged_take}
+use Rattle.certificate_checker.proofs.Pricing.{dual_tested}
+
+-- a branch whose parts are read, or the first that is not
+pub var_broken : (total levels : ℕ) (bytes : List ℕ) (e : CertFault) → number_in Node 0 4294967295 total bytes ≡ Err e → tree_at total (suc levels) (0 ∷ bytes) ≡ Err e
+unfolding tree_at
+var_broken total levels bytes e a = rw a refl
+
+pub first_broken : (total levels : ℕ) (bytes : List ℕ) (var : ℕ) (r0 : List ℕ) (e : CertFault) → number_in Node 0 4294967295 total bytes ≡ Ok (var, r0) → tree_at total levels r0 ≡ Err e → tree_at total (suc levels) (0 ∷ bytes) ≡ Err e
+unfolding tree_at
+first_broken total levels bytes var r0 e a b = rw (a, b) refl
+
+pub second_broken : (total levels : ℕ) (bytes : List ℕ) (var : ℕ) (r0 : List ℕ) (l : PlainTree) (r1 : List ℕ) (e : CertFault) → number_in Node 0 4294967295 total bytes ≡ Ok (var, r0) → tree_at total levels r0 ≡ Ok (l, r1) → tree_at total levels r1 ≡ Err e → tree_at total (suc levels) (0 ∷ bytes) ≡ Err e
+unfolding tree_at
+second_broken total levels bytes var r0 l r1 e a b c = rw (a, b, c) refl
+
+pub branch_read : (total levels : ℕ) (bytes : List ℕ) (var : ℕ) (r0 : List ℕ) (l : PlainTree) (r1 : List ℕ) (r : PlainTree) (r2 : List ℕ) → number_in Node 0 4294967295 total bytes ≡ Ok (var, r0) → tree_at total levels r0 ≡ Ok (l, r1) → tree_at total levels r1 ≡ Ok (r, r2) → tree_at total (suc levels) (0 ∷ bytes) ≡ Ok (branch var l r, r2)
+unfolding tree_at
+branch_read total levels bytes var r0 l r1 r r2 a b c = rw (a, b, c) refl
+
+-- two children's answers make the branch's
+pub joined_walks : (s : PlainSide) (best : ℕ) (marks m1 : List ℕ) (var : ℕ) (l r : PlainTree) (node depth next below : ℕ) (first second : Result ℕ Failing) → BranchHolds s marks var → next ≡ in_32_bits (node + 1) → below ≡ in_32_bits (depth + 1) → Walks s best (slice_set marks var 0) l next below first → OnOk first (m1 ≡ slice_set marks var 0) → Walks s best (slice_set m1 var 1) r (behind_of first) below second → Walks s best marks (branch var l r) node depth (both_of first second)
+joined_walks s best marks m1 var l r node depth next below (Err f) second rule is_next is_below left kept right =
+    zero_fails s best marks var l r node depth next below f rule is_next is_below left
+joined_walks s best marks m1 var l r node depth next below (Ok middle) (Ok end) rule is_next is_below left kept right =
+    let ones = marks_one marks m1 var kept in
+    both_hold s best marks var l r node depth next below middle end rule is_next left
+    (subst (λ m. Walks s best m r middle below (Ok end)) ones right)
+joined_walks s best marks m1 var l r node depth next below (Ok middle) (Err f) rule is_next is_below left kept right =
+    let ones = marks_one marks m1 var kept in
+    one_fails s best marks var l r node depth next below middle f rule left.0 is_next is_below left.1
+    (subst (λ m. FailsIn s best m r middle below f) ones right)
+
+pub joined_kept : (marks m1 m2 : List ℕ) (var old : ℕ) (first second : Result ℕ Failing) → OnOk first (m1 ≡ slice_set marks var 0) → OnOk second (m2 ≡ slice_set m1 var 1) → old ≡ get_or marks var 0 → OnOk (both_of first second) (slice_set m2 var old ≡ marks)
+joined_kept marks m1 m2 var old (Err f) second a b is = tt
+joined_kept marks m1 m2 var old (Ok middle) (Err f) a b is = tt
+joined_kept marks m1 m2 var old (Ok middle) (Ok end) a b is = marks_back marks m1 m2 var old a b is
+
+-- a single node's answer
+pub single_holds : (s : PlainSide) (best : ℕ) (marks : List ℕ) (t : PlainTree) (node depth next : ℕ) → IsSingle t → KeepsRule s best marks t → next ≡ in_32_bits (node + 1) → Walks s best marks t node depth (Ok next)
+single_holds s best marks (branch j l r) node depth next single rule is = absurd single
+single_holds s best marks (over row) node depth next single rule is = (rule, is)
+single_holds s best marks (dual scale ms) node depth next single rule is = (rule, is)
+single_holds s best marks leaf node depth next single rule is = (rule, is)
+
+-- the prices by a dense list
+same_price : (dense : List ℕ) (ms : List (ℕ × ℕ)) (low high : ℕ) (ws : List (ℕ × ℕ)) → ((row : ℕ) → row < high → slice_index dense row ≡ weight_in ms row) → RowsWithin low high ws → priced_by (λ row. slice_index dense row) ws ≡ priced_by (weight_in ms) ws
+same_price dense ms low high [] values rows = refl
+same_price dense ms low high (w ∷ ws) values rows =
+    let rest = same_price dense ms (suc (row_of w)) high ws values rows.2 in
+    let one = sum_by-cons (λ (k : ℕ × ℕ). slice_index dense (row_of k) * value_of k) w ws in
+    let other = sum_by-cons (λ (k : ℕ × ℕ). weight_in ms (row_of k) * value_of k) w ws in
+    let here = ap (λ n. n * value_of w) (values (row_of w) rows.1) in
+    omega (arith, rest, one, other, here)
+
+-- a dual node's rule, by the dense list and the reach of its rows
+pub dense_tested : (s : PlainSide) (best : ℕ) (marks dense : List ℕ) (scale reach total : ℕ) (ms : List (ℕ × ℕ)) (b : Bool) → IsWithinBounds s → IsLoaded s.rows dense reach total ms → reach ≤ length s.rows → 1 ≤ scale → scale ≤ 65536 → (IsTrue b ↔ SumsHold s best marks scale total (λ row. slice_index dense row)) → (IsTrue b ↔ DualHolds s best marks scale ms)
+dense_tested s best marks dense scale reach total ms b bounds loaded within least most test =
+    let rows = rows_wide 0 reach (length s.rows) ms within loaded.ascending in
+    let price : (j : ℕ) → j < length s.vars → priced_by (λ row. slice_index dense row) (weights_at s.vars j) ≡ priced_by (weight_in ms) (weights_at s.vars j) =
+    λ j inside. same_price dense ms 0 (length s.rows) (weights_at s.vars j) loaded.values (weights_are (length s.rows) s.vars j bounds.weights inside).ascending in
+    let left = below_same (kept_part s marks scale (λ row. slice_index dense row)) (kept_part s marks scale (weight_in ms)) (length s.vars) (λ j inside. ap (λ c. kept (mark marks j) (scale * gain_at s.vars j) c) (price j inside)) in
+    let right = below_same (moved_part s marks (λ row. slice_index dense row)) (moved_part s marks (weight_in ms)) (length s.vars) (λ j inside. ap (λ c. moved (mark marks j) c) (price j inside)) in
+    let forth : SumsHold s best marks scale total (λ row. slice_index dense row) → SumsHold s best marks scale total (weight_in ms) = λ sums. omega (arith, left, right, sums) in
+    let back : SumsHold s best marks scale total (weight_in ms) → SumsHold s best marks scale total (λ row. slice_index dense row) = λ sums. omega (arith, left, right, sums) in
+    dual_tested s best marks scale total ms b bounds rows least most (loaded.bound within) (λ found. forth (test.0 found), λ sums. test.1 (back sums))
+  where
+    rows_wide : (low high wide : ℕ) (ms : List (ℕ × ℕ)) → high ≤ wide → RowsWithin low high ms → RowsWithin low wide ms
+    rows_wide low high wide [] order rows = tt
+    rows_wide low high wide (k ∷ ms) order rows = (rows.0, omega (arith, order, rows.1), rows_wide (suc (row_of k)) high wide ms order rows.2)
+
+-- where rows reach past those of the side, the rule is broken
+pub reach_breaks : (s : PlainSide) (best : ℕ) (marks dense : List ℕ) (scale reach total : ℕ) (ms : List (ℕ × ℕ)) → IsLoaded s.rows dense reach total ms → length s.rows < reach → DualHolds s best marks scale ms → ⊥
+reach_breaks s best marks dense scale reach total ms loaded past holds =
+    let within = loaded.tight (length s.rows) holds.rows in
+    omega (arith, within, past)
+
+-- a number is no less than the least
+pub number_from : (part : Part) (least most total : ℕ) (bytes : List ℕ) (n : ℕ) (rest : List ℕ) → number_in part least most total bytes ≡ Ok (n, rest) → least ≤ n
+unfolding number_in
+number_from part least most total bytes n rest e = (ranged_take part least most total bytes (number_at bytes) n rest e).1
+
+pub over_read : (total : ℕ) (bytes : List ℕ) (row : ℕ) (rest : List ℕ) → number_in Node 0 4294967295 total bytes ≡ Ok (row, rest) → over_at total bytes ≡ Ok (over row, rest)
+unfolding over_at
+over_read total bytes row rest a = rw a refl
+
+pub dual_read : (total : ℕ) (bytes : List ℕ) (scale : ℕ) (r0 : List ℕ) (count : ℕ) (r1 : List ℕ) (ms : List (ℕ × ℕ)) (r2 : List ℕ) → number_in Node 1 65536 total bytes ≡ Ok (scale, r0) → number_in Node 0 4294967295 total r0 ≡ Ok (count, r1) → entries_at total count 0 r1 ≡ Ok (ms, r2) → dual_at total bytes ≡ Ok (dual scale ms, r2)
+unfolding dual_at
+dual_read total bytes scale r0 count r1 ms r2 a b c = rw (a, b, c) refl
+
+-- the first byte of a tree
+pub heads : (a b : ℕ) (xs ys : List ℕ) → a ∷ xs ≡ b ∷ ys → a ≡ b
+heads a b xs ys same = cc
+
+pub above : (levels : ℕ) → (levels ≡ 0 → ⊥) → suc (levels - 1) ≡ levels
+above levels some = omega (arith, some)
+
+cut_at : (total levels : ℕ) → tree_at total levels [] ≡ Err (cut_off total)
+unfolding tree_at
+cut_at total zero = refl
+cut_at total (suc levels) = refl
+
+pub tree_cut : (total levels : ℕ) (bytes : List ℕ) (e : CertFault) → bytes ≡ [] → e ≡ cut_off total → tree_at total levels bytes ≡ Err e
+tree_cut total levels bytes e none is = ap (tree_at total levels) none ∙ (cut_at total levels ∙ ap (λ f. Err f) (sym is))
+
+below_at : (total tag : ℕ) (rest : List ℕ) → tree_at total 0 (tag ∷ rest) ≡ Err (below_all total (tag ∷ rest) tag)
+unfolding tree_at
+below_at total tag rest = refl
+
+pub tree_below : (total levels : ℕ) (bytes : List ℕ) (tag : ℕ) (rest : List ℕ) (e : CertFault) → levels ≡ 0 → bytes ≡ tag ∷ rest → e ≡ below_all total bytes tag → tree_at total levels bytes ≡ Err e
+tree_below total levels bytes tag rest e none first is =
+    ap (λ n. tree_at total n bytes) none
+    ∙ (ap (tree_at total 0) first ∙ (below_at total tag rest ∙ (ap (λ bs. Err (below_all total bs tag)) (sym first) ∙ ap (λ f. Err f) (sym is))))
+
+pub tree_same : (total levels : ℕ) (bytes : List ℕ) (tag : ℕ) (rest : List ℕ) → (levels ≡ 0 → ⊥) → tag ≡ 0 → bytes ≡ tag ∷ rest → tree_at total (suc (levels - 1)) (0 ∷ rest) ≡ tree_at total levels bytes
+tree_same total levels bytes tag rest some zeroed first =
+    ap (λ n. tree_at total n (0 ∷ rest)) (above levels some)
+    ∙ ap (tree_at total levels) (ap (λ b. b ∷ rest) (sym zeroed) ∙ sym first)

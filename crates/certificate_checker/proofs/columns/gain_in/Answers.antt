@@ -1,0 +1,6 @@
+use Rattle.std.proofs.Common.{sym}
+use Rattle.placement_programme.proofs.WeightLemmas.{gain_at_is}
+use Rattle.certificate_checker.proofs.columns.gain_in.Goals as goal
+
+pub returns : goal.returns
+returns c = sym (gain_at_is c.args.vars.now c.args.number c.index-vars-number.result c.requires)

@@ -1,0 +1,24 @@
+use Rattle.std.proofs.Common.{Some, option_map, refl, sym, subst, arith}
+use Rattle.placement_programme.specs.Views.{plain_side}
+use Rattle.certificate_checker.specs.Shows.{SideWrong}
+use Rattle.certificate_checker.proofs.Failures.{number_here}
+use Rattle.certificate_checker.proofs.text_trees.on_tree.Goals as goal
+
+pub returns-in-Ok : goal.returns-in-Ok
+returns-in-Ok c =
+    let read = c.in-Ok.ensures in (
+      read.0,
+      (
+        read.1.0,
+        (
+          0,
+          (
+            0,
+            (
+              subst (λ side. SideWrong (option_map plain_side side) c.args.best (Some read.0) 0 0) (sym c.in-None.is) (refl, refl),
+              (number_here 0 (omega arith), number_here 0 (omega arith)),
+            ),
+          ),
+        ),
+      ),
+    )

@@ -1,0 +1,15 @@
+use Rattle.std.proofs.Common.{◌≡◌, Ok, None, refl, sym, subst}
+use Rattle.placement_programme.specs.Views.{plain_side}
+use Rattle.certificate_checker.specs.Reading.{trees_for}
+use Rattle.certificate_checker.proofs.RoomLemmas.{missing_first}
+use Rattle.certificate_checker.proofs.text_trees.text_trees.Goals as goal
+
+pub returns-else-optimal : goal.returns-else-optimal
+returns-else-optimal c = (
+  (None, None),
+  (
+    subst (λ claimed. trees_for claimed c.args.total c.args.bytes.now ≡ Ok ((None, None), c.args.bytes.now)) (sym c.if-optimal.false) refl,
+    missing_first (plain_side c.args.p.now.off) c.args.best c.first_node-off.result c.first_node-off.ensures,
+    c.no_on_tree-on.ensures c.args.best,
+  ),
+)

@@ -1,0 +1,54 @@
+-- What reading a dual node's rows into a dense list leaves, and what a walk over the text of a tree answers.
+use Rattle.std.specs.Prelude.{◌≡◌, ℕ, ◌*◌, ◌^◌, ◌<◌, ◌≤◌, List, [], ◌∷◌, length, slice_index, Result, Ok, Err}
+use Rattle.std.specs.Borrow.{Bor}
+use Rattle.std.specs.List.{sum_by}
+use Rattle.placement_programme.specs.Plain.{PlainSide}
+use Rattle.placement_programme.specs.Bounds.{RowsWithin, row_of, value_of}
+use Rattle.placement_programme.specs.Programme.{weight_in}
+use Rattle.certificate_checker.specs.Nodes.{PlainTree, branch, over, dual, leaf}
+use Rattle.certificate_checker.specs.Reading.{cut_off}
+use Rattle.certificate_checker.specs.Walks.{Walks}
+use Rattle.certificate_checker.specs.declared.fault.CertFault.{CertFault}
+use Rattle.certificate_checker.specs.declared.walking.Failing.{Failing}
+use Rattle.certificate_checker.specs.declared.loading.Loaded.{Loaded}
+
+-- `reach` is the least number above all rows; the dense list has the multiplier of each row that there is
+pub record IsLoaded (rows dense : List ℕ) (reach total : ℕ) (ms : List (ℕ × ℕ)) : Type 0 where
+  pub ascending : RowsWithin 0 reach ms
+  pub tight : (high : ℕ) → RowsWithin 0 high ms → reach ≤ high
+  pub values : (row : ℕ) → row < length rows → slice_index dense row ≡ weight_in ms row
+  pub bound : reach ≤ length rows → total ≡ sum_by (λ m. value_of m * slice_index rows (row_of m)) ms
+  pub small : total ≤ reach * 2 ^ 96
+  pub most : total ≤ length rows * 2 ^ 96
+
+abbrev pub Loads : List ℕ → List ℕ → Result (Loaded × Bor (List ℕ)) CertFault → Result (List (ℕ × ℕ) × List ℕ) CertFault → Type 0
+Loads rows dense (Ok x) read =
+    (ms : List (ℕ × ℕ)) × ((read ≡ Ok (ms, x.1.now)) × IsLoaded rows dense x.0.reach x.0.bound ms)
+Loads rows dense (Err e) read = read ≡ Err e
+
+-- a tree that is one node
+abbrev pub IsSingle : PlainTree → Type 0
+IsSingle (branch j l r) = ⊥
+IsSingle (over row) = Unit {0}
+IsSingle (dual scale ms) = Unit {0}
+IsSingle leaf = Unit {0}
+
+-- what a walk over the text of a tree answers: the walk's answer for the tree that is read, or the text's fault
+abbrev pub WalksRead : PlainSide → ℕ → List ℕ → ℕ → ℕ → Result (Result ℕ Failing × Bor (List ℕ)) CertFault → Result (PlainTree × List ℕ) CertFault → Type 0
+WalksRead s best marks node depth (Ok x) read =
+    (t : PlainTree) × ((read ≡ Ok (t, x.1.now)) × Walks s best marks t node depth x.0)
+WalksRead s best marks node depth (Err e) read = read ≡ Err e
+
+-- the number behind a child, and what two children answer
+abbrev pub behind_of : Result ℕ Failing → ℕ
+behind_of (Ok next) = next
+behind_of (Err f) = 0
+
+abbrev pub both_of : Result ℕ Failing → Result ℕ Failing → Result ℕ Failing
+both_of (Ok next) second = second
+both_of (Err f) second = Err f
+
+-- the first byte and those behind it
+abbrev pub SplitsFirst : ℕ → List ℕ → Result (ℕ × Bor (List ℕ)) CertFault → Type 0
+SplitsFirst total bytes (Ok x) = bytes ≡ x.0 ∷ x.1.now
+SplitsFirst total bytes (Err e) = (bytes ≡ []) × (e ≡ cut_off total)

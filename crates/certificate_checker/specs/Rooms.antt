@@ -1,0 +1,88 @@
+-- The room of a check that reads the text once, and what it answers.
+use Rattle.std.specs.Prelude.{◌≡◌, ◌≤◌, ℕ, Bool, true, false, List, length, Option, Some, None, IfSome, MatchOption, vec_capacity, Result, Ok, Err}
+use Rattle.std.specs.Borrow.{Bor}
+use Rattle.placement_programme.specs.Plain.{PlainSide, PlainProgramme, PlainChoice}
+use Rattle.placement_programme.specs.Bounds.{AscendWithin}
+use Rattle.placement_programme.specs.declared.sides.Programme.{Programme}
+use Rattle.certificate_checker.specs.Nodes.{PlainTree, PlainCertificate}
+use Rattle.certificate_checker.specs.Shows.{IsAccepted, Answers, PlainVerdict, optimal, best_found, bad_choice, wrong}
+use Rattle.certificate_checker.specs.Views.{plain_verdict}
+use Rattle.certificate_checker.specs.Reading.{PlainTrees}
+use Rattle.certificate_checker.specs.Walks.{SideAnswers}
+use Rattle.certificate_checker.specs.declared.fault.CertFault.{CertFault}
+use Rattle.certificate_checker.specs.declared.walking.Failing.{Failing}
+use Rattle.certificate_checker.specs.declared.verdict.Verdict.{Verdict}
+use Rattle.certificate_checker.specs.declared.text_trees.Outcomes.{Outcomes}
+use Rattle.certificate_checker.specs.declared.rooms.Room.{Room}
+
+-- ascending numbers, read one by one: `reach` is the least number above all, and `taken` is all of them where none passes `limit`
+pub record AreTaken (limit reach : ℕ) (taken ks : List ℕ) : Type 0 where
+  pub ascending : AscendWithin 0 reach ks
+  pub tight : (high : ℕ) → AscendWithin 0 high ks → reach ≤ high
+  pub all : reach ≤ limit → taken ≡ ks
+  pub few : length taken ≤ reach
+  pub room : length taken ≤ limit
+
+abbrev pub Takes : ℕ → ℕ → List ℕ → Result (ℕ × Bor (List ℕ)) CertFault → Result (List ℕ × List ℕ) CertFault → Type 0
+Takes total limit taken (Ok x) read = (ks : List ℕ) × ((read ≡ Ok (ks, x.1.now)) × AreTaken limit x.0 taken ks)
+Takes total limit taken (Err e) read = read ≡ Err e
+
+-- the gain of a choice that is accepted
+abbrev pub IsBest : PlainProgramme → PlainChoice → PlainChoice → Option ℕ → Type 0
+IsBest p c kept best =
+    MatchOption best ((b : ℕ) → IsAccepted p c b → ⊥) (λ b. IsAccepted p c b × (kept ≡ c) × (b ≤ 20282409603651670423947251286016))
+
+abbrev pub Chooses : PlainProgramme → PlainChoice → Result (Option ℕ × Bor (List ℕ)) CertFault → Result (PlainChoice × List ℕ) CertFault → Type 0
+Chooses p kept (Ok x) read = (c : PlainChoice) × ((read ≡ Ok (c, x.1.now)) × IsBest p c kept x.0)
+Chooses p kept (Err e) read = read ≡ Err e
+
+-- a side's tree is read, and answered
+abbrev pub SideRead : Option PlainSide → ℕ → Result (Result (Unit {0}) Failing × Bor (List ℕ)) CertFault → Result (PlainTree × List ℕ) CertFault → Type 0
+SideRead side best (Ok x) read = (t : PlainTree) × ((read ≡ Ok (t, x.1.now)) × SideAnswers side best (Some t) x.0)
+SideRead side best (Err e) read = read ≡ Err e
+
+-- how many variables a side has
+abbrev pub vars_of : Option PlainSide → ℕ
+vars_of None = 0
+vars_of (Some s) = length s.vars
+
+-- the trees of a text are read, and both sides answered
+abbrev pub TreesRead : PlainProgramme → ℕ → Result (Outcomes × Bor (List ℕ)) CertFault → Result (PlainTrees × List ℕ) CertFault → Type 0
+TreesRead p best (Ok x) read =
+    (ts : PlainTrees)
+    × ((read ≡ Ok (ts, x.1.now)) × SideAnswers (Some p.off) best ts.0 x.0.off × SideAnswers p.on best ts.1 x.0.on)
+TreesRead p best (Err e) read = read ≡ Err e
+
+-- the verdict by what the choice and the trees are answered
+abbrev pub verdict_for : Option ℕ → Bool → Result (Unit {0}) Failing → Result (Unit {0}) Failing → PlainVerdict
+verdict_for None claimed off on = bad_choice
+verdict_for (Some b) false off on = best_found
+verdict_for (Some b) true (Err f) on = wrong 0 f.node f.depth
+verdict_for (Some b) true (Ok u) (Err f) = wrong 1 f.node f.depth
+verdict_for (Some b) true (Ok u) (Ok v) = optimal
+
+abbrev pub used : Option ℕ → ℕ
+used None = 0
+used (Some b) = b
+
+-- after these verdicts the certificate's choice is kept
+abbrev pub KeepsChoice : PlainChoice → PlainChoice → PlainVerdict → Type 0
+KeepsChoice c kept optimal = kept ≡ c
+KeepsChoice c kept best_found = kept ≡ c
+KeepsChoice c kept bad_choice = Unit {0}
+KeepsChoice c kept (wrong side node depth) = Unit {0}
+
+-- the certificate that is read is answered, or the text's fault
+abbrev pub BodyAnswers : PlainProgramme → PlainChoice → Result Verdict CertFault → Result PlainCertificate CertFault → Type 0
+BodyAnswers p kept (Ok v) read =
+    (c : PlainCertificate) × ((read ≡ Ok c) × Answers p c (plain_verdict v) × KeepsChoice c.choice kept (plain_verdict v))
+BodyAnswers p kept (Err e) read = read ≡ Err e
+
+-- the room is large enough for a programme
+pub record RoomFits (p : Programme) (r : Room) : Type 0 where
+  pub off_marks : length p.off.vars.items ≤ length r.marks.items
+  pub off_rows : length p.off.rows.items ≤ length r.multipliers.items
+  pub off_take : length p.off.vars.items ≤ vec_capacity r.choice.take
+  pub on_marks : IfSome p.on (λ s. length s.vars.items ≤ length r.marks.items)
+  pub on_rows : IfSome p.on (λ s. length s.rows.items ≤ length r.multipliers.items)
+  pub on_take : IfSome p.on (λ s. length s.vars.items ≤ vec_capacity r.choice.take)

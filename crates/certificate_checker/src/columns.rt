@@ -1,0 +1,63 @@
+ghost use Rattle.std.specs.Prelude.{◌≡◌, ◌^◌, ◌<◌, ◌≤◌, map, length};
+ghost use Rattle.placement_programme.specs.Plain.{plain_var};
+ghost use Rattle.placement_programme.specs.Bounds.{AreWeights};
+ghost use Rattle.placement_programme.specs.Programme.{gain_at, weights_at, weight_at};
+ghost use Rattle.placement_programme.specs.Views.{plain_side};
+
+use placement_programme::{Side, Var, weight_of};
+
+/// How many variables a side has.
+pub(crate) fn var_count(side: &Side) -> usize
+    ensures value { result ≡ length (plain_side side.now).vars }
+    ensures few { result ≤ 4000 }
+{
+    side.vars.len()
+}
+
+/// How many rows a side has.
+pub(crate) fn row_count(side: &Side) -> usize
+    ensures { result ≡ length (plain_side side.now).rows }
+{
+    side.rows.len()
+}
+
+fn gain_in(vars: &[Var], number: usize) -> u128
+    requires { number < length vars.now }
+    ensures { result ≡ gain_at (map plain_var vars.now) number }
+{
+    vars[number].gain
+}
+
+fn weights_in(vars: &[Var], number: usize) -> &[(u32, u64)]
+    requires { number < length vars.now }
+    ensures { result.now ≡ weights_at (map plain_var vars.now) number }
+{
+    &vars[number].weights
+}
+
+/// The gain of a variable.
+pub(crate) fn gain_of_var(side: &Side, number: usize) -> u128
+    requires { number < length (plain_side side.now).vars }
+    ensures { result ≡ gain_at (plain_side side.now).vars number }
+{
+    gain_in(&side.vars, number)
+}
+
+/// The weights of a variable.
+pub(crate) fn weights_of_var(side: &Side, number: usize) -> &[(u32, u64)]
+    requires { number < length (plain_side side.now).vars }
+    ensures value { result.now ≡ weights_at (plain_side side.now).vars number }
+    ensures rows { AreWeights (length (plain_side side.now).rows) result.now }
+    ensures few { length result.now < 2 ^ 17 }
+{
+    weights_in(&side.vars, number)
+}
+
+/// What a variable weighs in a row.
+pub(crate) fn weight_in_row(side: &Side, number: usize, row: u32) -> u64
+    requires { number < length (plain_side side.now).vars }
+    ensures value { result ≡ weight_at (plain_side side.now).vars row number }
+    ensures small { result < 2 ^ 32 }
+{
+    weight_of(weights_of_var(side, number), row)
+}

@@ -1,0 +1,131 @@
+ghost use Rattle.std.specs.Prelude.{◌≡◌, ℕ, ◌+◌, ◌*◌, ◌^◌, ◌<◌, ◌≤◌, ◌↔◌, IsTrue, length};
+ghost use Rattle.placement_programme.specs.Bounds.{RowsWithin};
+ghost use Rattle.placement_programme.specs.Programme.{gain_at, weights_at};
+ghost use Rattle.placement_programme.specs.Sums.{sum_below};
+ghost use Rattle.placement_programme.specs.Views.{plain_side};
+ghost use Rattle.certificate_checker.specs.Marks.{mark, mark_of};
+ghost use Rattle.certificate_checker.specs.Rules.{kept, moved, DualHolds};
+ghost use Rattle.certificate_checker.specs.Prices.{multiplier_in, AreOfRows, priced_by};
+ghost use Rattle.certificate_checker.specs.Parts.{kept_part, moved_part, SumsHold};
+
+use crate::columns::{gain_of_var, var_count, weights_of_var};
+use crate::multipliers::{Multipliers, are_rows, bounded, priced};
+use placement_programme::Side;
+
+/// What a variable adds to the left and to the right side of a dual node's rule.
+#[derive(Drop)]
+struct TwoParts {
+    kept: u128,
+    moved: u128,
+}
+
+fn parts(mark: u8, gain: u128, price: u128) -> TwoParts
+    ensures kept { result.kept ≡ kept (mark_of mark) gain price }
+    ensures moved { result.moved ≡ moved (mark_of mark) price }
+{
+    match mark {
+        0 => TwoParts { kept: 0, moved: 0 },
+        1 => TwoParts {
+            kept: gain,
+            moved: price,
+        },
+        _ => TwoParts {
+            kept: gain.saturating_sub(price),
+            moved: 0,
+        },
+    }
+}
+
+/// The gain of a variable, times the scale.
+fn scaled_gain(side: &Side, scale: u32, number: usize) -> u128
+    requires number { number < length (plain_side side.now).vars }
+    requires scale { scale ≤ 65536 }
+    ensures { result ≡ scale * gain_at (plain_side side.now).vars number }
+{
+    u128::from(scale) * gain_of_var(side, number)
+}
+
+fn parts_at(
+    side: &Side,
+    marks: &[u8],
+    scale: u32,
+    multipliers: &Multipliers,
+    number: usize,
+) -> TwoParts
+    requires number { number < length (plain_side side.now).vars }
+    requires marked { number < length marks.now }
+    requires scale { scale ≤ 65536 }
+    requires rows { AreOfRows multipliers.now (length (plain_side side.now).rows) }
+    ensures kept { result.kept ≡ kept_part (plain_side side.now) marks.now scale (multiplier_in multipliers.now) number }
+    ensures moved { result.moved ≡ moved_part (plain_side side.now) marks.now (multiplier_in multipliers.now) number }
+    ensures small { result.moved < 2 ^ 113 }
+{
+    let mark = marks[number];
+    if mark == 0 {
+        return TwoParts { kept: 0, moved: 0 };
+    }
+    let price = priced(multipliers, weights_of_var(side, number));
+    parts(mark, scaled_gain(side, scale, number), price)
+}
+
+/// The scaled bound.
+fn scaled_bound(side: &Side, best: u128, scale: u32) -> u128
+    requires best { best ≤ 2 ^ 104 }
+    requires scale { scale ≤ 65536 }
+    ensures value { result ≡ scale * (best + side.now.fixed) }
+    ensures small { result ≤ 2 ^ 121 }
+{
+    u128::from(scale) * (best + side.fixed)
+}
+
+/// Whether the sums of a dual node keep its rule, for multiplied capacities of `bound`.
+pub(crate) fn sums_hold(
+    side: &Side,
+    best: u128,
+    marks: &[u8],
+    scale: u32,
+    bound: u128,
+    multipliers: &Multipliers,
+) -> bool
+    requires best { best ≤ 2 ^ 104 }
+    requires marked { length (plain_side side.now).vars ≤ length marks.now }
+    requires scale { scale ≤ 65536 }
+    requires bound { bound < 2 ^ 113 }
+    requires rows { AreOfRows multipliers.now (length (plain_side side.now).rows) }
+    ensures { IsTrue result ↔ SumsHold (plain_side side.now) best marks.now scale bound (multiplier_in multipliers.now) }
+{
+    let mut left = bound;
+    let mut right = scaled_bound(side, best, scale);
+    for number in 0..var_count(side) {
+        let parts = parts_at(side, marks, scale, multipliers, number);
+        left += parts.kept;
+        right += parts.moved;
+    }
+    left <= right
+}
+
+/// Whether a dual node keeps its rule.
+pub(crate) fn dual_holds(
+    side: &Side,
+    best: u128,
+    marks: &[u8],
+    scale: u32,
+    multipliers: &[(u32, u64)],
+) -> bool
+    requires best { best ≤ 2 ^ 104 }
+    requires marked { length (plain_side side.now).vars ≤ length marks.now }
+    ensures { IsTrue result ↔ DualHolds (plain_side side.now) best marks.now scale multipliers.now }
+{
+    if scale == 0 || scale > 65536 || !are_rows(multipliers, side.rows.len()) {
+        return false;
+    }
+    let bound = bounded(&side.rows, multipliers);
+    sums_hold(
+        side,
+        best,
+        marks,
+        scale,
+        bound,
+        &Multipliers::Sorted(multipliers),
+    )
+}

@@ -1,0 +1,39 @@
+//! Certificates: trees that show that no feasible choice of a programme gains more than one that is given, and their check.
+//!
+//! A tree splits a side's choices by variables until each part is closed by a rule: a row that is exceeded, multipliers
+//! that bound the gain, or nothing left to fix. The check trusts nobody who made the tree.
+#![tactic(auto)]
+
+mod checking;
+mod columns;
+mod digits;
+mod duals;
+mod fault;
+mod fields;
+mod laws;
+mod loading;
+mod multipliers;
+mod reading;
+mod rooms;
+mod rules;
+mod taking;
+mod text_checking;
+mod text_trees;
+mod text_walk;
+mod trees;
+mod verdict;
+mod walking;
+mod writing;
+
+pub use checking::check;
+pub use fault::CertFault;
+pub use laws::{one_answer, one_certificate, one_text, reads_spelled, shown_is_least};
+pub use reading::read_tree;
+pub use rooms::Room;
+pub use text_checking::check_text;
+pub use trees::{Certificate, Tree};
+pub use verdict::Verdict;
+pub use writing::write_tree;
+
+#[cfg(test)]
+mod tests;

@@ -1,0 +1,164 @@
+ghost use Rattle.std.specs.Prelude.{◌≡◌, ◌^◌, ◌≤◌, length, IfSome, vec_capacity};
+ghost use Rattle.placement_programme.specs.Views.{plain_side, plain_programme, plain_choice};
+ghost use Rattle.placement_programme.specs.Programme.{side_for};
+ghost use Rattle.certificate_checker.specs.Reading.{choice_at, body_at, certificate_of};
+ghost use Rattle.certificate_checker.specs.Rooms.{vars_of, Chooses, BodyAnswers, RoomFits, used, verdict_for};
+ghost use Rattle.certificate_checker.specs.Views.{plain_verdict};
+
+use crate::checking::accepted;
+use crate::fault::CertFault;
+use crate::fields::{Part, flag, mark, place, small_number};
+use crate::rooms::Room;
+use crate::taking::take_vars;
+use crate::text_trees::{Outcomes, text_trees};
+use crate::verdict::Verdict;
+use placement_programme::{Choice, Programme};
+
+/// How many variables a side of the programme has, 0 where it has no such side.
+fn side_vars(p: &Programme, on: bool) -> usize
+    ensures { result ≡ vars_of (side_for (plain_programme p.now) on) }
+{
+    if !on {
+        return p.off.vars.len();
+    }
+    match &p.on {
+        Some(side) => side.vars.len(),
+        None => 0,
+    }
+}
+
+/// Reads a choice into its room, and returns its gain where it is accepted.
+#[tactic(auto, unfolding(crate::specs::Reading::choice_at))]
+fn take_choice<'a>(
+    p: &Programme,
+    choice: &mut Choice,
+    total: usize,
+    bytes: &'a [u8],
+) -> Result<(Option<u128>, &'a [u8]), CertFault>
+    requires off { length p.now.off.vars.items ≤ vec_capacity choice.old.take }
+    requires on { IfSome p.now.on (λ s. length s.vars.items ≤ vec_capacity choice.old.take) }
+    ensures chooses { Chooses (plain_programme p.now) (plain_choice choice.new) result (choice_at total bytes.now) }
+    ensures capacity { vec_capacity choice.old.take ≤ vec_capacity choice.new.take }
+{
+    let (on, rest) = flag(total, bytes)?;
+    let (count, rest) = small_number(Part::Head, 0, total, rest)?;
+    let limit = side_vars(p, on);
+    choice.on = on;
+    let (reach, rest) = take_vars(&mut choice.take, limit, count, total, rest)?;
+    if reach > limit as u64 {
+        return Ok((None, rest));
+    }
+    Ok((accepted(p, choice), rest))
+}
+
+/// The verdict by what the choice and the trees are answered.
+fn verdict_of(best: Option<u128>, optimal: bool, trees: Outcomes) -> Verdict
+    ensures { plain_verdict result ≡ verdict_for best optimal trees.off trees.on }
+{
+    if best.is_none() {
+        return Verdict::BadChoice;
+    }
+    if !optimal {
+        return Verdict::BestFound;
+    }
+    match trees.off {
+        Err(failing) => Verdict::Wrong {
+            side: 0,
+            node: failing.node,
+            depth: failing.depth,
+        },
+        Ok(()) => match trees.on {
+            Err(failing) => Verdict::Wrong {
+                side: 1,
+                node: failing.node,
+                depth: failing.depth,
+            },
+            Ok(()) => Verdict::Optimal,
+        },
+    }
+}
+
+/// The gain that trees are checked for; where the choice isn't accepted they are only read.
+fn used(best: Option<u128>) -> u128
+    requires { IfSome best (λ b. b ≤ 2 ^ 104) }
+    ensures value { result ≡ used best }
+    ensures small { result ≤ 2 ^ 104 }
+{
+    match best {
+        Some(gain) => gain,
+        None => 0,
+    }
+}
+
+/// Checks the bytes behind the mark.
+#[tactic(auto, unfolding(crate::specs::Reading::body_at))]
+fn check_body(
+    p: &Programme,
+    marks: &mut [u8],
+    multipliers: &mut [u64],
+    choice: &mut Choice,
+    total: usize,
+    bytes: &[u8],
+) -> Result<Verdict, CertFault>
+    requires off_marked { length (plain_side p.now.off).vars ≤ length marks.old }
+    requires off_room { length (plain_side p.now.off).rows ≤ length multipliers.old }
+    requires off_take { length p.now.off.vars.items ≤ vec_capacity choice.old.take }
+    requires on_marked { IfSome p.now.on (λ side. length (plain_side side).vars ≤ length marks.old) }
+    requires on_room { IfSome p.now.on (λ side. length (plain_side side).rows ≤ length multipliers.old) }
+    requires on_take { IfSome p.now.on (λ s. length s.vars.items ≤ vec_capacity choice.old.take) }
+    ensures answers { BodyAnswers (plain_programme p.now) (plain_choice choice.new) result (body_at total bytes.now) }
+    ensures capacity { vec_capacity choice.old.take ≤ vec_capacity choice.new.take }
+{
+    let (optimal, rest) = flag(total, bytes)?;
+    let (best, rest) = take_choice(p, choice, total, rest)?;
+    let gain = used(best);
+    let (trees, rest) = text_trees(p, gain, optimal, marks, multipliers, total, rest)?;
+    if rest.is_empty() {
+        Ok(verdict_of(best, optimal, trees))
+    } else {
+        Err(CertFault::Trailing {
+            at: place(total, rest),
+        })
+    }
+}
+
+#[tactic(auto, unfolding(crate::specs::Reading::certificate_of))]
+fn check_whole(
+    p: &Programme,
+    marks: &mut [u8],
+    multipliers: &mut [u64],
+    choice: &mut Choice,
+    bytes: &[u8],
+) -> Result<Verdict, CertFault>
+    requires off_marked { length (plain_side p.now.off).vars ≤ length marks.old }
+    requires off_room { length (plain_side p.now.off).rows ≤ length multipliers.old }
+    requires off_take { length p.now.off.vars.items ≤ vec_capacity choice.old.take }
+    requires on_marked { IfSome p.now.on (λ side. length (plain_side side).vars ≤ length marks.old) }
+    requires on_room { IfSome p.now.on (λ side. length (plain_side side).rows ≤ length multipliers.old) }
+    requires on_take { IfSome p.now.on (λ s. length s.vars.items ≤ vec_capacity choice.old.take) }
+    ensures answers { BodyAnswers (plain_programme p.now) (plain_choice choice.new) result (certificate_of bytes.now) }
+    ensures capacity { vec_capacity choice.old.take ≤ vec_capacity choice.new.take }
+{
+    match mark(bytes.len(), bytes) {
+        Err(fault) => Err(fault),
+        Ok(rest) => check_body(p, marks, multipliers, choice, bytes.len(), rest),
+    }
+}
+
+/// Checks a certificate as it is read, once and without memory of its own: the verdict of `check` for the certificate that
+/// the bytes spell, or the first byte that breaks the grammar, also where a node before it fails. A number of the choice that
+/// is no variable makes it BadChoice. After Optimal and BestFound the room has the certificate's choice. The room is one
+/// that fits the programme, as `Room::new` makes it, and stays so.
+pub fn check_text(p: &Programme, bytes: &[u8], room: &mut Room) -> Result<Verdict, CertFault>
+    requires { RoomFits p.now room.old }
+    ensures answers { BodyAnswers (plain_programme p.now) (plain_choice room.new.choice) result (certificate_of bytes.now) }
+    ensures fits { RoomFits p.now room.new }
+{
+    check_whole(
+        p,
+        &mut room.marks,
+        &mut room.multipliers,
+        &mut room.choice,
+        bytes,
+    )
+}

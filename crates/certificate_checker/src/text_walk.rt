@@ -1,0 +1,222 @@
+ghost use Rattle.std.specs.Prelude.{◌≡◌, ℕ, suc, ◌+◌, ◌^◌, ◌<◌, ◌≤◌, ◌↔◌, IsTrue, List, [], ◌∷◌, length, IfOk, OnOk};
+ghost use Rattle.placement_programme.specs.Plain.{PlainSide};
+ghost use Rattle.placement_programme.specs.Views.{plain_side};
+ghost use Rattle.certificate_checker.specs.Nodes.{PlainTree};
+ghost use Rattle.certificate_checker.specs.Rules.{KeepsRule, DualHolds};
+ghost use Rattle.certificate_checker.specs.Walks.{Walks};
+ghost use Rattle.certificate_checker.specs.Reading.{over_at, dual_at, tree_at};
+ghost use Rattle.certificate_checker.specs.Loading.{IsLoaded, IsSingle, SplitsFirst, WalksRead, behind_of, both_of};
+
+use crate::columns::row_count;
+use crate::duals::sums_hold;
+use crate::fault::CertFault;
+use crate::fields::{Part, cut_off, number_in, place, small_number};
+use crate::loading::{Loaded, load_entries};
+use crate::multipliers::Multipliers;
+use crate::reading::below_all;
+use crate::rules::{branch_holds, leaf_holds, over_holds};
+use crate::walking::{Failing, next_number};
+use placement_programme::Side;
+
+/// What a tree in a text is read for: its side and a choice's gain, in a text of `total` bytes.
+#[derive(Drop)]
+pub(crate) struct Task<'a> {
+    pub side: &'a Side,
+    pub best: u128,
+    pub total: usize,
+}
+
+/// A walk's answer and the bytes behind the tree.
+type Walked<'a> = (Result<u32, Failing>, &'a [u8]);
+
+/// What a node without children answers.
+fn single(holds: bool, node: u32, depth: u32) -> Result<u32, Failing>
+    ensures { (s : PlainSide) (best : ℕ) (marks : List ℕ) (t : PlainTree) → IsSingle t → (IsTrue holds ↔ KeepsRule s best marks t) → Walks s best marks t node depth result }
+{
+    if holds {
+        Ok(next_number(node))
+    } else {
+        Err(Failing { node, depth })
+    }
+}
+
+#[tactic(auto, unfolding(crate::specs::Reading::over_at))]
+fn walk_over<'a>(
+    task: &Task,
+    marks: &[u8],
+    node: u32,
+    depth: u32,
+    bytes: &'a [u8],
+) -> Result<Walked<'a>, CertFault>
+    requires { length (plain_side task.now.side.now).vars ≤ length marks.now }
+    ensures { WalksRead (plain_side task.now.side.now) task.now.best marks.now node depth result (over_at task.now.total bytes.now) }
+{
+    match small_number(Part::Node, 0, task.total, bytes) {
+        Err(fault) => Err(fault),
+        Ok((row, rest)) => Ok((single(over_holds(task.side, marks, row), node, depth), rest)),
+    }
+}
+
+/// Whether a dual node keeps its rule, by its rows in a dense list.
+fn loaded_holds(task: &Task, marks: &[u8], multipliers: &[u64], scale: u32, loaded: &Loaded) -> bool
+    requires best { task.now.best ≤ 2 ^ 104 }
+    requires marked { length (plain_side task.now.side.now).vars ≤ length marks.now }
+    requires room { length (plain_side task.now.side.now).rows ≤ length multipliers.now }
+    requires least { 1 ≤ scale }
+    requires most { scale ≤ 65536 }
+    requires bound { loaded.now.bound < 2 ^ 113 }
+    ensures { (ms : List (ℕ × ℕ)) → IsLoaded (plain_side task.now.side.now).rows multipliers.now loaded.now.reach loaded.now.bound ms
+        → (IsTrue result ↔ DualHolds (plain_side task.now.side.now) task.now.best marks.now scale ms) }
+{
+    if loaded.reach > row_count(task.side) as u64 {
+        return false;
+    }
+    sums_hold(
+        task.side,
+        task.best,
+        marks,
+        scale,
+        loaded.bound,
+        &Multipliers::Dense(multipliers),
+    )
+}
+
+#[tactic(auto, unfolding(crate::specs::Reading::dual_at))]
+fn walk_dual<'a>(
+    task: &Task,
+    marks: &[u8],
+    multipliers: &mut [u64],
+    node: u32,
+    depth: u32,
+    bytes: &'a [u8],
+) -> Result<Walked<'a>, CertFault>
+    requires best { task.now.best ≤ 2 ^ 104 }
+    requires marked { length (plain_side task.now.side.now).vars ≤ length marks.now }
+    requires room { length (plain_side task.now.side.now).rows ≤ length multipliers.old }
+    ensures { WalksRead (plain_side task.now.side.now) task.now.best marks.now node depth result (dual_at task.now.total bytes.now) }
+{
+    let (scale, rest) = number_in(Part::Node, 1, 65536, task.total, bytes)?;
+    let (count, rest) = small_number(Part::Node, 0, task.total, rest)?;
+    let (loaded, rest) = load_entries(&task.side.rows, multipliers, count, task.total, rest)?;
+    let holds = loaded_holds(task, marks, multipliers, scale as u32, &loaded);
+    Ok((single(holds, node, depth), rest))
+}
+
+/// Walks over a node that isn't a branch.
+#[tactic(auto, unfolding(crate::specs::Reading::tree_at))]
+fn walk_single<'a>(
+    task: &Task,
+    marks: &[u8],
+    multipliers: &mut [u64],
+    node: u32,
+    depth: u32,
+    bytes: &'a [u8],
+) -> Result<Walked<'a>, CertFault>
+    requires best { task.now.best ≤ 2 ^ 104 }
+    requires marked { length (plain_side task.now.side.now).vars ≤ length marks.now }
+    requires room { length (plain_side task.now.side.now).rows ≤ length multipliers.old }
+    requires tag { (rest : List ℕ) → bytes.now ≡ 0 ∷ rest → ⊥ }
+    ensures { (levels : ℕ) → WalksRead (plain_side task.now.side.now) task.now.best marks.now node depth result (tree_at task.now.total (suc levels) bytes.now) }
+{
+    match bytes {
+        [] => Err(cut_off(task.total)),
+        [1, rest @ ..] => walk_over(task, marks, node, depth, rest),
+        [2, rest @ ..] => walk_dual(task, marks, multipliers, node, depth, rest),
+        [3, rest @ ..] => Ok((
+            single(leaf_holds(task.side, task.best, marks), node, depth),
+            rest,
+        )),
+        [_, ..] => Err(CertFault::BadNode {
+            at: place(task.total, bytes),
+        }),
+    }
+}
+
+fn number_behind(first: &Result<u32, Failing>) -> u32
+    ensures { result ≡ behind_of first.now }
+{
+    match first {
+        Ok(next) => *next,
+        Err(_) => 0,
+    }
+}
+
+fn both(first: Result<u32, Failing>, second: Result<u32, Failing>) -> Result<u32, Failing>
+    ensures { result ≡ both_of first second }
+{
+    match first {
+        Ok(_) => second,
+        Err(failing) => Err(failing),
+    }
+}
+
+fn first_byte(total: usize, bytes: &[u8]) -> Result<(u8, &[u8]), CertFault>
+    ensures { SplitsFirst total bytes.now result }
+{
+    match bytes {
+        [] => Err(cut_off(total)),
+        [first, rest @ ..] => Ok((*first, rest)),
+    }
+}
+
+/// Walks over the variable and the children of a branch. Children of one that fails are read, and nothing else.
+#[cycle(walk_text)]
+fn walk_branch<'a>(
+    task: &Task,
+    marks: &mut [u8],
+    multipliers: &mut [u64],
+    levels: u32,
+    node: u32,
+    depth: u32,
+    bytes: &'a [u8],
+) -> Result<Walked<'a>, CertFault>
+    requires best { task.now.best ≤ 2 ^ 104 }
+    requires marked { length (plain_side task.now.side.now).vars ≤ length marks.old }
+    requires room { length (plain_side task.now.side.now).rows ≤ length multipliers.old }
+    ensures walks { WalksRead (plain_side task.now.side.now) task.now.best marks.old node depth result (tree_at task.now.total (suc levels) (0 ∷ bytes.now)) }
+    ensures kept { IfOk result (λ x. OnOk x.0 (marks.new ≡ marks.old)) }
+{
+    let (var, rest) = small_number(Part::Node, 0, task.total, bytes)?;
+    let next = next_number(node);
+    let below = next_number(depth);
+    if !branch_holds(task.side, marks, var) {
+        let (_, rest) = walk_text(task, marks, multipliers, levels, next, below, rest)?;
+        let (_, rest) = walk_text(task, marks, multipliers, levels, next, below, rest)?;
+        return Ok((Err(Failing { node, depth }), rest));
+    }
+    let old = marks[var as usize];
+    marks[var as usize] = 0;
+    let (first, rest) = walk_text(task, marks, multipliers, levels, next, below, rest)?;
+    marks[var as usize] = 1;
+    let middle = number_behind(&first);
+    let (second, rest) = walk_text(task, marks, multipliers, levels, middle, below, rest)?;
+    marks[var as usize] = old;
+    Ok((both(first, second), rest))
+}
+
+/// Walks over a tree of at most `levels` levels as it is read.
+#[cycle(walk_text)]
+pub(crate) fn walk_text<'a>(
+    task: &Task,
+    marks: &mut [u8],
+    multipliers: &mut [u64],
+    levels: u32,
+    node: u32,
+    depth: u32,
+    bytes: &'a [u8],
+) -> Result<Walked<'a>, CertFault>
+    requires best { task.now.best ≤ 2 ^ 104 }
+    requires marked { length (plain_side task.now.side.now).vars ≤ length marks.old }
+    requires room { length (plain_side task.now.side.now).rows ≤ length multipliers.old }
+    ensures walks { WalksRead (plain_side task.now.side.now) task.now.best marks.old node depth result (tree_at task.now.total levels bytes.now) }
+    ensures kept { IfOk result (λ x. OnOk x.0 (marks.new ≡ marks.old)) }
+{
+    let (tag, rest) = first_byte(task.total, bytes)?;
+    if levels == 0 {
+        return Err(below_all(task.total, bytes, tag));
+    }
+    if tag == 0 {
+        return walk_branch(task, marks, multipliers, levels - 1, node, depth, rest);
+    }
+    walk_single(task, marks, multipliers, node, depth, bytes)
+}

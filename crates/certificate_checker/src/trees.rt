@@ -1,0 +1,33 @@
+use placement_programme::Choice;
+
+/// A proof that a side's choices gain no more than a bound.
+#[derive(Drop)]
+pub enum Tree {
+    /// The choices without a variable, and those with it.
+    Branch {
+        var: u32,
+        zero: Box<Tree>,
+        one: Box<Tree>,
+    },
+    /// The variables that are fixed to one exceed a row.
+    Over {
+        row: u32,
+    },
+    /// Rows, ascending, each with a multiplier, and the scale of the gains, from 1 to 65,536: weak duality bounds the gain.
+    Dual {
+        scale: u32,
+        multipliers: Vec<(u32, u64)>,
+    },
+    /// All variables are fixed, and gain no more.
+    Leaf,
+}
+
+/// A choice, and what shows that none is better.
+#[derive(Drop)]
+pub struct Certificate {
+    pub choice: Choice,
+    /// The tree of the side without overlay; None where the choice is only the best that was found.
+    pub off: Option<Tree>,
+    /// The tree of the side with overlay, where the programme has one.
+    pub on: Option<Tree>,
+}

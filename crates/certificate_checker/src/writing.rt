@@ -1,0 +1,132 @@
+ghost use Rattle.std.specs.Prelude.{◌≡◌, ◌*◌, ◌^◌, ◌<◌, ◌++◌, ◌∷◌, [], OnOk, IfOk};
+ghost use Rattle.std.specs.List.{flat_map};
+ghost use Rattle.placement_programme.specs.Views.{plain_choice};
+ghost use Rattle.certificate_checker.specs.Views.{plain_tree, plain_certificate};
+ghost use Rattle.certificate_checker.specs.Digits.{digits_of, number_of};
+ghost use Rattle.certificate_checker.specs.Spelling.{entry_text, tree_text, flag_text, choice_text, trees_text, text_of};
+
+use crate::trees::{Certificate, Tree};
+use placement_programme::Choice;
+use std::alloc::{AllocError, Global};
+
+/// Writes a number with at most `more` bytes behind the first.
+fn push_digits(out: &mut Vec<u8>, more: u32, number: u64) -> Result<(), AllocError>
+    requires { number < 2 * 128 ^ more }
+    ensures { OnOk result (out.new.items ≡ out.old.items ++ digits_of more number) }
+{
+    if more == 0 || number < 128 {
+        out.push(number as u8)?;
+        return Ok(());
+    }
+    out.push(128 + (number % 128) as u8)?;
+    push_digits(out, more - 1, number / 128)
+}
+
+#[tactic(auto, unfolding(crate::specs::Digits::number_of))]
+fn push_number(out: &mut Vec<u8>, number: u64) -> Result<(), AllocError>
+    ensures { OnOk result (out.new.items ≡ out.old.items ++ number_of number) }
+{
+    push_digits(out, 9, number)
+}
+
+fn push_entry(out: &mut Vec<u8>, row: u32, multiplier: u64) -> Result<(), AllocError>
+    ensures { OnOk result (out.new.items ≡ out.old.items ++ entry_text (row, multiplier)) }
+{
+    push_number(out, u64::from(row))?;
+    push_number(out, multiplier)
+}
+
+fn push_entries(out: &mut Vec<u8>, entries: &[(u32, u64)]) -> Result<(), AllocError>
+    ensures { OnOk result (out.new.items ≡ out.old.items ++ flat_map entry_text entries.now) }
+{
+    for entry in entries {
+        push_entry(out, entry.0, entry.1)?;
+    }
+    Ok(())
+}
+
+fn push_vars(out: &mut Vec<u8>, vars: &[u32]) -> Result<(), AllocError>
+    ensures { OnOk result (out.new.items ≡ out.old.items ++ flat_map number_of vars.now) }
+{
+    for var in vars {
+        push_number(out, u64::from(*var))?;
+    }
+    Ok(())
+}
+
+fn push_node(out: &mut Vec<u8>, tree: &Tree) -> Result<(), AllocError>
+    ensures { OnOk result (out.new.items ≡ out.old.items ++ tree_text (plain_tree tree.now)) }
+{
+    match tree {
+        Tree::Branch { var, zero, one } => {
+            out.push(0)?;
+            push_number(out, u64::from(*var))?;
+            push_node(out, zero)?;
+            push_node(out, one)
+        }
+        Tree::Over { row } => {
+            out.push(1)?;
+            push_number(out, u64::from(*row))
+        }
+        Tree::Dual { scale, multipliers } => {
+            out.push(2)?;
+            push_number(out, u64::from(*scale))?;
+            push_number(out, multipliers.len() as u64)?;
+            push_entries(out, multipliers)
+        }
+        Tree::Leaf => {
+            out.push(3)?;
+            Ok(())
+        }
+    }
+}
+
+fn push_choice(out: &mut Vec<u8>, choice: &Choice) -> Result<(), AllocError>
+    ensures { OnOk result (out.new.items ≡ out.old.items ++ choice_text (plain_choice choice.now)) }
+{
+    out.push(u8::from(choice.on))?;
+    push_number(out, choice.take.len() as u64)?;
+    push_vars(out, &choice.take)
+}
+
+fn push_trees(out: &mut Vec<u8>, c: &Certificate) -> Result<(), AllocError>
+    ensures { OnOk result (out.new.items ≡ out.old.items ++ trees_text (plain_certificate c.now).off (plain_certificate c.now).on) }
+{
+    match &c.off {
+        None => Ok(()),
+        Some(off) => match &c.on {
+            None => {
+                push_number(out, 1)?;
+                push_node(out, off)
+            }
+            Some(on) => {
+                push_number(out, 2)?;
+                push_node(out, off)?;
+                push_node(out, on)
+            }
+        },
+    }
+}
+
+fn push_mark(out: &mut Vec<u8>) -> Result<(), AllocError>
+    ensures { OnOk result (out.new.items ≡ out.old.items ++ 0x53 ∷ 0x50 ∷ 0x43 ∷ 0x31 ∷ []) }
+{
+    out.push(0x53)?;
+    out.push(0x50)?;
+    out.push(0x43)?;
+    out.push(0x31)?;
+    Ok(())
+}
+
+/// The text of a certificate, which `read_tree` reads back where the certificate is within its ranges: ascending numbers
+/// and rows, scales from 1 to 65,536, no depth over 4,096, and no on tree without an off tree.
+pub fn write_tree(alloc: Global, c: &Certificate) -> Result<Vec<u8>, AllocError>
+    ensures { IfOk result (λ v. v.items ≡ text_of (plain_certificate c.now)) }
+{
+    let mut out = Vec::new(alloc);
+    push_mark(&mut out)?;
+    out.push(u8::from(c.off.is_some()))?;
+    push_choice(&mut out, &c.choice)?;
+    push_trees(&mut out, c)?;
+    Ok(out)
+}
