@@ -35,6 +35,7 @@ input_cause (refusal.Analyse fault) words old new sink mid f same = (f, same)
 input_cause (refusal.AddressFault pc why) words old new sink mid f same = (f, same)
 input_cause (refusal.Hex fault) words old new sink mid f same = (f, same)
 input_cause (refusal.Differs at) words old new sink mid f same = (f, same)
+input_cause (refusal.SourceFault pc why) words old new sink mid f same = (f, same)
 input_cause refusal.Usage words old new sink mid f same =
     let low = first_least f.command f.inputs _ f.first in absurd (omega arith)
 input_cause (refusal.Read place) words old new sink mid f same =

@@ -1,5 +1,5 @@
 -- How the parts of a command make its ending.
-use Rattle.std.proofs.Common.{◌≡◌, ◌⊎◌, inl, inr, ℕ, List, [], ◌∷◌, refl, subst, sym, ap, string_bytes, arith}
+use Rattle.std.proofs.Common.{◌≡◌, ◌⊎◌, inl, inr, ℕ, List, [], ◌∷◌, refl, subst, sym, ap, arith}
 use Rattle.std.proofs.lemmas.Fmt.{decimal_digit}
 use Rattle.shelf_io.specs.Shelf.{ShelfView, SetsName, LosesName}
 use Rattle.shelf_io.specs.Sink.{SinkView}
@@ -71,7 +71,7 @@ write_failure (w ∷ names) (x ∷ outputs) (o ∷ ready) old new r a (inr later
 
 -- what a prepared command yields of the shelf as it was
 yields_of : (command : PlainCommand) (ready : Ready) (old mid : ShelfView) (p : IsPrepared command ready old mid)
-    → YieldsOf command p.ready_for.outputs (string_bytes ready.text) old
+    → YieldsOf command p.ready_for.outputs ready.text.items old
 yields_of command ready old mid p =
     record { inputs = p.inputs; holds = p.holds; yields = p.ready_for.yields }
 

@@ -11,14 +11,17 @@ use Rattle.spmlink.specs.FaultLine.{Parts, status_of, fault_line, parts_of}
 use Rattle.spmlink.specs.Delivery.{LosesOne}
 use Rattle.spmlink.specs.Refused.{PutsLine, refused_status, refused_line}
 use Rattle.spmlink.specs.Reading.{HoldsAll}
-use Rattle.spmlink.specs.RelinkFile.{of_none}
-use Rattle.spmlink.specs.Meaning.{Compares, IsFirst, run_first, relink_first, gen_first, hex_first, check_difference, Yields, runs, relinks, generates, writes_hex, agrees}
+use Rattle.compare_runner.specs.declared.comparing.Comparison.TheVariants.{Same}
+use Rattle.spmlink.specs.ProgramRun.{of_none}
+use Rattle.spmlink.specs.CompareFiles.{of_comparison}
+use Rattle.spmlink.specs.Meaning.{Compares, IsFirst, run_first, relink_first, profile_first, compare_first, gen_first, hex_first, check_difference, Yields, runs, relinks, profiles, compares, generates, writes_hex, agrees}
 use Rattle.spmlink.specs.Answers.{IsDone, Cause, HasCause, EndsRefused, InputFails, AnswersInputs, AnswersUsage, AnswersCommand, TellsAll}
 use Rattle.spmlink.specs.declared.refused.Refused.{Refused}
 use Rattle.spmlink.specs.declared.faults.Refusal.{Refusal}
 use Rattle.spmlink.specs.declared.faults.Refusal.TheVariants as refusal
 use Rattle.spmlink.proofs.OneCommand.{one_command, one_reading}
 use Rattle.spmlink.proofs.Statuses.{status_positive}
+use Rattle.spmlink.proofs.Profiling.{profile_runs}
 
 -- ---- what the inputs are
 
@@ -34,7 +37,13 @@ yields_first command inputs outputs text (runs f b i o file board input output i
     run_first f b i o file board input is are (sym ran.sound)
 yields_first command inputs outputs text (relinks f b i o c file board input certificate out is are outs made) =
     relink_first f b i o c file board input is are
-    (of_none made.board made.energy made.outcome made.accepts made.profiled made.no_address_fault refl)
+    (of_none made.board made.outcome made.accepts made.runs made.no_address_fault refl)
+yields_first command inputs outputs text (profiles f b i file board input is are outs made) =
+    profile_first f b i file board input is are
+    (of_none made.board made.last.outcome made.accepts (profile_runs file board input text made) made.no_address_fault refl)
+yields_first command inputs outputs text (compares f r b i file relinked board input is are outs made) =
+    compare_first f r b i file relinked board input is are
+    (of_comparison made.board (Same made.outcome) made.accepts made.sound made.compared refl)
 yields_first command inputs outputs text (generates s k o is are outs printed) = gen_first s k o is are refl
 yields_first command inputs outputs text (writes_hex f o file is are none outs printed) = hex_first f o file is are (sym none)
 yields_first command inputs outputs text (agrees f h file hex_text is are none spelled outs printed) =
@@ -112,6 +121,7 @@ refused_usage (refusal.Analyse fault) status words old new sink mid e c none = a
 refused_usage (refusal.AddressFault pc why) status words old new sink mid e c none = absurd (none c.0.command c.0.is_command)
 refused_usage (refusal.Hex fault) status words old new sink mid e c none = absurd (none c.0.command c.0.is_command)
 refused_usage (refusal.Differs at) status words old new sink mid e c none = absurd (none c.0.command c.0.is_command)
+refused_usage (refusal.SourceFault pc why) status words old new sink mid e c none = absurd (none c.0.command c.0.is_command)
 refused_usage refusal.Memory status words old new sink mid e c none = inr e
 
 input_answers : (fault : Refusal) (status : ℕ) (words : List (List ℕ)) (old new : ShelfView)
@@ -148,6 +158,8 @@ refused_command (refusal.Hex fault) status words old new sink mid sink' e c line
     inl (input_answers (refusal.Hex fault) status words old new e c.0 command inputs is told)
 refused_command (refusal.Differs at) status words old new sink mid sink' e c line command inputs is told nothing =
     inl (input_answers (refusal.Differs at) status words old new e c.0 command inputs is told)
+refused_command (refusal.SourceFault pc why) status words old new sink mid sink' e c line command inputs is told nothing =
+    inl (input_answers (refusal.SourceFault pc why) status words old new e c.0 command inputs is told)
 refused_command refusal.Memory status words old new sink mid sink' e c line command inputs is told nothing = inr e
 
 -- a refusal whose line was put

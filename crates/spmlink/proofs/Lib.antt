@@ -5,7 +5,12 @@ pub mod Causes
 pub mod OneCommand
 pub mod Exactness
 pub mod Running
+pub mod Analysing
 pub mod Relinking
+pub mod Hexadecimal
+pub mod Lines
+pub mod Profiling
+pub mod ComparingFiles
 pub mod Refusals
 pub mod Readings
 pub mod Writings

@@ -1,7 +1,7 @@
 -- Words spell one command, and a shelf tells one text for each name.
 use Rattle.std.proofs.Common.{◌≡◌, ℕ, List, [], ◌∷◌, codes, Option, Some, None, IfSome, if◌then◌else◌, bytes_eq, refl, sym, ◌∙◌}
 use Rattle.shelf_io.specs.Shelf.{ShelfView}
-use Rattle.spmlink.specs.Command.{PlainCommand, run_command, relink_command, gen_command, hex_command, hex_check_command, Spells, IsCommand, Named, value_of}
+use Rattle.spmlink.specs.Command.{PlainCommand, run_command, relink_command, profile_command, compare_command, gen_command, hex_command, hex_check_command, Spells, IsCommand, Named, value_of}
 use Rattle.spmlink.specs.Reading.{HoldsAll}
 use Rattle.spmlink.specs.Answers.{TellsAll}
 
@@ -12,6 +12,14 @@ run_words words = None
 abbrev relink_words : List (List ℕ) → Option PlainCommand
 relink_words (file ∷ board ∷ input ∷ out ∷ cert ∷ []) = Some (relink_command file board input out cert)
 relink_words words = None
+
+abbrev profile_words : List (List ℕ) → Option PlainCommand
+profile_words (file ∷ board ∷ input ∷ []) = Some (profile_command file board input)
+profile_words words = None
+
+abbrev compare_words : List (List ℕ) → Option PlainCommand
+compare_words (file ∷ relinked ∷ board ∷ input ∷ []) = Some (compare_command file relinked board input)
+compare_words words = None
 
 abbrev gen_words : List (List ℕ) → Option PlainCommand
 gen_words (seed ∷ kernels ∷ out ∷ []) = Some (gen_command (value_of seed) (value_of kernels) out)
@@ -31,6 +39,8 @@ command_in [] = None
 command_in (name ∷ words) =
     if bytes_eq name (codes "run") then run_words words
     else if bytes_eq name (codes "relink") then relink_words words
+    else if bytes_eq name (codes "profile") then profile_words words
+    else if bytes_eq name (codes "compare") then compare_words words
     else if bytes_eq name (codes "gen") then gen_words words
     else if bytes_eq name (codes "hex") then hex_words words
     else if bytes_eq name (codes "hexcheck") then hex_check_words words
@@ -39,6 +49,8 @@ command_in (name ∷ words) =
 spelled_is : (words : List (List ℕ)) (command : PlainCommand) → Spells words command → command_in words ≡ Some command
 spelled_is words (run_command file board input out) e = rw e refl
 spelled_is words (relink_command file board input out cert) e = rw e refl
+spelled_is words (profile_command file board input) e = rw e refl
+spelled_is words (compare_command file relinked board input) e = rw e refl
 spelled_is words (gen_command seed kernels out) s = rw (s.spelled, s.is_seed.value, s.is_kernels.value) refl
 spelled_is words (hex_command file out) e = rw e refl
 spelled_is words (hex_check_command file hex) e = rw e refl

@@ -39,7 +39,7 @@ is_named words i d below =
     let held = Contains-get_or (map plain_named words) i (plain_named d) (rw (length-map words plain_named) below) in
     subst (Contains (map plain_named words)) (get_or-map plain_named words i d (plain_named d) below) held
 
--- the bytes of one, two and three texts, one by one
+-- the bytes of one, two, three and four texts, one by one
 pub contents_of_one : (texts : List (Vec ℕ Global)) (a : Vec ℕ Global) (x : List ℕ) → length texts ≡ 1
     → a ≡ get_or texts 0 a → x ≡ a.items → x ∷ [] ≡ contents texts
 contents_of_one [] a x e is same = absurd (omega arith)
@@ -61,3 +61,13 @@ contents_of_three (p ∷ []) a b c x y z e is_a is_b is_c same_x same_y same_z =
 contents_of_three (p ∷ q ∷ []) a b c x y z e is_a is_b is_c same_x same_y same_z = absurd (omega arith)
 contents_of_three (p ∷ q ∷ r ∷ []) a b c x y z e is_a is_b is_c same_x same_y same_z = cc
 contents_of_three (p ∷ q ∷ r ∷ s ∷ texts) a b c x y z e is_a is_b is_c same_x same_y same_z = absurd (omega arith)
+
+pub contents_of_four : (texts : List (Vec ℕ Global)) (a b c d : Vec ℕ Global) (x y z w : List ℕ) → length texts ≡ 4
+    → a ≡ get_or texts 0 a → b ≡ get_or texts 1 b → c ≡ get_or texts 2 c → d ≡ get_or texts 3 d
+    → x ≡ a.items → y ≡ b.items → z ≡ c.items → w ≡ d.items → x ∷ y ∷ z ∷ w ∷ [] ≡ contents texts
+contents_of_four [] a b c d x y z w e is_a is_b is_c is_d same_x same_y same_z same_w = absurd (omega arith)
+contents_of_four (p ∷ []) a b c d x y z w e is_a is_b is_c is_d same_x same_y same_z same_w = absurd (omega arith)
+contents_of_four (p ∷ q ∷ []) a b c d x y z w e is_a is_b is_c is_d same_x same_y same_z same_w = absurd (omega arith)
+contents_of_four (p ∷ q ∷ r ∷ []) a b c d x y z w e is_a is_b is_c is_d same_x same_y same_z same_w = absurd (omega arith)
+contents_of_four (p ∷ q ∷ r ∷ s ∷ []) a b c d x y z w e is_a is_b is_c is_d same_x same_y same_z same_w = cc
+contents_of_four (p ∷ q ∷ r ∷ s ∷ t ∷ texts) a b c d x y z w e is_a is_b is_c is_d same_x same_y same_z same_w = absurd (omega arith)

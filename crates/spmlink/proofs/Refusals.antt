@@ -1,10 +1,11 @@
 -- The results of the commands, put together.
 use Rattle.std.proofs.Common.{inl, inr, ℕ, List, [], ◌∷◌, Some, refl, sym, subst}
-use Rattle.spmlink.specs.Command.{run_command, relink_command, hex_command, hex_check_command}
+use Rattle.spmlink.specs.Command.{run_command, relink_command, profile_command, compare_command, hex_command, hex_check_command}
 use Rattle.spmlink.specs.FaultLine.{parts_of}
 use Rattle.spmlink.specs.RunFile.{IsFirstRefusal}
-use Rattle.spmlink.specs.RelinkFile.{RefusesRelink}
-use Rattle.spmlink.specs.Meaning.{RefusesInputs, RefusesFile, RefusesTexts, memory_wanting, faulty, differing, run_first, relink_first, hex_first, check_fault, check_difference}
+use Rattle.spmlink.specs.ProgramRun.{RefusesProfiled}
+use Rattle.spmlink.specs.CompareFiles.{RefusesCompared}
+use Rattle.spmlink.specs.Meaning.{RefusesInputs, RefusesFile, RefusesTexts, memory_wanting, faulty, differing, run_first, relink_first, profile_first, compare_first, hex_first, check_fault, check_difference}
 use Rattle.spmlink.specs.declared.faults.Refusal.{Refusal}
 
 pub run_refused : (board file input : List ℕ) (fault : Refusal) → IsFirstRefusal board file fault
@@ -12,10 +13,20 @@ pub run_refused : (board file input : List ℕ) (fault : Refusal) → IsFirstRef
 run_refused board file input fault (inl e) f b i o = inl e
 run_refused board file input fault (inr e) f b i o = inr (run_first f b i o file board input refl refl (sym e))
 
-pub relink_refused : (board file input : List ℕ) (fault : Refusal) → RefusesRelink board file input fault
+pub relink_refused : (board file input : List ℕ) (fault : Refusal) → RefusesProfiled board file input fault
     → (f b i o c : List ℕ) → RefusesInputs (relink_command f b i o c) (file ∷ board ∷ input ∷ []) fault
 relink_refused board file input fault (inl e) f b i o c = inl e
 relink_refused board file input fault (inr tells) f b i o c = inr (relink_first f b i o c file board input refl refl tells)
+
+pub profile_refused : (board file input : List ℕ) (fault : Refusal) → RefusesProfiled board file input fault
+    → (f b i : List ℕ) → RefusesInputs (profile_command f b i) (file ∷ board ∷ input ∷ []) fault
+profile_refused board file input fault (inl e) f b i = inl e
+profile_refused board file input fault (inr tells) f b i = inr (profile_first f b i file board input refl refl tells)
+
+pub compare_refused : (board file relinked input : List ℕ) (fault : Refusal) → RefusesCompared board file relinked input fault
+    → (f r b i : List ℕ) → RefusesInputs (compare_command f r b i) (file ∷ relinked ∷ board ∷ input ∷ []) fault
+compare_refused board file relinked input fault (inl e) f r b i = inl e
+compare_refused board file relinked input fault (inr tells) f r b i = inr (compare_first f r b i file relinked board input refl refl tells)
 
 pub hex_refused : (file : List ℕ) (fault : Refusal) → RefusesFile file fault
     → (f o : List ℕ) → RefusesInputs (hex_command f o) (file ∷ []) fault

@@ -16,9 +16,14 @@ use Rattle.hex_image.specs.Reading.{hex_fault}
 use Rattle.hex_image.specs.declared.fault.HexFault.{HexFault}
 use Rattle.hex_image.specs.declared.fault.HexFault.TheVariants as hex
 use Rattle.spmlink.specs.Command.{PlainCommand}
-use Rattle.spmlink.specs.FaultLine.{Parts, board_parts, elf_parts, graph_parts, code_parts, analyse_parts, address_parts, hex_parts, differs_parts, status_of}
-use Rattle.spmlink.specs.RelinkFile.{TellsRelink, of_board, of_analysis, of_run, of_none}
-use Rattle.spmlink.specs.Meaning.{IsFirst, run_first, relink_first, gen_first, hex_first, check_fault, check_difference}
+use Rattle.spmlink.specs.FaultLine.{Parts, board_parts, elf_parts, graph_parts, code_parts, analyse_parts, address_parts, source_parts, hex_parts, differs_parts, status_of}
+use Rattle.compare_runner.specs.declared.comparing.Comparison.TheVariants.{Same, Differs, SourceFault}
+use Rattle.spmlink.specs.Analysed.{TellsAnalysed, of_board, of_analysis}
+use Rattle.spmlink.specs.ProgramRun.{TellsProfiled, of_run, of_none}
+use Rattle.spmlink.specs.ProgramRun as program
+use Rattle.spmlink.specs.CompareFiles.{TellsCompared, of_relinked, of_comparison}
+use Rattle.spmlink.specs.CompareFiles as compared
+use Rattle.spmlink.specs.Meaning.{IsFirst, run_first, relink_first, profile_first, compare_first, gen_first, hex_first, check_fault, check_difference}
 use Rattle.spmlink.specs.declared.faults.Refusal.{Refusal}
 use Rattle.spmlink.specs.declared.faults.Refusal.TheVariants as refusal
 
@@ -78,15 +83,30 @@ analyse_least (analyse.PatchTooSmall need have) = omega arith
 analyse_least (analyse.Code fault) = code_least fault
 analyse_least analyse.Memory = omega arith
 
-relink_least : (board file input : List ℕ) (told : Parts) → TellsRelink board file input (Some told) → IsOfInputs told
-relink_least board file input told (of_board fault first e) =
-    let same : board_parts fault ≡ told = cc in subst IsOfInputs same (board_least fault)
-relink_least board file input told (of_analysis b fault is sound first e) =
-    let same : analyse_parts fault ≡ told = cc in subst IsOfInputs same (analyse_least fault)
-relink_least board file input told (of_run b energy pc why accepts profiled e) =
+analysed_least : (board file : List ℕ) (told : Parts) → TellsAnalysed board file told → IsOfInputs told
+analysed_least board file told (of_board fault first e) = subst IsOfInputs (sym e) (board_least fault)
+analysed_least board file told (of_analysis b fault is sound first e) = subst IsOfInputs (sym e) (analyse_least fault)
+
+profiled_least : (board file input : List ℕ) (told : Parts) → TellsProfiled board file input (Some told) → IsOfInputs told
+profiled_least board file input told (program.of_files parts tells e) =
+    let same : parts ≡ told = cc in subst IsOfInputs same (analysed_least board file parts tells)
+profiled_least board file input told (of_run b pc why accepts runs e) =
     let same : address_parts pc why ≡ told = cc in
     let low : IsOfInputs (address_parts pc why) = omega arith in subst IsOfInputs same low
-relink_least board file input told (of_none b energy outcome accepts profiled no_fault e) = absurd (cc)
+profiled_least board file input told (of_none b outcome accepts runs no_fault e) = absurd (cc)
+
+compared_least : (board file relinked input : List ℕ) (told : Parts) → TellsCompared board file relinked input (Some told) → IsOfInputs told
+compared_least board file relinked input told (compared.of_files parts tells e) =
+    let same : parts ≡ told = cc in subst IsOfInputs same (analysed_least board file parts tells)
+compared_least board file relinked input told (of_relinked b fault accepts first e) =
+    let same : elf_parts fault ≡ told = cc in subst IsOfInputs same (elf_least fault)
+compared_least board file relinked input told (of_comparison b (Same outcome) accepts sound compares e) = absurd (cc)
+compared_least board file relinked input told (of_comparison b (Differs at) accepts sound compares e) =
+    let same : differs_parts at ≡ told = cc in
+    let low : IsOfInputs (differs_parts at) = omega arith in subst IsOfInputs same low
+compared_least board file relinked input told (of_comparison b (SourceFault pc why) accepts sound compares e) =
+    let same : source_parts pc why ≡ told = cc in
+    let low : IsOfInputs (source_parts pc why) = omega arith in subst IsOfInputs same low
 
 -- so it is with what is told of an optional fault
 told_least : {E : Type 0} (parts : E → Parts) → ((fault : E) → IsOfInputs (parts fault)) → (fault : Option E) (told : Parts)
@@ -113,7 +133,11 @@ pub first_least : (command : PlainCommand) (inputs : List (List ℕ)) (told : Pa
 first_least command inputs told (run_first f b i o file board input is are e) =
     both_least board_parts elf_parts board_least elf_least (first_key board) (first_fault file) told (sym e)
 first_least command inputs told (relink_first f b i o c file board input is are tells) =
-    relink_least board file input told tells
+    profiled_least board file input told tells
+first_least command inputs told (profile_first f b i file board input is are tells) =
+    profiled_least board file input told tells
+first_least command inputs told (compare_first f r b i file relinked board input is are tells) =
+    compared_least board file relinked input told tells
 first_least command inputs told (gen_first s k o is are e) = absurd (cc)
 first_least command inputs told (hex_first f o file is are e) =
     told_least elf_parts elf_least (first_fault file) told (sym e)
@@ -134,4 +158,5 @@ status_positive (refusal.Analyse fault) e = let low = analyse_least fault in ome
 status_positive (refusal.AddressFault pc why) e = omega arith
 status_positive (refusal.Hex fault) e = let low = hex_least fault in omega arith
 status_positive (refusal.Differs at) e = omega arith
+status_positive (refusal.SourceFault pc why) e = omega arith
 status_positive refusal.Memory e = omega arith

@@ -98,6 +98,8 @@ Cause (refusal.Hex fault) words old new sink mid =
     InputFails words (refusal.Hex fault) old new × (mid ≡ sink)
 Cause (refusal.Differs at) words old new sink mid =
     InputFails words (refusal.Differs at) old new × (mid ≡ sink)
+Cause (refusal.SourceFault pc why) words old new sink mid =
+    InputFails words (refusal.SourceFault pc why) old new × (mid ≡ sink)
 Cause refusal.Memory words old new sink mid =
     ((new.content ≡ old.content) ⊎ WriteWantsMemory words old new) × (mid ≡ sink)
 

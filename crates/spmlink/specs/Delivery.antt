@@ -1,5 +1,5 @@
 -- What is left to do once the result of a command stands ready, and what it leaves.
-use Rattle.std.specs.Prelude.{◌≡◌, ◌⊎◌, ℕ, List, [], ◌∷◌, string_bytes}
+use Rattle.std.specs.Prelude.{◌≡◌, ◌⊎◌, ℕ, List, [], ◌∷◌}
 use Rattle.shelf_io.specs.Shelf.{ShelfView, SetsName, LosesName}
 use Rattle.shelf_io.specs.Sink.{SinkView, PutAll, PutSome}
 use Rattle.spmlink.specs.Command.{Named}
@@ -70,10 +70,10 @@ FailsToWrite (o ∷ ready) old new r =
 -- the outputs were written and the text printed
 pub record DeliversAll (ready : Ready) (old new : ShelfView) (sink sink' : SinkView) : Type 0 where
   pub set : SetsReady ready.outputs.items old new
-  pub printed : PutAll (string_bytes ready.text) sink sink'
+  pub printed : PutAll (ready.text.items) sink sink'
 
 -- a step failed: a write, the memory for one, or the print
 pub data FailsToDeliver (ready : Ready) (old new : ShelfView) (sink mid : SinkView) (r : Refused) : Type 0 where
   writing_fails : FailsToWrite ready.outputs.items old new r → mid ≡ sink → FailsToDeliver ready old new sink mid r
   print_fails : r ≡ ready.print_fault → SetsReady ready.outputs.items old new
-      → PutSome (string_bytes ready.text) sink mid → FailsToDeliver ready old new sink mid r
+      → PutSome (ready.text.items) sink mid → FailsToDeliver ready old new sink mid r

@@ -12,6 +12,8 @@ use Rattle.object_graph.specs.declared.fault.GraphFault.{GraphFault}
 use Rattle.object_graph.specs.declared.fault.GraphFault.TheVariants as graph
 use Rattle.code_blocks.specs.declared.fault.CodeFault.{CodeFault}
 use Rattle.code_blocks.specs.declared.fault.CodeFault.TheVariants as code
+use Rattle.profile_runner.specs.declared.fault.ProfileFault.{ProfileFault}
+use Rattle.profile_runner.specs.declared.fault.ProfileFault.TheVariants as profile
 use Rattle.relink_core.specs.declared.fault.AnalyseFault.{AnalyseFault}
 use Rattle.relink_core.specs.declared.fault.AnalyseFault.TheVariants as analyse
 use Rattle.spmlink.specs.declared.faults.Refusal.{Refusal}
@@ -94,6 +96,10 @@ analyse_parts analyse.Memory = parts 9 (codes "memory") 0 0
 abbrev pub address_parts : ℕ → ℕ → Parts
 address_parts pc why = parts 8 (codes "address-fault") pc why
 
+-- the same, where the program is compared with its result
+abbrev pub source_parts : ℕ → ℕ → Parts
+source_parts pc why = parts 12 (codes "address-fault") pc why
+
 -- a difference at a place
 abbrev pub differs_parts : ℕ → Parts
 differs_parts at = parts 11 (codes "differs") at 0
@@ -108,6 +114,7 @@ parts_of (refusal.Analyse fault) = analyse_parts fault
 parts_of (refusal.AddressFault pc why) = address_parts pc why
 parts_of (refusal.Hex fault) = hex_parts fault
 parts_of (refusal.Differs at) = differs_parts at
+parts_of (refusal.SourceFault pc why) = source_parts pc why
 parts_of refusal.Memory = parts 9 (codes "memory") 0 0
 
 abbrev pub status_of : Refusal → ℕ
@@ -144,6 +151,10 @@ elf_refusal fault = refusal.Elf fault
 abbrev pub analyse_refusal : AnalyseFault → Refusal
 analyse_refusal analyse.Memory = refusal.Memory
 analyse_refusal fault = refusal.Analyse fault
+
+abbrev pub profile_refusal : ProfileFault → Refusal
+profile_refusal (profile.AddressFault pc why) = refusal.AddressFault pc why
+profile_refusal profile.Memory = refusal.Memory
 
 abbrev pub hex_refusal : HexFault → Refusal
 hex_refusal hex.Memory = refusal.Memory

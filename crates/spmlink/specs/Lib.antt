@@ -4,7 +4,12 @@ pub mod Refused
 pub mod Reading
 pub mod Delivery
 pub mod RunFile
+pub mod Analysed
+pub mod ProgramRun
 pub mod RelinkFile
+pub mod ProfileLines
+pub mod ProfileFile
+pub mod CompareFiles
 pub mod Meaning
 pub mod Performing
 pub mod Answers

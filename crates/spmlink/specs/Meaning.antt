@@ -10,10 +10,13 @@ use Rattle.hex_image.specs.Runs.{ByteMap, file_map}
 use Rattle.hex_image.specs.Text.{hex_text, hex_records}
 use Rattle.hex_image.specs.Reading as hex
 use Rattle.hex_image.specs.Difference.{IsDifference}
-use Rattle.spmlink.specs.Command.{PlainCommand, run_command, relink_command, gen_command, hex_command, hex_check_command}
+use Rattle.spmlink.specs.Command.{PlainCommand, run_command, relink_command, profile_command, compare_command, gen_command, hex_command, hex_check_command}
 use Rattle.spmlink.specs.FaultLine.{Parts, elf_parts, hex_parts, differs_parts, parts_of}
 use Rattle.spmlink.specs.RunFile.{RunsTo, first_refusal}
-use Rattle.spmlink.specs.RelinkFile.{RelinksTo, TellsRelink}
+use Rattle.spmlink.specs.ProgramRun.{TellsProfiled}
+use Rattle.spmlink.specs.RelinkFile.{RelinksTo}
+use Rattle.spmlink.specs.ProfileFile.{ProfilesTo}
+use Rattle.spmlink.specs.CompareFiles.{ComparesTo, TellsCompared}
 use Rattle.spmlink.specs.declared.faults.Refusal.{Refusal}
 use Rattle.spmlink.specs.declared.faults.Refusal.TheVariants as refusal
 
@@ -54,7 +57,14 @@ pub data IsFirst (command : PlainCommand) (inputs : List (List ℕ)) (told : Opt
       → told ≡ first_refusal board file → IsFirst command inputs told
   relink_first : (file_name board_name input_name out_name cert_name file board input : List ℕ)
       → command ≡ relink_command file_name board_name input_name out_name cert_name
-      → inputs ≡ file ∷ board ∷ input ∷ [] → TellsRelink board file input told → IsFirst command inputs told
+      → inputs ≡ file ∷ board ∷ input ∷ [] → TellsProfiled board file input told → IsFirst command inputs told
+  profile_first : (file_name board_name input_name file board input : List ℕ)
+      → command ≡ profile_command file_name board_name input_name
+      → inputs ≡ file ∷ board ∷ input ∷ [] → TellsProfiled board file input told → IsFirst command inputs told
+  compare_first : (file_name relinked_name board_name input_name file relinked board input : List ℕ)
+      → command ≡ compare_command file_name relinked_name board_name input_name
+      → inputs ≡ file ∷ relinked ∷ board ∷ input ∷ [] → TellsCompared board file relinked input told
+      → IsFirst command inputs told
   gen_first : (seed kernels : ℕ) (out_name : List ℕ)
       → command ≡ gen_command seed kernels out_name → inputs ≡ [] → told ≡ None → IsFirst command inputs told
   hex_first : (file_name out_name file : List ℕ)
@@ -77,6 +87,13 @@ pub data Yields (command : PlainCommand) (inputs outputs : List (List ℕ)) (tex
       → command ≡ relink_command file_name board_name input_name out_name cert_name
       → inputs ≡ file ∷ board ∷ input ∷ [] → outputs ≡ certificate ∷ out ∷ []
       → RelinksTo file board input certificate out text → Yields command inputs outputs text
+  profiles : (file_name board_name input_name file board input : List ℕ)
+      → command ≡ profile_command file_name board_name input_name → inputs ≡ file ∷ board ∷ input ∷ []
+      → outputs ≡ [] → ProfilesTo file board input text → Yields command inputs outputs text
+  compares : (file_name relinked_name board_name input_name file relinked board input : List ℕ)
+      → command ≡ compare_command file_name relinked_name board_name input_name
+      → inputs ≡ file ∷ relinked ∷ board ∷ input ∷ []
+      → outputs ≡ [] → ComparesTo file relinked board input text → Yields command inputs outputs text
   generates : (seed kernels : ℕ) (out_name : List ℕ)
       → command ≡ gen_command seed kernels out_name → inputs ≡ []
       → outputs ≡ built (workload_plan seed kernels) ∷ [] → text ≡ kernels_text kernels

@@ -1,5 +1,5 @@
 -- How a command goes, from its names to its result.
-use Rattle.std.specs.Prelude.{◌≡◌, ◌⊎◌, ℕ, List, string_bytes}
+use Rattle.std.specs.Prelude.{◌≡◌, ◌⊎◌, ℕ, List}
 use Rattle.shelf_io.specs.Shelf.{ShelfView}
 use Rattle.shelf_io.specs.Sink.{SinkView, PutAll, PutSome}
 use Rattle.spmlink.specs.Command.{PlainCommand, reads, writes}
@@ -15,7 +15,7 @@ use Rattle.spmlink.specs.declared.faults.Refusal.TheVariants as refusal
 -- the result of a command on these inputs, with the refusals of the steps to come
 pub record IsReadyFor (command : PlainCommand) (inputs : List (List ℕ)) (ready : Ready) : Type 0 where
   pub outputs : List (List ℕ)
-  pub yields : Yields command inputs outputs (string_bytes ready.text)
+  pub yields : Yields command inputs outputs ready.text.items
   pub ready_outputs : AreReady (writes command) outputs ready.outputs.items
   pub print_fault : IsReady (refusal.Write 0) ready.print_fault
 

@@ -14,13 +14,13 @@ pub(crate) const OK_FILE: [u8; 120] = [
     0x73, 0x00, 0x00, 0x00, 0x6f, 0x6b, 0x0a, 0x00,
 ];
 
-/// A call of the top call: the words, what stands under `prog`, `board` and `hex`, and what fails.
+/// A call of the top call: the words, what stands under `prog`, `board` and `other`, and what fails.
 #[derive(Clone, Copy)]
 pub(crate) struct Call<'a> {
     pub words: &'a [&'a str],
     pub file: &'a [u8],
     pub board: &'a [u8],
-    pub hex: &'a [u8],
+    pub other: &'a [u8],
     pub failing_call: Option<u64>,
     pub failing_put: Option<u64>,
 }
@@ -36,6 +36,10 @@ pub(crate) struct Answer {
 
 pub(crate) const RELINK: [&str; 6] = ["relink", "prog", "board", "input", "out", "cert"];
 
+pub(crate) const PROFILE: [&str; 4] = ["profile", "prog", "board", "input"];
+
+pub(crate) const COMPARE: [&str; 5] = ["compare", "prog", "other", "board", "input"];
+
 pub(crate) const RUN: [&str; 5] = ["run", "prog", "board", "input", "out"];
 
 impl<'a> Call<'a> {
@@ -48,13 +52,30 @@ impl<'a> Call<'a> {
         }
     }
 
+    /// A `profile` of a file on the default board, in which nothing fails.
+    pub fn profile(file: &'a [u8]) -> Call<'a> {
+        Call {
+            words: &PROFILE,
+            ..Call::of(file)
+        }
+    }
+
+    /// A `compare` of a file with another one on the default board, in which nothing fails.
+    pub fn compare(file: &'a [u8], other: &'a [u8]) -> Call<'a> {
+        Call {
+            words: &COMPARE,
+            other,
+            ..Call::of(file)
+        }
+    }
+
     /// A `run` of a file on the default board, in which nothing fails.
     pub fn of(file: &'a [u8]) -> Call<'a> {
         Call {
             words: &RUN,
             file,
             board: &[],
-            hex: &[],
+            other: &[],
             failing_call: None,
             failing_put: None,
         }
@@ -73,7 +94,7 @@ impl<'a> Call<'a> {
             (String::from_str(alloc, "prog")?, self.file.to_vec(alloc)?),
             (String::from_str(alloc, "board")?, self.board.to_vec(alloc)?),
             (String::from_str(alloc, "input")?, Vec::new(alloc)),
-            (String::from_str(alloc, "hex")?, self.hex.to_vec(alloc)?),
+            (String::from_str(alloc, "other")?, self.other.to_vec(alloc)?),
         ]?;
         MemShelf::new(alloc, entries, listed(alloc, self.failing_call)?)
     }
@@ -82,7 +103,7 @@ impl<'a> Call<'a> {
     pub fn answer(&self, alloc: Global) -> Result<Answer, AllocError> {
         let mut shelf = self.shelf(alloc)?;
         let mut out = MemSink::new(
-            Vec::with_capacity(alloc, 100)?,
+            Vec::with_capacity(alloc, 1000)?,
             listed(alloc, self.failing_put)?,
         );
         let status = run(alloc, &self.words(alloc)?, &mut shelf, &mut out);

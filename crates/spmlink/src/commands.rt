@@ -19,6 +19,17 @@ pub enum Command<'a> {
         out: &'a str,
         cert: &'a str,
     },
+    Profile {
+        file: &'a str,
+        board: &'a str,
+        input: &'a str,
+    },
+    Compare {
+        file: &'a str,
+        relinked: &'a str,
+        board: &'a str,
+        input: &'a str,
+    },
     Gen {
         seed: u32,
         kernels: u32,
@@ -62,6 +73,20 @@ impl<'a> Command<'a> {
                 input,
                 ..
             } => vec![in alloc; named(1, file), named(2, board), named(3, input)]?,
+            Command::Profile { file, board, input } => {
+                vec![in alloc; named(1, file), named(2, board), named(3, input)]?
+            }
+            Command::Compare {
+                file,
+                relinked,
+                board,
+                input,
+            } => vec![in alloc;
+                named(1, file),
+                named(2, relinked),
+                named(3, board),
+                named(4, input),
+            ]?,
             Command::Gen { .. } => Vec::new(alloc),
             Command::Hex { file, .. } => vec![in alloc; named(1, file)]?,
             Command::HexCheck { file, hex } => vec![in alloc; named(1, file), named(2, hex)]?,
@@ -100,6 +125,12 @@ fn spelled(words: &[String]) -> Option<Command<'_>>
         return Some(command);
     }
     if let Some(command) = spelled_relink(words) {
+        return Some(command);
+    }
+    if let Some(command) = spelled_profile(words) {
+        return Some(command);
+    }
+    if let Some(command) = spelled_compare(words) {
         return Some(command);
     }
     if let Some(command) = spelled_gen(words) {
@@ -146,6 +177,45 @@ fn spelled_relink(words: &[String]) -> Option<Command<'_>>
             input: input.as_str(),
             out: out.as_str(),
             cert: cert.as_str(),
+        })
+    } else {
+        None
+    }
+}
+
+fn spelled_profile(words: &[String]) -> Option<Command<'_>>
+    ensures { MatchOption result
+        ((f b i : List ℕ) → texts words.now ≡ codes "profile" ∷ f ∷ b ∷ i ∷ [] → ⊥)
+        (λ command. Spells (texts words.now) (plain_command command)) }
+{
+    let [name, file, board, input] = words else {
+        return None;
+    };
+    if is_the_word(name.as_str(), "profile") {
+        Some(Command::Profile {
+            file: file.as_str(),
+            board: board.as_str(),
+            input: input.as_str(),
+        })
+    } else {
+        None
+    }
+}
+
+fn spelled_compare(words: &[String]) -> Option<Command<'_>>
+    ensures { MatchOption result
+        ((f r b i : List ℕ) → texts words.now ≡ codes "compare" ∷ f ∷ r ∷ b ∷ i ∷ [] → ⊥)
+        (λ command. Spells (texts words.now) (plain_command command)) }
+{
+    let [name, file, relinked, board, input] = words else {
+        return None;
+    };
+    if is_the_word(name.as_str(), "compare") {
+        Some(Command::Compare {
+            file: file.as_str(),
+            relinked: relinked.as_str(),
+            board: board.as_str(),
+            input: input.as_str(),
         })
     } else {
         None
@@ -258,6 +328,8 @@ fn is_apart(command: &Command<'_>) -> bool
             out,
             cert,
         } => is_new(cert, file, board, input) && out != cert && is_new(out, file, board, input),
+        Command::Profile { .. } => true,
+        Command::Compare { .. } => true,
         Command::Gen { .. } => true,
         Command::Hex { file, out } => file != out,
         Command::HexCheck { .. } => true,

@@ -6,7 +6,7 @@ ghost use Rattle.spmlink.specs.declared.faults.Refusal.TheVariants as refusal;
 ghost use Rattle.shelf_io.specs.Shelf.{SetsName};
 
 use crate::faults::Refusal;
-use crate::printing::put_text;
+use crate::printing::put_piece;
 use crate::refused::Refused;
 use shelf_io::{Shelf, ShelfFault, Sink};
 use std::alloc::{AllocError, Global};
@@ -44,8 +44,8 @@ impl<'a> Output<'a> {
 pub struct Ready<'a> {
     /// What is written, in this order.
     pub outputs: Vec<Output<'a>>,
-    /// What is printed.
-    pub text: String,
+    /// What is printed. It may hold names as a file has them, which needn't be UTF-8.
+    pub text: Vec<u8>,
     pub print_fault: Refused,
 }
 
@@ -57,7 +57,7 @@ impl<'a> Ready<'a> {
     ghost use Rattle.spmlink.specs.declared.faults.Refusal.TheVariants as refusal;
 
     /// A result that is only printed.
-    pub fn printed(alloc: Global, text: String) -> Result<Ready<'a>, AllocError>
+    pub fn printed(alloc: Global, text: Vec<u8>) -> Result<Ready<'a>, AllocError>
         ensures outputs { IfOk result (λ ready. AreReady [] [] ready.outputs.items) }
         ensures text { IfOk result (λ ready. ready.text ≡ text) }
         ensures print_fault { IfOk result (λ ready. IsReady (refusal.Write 0) ready.print_fault) }
@@ -76,7 +76,7 @@ impl<'a> Ready<'a> {
         place: u32,
         name: &'a str,
         bytes: Vec<u8>,
-        text: String,
+        text: Vec<u8>,
     ) -> Result<Ready<'a>, AllocError>
         ensures outputs { IfOk result (λ ready. AreReady (named place name.now ∷ []) (bytes.items ∷ []) ready.outputs.items) }
         ensures text { IfOk result (λ ready. ready.text ≡ text) }
@@ -97,7 +97,7 @@ impl<'a> Ready<'a> {
         alloc: Global,
         first: Output<'a>,
         second: Output<'a>,
-        text: String,
+        text: Vec<u8>,
     ) -> Result<Ready<'a>, AllocError>
         ensures outputs { IfOk result (λ ready. ready.outputs.items ≡ first.entry ∷ second.entry ∷ []) }
         ensures text { IfOk result (λ ready. ready.text ≡ text) }
@@ -127,7 +127,7 @@ pub fn deliver<S: Shelf, K: Sink>(
         (K.view out.old) (K.view out.new)) }
 {
     match write_all(ready.outputs, shelf) {
-        Ok(()) => match put_text(out, ready.text.as_str()) {
+        Ok(()) => match put_piece(out, ready.text.as_slice()) {
             Ok(()) => Ok(()),
             Err(_) => Err(ready.print_fault),
         },

@@ -3,6 +3,7 @@ use code_blocks::CodeFault;
 use elf_reader::ElfFault;
 use hex_image::HexFault;
 use object_graph::GraphFault;
+use profile_runner::ProfileFault;
 use relink_core::AnalyseFault;
 use std::alloc::{AllocError, AllocFailed, Global};
 use std::fmt;
@@ -28,7 +29,10 @@ pub enum Refusal {
     /// The text is not one in Intel HEX.
     Hex(HexFault),
     /// What was compared differs first at this place.
-    Differs { at: u32 },
+    Differs { at: u64 },
+    /// The unit at `pc` of the program, run beside its result, can't be performed where objects have no addresses,
+    /// for the reason `why` of `object_machine::Outcome`.
+    SourceFault { pc: u32, why: u32 },
     /// No memory was left.
     Memory,
 }
@@ -64,7 +68,8 @@ impl Refusal {
             Refusal::Analyse(fault) => LineParts::of_analysis(fault),
             Refusal::AddressFault { pc, why } => LineParts::new(8, "address-fault", *pc, *why),
             Refusal::Hex(fault) => LineParts::of_hex(fault),
-            Refusal::Differs { at } => LineParts::new(11, "differs", *at, 0),
+            Refusal::Differs { at } => LineParts::of_difference(*at),
+            Refusal::SourceFault { pc, why } => LineParts::new(12, "address-fault", *pc, *why),
             Refusal::Memory => LineParts::new(9, "memory", 0, 0),
         }
     }
@@ -134,6 +139,20 @@ impl From<AnalyseFault> for Refusal {
     }
 }
 
+impl From<ProfileFault> for Refusal {
+    ghost use Rattle.std.specs.Prelude.{◌≡◌};
+    ghost use Rattle.spmlink.specs.FaultLine.{profile_refusal};
+
+    ghost from_gives = { λ fault refusal. refusal ≡ profile_refusal fault };
+
+    fn from(fault: ProfileFault) -> Refusal {
+        match fault {
+            ProfileFault::AddressFault { pc, why } => Refusal::AddressFault { pc, why },
+            ProfileFault::Memory => Refusal::Memory,
+        }
+    }
+}
+
 impl From<HexFault> for Refusal {
     ghost use Rattle.std.specs.Prelude.{◌≡◌};
     ghost use Rattle.spmlink.specs.FaultLine.{hex_refusal};
@@ -153,7 +172,7 @@ impl From<HexFault> for Refusal {
 struct LineParts<'a> {
     status: u8,
     word: &'static str,
-    first: u32,
+    first: u64,
     second: u32,
     name: Option<&'a str>,
 }
@@ -161,7 +180,7 @@ struct LineParts<'a> {
 impl<'a> LineParts<'a> {
     ghost use Rattle.std.specs.Prelude.{◌≡◌};
     ghost use Rattle.board_config.specs.Faults.{plain_fault};
-    ghost use Rattle.spmlink.specs.FaultLine.{parts, named_parts, plain_parts, board_parts, elf_parts, graph_parts, code_parts, analyse_parts, hex_parts};
+    ghost use Rattle.spmlink.specs.FaultLine.{parts, named_parts, plain_parts, board_parts, elf_parts, graph_parts, code_parts, analyse_parts, hex_parts, differs_parts};
 
     fn new(status: u8, word: &'static str, first: u32, second: u32) -> LineParts<'a>
         ensures { plain_parts result ≡ parts status word.entry.now first second }
@@ -169,7 +188,7 @@ impl<'a> LineParts<'a> {
         LineParts {
             status,
             word,
-            first,
+            first: u64::from(first),
             second,
             name: None,
         }
@@ -184,6 +203,19 @@ impl<'a> LineParts<'a> {
             first: 0,
             second: 0,
             name: Some(name),
+        }
+    }
+
+    /// A place of an output, which may be long.
+    fn of_difference(at: u64) -> LineParts<'a>
+        ensures { plain_parts result ≡ differs_parts at }
+    {
+        LineParts {
+            status: 11,
+            word: "differs",
+            first: at,
+            second: 0,
+            name: None,
         }
     }
 

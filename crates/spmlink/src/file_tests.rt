@@ -125,10 +125,10 @@ fn writes_and_checks_intel_hex(rt: HostRuntime) -> Result<(), Fail> {
         (&sound, &text, "error 11 differs 65536 0\n"),
         (&OK_FILE[..51], &text, "error 5 too-short 52 51\n"),
     ];
-    for (file, hex, line) in calls {
+    for (file, other, line) in calls {
         let check = Call {
-            words: &["hexcheck", "prog", "hex"],
-            hex,
+            words: &["hexcheck", "prog", "other"],
+            other,
             ..Call::of(file)
         };
         assert_eq!(rt;

@@ -54,7 +54,7 @@ pub fn check_hex(alloc: Global, file: &[u8], text: &[u8]) -> Result<(), Refusal>
     let view = elf_reader::read(alloc, file)?;
     let image = read_hex(alloc, text)?;
     match first_difference(&view, &image) {
-        Some(at) => Err(Refusal::Differs { at }),
+        Some(at) => Err(Refusal::Differs { at: u64::from(at) }),
         None => Ok(()),
     }
 }

@@ -1,5 +1,5 @@
-//! Runs RV32IM programs on a model of a board with a scratchpad memory, and relinks them for it; generates
-//! workloads, and writes and checks Intel HEX.
+//! Runs RV32IM programs on a model of a board with a scratchpad memory, measures them, relinks them for it, and
+//! compares them with what that made; generates workloads, and writes and checks Intel HEX.
 #![tactic(auto)]
 
 #[cfg(test)]
@@ -7,14 +7,19 @@ mod calls;
 #[cfg(test)]
 mod clap_agrees;
 mod commands;
+mod compare_files;
 mod delivery;
 mod faults;
 #[cfg(test)]
 mod file_tests;
 mod hex_files;
+#[cfg(test)]
+mod measure_tests;
 mod outcomes;
 mod performing;
 mod printing;
+mod profile_file;
+mod profile_lines;
 #[cfg(test)]
 mod programs;
 mod reading;
@@ -37,6 +42,8 @@ use std::rt::Env;
 /// The commands, as they are told on standard error where the words are none of them.
 const USAGE: &str = "usage: spmlink run FILE BOARD INPUT OUT
        spmlink relink FILE BOARD INPUT OUT CERT
+       spmlink profile FILE BOARD INPUT
+       spmlink compare FILE RESULT BOARD INPUT
        spmlink gen SEED KERNELS OUT
        spmlink hex FILE OUT
        spmlink hexcheck FILE HEX

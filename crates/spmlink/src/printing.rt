@@ -3,13 +3,13 @@ ghost use Rattle.shelf_io.specs.Sink.{PutAll, PutSome};
 
 use shelf_io::{Sink, SinkFault};
 
-/// Puts a text in one piece.
-pub fn put_text<K: Sink>(out: &mut K, text: &str) -> Result<(), SinkFault>
+/// Puts bytes in one piece.
+pub fn put_piece<K: Sink>(out: &mut K, piece: &[u8]) -> Result<(), SinkFault>
     ensures { MatchResult result
-        (λ _. PutAll text.now (K.view out.old) (K.view out.new))
-        (λ _. PutSome text.now (K.view out.old) (K.view out.new)) }
+        (λ _. PutAll piece.now (K.view out.old) (K.view out.new))
+        (λ _. PutSome piece.now (K.view out.old) (K.view out.new)) }
 {
-    match out.put(text.as_bytes()) {
+    match out.put(piece) {
         Ok(()) => Ok(()),
         Err(fault) => Err(fault),
     }

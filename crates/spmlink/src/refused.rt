@@ -1,5 +1,5 @@
 use crate::faults::Refusal;
-use crate::printing::put_text;
+use crate::printing::put_piece;
 use shelf_io::Sink;
 use std::alloc::{AllocError, Global};
 
@@ -40,7 +40,7 @@ impl Refused {
         ensures status { result ≡ refused_status self.now }
         ensures line { PutsLine (refused_line self.now) (K.view out.old) (K.view out.new) }
     {
-        let _ = put_text(out, self.line());
+        let _ = put_piece(out, self.line().as_bytes());
         self.status()
     }
 

@@ -5,11 +5,12 @@ ghost use Rattle.loaded_code.specs.Read.{IsRead};
 ghost use Rattle.object_graph.specs.Graphs.{IsGraph};
 ghost use Rattle.code_leaders.specs.Leaders.{is_leader};
 ghost use Rattle.code_blocks.specs.Blocks.{IsCode};
-ghost use Rattle.spmlink.specs.RelinkFile.{RunsAtHome, IsAddressFault, IsRefusalOf, RelinksTo, RefusesRelink, bare_certificate, report_text};
+ghost use Rattle.spmlink.specs.ProgramRun.{IsAddressFault, IsRefusalOf, RefusesProfiled};
+ghost use Rattle.spmlink.specs.RelinkFile.{RunsAtHome, RelinksTo, bare_certificate, report_text};
 
 use crate::faults::Refusal;
 use board_config::{Board, read_board};
-use energy_model::{HomeRun, run_at_home};
+use energy_model::{HomeRun, costs_are_of_runs, run_at_home};
 use object_machine::{Outcome, Source};
 use relink_core::{Analysis, analyse, unmoved_file_keeps};
 use std::alloc::{AllocError, Global};
@@ -41,11 +42,12 @@ pub fn relink_file(
     input: &[u8],
 ) -> Result<Relinked, Refusal>
     ensures ok { IfOk result (λ r. RelinksTo file.now board.now input.now r.certificate.items r.file.items (string_bytes r.report)) }
-    ensures err { IfErr result (RefusesRelink board.now file.now input.now) }
+    ensures err { IfErr result (RefusesProfiled board.now file.now input.now) }
 {
     let board = read_board(alloc, board)?;
     let analysis = analyse(alloc, file, &board)?;
     let profile = profiled(alloc, &analysis, &board, input)?;
+    costs_are_of_runs();
     check_outcome(profile.outcome)?;
     unmoved_file_keeps();
     Ok(unmoved(alloc, file, board.nodes, profile.energy)?)

@@ -1,13 +1,15 @@
 ghost use Rattle.std.specs.Prelude.{◌≡◌, ◌∷◌, [], ◌≤◌, ℕ, List, IfOk, IfErr, length, string_bytes};
-ghost use Rattle.spmlink.specs.Command.{HasNumbers, plain_command, reads, run_command, relink_command, gen_command, hex_command, hex_check_command};
+ghost use Rattle.spmlink.specs.Command.{HasNumbers, plain_command, reads, run_command, relink_command, profile_command, compare_command, gen_command, hex_command, hex_check_command};
 ghost use Rattle.spmlink.specs.Reading.{contents};
 ghost use Rattle.spmlink.specs.Meaning.{RefusesInputs, kernels_text};
 ghost use Rattle.spmlink.specs.Performing.{IsReadyFor};
 
 use crate::commands::Command;
+use crate::compare_files::compare_files;
 use crate::delivery::{Output, Ready};
 use crate::faults::Refusal;
 use crate::hex_files::{check_hex, hex_file};
+use crate::profile_file::profile_file;
 use crate::relink_file::relink_file;
 use crate::run_file::run_file;
 use std::alloc::{AllocError, Global};
@@ -37,6 +39,16 @@ pub fn make_ready<'a>(
                 Err(fault) => Err(fault),
             }
         }
+        Command::Profile { .. } => match ready_profile(alloc, &texts[0], &texts[1], &texts[2]) {
+            Ok(ready) => Ok(ready),
+            Err(fault) => Err(fault),
+        },
+        Command::Compare { .. } => {
+            match ready_compare(alloc, &texts[0], &texts[1], &texts[2], &texts[3]) {
+                Ok(ready) => Ok(ready),
+                Err(fault) => Err(fault),
+            }
+        }
         Command::Gen { seed, kernels, out } => ready_gen(alloc, seed, kernels, out),
         Command::Hex { out, .. } => match ready_hex(alloc, out, &texts[0]) {
             Ok(ready) => Ok(ready),
@@ -62,7 +74,7 @@ fn ready_run<'a>(
         → RefusesInputs (run_command f b i out.now) (file.now ∷ board.now ∷ input.now ∷ []) fault) }
 {
     match run_file(alloc, file, board, input) {
-        Ok(run) => Ok(Ready::written(alloc, 4, out, run.output, run.line)?),
+        Ok(run) => Ok(Ready::written(alloc, 4, out, run.output, run.line.into_bytes())?),
         Err(fault) => Err(fault),
     }
 }
@@ -84,8 +96,43 @@ fn ready_relink<'a>(
         Ok(relinked) => {
             let first = Output::new(alloc, 5, cert, relinked.certificate)?;
             let second = Output::new(alloc, 4, out, relinked.file)?;
-            Ok(Ready::written_twice(alloc, first, second, relinked.report)?)
+            Ok(Ready::written_twice(alloc, first, second, relinked.report.into_bytes())?)
         }
+        Err(fault) => Err(fault),
+    }
+}
+
+fn ready_profile<'a>(
+    alloc: Global,
+    file: &[u8],
+    board: &[u8],
+    input: &[u8],
+) -> Result<Ready<'a>, Refusal>
+    ensures ok { IfOk result (λ ready. (f b i : List ℕ)
+        → IsReadyFor (profile_command f b i) (file.now ∷ board.now ∷ input.now ∷ []) ready) }
+    ensures err { IfErr result (λ fault. (f b i : List ℕ)
+        → RefusesInputs (profile_command f b i) (file.now ∷ board.now ∷ input.now ∷ []) fault) }
+{
+    match profile_file(alloc, file, board, input) {
+        Ok(text) => Ok(Ready::printed(alloc, text)?),
+        Err(fault) => Err(fault),
+    }
+}
+
+fn ready_compare<'a>(
+    alloc: Global,
+    file: &[u8],
+    relinked: &[u8],
+    board: &[u8],
+    input: &[u8],
+) -> Result<Ready<'a>, Refusal>
+    ensures ok { IfOk result (λ ready. (f r b i : List ℕ)
+        → IsReadyFor (compare_command f r b i) (file.now ∷ relinked.now ∷ board.now ∷ input.now ∷ []) ready) }
+    ensures err { IfErr result (λ fault. (f r b i : List ℕ)
+        → RefusesInputs (compare_command f r b i) (file.now ∷ relinked.now ∷ board.now ∷ input.now ∷ []) fault) }
+{
+    match compare_files(alloc, file, relinked, board, input) {
+        Ok(text) => Ok(Ready::printed(alloc, text)?),
         Err(fault) => Err(fault),
     }
 }
@@ -98,7 +145,7 @@ fn ready_gen<'a>(alloc: Global, seed: u32, kernels: u32, out: &'a str) -> Result
 {
     let file = workload(alloc, seed, kernels)?;
     let text = kernels_line(alloc, kernels)?;
-    Ok(Ready::written(alloc, 3, out, file, text)?)
+    Ok(Ready::written(alloc, 3, out, file, text.into_bytes())?)
 }
 
 /// The line that tells how many kernels a generated file has.
@@ -115,7 +162,7 @@ fn ready_hex<'a>(alloc: Global, out: &'a str, file: &[u8]) -> Result<Ready<'a>, 
         → RefusesInputs (hex_command f out.now) (file.now ∷ []) fault) }
 {
     match hex_file(alloc, file) {
-        Ok(hex) => Ok(Ready::written(alloc, 2, out, hex.text, hex.line)?),
+        Ok(hex) => Ok(Ready::written(alloc, 2, out, hex.text, hex.line.into_bytes())?),
         Err(fault) => Err(fault),
     }
 }
@@ -129,7 +176,7 @@ fn ready_hex_check<'a>(alloc: Global, file: &[u8], hex: &[u8]) -> Result<Ready<'
     match check_hex(alloc, file, hex) {
         Ok(()) => {
             let text = String::from_str(alloc, "same\n")?;
-            Ok(Ready::printed(alloc, text)?)
+            Ok(Ready::printed(alloc, text.into_bytes())?)
         }
         Err(fault) => Err(fault),
     }

@@ -1,7 +1,8 @@
 use Rattle.std.proofs.Common.{List, ℕ, subst}
-use Rattle.spmlink.specs.Command.{run_command, relink_command, hex_command, hex_check_command}
+use Rattle.spmlink.specs.Command.{run_command, relink_command, profile_command, compare_command, hex_command, hex_check_command}
 use Rattle.spmlink.specs.Meaning.{RefusesInputs}
-use Rattle.spmlink.proofs.Readings.{contents_of_one, contents_of_two, contents_of_three}
+use Rattle.spmlink.specs.Performing.{IsReadyFor}
+use Rattle.spmlink.proofs.Readings.{contents_of_one, contents_of_two, contents_of_three, contents_of_four}
 use Rattle.spmlink.proofs.results.make_ready.Goals as goal
 
 pub returns-in-Err-clause-err : goal.returns-in-Err-clause-err
@@ -20,6 +21,35 @@ returns-in-Err-ready_relink-clause-err c =
     let w = c.in-Relink in
     let command = relink_command w.file.now w.board.now w.input.now w.out.now w.cert.now in
     rw w.is (subst (λ (ts : List (List ℕ)). RefusesInputs command ts c.in-Err-ready_relink.fault) are (c.in-Err-ready_relink.ensures.err w.file.now w.board.now w.input.now))
+
+pub returns-in-Err-ready_profile-clause-err : goal.returns-in-Err-ready_profile-clause-err
+returns-in-Err-ready_profile-clause-err c =
+    let count = rw c.in-Profile.is at c.requires.texts in
+    let are = contents_of_three c.args.texts.now c.index-texts-0-in-Profile.result c.index-texts-1-in-Profile.result c.index-texts-2-in-Profile.result _ _ _ count
+    c.index-texts-0-in-Profile.is c.index-texts-1-in-Profile.is c.index-texts-2-in-Profile.is c.deref-in-Profile.ensures.value c.deref-in-Profile-2.ensures.value c.deref-in-Profile-3.ensures.value in
+    let w = c.in-Profile in
+    let command = profile_command w.file.now w.board.now w.input.now in
+    rw w.is (subst (λ (ts : List (List ℕ)). RefusesInputs command ts c.in-Err-ready_profile.fault) are (c.in-Err-ready_profile.ensures.err w.file.now w.board.now w.input.now))
+
+pub returns-in-Err-ready_compare-clause-err : goal.returns-in-Err-ready_compare-clause-err
+returns-in-Err-ready_compare-clause-err c =
+    let count = rw c.in-Compare.is at c.requires.texts in
+    let are = contents_of_four c.args.texts.now c.index-texts-0-in-Compare.result c.index-texts-1-in-Compare.result c.index-texts-2-in-Compare.result c.index-texts-3.result _ _ _ _ count
+    c.index-texts-0-in-Compare.is c.index-texts-1-in-Compare.is c.index-texts-2-in-Compare.is c.index-texts-3.is
+    c.deref-in-Compare.ensures.value c.deref-in-Compare-2.ensures.value c.deref-in-Compare-3.ensures.value c.deref-in-Compare-4.ensures.value in
+    let w = c.in-Compare in
+    let command = compare_command w.file.now w.relinked.now w.board.now w.input.now in
+    rw w.is (subst (λ (ts : List (List ℕ)). RefusesInputs command ts c.in-Err-ready_compare.fault) are (c.in-Err-ready_compare.ensures.err w.file.now w.relinked.now w.board.now w.input.now))
+
+pub returns-in-Ok-ready_compare-clause-ok : goal.returns-in-Ok-ready_compare-clause-ok
+returns-in-Ok-ready_compare-clause-ok c =
+    let count = rw c.in-Compare.is at c.requires.texts in
+    let are = contents_of_four c.args.texts.now c.index-texts-0-in-Compare.result c.index-texts-1-in-Compare.result c.index-texts-2-in-Compare.result c.index-texts-3.result _ _ _ _ count
+    c.index-texts-0-in-Compare.is c.index-texts-1-in-Compare.is c.index-texts-2-in-Compare.is c.index-texts-3.is
+    c.deref-in-Compare.ensures.value c.deref-in-Compare-2.ensures.value c.deref-in-Compare-3.ensures.value c.deref-in-Compare-4.ensures.value in
+    let w = c.in-Compare in
+    let command = compare_command w.file.now w.relinked.now w.board.now w.input.now in
+    rw w.is (subst (λ (ts : List (List ℕ)). IsReadyFor command ts c.in-Ok-ready_compare.ready) are (c.in-Ok-ready_compare.ensures.ok w.file.now w.relinked.now w.board.now w.input.now))
 
 pub returns-in-Err-ready_hex-clause-err : goal.returns-in-Err-ready_hex-clause-err
 returns-in-Err-ready_hex-clause-err c =

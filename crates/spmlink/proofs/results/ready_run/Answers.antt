@@ -7,7 +7,7 @@ pub returns-in_ok-written-in-Ok-clause-ok : goal.returns-in_ok-written-in-Ok-cla
 returns-in_ok-written-in-Ok-clause-ok c f b i =
     record {
       outputs = c.in-Ok.run'.output.items ∷ [];
-      yields = rw c.in_ok-written-in-Ok.ensures.text (runs f b i _ _ _ _ _ refl refl refl c.in-Ok.ensures.ok);
+      yields = rw (c.in_ok-written-in-Ok.ensures.text, c.into_bytes.ensures.value) (runs f b i _ _ _ _ _ refl refl refl c.in-Ok.ensures.ok);
       ready_outputs = c.in_ok-written-in-Ok.ensures.outputs;
       print_fault = c.in_ok-written-in-Ok.ensures.print_fault;
     }
