@@ -1,12 +1,18 @@
-//! The energy of a run: what its fetches, loads and stores cost.
+//! The energy of a run: what its fetches, loads and stores cost, at home and with objects in the scratchpad.
 #![tactic(auto)]
 
-mod home;
-mod laws;
-mod pricing;
+mod adding;
+mod base;
+mod counting;
+mod objects;
+mod selecting;
+mod stating;
+mod units;
 
-pub use home::{HomeRun, run_at_home};
-pub use laws::{costs_add_up, costs_are_of_runs, one_cost};
+pub use adding::data_energy_adds_up;
+pub use counting::full;
+pub use selecting::select;
+pub use stating::programme;
 
 #[cfg(test)]
 mod tests;

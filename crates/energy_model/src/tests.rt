@@ -1,11 +1,20 @@
+ghost use Rattle.std.specs.Prelude.{◌≡◌, ◌≤◌, true, None};
+ghost use Rattle.elf_reader.specs.File.{plain_view};
 ghost use Rattle.board_config.specs.Board.{IsLawful};
+ghost use Rattle.loaded_code.specs.Read.{IsRead};
+ghost use Rattle.object_graph.specs.Graphs.{IsGraph};
+ghost use Rattle.code_leaders.specs.Leaders.{is_leader};
+ghost use Rattle.code_blocks.specs.Blocks.{IsCode, code_fault};
 
-use crate::{HomeRun, run_at_home};
-use board_config::{Board, Prices, read_board};
-use code_blocks::blocks;
-use elf_reader::{Reloc, read};
-use object_graph::graph;
-use object_machine::{Outcome, Source};
+use crate::programme;
+use board_config::{Board, read_board};
+use code_blocks::{Code, blocks};
+use elf_reader::{ElfView, Reloc, read};
+use object_graph::{Graph, graph};
+use object_machine::Source;
+use placement_programme::{Programme, VarName};
+use profile_runner::profile;
+use region_former::RegionTable;
 use std::alloc::{AllocError, Global};
 use std::test::Fail;
 use workload_gen::{FileSpec, SectionSpec, SymbolSpec, build};
@@ -193,60 +202,109 @@ fn file_of(alloc: Global, program: &Program) -> Result<Vec<u8>, AllocError> {
     build(alloc, &spec)
 }
 
-/// The machine of a file.
-fn started(alloc: Global, file: &[u8], board: &Board) -> Result<Source, Fail>
-    requires { IsLawful board.now }
+/// The least size of a patch range that has room for each start stub.
+const ROOM: u32 = 88;
+
+/// The programme of a run of the board's steps, without regions.
+fn stated_by(
+    alloc: Global,
+    view: &ElfView,
+    graph: &Graph,
+    code: &Code,
+    board: &Board,
+) -> Result<Programme, Fail>
+    requires read { IsRead view.now }
+    requires graph { IsGraph (plain_view view.now) board.now graph.now }
+    requires code { IsCode (plain_view view.now) code.now }
+    requires no_fault { code_fault (plain_view view.now) ≡ None }
+    requires entry { is_leader (plain_view view.now) view.now.entry ≡ true }
+    requires lawful { IsLawful board.now }
+    requires room { 88 ≤ board.now.patch.size }
 {
-    let view = read(alloc, file)?;
-    let graph = graph(alloc, &view, board)?;
-    let code = blocks(alloc, &view)?;
-    Ok(Source::new(alloc, &view, &graph, &code, board, b"")?)
+    let mut source = Source::new(alloc, view, graph, code, board, b"")?;
+    let regions = RegionTable::none(alloc, code)?;
+    let counts = profile(alloc, &mut source, code, graph, &regions, board.steps)?;
+    Ok(programme(alloc, &counts, graph, code, &regions, board)?)
 }
 
-/// Runs a program on the default board, and prices its run.
-fn priced(alloc: Global, program: &Program, prices: &Prices) -> Result<HomeRun, Fail> {
+/// The programme of a program.
+fn stated(alloc: Global, program: &Program, board: &Board) -> Result<Programme, Fail>
+    requires lawful { IsLawful board.now }
+    requires room { 88 ≤ board.now.patch.size }
+{
     let file = file_of(alloc, program)?;
-    let board = read_board(alloc, b"")?;
-    let mut source = started(alloc, &file, &board)?;
-    Ok(run_at_home(&mut source, prices, board.steps)?)
+    let view = read(alloc, &file)?;
+    let graph = graph(alloc, &view, board)?;
+    let code = blocks(alloc, &view)?;
+    stated_by(alloc, &view, &graph, &code, board)
+}
+
+/// A scratchpad that has room for the table alone, and fetches from it at the price of main memory.
+const SMALL_SCRATCHPAD: &str = "spm = [0x01000000, 256]
+price = {
+  main_fetch = 10, main_read = 10, main_write = 10,
+  spm_fetch = 10, spm_read = 2, spm_write = 2,
+}
+";
+
+/// Prices by which fetches, reads and writes can be told apart.
+const THREE_PRICES: &str = "price = {
+  main_fetch = 1, main_read = 100, main_write = 10000,
+  spm_fetch = 0, spm_read = 0, spm_write = 0,
+}
+";
+
+/// The energy of a program's run with everything in main memory.
+fn base(alloc: Global, program: &Program, board: &str) -> Result<u128, Fail> {
+    let board = read_board(alloc, board.as_bytes())?;
+    if board.patch.size < ROOM {
+        return Err(Fail::from("no room"));
+    }
+    Ok(stated(alloc, program, &board)?.base)
 }
 
 #[test]
-fn costs_at_one_price(rt: HostRuntime) -> Result<(), Fail> {
-    let board = read_board(rt.alloc(), b"")?;
+fn prices_runs_at_home(rt: HostRuntime) -> Result<(), Fail> {
     let rows = [
-        (SEVEN, 30, Outcome::Exited(7)),
-        (BREAK, 10, Outcome::Trapped { pc: 0x1_0000 }),
-        (TABLE_WALK, 326_040, Outcome::Exited(64)),
-        (CLEARED_BUFFER, 230, Outcome::Exited(0)),
-        (CALLS, 90, Outcome::Exited(8)),
+        (SEVEN, 30, 3),
+        (BREAK, 10, 1),
+        (TABLE_WALK, 326_040, 666_204),
+        (CLEARED_BUFFER, 230, 40_019),
+        (CALLS, 90, 9),
     ];
-    for (program, energy, outcome) in rows {
-        let run = priced(rt.alloc(), &program, &board.prices)?;
-        assert_eq!(rt; run, HomeRun { energy, outcome });
+    for (program, at_one_price, at_three_prices) in rows {
+        let bases = (
+            base(rt.alloc(), &program, "")?,
+            base(rt.alloc(), &program, THREE_PRICES)?,
+        );
+        assert_eq!(rt; bases, (at_one_price, at_three_prices));
     }
     Ok(())
 }
 
 #[test]
-fn costs_at_three_prices(rt: HostRuntime) -> Result<(), Fail> {
-    let prices = Prices {
-        main_fetch: 1,
-        main_read: 100,
-        main_write: 10_000,
-        spm_fetch: 0,
-        spm_read: 0,
-        spm_write: 0,
-    };
-    let rows = [
-        (BREAK, 1, Outcome::Trapped { pc: 0x1_0000 }),
-        (TABLE_WALK, 666_204, Outcome::Exited(64)),
-        (CLEARED_BUFFER, 40_019, Outcome::Exited(0)),
-        (CALLS, 9, Outcome::Exited(8)),
-    ];
-    for (program, energy, outcome) in rows {
-        let run = priced(rt.alloc(), &program, &prices)?;
-        assert_eq!(rt; run, HomeRun { energy, outcome });
+fn states_the_table_of_a_walk(rt: HostRuntime) -> Result<(), Fail> {
+    let board = read_board(rt.alloc(), SMALL_SCRATCHPAD.as_bytes())?;
+    if board.patch.size < ROOM {
+        return Err(Fail::from("no room"));
     }
+    let programme = stated(rt.alloc(), &TABLE_WALK, &board)?;
+    let Some(table) = programme.off.vars.first() else {
+        return Err(Fail::from("no variable"));
+    };
+    assert_eq!(rt; (programme.base, programme.off.fixed), (326_040, 50));
+    assert_eq!(rt;
+        programme.off.rows.as_slice(),
+        [256, 65_452, 1, 1, 1, 1, 1, 1].as_slice()
+    );
+    assert_eq!(rt;
+        (programme.off.vars.len(), programme.on.is_none()),
+        (1, true)
+    );
+    assert_eq!(rt;
+        (table.name, table.gain),
+        (VarName::StaticData { object: 0 }, 47_172)
+    );
+    assert_eq!(rt; table.weights.as_slice(), [(0, 256), (1, 44)].as_slice());
     Ok(())
 }

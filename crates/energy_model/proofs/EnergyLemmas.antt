@@ -1,0 +1,238 @@
+-- The energy of a run where objects alone are taken.
+use Rattle.std.proofs.Common.{◌≡◌, ◌∙◌, inl, inr, ℕ, zero, suc, ◌+◌, ◌*◌, ◌<◌, ◌≤◌, ◌==◌, Bool, true, false, ◌&&◌, ◌||◌, if◌then◌else◌, List, [], ◌∷◌, length, map, is_some, Option, Some, None, refl, ap, arith}
+use Rattle.std.specs.List.{All}
+use Rattle.std.proofs.lemmas.Bool.{cases_eq, cases_lt}
+use Rattle.std.proofs.lemmas.Bool.Decides.{nat_tests}
+use Rattle.sorted_numbers.specs.Sorted.{count_below}
+use Rattle.rv_decode.specs.declared.instructions.Instr.{Instr}
+use Rattle.board_config.specs.declared.board.Prices.{Prices}
+use Rattle.code_leaders.specs.Early.{has}
+use Rattle.object_machine.specs.declared.events.Access.{Access}
+use Rattle.placement_programme.specs.declared.variables.VarName.{VarName}
+use Rattle.placement_programme.specs.declared.variables.VarName.TheVariants.{StaticData}
+use Rattle.profile_runner.specs.Move.{Move, move_at}
+use Rattle.profile_runner.specs.Standing.{number_of, begins, region_of, entered, current}
+use Rattle.profile_runner.specs.Counts.{same_direction, is_access_to, accesses_of}
+use Rattle.energy_model.specs.Forms.{Body, unit_in, sum_below}
+use Rattle.energy_model.specs.Energy.{Scene, Taken, Piece, piece_of, is_fast, starts_of, block_in, block_at, unit_number, region_with, form_words, fetch_price, words_price, read_price, write_price, is_fast_access, data_price, access_price, comes_from_outside, arrival_price, way_price, step_energy, steps_energy}
+use Rattle.energy_model.specs.Stated.{nothing_taken}
+use Rattle.energy_model.specs.Priced.{price_at, direction_price, touch_price, touches_price}
+use Rattle.energy_model.proofs.StepLemmas.{IsAccessOf}
+use Rattle.energy_model.proofs.SceneLemmas.{unit_of_move, Follows}
+use Rattle.energy_model.proofs.SumLemmas.{sum_same, sum_two, block_sum, blocks_sum, moves_sum, ran}
+
+-- ---- a step where objects alone are taken
+
+-- some objects are taken, without overlay
+abbrev pub data_taken : List ℕ → Taken
+data_taken os = record { on = false; names = map StaticData os }
+
+no_piece : (os : List ℕ) (b : ℕ) → piece_of (map StaticData os) b ≡ None
+no_piece [] b = refl
+no_piece (o ∷ os) b = no_piece os b
+
+words_none : (o : Option Piece) (w : Scene) (b : Body) (k : ℕ) (m : Move) (prices : Prices) → o ≡ None → form_words o w false b k m * fetch_price o prices ≡ (if m.goes_on then (unit_in b k).words else 1) * prices.main_fetch
+words_none None w b k m prices none = refl
+words_none (Some piece) w b k m prices none = cc
+
+same_both : (b : Bool) (x : ℕ) → x ≡ 0 → (if b then x else 0) ≡ 0
+same_both true x is = is
+same_both false x is = refl
+
+way_none : (o : Option Piece) (w : Scene) (ms : List Move) (i : ℕ) (b : Bool) (prices : Prices) → o ≡ None → (if b && comes_from_outside w o ms i then arrival_price prices (is_some o) false else 0) ≡ 0
+way_none None w ms i b prices none = same_both (b && true) (0 * prices.main_fetch + 0) (omega arith)
+way_none (Some piece) w ms i b prices none = cc
+
+pub data_step : (w : Scene) (os : List ℕ) (ms : List Move) (i : ℕ) → step_energy w (data_taken os) ms i ≡ (if (move_at ms i).goes_on then (unit_of_move w ms i).words else 1) * w.board.prices.main_fetch + access_price w (data_taken os) ms i
+data_step w os ms i =
+    let prices = w.board.prices in
+    let b = block_at w ms i in
+    let piece = no_piece os b in
+    let words = words_none (piece_of (map StaticData os) b) w (block_in w b) (unit_number w ms i) (move_at ms i) prices piece in
+    let way = way_none (piece_of (map StaticData os) b) w ms i (begins (starts_of w) ms i) prices piece in
+    let sum : step_energy w (data_taken os) ms i ≡ words_price w (data_taken os) ms i + access_price w (data_taken os) ms i + way_price w (data_taken os) ms i + 0 = refl in
+    omega (arith, words, way, sum)
+
+-- ---- nothing taken
+
+none_fast : (r : ℕ) (access : Option Access) → is_fast_access [] r access ≡ false
+none_fast r None = refl
+none_fast r (Some a) = refl
+
+home_parts : (goes_on : Bool) (words fetch load : ℕ) → (if goes_on then words else 1) * fetch + (if goes_on then load else 0) ≡ (if goes_on then words * fetch + load else fetch)
+home_parts true words fetch load = refl
+home_parts false words fetch load = omega arith
+
+pub home_step : (w : Scene) (ms : List Move) (i : ℕ) → step_energy w nothing_taken ms i ≡ (if (move_at ms i).goes_on then price_at w (block_at w ms i) (unit_number w ms i) else w.board.prices.main_fetch)
+home_step w ms i =
+    let u = unit_of_move w ms i in
+    let prices = w.board.prices in
+    let access : access_price w nothing_taken ms i ≡ (if (move_at ms i).goes_on then data_price prices false u.instr else 0) =
+    ap (λ (fast : Bool). if (move_at ms i).goes_on then data_price prices fast u.instr else 0) (none_fast (region_with w ms i) (move_at ms i).access) in
+    data_step w [] ms i
+    ∙ (ap (λ n. (if (move_at ms i).goes_on then u.words else 1) * prices.main_fetch + n) access
+    ∙ home_parts (move_at ms i).goes_on u.words prices.main_fetch (data_price prices false u.instr))
+
+-- what the last step costs
+abbrev pub last_price : Scene → List Move → ℕ → ℕ
+last_price w ms i =
+    if (move_at ms i).goes_on then price_at w (block_at w ms i) (unit_number w ms i) else w.board.prices.main_fetch
+
+going_price : (b : Bool) (x y : ℕ) → b ≡ true → (if b then x else y) ≡ x
+going_price b x y is = rw is refl
+
+before_last : (w : Scene) (ms : List Move) (i : ℕ) → Follows w ms → i < length ms → sum_below (step_energy w nothing_taken ms) i ≡ moves_sum w ms (price_at w) i
+before_last w ms i all below =
+    sum_same (step_energy w nothing_taken ms) (λ j. price_at w (block_at w ms j) (unit_number w ms j)) i (λ j inside.
+    home_step w ms j ∙ going_price (move_at ms j).goes_on (price_at w (block_at w ms j) (unit_number w ms j)) w.board.prices.main_fetch (all.goes_on j (omega (arith, inside, below))))
+
+-- the energy of a run with nothing taken, by how often each block began: the last block didn't run whole, and its
+-- last unit may have ended the run
+pub base_is : (w : Scene) (ms : List Move) (i : ℕ) → Follows w ms → length ms ≡ suc i → steps_energy w nothing_taken ms + block_sum w (price_at w) (block_at w ms i) ≡ blocks_sum w ms (price_at w) (length ms) + sum_below (price_at w (block_at w ms i)) (unit_number w ms i) + last_price w ms i
+base_is w ms i all last =
+    let below : i < length ms = omega (arith, last) in
+    let before = before_last w ms i all below in
+    let here = home_step w ms i in
+    let units = ran w ms (price_at w) i all below in
+    let energy : steps_energy w nothing_taken ms ≡ sum_below (step_energy w nothing_taken ms) (suc i) = ap (sum_below (step_energy w nothing_taken ms)) last in
+    let blocks : blocks_sum w ms (price_at w) (length ms) ≡ blocks_sum w ms (price_at w) (suc i) = ap (blocks_sum w ms (price_at w)) last in
+    omega (arith, before, here, units, energy, blocks)
+
+-- ---- one object more
+
+taken_is : (os : List ℕ) (o r : ℕ) → is_fast (map StaticData os) o r ≡ has os o
+taken_is [] o r = refl
+taken_is (x ∷ os) o r = ap (λ (b : Bool). (o == x) || b) (taken_is os o r)
+
+one_access : (prices : Prices) (names : List VarName) (o r : ℕ) (access : Option Access) (goes_on : Bool) (instr : Option Instr) → IsAccessOf access goes_on instr → is_fast names o r ≡ false → (if goes_on then data_price prices (is_fast_access (StaticData o ∷ names) r access) instr else 0) + touch_price prices false o access ≡ (if goes_on then data_price prices (is_fast_access names r access) instr else 0) + touch_price prices true o access
+one_access prices names o r None goes_on instr is fresh = refl
+one_access prices names o r (Some a) goes_on instr is fresh =
+    let on = is.0 in
+    let slow = is.1 prices false in
+    let fast = is.1 prices true in
+    elim (cases_eq a.object o) [
+      | inl same ↦
+          let test : (a.object == o) ≡ true = grind (arith, nat_tests, same) in
+          let none : is_fast names a.object r ≡ false = ap (λ n. is_fast names n r) same ∙ fresh in
+          rw (on, test, none) (omega (arith, slow, fast))
+      | inr differs ↦
+          let test : (a.object == o) ≡ false = grind (arith, nat_tests, differs) in
+          rw (test) refl
+    ]
+
+more_step : (w : Scene) (o : ℕ) (os : List ℕ) (ms : List Move) (i : ℕ) → Follows w ms → i < length ms → has os o ≡ false → step_energy w (data_taken (o ∷ os)) ms i + touch_price w.board.prices false o (move_at ms i).access ≡ step_energy w (data_taken os) ms i + touch_price w.board.prices true o (move_at ms i).access
+more_step w o os ms i all below fresh =
+    let u = unit_of_move w ms i in
+    let with_it = data_step w (o ∷ os) ms i in
+    let without = data_step w os ms i in
+    let r = region_with w ms i in
+    let access = one_access w.board.prices (map StaticData os) o r (move_at ms i).access (move_at ms i).goes_on u.instr (all.each i below).access (taken_is os o r ∙ fresh) in
+    omega (arith, with_it, without, access)
+
+pub more_taken : (w : Scene) (o : ℕ) (os : List ℕ) (ms : List Move) → Follows w ms → has os o ≡ false → steps_energy w (data_taken (o ∷ os)) ms + touches_price w ms false o ≡ steps_energy w (data_taken os) ms + touches_price w ms true o
+more_taken w o os ms all fresh =
+    let prices = w.board.prices in
+    let f = step_energy w (data_taken (o ∷ os)) ms in
+    let g = step_energy w (data_taken os) ms in
+    let slow = λ (i : ℕ). touch_price prices false o (move_at ms i).access in
+    let fast = λ (i : ℕ). touch_price prices true o (move_at ms i).access in
+    let same = sum_same (λ i. f i + slow i) (λ i. g i + fast i) (length ms) (λ i below. more_step w o os ms i all below fresh) in
+    let left = sum_two f slow (length ms) in
+    let right = sum_two g fast (length ms) in
+    omega (arith, same, left, right)
+
+-- ---- the accesses to an object, counted
+
+abbrev pub touched : List Move → Bool → ℕ → ℕ → ℕ
+touched ms write o n = count_below (λ i. is_access_to write o (move_at ms i).access) n
+
+by_direction : (prices : Prices) (fast : Bool) (same write : Bool) → (if same then direction_price prices fast write else 0) ≡ (if same && same_direction false write then 1 else 0) * read_price fast prices + (if same && same_direction true write then 1 else 0) * write_price fast prices
+by_direction prices fast true true = omega arith
+by_direction prices fast true false = omega arith
+by_direction prices fast false write = omega arith
+
+touch_is : (prices : Prices) (fast : Bool) (o : ℕ) (access : Option Access) → touch_price prices fast o access ≡ (if is_access_to false o access then 1 else 0) * read_price fast prices + (if is_access_to true o access then 1 else 0) * write_price fast prices
+touch_is prices fast o None = omega arith
+touch_is prices fast o (Some a) = by_direction prices fast (a.object == o) a.write
+
+add_times : (c d x : ℕ) → (c + d) * x ≡ c * x + d * x
+add_times c d x = grind arith
+
+touches_below : (prices : Prices) (ms : List Move) (fast : Bool) (o n : ℕ) → sum_below (λ i. touch_price prices fast o (move_at ms i).access) n ≡ touched ms false o n * read_price fast prices + touched ms true o n * write_price fast prices
+touches_below prices ms fast o zero = omega arith
+touches_below prices ms fast o (suc n) =
+    let earlier = touches_below prices ms fast o n in
+    let here = touch_is prices fast o (move_at ms n).access in
+    let reads = add_times (touched ms false o n) (if is_access_to false o (move_at ms n).access then 1 else 0) (read_price fast prices) in
+    let writes = add_times (touched ms true o n) (if is_access_to true o (move_at ms n).access then 1 else 0) (write_price fast prices) in
+    omega (arith, earlier, here, reads, writes)
+
+pub touches_are : (w : Scene) (ms : List Move) (fast : Bool) (o : ℕ) → touches_price w ms fast o ≡ touched ms false o (length ms) * read_price fast w.board.prices + touched ms true o (length ms) * write_price fast w.board.prices
+touches_are w ms fast o = touches_below w.board.prices ms fast o (length ms)
+
+-- ---- by regions
+
+in_region : (b : Bool) (r k : ℕ) → (r ≡ k → ⊥) → ◌≡◌ {A = ℕ} (if b && (r == k) then 1 else 0) 0
+in_region true r k differs = let test : (r == k) ≡ false = grind (arith, nat_tests, differs) in rw test refl
+in_region false r k differs = refl
+
+in_this : (b : Bool) (r k : ℕ) → r ≡ k → ◌≡◌ {A = ℕ} (if b && (r == k) then 1 else 0) (if b then 1 else 0)
+in_this true r k same = let test : (r == k) ≡ true = grind (arith, nat_tests, same) in rw test refl
+in_this false r k same = refl
+
+one_place : (f g : ℕ → ℕ) (b : Bool) (r n : ℕ) → r < n → ((k : ℕ) → g k ≡ f k + (if b && (r == k) then 1 else 0)) → sum_below g n ≡ sum_below f n + (if b then 1 else 0)
+one_place f g b r zero below more = absurd (omega (arith, below))
+one_place f g b r (suc n) below more =
+    let here = more n in
+    elim (cases_lt r n) [
+      | inl earlier ↦
+          let sum = one_place f g b r n earlier more in
+          let not_here = in_region b r n (λ same. absurd (omega (arith, same, earlier))) in
+          omega (arith, here, sum, not_here)
+      | inr last ↦
+          let same : r ≡ n = omega (arith, last, below) in
+          let rest = sum_same g f n (λ k inside.
+          let now = more k in
+          let not_now = in_region b r k (λ is. absurd (omega (arith, is, inside, last))) in
+          omega (arith, now, not_now)) in
+          let now = in_this b r n same in
+          omega (arith, here, rest, now)
+    ]
+
+sum_nothing : (n : ℕ) → sum_below (λ r. 0) n ≡ 0
+sum_nothing zero = refl
+sum_nothing (suc n) = let earlier = sum_nothing n in omega (arith, earlier)
+
+split_below : (test : ℕ → Bool) (now : ℕ → ℕ) (last n : ℕ) → ((i : ℕ) → now i ≤ last) → sum_below (λ r. count_below (λ i. test i && (now i == r)) n) (suc last) ≡ count_below test n
+split_below test now last zero within = sum_nothing (suc last)
+split_below test now last (suc n) within =
+    let earlier = split_below test now last n within in
+    let at = within n in
+    let more = one_place (λ r. count_below (λ i. test i && (now i == r)) n) (λ r. count_below (λ i. test i && (now i == r)) (suc n)) (test n) (now n) (suc last) (omega (arith, at)) (λ r. refl) in
+    omega (arith, earlier, more)
+
+region_fits : (regions : List ℕ) (last k : ℕ) → All (λ r. r ≤ last) regions → region_of regions k ≤ last
+region_fits [] last k all = omega arith
+region_fits (r ∷ regions) last zero all = all 0 0 (omega arith)
+region_fits (r ∷ regions) last (suc k) all = region_fits regions last k (λ j d below. all (suc j) d (omega (arith, below)))
+
+entered_fits : (last c r : ℕ) → c ≤ last → r ≤ last → entered c r ≤ last
+entered_fits last c zero first second = first
+entered_fits last c (suc r) first second = second
+
+current_choice : (last x y : ℕ) (b : Bool) → x ≤ last → y ≤ last → (if b then x else y) ≤ last
+current_choice last x y true first second = first
+current_choice last x y false first second = second
+
+current_fits : (starts regions : List ℕ) (ms : List Move) (last i : ℕ) → All (λ r. r ≤ last) regions → current starts regions ms i ≤ last
+current_fits starts regions ms last zero all = omega arith
+current_fits starts regions ms last (suc i) all =
+    let earlier = current_fits starts regions ms last i all in
+    let k = number_of starts (move_at ms i).at in
+    current_choice last (entered (current starts regions ms i) (region_of regions k)) (current starts regions ms i) (begins starts ms i)
+    (entered_fits last (current starts regions ms i) (region_of regions k) earlier (region_fits regions last k all)) earlier
+
+-- the accesses to an object are those in all regions
+pub by_regions : (starts regions : List ℕ) (ms : List Move) (last : ℕ) (write : Bool) (o : ℕ) → All (λ r. r ≤ last) regions → sum_below (accesses_of starts regions ms write o) (suc last) ≡ touched ms write o (length ms)
+by_regions starts regions ms last write o all =
+    split_below (λ i. is_access_to write o (move_at ms i).access) (λ i. current starts regions ms (suc i)) last (length ms) (λ i. current_fits starts regions ms last (suc i) all)

@@ -1,0 +1,43 @@
+-- Prices of units and of objects, by which the energy of a run is counted.
+use Rattle.std.specs.Prelude.{◌≡◌, ℕ, ◌+◌, ◌*◌, ◌==◌, Bool, false, if◌then◌else◌, List, [], ◌∷◌, length, slice_index_or, Option, Some, None}
+use Rattle.board_config.specs.declared.board.Prices.{Prices}
+use Rattle.code_leaders.specs.Early.{has}
+use Rattle.code_blocks.specs.declared.parts.Unit.{Unit}
+use Rattle.object_machine.specs.declared.events.Access.{Access}
+use Rattle.profile_runner.specs.Move.{Move, move_at}
+use Rattle.energy_model.specs.Forms.{unit_in, no_unit, sum_below}
+use Rattle.energy_model.specs.Energy.{Scene, block_in, read_price, write_price, data_price}
+
+-- ---- units
+
+-- a unit that goes on, at home
+abbrev pub unit_price : Prices → Unit → ℕ
+unit_price prices u = u.words * prices.main_fetch + data_price prices false u.instr
+
+-- unit `k` of block `b`
+abbrev pub price_at : Scene → ℕ → ℕ → ℕ
+price_at w b k = unit_price w.board.prices (unit_in (block_in w b) k)
+
+-- the first `n` of some units
+abbrev pub units_price : Prices → List Unit → ℕ → ℕ
+units_price prices units n = sum_below (λ k. unit_price prices (slice_index_or units k no_unit)) n
+
+-- ---- objects
+
+abbrev pub direction_price : Prices → Bool → Bool → ℕ
+direction_price prices fast write = if write then write_price fast prices else read_price fast prices
+
+-- what an access costs if it is one to object `o`
+abbrev pub touch_price : Prices → Bool → ℕ → Option Access → ℕ
+touch_price prices fast o None = 0
+touch_price prices fast o (Some a) = if a.object == o then direction_price prices fast a.write else 0
+
+-- all accesses to object `o`, where it is in the scratchpad or not
+abbrev pub touches_price : Scene → List Move → Bool → ℕ → ℕ
+touches_price w ms fast o =
+    sum_below (λ i. touch_price w.board.prices fast o (move_at ms i).access) (length ms)
+
+-- numbers stand in a list once each
+abbrev pub AreDifferent : List ℕ → Type 0
+AreDifferent [] = Prim.Unit {0}
+AreDifferent (n ∷ ns) = (has ns n ≡ false) × AreDifferent ns
