@@ -1,5 +1,5 @@
 -- A board and a file that is analysed for it: what refuses them, and what a run of the file's program asks.
-use Rattle.std.proofs.Common.{◌≡◌, ◌⊎◌, inl, inr, ℕ, ◌==◌, List, length, Bool, true, ◌&&◌, ◌||◌, Some, None, refl, sym, subst, arith}
+use Rattle.std.proofs.Common.{◌≡◌, ◌⊎◌, inl, inr, ℕ, ◌≤◌, ◌==◌, nat_le, option_map, List, length, Bool, true, ◌&&◌, ◌||◌, Some, None, refl, sym, subst, arith}
 use Rattle.std.proofs.lemmas.Bool.Decides.{nat_tests}
 use Rattle.fault_order.specs.First.{unless}
 use Rattle.fault_order.proofs.FirstLemmas.{both_none, holds}
@@ -22,7 +22,8 @@ use Rattle.code_leaders.specs.Leaders.{is_function_at, makes_address, goes_to, c
 use Rattle.code_blocks.specs.Blocks.{IsCode, is_any, code_fault}
 use Rattle.code_blocks.specs.declared.parts.Code.{Code}
 use Rattle.code_blocks.specs.declared.fault.CodeFault.TheVariants.{NoText, EntryNotLeader}
-use Rattle.relink_core.specs.Faults.{analyse_fault}
+use Rattle.object_graph.specs.LayoutFaults.{layout_fault}
+use Rattle.relink_core.specs.Faults.{file_fault, least_patch, patch_fault, places_fault, view_fault, analyse_fault}
 use Rattle.relink_core.proofs.KeepsLemmas.{passes}
 use Rattle.relink_core.specs.declared.fault.AnalyseFault.{AnalyseFault}
 use Rattle.relink_core.specs.declared.fault.AnalyseFault.TheVariants as analyse
@@ -54,6 +55,21 @@ pub record MayRun (view : ElfView) (board : Board) (g : Graph) (c : Code) : Type
   pub graph : IsGraph (plain_view view) board g
   pub code : IsCode (plain_view view) c
   pub entry : is_leader (plain_view view) view.entry ≡ true
+  pub no_fault : code_fault (plain_view view) ≡ None
+  pub room : least_patch board.fence_i ≤ board.patch.size
+
+fitting : (least size : ℕ) → nat_le least size ≡ true → least ≤ size
+fitting least size fits = grind (arith, nat_tests, fits)
+
+-- the patch range has room for the start stub
+has_room : (file : List ℕ) (board : Board) → analyse_fault file board ≡ None → least_patch board.fence_i ≤ board.patch.size
+has_room file board none =
+    let v = view_in file in
+    let all = both_none (file_fault file) (view_fault v board) none in
+    let viewed = both_none (places_fault v board) (option_map analyse.Code (code_fault v)) all.1 in
+    let placed = both_none (option_map analyse.Graph (layout_fault v board)) (patch_fault board) viewed.0 in
+    let fits = holds (nat_le (least_patch board.fence_i) board.patch.size) (analyse.PatchTooSmall (least_patch board.fence_i) board.patch.size) placed.1 in
+    fitting (least_patch board.fence_i) board.patch.size fits
 
 pub may_run : (file : List ℕ) (view : ElfView) (board : Board) (g : Graph) (c : Code) → IsFile file view → analyse_fault file board ≡ None
     → IsGraph (view_in file) board g → IsCode (view_in file) c → MayRun view board g c
@@ -65,6 +81,8 @@ may_run file view board g c is none is_graph is_code =
       graph = subst (λ (v : PlainView). IsGraph v board g) same is_graph;
       code = subst (λ (v : PlainView). IsCode v c) same is_code;
       entry = entry_leads (plain_view view) (subst (λ (v : PlainView). code_fault v ≡ None) same found.code);
+      no_fault = subst (λ (v : PlainView). code_fault v ≡ None) same found.code;
+      room = has_room file board none;
     }
 
 -- ---- refusals

@@ -22,6 +22,7 @@ use Rattle.spmlink.specs.declared.faults.Refusal.TheVariants as refusal
 use Rattle.spmlink.proofs.OneCommand.{one_command, one_reading}
 use Rattle.spmlink.proofs.Statuses.{status_positive}
 use Rattle.spmlink.proofs.Profiling.{profile_runs}
+use Rattle.spmlink.proofs.Stating.{relinked_runs}
 
 -- ---- what the inputs are
 
@@ -37,7 +38,7 @@ yields_first command inputs outputs text (runs f b i o file board input output i
     run_first f b i o file board input is are (sym ran.sound)
 yields_first command inputs outputs text (relinks f b i o c file board input certificate out is are outs made) =
     relink_first f b i o c file board input is are
-    (of_none made.board made.outcome made.accepts made.runs made.no_address_fault refl)
+    (of_none made.board made.states.last.outcome made.accepts (relinked_runs file board input certificate out text made) made.states.no_address_fault refl)
 yields_first command inputs outputs text (profiles f b i file board input is are outs made) =
     profile_first f b i file board input is are
     (of_none made.board made.last.outcome made.accepts (profile_runs file board input text made) made.no_address_fault refl)

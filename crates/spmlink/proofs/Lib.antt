@@ -6,10 +6,10 @@ pub mod OneCommand
 pub mod Exactness
 pub mod Running
 pub mod Analysing
-pub mod Relinking
 pub mod Hexadecimal
 pub mod Lines
 pub mod Profiling
+pub mod Stating
 pub mod ComparingFiles
 pub mod Refusals
 pub mod Readings

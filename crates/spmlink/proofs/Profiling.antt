@@ -31,7 +31,7 @@ faulted (Exited code) pc why e = absurd (cc)
 faulted (Trapped a) pc why e = absurd (cc)
 faulted (AddressFault a b) pc why e = cc
 
-unfaulted : (o : Outcome) → fault_of o ≡ None → IsAddressFault o → ⊥
+pub unfaulted : (o : Outcome) → fault_of o ≡ None → IsAddressFault o → ⊥
 unfaulted GoesOn e f = f
 unfaulted (Exited code) e f = f
 unfaulted (Trapped a) e f = f

@@ -6,9 +6,10 @@ pub mod Delivery
 pub mod RunFile
 pub mod Analysed
 pub mod ProgramRun
-pub mod RelinkFile
 pub mod ProfileLines
 pub mod ProfileFile
+pub mod StatedRun
+pub mod RelinkFile
 pub mod CompareFiles
 pub mod Meaning
 pub mod Performing

@@ -29,11 +29,6 @@ IsAddressFault (Exited code) = ⊥
 IsAddressFault (Trapped pc) = ⊥
 IsAddressFault (AddressFault pc why) = Unit {0}
 
--- the refusal of a run that ended so
-abbrev pub IsRefusalOf : Outcome → Refusal → Type 0
-IsRefusalOf outcome fault =
-    (pc : ℕ) × ((why : ℕ) × ((outcome ≡ AddressFault pc why) × (fault ≡ refusal.AddressFault pc why)))
-
 -- the words that tell how a program stands; there are none for one that met an address fault
 abbrev pub ending_text : Outcome → List ℕ
 ending_text GoesOn = codes "running"

@@ -29,6 +29,7 @@ mod relink_file;
 mod relink_tests;
 mod results;
 mod run_file;
+mod stated_run;
 #[cfg(test)]
 mod tests;
 mod top;

@@ -1,18 +1,11 @@
-ghost use Rattle.std.specs.Prelude.{◌≡◌, IfOk, IfErr, MatchResult, string_bytes, true};
-ghost use Rattle.elf_reader.specs.File.{plain_view};
-ghost use Rattle.board_config.specs.Board.{IsLawful};
-ghost use Rattle.loaded_code.specs.Read.{IsRead};
-ghost use Rattle.object_graph.specs.Graphs.{IsGraph};
-ghost use Rattle.code_leaders.specs.Leaders.{is_leader};
-ghost use Rattle.code_blocks.specs.Blocks.{IsCode};
-ghost use Rattle.spmlink.specs.ProgramRun.{IsAddressFault, IsRefusalOf, RefusesProfiled};
-ghost use Rattle.spmlink.specs.RelinkFile.{RunsAtHome, RelinksTo, bare_certificate, report_text};
+ghost use Rattle.std.specs.Prelude.{◌≡◌, IfOk, IfErr, string_bytes};
+ghost use Rattle.spmlink.specs.ProgramRun.{RefusesProfiled};
+ghost use Rattle.spmlink.specs.RelinkFile.{RelinksTo, bare_certificate, report_text};
 
 use crate::faults::Refusal;
-use board_config::{Board, read_board};
-use energy_model::{HomeRun, costs_are_of_runs, run_at_home};
-use object_machine::{Outcome, Source};
-use relink_core::{Analysis, analyse, unmoved_file_keeps};
+use crate::stated_run::stated_run;
+use board_config::read_board;
+use relink_core::{analyse, unmoved_file_keeps};
 use std::alloc::{AllocError, Global};
 
 /// The certificate of the choice that takes nothing: the mark `SPC1`, no tree, the side without overlays, and no
@@ -46,53 +39,9 @@ pub fn relink_file(
 {
     let board = read_board(alloc, board)?;
     let analysis = analyse(alloc, file, &board)?;
-    let profile = profiled(alloc, &analysis, &board, input)?;
-    costs_are_of_runs();
-    check_outcome(profile.outcome)?;
+    let programme = stated_run(alloc, &analysis, &board, input)?;
     unmoved_file_keeps();
-    Ok(unmoved(alloc, file, board.nodes, profile.energy)?)
-}
-
-/// Runs an analysed program with everything at home, to measure it.
-fn profiled(
-    alloc: Global,
-    analysis: &Analysis<'_>,
-    board: &Board,
-    input: &[u8],
-) -> Result<HomeRun, AllocError>
-    requires read { IsRead analysis.now.view }
-    requires graph { IsGraph (plain_view analysis.now.view) board.now analysis.now.graph }
-    requires code { IsCode (plain_view analysis.now.view) analysis.now.code }
-    requires lawful { IsLawful board.now }
-    requires entry { is_leader (plain_view analysis.now.view) analysis.now.view.entry ≡ true }
-    ensures { IfOk result (λ profile. RunsAtHome (plain_view analysis.now.view) board.now analysis.now.graph input.now profile.energy profile.outcome) }
-{
-    let mut source = Source::new(
-        alloc,
-        &analysis.view,
-        &analysis.graph,
-        &analysis.code,
-        board,
-        input,
-    )?;
-    match run_at_home(&mut source, &board.prices, board.steps) {
-        Ok(profile) => Ok(profile),
-        Err(error) => Err(error),
-    }
-}
-
-/// Refuses a run that met an address fault. One that trapped is no fault.
-fn check_outcome(outcome: Outcome) -> Result<(), Refusal>
-    ensures { MatchResult result
-        (λ _. IsAddressFault outcome → ⊥)
-        (λ fault. IsRefusalOf outcome fault) }
-{
-    match outcome {
-        Outcome::GoesOn => Ok(()),
-        Outcome::Exited(_) => Ok(()),
-        Outcome::Trapped { .. } => Ok(()),
-        Outcome::AddressFault { pc, why } => Err(Refusal::AddressFault { pc, why }),
-    }
+    Ok(unmoved(alloc, file, board.nodes, programme.base)?)
 }
 
 /// The file as it is, with the certificate and the report of that.

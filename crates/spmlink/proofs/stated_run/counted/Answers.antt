@@ -8,7 +8,7 @@ use Rattle.object_machine.specs.Program.{program_of}
 use Rattle.object_machine.specs.State.{SourceState}
 use Rattle.object_machine.specs.Machine.{state_of}
 use Rattle.spmlink.proofs.Profiling.{told_counts, no_memory}
-use Rattle.spmlink.proofs.profile_file.counted.Goals as goal
+use Rattle.spmlink.proofs.stated_run.counted.Goals as goal
 
 pub new-requires-clause-grain : goal.new-requires-clause-grain
 new-requires-clause-grain c = subst IsGrain (sym c.requires.graph.grain) c.requires.lawful.grain
@@ -30,7 +30,7 @@ profile-requires-clause-started c =
     )
 
 pub profile-requires-clause-regions : goal.profile-requires-clause-regions
-profile-requires-clause-regions c = ap length c.in_ok-regions.ensures.regions ∙ length-replicate (length c.args.analysis.now.code.blocks.items) 0
+profile-requires-clause-regions c = ap length c.requires.regions ∙ length-replicate (length c.args.analysis.now.code.blocks.items) 0
 
 pub profile-requires-clause-some : goal.profile-requires-clause-some
 profile-requires-clause-some c = c.requires.lawful.least_steps
@@ -40,23 +40,18 @@ returns-in_err-source c =
     let q = err_from_is_err_and c.from_residual.result c.from_residual.ensures.1 in
     rw (q.1, q.2) (no_memory (plain_view c.args.analysis.now.view) c.args.board.now c.args.analysis.now.graph c.args.analysis.now.code c.args.input.now)
 
-pub returns-in_err-regions : goal.returns-in_err-regions
-returns-in_err-regions c =
-    let q = err_from_is_err_and c.from_residual-in_err-regions.result c.from_residual-in_err-regions.ensures.1 in
-    rw (q.1, q.2) (no_memory (plain_view c.args.analysis.now.view) c.args.board.now c.args.analysis.now.graph c.args.analysis.now.code c.args.input.now)
-
 pub returns-in-Ok : goal.returns-in-Ok
 returns-in-Ok c =
     let analysis = c.args.analysis.now in
     let p = program_of (plain_view analysis.view) c.args.board.now analysis.graph in
-    let regions = c.in_ok-regions.regions in
+    let regions = c.args.regions.now in
     told_counts (plain_view analysis.view) c.args.board.now analysis.graph analysis.code c.args.input.now regions.of_block.items regions.count (state_of p c.in_ok-source.source) (state_of p c.profile.new.source) (Ok c.in-Ok.profile)
-    c.in_ok-regions.ensures.regions c.in_ok-regions.ensures.count c.in_ok-source.ensures.start (c.in-Ok.ensures.run p c.in_ok-source.ensures.program)
+    c.requires.regions c.requires.none c.in_ok-source.ensures.start (c.in-Ok.ensures.run p c.in_ok-source.ensures.program)
 
 pub returns : goal.returns
 returns c =
     let analysis = c.args.analysis.now in
     let p = program_of (plain_view analysis.view) c.args.board.now analysis.graph in
-    let regions = c.in_ok-regions.regions in
+    let regions = c.args.regions.now in
     told_counts (plain_view analysis.view) c.args.board.now analysis.graph analysis.code c.args.input.now regions.of_block.items regions.count (state_of p c.in_ok-source.source) (state_of p c.profile.new.source) (Err c.in-Err.fault)
-    c.in_ok-regions.ensures.regions c.in_ok-regions.ensures.count c.in_ok-source.ensures.start (c.in-Err.ensures.run p c.in_ok-source.ensures.program)
+    c.requires.regions c.requires.none c.in_ok-source.ensures.start (c.in-Err.ensures.run p c.in_ok-source.ensures.program)

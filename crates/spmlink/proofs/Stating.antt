@@ -1,0 +1,93 @@
+-- The programme that the run of a file's program states, and what it is stated from.
+use Rattle.std.proofs.Common.{◌≡◌, ◌∙◌, ℕ, ◌+◌, ◌≤◌, Bool, true, false, if◌then◌else◌, List, [], length, replicate, None, refl, sym, ap, subst, arith}
+use Rattle.std.proofs.lemmas.List.{length-replicate}
+use Rattle.elf_reader.specs.File.{PlainView, plain_view, view_in}
+use Rattle.elf_reader.specs.declared.view.ElfView.{ElfView}
+use Rattle.board_config.specs.Board.{IsLawful}
+use Rattle.board_config.specs.declared.board.Board.{Board}
+use Rattle.loaded_code.specs.Read.{IsRead}
+use Rattle.object_graph.specs.Graphs.{IsGraph}
+use Rattle.object_graph.specs.declared.parts.Graph.{Graph}
+use Rattle.code_leaders.specs.Leaders.{is_leader}
+use Rattle.code_blocks.specs.Blocks.{IsCode, code_fault}
+use Rattle.code_blocks.specs.Numbers.{starts_of}
+use Rattle.code_blocks.specs.declared.parts.Code.{Code}
+use Rattle.object_machine.specs.Program.{program_of}
+use Rattle.object_machine.specs.State.{SourceState}
+use Rattle.object_machine.specs.Start.{start_of}
+use Rattle.file_at_home.specs.Laws.{program_in, source_start}
+use Rattle.region_former.specs.declared.table.RegionTable.{RegionTable}
+use Rattle.placement_programme.specs.Plain.{PlainProgramme}
+use Rattle.profile_runner.specs.Counts.{IsProfile}
+use Rattle.profile_runner.specs.Move.{Move}
+use Rattle.profile_runner.specs.Running.{Profiles}
+use Rattle.profile_runner.specs.declared.counts.Profile.{Profile}
+use Rattle.profile_runner.proofs.RunLemmas.{moves_steps}
+use Rattle.energy_model.specs.Selected.{stated}
+use Rattle.energy_model.specs.Stated.{scene_of, layout_of, IsOfOneFile}
+use Rattle.relink_core.specs.Faults.{least_patch}
+use Rattle.spmlink.specs.ProfileFile.{no_regions}
+use Rattle.spmlink.specs.ProgramRun.{RunsProgram}
+use Rattle.spmlink.specs.RelinkFile.{RelinksTo}
+use Rattle.spmlink.specs.StatedRun.{bare_scene, bare_layout}
+
+-- a table in which no block has a region
+pub record HasNone (c : Code) (t : RegionTable) : Type 0 where
+  pub count : t.count ≡ 0
+  pub regions : t.of_block.items ≡ no_regions c
+  pub borders : t.border.items ≡ replicate (length c.blocks.items) false
+
+start_fits : (fence : Bool) (size : ℕ) → least_patch fence ≤ size → 84 + (if fence then 4 else 0) ≤ size
+start_fits true size room = omega (arith, room)
+start_fits false size room = omega (arith, room)
+
+-- a run from the start, by such a table, and what it is a run of
+pub of_one_file : (view : ElfView) (board : Board) (g : Graph) (c : Code) (t : RegionTable) (input : List ℕ) (q : Profile) (last : SourceState)
+    → IsRead view → IsLawful board → IsGraph (plain_view view) board g → IsCode (plain_view view) c
+    → code_fault (plain_view view) ≡ None → least_patch board.fence_i ≤ board.patch.size → is_leader (plain_view view) view.entry ≡ true
+    → HasNone c t
+    → (made : Profiles (starts_of c) (no_regions c) 0 (length g.objects.items) (program_of (plain_view view) board g) board.steps (start_of (plain_view view) (program_of (plain_view view) board g) g input) last q)
+    → IsOfOneFile view board g c t q made.moves
+of_one_file view board g c t input q last read lawful is_graph is_code no_fault room entry none made =
+    record {
+      read = read;
+      lawful = lawful;
+      graph = is_graph;
+      code = is_code;
+      regions = ap length none.regions ∙ length-replicate (length c.blocks.items) 0;
+      patch = start_fits board.fence_i board.patch.size room;
+      no_code_fault = no_fault;
+      run = record {
+        from = start_of (plain_view view) (program_of (plain_view view) board g) g input;
+        to = last;
+        going = refl;
+        begins = entry;
+        run = made.run;
+        profile = subst (λ k. IsProfile (starts_of c) t.of_block.items k (length g.objects.items) made.moves last.outcome q) (sym none.count)
+            (subst (λ rs. IsProfile (starts_of c) rs 0 (length g.objects.items) made.moves last.outcome q) (sym none.regions) made.profile);
+      };
+    }
+
+-- what such a table states is stated without one
+pub stated_bare : (g : Graph) (c : Code) (t : RegionTable) (board : Board) (moves : List Move) (p : PlainProgramme) → HasNone c t
+    → p ≡ stated (scene_of g c t board) (layout_of g c t board) moves
+    → p ≡ stated (bare_scene g c board) (bare_layout g c board) moves
+stated_bare g c t board moves p none is =
+    subst (λ bs. p ≡ stated (record { blocks = c.blocks.items; graph = g; regions = no_regions c; borders = bs; region_count = 0; board = board }) (bare_layout g c board) moves) none.borders
+    (subst (λ rs. p ≡ stated (record { blocks = c.blocks.items; graph = g; regions = rs; borders = t.border.items; region_count = 0; board = board }) (bare_layout g c board) moves) none.regions
+    (subst
+    (λ k. p ≡ stated (record { blocks = c.blocks.items; graph = g; regions = t.of_block.items; borders = t.border.items; region_count = k; board = board })
+    (record { scratchpad = board.spm.size; patch = board.patch.size; fence_i = board.fence_i; blocks = length c.blocks.items; objects = length g.objects.items; regions = k; displaced = []; grain = board.grain }) moves)
+    none.count is))
+
+-- a program that is relinked was run
+pub relinked_runs : (file board_text input certificate out report : List ℕ) (made : RelinksTo file board_text input certificate out report)
+    → RunsProgram file made.board input made.states.last.outcome
+relinked_runs file board_text input certificate out report made =
+    record {
+      graph = made.graph;
+      is_graph = made.is_graph;
+      last = made.states.last;
+      taken = moves_steps (program_in file made.board made.graph) made.board.steps (source_start file made.board made.graph input) made.states.last made.states.moves made.states.run;
+      outcome_is = refl;
+    }
