@@ -16,3 +16,4 @@ pub mod DigitLemmas
 pub mod LoadLemmas
 pub mod StreamLemmas
 pub mod RoomLemmas
+pub mod WayLemmas

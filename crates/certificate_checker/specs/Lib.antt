@@ -14,5 +14,6 @@ pub mod Digits
 pub mod Reading
 pub mod Spelling
 pub mod Loading
+pub mod Ways
 pub mod Rooms
 pub mod Laws

@@ -1,5 +1,5 @@
 -- The room of a check that reads the text once, and what it answers.
-use Rattle.std.specs.Prelude.{◌≡◌, ◌≤◌, ℕ, Bool, true, false, List, length, Option, Some, None, IfSome, MatchOption, vec_capacity, Result, Ok, Err}
+use Rattle.std.specs.Prelude.{◌≡◌, ◌≤◌, ℕ, Bool, true, false, List, length, max, Option, Some, None, option_map, IfSome, MatchOption, vec_capacity, Result, Ok, Err}
 use Rattle.std.specs.Borrow.{Bor}
 use Rattle.placement_programme.specs.Plain.{PlainSide, PlainProgramme, PlainChoice}
 use Rattle.placement_programme.specs.Bounds.{AscendWithin}
@@ -80,9 +80,28 @@ BodyAnswers p kept (Err e) read = read ≡ Err e
 
 -- the room is large enough for a programme
 pub record RoomFits (p : Programme) (r : Room) : Type 0 where
+  pub path : 4097 ≤ length r.path.items
   pub off_marks : length p.off.vars.items ≤ length r.marks.items
   pub off_rows : length p.off.rows.items ≤ length r.multipliers.items
   pub off_take : length p.off.vars.items ≤ vec_capacity r.choice.take
   pub on_marks : IfSome p.on (λ s. length s.vars.items ≤ length r.marks.items)
   pub on_rows : IfSome p.on (λ s. length s.rows.items ≤ length r.multipliers.items)
   pub on_take : IfSome p.on (λ s. length s.vars.items ≤ vec_capacity r.choice.take)
+
+-- the greater of a number and one that may be there
+abbrev pub most_of : ℕ → Option ℕ → ℕ
+most_of n None = n
+most_of n (Some m) = max n m
+
+-- the lists of a room are as long as a programme needs them
+pub record IsRoomOf (p : Programme) (r : Room) : Type 0 where
+  pub path : length r.path.items ≡ 4097
+  pub marks : length r.marks.items ≡ most_of (length p.off.vars.items) (option_map (λ s. length s.vars.items) p.on)
+  pub multipliers : length r.multipliers.items ≡ most_of (length p.off.rows.items) (option_map (λ s. length s.rows.items) p.on)
+
+-- the lists of a room are as long as they were, and the choice has no less room
+pub record HasSameRoom (old new : Room) : Type 0 where
+  pub path : length new.path.items ≡ length old.path.items
+  pub marks : length new.marks.items ≡ length old.marks.items
+  pub multipliers : length new.multipliers.items ≡ length old.multipliers.items
+  pub take : vec_capacity old.choice.take ≤ vec_capacity new.choice.take

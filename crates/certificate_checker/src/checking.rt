@@ -11,7 +11,7 @@ use crate::walking::{Failing, walk};
 use placement_programme::{Choice, Programme, Side, feasible, gain_of};
 
 /// What a choice gains, if it is feasible and that is at least 0.
-pub(crate) fn accepted(p: &Programme, choice: &Choice) -> Option<u128>
+pub fn accepted(p: &Programme, choice: &Choice) -> Option<u128>
     ensures accepted { MatchOption result ((best : ℕ) → IsAccepted (plain_programme p.now) (plain_choice choice.now) best → ⊥) (IsAccepted (plain_programme p.now) (plain_choice choice.now)) }
     ensures small { IfSome result (λ best. best ≤ 2 ^ 104) }
 {

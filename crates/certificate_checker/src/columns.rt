@@ -7,7 +7,7 @@ ghost use Rattle.placement_programme.specs.Views.{plain_side};
 use placement_programme::{Side, Var, weight_of};
 
 /// How many variables a side has.
-pub(crate) fn var_count(side: &Side) -> usize
+pub fn var_count(side: &Side) -> usize
     ensures value { result ≡ length (plain_side side.now).vars }
     ensures few { result ≤ 4000 }
 {
@@ -35,8 +35,8 @@ fn weights_in(vars: &[Var], number: usize) -> &[(u32, u64)]
     &vars[number].weights
 }
 
-/// The gain of a variable.
-pub(crate) fn gain_of_var(side: &Side, number: usize) -> u128
+/// The gain of a variable, in the units of the board's prices.
+pub fn gain_of_var(side: &Side, number: usize) -> u128
     requires { number < length (plain_side side.now).vars }
     ensures { result ≡ gain_at (plain_side side.now).vars number }
 {
@@ -44,7 +44,7 @@ pub(crate) fn gain_of_var(side: &Side, number: usize) -> u128
 }
 
 /// The weights of a variable.
-pub(crate) fn weights_of_var(side: &Side, number: usize) -> &[(u32, u64)]
+pub fn weights_of_var(side: &Side, number: usize) -> &[(u32, u64)]
     requires { number < length (plain_side side.now).vars }
     ensures value { result.now ≡ weights_at (plain_side side.now).vars number }
     ensures rows { AreWeights (length (plain_side side.now).rows) result.now }

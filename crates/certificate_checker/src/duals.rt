@@ -104,8 +104,9 @@ pub(crate) fn sums_hold(
     left <= right
 }
 
-/// Whether a dual node keeps its rule.
-pub(crate) fn dual_holds(
+/// Whether a dual node keeps its rule under these marks, of which each variable has one: its scale is from 1 to 65,536, its
+/// rows ascend in range, and by weak duality nothing gains more than `best`, which has the fixed cost taken off.
+pub fn dual_holds(
     side: &Side,
     best: u128,
     marks: &[u8],

@@ -1,5 +1,5 @@
-ghost use Rattle.std.specs.Prelude.{◌≡◌, ◌≤◌, length, IfOk, IfSome};
-ghost use Rattle.certificate_checker.specs.Rooms.{RoomFits};
+ghost use Rattle.std.specs.Prelude.{◌≡◌, ◌≤◌, length, option_map, IfOk};
+ghost use Rattle.certificate_checker.specs.Rooms.{RoomFits, IsRoomOf, most_of};
 
 use placement_programme::{Choice, Programme};
 use std::alloc::{AllocError, Global};
@@ -9,6 +9,8 @@ use std::alloc::{AllocError, Global};
 pub struct Room {
     /// A mark for each variable of the longer side.
     pub marks: Vec<u8>,
+    /// A step for each depth, 4,097, with which the way from the root to a node is told.
+    pub path: Vec<u32>,
     /// A multiplier for each row of the side with more rows.
     pub multipliers: Vec<u64>,
     /// The choice of the certificate that was read last.
@@ -16,8 +18,7 @@ pub struct Room {
 }
 
 fn most_vars(p: &Programme) -> usize
-    ensures off { length p.now.off.vars.items ≤ result }
-    ensures on { IfSome p.now.on (λ s. length s.vars.items ≤ result) }
+    ensures { result ≡ most_of (length p.now.off.vars.items) (option_map (λ s. length s.vars.items) p.now.on) }
 {
     match &p.on {
         Some(side) => side.vars.len().max(p.off.vars.len()),
@@ -26,8 +27,7 @@ fn most_vars(p: &Programme) -> usize
 }
 
 fn most_rows(p: &Programme) -> usize
-    ensures off { length p.now.off.rows.items ≤ result }
-    ensures on { IfSome p.now.on (λ s. length s.rows.items ≤ result) }
+    ensures { result ≡ most_of (length p.now.off.rows.items) (option_map (λ s. length s.rows.items) p.now.on) }
 {
     match &p.on {
         Some(side) => side.rows.len().max(p.off.rows.len()),
@@ -51,18 +51,29 @@ fn numbers_of(alloc: Global, count: usize) -> Result<Vec<u64>, AllocError>
     Ok(numbers)
 }
 
+fn steps_of(alloc: Global, count: usize) -> Result<Vec<u32>, AllocError>
+    ensures { IfOk result (λ v. length v.items ≡ count) }
+{
+    let mut steps = Vec::new(alloc);
+    steps.resize(count, 0)?;
+    Ok(steps)
+}
+
 impl Room {
     /// Takes the room for a programme: all the memory that its checks use.
     pub fn new(alloc: Global, p: &Programme) -> Result<Room, AllocError>
-        ensures { IfOk result (λ room. RoomFits p.now room) }
+        ensures fits { IfOk result (λ room. RoomFits p.now room) }
+        ensures exact { IfOk result (λ room. IsRoomOf p.now room) }
     {
         let vars = most_vars(p);
         let marks = bytes_of(alloc, vars)?;
+        let path = steps_of(alloc, 4097)?;
         let multipliers = numbers_of(alloc, most_rows(p))?;
         let take = Vec::with_capacity(alloc, vars)?;
         let choice = Choice { on: false, take };
         Ok(Room {
             marks,
+            path,
             multipliers,
             choice,
         })

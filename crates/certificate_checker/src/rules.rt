@@ -9,7 +9,7 @@ use crate::trees::Tree;
 use placement_programme::Side;
 
 /// Whether a branch fixes a variable that is free.
-pub(crate) fn branch_holds(side: &Side, marks: &[u8], number: u32) -> bool
+pub fn branch_holds(side: &Side, marks: &[u8], number: u32) -> bool
     requires { length (plain_side side.now).vars ≤ length marks.now }
     ensures { IsTrue result ↔ BranchHolds (plain_side side.now) marks.now number }
 {
@@ -52,8 +52,8 @@ pub(crate) fn leaf_holds(side: &Side, best: u128, marks: &[u8]) -> bool
     total <= best + side.fixed
 }
 
-/// Whether a node keeps its own rule.
-pub(crate) fn keeps_rule(side: &Side, best: u128, marks: &[u8], tree: &Tree) -> bool
+/// Whether a node keeps its own rule under these marks, with nothing said of those below it; `best` has the fixed cost taken off.
+pub fn keeps_rule(side: &Side, best: u128, marks: &[u8], tree: &Tree) -> bool
     requires best { best ≤ 2 ^ 104 }
     requires marked { length (plain_side side.now).vars ≤ length marks.now }
     ensures { IsTrue result ↔ KeepsRule (plain_side side.now) best marks.now (plain_tree tree.now) }

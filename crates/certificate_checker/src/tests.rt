@@ -98,12 +98,8 @@ fn needs_every_byte(rt: HostRuntime) -> Result<(), Fail> {
     Ok(())
 }
 
-#[test]
-fn tells_faults(rt: HostRuntime) -> Result<(), Fail> {
-    let alloc = rt.alloc();
-    let mut bytes = WHOLE.to_vec(alloc)?;
-    bytes.push(0)?;
-    assert_eq!(rt; answer(alloc, &bytes), Err(CertFault::Trailing { at: 26 }));
+/// A text whose tree is 4,098 branches deep, each by variable 0: its node at depth 4,097 stands at 8,202.
+fn deep_text(alloc: Global) -> Result<Vec<u8>, AllocError> {
     let mut deep = WHOLE[..6].to_vec(alloc)?;
     deep.push(0)?;
     deep.push(1)?;
@@ -111,6 +107,16 @@ fn tells_faults(rt: HostRuntime) -> Result<(), Fail> {
         deep.push(0)?;
         deep.push(0)?;
     }
+    Ok(deep)
+}
+
+#[test]
+fn tells_faults(rt: HostRuntime) -> Result<(), Fail> {
+    let alloc = rt.alloc();
+    let mut bytes = WHOLE.to_vec(alloc)?;
+    bytes.push(0)?;
+    assert_eq!(rt; answer(alloc, &bytes), Err(CertFault::Trailing { at: 26 }));
+    let deep = deep_text(alloc)?;
     assert_eq!(rt; answer(alloc, &deep), Err(CertFault::TooDeep { at: 8202 }));
     let long = [0x53, 0x50, 0x43, 0x31, 0, 0, 0x80, 0];
     assert_eq!(rt; answer(alloc, &long), Err(CertFault::BadHead { at: 6 }));
@@ -132,17 +138,48 @@ fn checks_texts_in_one_room(rt: HostRuntime) -> Result<(), Fail> {
     let alloc = rt.alloc();
     let p = programme(alloc)?.expect(&rt, "a side within the bounds");
     let mut room = Room::new(alloc, &p)?;
+    for length in 0..26u32 {
+        let cut = Err(CertFault::Truncated { at: length });
+        let part = &WHOLE[..length as usize];
+        assert_eq!(rt; check_text(&p, part, &mut room), cut);
+    }
+    let mut bytes = WHOLE.to_vec(alloc)?;
+    bytes.push(0)?;
+    let trailing = Err(CertFault::Trailing { at: 26 });
+    assert_eq!(rt; check_text(&p, &bytes, &mut room), trailing);
+    let deep = deep_text(alloc)?;
+    let too_deep = Err(CertFault::TooDeep { at: 8202 });
+    assert_eq!(rt; check_text(&p, &deep, &mut room), too_deep);
+    assert_eq!(rt; check_text(&p, &WHOLE, &mut room), Ok(Verdict::Optimal));
+    assert!(rt; room.choice.take[..] == [1, 2]);
+    Ok(())
+}
+
+#[test]
+fn tells_failing_nodes_in_one_room(rt: HostRuntime) -> Result<(), Fail> {
+    let alloc = rt.alloc();
+    let p = programme(alloc)?.expect(&rt, "a side within the bounds");
+    let mut room = Room::new(alloc, &p)?;
+    let mut other = WHOLE;
+    other[16] = 3;
     let wrong = Verdict::Wrong {
         side: 0,
         node: 1,
         depth: 1,
     };
-    let mut other = WHOLE;
-    other[16] = 3;
     assert_eq!(rt; check_text(&p, &other, &mut room), Ok(wrong));
     let cut = Err(CertFault::Truncated { at: 25 });
     assert_eq!(rt; check_text(&p, &other[..25], &mut room), cut);
+    let root = [0x53, 0x50, 0x43, 0x31, 1, 0, 2, 1, 2, 1, 2, 1, 0];
+    let at_root = Verdict::Wrong {
+        side: 0,
+        node: 0,
+        depth: 0,
+    };
+    assert_eq!(rt; check_text(&p, &root, &mut room), Ok(at_root));
     assert_eq!(rt; check_text(&p, &WHOLE, &mut room), Ok(Verdict::Optimal));
-    assert!(rt; room.choice.take[..] == [1, 2]);
+    let best = [0x53, 0x50, 0x43, 0x31, 0, 0, 1, 0];
+    assert_eq!(rt; check_text(&p, &best, &mut room), Ok(Verdict::BestFound));
+    assert!(rt; room.choice.take[..] == [0]);
     Ok(())
 }

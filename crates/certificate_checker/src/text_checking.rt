@@ -2,7 +2,7 @@ ghost use Rattle.std.specs.Prelude.{◌≡◌, ◌^◌, ◌≤◌, length, IfSom
 ghost use Rattle.placement_programme.specs.Views.{plain_side, plain_programme, plain_choice};
 ghost use Rattle.placement_programme.specs.Programme.{side_for};
 ghost use Rattle.certificate_checker.specs.Reading.{choice_at, body_at, certificate_of};
-ghost use Rattle.certificate_checker.specs.Rooms.{vars_of, Chooses, BodyAnswers, RoomFits, used, verdict_for};
+ghost use Rattle.certificate_checker.specs.Rooms.{vars_of, Chooses, BodyAnswers, RoomFits, HasSameRoom, used, verdict_for};
 ghost use Rattle.certificate_checker.specs.Views.{plain_verdict};
 
 use crate::checking::accepted;
@@ -95,11 +95,13 @@ fn used(best: Option<u128>) -> u128
 fn check_body(
     p: &Programme,
     marks: &mut [u8],
+    path: &mut [u32],
     multipliers: &mut [u64],
     choice: &mut Choice,
     total: usize,
     bytes: &[u8],
 ) -> Result<Verdict, CertFault>
+    requires path { 4097 ≤ length path.old }
     requires off_marked { length (plain_side p.now.off).vars ≤ length marks.old }
     requires off_room { length (plain_side p.now.off).rows ≤ length multipliers.old }
     requires off_take { length p.now.off.vars.items ≤ vec_capacity choice.old.take }
@@ -112,7 +114,7 @@ fn check_body(
     let (optimal, rest) = flag(total, bytes)?;
     let (best, rest) = take_choice(p, choice, total, rest)?;
     let gain = used(best);
-    let (trees, rest) = text_trees(p, gain, optimal, marks, multipliers, total, rest)?;
+    let (trees, rest) = text_trees(p, gain, optimal, marks, path, multipliers, total, rest)?;
     if rest.is_empty() {
         Ok(verdict_of(best, optimal, trees))
     } else {
@@ -126,10 +128,12 @@ fn check_body(
 fn check_whole(
     p: &Programme,
     marks: &mut [u8],
+    path: &mut [u32],
     multipliers: &mut [u64],
     choice: &mut Choice,
     bytes: &[u8],
 ) -> Result<Verdict, CertFault>
+    requires path { 4097 ≤ length path.old }
     requires off_marked { length (plain_side p.now.off).vars ≤ length marks.old }
     requires off_room { length (plain_side p.now.off).rows ≤ length multipliers.old }
     requires off_take { length p.now.off.vars.items ≤ vec_capacity choice.old.take }
@@ -141,7 +145,7 @@ fn check_whole(
 {
     match mark(bytes.len(), bytes) {
         Err(fault) => Err(fault),
-        Ok(rest) => check_body(p, marks, multipliers, choice, bytes.len(), rest),
+        Ok(rest) => check_body(p, marks, path, multipliers, choice, bytes.len(), rest),
     }
 }
 
@@ -153,10 +157,12 @@ pub fn check_text(p: &Programme, bytes: &[u8], room: &mut Room) -> Result<Verdic
     requires { RoomFits p.now room.old }
     ensures answers { BodyAnswers (plain_programme p.now) (plain_choice room.new.choice) result (certificate_of bytes.now) }
     ensures fits { RoomFits p.now room.new }
+    ensures same { HasSameRoom room.old room.new }
 {
     check_whole(
         p,
         &mut room.marks,
+        &mut room.path,
         &mut room.multipliers,
         &mut room.choice,
         bytes,

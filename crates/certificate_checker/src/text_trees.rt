@@ -30,11 +30,13 @@ fn side_tree<'a>(
     side: &Side,
     best: u128,
     marks: &mut [u8],
+    path: &mut [u32],
     multipliers: &mut [u64],
     total: usize,
     bytes: &'a [u8],
 ) -> Result<(Result<(), Failing>, &'a [u8]), CertFault>
     requires best { best ≤ 2 ^ 104 }
+    requires path { 4097 ≤ length path.old }
     requires marked { length (plain_side side.now).vars ≤ length marks.old }
     requires room { length (plain_side side.now).rows ≤ length multipliers.old }
     ensures { SideRead (Some (plain_side side.now)) best result (tree_at total most_levels bytes.now) }
@@ -42,7 +44,7 @@ fn side_tree<'a>(
     let free = &mut marks[..var_count(side)];
     free.fill(2);
     let task = Task { side, best, total };
-    match walk_text(&task, free, multipliers, 4097, 0, 0, bytes) {
+    match walk_text(&task, free, path, multipliers, 4097, bytes) {
         Err(fault) => Err(fault),
         Ok((Ok(_), rest)) => Ok((Ok(()), rest)),
         Ok((Err(failing), rest)) => Ok((Err(failing), rest)),
@@ -54,11 +56,13 @@ fn on_tree<'a>(
     p: &Programme,
     best: u128,
     marks: &mut [u8],
+    path: &mut [u32],
     multipliers: &mut [u64],
     total: usize,
     bytes: &'a [u8],
 ) -> Result<(Result<(), Failing>, &'a [u8]), CertFault>
     requires best { best ≤ 2 ^ 104 }
+    requires path { 4097 ≤ length path.old }
     requires off_marked { length (plain_side p.now.off).vars ≤ length marks.old }
     requires off_room { length (plain_side p.now.off).rows ≤ length multipliers.old }
     requires on_marked { IfSome p.now.on (λ side. length (plain_side side).vars ≤ length marks.old) }
@@ -66,8 +70,8 @@ fn on_tree<'a>(
     ensures { SideRead (option_map plain_side p.now.on) best result (tree_at total most_levels bytes.now) }
 {
     match &p.on {
-        Some(side) => side_tree(side, best, marks, multipliers, total, bytes),
-        None => match side_tree(&p.off, best, marks, multipliers, total, bytes) {
+        Some(side) => side_tree(side, best, marks, path, multipliers, total, bytes),
+        None => match side_tree(&p.off, best, marks, path, multipliers, total, bytes) {
             Err(fault) => Err(fault),
             Ok((_, rest)) => Ok((Err(Failing { node: 0, depth: 0 }), rest)),
         },
@@ -90,11 +94,13 @@ fn claimed_trees<'a>(
     p: &Programme,
     best: u128,
     marks: &mut [u8],
+    path: &mut [u32],
     multipliers: &mut [u64],
     total: usize,
     bytes: &'a [u8],
 ) -> Result<(Outcomes, &'a [u8]), CertFault>
     requires best { best ≤ 2 ^ 104 }
+    requires path { 4097 ≤ length path.old }
     requires off_marked { length (plain_side p.now.off).vars ≤ length marks.old }
     requires off_room { length (plain_side p.now.off).rows ≤ length multipliers.old }
     requires on_marked { IfSome p.now.on (λ side. length (plain_side side).vars ≤ length marks.old) }
@@ -102,12 +108,12 @@ fn claimed_trees<'a>(
     ensures { TreesRead (plain_programme p.now) best result (trees_at total bytes.now) }
 {
     let (count, rest) = number_in(Part::Head, 1, 2, total, bytes)?;
-    let (off, rest) = side_tree(&p.off, best, marks, multipliers, total, rest)?;
+    let (off, rest) = side_tree(&p.off, best, marks, path, multipliers, total, rest)?;
     if count == 1 {
         let on = no_on_tree(p);
         return Ok((Outcomes { off, on }, rest));
     }
-    let (on, rest) = on_tree(p, best, marks, multipliers, total, rest)?;
+    let (on, rest) = on_tree(p, best, marks, path, multipliers, total, rest)?;
     Ok((Outcomes { off, on }, rest))
 }
 
@@ -117,11 +123,13 @@ pub(crate) fn text_trees<'a>(
     best: u128,
     optimal: bool,
     marks: &mut [u8],
+    path: &mut [u32],
     multipliers: &mut [u64],
     total: usize,
     bytes: &'a [u8],
 ) -> Result<(Outcomes, &'a [u8]), CertFault>
     requires best { best ≤ 2 ^ 104 }
+    requires path { 4097 ≤ length path.old }
     requires off_marked { length (plain_side p.now.off).vars ≤ length marks.old }
     requires off_room { length (plain_side p.now.off).rows ≤ length multipliers.old }
     requires on_marked { IfSome p.now.on (λ side. length (plain_side side).vars ≤ length marks.old) }
@@ -129,7 +137,7 @@ pub(crate) fn text_trees<'a>(
     ensures { TreesRead (plain_programme p.now) best result (trees_for optimal total bytes.now) }
 {
     if optimal {
-        claimed_trees(p, best, marks, multipliers, total, bytes)
+        claimed_trees(p, best, marks, path, multipliers, total, bytes)
     } else {
         let off = first_node();
         let on = no_on_tree(p);

@@ -1,11 +1,13 @@
-ghost use Rattle.std.specs.Prelude.{◌≡◌, ℕ, suc, ◌+◌, ◌^◌, ◌<◌, ◌≤◌, ◌↔◌, IsTrue, List, [], ◌∷◌, length, IfOk, OnOk};
+ghost use Rattle.std.specs.Prelude.{◌≡◌, ℕ, suc, ◌+◌, ◌^◌, ◌<◌, ◌≤◌, ◌↔◌, IsTrue, false, List, [], ◌∷◌, length, IfOk};
 ghost use Rattle.placement_programme.specs.Plain.{PlainSide};
 ghost use Rattle.placement_programme.specs.Views.{plain_side};
 ghost use Rattle.certificate_checker.specs.Nodes.{PlainTree};
 ghost use Rattle.certificate_checker.specs.Rules.{KeepsRule, DualHolds};
+ghost use Rattle.certificate_checker.specs.Shows.{all_free};
 ghost use Rattle.certificate_checker.specs.Walks.{Walks};
 ghost use Rattle.certificate_checker.specs.Reading.{over_at, dual_at, tree_at};
 ghost use Rattle.certificate_checker.specs.Loading.{IsLoaded, IsSingle, SplitsFirst, WalksRead, behind_of, both_of};
+ghost use Rattle.certificate_checker.specs.Ways.{text_of, IsBefore, Stands, Advances, CanAdvance, left};
 
 use crate::columns::row_count;
 use crate::duals::sums_hold;
@@ -15,6 +17,7 @@ use crate::loading::{Loaded, load_entries};
 use crate::multipliers::Multipliers;
 use crate::reading::below_all;
 use crate::rules::{branch_holds, leaf_holds, over_holds};
+use crate::steps::{Progress, enter, is_done, leave};
 use crate::walking::{Failing, next_number};
 use placement_programme::Side;
 
@@ -159,64 +162,150 @@ fn first_byte(total: usize, bytes: &[u8]) -> Result<(u8, &[u8]), CertFault>
     }
 }
 
-/// Walks over the variable and the children of a branch. Children of one that fails are read, and nothing else.
-#[cycle(walk_text)]
-fn walk_branch<'a>(
+/// Reads a branch's variable, and steps to its child for zero.
+fn read_branch<'a>(
     task: &Task,
     marks: &mut [u8],
-    multipliers: &mut [u64],
-    levels: u32,
-    node: u32,
-    depth: u32,
+    path: &mut [u32],
+    progress: Progress,
     bytes: &'a [u8],
-) -> Result<Walked<'a>, CertFault>
-    requires best { task.now.best ≤ 2 ^ 104 }
+) -> Result<(Progress, &'a [u8]), CertFault>
     requires marked { length (plain_side task.now.side.now).vars ≤ length marks.old }
-    requires room { length (plain_side task.now.side.now).rows ≤ length multipliers.old }
-    ensures walks { WalksRead (plain_side task.now.side.now) task.now.best marks.old node depth result (tree_at task.now.total (suc levels) (0 ∷ bytes.now)) }
-    ensures kept { IfOk result (λ x. OnOk x.0 (marks.new ≡ marks.old)) }
+    requires inside { progress.depth < length path.old }
+    requires depth { progress.depth < 2 ^ 31 }
+    ensures reads { (levels : ℕ) (all : List ℕ) → progress.depth < levels
+        → IsBefore (text_of (plain_side task.now.side.now) task.now.best task.now.total levels all) path.old marks.old progress.depth progress.so_far (0 ∷ bytes.now)
+        → Advances (text_of (plain_side task.now.side.now) task.now.best task.now.total levels all) path.new marks.new result }
+    ensures left { IfOk result (λ r. left r.0 r.1.now < left progress (0 ∷ bytes.now)) }
+    ensures depth { (levels : ℕ) → progress.depth < levels → IfOk result (λ r. r.0.depth ≤ levels) }
 {
     let (var, rest) = small_number(Part::Node, 0, task.total, bytes)?;
-    let next = next_number(node);
-    let below = next_number(depth);
-    if !branch_holds(task.side, marks, var) {
-        let (_, rest) = walk_text(task, marks, multipliers, levels, next, below, rest)?;
-        let (_, rest) = walk_text(task, marks, multipliers, levels, next, below, rest)?;
-        return Ok((Err(Failing { node, depth }), rest));
-    }
-    let old = marks[var as usize];
-    marks[var as usize] = 0;
-    let (first, rest) = walk_text(task, marks, multipliers, levels, next, below, rest)?;
-    marks[var as usize] = 1;
-    let middle = number_behind(&first);
-    let (second, rest) = walk_text(task, marks, multipliers, levels, middle, below, rest)?;
-    marks[var as usize] = old;
-    Ok((both(first, second), rest))
+    let depth = progress.depth;
+    let so_far = enter(task.side, marks, path, depth, var, progress.so_far);
+    let entered = Progress {
+        depth: depth + 1,
+        ended: false,
+        so_far,
+    };
+    Ok((entered, rest))
 }
 
-/// Walks over a tree of at most `levels` levels as it is read.
-#[cycle(walk_text)]
-pub(crate) fn walk_text<'a>(
+/// Reads a node that isn't a branch.
+fn read_single<'a>(
+    task: &Task,
+    marks: &[u8],
+    path: &[u32],
+    multipliers: &mut [u64],
+    progress: Progress,
+    bytes: &'a [u8],
+) -> Result<(Progress, &'a [u8]), CertFault>
+    requires best { task.now.best ≤ 2 ^ 104 }
+    requires marked { length (plain_side task.now.side.now).vars ≤ length marks.now }
+    requires room { length (plain_side task.now.side.now).rows ≤ length multipliers.old }
+    requires tag { (rest : List ℕ) → bytes.now ≡ 0 ∷ rest → ⊥ }
+    ensures reads { (levels : ℕ) (all : List ℕ) → progress.depth < levels
+        → IsBefore (text_of (plain_side task.now.side.now) task.now.best task.now.total levels all) path.now marks.now progress.depth progress.so_far bytes.now
+        → Advances (text_of (plain_side task.now.side.now) task.now.best task.now.total levels all) path.now marks.now result }
+    ensures left { progress.ended ≡ false → IfOk result (λ r. left r.0 r.1.now < left progress bytes.now) }
+    ensures depth { (levels : ℕ) → progress.depth < levels → IfOk result (λ r. r.0.depth ≤ levels) }
+{
+    let depth = progress.depth;
+    let node = number_behind(&progress.so_far);
+    let (answer, rest) = walk_single(task, marks, multipliers, node, depth, bytes)?;
+    let so_far = both(progress.so_far, answer);
+    let behind = Progress {
+        depth,
+        ended: true,
+        so_far,
+    };
+    Ok((behind, rest))
+}
+
+/// Reads the next node of a tree of at most `levels` levels.
+fn read_node<'a>(
     task: &Task,
     marks: &mut [u8],
+    path: &mut [u32],
     multipliers: &mut [u64],
     levels: u32,
-    node: u32,
-    depth: u32,
+    progress: Progress,
     bytes: &'a [u8],
-) -> Result<Walked<'a>, CertFault>
+) -> Result<(Progress, &'a [u8]), CertFault>
     requires best { task.now.best ≤ 2 ^ 104 }
     requires marked { length (plain_side task.now.side.now).vars ≤ length marks.old }
     requires room { length (plain_side task.now.side.now).rows ≤ length multipliers.old }
-    ensures walks { WalksRead (plain_side task.now.side.now) task.now.best marks.old node depth result (tree_at task.now.total levels bytes.now) }
-    ensures kept { IfOk result (λ x. OnOk x.0 (marks.new ≡ marks.old)) }
+    requires levels { levels < 2 ^ 31 }
+    requires inside { levels ≤ length path.old }
+    requires depth { progress.depth ≤ levels }
+    ensures reads { (all : List ℕ) → IsBefore (text_of (plain_side task.now.side.now) task.now.best task.now.total levels all) path.old marks.old progress.depth progress.so_far bytes.now
+        → Advances (text_of (plain_side task.now.side.now) task.now.best task.now.total levels all) path.new marks.new result }
+    ensures left { progress.ended ≡ false → IfOk result (λ r. left r.0 r.1.now < left progress bytes.now) }
+    ensures depth { IfOk result (λ r. r.0.depth ≤ levels) }
 {
     let (tag, rest) = first_byte(task.total, bytes)?;
-    if levels == 0 {
+    if progress.depth == levels {
         return Err(below_all(task.total, bytes, tag));
     }
     if tag == 0 {
-        return walk_branch(task, marks, multipliers, levels - 1, node, depth, rest);
+        return read_branch(task, marks, path, progress, rest);
     }
-    walk_single(task, marks, multipliers, node, depth, bytes)
+    read_single(task, marks, path, multipliers, progress, bytes)
+}
+
+/// One step forward: the next node is read, or the tree that was read is left.
+fn advance<'a>(
+    task: &Task,
+    marks: &mut [u8],
+    path: &mut [u32],
+    multipliers: &mut [u64],
+    levels: u32,
+    progress: Progress,
+    bytes: &'a [u8],
+) -> Result<(Progress, &'a [u8]), CertFault>
+    requires best { task.now.best ≤ 2 ^ 104 }
+    requires marked { length (plain_side task.now.side.now).vars ≤ length marks.old }
+    requires room { length (plain_side task.now.side.now).rows ≤ length multipliers.old }
+    requires levels { levels < 2 ^ 31 }
+    requires inside { levels ≤ length path.old }
+    requires depth { progress.depth ≤ levels }
+    requires step { CanAdvance path.old marks.old progress }
+    ensures reads { (all : List ℕ) → Stands (text_of (plain_side task.now.side.now) task.now.best task.now.total levels all) path.old marks.old progress bytes.now
+        → Advances (text_of (plain_side task.now.side.now) task.now.best task.now.total levels all) path.new marks.new result }
+    ensures left { IfOk result (λ r. left r.0 r.1.now < left progress bytes.now) }
+    ensures depth { IfOk result (λ r. r.0.depth ≤ levels) }
+{
+    if progress.ended {
+        return Ok((leave(marks, path, progress), bytes));
+    }
+    read_node(task, marks, path, multipliers, levels, progress, bytes)
+}
+
+/// Walks over a tree of at most `levels` levels as it is read, with the steps to the present node in `path`.
+pub(crate) fn walk_text<'a>(
+    task: &Task,
+    marks: &mut [u8],
+    path: &mut [u32],
+    multipliers: &mut [u64],
+    levels: u32,
+    bytes: &'a [u8],
+) -> Result<Walked<'a>, CertFault>
+    requires best { task.now.best ≤ 2 ^ 104 }
+    requires free { marks.old ≡ all_free (plain_side task.now.side.now) }
+    requires room { length (plain_side task.now.side.now).rows ≤ length multipliers.old }
+    requires levels { levels < 2 ^ 31 }
+    requires inside { levels ≤ length path.old }
+    ensures { WalksRead (plain_side task.now.side.now) task.now.best (all_free (plain_side task.now.side.now)) 0 0 result (tree_at task.now.total levels bytes.now) }
+{
+    let mut progress = Progress {
+        depth: 0,
+        ended: false,
+        so_far: Ok(0),
+    };
+    let mut rest = bytes;
+    while !is_done(&progress) {
+        let (next, behind) = advance(task, marks, path, multipliers, levels, progress, rest)?;
+        progress = next;
+        rest = behind;
+    }
+    Ok((progress.so_far, rest))
 }

@@ -1,0 +1,166 @@
+-- The way from the root of a tree to a node, while the tree is read from its text.
+use Rattle.std.specs.Prelude.{◌≡◌, ℕ, suc, ◌+◌, ◌-◌, ◌*◌, ◌/◌, ◌%◌, ◌<◌, ◌≤◌, Bool, true, false, if◌then◌else◌, List, [], ◌∷◌, length, slice_index, slice_set, Result, Ok, Err}
+use Rattle.std.specs.Borrow.{Bor}
+use Rattle.placement_programme.specs.Plain.{PlainSide}
+use Rattle.certificate_checker.specs.Nodes.{PlainTree, branch, size}
+use Rattle.certificate_checker.specs.Rules.{BranchHolds, Holds}
+use Rattle.certificate_checker.specs.Shows.{all_free, in_32_bits}
+use Rattle.certificate_checker.specs.Walks.{FailsIn}
+use Rattle.certificate_checker.specs.Reading.{◌>>=◌, tree_at}
+use Rattle.certificate_checker.specs.declared.fault.CertFault.{CertFault}
+use Rattle.certificate_checker.specs.declared.walking.Failing.{Failing}
+use Rattle.certificate_checker.specs.declared.steps.Progress.{Progress}
+
+-- a step from a branch to a child: to that for zero, before that for one is read; or to that for one, behind that for zero.
+-- A way has its last step first
+pub data Step : Type 0 where
+  to_zero : (var : ℕ) → Step
+  to_one : (var : ℕ) (zero_tree : PlainTree) → Step
+
+-- what is fixed at the end of a way
+abbrev pub marks_at : PlainSide → List Step → List ℕ
+marks_at s [] = all_free s
+marks_at s (to_zero j ∷ way) = slice_set (marks_at s way) j 0
+marks_at s (to_one j l ∷ way) = slice_set (marks_at s way) j 1
+
+-- the number of the node at the end of a way, from 0
+abbrev pub node_at : List Step → ℕ
+node_at [] = 0
+node_at (to_zero j ∷ way) = node_at way + 1
+node_at (to_one j l ∷ way) = node_at way + (1 + size l)
+
+-- every node that was read before the end of a way keeps its rule
+abbrev pub HeldBefore : PlainSide → ℕ → List Step → Type 0
+HeldBefore s best [] = Unit {0}
+HeldBefore s best (to_zero j ∷ way) = BranchHolds s (marks_at s way) j × HeldBefore s best way
+HeldBefore s best (to_one j l ∷ way) =
+    BranchHolds s (marks_at s way) j
+    × Holds s best (slice_set (marks_at s way) j 0) l
+    × HeldBefore s best way
+
+-- a whole tree that has the way, and this tree at its end; what is still to be read may be any tree
+abbrev pub Completes : List Step → PlainTree → PlainTree → Type 0
+Completes [] t whole = whole ≡ t
+Completes (to_zero j ∷ way) t whole = (r : PlainTree) × Completes way (branch j t r) whole
+Completes (to_one j l ∷ way) t whole = Completes way (branch j l t) whole
+
+-- what is read of the whole tree, where this is read of the tree at the end of the way
+abbrev pub resumed : ℕ → ℕ → List Step → Result (PlainTree × List ℕ) CertFault → Result (PlainTree × List ℕ) CertFault
+resumed total levels [] read = read
+resumed total levels (to_zero j ∷ way) read =
+    resumed total levels way (read >>= λ first. tree_at total (levels - suc (length way)) first.1 >>= λ second. Ok (branch j first.0 second.0, second.1))
+resumed total levels (to_one j l ∷ way) read =
+    resumed total levels way (read >>= λ second. Ok (branch j l second.0, second.1))
+
+-- a step as a number
+abbrev pub step_number : Step → ℕ
+step_number (to_zero j) = 2 * j
+step_number (to_one j l) = 2 * j + 1
+
+-- the child that a step goes to
+abbrev pub child_of : Step → ℕ
+child_of (to_zero j) = 0
+child_of (to_one j l) = 1
+
+-- the path has the steps of a way, the first at 0
+abbrev pub HasWay : List ℕ → List Step → Type 0
+HasWay path [] = Unit {0}
+HasWay path (step ∷ way) = (slice_index path (length way) ≡ step_number step) × HasWay path way
+
+-- the path tells the child of each step, and maybe another variable
+abbrev pub HasChildren : List ℕ → List Step → Type 0
+HasChildren path [] = Unit {0}
+HasChildren path (step ∷ way) = (slice_index path (length way) % 2 ≡ child_of step) × HasChildren path way
+
+-- all nodes before the end of the way hold
+pub record HoldsSoFar (s : PlainSide) (best : ℕ) (way : List Step) (path marks : List ℕ) (node : ℕ) : Type 0 where
+  pub written : HasWay path way
+  pub fixed : marks ≡ marks_at s way
+  pub number : node ≡ in_32_bits (node_at way)
+  pub held : HeldBefore s best way
+
+-- what is known before the tree at the end of a way is read: all nodes hold, or the first that fails
+abbrev pub SoFar : PlainSide → ℕ → List Step → List ℕ → List ℕ → Result ℕ Failing → Type 0
+SoFar s best way path marks (Ok node) = HoldsSoFar s best way path marks node
+SoFar s best way path marks (Err f) =
+    HasChildren path way × ((t whole : PlainTree) → Completes way t whole → FailsIn s best (all_free s) whole 0 0 f)
+
+-- all nodes of the tree at the end of the way hold too
+pub record HoldsWith (s : PlainSide) (best : ℕ) (way : List Step) (t : PlainTree) (path marks : List ℕ) (next : ℕ) : Type 0 where
+  pub written : HasWay path way
+  pub fixed : marks ≡ marks_at s way
+  pub number : next ≡ in_32_bits (node_at way + size t)
+  pub tree : Holds s best (marks_at s way) t
+  pub held : HeldBefore s best way
+
+-- the same behind that tree
+abbrev pub Behind : PlainSide → ℕ → List Step → PlainTree → List ℕ → List ℕ → Result ℕ Failing → Type 0
+Behind s best way t path marks (Ok next) = HoldsWith s best way t path marks next
+Behind s best way t path marks (Err f) =
+    HasChildren path way × ((whole : PlainTree) → Completes way t whole → FailsIn s best (all_free s) whole 0 0 f)
+
+-- a tree of at most so many levels that is read: `bytes` begin with it, and end a text of `total` bytes
+pub record TreeText : Type 0 where
+  pub side : PlainSide
+  pub best : ℕ
+  pub total : ℕ
+  pub levels : ℕ
+  pub bytes : List ℕ
+
+abbrev pub text_of : PlainSide → ℕ → ℕ → ℕ → List ℕ → TreeText
+text_of s best total levels bytes = record { side = s; best = best; total = total; levels = levels; bytes = bytes }
+
+-- a tree at this depth is to be read from the rest
+pub record IsBefore (x : TreeText) (path marks : List ℕ) (depth : ℕ) (answer : Result ℕ Failing) (rest : List ℕ) : Type 0 where
+  pub way : List Step
+  pub long : length way ≡ depth
+  pub read : resumed x.total x.levels way (tree_at x.total (x.levels - depth) rest) ≡ tree_at x.total x.levels x.bytes
+  pub so_far : SoFar x.side x.best way path marks answer
+
+-- a tree at this depth was read, and the rest stands behind it
+pub record IsBehind (x : TreeText) (path marks : List ℕ) (depth : ℕ) (answer : Result ℕ Failing) (rest : List ℕ) : Type 0 where
+  pub way : List Step
+  pub tree : PlainTree
+  pub long : length way ≡ depth
+  pub read : resumed x.total x.levels way (Ok (tree, rest)) ≡ tree_at x.total x.levels x.bytes
+  pub so_far : Behind x.side x.best way tree path marks answer
+
+abbrev pub StandsAt : TreeText → List ℕ → List ℕ → ℕ → Bool → Result ℕ Failing → List ℕ → Type 0
+StandsAt x path marks depth false answer rest = IsBefore x path marks depth answer rest
+StandsAt x path marks depth true answer rest = IsBehind x path marks depth answer rest
+
+-- how far the walk over the text of a tree has come
+abbrev pub Stands : TreeText → List ℕ → List ℕ → Progress → List ℕ → Type 0
+Stands x path marks progress rest = StandsAt x path marks progress.depth progress.ended progress.so_far rest
+
+-- what one step forward leaves: a place further on, or the text's fault
+abbrev pub Advances : TreeText → List ℕ → List ℕ → Result (Progress × Bor (List ℕ)) CertFault → Type 0
+Advances x path marks (Ok r) = Stands x path marks r.0 r.1.now
+Advances x path marks (Err e) = tree_at x.total x.levels x.bytes ≡ Err e
+
+-- a variable that is to be marked, as long as all nodes hold, is one of the side
+abbrev pub MayMark : List ℕ → ℕ → Result ℕ Failing → Type 0
+MayMark marks j (Ok node) = j < length marks
+MayMark marks j (Err f) = Unit {0}
+
+-- the marks with another mark, as long as all nodes hold
+abbrev pub marked : List ℕ → ℕ → ℕ → Result ℕ Failing → List ℕ
+marked marks j n (Ok node) = slice_set marks j n
+marked marks j n (Err f) = marks
+
+-- the last step of a path can be taken back
+pub record CanRise (path marks : List ℕ) (depth : ℕ) (answer : Result ℕ Failing) : Type 0 where
+  pub some : 1 ≤ depth
+  pub inside : MayMark marks (slice_index path (depth - 1) / 2) answer
+
+abbrev pub IfEnded : Bool → Type 0 → Type 0
+IfEnded false P = Unit {0}
+IfEnded true P = P
+
+-- a step forward can be taken
+abbrev pub CanAdvance : List ℕ → List ℕ → Progress → Type 0
+CanAdvance path marks progress = IfEnded progress.ended (CanRise path marks progress.depth progress.so_far)
+
+-- what is left to do, in units that each step forward uses up
+abbrev pub left : Progress → List ℕ → ℕ
+left progress rest = 4 * length rest + (2 * progress.depth + (if progress.ended then 1 else 0))
