@@ -1,0 +1,4 @@
+pub mod MarkLemmas
+pub mod QueueLemmas
+pub mod SpreadLemmas
+pub mod TestRows

@@ -1,0 +1,52 @@
+-- Marks of words, and of tables of them.
+use Rattle.std.proofs.Common.{◌≡◌, ◌⊎◌, inl, inr, ℕ, zero, suc, ◌<◌, max, min, bit_or, bit_and, sym, ◌∙◌, arith}
+use Rattle.std.specs.Int.{bit_at}
+use Rattle.std.proofs.lemmas.Nat.Bits.{bit_at_or, bit_at_and}
+use Rattle.reach_graph.specs.Reaching.{HasMark}
+
+one_left : (x y : ℕ) → x ≡ 1 → y < 2 → max x y ≡ 1
+one_left x y e below = omega (arith, e, below)
+
+one_right : (x y : ℕ) → y ≡ 1 → x < 2 → max x y ≡ 1
+one_right x y e below = omega (arith, e, below)
+
+one_of : (x y : ℕ) → max x y ≡ 1 → (x ≡ 1) ⊎ (y ≡ 1)
+one_of zero y e = inr (omega (arith, e))
+one_of (suc x) zero e = inl (omega (arith, e))
+one_of (suc x) (suc y) e = inl (omega (arith, e))
+
+both_one : (x y : ℕ) → x ≡ 1 → y ≡ 1 → min x y ≡ 1
+both_one x y e f = omega (arith, e, f)
+
+first_one : (x y : ℕ) → min x y ≡ 1 → x < 2 → x ≡ 1
+first_one x y e below = omega (arith, e, below)
+
+second_one : (x y : ℕ) → min x y ≡ 1 → y < 2 → y ≡ 1
+second_one x y e below = omega (arith, e, below)
+
+bit_small : (n k : ℕ) → bit_at n k < 2
+bit_small n k = omega arith
+
+-- ---- marks of two words together, and of both
+
+pub or_left : (a b k : ℕ) → HasMark a k → HasMark (bit_or a b) k
+or_left a b k has = bit_at_or a b k ∙ one_left (bit_at a k) (bit_at b k) has (bit_small b k)
+
+pub or_right : (a b k : ℕ) → HasMark b k → HasMark (bit_or a b) k
+or_right a b k has = bit_at_or a b k ∙ one_right (bit_at a k) (bit_at b k) has (bit_small a k)
+
+pub or_cases : (a b k : ℕ) → HasMark (bit_or a b) k → HasMark a k ⊎ HasMark b k
+or_cases a b k has = one_of (bit_at a k) (bit_at b k) (sym (bit_at_or a b k) ∙ has)
+
+pub and_both : (a b k : ℕ) → HasMark a k → HasMark b k → HasMark (bit_and a b) k
+and_both a b k one other = bit_at_and a b k ∙ both_one (bit_at a k) (bit_at b k) one other
+
+pub and_first : (a b k : ℕ) → HasMark (bit_and a b) k → HasMark a k
+and_first a b k has = first_one (bit_at a k) (bit_at b k) (sym (bit_at_and a b k) ∙ has) (bit_small a k)
+
+pub and_second : (a b k : ℕ) → HasMark (bit_and a b) k → HasMark b k
+and_second a b k has = second_one (bit_at a k) (bit_at b k) (sym (bit_at_and a b k) ∙ has) (bit_small b k)
+
+-- 0 has no mark
+pub none_in_zero : (k : ℕ) → HasMark 0 k → ⊥
+none_in_zero k has = absurd (omega (arith, has))
