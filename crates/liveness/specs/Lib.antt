@@ -1,0 +1,10 @@
+pub use Rattle.rv_decode.specs.Acts
+pub use Rattle.rv_decode.specs.RegSet
+pub use Rattle.code_blocks.specs.Edges
+pub use Rattle.code_blocks.specs.Numbers
+pub use Rattle.reach_graph.specs.Reaching
+pub mod Live
+pub mod Summaries
+pub mod Flows
+pub mod Marks
+pub mod Tables

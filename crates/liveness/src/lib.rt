@@ -1,0 +1,16 @@
+//! Which registers are live where the blocks of a program begin: those that some path of units from there uses before
+//! it defines them.
+#![tactic(auto)]
+
+mod arrows;
+mod flow;
+mod living;
+mod registers;
+mod summaries;
+mod table;
+
+pub use living::live;
+pub use table::LiveTable;
+
+#[cfg(test)]
+mod tests;

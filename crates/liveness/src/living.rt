@@ -1,0 +1,65 @@
+ghost use Rattle.std.specs.Prelude.{◌≡◌, ◌+◌, length, IfOk};
+ghost use Rattle.std.specs.List.Sorted.{IsStrictlyIncreasing};
+ghost use Rattle.reach_graph.specs.Reaching.{plain_rows};
+ghost use Rattle.code_blocks.specs.Numbers.{starts_of};
+ghost use Rattle.liveness.specs.Flows.{HasNone};
+ghost use Rattle.liveness.specs.Tables.{IsTableOf};
+
+use crate::flow::find_live;
+use crate::table::LiveTable;
+use code_blocks::Code;
+use reach_graph::Arrow;
+use std::alloc::{AllocError, Global};
+
+/// The registers that are live where each block of a program begins: those that some path of units from there, along
+/// direct and indirect edges, uses before it defines them.
+///
+/// It fails only where no memory was left, which is always so of 2 ^ 32 blocks. The time grows with the number of
+/// units, blocks and edges.
+pub fn live(alloc: Global, code: &Code) -> Result<LiveTable, AllocError>
+    requires { IsStrictlyIncreasing (starts_of code.now) }
+    ensures { IfOk result (IsTableOf code.now) }
+{
+    let hub = hub_of(code)?;
+    let mut rows = no_arrows(alloc, hub)?;
+    let mut live = vec![in alloc; 0; hub as usize + 1]?;
+    find_live(alloc, code, hub, &mut rows, &mut live)?;
+    Ok(LiveTable {
+        leaders: leaders_of(alloc, code)?,
+        live,
+    })
+}
+
+/// The number of the node of the indirect jumps: that of the blocks.
+fn hub_of(code: &Code) -> Result<u32, AllocError>
+    ensures { IfOk result (λ hub. hub ≡ length code.now.blocks.items) }
+{
+    match u32::try_from(code.blocks.len()) {
+        Ok(hub) => Ok(hub),
+        Err(_) => Err(AllocError),
+    }
+}
+
+/// A row without arrows for each block and one for the indirect jumps.
+fn no_arrows(alloc: Global, hub: u32) -> Result<Vec<Vec<Arrow>>, AllocError>
+    ensures size { IfOk result (λ rows. length rows.items ≡ hub + 1) }
+    ensures bare { IfOk result (λ rows. HasNone (plain_rows rows.items)) }
+{
+    let nodes = hub as usize + 1;
+    let mut rows = Vec::new(alloc);
+    for _ in 0..nodes {
+        rows.push(Vec::new(alloc))?;
+    }
+    Ok(rows)
+}
+
+/// Where the blocks begin.
+fn leaders_of(alloc: Global, code: &Code) -> Result<Vec<u32>, AllocError>
+    ensures { IfOk result (λ leaders. leaders.items ≡ starts_of code.now) }
+{
+    let mut leaders = Vec::new(alloc);
+    for block in &code.blocks {
+        leaders.push(block.start)?;
+    }
+    Ok(leaders)
+}
