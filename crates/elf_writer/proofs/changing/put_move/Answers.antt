@@ -1,0 +1,12 @@
+use Rattle.std.proofs.Common.{ap, ◌∙◌, ◌+◌, [], ◌∷◌, sym}
+use Rattle.workload_gen.specs.Pieces.{half_bytes, word_bytes}
+use Rattle.elf_writer.specs.Changes.{Change, changed}
+use Rattle.elf_writer.proofs.ChangeLemmas.{changed-cons}
+use Rattle.elf_writer.proofs.changing.put_move.Goals as goal
+
+pub returns : goal.returns
+returns c =
+    let value : Change = record { place = c.args.symbol.now.at + 4; content = word_bytes c.args.value } in
+    let section : Change = record { place = c.args.symbol.now.at + 14; content = half_bytes 65521 } in
+    c.put_half.ensures
+    ∙ (ap (changed (section ∷ []) 0) c.put_word.ensures ∙ sym (changed-cons value (section ∷ []) 0 c.args.out.now))

@@ -1,0 +1,10 @@
+use Rattle.std.proofs.Common.{◌≡◌, ℕ, ◌+◌, List, map, length, drop}
+use Rattle.elf_reader.specs.File.{plain_symbol}
+use Rattle.elf_writer.specs.Changes.{changed}
+use Rattle.elf_writer.specs.Parts.{moves_changes}
+use Rattle.elf_writer.proofs.changing.put_moves.Given as goal
+
+abbrev pub invariant-loop-change : goal.invariant-loop-change
+invariant-loop-change l =
+    changed (moves_changes (map plain_symbol l.symbols) (drop l.change-index l.moves)) 0 l.out
+    ≡ changed (moves_changes (map plain_symbol l.symbols) l.moves) 0 l.fn.out
