@@ -1,0 +1,8 @@
+pub mod Copies
+pub mod Lines
+pub mod Turns
+pub mod JobLemmas
+pub mod WordLemmas
+pub mod Starting
+pub mod ByteLemmas
+pub mod Examples

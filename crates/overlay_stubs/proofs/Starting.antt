@@ -1,0 +1,156 @@
+-- The start stub as a whole.
+use Rattle.std.proofs.Common.{◌≡◌, ◌⊎◌, inl, inr, ℕ, zero, suc, ◌+◌, ◌*◌, ◌%◌, ◌<◌, ◌≤◌, ◌==◌, Bool, true, false, ◌&&◌, List, [], ◌∷◌, ◌++◌, length, slice_index, refl, sym, ◌∙◌, ap, subst, arith, w32}
+use Rattle.std.specs.Prelude.{All, replicate}
+use Rattle.std.specs.List.{flat_map}
+use Rattle.std.proofs.lemmas.Int.{of_z-to_z}
+use Rattle.std.proofs.lemmas.Grind.{common_steps}
+use Rattle.std.proofs.lemmas.List.{length-append}
+use Rattle.std.proofs.lemmas.Bool.Decides.{nat_tests}
+use Rattle.word_bits.specs.Words.{plus, minus, offset}
+use Rattle.word_bits.specs.Memory.{Memory, put, word_at}
+use Rattle.rv_decode.specs.declared.instructions.Instr.{Instr}
+use Rattle.rv_decode.specs.declared.instructions.Instr.TheVariants.{Jal}
+use Rattle.rv_decode.specs.Acts.{Hart, Registers, acts}
+use Rattle.board_config.specs.declared.board.Range.{Range}
+use Rattle.flat_machine.specs.declared.events.FlatOutcome.TheVariants.{GoesOn}
+use Rattle.flat_machine.specs.Mapping.{is_mapped, can_access}
+use Rattle.flat_machine.specs.State.{State}
+use Rattle.flat_machine.specs.Runs.{Steps}
+use Rattle.flat_machine.proofs.Runs.{steps_joined}
+use Rattle.overlay_stubs.specs.declared.plan.CopyJob.{CopyJob}
+use Rattle.overlay_stubs.specs.Jobs.{copying}
+use Rattle.overlay_stubs.specs.Start.{StartPlan, CanStart, fences, clears, before_jump, start_at, jump_at, distance, start_stub, start_bytes, jobs_run, start_run, all_copied, cleared}
+use Rattle.overlay_stubs.specs.Plans.{MeanAll, AreStartWords}
+use Rattle.overlay_stubs.specs.Laws.{AreMapped, HoldsAt, IsAtStart, started, StartRuns}
+use Rattle.overlay_stubs.proofs.Lines.{with_hart, acted, Line, line_runs, CodeAt, code_front, code_behind, ArePlain, plain_line, plain_pc, plain_mem, plain_append}
+use Rattle.overlay_stubs.proofs.Turns.{accessed}
+use Rattle.overlay_stubs.proofs.JobLemmas.{jobs_done}
+use Rattle.overlay_stubs.proofs.WordLemmas.{mean_count, words_fetched}
+
+-- ---- the end of the stub
+
+ends_plain : (fence : Bool) → ArePlain (fences fence ++ clears)
+ends_plain true = (tt, (tt, (tt, (tt, (tt, tt)))))
+ends_plain false = (tt, (tt, (tt, (tt, tt))))
+
+ends_cleared : (fence : Bool) (h : Hart) → (acted (fences fence ++ clears) h).regs ≡ cleared h.regs
+ends_cleared true h = refl
+ends_cleared false h = refl
+
+ends_count : (fence : Bool) → length (fences fence ++ clears) ≡ length (fences fence) + 4
+ends_count true = refl
+ends_count false = refl
+
+-- registers that differ only where they are cleared
+clears_at : (old new : Registers) → ((k : ℕ) → (k ≡ 5 → ⊥) → (k ≡ 7 → ⊥) → (k ≡ 28 → ⊥) → (k ≡ 31 → ⊥) → new k ≡ old k) → (k : ℕ) → cleared new k ≡ cleared old k
+unfolding put
+clears_at old new same k = grind (arith, nat_tests, same k)
+
+clears_alike : (old new : Registers) → ((k : ℕ) → (k ≡ 5 → ⊥) → (k ≡ 7 → ⊥) → (k ≡ 28 → ⊥) → (k ≡ 31 → ⊥) → new k ≡ old k) → cleared new ≡ cleared old
+clears_alike old new same = λ t k. clears_at old new same k t
+
+-- a jump arrives
+arrives : (at to : ℕ) → at < 4294967296 → to < 4294967296 → offset at (distance at to) ≡ to
+arrives at to small fits =
+    let bound : minus to at < 4294967296 = omega arith in
+    let back = of_z-to_z w32 (minus to at) bound in
+    ap (λ n. (at + n) % 4294967296) back ∙ omega arith
+
+-- ---- the words in memory
+
+behind_control : (n : ℕ) (xs : List ℕ) (k : ℕ) → slice_index (replicate n 0 ++ xs) (n + k) ≡ slice_index xs k
+behind_control zero xs k = ap (slice_index xs) (omega arith)
+behind_control (suc n) xs k =
+    let place : suc n + k ≡ suc (n + k) = omega arith in
+    ap (slice_index (0 ∷ (replicate n 0 ++ xs))) place ∙ behind_control n xs k
+
+module _ (p : StartPlan) (words : List ℕ) (s : State) (can : CanStart p) (are : AreStartWords p words) (here : IsAtStart p words s) where
+  abbrev stub : List ℕ
+  stub = are.0
+
+  counted : length stub ≡ length (start_stub p)
+  counted = mean_count stub (start_stub p) are.1.1
+
+  all_counted : length words ≡ 16 + length stub
+  all_counted = ap (λ (xs : List ℕ). length xs) are.1.0 ∙ omega arith
+
+  stands : (k : ℕ) → k < length stub → word_at s.hart.mem (start_at p + 4 * k) ≡ slice_index stub k
+  stands k below =
+      let count = all_counted in
+      let held = here.words (16 + k) (omega arith) in
+      let place : p.base + 4 * (16 + k) ≡ start_at p + 4 * k = omega arith in
+      subst (λ x. word_at s.hart.mem x ≡ slice_index stub k) place
+      (held ∙ (ap (λ (xs : List ℕ). slice_index xs (16 + k)) are.1.0 ∙ behind_control 16 stub k))
+
+  fetched : (k : ℕ) → k < length stub → can_access s.map (start_at p + 4 * k) 4 ≡ true
+  fetched k below =
+      let count = all_counted in
+      let aligned = can.aligned in
+      let place : p.base + (64 + 4 * k) ≡ start_at p + 4 * k = omega arith in
+      subst (λ x. can_access s.map x 4 ≡ true) place
+      (accessed s.map p.base (4 * length words) 4 (64 + 4 * k) here.fetched (omega arith) (omega arith))
+
+  code : CodeAt s.map s.hart.mem (start_at p) (start_stub p)
+  code = words_fetched stub (start_stub p) s.map s.hart.mem (start_at p) are.1.1 stands fetched
+
+  abbrev tail : List Instr
+  tail = (fences p.fence_i ++ clears) ++ Jal 0 (distance (jump_at p) p.entry) ∷ []
+
+  in_order : start_stub p ≡ flat_map copying p.jobs ++ tail
+  in_order = grind (arith, common_steps)
+
+  pub runs : Steps (start_run p) s (started p s)
+  runs =
+      let order = in_order in
+      let size = ap (λ (is : List Instr). length is) order in
+      let ends_at = can.ends in
+      let whole : CodeAt s.map s.hart.mem (start_at p) (flat_map copying p.jobs ++ tail) =
+      subst (λ is. CodeAt s.map s.hart.mem (start_at p) is) order code in
+      let jobs =
+      jobs_done s here.going p.base (64 + start_bytes p) (omega arith) p.jobs tail (start_at p) s.hart can.jobs here.copied can.spared
+      here.bytes here.pc (omega arith) (omega arith) whole in
+      let h1 : Hart = jobs.0 in
+      let done = jobs.1.1 in
+      let a1 : ℕ = start_at p + 4 * length (flat_map copying p.jobs) in
+      let length_tail = length-append (fences p.fence_i ++ clears) (Jal 0 (distance (jump_at p) p.entry) ∷ []) in
+      let length_all = length-append (flat_map copying p.jobs) tail in
+      let length_before = length-append (flat_map copying p.jobs) (fences p.fence_i ++ clears) in
+      let count_ends = ends_count p.fence_i in
+      let fits : a1 + 4 * length (fences p.fence_i ++ clears) < 4294967296 = omega arith in
+      let plain = ends_plain p.fence_i in
+      let h2 : Hart = acted (fences p.fence_i ++ clears) h1 in
+      let line =
+      plain_line (fences p.fence_i ++ clears) s h1 a1 plain done.pc fits
+      (code_front (fences p.fence_i ++ clears) (Jal 0 (distance (jump_at p) p.entry) ∷ []) s.map h1.mem a1 done.code) in
+      let cleared_run = line_runs (fences p.fence_i ++ clears) s h1 here.going line in
+      let pc_2 : h2.pc ≡ jump_at p = plain_pc (fences p.fence_i ++ clears) s h1 a1 plain done.pc fits ∙ omega arith in
+      let mem_2 = plain_mem (fences p.fence_i ++ clears) s h1 plain in
+      let jump_code : CodeAt s.map h1.mem (jump_at p) (Jal 0 (distance (jump_at p) p.entry) ∷ []) =
+      let place : a1 + 4 * length (fences p.fence_i ++ clears) ≡ jump_at p = omega arith in
+      subst (λ x. CodeAt s.map h1.mem x (Jal 0 (distance (jump_at p) p.entry) ∷ [])) place
+      (code_behind (fences p.fence_i ++ clears) (Jal 0 (distance (jump_at p) p.entry) ∷ []) s.map h1.mem a1 done.code) in
+      let jump_line : Line s (Jal 0 (distance (jump_at p) p.entry) ∷ []) h2 =
+      let moved : CodeAt s.map h2.mem h2.pc (Jal 0 (distance (jump_at p) p.entry) ∷ []) =
+      subst (λ m. CodeAt s.map m h2.pc (Jal 0 (distance (jump_at p) p.entry) ∷ [])) (sym mem_2)
+      (subst (λ x. CodeAt s.map h1.mem x (Jal 0 (distance (jump_at p) p.entry) ∷ [])) (sym pc_2) jump_code) in
+      (moved.0, (tt, (refl, tt))) in
+      let jump_run = line_runs (Jal 0 (distance (jump_at p) p.entry) ∷ []) s h2 here.going jump_line in
+      let h3 : Hart = acts (Jal 0 (distance (jump_at p) p.entry)) h2 in
+      let pc_3 : h3.pc ≡ p.entry =
+      ap (λ x. offset x (distance (jump_at p) p.entry)) pc_2 ∙ arrives (jump_at p) p.entry (omega arith) can.entry in
+      let regs_3 : h3.regs ≡ cleared s.hart.regs =
+      ends_cleared p.fence_i h1 ∙ clears_alike s.hart.regs h1.regs done.others in
+      let mem_3 : h3.mem ≡ all_copied s.hart.mem p.jobs = mem_2 ∙ done.mem in
+      let last : h3 ≡ record { pc = p.entry; regs = cleared s.hart.regs; mem = all_copied s.hart.mem p.jobs } =
+      λ t. record { pc = pc_3 t; regs = regs_3 t; mem = mem_3 t } in
+      let ended =
+      steps_joined (length (fences p.fence_i ++ clears)) 1 (with_hart s h1) (with_hart s h2) (with_hart s h3) cleared_run jump_run in
+      let all =
+      steps_joined (jobs_run p.jobs) (length (fences p.fence_i ++ clears) + 1) (with_hart s s.hart) (with_hart s h1) (with_hart s h3)
+      jobs.1.0 ended in
+      let count : jobs_run p.jobs + (length (fences p.fence_i ++ clears) + 1) ≡ start_run p = omega arith in
+      subst (λ n. Steps n s (started p s)) count
+      (subst (λ h. Steps (jobs_run p.jobs + (length (fences p.fence_i ++ clears) + 1)) s (with_hart s h)) last all)
+
+pub start_runs_so : StartRuns
+start_runs_so p words s can are here = runs p words s can are here

@@ -1,0 +1,69 @@
+-- Copy jobs: the words of one, and what it leaves in memory.
+use Rattle.std.specs.Prelude.{◌≡◌, ◌⊎◌, ℕ, ◌+◌, ◌*◌, ◌/◌, ◌%◌, ◌<◌, ◌≤◌, ◌==◌, Bool, true, false, ◌&&◌, List, [], ◌∷◌, ◌++◌, pos, negsuc}
+use Rattle.word_bits.specs.Words.{upper_half, lower_half}
+use Rattle.word_bits.specs.Memory.{Memory, bytes_at, put_bytes}
+use Rattle.rv_decode.specs.declared.instructions.Instr.{Instr}
+use Rattle.rv_decode.specs.declared.instructions.Instr.TheVariants.{Lui, Branch, Load, Store, OpImm}
+use Rattle.rv_decode.specs.declared.instructions.BranchKind.TheVariants.{Bne}
+use Rattle.rv_decode.specs.declared.instructions.LoadKind.{LoadKind}
+use Rattle.rv_decode.specs.declared.instructions.LoadKind.TheVariants.{Lw, Lbu}
+use Rattle.rv_decode.specs.declared.instructions.StoreKind.{StoreKind}
+use Rattle.rv_decode.specs.declared.instructions.StoreKind.TheVariants.{Sb, Sw}
+use Rattle.rv_decode.specs.declared.instructions.ImmKind.TheVariants.{Addi}
+use Rattle.overlay_stubs.specs.declared.plan.CopyJob.{CopyJob}
+
+-- LUI and ADDI leave a word in a register
+abbrev pub sets : ℕ → ℕ → List Instr
+sets rd word = Lui rd (upper_half word) ∷ OpImm Addi rd rd (lower_half word) ∷ []
+
+-- whether a job copies words: where both addresses and the number of bytes are multiples of four.
+-- Any other job copies single bytes.
+abbrev pub copies_words : CopyJob → Bool
+copies_words job = (job.from % 4 == 0) && ((job.to % 4 == 0) && (job.bytes % 4 == 0))
+
+-- a unit is a word or a byte: its bytes, and what loads and stores it
+abbrev pub unit_bytes : Bool → ℕ
+unit_bytes true = 4
+unit_bytes false = 1
+
+abbrev pub unit_load : Bool → LoadKind
+unit_load true = Lw
+unit_load false = Lbu
+
+abbrev pub unit_store : Bool → StoreKind
+unit_store true = Sw
+unit_store false = Sb
+
+-- one turn: a unit from x5 to x7, by x31; both addresses go on, until x5 is the end in x28
+abbrev pub turn : Bool → List Instr
+turn words =
+    Load (unit_load words) 31 5 (pos 0) ∷ Store (unit_store words) 7 31 (pos 0)
+    ∷ OpImm Addi 5 5 (pos (unit_bytes words)) ∷ OpImm Addi 7 7 (pos (unit_bytes words))
+    ∷ Branch Bne 5 28 (negsuc 15) ∷ []
+
+-- the words of a job: x5, x7 and x28 get the source, the target and the source's end
+unfoldable pub copying : CopyJob → List Instr
+copying job =
+    sets 5 job.from ++ sets 7 job.to ++ sets 28 (job.from + job.bytes) ++ turn (copies_words job)
+
+-- how often its turn runs, and how many words a job runs
+abbrev pub turns : CopyJob → ℕ
+turns job = job.bytes / unit_bytes (copies_words job)
+
+abbrev pub job_run : CopyJob → ℕ
+job_run job = 6 + 5 * turns job
+
+-- the memory after a job: the target's bytes are those of the source
+abbrev pub copied : Memory → CopyJob → Memory
+copied mem job = put_bytes mem job.to (bytes_at mem job.from job.bytes)
+
+-- ranges of `n` and of `m` addresses don't meet
+abbrev pub AreApart : ℕ → ℕ → ℕ → ℕ → Type 0
+AreApart a n b m = (a + n ≤ b) ⊎ (b + m ≤ a)
+
+-- a job has a byte, and its ranges end below 2 ^ 32 and don't meet
+pub record IsJob (job : CopyJob) : Type 0 where
+  pub some : 1 ≤ job.bytes
+  pub source : job.from + job.bytes < 4294967296
+  pub target : job.to + job.bytes < 4294967296
+  pub apart : AreApart job.from job.bytes job.to job.bytes

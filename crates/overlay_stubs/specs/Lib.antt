@@ -1,0 +1,10 @@
+pub use Rattle.word_bits.specs.Memory
+pub use Rattle.rv_decode.specs.Acts
+pub use Rattle.rv_decode.specs.Table
+pub use Rattle.flat_machine.specs.Mapping
+pub use Rattle.flat_machine.specs.State
+pub use Rattle.flat_machine.specs.Runs
+pub mod Jobs
+pub mod Start
+pub mod Plans
+pub mod Laws

@@ -1,0 +1,58 @@
+/// Copies `bytes` bytes from one address to another.
+#[derive(Clone, Copy, Debug, PartialEq, Eq)]
+pub struct CopyJob {
+    pub from: u32,
+    pub to: u32,
+    pub bytes: u32,
+}
+
+/// What a stub does: goes to the copy of an entry, or runs the words that its home was taken from.
+#[derive(Debug, Drop)]
+pub enum Body {
+    Jump { to: u32 },
+    Words(Vec<u32>),
+}
+
+/// A stub that serves the entry at `home`, with a register that is dead there. Region 0 is that of
+/// a plain stub; any other is checked, and switched to.
+#[derive(Debug, Drop)]
+pub struct Stub {
+    pub home: u32,
+    pub temp: u8,
+    pub region: u32,
+    pub body: Body,
+}
+
+/// What the patch range is to hold, from the address `base` on: the jobs of the start stub, the
+/// stubs, for each region the jobs that leave and enter it, and the images of copied code.
+#[derive(Debug, Drop)]
+pub struct StubPlan {
+    pub base: u32,
+    pub entry: u32,
+    pub fence_i: bool,
+    pub start: Vec<CopyJob>,
+    pub stubs: Vec<Stub>,
+    pub regions: u32,
+    pub leave: Vec<Vec<CopyJob>>,
+    pub enter: Vec<Vec<CopyJob>>,
+    pub images: Vec<Vec<u32>>,
+}
+
+/// The words of the patch range, which begin with sixteen control words, and the addresses of the
+/// start stub, of each stub in the plan's order, and of each image.
+#[derive(Debug, Drop)]
+pub struct StubCode {
+    pub words: Vec<u32>,
+    pub start: u32,
+    pub stub_at: Vec<u32>,
+    pub image_at: Vec<u32>,
+}
+
+/// How many bytes each part takes. The control words are in none of them.
+#[derive(Clone, Copy, Debug, PartialEq, Eq)]
+pub struct StubSizes {
+    pub start: u32,
+    pub stubs: u32,
+    pub routine: u32,
+    pub images: u32,
+}
