@@ -1,0 +1,56 @@
+-- Incumbents of a programme.
+use Rattle.std.proofs.Common.{◌≡◌, ◌∙◌, ℕ, ◌+◌, ◌-◌, ◌<◌, ◌≤◌, pos, ◌-ℤ◌, ◌≤ℤ◌, max, Bool, true, false, List, [], ◌∷◌, length, Option, Some, None, IsSomeAnd, sym, ap, refl, subst, arith}
+use Rattle.std.proofs.lemmas.Int.{ints}
+use Rattle.placement_programme.specs.Plain.{PlainSide, PlainProgramme}
+use Rattle.placement_programme.specs.Programme.{Fits, taken_gains, side_for, IsFeasible, gain, gain_on, net_gain}
+use Rattle.certificate_checker.specs.Shows.{IsAccepted}
+use Rattle.branch_bound.specs.Assignments.{taken}
+use Rattle.branch_bound.specs.Entries.{takes_on}
+use Rattle.branch_bound.specs.Searching.{EntryBelow, IsIncumbent, KeepsIncumbent}
+use Rattle.branch_bound.specs.declared.incumbents.Incumbent.{Incumbent}
+
+side_or : Option PlainSide → PlainSide → PlainSide
+side_or None s = s
+side_or (Some s) other = s
+
+pub same_side : (a b : PlainSide) → Some a ≡ Some b → a ≡ b
+unfolding side_or
+same_side a b is = ap (λ o. side_or o a) is
+
+-- a side's gain where it isn't that of the empty choice
+net_is : (s : PlainSide) (take : List ℕ) (g : ℕ) → taken_gains s take ≡ g + s.fixed → net_gain s take ≡ pos g
+net_is s take g sum = omega (arith, ints, sum)
+
+off_is : (p : PlainProgramme) (s : PlainSide) (take : List ℕ) (g : ℕ) → p.off ≡ s → taken_gains s take ≡ g + s.fixed → 0 < g → gain p record { on = false; take = take } ≡ pos g
+off_is p s [] g same sum some = absurd (omega (arith, sum, some))
+off_is p s (k ∷ ks) g same sum some =
+    subst (λ t. net_gain t (k ∷ ks) ≡ pos g) (sym same) (net_is s (k ∷ ks) g sum)
+
+pub gain_is : (p : PlainProgramme) (on : Bool) (s : PlainSide) (take : List ℕ) (g : ℕ) → side_for p on ≡ Some s → taken_gains s take ≡ g + s.fixed → 0 < g → gain p record { on = on; take = take } ≡ pos g
+gain_is p false s take g is sum some = off_is p s take g (same_side p.off s is) sum some
+gain_is p true s take g is sum some =
+    subst (λ side. gain_on side take ≡ pos g) (sym is) (net_is s take g sum)
+
+pub new_incumbent : (p : PlainProgramme) (s : PlainSide) (best : Incumbent) → side_for p best.on ≡ Some s → Fits s (taken s best.marks.items) → taken_gains s (taken s best.marks.items) ≡ best.gain + s.fixed → 0 < best.gain → length s.vars ≤ length best.marks.items → IsIncumbent p best
+new_incumbent p s best is fits sum some long =
+    record {
+      accepted = record {
+        feasible = subst (λ side. IsSomeAnd side (λ t. Fits t (takes_on side best.marks.items))) (sym is) fits;
+        gains = subst (λ side. gain p record { on = best.on; take = takes_on side best.marks.items } ≡ pos best.gain) (sym is) (gain_is p best.on s (taken s best.marks.items) best.gain is sum some);
+      };
+      marked = subst (λ side. IsSomeAnd side (λ t. length t.vars ≤ length best.marks.items)) (sym is) long;
+    }
+
+pub keeps_same : (on : Bool) (s : PlainSide) (best : Incumbent) → KeepsIncumbent on s best best
+keeps_same on s best p is holds = holds
+
+pub keeps_both : (on : Bool) (s : PlainSide) (first second third : Incumbent) → KeepsIncumbent on s first second → KeepsIncumbent on s second third → KeepsIncumbent on s first third
+keeps_both on s first second third before after p is holds = after p is (before p is holds)
+
+pub keeps_new : (on : Bool) (s : PlainSide) (old best : Incumbent) → best.on ≡ on → Fits s (taken s best.marks.items) → taken_gains s (taken s best.marks.items) ≡ best.gain + s.fixed → 0 < best.gain → length s.vars ≤ length best.marks.items → KeepsIncumbent on s old best
+keeps_new on s old best same fits sum some long p is holds =
+    new_incumbent p s best (subst (λ b. side_for p b ≡ Some s) (sym same) is) fits sum some long
+
+-- an entry that was compared gains no more
+pub entry_compared : (s : PlainSide) (marks : List ℕ) (old new : ℕ) → new ≡ max old (taken_gains s (taken s marks) - s.fixed) → EntryBelow s new marks
+entry_compared s marks old new is fits = omega (arith, is)

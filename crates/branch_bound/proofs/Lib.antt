@@ -1,0 +1,13 @@
+pub mod OnesLemmas
+pub mod LoadLemmas
+pub mod MarkLemmas
+pub mod EntryLemmas
+pub mod GreatestLemmas
+pub mod GreedyLemmas
+pub mod TellLemmas
+pub mod GrowLemmas
+pub mod IncumbentLemmas
+pub mod VisitLemmas
+pub mod SolveLemmas
+pub mod ListLemmas
+pub mod ShownLemmas

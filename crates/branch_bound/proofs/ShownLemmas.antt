@@ -1,0 +1,43 @@
+-- A choice that a certificate shows to be best: what any search could find gains no more.
+use Rattle.std.proofs.Common.{◌≡◌, ℕ, ◌-◌, ◌≤◌, pos, ◌≤ℤ◌, false, true, length, List, [], ◌∷◌, take, Some, subst, arith}
+use Rattle.std.proofs.lemmas.Int.{ints}
+use Rattle.placement_programme.specs.Plain.{PlainProgramme, PlainChoice}
+use Rattle.placement_programme.specs.Programme.{IsFeasible, gain}
+use Rattle.certificate_checker.specs.Nodes.{PlainCertificate}
+use Rattle.certificate_checker.specs.Shows.{IsAccepted, Shows}
+use Rattle.certificate_checker.proofs.Least.{shown_is_least}
+use Rattle.branch_bound.specs.Entries.{Each, takes_on, GainsAtMost}
+use Rattle.branch_bound.specs.Greedy.{IsStart}
+use Rattle.branch_bound.specs.Growing.{CannotGrow}
+use Rattle.branch_bound.specs.Solving.{ReachesFirst}
+
+each_all : (P : List ℕ → Type 0) (es : List (List ℕ)) → ((e : List ℕ) → P e) → Each P es
+each_all P [] all = tt
+each_all P (e ∷ es) all = (all e, each_all P es all)
+
+no_more : (a b : ℕ) → pos a ≤ℤ pos b → a ≤ b
+no_more a b most = omega (arith, ints, most)
+
+module _ (p : PlainProgramme) (c : PlainCertificate) (shows : Shows p c) where
+  most : (other : PlainChoice) → IsFeasible p other → gain p other ≤ℤ pos shows.0
+  most other feasible = subst (λ g. gain p other ≤ℤ g) shows.1.accepted.gains (shown_is_least p c other shows feasible).0
+
+  pub shown_reaches : (n start : ℕ) (first : PlainChoice) → IsStart p start → IsAccepted p first start → ReachesFirst p n c.choice
+  shown_reaches n start first is_start accepted = (
+    shows.0,
+    (
+      start,
+      (
+        shows.1.accepted.gains,
+        is_start,
+        λ off on stated. record {
+          from_start = no_more start shows.0 (subst (λ g. g ≤ℤ pos shows.0) accepted.gains (most first accepted.feasible));
+          of_off = each_all (GainsAtMost p false (Some p.off) shows.0) (take n off) (λ e fits. most (record { on = false; take = takes_on (Some p.off) e }) fits);
+          of_on = each_all (GainsAtMost p true p.on shows.0) (take (n - length off) on) (λ e fits. most (record { on = true; take = takes_on p.on e }) fits);
+        },
+      ),
+    ),
+  )
+
+  pub shown_cannot : CannotGrow p c.choice
+  shown_cannot k more adds feasible = (shown_is_least p c (record { on = c.choice.on; take = more }) shows feasible).0

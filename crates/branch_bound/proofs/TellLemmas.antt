@@ -1,0 +1,97 @@
+-- The ways in which the search of a subtree ends.
+use Rattle.std.proofs.Common.{◌≡◌, ◌∙◌, ℕ, zero, suc, ◌+◌, ◌^◌, ◌<◌, ◌≤◌, nat_le, List, [], ◌∷◌, ◌++◌, length, length-append, take, slice_index, slice_set, Option, Some, None, sym, ap, refl, subst, arith}
+use Rattle.std.specs.List.{count_by}
+use Rattle.placement_programme.specs.Plain.{PlainSide}
+use Rattle.certificate_checker.specs.Nodes.{PlainTree, branch, over, dual, leaf}
+use Rattle.certificate_checker.specs.Marks.{free, mark}
+use Rattle.certificate_checker.specs.Rules.{Holds}
+use Rattle.certificate_checker.specs.Spelling.{IsTreeInRange}
+use Rattle.certificate_checker.specs.Views.{plain_tree}
+use Rattle.certificate_checker.specs.declared.trees.Tree.{Tree}
+use Rattle.branch_bound.specs.Assignments.{FailsEveryLeafRule, IsGreatestFree}
+use Rattle.branch_bound.specs.Entries.{StatedFrom, Each}
+use Rattle.branch_bound.specs.Searching.{EntryBelow, Tells, HasLevels}
+use Rattle.branch_bound.proofs.MarkLemmas.{fewer_free}
+use Rattle.branch_bound.proofs.EntryLemmas.{holds_more, entry_more, each_more, each_first, each_second, finished, some_entry, TwoLists, two_lists}
+
+-- no budget
+pub tells_out : (s : PlainSide) (start : ℕ) (marks : List ℕ) (best left after : ℕ) → left ≡ 0 → Tells s start marks best left after None
+tells_out s start marks best left after none entries stated =
+    let some = some_entry s start marks entries stated in
+    subst (λ n. Each (EntryBelow s best) (take n entries) × (n < length entries)) (sym none) (tt, some)
+
+-- a node that is closed
+pub tells_closed : (s : PlainSide) (start : ℕ) (marks : List ℕ) (best left after : ℕ) (tree : Tree) → left ≤ after + 1 → Holds s best marks (plain_tree tree) → Tells s start marks best left after (Some tree)
+tells_closed s start marks best left after tree used holds =
+    (holds, λ entries stated. let some = some_entry s start marks entries stated in omega (arith, used, some))
+
+-- what is known where a node branches
+pub record Branches (s : PlainSide) (start : ℕ) (marks : List ℕ) (j best : ℕ) : Type 0 where
+  pub from_start : start ≤ best
+  pub fails : FailsEveryLeafRule s best marks
+  pub greatest : IsGreatestFree s marks j
+  pub here : EntryBelow s best marks
+
+-- the budget ends under the child that fixes the variable to one
+pub tells_first : (s : PlainSide) (start : ℕ) (marks : List ℕ) (j best more left middle after : ℕ) → Branches s start marks j best → best ≤ more → left ≡ suc middle → Tells s start (slice_set marks j 1) more middle after None → Tells s start marks more left after None
+tells_first s start marks j best more left middle after branches order used first entries stated =
+    let lists = two_lists s start best marks j entries branches.from_start branches.fails branches.greatest stated in
+    let under = first lists.ones lists.by_one in
+    let long = length-append lists.ones lists.zeroes in
+    let whole : Each (EntryBelow s more) (take (suc middle) (marks ∷ (lists.ones ++ lists.zeroes))) × (suc middle < length (marks ∷ (lists.ones ++ lists.zeroes))) = (
+      (entry_more s best more marks order branches.here, each_first (EntryBelow s more) middle lists.ones lists.zeroes under.1 under.0),
+      let inside = under.1 in omega (arith, inside, long),
+    ) in
+    subst (λ es. Each (EntryBelow s more) (take left es) × (left < length es)) (sym lists.whole)
+    (subst (λ n. Each (EntryBelow s more) (take n (marks ∷ (lists.ones ++ lists.zeroes))) × (n < length (marks ∷ (lists.ones ++ lists.zeroes)))) (sym used) whole)
+
+-- it ends under the other child
+pub tells_second : (s : PlainSide) (start : ℕ) (marks : List ℕ) (j best between more left middle second after : ℕ) (tree : Tree) → Branches s start marks j best → best ≤ between → between ≤ more → left ≡ suc middle → Tells s start (slice_set marks j 1) between middle second (Some tree) → Tells s start (slice_set marks j 0) more second after None → Tells s start marks more left after None
+tells_second s start marks j best between more left middle second after tree branches order next used first last entries stated =
+    let lists = two_lists s start best marks j entries branches.from_start branches.fails branches.greatest stated in
+    let ones = finished s start more (slice_set marks j 1) (plain_tree tree) lists.ones (holds_more s between more (slice_set marks j 1) (plain_tree tree) next first.0) lists.by_one in
+    let budget = first.1 lists.ones lists.by_one in
+    let under = last lists.zeroes lists.by_zero in
+    let long = length-append lists.ones lists.zeroes in
+    let whole : Each (EntryBelow s more) (take (suc middle) (marks ∷ (lists.ones ++ lists.zeroes))) × (suc middle < length (marks ∷ (lists.ones ++ lists.zeroes))) = (
+      (entry_more s best more marks (omega (arith, order, next)) branches.here, each_second (EntryBelow s more) middle second lists.ones lists.zeroes budget ones under.0),
+      let inside = under.1 in omega (arith, inside, budget, long),
+    ) in
+    subst (λ es. Each (EntryBelow s more) (take left es) × (left < length es)) (sym lists.whole)
+    (subst (λ n. Each (EntryBelow s more) (take n (marks ∷ (lists.ones ++ lists.zeroes))) × (n < length (marks ∷ (lists.ones ++ lists.zeroes)))) (sym used) whole)
+
+-- both children are finished
+pub tells_both : (s : PlainSide) (start : ℕ) (marks : List ℕ) (j best between more left middle second after : ℕ) (one_tree zero_tree tree : Tree) → Branches s start marks j best → between ≤ more → left ≡ suc middle → Tells s start (slice_set marks j 1) between middle second (Some one_tree) → Tells s start (slice_set marks j 0) more second after (Some zero_tree) → plain_tree tree ≡ branch j (plain_tree zero_tree) (plain_tree one_tree) → Tells s start marks more left after (Some tree)
+tells_both s start marks j best between more left middle second after one_tree zero_tree tree branches next used first last is =
+    let held : Holds s more marks (branch j (plain_tree zero_tree) (plain_tree one_tree)) = (
+      record { inside = branches.greatest.inside; free_there = branches.greatest.holds },
+      last.0,
+      holds_more s between more (slice_set marks j 1) (plain_tree one_tree) next first.0,
+    ) in (
+      subst (λ t. Holds s more marks t) (sym is) held,
+      λ entries stated.
+          let lists = two_lists s start best marks j entries branches.from_start branches.fails branches.greatest stated in
+          let ones = first.1 lists.ones lists.by_one in
+          let zeroes = last.1 lists.zeroes lists.by_zero in
+          let long = length-append lists.ones lists.zeroes in
+          let whole = ap length lists.whole in
+          omega (arith, ones, zeroes, long, whole, used),
+    )
+
+-- levels
+pub levels_more : (levels more : ℕ) (t : PlainTree) → levels ≤ more → IsTreeInRange levels t → IsTreeInRange more t
+levels_more zero more t order good = absurd good
+levels_more (suc levels) zero t order good = absurd (omega arith)
+levels_more (suc levels) (suc more) (branch j l r) order good =
+    (good.0, levels_more levels more l (omega arith) good.1, levels_more levels more r (omega arith) good.2)
+levels_more (suc levels) (suc more) (over row) order good = good
+levels_more (suc levels) (suc more) (dual scale ms) order good = good
+levels_more (suc levels) (suc more) leaf order good = tt
+
+pub levels_both : (marks : List ℕ) (j : ℕ) (one_tree zero_tree tree : Tree) → mark marks j ≡ free → j < 2 ^ 32 → HasLevels (suc (count_by (nat_le 2) (slice_set marks j 1))) (Some one_tree) → HasLevels (suc (count_by (nat_le 2) (slice_set marks j 0))) (Some zero_tree) → plain_tree tree ≡ branch j (plain_tree zero_tree) (plain_tree one_tree) → HasLevels (suc (count_by (nat_le 2) marks)) (Some tree)
+levels_both marks j one_tree zero_tree tree is_free small by_one by_zero is =
+    let ones = fewer_free marks j 1 is_free (omega arith) in
+    let zeroes = fewer_free marks j 0 is_free (omega arith) in
+    let of_one : IsTreeInRange (count_by (nat_le 2) marks) (plain_tree one_tree) = subst (λ n. IsTreeInRange n (plain_tree one_tree)) (sym ones) by_one in
+    let of_zero : IsTreeInRange (count_by (nat_le 2) marks) (plain_tree zero_tree) = subst (λ n. IsTreeInRange n (plain_tree zero_tree)) (sym zeroes) by_zero in
+    subst (λ t. IsTreeInRange (suc (count_by (nat_le 2) marks)) t) (sym is) (small, of_zero, of_one)

@@ -1,0 +1,40 @@
+use Rattle.std.proofs.Common.{◌+◌, map, arith}
+use Rattle.placement_programme.specs.Plain.{plain_var}
+use Rattle.placement_programme.specs.Programme.{gain_at}
+use Rattle.placement_programme.specs.Views.{plain_side}
+use Rattle.certificate_checker.proofs.Limits.{ones_small}
+use Rattle.branch_bound.proofs.OnesLemmas.{gains_small, all_gains}
+use Rattle.branch_bound.proofs.MarkLemmas.{sum_one, sum_other}
+use Rattle.branch_bound.proofs.ones.ones_gain.Goals as goal
+use Rattle.branch_bound.proofs.ones.ones_gain.Goals.{then-marks-number-eq1, else-marks-number-eq1}
+
+pub overflow_add-total : goal.overflow_add-total
+overflow_add-total c =
+    let side = c.args.side.now in
+    let small = ones_small (map plain_var side.vars.items) c.args.marks.now c.loop-number.number (omega (arith, c.loop-number-test.true, c.var_count-number-end.ensures.value)) in
+    let so_far = c.loop-number.invariant in
+    let here = c.gain_of_var-total.ensures in
+    let total = side.bounds.gains in
+    omega (arith, small, so_far, here, total)
+
+pub loop-number-preserved : goal.loop-number-preserved
+loop-number-preserved c =
+    let s = plain_side c.args.side.now in
+    let n = c.loop-number.number in
+    elim c.if-marks-number-eq1.branch [
+      | then-marks-number-eq1 w ↦ sum_one (gain_at s.vars) c.args.marks.now n (n + 1) c.loop-number.total c.if-marks-number-eq1.total (omega arith) w.if-marks-number-eq1.true c.loop-number.invariant (let is = w.total-is in let here = w.gain_of_var-total.ensures in omega (arith, is, here))
+      | else-marks-number-eq1 w ↦ sum_other (gain_at s.vars) c.args.marks.now n (n + 1) c.loop-number.total c.if-marks-number-eq1.total (omega arith) w.if-marks-number-eq1.false c.loop-number.invariant w.total-is
+    ]
+
+pub returns-clause-value : goal.returns-clause-value
+returns-clause-value c =
+    let count = c.var_count-number-end.ensures.value in
+    all_gains (plain_side c.args.side.now) c.args.marks.now c.loop-number.number c.loop-number.total (omega (arith, count, c.loop-number.auto.number-end)) (omega (arith, count, c.loop-number-test.false)) c.loop-number.invariant
+
+pub returns-clause-small : goal.returns-clause-small
+returns-clause-small c =
+    let s = plain_side c.args.side.now in
+    let count = c.var_count-number-end.ensures.value in
+    let value = all_gains s c.args.marks.now c.loop-number.number c.loop-number.total (omega (arith, count, c.loop-number.auto.number-end)) (omega (arith, count, c.loop-number-test.false)) c.loop-number.invariant in
+    let small = gains_small s c.args.marks.now c.args.side.now.bounds in
+    omega (arith, value, small)

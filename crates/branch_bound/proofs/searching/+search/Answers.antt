@@ -1,0 +1,102 @@
+use Rattle.std.proofs.Common.{◌≡◌, ◌≤◌, ◌<◌, ◌^◌, ℕ, suc, List, nat_le, length, slice_set, Option, Some, None, refl, rules, subst, arith}
+use Rattle.std.specs.List.{count_by}
+use Rattle.placement_programme.specs.Views.{plain_side}
+use Rattle.certificate_checker.specs.declared.trees.Tree.{Tree}
+use Rattle.branch_bound.specs.declared.visiting.Visit.{Visit}
+use Rattle.branch_bound.specs.Searching.{Tells, Visits, HasLevels}
+use Rattle.branch_bound.proofs.TellLemmas.{Branches, tells_first, tells_second, tells_both, levels_both}
+use Rattle.branch_bound.proofs.VisitLemmas.{zero_marks, fewer_again, marks_again}
+use Rattle.branch_bound.proofs.searching.+search.Goals as goal
+
+pub returns-in-None-clause-tells : goal.returns-in-None-clause-tells
+returns-in-None-clause-tells t c =
+    λ start order.
+    let s = plain_side c.args.side.now in
+    let marks = c.args.marks.now in
+    let j = c.in-Open.number in
+    let best = c.visit.new.run.best.gain in
+    let grows = c.in_ok-tree.ensures.grows in
+    let used = c.in_ok-tree.ensures.left in
+    let some = c.if-run-eq0.false in
+    let from : start ≤ best = omega (arith, order, grows) in
+    let visits = subst (λ (v : Visit). Visits s best marks v) c.in-Open.is c.in_ok-tree.ensures.visits in
+    let branches : Branches s start marks j best = record { from_start = from; fails = visits.0; greatest = visits.1; here = c.in_ok-tree.ensures.here } in
+    let first = subst (λ (o : Option Tree). Tells s start (slice_set marks j 1) c.search.new.run.best.gain c.visit.new.run.left c.search.new.run.left o) c.in-None.is (c.in_ok-search.ensures.tells start from) in
+    tells_first s start marks j best c.search.new.run.best.gain c.args.run.now.left c.visit.new.run.left c.search.new.run.left branches c.in_ok-search.ensures.grows (omega (arith, used, some)) first
+
+pub search-requires-2 : goal.search-requires-2
+search-requires-2 t c =
+    let s = plain_side c.args.side.now in
+    let visits = subst (λ (v : Visit). Visits s c.visit.new.run.best.gain c.args.marks.now v) c.in-Open.is c.in_ok-tree.ensures.visits in
+    let fewer = fewer_again c.args.marks.now c.search.new.marks c.in-Open.number visits.1.holds c.in_ok-search.ensures.kept in
+    search rules
+
+pub returns-in-None-2-clause-kept : goal.returns-in-None-2-clause-kept
+returns-in-None-2-clause-kept t c =
+    marks_again c.args.marks.now c.search.new.marks c.search-2.new.marks c.in-Open.number _ c.in_ok-search.ensures.kept c.in_ok-search-2.ensures.kept refl
+
+pub returns-in-None-2-clause-tells : goal.returns-in-None-2-clause-tells
+returns-in-None-2-clause-tells t c =
+    λ start order.
+    let s = plain_side c.args.side.now in
+    let marks = c.args.marks.now in
+    let j = c.in-Open.number in
+    let best = c.visit.new.run.best.gain in
+    let between = c.search.new.run.best.gain in
+    let more = c.search-2.new.run.best.gain in
+    let middle = c.visit.new.run.left in
+    let second = c.search.new.run.left in
+    let after = c.search-2.new.run.left in
+    let grows = c.in_ok-tree.ensures.grows in
+    let grows_one = c.in_ok-search.ensures.grows in
+    let used = c.in_ok-tree.ensures.left in
+    let some = c.if-run-eq0.false in
+    let from : start ≤ best = omega (arith, order, grows) in
+    let visits = subst (λ (v : Visit). Visits s best marks v) c.in-Open.is c.in_ok-tree.ensures.visits in
+    let branches : Branches s start marks j best = record { from_start = from; fails = visits.0; greatest = visits.1; here = c.in_ok-tree.ensures.here } in
+    let first = subst (λ (o : Option Tree). Tells s start (slice_set marks j 1) between middle second o) c.in-Some.is (c.in_ok-search.ensures.tells start from) in
+    let there = subst (λ (m : List ℕ). Tells s start m more second after c.in_ok-search-2.field-0) (zero_marks marks c.search.new.marks j c.in_ok-search.ensures.kept) (c.in_ok-search-2.ensures.tells start (omega (arith, from, grows_one))) in
+    let last = subst (λ (o : Option Tree). Tells s start (slice_set marks j 0) more second after o) c.in-None-2.is there in
+    tells_second s start marks j best between more c.args.run.now.left middle second after c.in-Some.tree branches grows_one c.in_ok-search-2.ensures.grows (omega (arith, used, some)) first last
+
+pub returns-clause-kept : goal.returns-clause-kept
+returns-clause-kept t c =
+    marks_again c.args.marks.now c.search.new.marks c.search-2.new.marks c.in-Open.number _ c.in_ok-search.ensures.kept c.in_ok-search-2.ensures.kept refl
+
+pub returns-clause-levels : goal.returns-clause-levels
+returns-clause-levels t c =
+    let s = plain_side c.args.side.now in
+    let marks = c.args.marks.now in
+    let j = c.in-Open.number in
+    let visits = subst (λ (v : Visit). Visits s c.visit.new.run.best.gain marks v) c.in-Open.is c.in_ok-tree.ensures.visits in
+    let inside = visits.1.inside in
+    let few = c.args.side.now.bounds.few_vars in
+    let small : j < 2 ^ 32 = omega (arith, inside, few) in
+    let by_one = subst (λ (o : Option Tree). HasLevels (suc (count_by (nat_le 2) (slice_set marks j 1))) o) c.in-Some.is c.in_ok-search.ensures.levels in
+    let there = subst (λ (m : List ℕ). HasLevels (suc (count_by (nat_le 2) m)) c.in_ok-search-2.field-0) (zero_marks marks c.search.new.marks j c.in_ok-search.ensures.kept) c.in_ok-search-2.ensures.levels in
+    let by_zero = subst (λ (o : Option Tree). HasLevels (suc (count_by (nat_le 2) (slice_set marks j 0))) o) c.in-Some-2.is there in
+    levels_both marks j c.in-Some.tree c.in-Some-2.tree c.in_ok-branch_on.field-0 visits.1.holds small by_one by_zero c.in_ok-branch_on.ensures
+
+pub returns-clause-tells : goal.returns-clause-tells
+returns-clause-tells t c =
+    λ start order.
+    let s = plain_side c.args.side.now in
+    let marks = c.args.marks.now in
+    let j = c.in-Open.number in
+    let best = c.visit.new.run.best.gain in
+    let between = c.search.new.run.best.gain in
+    let more = c.search-2.new.run.best.gain in
+    let middle = c.visit.new.run.left in
+    let second = c.search.new.run.left in
+    let after = c.search-2.new.run.left in
+    let grows = c.in_ok-tree.ensures.grows in
+    let grows_one = c.in_ok-search.ensures.grows in
+    let used = c.in_ok-tree.ensures.left in
+    let some = c.if-run-eq0.false in
+    let from : start ≤ best = omega (arith, order, grows) in
+    let visits = subst (λ (v : Visit). Visits s best marks v) c.in-Open.is c.in_ok-tree.ensures.visits in
+    let branches : Branches s start marks j best = record { from_start = from; fails = visits.0; greatest = visits.1; here = c.in_ok-tree.ensures.here } in
+    let first = subst (λ (o : Option Tree). Tells s start (slice_set marks j 1) between middle second o) c.in-Some.is (c.in_ok-search.ensures.tells start from) in
+    let there = subst (λ (m : List ℕ). Tells s start m more second after c.in_ok-search-2.field-0) (zero_marks marks c.search.new.marks j c.in_ok-search.ensures.kept) (c.in_ok-search-2.ensures.tells start (omega (arith, from, grows_one))) in
+    let last = subst (λ (o : Option Tree). Tells s start (slice_set marks j 0) more second after o) c.in-Some-2.is there in
+    tells_both s start marks j best between more c.args.run.now.left middle second after c.in-Some.tree c.in-Some-2.tree c.in_ok-branch_on.field-0 branches c.in_ok-search-2.ensures.grows (omega (arith, used, some)) first last c.in_ok-branch_on.ensures

@@ -1,0 +1,88 @@
+use Rattle.std.proofs.Common.{◌≡◌, ◌≤◌, ◌≤ℤ◌, ℕ, pos, Option, sym, subst, arith}
+use Rattle.placement_programme.specs.Programme.{IsFeasible, gain}
+use Rattle.placement_programme.specs.Views.{plain_programme}
+use Rattle.certificate_checker.specs.Views.{plain_certificate}
+use Rattle.branch_bound.specs.Growing.{CannotGrow}
+use Rattle.branch_bound.specs.Searching.{choice_of}
+use Rattle.branch_bound.specs.Solving.{Searched, ReachesFirst, AreTreesOf}
+use Rattle.branch_bound.proofs.ListLemmas.{enough_nodes}
+use Rattle.branch_bound.proofs.SolveLemmas.{closes_side, closes_on, reaches_first, ends_within, match_more, gain_from_zero}
+use Rattle.branch_bound.proofs.solving.search_stated.Goals as goal
+
+pub finish-requires-clause-start : goal.finish-requires-clause-start
+finish-requires-clause-start c =
+    let first = c.in_ok-off.ensures.grows in
+    let second = c.in_ok-on.ensures.grows in
+    (c.in_ok-start.start.gain, (c.in_ok-start.ensures.start, omega (arith, first, second)))
+
+pub trees_of-requires-clause-off : goal.trees_of-requires-clause-off
+trees_of-requires-clause-off c =
+    let second = c.in_ok-on.ensures.grows in
+    let last = c.in_ok-best.ensures.grows in
+    closes_side (plain_programme c.args.p.now).off c.in_ok-start.start.gain c.in_ok-off.off.best.gain c.in_ok-best.best.gain c.args.nodes c.in_ok-off.off.left c.in_ok-off.off.tree (omega (arith, second, last)) (c.in_ok-off.ensures.tells c.in_ok-start.start.gain (omega arith))
+
+pub trees_of-requires-clause-on : goal.trees_of-requires-clause-on
+trees_of-requires-clause-on c =
+    let first = c.in_ok-off.ensures.grows in
+    closes_on (plain_programme c.args.p.now).on c.in_ok-start.start.gain c.in_ok-on.on.best.gain c.in_ok-best.best.gain c.in_ok-off.off.left c.in_ok-on.on.left c.in_ok-on.on.tree c.in_ok-best.ensures.grows (c.in_ok-on.ensures.tells c.in_ok-start.start.gain first)
+
+pub found-requires-clause-trees : goal.found-requires-clause-trees
+found-requires-clause-trees c =
+    let p = plain_programme c.args.p.now in
+    let start = c.in_ok-start.start.gain in
+    let off = c.in_ok-off.off in
+    let on = c.in_ok-on.on in
+    let best = c.in_ok-best.best in
+    let first = c.in_ok-off.ensures.grows in
+    let second = c.in_ok-on.ensures.grows in
+    let last = c.in_ok-best.ensures.grows in
+    let searched : Searched p c.args.nodes start off.best.gain on.best.gain best.gain off.left on.left off.tree on.tree = record {
+      is_start = c.in_ok-start.ensures.start;
+      from = omega (arith, first, second, last);
+      off_order = omega (arith, second, last);
+      on_order = last;
+      by_off = c.in_ok-off.ensures.tells start (omega arith);
+      by_on = c.in_ok-on.ensures.tells start first;
+    } in
+    match_more (AreTreesOf p best.gain) c.in_ok-trees.trees (λ both. ends_within p c.args.nodes start off.best.gain on.best.gain best.gain off.left on.left off.tree on.tree (choice_of p best) searched c.in_ok-best.ensures.incumbent.accepted.gains both.0 both.1) c.in_ok-trees.ensures
+
+pub returns-clause-feasible : goal.returns-clause-feasible
+returns-clause-feasible c =
+    let p = plain_programme c.args.p.now in
+    subst (λ choice. IsFeasible p choice) (sym c.in_ok-answer.ensures.choice) c.in_ok-best.ensures.incumbent.accepted.feasible
+
+pub returns-clause-gain : goal.returns-clause-gain
+returns-clause-gain c =
+    let p = plain_programme c.args.p.now in
+    let best = c.in_ok-best.best in
+    subst (λ choice. pos 0 ≤ℤ gain p choice) (sym c.in_ok-answer.ensures.choice) (gain_from_zero p (choice_of p best) best.gain c.in_ok-best.ensures.incumbent.accepted.gains)
+
+pub returns-clause-reach : goal.returns-clause-reach
+returns-clause-reach c =
+    let p = plain_programme c.args.p.now in
+    let start = c.in_ok-start.start.gain in
+    let off = c.in_ok-off.off in
+    let on = c.in_ok-on.on in
+    let best = c.in_ok-best.best in
+    let first = c.in_ok-off.ensures.grows in
+    let second = c.in_ok-on.ensures.grows in
+    let last = c.in_ok-best.ensures.grows in
+    let searched : Searched p c.args.nodes start off.best.gain on.best.gain best.gain off.left on.left off.tree on.tree = record {
+      is_start = c.in_ok-start.ensures.start;
+      from = omega (arith, first, second, last);
+      off_order = omega (arith, second, last);
+      on_order = last;
+      by_off = c.in_ok-off.ensures.tells start (omega arith);
+      by_on = c.in_ok-on.ensures.tells start first;
+    } in
+    subst (λ choice. ReachesFirst p c.args.nodes choice) (sym c.in_ok-answer.ensures.choice)
+    (reaches_first p c.args.nodes start off.best.gain on.best.gain best.gain off.left on.left off.tree on.tree (choice_of p best) searched c.in_ok-best.ensures.incumbent.accepted.gains)
+
+pub returns-clause-grown : goal.returns-clause-grown
+returns-clause-grown c =
+    let p = plain_programme c.args.p.now in
+    subst (λ choice. CannotGrow p choice) (sym c.in_ok-answer.ensures.choice) c.in_ok-best.ensures.cannot
+
+pub returns-clause-enough : goal.returns-clause-enough
+returns-clause-enough c =
+    enough_nodes (plain_programme c.args.p.now) c.args.nodes (plain_certificate c.in_ok-answer.answer.certificate) c.in_ok-answer.answer.status c.in_ok-answer.ensures.status

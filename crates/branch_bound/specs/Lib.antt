@@ -1,0 +1,12 @@
+pub use Rattle.certificate_checker.specs.Marks
+pub use Rattle.certificate_checker.specs.Rules
+pub use Rattle.certificate_checker.specs.Shows
+pub use Rattle.certificate_checker.specs.Spelling
+pub use Rattle.certificate_checker.specs.Reading
+pub mod Greatest
+pub mod Assignments
+pub mod Greedy
+pub mod Entries
+pub mod Growing
+pub mod Searching
+pub mod Solving

@@ -1,0 +1,57 @@
+-- What the search of a subtree and what the visit of a node tell.
+use Rattle.std.specs.Prelude.{◌≡◌, ℕ, suc, ◌+◌, ◌<◌, ◌≤◌, Bool, List, length, Option, Some, None, IsSomeAnd}
+use Rattle.std.proofs.Common.{take}
+use Rattle.placement_programme.specs.Plain.{PlainSide, PlainProgramme, PlainChoice}
+use Rattle.placement_programme.specs.Programme.{side_for, taken_gains, Fits}
+use Rattle.certificate_checker.specs.Nodes.{PlainTree}
+use Rattle.certificate_checker.specs.Rules.{Holds, DualHolds}
+use Rattle.certificate_checker.specs.Shows.{IsAccepted}
+use Rattle.certificate_checker.specs.Spelling.{IsTreeInRange}
+use Rattle.certificate_checker.specs.Views.{plain_tree}
+use Rattle.certificate_checker.specs.declared.trees.Tree.{Tree}
+use Rattle.branch_bound.specs.Assignments.{taken, FailsEveryLeafRule, IsGreatestFree}
+use Rattle.branch_bound.specs.Entries.{StatedFrom, Each, takes_on}
+use Rattle.branch_bound.specs.declared.incumbents.Incumbent.{Incumbent}
+use Rattle.branch_bound.specs.declared.visiting.Visit.{Visit}
+use Rattle.branch_bound.specs.declared.visiting.Visit.TheVariants.{Closed, Open}
+
+-- where what an assignment takes fits, it gains at most `best`, the fixed cost taken off
+abbrev pub EntryBelow : PlainSide → ℕ → List ℕ → Type 0
+EntryBelow s best marks = Fits s (taken s marks) → taken_gains s (taken s marks) ≤ best + s.fixed
+
+-- a finished subtree is closed by its tree, and had no more nodes than its stated list has entries; where the budget of
+-- `left` nodes ends within it, none of so many entries of its list gains more than `best`, and there are more of them
+abbrev pub Tells : PlainSide → ℕ → List ℕ → ℕ → ℕ → ℕ → Option Tree → Type 0
+Tells s start marks best left after (Some tree) =
+    Holds s best marks (plain_tree tree)
+    × ((entries : List (List ℕ)) → StatedFrom s start marks entries → left ≤ after + length entries)
+Tells s start marks best left after None =
+    (entries : List (List ℕ)) → StatedFrom s start marks entries → Each (EntryBelow s best) (take left entries) × (left < length entries)
+
+-- a tree of one node closes an assignment
+abbrev pub Closes : PlainSide → ℕ → List ℕ → Tree → Type 0
+Closes s best marks tree = Holds s best marks (plain_tree tree) × IsTreeInRange 1 (plain_tree tree)
+
+-- a node is closed by a tree of one node, or fails every leaf rule and branches on a variable
+abbrev pub Visits : PlainSide → ℕ → List ℕ → Visit → Type 0
+Visits s best marks (Closed tree) = Closes s best marks tree
+Visits s best marks (Open j) = FailsEveryLeafRule s best marks × IsGreatestFree s marks j
+
+-- a tree's numbers are in their ranges, and it has at most so many levels
+abbrev pub HasLevels : ℕ → Option Tree → Type 0
+HasLevels levels None = Unit {0}
+HasLevels levels (Some tree) = IsTreeInRange levels (plain_tree tree)
+
+-- the choice of an incumbent
+abbrev pub choice_of : PlainProgramme → Incumbent → PlainChoice
+choice_of p best = record { on = best.on; take = takes_on (side_for p best.on) best.marks.items }
+
+-- an incumbent is feasible and gains what it says, and has a mark for each variable of its side
+pub record IsIncumbent (p : PlainProgramme) (best : Incumbent) : Type 0 where
+  pub accepted : IsAccepted p (choice_of p best) best.gain
+  pub marked : IsSomeAnd (side_for p best.on) (λ s. length s.vars ≤ length best.marks.items)
+
+-- a search keeps an incumbent that fits the programmes of which it searches a side
+abbrev pub KeepsIncumbent : Bool → PlainSide → Incumbent → Incumbent → Type 0
+KeepsIncumbent on s old new =
+    (p : PlainProgramme) → side_for p on ≡ Some s → IsIncumbent p old → IsIncumbent p new

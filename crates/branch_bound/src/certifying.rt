@@ -1,0 +1,90 @@
+ghost use Rattle.std.specs.Prelude.{◌≡◌, ◌⊎◌, ◌^◌, ◌≤◌, Some, None, MatchOption, IfSome, IfOk};
+ghost use Rattle.placement_programme.specs.Views.{plain_side, plain_programme};
+ghost use Rattle.certificate_checker.specs.Shows.{all_free};
+ghost use Rattle.certificate_checker.specs.Reading.{most_levels};
+ghost use Rattle.branch_bound.specs.Assignments.{FailsEveryLeafRule};
+ghost use Rattle.branch_bound.specs.Searching.{Closes, HasLevels};
+ghost use Rattle.branch_bound.specs.Solving.{ClosesSide, ClosesOn, LacksTree, AreTreesOf, FailsSome};
+
+use crate::closing::plain_dual;
+use crate::ones::free_marks;
+use crate::outcomes::Trees;
+use certificate_checker::Tree;
+use placement_programme::{Programme, Side};
+use std::alloc::{AllocError, Global};
+
+/// A tree of one node that closes a side; None where its first entry fails every leaf rule.
+fn first_tree(alloc: Global, side: &Side, best: u128) -> Result<Option<Tree>, AllocError>
+    requires { best ≤ 2 ^ 104 }
+    ensures { IfOk result (λ tree. MatchOption tree (FailsEveryLeafRule (plain_side side.now) best (all_free (plain_side side.now))) (Closes (plain_side side.now) best (all_free (plain_side side.now)))) }
+{
+    let marks = free_marks(alloc, side)?;
+    Ok(plain_dual(alloc, side, &marks, best))
+}
+
+/// The trees of both sides, where the search finished them.
+fn finished_trees(p: &Programme, off: Option<Tree>, on: Option<Tree>, best: u128) -> Option<Trees>
+    requires off { ClosesSide (plain_programme p.now).off best off }
+    requires on { ClosesOn (plain_programme p.now).on best on }
+    requires off_levels { HasLevels most_levels off }
+    requires on_levels { HasLevels most_levels on }
+    ensures { MatchOption result ((off ≡ None) ⊎ LacksTree (plain_programme p.now).on on) (AreTreesOf (plain_programme p.now) best) }
+{
+    let _best = best;
+    let off = match off {
+        None => return None,
+        Some(tree) => tree,
+    };
+    match &p.on {
+        None => Some(Trees { off, on: None }),
+        Some(_) => match on {
+            None => None,
+            Some(tree) => Some(Trees {
+                off,
+                on: Some(tree),
+            }),
+        },
+    }
+}
+
+/// Trees of one node for both sides, where these close them.
+fn first_trees(alloc: Global, p: &Programme, best: u128) -> Result<Option<Trees>, AllocError>
+    requires { best ≤ 2 ^ 104 }
+    ensures { IfOk result (λ trees. MatchOption trees (FailsSome (plain_programme p.now) best) (AreTreesOf (plain_programme p.now) best)) }
+{
+    let off = match first_tree(alloc, &p.off, best)? {
+        None => return Ok(None),
+        Some(tree) => tree,
+    };
+    match &p.on {
+        None => Ok(Some(Trees { off, on: None })),
+        Some(side) => match first_tree(alloc, side, best)? {
+            None => Ok(None),
+            Some(tree) => Ok(Some(Trees {
+                off,
+                on: Some(tree),
+            })),
+        },
+    }
+}
+
+/// Trees that show that nothing gains more than `best`, if there are: those of the search, or those of one node.
+pub(crate) fn trees_of(
+    alloc: Global,
+    p: &Programme,
+    off: Option<Tree>,
+    on: Option<Tree>,
+    best: u128,
+) -> Result<Option<Trees>, AllocError>
+    requires small { best ≤ 2 ^ 104 }
+    requires off { ClosesSide (plain_programme p.now).off best off }
+    requires on { ClosesOn (plain_programme p.now).on best on }
+    requires off_levels { HasLevels most_levels off }
+    requires on_levels { HasLevels most_levels on }
+    ensures { IfOk result (λ trees. MatchOption trees (((off ≡ None) ⊎ LacksTree (plain_programme p.now).on on) × FailsSome (plain_programme p.now) best) (AreTreesOf (plain_programme p.now) best)) }
+{
+    match finished_trees(p, off, on, best) {
+        Some(trees) => Ok(Some(trees)),
+        None => first_trees(alloc, p, best),
+    }
+}

@@ -1,0 +1,140 @@
+ghost use Rattle.std.specs.Prelude.{◌≡◌, ℕ, suc, ◌+◌, ◌^◌, ◌<◌, ◌≤◌, nat_le, length, Option, Some, None, IfOk, OnOk};
+ghost use Rattle.std.specs.List.{count_by};
+ghost use Rattle.placement_programme.specs.Programme.{Fits};
+ghost use Rattle.placement_programme.specs.Views.{plain_side};
+ghost use Rattle.certificate_checker.specs.Nodes.{branch};
+ghost use Rattle.certificate_checker.specs.Views.{plain_tree};
+ghost use Rattle.branch_bound.specs.Assignments.{taken, IsGreatestFree};
+ghost use Rattle.branch_bound.specs.Searching.{EntryBelow, Tells, Visits, HasLevels, KeepsIncumbent};
+
+use crate::closing::plain_dual;
+use crate::greedy::greatest_free;
+use crate::improving::improve;
+use crate::loads::exceeded;
+use crate::running::Running;
+use crate::visiting::Visit;
+use certificate_checker::Tree;
+use placement_programme::Side;
+use std::alloc::{AllocError, Global};
+
+/// Closes a node by the dual rule without multipliers, or branches on its free variable of greatest gain.
+fn close_or_open(alloc: Global, side: &Side, marks: &[u8], number: u32, best: u128) -> Visit
+    requires marked { length (plain_side side.now).vars ≤ length marks.now }
+    requires fits { Fits (plain_side side.now) (taken (plain_side side.now) marks.now) }
+    requires greatest { IsGreatestFree (plain_side side.now) marks.now number }
+    requires small { best ≤ 2 ^ 104 }
+    ensures { Visits (plain_side side.now) best marks.now result }
+{
+    match plain_dual(alloc, side, marks, best) {
+        Some(tree) => Visit::Closed(tree),
+        None => Visit::Open(number),
+    }
+}
+
+/// Visits a node that exceeds no row. What its assignment takes may become the incumbent.
+fn visit_fitting(
+    alloc: Global,
+    side: &Side,
+    on: bool,
+    marks: &[u8],
+    run: &mut Running,
+) -> Result<Visit, AllocError>
+    requires marked { length (plain_side side.now).vars ≤ length marks.now }
+    requires fits { Fits (plain_side side.now) (taken (plain_side side.now) marks.now) }
+    requires small { run.old.best.gain ≤ 2 ^ 104 }
+    ensures visits { IfOk result (Visits (plain_side side.now) run.new.best.gain marks.now) }
+    ensures here { OnOk result (EntryBelow (plain_side side.now) run.new.best.gain marks.now) }
+    ensures grows { OnOk result (run.old.best.gain ≤ run.new.best.gain) }
+    ensures small { run.new.best.gain ≤ 2 ^ 104 }
+    ensures left { OnOk result (run.new.left ≡ run.old.left) }
+    ensures keeps { OnOk result (KeepsIncumbent on (plain_side side.now) run.old.best run.new.best) }
+{
+    improve(alloc, side, on, marks, &mut run.best)?;
+    match greatest_free(side, marks) {
+        None => Ok(Visit::Closed(Tree::Leaf)),
+        Some(number) => {
+            let best = run.best.gain;
+            Ok(close_or_open(alloc, side, marks, number, best))
+        }
+    }
+}
+
+/// Visits a node: closes it, or names the variable on which to branch.
+fn visit(
+    alloc: Global,
+    side: &Side,
+    on: bool,
+    marks: &[u8],
+    run: &mut Running,
+) -> Result<Visit, AllocError>
+    requires marked { length (plain_side side.now).vars ≤ length marks.now }
+    requires small { run.old.best.gain ≤ 2 ^ 104 }
+    ensures visits { IfOk result (Visits (plain_side side.now) run.new.best.gain marks.now) }
+    ensures here { OnOk result (EntryBelow (plain_side side.now) run.new.best.gain marks.now) }
+    ensures grows { OnOk result (run.old.best.gain ≤ run.new.best.gain) }
+    ensures small { run.new.best.gain ≤ 2 ^ 104 }
+    ensures left { OnOk result (run.new.left ≡ run.old.left) }
+    ensures keeps { OnOk result (KeepsIncumbent on (plain_side side.now) run.old.best run.new.best) }
+{
+    match exceeded(alloc, side, marks)? {
+        Some(row) => Ok(Visit::Closed(Tree::Over { row })),
+        None => visit_fitting(alloc, side, on, marks, run),
+    }
+}
+
+/// A branch on a variable, with the trees of its two children.
+fn branch_on(alloc: Global, var: u32, zero: Tree, one: Tree) -> Result<Tree, AllocError>
+    ensures { IfOk result (λ tree. plain_tree tree ≡ branch var (plain_tree zero) (plain_tree one)) }
+{
+    let zero = Box::new(alloc, zero)?;
+    let one = Box::new(alloc, one)?;
+    Ok(Tree::Branch { var, zero, one })
+}
+
+/// Searches below some marks, depth first and one before zero, for what gains more than the incumbent; None where the
+/// budget ends before everything is closed. The depth is at most the number of free variables.
+pub(crate) fn search(
+    alloc: Global,
+    side: &Side,
+    on: bool,
+    marks: &mut [u8],
+    run: &mut Running,
+) -> Result<Option<Tree>, AllocError>
+    requires marked { length (plain_side side.now).vars ≤ length marks.old }
+    requires small { run.old.best.gain ≤ 2 ^ 104 }
+    ensures kept { OnOk result (marks.new ≡ marks.old) }
+    ensures grows { OnOk result (run.old.best.gain ≤ run.new.best.gain) }
+    ensures small { run.new.best.gain ≤ 2 ^ 104 }
+    ensures keeps { OnOk result (KeepsIncumbent on (plain_side side.now) run.old.best run.new.best) }
+    ensures levels { IfOk result (HasLevels (suc (count_by (nat_le 2) marks.old))) }
+    ensures tells { IfOk result (λ tree. (start : ℕ) → start ≤ run.old.best.gain → Tells (plain_side side.now) start marks.old run.new.best.gain run.old.left run.new.left tree) }
+{
+    if run.left == 0 {
+        return Ok(None);
+    }
+    run.left -= 1;
+    let number = match visit(alloc, side, on, marks, run)? {
+        Visit::Closed(tree) => return Ok(Some(tree)),
+        Visit::Open(number) => number,
+    };
+    let place = number as usize;
+    let old = marks[place];
+    marks[place] = 1;
+    let one = match search(alloc, side, on, marks, run)? {
+        None => {
+            marks[place] = old;
+            return Ok(None);
+        }
+        Some(tree) => tree,
+    };
+    marks[place] = 0;
+    let zero = match search(alloc, side, on, marks, run)? {
+        None => {
+            marks[place] = old;
+            return Ok(None);
+        }
+        Some(tree) => tree,
+    };
+    marks[place] = old;
+    Ok(Some(branch_on(alloc, number, zero, one)?))
+}

@@ -1,0 +1,56 @@
+ghost use Rattle.std.specs.Prelude.{◌≡◌, ℕ, ◌^◌, ◌≤◌, max, Some, false, true, IfOk, OnOk};
+ghost use Rattle.placement_programme.specs.Programme.{nothing};
+ghost use Rattle.placement_programme.specs.Views.{plain_side, plain_programme};
+ghost use Rattle.branch_bound.specs.Greedy.{GreedyGains, IsStart};
+ghost use Rattle.branch_bound.specs.Searching.{IsIncumbent, KeepsIncumbent, choice_of};
+
+use crate::greedy::greedy;
+use crate::improving::improve;
+use crate::incumbents::Incumbent;
+use crate::ones::free_marks;
+use placement_programme::{Programme, Side};
+use std::alloc::{AllocError, Global};
+
+/// The empty choice as incumbent.
+pub(crate) fn empty_incumbent(alloc: Global, p: &Programme) -> Result<Incumbent, AllocError>
+    ensures empty { IfOk result (λ best. choice_of (plain_programme p.now) best ≡ nothing) }
+    ensures gain { IfOk result (λ best. best.gain ≡ 0) }
+    ensures incumbent { IfOk result (IsIncumbent (plain_programme p.now)) }
+{
+    let marks = free_marks(alloc, &p.off)?;
+    Ok(Incumbent {
+        on: false,
+        gain: 0,
+        marks,
+    })
+}
+
+/// Takes the greedy choice of a side for the incumbent where it gains more.
+fn try_greedy(alloc: Global, side: &Side, on: bool, best: &mut Incumbent) -> Result<(), AllocError>
+    requires { best.old.gain ≤ 2 ^ 104 }
+    ensures gains { OnOk result ((gains : ℕ) × (GreedyGains (Some (plain_side side.now)) gains × (best.new.gain ≡ max best.old.gain gains))) }
+    ensures small { best.new.gain ≤ 2 ^ 104 }
+    ensures keeps { OnOk result (KeepsIncumbent on (plain_side side.now) best.old best.new) }
+{
+    match greedy(alloc, side)? {
+        None => Ok(()),
+        Some(marks) => improve(alloc, side, on, &marks, best),
+    }
+}
+
+/// The better of the greedy choices of a programme's sides.
+pub(crate) fn begin(alloc: Global, p: &Programme) -> Result<Incumbent, AllocError>
+    ensures start { IfOk result (λ best. IsStart (plain_programme p.now) best.gain) }
+    ensures small { IfOk result (λ best. best.gain ≤ 2 ^ 104) }
+    ensures incumbent { IfOk result (IsIncumbent (plain_programme p.now)) }
+{
+    let mut best = empty_incumbent(alloc, p)?;
+    try_greedy(alloc, &p.off, false, &mut best)?;
+    match &p.on {
+        None => Ok(best),
+        Some(side) => {
+            try_greedy(alloc, side, true, &mut best)?;
+            Ok(best)
+        }
+    }
+}

@@ -1,0 +1,3 @@
+pub mod Greater
+pub mod Branches
+pub mod Ranges

@@ -1,0 +1,88 @@
+use crate::columns::{Column, columns_of, scale_for, shared_rows};
+use crate::numbers::{copy_of, is_set, numbered};
+use placement_programme::Side;
+use std::alloc::{AllocError, Global};
+
+/// What the bound reads of a side, made once.
+#[derive(Drop)]
+pub(crate) struct Layout {
+    /// By which gains are multiplied.
+    pub scale: u32,
+    pub capacities: Vec<u64>,
+    pub columns: Vec<Column>,
+    /// The rows that several variables can share.
+    pub shared: Vec<u32>,
+    /// Whether a row is one of those.
+    pub is_shared: Vec<bool>,
+    /// For each row that has room for one variable alone, the variables of which it is the last such row.
+    pub ending: Vec<Vec<u32>>,
+    /// The variables without such rows.
+    pub loose: Vec<u32>,
+    /// The variables with their scaled gains, the least gain first.
+    pub by_gain: Vec<(u64, u32)>,
+}
+
+fn set_rows(alloc: Global, flags: &[bool]) -> Result<Vec<u32>, AllocError> {
+    let mut rows = Vec::new(alloc);
+    for row in 0..numbered(flags.len()) {
+        if is_set(flags, row as usize) {
+            rows.push(row)?;
+        }
+    }
+    Ok(rows)
+}
+
+fn empty_lists(alloc: Global, count: usize) -> Result<Vec<Vec<u32>>, AllocError> {
+    let mut lists = Vec::new(alloc);
+    for _ in 0..count {
+        lists.push(Vec::new(alloc))?;
+    }
+    Ok(lists)
+}
+
+fn push_at(lists: &mut [Vec<u32>], place: usize, number: u32) -> Result<(), AllocError> {
+    if place < lists.len() {
+        lists[place].push(number)?;
+    }
+    Ok(())
+}
+
+/// Enters a variable where the bound looks for it: by its gain, and by the last of its rows for one variable alone.
+fn sort_in(layout: &mut Layout, number: u32) -> Result<(), AllocError> {
+    let place = number as usize;
+    if place >= layout.columns.len() {
+        return Ok(());
+    }
+    let gain = layout.columns[place].gain;
+    layout.by_gain.push((gain, number))?;
+    match layout.columns[place].span() {
+        Some(span) => push_at(&mut layout.ending, span.last, number)?,
+        None => layout.loose.push(number)?,
+    }
+    Ok(())
+}
+
+impl Layout {
+    /// Of a side, None where its gains are too large for the bound.
+    pub(crate) fn of(alloc: Global, side: &Side) -> Result<Option<Layout>, AllocError> {
+        let Some(scale) = scale_for(side) else {
+            return Ok(None);
+        };
+        let is_shared = shared_rows(alloc, side)?;
+        let mut layout = Layout {
+            scale,
+            capacities: copy_of(alloc, &side.rows)?,
+            columns: columns_of(alloc, side, scale, &is_shared)?,
+            shared: set_rows(alloc, &is_shared)?,
+            is_shared,
+            ending: empty_lists(alloc, side.rows.len())?,
+            loose: Vec::new(alloc),
+            by_gain: Vec::new(alloc),
+        };
+        for number in 0..numbered(layout.columns.len()) {
+            sort_in(&mut layout, number)?;
+        }
+        layout.by_gain.sort_unstable();
+        Ok(Some(layout))
+    }
+}

@@ -1,0 +1,66 @@
+use std::alloc::{AllocError, Global};
+
+/// The number at a place, 0 past the end.
+pub(crate) fn number_at(numbers: &[u64], place: usize) -> u64 {
+    if place < numbers.len() {
+        numbers[place]
+    } else {
+        0
+    }
+}
+
+/// A count as a number of 32 bits, at most the greatest one.
+pub(crate) fn numbered(count: usize) -> u32 {
+    u32::try_from(count).unwrap_or(u32::MAX)
+}
+
+/// Whether a place is marked, past the end it is not.
+pub(crate) fn is_set(flags: &[bool], place: usize) -> bool {
+    place < flags.len() && flags[place]
+}
+
+/// Writes a number, and nothing past the end.
+pub(crate) fn put(numbers: &mut [u64], place: usize, number: u64) {
+    if place < numbers.len() {
+        numbers[place] = number;
+    }
+}
+
+/// Marks a place, and nothing past the end.
+pub(crate) fn set(flags: &mut [bool], place: usize) {
+    if place < flags.len() {
+        flags[place] = true;
+    }
+}
+
+/// Adds to a number, which stops at its greatest.
+pub(crate) fn add(numbers: &mut [u64], place: usize, more: u64) {
+    put(
+        numbers,
+        place,
+        number_at(numbers, place).saturating_add(more),
+    );
+}
+
+/// So many zeros.
+pub(crate) fn zeros(alloc: Global, count: usize) -> Result<Vec<u64>, AllocError> {
+    let mut numbers = Vec::new(alloc);
+    numbers.resize(count, 0)?;
+    Ok(numbers)
+}
+
+/// So many flags, none set.
+pub(crate) fn unset(alloc: Global, count: usize) -> Result<Vec<bool>, AllocError> {
+    let mut flags = Vec::new(alloc);
+    flags.resize(count, false)?;
+    Ok(flags)
+}
+
+/// A copy of some numbers.
+pub(crate) fn copy_of(alloc: Global, numbers: &[u64]) -> Result<Vec<u64>, AllocError> {
+    let mut copy = Vec::new(alloc);
+    for number in numbers {
+        copy.push(*number)?;
+    }
+    Ok(copy)
+}
