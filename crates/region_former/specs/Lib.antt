@@ -1,1 +1,14 @@
 pub use Rattle.code_blocks.specs.Blocks
+pub use Rattle.code_blocks.specs.Numbers
+pub use Rattle.board_config.specs.Board
+pub mod Naming
+pub mod Listing
+pub mod Flow
+pub mod Reaching
+pub mod Borders
+pub mod Faults
+pub mod Regions
+pub mod Listed
+pub mod Rows
+pub mod Made
+pub mod Spreading

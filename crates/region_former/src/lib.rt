@@ -1,8 +1,18 @@
 //! The regions of a program, in which objects and code may share the scratchpad in turn.
 #![tactic(auto)]
 
+mod borders;
+mod fault;
+mod flow;
+mod forming;
+mod listing;
+mod naming;
+mod reaching;
+mod spreading;
 mod table;
 
+pub use fault::RegionFault;
+pub use forming::regions;
 pub use table::RegionTable;
 
 #[cfg(test)]
