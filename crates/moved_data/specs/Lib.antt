@@ -1,0 +1,5 @@
+pub use Rattle.simulation.specs.Laws as SimulationLaws
+pub mod Placing
+pub mod SiteWords
+pub mod Moved
+pub mod Laws
