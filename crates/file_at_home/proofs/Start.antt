@@ -154,7 +154,7 @@ module _ (file : List ℕ) (board : Board) (g : Graph) (accepted : IsAccepted fi
       word_kind : (j : ℕ) → is_sound_word v j (reloc_at v j) ≡ true → (reloc_at v j).kind ≡ 1
       word_kind j sound = grind (arith, nat_tests, sound)
 
-  word_given : (d : DataWord) (k : ℕ) (e : DataWord) → k < length g.data_words.items → slice_index_or g.data_words.items k e ≡ d → (j : ℕ) × GivesWord v g d j
+  pub word_given : (d : DataWord) (k : ℕ) (e : DataWord) → k < length g.data_words.items → slice_index_or g.data_words.items k e ≡ d → (j : ℕ) × GivesWord v g d j
   word_given d k e inside is =
       let here : same_word d (slice_index_or g.data_words.items k e) ≡ true = rw is (word_itself d) in
       let listed = list_any_at (same_word d) g.data_words.items k e inside here in

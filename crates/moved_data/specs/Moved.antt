@@ -1,5 +1,5 @@
 -- A result file in which some objects stand in the scratchpad: what its memory holds when it is loaded.
-use Rattle.std.specs.Prelude.{◌≡◌, ◌⊎◌, ℕ, ◌+◌, ◌*◌, ◌<◌, ◌≤◌, false, List, map, length, None, All}
+use Rattle.std.specs.Prelude.{◌≡◌, ◌⊎◌, ℕ, ◌+◌, ◌<◌, ◌≤◌, false, List, map, length, None, All}
 use Rattle.word_bits.specs.Words.{byte_of}
 use Rattle.index_tests.specs.Tests.{any_below}
 use Rattle.elf_reader.specs.File.{PlainView}

@@ -1,0 +1,9 @@
+pub mod Unnamed
+pub mod Runs
+pub mod Loaded
+pub mod CodeWords
+pub mod Sound
+pub mod Units
+pub mod Bounds
+pub mod Start
+pub mod Kept
