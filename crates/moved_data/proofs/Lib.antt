@@ -7,3 +7,4 @@ pub mod Units
 pub mod Bounds
 pub mod Start
 pub mod Kept
+pub mod Example
