@@ -26,7 +26,7 @@ changed-nil at [] = refl
 changed-nil at (byte ∷ bytes) = ap (λ rest. byte ∷ rest) (changed-nil (at + 1) bytes)
 
 -- changes one after the other
-byte_changed-append : (cs ds : List Change) (at old : ℕ) → byte_changed (cs ++ ds) at old ≡ byte_changed ds at (byte_changed cs at old)
+pub byte_changed-append : (cs ds : List Change) (at old : ℕ) → byte_changed (cs ++ ds) at old ≡ byte_changed ds at (byte_changed cs at old)
 byte_changed-append [] ds at old = refl
 byte_changed-append (c ∷ cs) ds at old = byte_changed-append cs ds at (byte_after c at old)
 

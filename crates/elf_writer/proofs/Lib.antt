@@ -3,3 +3,9 @@ pub mod PieceLemmas
 pub mod FitLemmas
 pub mod AllowedLemmas
 pub mod WrittenLemmas
+pub mod AlikeLemmas
+pub mod FreeLemmas
+pub mod PlaceLemmas
+pub mod RangeLemmas
+pub mod ImageLemmas
+pub mod PatchLemmas

@@ -7,4 +7,6 @@ pub mod Parts
 pub mod Written
 pub mod Fits
 pub mod Conditions
+pub mod View
+pub mod Images
 pub mod Laws

@@ -1,3 +1,4 @@
+ghost use Rattle.elf_writer.specs.Images.{NewBytesLoaded, ChangedBytesLoaded, ZerosLoaded, OthersUntouched, UntouchedStay, PatchesLoaded, SectionPatchesLoaded};
 ghost use Rattle.elf_writer.specs.Laws.{BytesWritten, RangesWritten, OthersStay};
 
 /// A byte of the input stays in the file that is written, but for the changes of its place.
@@ -13,4 +14,41 @@ pub fn ranges_written()
 /// Bytes that no change touches stay.
 pub fn others_stay()
     ensures { OthersStay }
+{}
+
+/// The new segment's bytes stand in memory at its addresses.
+pub fn new_bytes_loaded()
+    ensures { NewBytesLoaded }
+{}
+
+/// Where a segment of the input puts a byte into memory, the file that is written puts that byte with the
+/// changes of its place.
+pub fn changed_bytes_loaded()
+    ensures { ChangedBytesLoaded }
+{}
+
+/// Where no segment puts a byte, there are zeros.
+pub fn zeros_loaded()
+    ensures { ZerosLoaded }
+{}
+
+/// A place of the input that is none of a patched word, of the ELF header or of the symbol table is
+/// touched by no change.
+pub fn others_untouched()
+    ensures { OthersUntouched }
+{}
+
+/// An address outside of the new segment keeps its byte where no change touches the byte's place.
+pub fn untouched_stay()
+    ensures { UntouchedStay }
+{}
+
+/// A patched word stands in memory where a segment puts its place of the file.
+pub fn patches_loaded()
+    ensures { PatchesLoaded }
+{}
+
+/// A patched word of a loaded section stands in memory as far behind the section's beginning as in the file.
+pub fn section_patches_loaded()
+    ensures { SectionPatchesLoaded }
 {}

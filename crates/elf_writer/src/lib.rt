@@ -7,7 +7,10 @@ mod parts;
 mod program_headers;
 mod writing;
 
-pub use laws::{bytes_written, others_stay, ranges_written};
+pub use laws::{
+    bytes_written, changed_bytes_loaded, new_bytes_loaded, others_stay, others_untouched,
+    patches_loaded, ranges_written, section_patches_loaded, untouched_stay, zeros_loaded,
+};
 pub use parts::{Patch, SegmentBytes, SymbolMove};
 pub use writing::write;
 

@@ -1,0 +1,71 @@
+-- Records that are read from two files in which the same bytes stand.
+use Rattle.std.proofs.Common.{◌≡◌, ◌∙◌, ℕ, ◌+◌, ◌<◌, ◌≤◌, List, slice_index, sym, ap, arith}
+use Rattle.std.specs.Int.{cast_signed, w32}
+use Rattle.word_bits.specs.Words.{half_of, word_of}
+use Rattle.elf_reader.specs.Layout.{half_in, word_in, program_header_in, section_header_in, symbol_record_in, relocation_record_in}
+
+-- the bytes of file `f` from `at` on are those of file `g` from `to` on, `n` of them
+abbrev pub Alike : List ℕ → ℕ → List ℕ → ℕ → ℕ → Type 0
+Alike f at g to n = (i : ℕ) → i < n → slice_index f (at + i) ≡ slice_index g (to + i)
+
+pub byte_alike : (f : List ℕ) (at : ℕ) (g : List ℕ) (to n k a b : ℕ) → Alike f at g to n → k < n → at + k ≡ a → to + k ≡ b → slice_index f a ≡ slice_index g b
+byte_alike f at g to n k a b alike below is_a is_b =
+    sym (ap (slice_index f) is_a) ∙ (alike k below ∙ ap (slice_index g) is_b)
+
+pub half_alike : (f : List ℕ) (at : ℕ) (g : List ℕ) (to n k a b : ℕ) → Alike f at g to n → k + 2 ≤ n → at + k ≡ a → to + k ≡ b → half_in f a ≡ half_in g b
+half_alike f at g to n k a b alike below is_a is_b =
+    let first = byte_alike f at g to n k a b alike (omega (arith, below)) is_a is_b in
+    let second = byte_alike f at g to n (k + 1) (a + 1) (b + 1) alike (omega (arith, below)) (omega (arith, is_a)) (omega (arith, is_b)) in
+    λ i. half_of (first i) (second i)
+
+pub word_alike : (f : List ℕ) (at : ℕ) (g : List ℕ) (to n k a b : ℕ) → Alike f at g to n → k + 4 ≤ n → at + k ≡ a → to + k ≡ b → word_in f a ≡ word_in g b
+word_alike f at g to n k a b alike below is_a is_b =
+    let first = byte_alike f at g to n k a b alike (omega (arith, below)) is_a is_b in
+    let second = byte_alike f at g to n (k + 1) (a + 1) (b + 1) alike (omega (arith, below)) (omega (arith, is_a)) (omega (arith, is_b)) in
+    let third = byte_alike f at g to n (k + 2) (a + 2) (b + 2) alike (omega (arith, below)) (omega (arith, is_a)) (omega (arith, is_b)) in
+    let fourth = byte_alike f at g to n (k + 3) (a + 3) (b + 3) alike (omega (arith, below)) (omega (arith, is_a)) (omega (arith, is_b)) in
+    λ i. word_of (first i) (second i) (third i) (fourth i)
+
+pub program_header_alike : (f : List ℕ) (at : ℕ) (g : List ℕ) (to : ℕ) → Alike f at g to 32 → program_header_in f at ≡ program_header_in g to
+unfolding program_header_in
+program_header_alike f at g to alike =
+    let kind = word_alike f at g to 32 0 at to alike (omega arith) (omega arith) (omega arith) in
+    let offset = word_alike f at g to 32 4 (at + 4) (to + 4) alike (omega arith) (omega arith) (omega arith) in
+    let vaddr = word_alike f at g to 32 8 (at + 8) (to + 8) alike (omega arith) (omega arith) (omega arith) in
+    let filesz = word_alike f at g to 32 16 (at + 16) (to + 16) alike (omega arith) (omega arith) (omega arith) in
+    let memsz = word_alike f at g to 32 20 (at + 20) (to + 20) alike (omega arith) (omega arith) (omega arith) in
+    let flags = word_alike f at g to 32 24 (at + 24) (to + 24) alike (omega arith) (omega arith) (omega arith) in
+    λ i. record { p_type = kind i; p_offset = offset i; p_vaddr = vaddr i; p_filesz = filesz i; p_memsz = memsz i; p_flags = flags i }
+
+pub section_header_alike : (f : List ℕ) (at : ℕ) (g : List ℕ) (to : ℕ) → Alike f at g to 40 → section_header_in f at ≡ section_header_in g to
+unfolding section_header_in
+section_header_alike f at g to alike =
+    let name = word_alike f at g to 40 0 at to alike (omega arith) (omega arith) (omega arith) in
+    let kind = word_alike f at g to 40 4 (at + 4) (to + 4) alike (omega arith) (omega arith) (omega arith) in
+    let flags = word_alike f at g to 40 8 (at + 8) (to + 8) alike (omega arith) (omega arith) (omega arith) in
+    let addr = word_alike f at g to 40 12 (at + 12) (to + 12) alike (omega arith) (omega arith) (omega arith) in
+    let offset = word_alike f at g to 40 16 (at + 16) (to + 16) alike (omega arith) (omega arith) (omega arith) in
+    let size = word_alike f at g to 40 20 (at + 20) (to + 20) alike (omega arith) (omega arith) (omega arith) in
+    let link = word_alike f at g to 40 24 (at + 24) (to + 24) alike (omega arith) (omega arith) (omega arith) in
+    let info = word_alike f at g to 40 28 (at + 28) (to + 28) alike (omega arith) (omega arith) (omega arith) in
+    let entsize = word_alike f at g to 40 36 (at + 36) (to + 36) alike (omega arith) (omega arith) (omega arith) in
+    λ i.
+    record {
+      sh_name = name i;
+      sh_type = kind i;
+      sh_flags = flags i;
+      sh_addr = addr i;
+      sh_offset = offset i;
+      sh_size = size i;
+      sh_link = link i;
+      sh_info = info i;
+      sh_entsize = entsize i;
+    }
+
+pub relocation_alike : (f : List ℕ) (at : ℕ) (g : List ℕ) (to : ℕ) → Alike f at g to 12 → relocation_record_in f at ≡ relocation_record_in g to
+unfolding relocation_record_in
+relocation_alike f at g to alike =
+    let place = word_alike f at g to 12 0 at to alike (omega arith) (omega arith) (omega arith) in
+    let info = word_alike f at g to 12 4 (at + 4) (to + 4) alike (omega arith) (omega arith) (omega arith) in
+    let addend = word_alike f at g to 12 8 (at + 8) (to + 8) alike (omega arith) (omega arith) (omega arith) in
+    λ i. record { r_offset = place i; r_info = info i; r_addend = cast_signed w32 (addend i) }

@@ -1,0 +1,92 @@
+-- Places of a file that no change touches.
+use Rattle.std.proofs.Common.{◌≡◌, ◌∙◌, ℕ, zero, suc, ◌+◌, ◌*◌, ◌<◌, ◌≤◌, nat_le, nat_lt, Bool, true, false, ◌&&◌, List, [], ◌∷◌, ◌++◌, map, length, refl, ap, subst, arith, if◌then◌else◌}
+use Rattle.std.specs.List.{All}
+use Rattle.std.proofs.lemmas.Bool.Decides.{nat_tests}
+use Rattle.std.proofs.lemmas.List.Elements.{All-nil, All-head, All-tail, All-append, All-map, All-push}
+use Rattle.index_tests.specs.Tests.{meets}
+use Rattle.workload_gen.specs.Pieces.{half_bytes, word_bytes}
+use Rattle.elf_reader.specs.File.{PlainSymbol, PlainView}
+use Rattle.elf_writer.specs.declared.parts.Patch.{Patch}
+use Rattle.elf_writer.specs.declared.parts.SymbolMove.{SymbolMove}
+use Rattle.elf_writer.specs.Changes.{Change, changes_place, byte_after, byte_changed, changed}
+use Rattle.elf_writer.specs.Parts.{NewSegment, patch_change, nth_symbol, move_changes, moves_changes, table_place, header_changes}
+
+-- a place in a range of `n` places from `start`
+abbrev pub within : ℕ → ℕ → ℕ → Bool
+within start n q = nat_le start q && nat_lt q (start + n)
+
+-- no change touches the place
+abbrev pub IsFree : List Change → ℕ → Type 0
+IsFree cs q = All (λ c. changes_place c q ≡ false) cs
+
+pub free_stays : (cs : List Change) (q old : ℕ) → IsFree cs q → byte_changed cs q old ≡ old
+free_stays [] q old free = refl
+free_stays (c ∷ cs) q old free =
+    let here : changes_place c q ≡ false = All-head (λ c. changes_place c q ≡ false) c cs free in
+    let first : byte_after c q old ≡ old = rw here refl in
+    ap (byte_changed cs q) first ∙ free_stays cs q old (All-tail (λ c. changes_place c q ≡ false) c cs free)
+
+-- bytes at free places stay
+pub free_range : (cs : List Change) (start : ℕ) (bytes : List ℕ) → ((i : ℕ) → i < length bytes → IsFree cs (start + i)) → changed cs start bytes ≡ bytes
+free_range cs start [] free = refl
+free_range cs start (byte ∷ bytes) free =
+    let none : start + 0 ≡ start = omega arith in
+    let first = free_stays cs start byte (subst (λ (q : ℕ). IsFree cs q) none (free 0 (omega arith))) in
+    let rest = free_range cs (start + 1) bytes (λ i below. let same : start + suc i ≡ start + 1 + i = omega arith in subst (λ (q : ℕ). IsFree cs q) same (free (suc i) (omega (arith, below)))) in
+    λ i. first i ∷ rest i
+
+-- ---- of each kind of change
+
+pub patches_free : (ps : List Patch) (q : ℕ) → All (λ p. within p.offset 4 q ≡ false) ps → IsFree (map patch_change ps) q
+patches_free ps q off = All-map (λ c. changes_place c q ≡ false) patch_change ps off
+
+-- the place isn't in the record of the symbol
+abbrev pub IsOffRecord : List PlainSymbol → ℕ → SymbolMove → Type 0
+IsOffRecord symbols q m = within (nth_symbol symbols m.symbol).at 16 q ≡ false
+
+all_one : {X : Type 0} (P : X → Type 0) (x : X) → P x → All P (x ∷ [])
+all_one P x is = All-push P [] x (All-nil P) is
+
+all_cons : {X : Type 0} (P : X → Type 0) (x : X) (xs : List X) → P x → All P xs → All P (x ∷ xs)
+all_cons P x xs is all = All-append P (x ∷ []) xs (all_one P x is) all
+
+off_value : (at q : ℕ) → within at 16 q ≡ false → within (at + 4) 4 q ≡ false
+off_value at q off = grind (arith, nat_tests, off)
+
+off_number : (at q : ℕ) → within at 16 q ≡ false → within (at + 14) 2 q ≡ false
+off_number at q off = grind (arith, nat_tests, off)
+
+pub moves_free : (symbols : List PlainSymbol) (ms : List SymbolMove) (q : ℕ) → All (IsOffRecord symbols q) ms → IsFree (moves_changes symbols ms) q
+moves_free symbols [] q off = All-nil (λ c. changes_place c q ≡ false)
+moves_free symbols (m ∷ ms) q off =
+    let at = (nth_symbol symbols m.symbol).at in
+    let here = All-head (IsOffRecord symbols q) m ms off in
+    let later = moves_free symbols ms q (All-tail (IsOffRecord symbols q) m ms off) in
+    let IsOff : Change → Type 0 = λ c. changes_place c q ≡ false in
+    let value : Change = record { place = at + 4; content = word_bytes m.value } in
+    let number : Change = record { place = at + 14; content = half_bytes 65521 } in
+    let rest = moves_changes symbols ms in
+    all_cons IsOff value (number ∷ rest) (off_value at q here) (all_cons IsOff number rest (off_number at q here) later)
+
+-- the ELF header's changes are in its 52 bytes
+header_off : (at n q : ℕ) → at + n ≤ 52 → 52 ≤ q → within at n q ≡ false
+header_off at n q inside behind = grind (arith, nat_tests, inside, behind)
+
+pub header_free : (v : PlainView) (s : NewSegment) (q : ℕ) → 52 ≤ q → IsFree (header_changes v s) q
+header_free v s q behind =
+    let IsOff : Change → Type 0 = λ c. changes_place c q ≡ false in
+    let entry : Change = record { place = 24; content = word_bytes s.entry } in
+    let table : Change = record { place = 28; content = word_bytes (table_place v) } in
+    let count : Change = record { place = 44; content = half_bytes (v.ph_count + 1) } in
+    all_cons IsOff entry (table ∷ count ∷ []) (header_off 24 4 q (omega arith) behind)
+    (all_cons IsOff table (count ∷ []) (header_off 28 4 q (omega arith) behind) (all_one IsOff count (header_off 44 2 q (omega arith) behind)))
+
+-- ---- ranges
+
+-- a place of one of two ranges that don't meet is in no part of the other
+pub apart_places : (b m c n q at k : ℕ) → meets b m c n ≡ false → c ≤ q → q < c + n → b ≤ at → at + k ≤ b + m → within at k q ≡ false
+apart_places b m c n q at k apart from to starts ends = grind (arith, nat_tests, apart, from, to, starts, ends)
+
+-- a place of a range that doesn't meet the first 52 is behind them
+pub behind_header : (c n q : ℕ) → meets c n 0 52 ≡ false → c ≤ q → q < c + n → 52 ≤ q
+behind_header c n q apart from to = grind (arith, nat_tests, apart, from, to)
