@@ -69,3 +69,8 @@ relocation_alike f at g to alike =
     let info = word_alike f at g to 12 4 (at + 4) (to + 4) alike (omega arith) (omega arith) (omega arith) in
     let addend = word_alike f at g to 12 8 (at + 8) (to + 8) alike (omega arith) (omega arith) (omega arith) in
     λ i. record { r_offset = place i; r_info = info i; r_addend = cast_signed w32 (addend i) }
+
+-- a part of such a range
+pub part_alike : (f g : List ℕ) (at n k m : ℕ) → Alike f at g at n → k + m ≤ n → Alike f (at + k) g (at + k) m
+part_alike f g at n k m alike inside i below =
+    byte_alike f at g at n (k + i) (at + k + i) (at + k + i) alike (omega (arith, inside, below)) (omega arith) (omega arith)

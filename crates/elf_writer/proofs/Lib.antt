@@ -9,3 +9,5 @@ pub mod PlaceLemmas
 pub mod RangeLemmas
 pub mod ImageLemmas
 pub mod PatchLemmas
+pub mod HeaderRead
+pub mod SectionsRead

@@ -69,3 +69,15 @@ pub record IsWritable (v : PlainView) (ps : List Patch) (segment : Option NewSeg
   pub distinct : AllPairs AreOfTwoSymbols ms
   pub allowed : Allows v ms segment
   pub short : length (written v ps segment ms) < 2147483648
+
+-- the numbers that are put into fields of words fit there
+abbrev pub HasWordEntry : Option NewSegment → Type 0
+HasWordEntry None = Unit {0}
+HasWordEntry (Some s) = s.entry < 4294967296
+
+abbrev pub HasWordValue : SymbolMove → Type 0
+HasWordValue m = m.value < 4294967296
+
+pub record HasWords (segment : Option NewSegment) (ms : List SymbolMove) : Type 0 where
+  pub entry : HasWordEntry segment
+  pub values : All HasWordValue ms
