@@ -1,5 +1,5 @@
 -- Places of a file that no change touches.
-use Rattle.std.proofs.Common.{◌≡◌, ◌∙◌, ℕ, zero, suc, ◌+◌, ◌*◌, ◌<◌, ◌≤◌, nat_le, nat_lt, Bool, true, false, ◌&&◌, List, [], ◌∷◌, ◌++◌, map, length, refl, ap, subst, arith, if◌then◌else◌}
+use Rattle.std.proofs.Common.{◌≡◌, ◌∙◌, ℕ, zero, suc, ◌+◌, ◌*◌, ◌<◌, ◌≤◌, nat_le, nat_lt, Bool, true, false, ◌&&◌, List, [], ◌∷◌, ◌++◌, map, length, get_or, refl, ap, subst, arith, if◌then◌else◌}
 use Rattle.std.specs.List.{All}
 use Rattle.std.proofs.lemmas.Bool.Decides.{nat_tests}
 use Rattle.std.proofs.lemmas.List.Elements.{All-nil, All-head, All-tail, All-append, All-map, All-push}
@@ -56,17 +56,29 @@ off_value at q off = grind (arith, nat_tests, off)
 off_number : (at q : ℕ) → within at 16 q ≡ false → within (at + 14) 2 q ≡ false
 off_number at q off = grind (arith, nat_tests, off)
 
-pub moves_free : (symbols : List PlainSymbol) (ms : List SymbolMove) (q : ℕ) → All (IsOffRecord symbols q) ms → IsFree (moves_changes symbols ms) q
-moves_free symbols [] q off = All-nil (λ c. changes_place c q ≡ false)
-moves_free symbols (m ∷ ms) q off =
+-- no change of a move touches the place
+pub record IsOffChanges (at q : ℕ) : Type 0 where
+  pub value : within (at + 4) 4 q ≡ false
+  pub number : within (at + 14) 2 q ≡ false
+
+pub moves_off : (symbols : List PlainSymbol) (ms : List SymbolMove) (q : ℕ) → All (λ m. IsOffChanges (nth_symbol symbols m.symbol).at q) ms → IsFree (moves_changes symbols ms) q
+moves_off symbols [] q off = All-nil (λ c. changes_place c q ≡ false)
+moves_off symbols (m ∷ ms) q off =
     let at = (nth_symbol symbols m.symbol).at in
-    let here = All-head (IsOffRecord symbols q) m ms off in
-    let later = moves_free symbols ms q (All-tail (IsOffRecord symbols q) m ms off) in
+    let here = All-head (λ m. IsOffChanges (nth_symbol symbols m.symbol).at q) m ms off in
+    let later = moves_off symbols ms q (All-tail (λ m. IsOffChanges (nth_symbol symbols m.symbol).at q) m ms off) in
     let IsOff : Change → Type 0 = λ c. changes_place c q ≡ false in
     let value : Change = record { place = at + 4; content = word_bytes m.value } in
     let number : Change = record { place = at + 14; content = half_bytes 65521 } in
     let rest = moves_changes symbols ms in
-    all_cons IsOff value (number ∷ rest) (off_value at q here) (all_cons IsOff number rest (off_number at q here) later)
+    all_cons IsOff value (number ∷ rest) here.value (all_cons IsOff number rest here.number later)
+
+pub moves_free : (symbols : List PlainSymbol) (ms : List SymbolMove) (q : ℕ) → All (IsOffRecord symbols q) ms → IsFree (moves_changes symbols ms) q
+moves_free symbols ms q off =
+    moves_off symbols ms q
+    (λ i d below.
+    let at = (nth_symbol symbols (get_or ms i d).symbol).at in
+    record { value = off_value at q (off i d below); number = off_number at q (off i d below) })
 
 -- the ELF header's changes are in its 52 bytes
 header_off : (at n q : ℕ) → at + n ≤ 52 → 52 ≤ q → within at n q ≡ false

@@ -11,3 +11,4 @@ pub mod ImageLemmas
 pub mod PatchLemmas
 pub mod HeaderRead
 pub mod SectionsRead
+pub mod SymbolsRead
