@@ -12,3 +12,4 @@ pub mod PatchLemmas
 pub mod HeaderRead
 pub mod SectionsRead
 pub mod SymbolsRead
+pub mod RelocationsRead

@@ -1,5 +1,5 @@
 -- The symbols of a written file, read back.
-use Rattle.std.proofs.Common.{◌≡◌, ◌∙◌, inl, inr, ℕ, zero, suc, ◌+◌, ◌-◌, ◌*◌, ◌/◌, ◌%◌, ◌<◌, ◌≤◌, ◌==◌, nat_le, nat_lt, Bool, true, false, not, ◌&&◌, List, [], ◌∷◌, ◌++◌, map, length, get_or, slice_index, Option, Some, None, refl, sym, ap, subst, arith, add-one, if◌then◌else◌}
+use Rattle.std.proofs.Common.{◌≡◌, ◌∙◌, ◌⊎◌, inl, inr, ℕ, zero, suc, ◌+◌, ◌-◌, ◌*◌, ◌/◌, ◌%◌, ◌<◌, ◌≤◌, ◌==◌, nat_le, nat_lt, Bool, true, false, not, ◌&&◌, List, [], ◌∷◌, ◌++◌, map, length, get_or, slice_index, Option, Some, None, refl, sym, ap, subst, arith, add-one, if◌then◌else◌}
 use Rattle.std.specs.List.{All}
 use Rattle.std.proofs.lemmas.Bool.{eqb-true, cases_Bool, cond-true, cond-false}
 use Rattle.std.proofs.lemmas.Bool.Decides.{nat_tests}
@@ -8,7 +8,7 @@ use Rattle.fault_order.specs.First.{◌or_else◌, unless}
 use Rattle.word_bits.specs.Words.{byte_of, half_of, word_of}
 use Rattle.workload_gen.specs.Pieces.{half_bytes, word_bytes}
 use Rattle.elf_reader.specs.Layout.{section_count, section_header, half_in, word_in, symbol_record_in, symbol_record}
-use Rattle.elf_reader.specs.Sections.{stands_in_file, is_symbol_table, name_in, symbol_table_below, symbol_table, symbol_count_of, symbol_names}
+use Rattle.elf_reader.specs.Sections.{stands_in_file, is_symbol_table, section_content, name_in, symbol_table_below, symbol_table, symbol_count_of, symbol_names}
 use Rattle.elf_reader.specs.File.{PlainSymbol, PlainView, view_in, symbol_of, symbols_below, symbols_in, all_symbols}
 use Rattle.elf_reader.specs.Faults.{first_fault}
 use Rattle.elf_reader.specs.SymbolTables.{IsReadable, HasReadable}
@@ -190,3 +190,136 @@ moved_half symbols (m ∷ ms) start i at b0 b1 old stand is_at whole =
     let step = moved_half_step symbols m start i at b0 b1 old (All-head (StandsFrom symbols start) m ms stand) is_at whole in
     moved_half symbols ms start i at (step_byte symbols m (at + 14) b0) (step_byte symbols m (at + 15) b1)
     (if m.symbol == i then 65521 else old) (All-tail (StandsFrom symbols start) m ms stand) is_at step
+
+-- the record of symbol `i` in the written file
+pub record IsMoved (out file : List ℕ) (ms : List SymbolMove) (at i : ℕ) : Type 0 where
+  pub name_is : (symbol_record_in out at).st_name ≡ (symbol_record_in file at).st_name
+  pub value_is : (symbol_record_in out at).st_value ≡ moved_value ms i (symbol_record_in file at).st_value
+  pub size_is : (symbol_record_in out at).st_size ≡ (symbol_record_in file at).st_size
+  pub info_is : (symbol_record_in out at).st_info ≡ (symbol_record_in file at).st_info
+  pub section_is : (symbol_record_in out at).st_shndx ≡ moved_section ms i (symbol_record_in file at).st_shndx
+
+-- what the moves make of the bytes of the record
+abbrev pub BytesMoved : List ℕ → List ℕ → List PlainSymbol → List SymbolMove → ℕ → Type 0
+BytesMoved out file symbols ms at =
+    (r : ℕ) → r < 16 → slice_index out (at + r) ≡ byte_changed (moves_changes symbols ms) (at + r) (slice_index file (at + r))
+
+kept_byte : (out file : List ℕ) (symbols : List PlainSymbol) (ms : List SymbolMove) (start i at r : ℕ) → BytesMoved out file symbols ms at → All (StandsFrom symbols start) ms → at ≡ start + 16 * i → r < 14 → (nat_le 4 r && nat_lt r 8) ≡ false → slice_index out (at + r) ≡ slice_index file (at + r)
+kept_byte out file symbols ms start i at r bytes stand is_at below other =
+    bytes r (omega (arith, below))
+    ∙ free_stays (moves_changes symbols ms) (at + r) (slice_index file (at + r)) (field_free symbols ms start i r (at + r) stand (omega (arith, is_at)) below other)
+
+kept_word : (out file : List ℕ) (symbols : List PlainSymbol) (ms : List SymbolMove) (start i at r : ℕ) → BytesMoved out file symbols ms at → All (StandsFrom symbols start) ms → at ≡ start + 16 * i → (r ≡ 0) ⊎ (r ≡ 8) → word_in out (at + r) ≡ word_in file (at + r)
+kept_word out file symbols ms start i at r bytes stand is_at (inl first) =
+    word_alike out (at + r) file (at + r) 4 0 (at + r) (at + r)
+    (λ k below.
+    let same : at + (r + k) ≡ at + r + k = omega arith in
+    let here = kept_byte out file symbols ms start i at (r + k) bytes stand is_at (omega (arith, first, below)) (grind (arith, nat_tests, first, below)) in
+    sym (ap (slice_index out) same) ∙ (here ∙ ap (slice_index file) same))
+    (omega arith) (omega arith) (omega arith)
+kept_word out file symbols ms start i at r bytes stand is_at (inr later) =
+    word_alike out (at + r) file (at + r) 4 0 (at + r) (at + r)
+    (λ k below.
+    let same : at + (r + k) ≡ at + r + k = omega arith in
+    let here = kept_byte out file symbols ms start i at (r + k) bytes stand is_at (omega (arith, later, below)) (grind (arith, nat_tests, later, below)) in
+    sym (ap (slice_index out) same) ∙ (here ∙ ap (slice_index file) same))
+    (omega arith) (omega arith) (omega arith)
+
+-- the bytes of the fields that moves change
+value_bytes : (file : List ℕ) (at : ℕ) → word_in file (at + 4) ≡ word_of (slice_index file (at + 4)) (slice_index file (at + 5)) (slice_index file (at + 6)) (slice_index file (at + 7))
+value_bytes file at =
+    let second : at + 4 + 1 ≡ at + 5 = omega arith in
+    let third : at + 4 + 2 ≡ at + 6 = omega arith in
+    let fourth : at + 4 + 3 ≡ at + 7 = omega arith in
+    λ k. word_of (slice_index file (at + 4)) (slice_index file (second k)) (slice_index file (third k)) (slice_index file (fourth k))
+
+section_bytes : (file : List ℕ) (at : ℕ) → half_in file (at + 14) ≡ half_of (slice_index file (at + 14)) (slice_index file (at + 15))
+section_bytes file at =
+    let second : at + 14 + 1 ≡ at + 15 = omega arith in
+    λ k. half_of (slice_index file (at + 14)) (slice_index file (second k))
+
+pub record_moved : (out file : List ℕ) (symbols : List PlainSymbol) (ms : List SymbolMove) (start i at : ℕ) → BytesMoved out file symbols ms at → All (StandsFrom symbols start) ms → All HasWordValue ms → at ≡ start + 16 * i → IsMoved out file ms at i
+unfolding symbol_record_in
+record_moved out file symbols ms start i at bytes stand fit is_at =
+    let none : at + 0 ≡ at = omega arith in
+    let v0 = bytes 4 (omega arith) in
+    let v1 = bytes 5 (omega arith) in
+    let v2 = bytes 6 (omega arith) in
+    let v3 = bytes 7 (omega arith) in
+    let n0 = bytes 14 (omega arith) in
+    let n1 = bytes 15 (omega arith) in
+    record {
+      name_is = subst (λ (p : ℕ). word_in out p ≡ word_in file p) none (kept_word out file symbols ms start i at 0 bytes stand is_at (inl refl));
+      value_is =
+          value_bytes out at
+          ∙ ((λ k. word_of (v0 k) (v1 k) (v2 k) (v3 k))
+          ∙ moved_word symbols ms start i at (slice_index file (at + 4)) (slice_index file (at + 5)) (slice_index file (at + 6)) (slice_index file (at + 7)) (word_in file (at + 4)) stand fit is_at (sym (value_bytes file at)));
+      size_is = kept_word out file symbols ms start i at 8 bytes stand is_at (inr refl);
+      info_is = kept_byte out file symbols ms start i at 12 bytes stand is_at (omega arith) refl;
+      section_is =
+          section_bytes out at
+          ∙ ((λ k. half_of (n0 k) (n1 k))
+          ∙ moved_half symbols ms start i at (slice_index file (at + 14)) (slice_index file (at + 15)) (half_in file (at + 14)) stand is_at (sym (section_bytes file at)));
+    }
+
+-- ---- all symbols
+
+pub symbol_read : (file : List ℕ) (ps : List Patch) (new : Option NewSegment) (ms : List SymbolMove) (t i : ℕ) → first_fault file ≡ None → IsWritable (view_in file) ps new ms → All HasWordValue ms → symbol_table file ≡ Some t → IsReadable file t → i < symbol_count_of (section_header file t) → symbol_of (written (view_in file) ps new ms) t i ≡ moved_symbol ms i (symbol_of file t i)
+symbol_read file ps new ms t i none is fit found readable below =
+    let out = written (view_in file) ps new ms in
+    let s = section_header file t in
+    let at = s.sh_offset + 16 * i in
+    let own = own_table file t none found in
+    let same = section_header_is file ps new ms t none is readable.below in
+    let names : symbol_names out t ≡ symbol_names file t =
+    (λ k. section_content out (same k).sh_link) ∙ strings_stay file ps new ms s.sh_link none is readable.strings
+    in
+    let inside : at + 16 ≤ s.sh_offset + s.sh_size = omega (arith, below) in
+    let bytes : BytesMoved out file (view_in file).symbols ms at =
+    λ r low. table_byte file ps new ms t (at + r) none is own (omega arith) (omega (arith, low, inside))
+    in
+    let moved = record_moved out file (view_in file).symbols ms s.sh_offset i at bytes (moves_stand file ms t found is.symbols) fit refl in
+    let there : symbol_record out t i ≡ symbol_record_in out at = λ k. symbol_record_in out ((same k).sh_offset + 16 * i) in
+    (λ k.
+    record {
+      name = name_in (names k) (there k).st_name;
+      value = (there k).st_value;
+      size = (there k).st_size;
+      kind = (there k).st_info % 16;
+      section = (there k).st_shndx;
+      at = (same k).sh_offset + 16 * i;
+    })
+    ∙ (λ k.
+    record {
+      name = name_in (symbol_names file t) (moved.name_is k);
+      value = moved.value_is k;
+      size = moved.size_is k;
+      kind = moved.info_is k % 16;
+      section = moved.section_is k;
+      at = at;
+    })
+
+moved_more : (ms : List SymbolMove) (i n : ℕ) (xs : List PlainSymbol) (x : PlainSymbol) → i + length xs ≡ n → moved_symbols ms i (xs ++ x ∷ []) ≡ moved_symbols ms i xs ++ moved_symbol ms n x ∷ []
+moved_more ms i n [] x is = let same : i ≡ n = omega (arith, is) in ap (λ k. moved_symbol ms k x ∷ []) same
+moved_more ms i n (y ∷ ys) x is = ap (λ rest. moved_symbol ms i y ∷ rest) (moved_more ms (i + 1) n ys x (omega (arith, is)))
+
+symbols_read_below : (file : List ℕ) (ps : List Patch) (new : Option NewSegment) (ms : List SymbolMove) (t n : ℕ) → first_fault file ≡ None → IsWritable (view_in file) ps new ms → All HasWordValue ms → symbol_table file ≡ Some t → IsReadable file t → n ≤ symbol_count_of (section_header file t) → symbols_below (written (view_in file) ps new ms) t n ≡ moved_symbols ms 0 (symbols_below file t n)
+symbols_read_below file ps new ms t zero none is fit found readable le = refl
+symbols_read_below file ps new ms t (suc n) none is fit found readable le =
+    let earlier = symbols_read_below file ps new ms t n none is fit found readable (omega (arith, le)) in
+    let here = symbol_read file ps new ms t n none is fit found readable (omega (arith, le)) in
+    let size = length_symbols file t n in
+    (λ k. earlier k ++ here k ∷ []) ∙ sym (moved_more ms 0 n (symbols_below file t n) (symbol_of file t n) (omega (arith, size)))
+
+symbols_read_in : (file : List ℕ) (ps : List Patch) (new : Option NewSegment) (ms : List SymbolMove) (found : Option ℕ) → first_fault file ≡ None → IsWritable (view_in file) ps new ms → All HasWordValue ms → symbol_table file ≡ found → HasReadable file found → symbols_in (written (view_in file) ps new ms) found ≡ moved_symbols ms 0 (symbols_in file found)
+symbols_read_in file ps new ms None none is fit found readable = refl
+symbols_read_in file ps new ms (Some t) none is fit found readable =
+    let out = written (view_in file) ps new ms in
+    let same = section_header_is file ps new ms t none is readable.below in
+    (λ k. symbols_below out t (symbol_count_of (same k)))
+    ∙ symbols_read_below file ps new ms t (symbol_count_of (section_header file t)) none is fit found readable (omega arith)
+
+pub symbols_read : (file : List ℕ) (ps : List Patch) (new : Option NewSegment) (ms : List SymbolMove) → first_fault file ≡ None → IsWritable (view_in file) ps new ms → All HasWordValue ms → all_symbols (written (view_in file) ps new ms) ≡ moved_symbols ms 0 (all_symbols file)
+symbols_read file ps new ms none is fit =
+    ap (symbols_in (written (view_in file) ps new ms)) (table_stays file ps new ms none is)
+    ∙ symbols_read_in file ps new ms (symbol_table file) none is fit refl (readable_held file none)
