@@ -71,6 +71,6 @@ relocation_alike f at g to alike =
     λ i. record { r_offset = place i; r_info = info i; r_addend = cast_signed w32 (addend i) }
 
 -- a part of such a range
-pub part_alike : (f g : List ℕ) (at n k m : ℕ) → Alike f at g at n → k + m ≤ n → Alike f (at + k) g (at + k) m
-part_alike f g at n k m alike inside i below =
-    byte_alike f at g at n (k + i) (at + k + i) (at + k + i) alike (omega (arith, inside, below)) (omega arith) (omega arith)
+pub part_alike : (f g : List ℕ) (at to n k m : ℕ) → Alike f at g to n → k + m ≤ n → Alike f (at + k) g (to + k) m
+part_alike f g at to n k m alike inside i below =
+    byte_alike f at g to n (k + i) (at + k + i) (to + k + i) alike (omega (arith, inside, below)) (omega arith) (omega arith)

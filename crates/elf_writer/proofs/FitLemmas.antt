@@ -192,7 +192,7 @@ number_within file base =
     place_within (load_segments file) (program_header_count file) base (numbers_below file (program_header_count file) (program_header_count file) (omega arith))
 
 -- how many bytes are written
-length_range : (bytes : List ℕ) (start end : ℕ) → end ≤ length bytes → length (slice_range bytes start end) ≡ end - start
+pub length_range : (bytes : List ℕ) (start end : ℕ) → end ≤ length bytes → length (slice_range bytes start end) ≡ end - start
 length_range bytes start end within = simp (length-take, length-drop) (omega (arith, within))
 
 pub length_table : (v : PlainView) (s : NewSegment) → new_number v s ≤ v.ph_count → v.ph_at + 32 * v.ph_count ≤ length v.bytes → length (new_table v s) ≡ 32 * (v.ph_count + 1)

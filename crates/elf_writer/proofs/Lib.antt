@@ -13,3 +13,4 @@ pub mod HeaderRead
 pub mod SectionsRead
 pub mod SymbolsRead
 pub mod RelocationsRead
+pub mod TableRead

@@ -58,7 +58,7 @@ relocation_read file ps new ms k i none is below entry =
     let same = section_header_is file ps new ms k none is below in
     let whole = kept_content file ps new ms k 4 none is below kind refl (λ e. omega (arith, e)) (λ e. omega (arith, e)) in
     let inside : i < s.sh_size / 12 = read.1 in
-    let here = part_alike out file s.sh_offset s.sh_size (12 * i) 12 whole (omega (arith, inside)) in
+    let here = part_alike out file s.sh_offset s.sh_offset s.sh_size (12 * i) 12 whole (omega (arith, inside)) in
     let there : relocation_record out k i ≡ relocation_record file k i =
     (λ j. relocation_record_in out ((same j).sh_offset + 12 * i)) ∙ relocation_alike out at file at here
     in

@@ -33,7 +33,7 @@ section_header_is file ps new ms k none is below =
     let out = written (view_in file) ps new ms in
     let start = (file_header file).e_shoff in
     let whole = range_alike file ps new ms start (40 * section_count file) none is (section_headers_off file none) (headers_inside file k none below) in
-    let here = part_alike out file start (40 * section_count file) (40 * k) 40 whole (omega (arith, below)) in
+    let here = part_alike out file start start (40 * section_count file) (40 * k) 40 whole (omega (arith, below)) in
     ap (λ n. section_header_in out (n + 40 * k)) (keeps_header file ps new ms none is).sections_at
     ∙ section_header_alike out (start + 40 * k) file (start + 40 * k) here
 
