@@ -14,3 +14,5 @@ pub mod SectionsRead
 pub mod SymbolsRead
 pub mod RelocationsRead
 pub mod TableRead
+pub mod SegmentsRead
+pub mod ViewRead

@@ -1,11 +1,15 @@
--- What the bytes of a file that is written are, place by place.
-use Rattle.std.specs.Prelude.{◌≡◌, ◌⊎◌, ℕ, ◌+◌, ◌<◌, ◌≤◌, List, length, slice_index, slice_range, Option, All}
-use Rattle.elf_reader.specs.File.{PlainView}
+-- What the bytes of a file that is written are, place by place, and what a reader finds in them.
+use Rattle.std.specs.Prelude.{◌≡◌, ◌⊎◌, ℕ, ◌+◌, ◌<◌, ◌≤◌, List, length, slice_index, slice_range, Option, None, All}
+use Rattle.elf_reader.specs.File.{IsFile, PlainView, plain_view, view_in}
+use Rattle.elf_reader.specs.Faults.{first_fault}
+use Rattle.elf_reader.specs.declared.view.ElfView.{ElfView}
 use Rattle.elf_writer.specs.declared.parts.Patch.{Patch}
 use Rattle.elf_writer.specs.declared.parts.SymbolMove.{SymbolMove}
 use Rattle.elf_writer.specs.Changes.{Change, byte_changed, changed}
 use Rattle.elf_writer.specs.Parts.{NewSegment}
 use Rattle.elf_writer.specs.Written.{all_changes, written}
+use Rattle.elf_writer.specs.Conditions.{IsWritable, HasWords}
+use Rattle.elf_writer.specs.View.{written_view}
 
 -- a byte of the input stays, but for the changes of its place
 abbrev pub BytesWritten : Type 0
@@ -27,3 +31,18 @@ IsOff start size c = (c.place + length c.content ≤ start) ⊎ (start + size �
 abbrev pub OthersStay : Type 0
 OthersStay =
     (cs : List Change) (start : ℕ) (bytes : List ℕ) → All (IsOff start (length bytes)) cs → changed cs start bytes ≡ bytes
+
+-- what a reader finds in the file that is written: the view with the words, the segment and the moves
+abbrev pub WrittenReadsBack : Type 0
+WrittenReadsBack =
+    (file : List ℕ) (ps : List Patch) (new : Option NewSegment) (ms : List SymbolMove) → first_fault file ≡ None → IsWritable (view_in file) ps new ms
+    → HasWords new ms
+    → view_in (written (view_in file) ps new ms) ≡ written_view (view_in file) ps new ms
+
+-- so each view that says this is one of the file that is written
+abbrev pub WrittenIsFile : Type 0
+WrittenIsFile =
+    (file : List ℕ) (ps : List Patch) (new : Option NewSegment) (ms : List SymbolMove) (view : ElfView) → first_fault file ≡ None → IsWritable (view_in file) ps new ms
+    → HasWords new ms
+    → plain_view view ≡ written_view (view_in file) ps new ms
+    → IsFile (written (view_in file) ps new ms) view

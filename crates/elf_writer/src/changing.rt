@@ -4,6 +4,7 @@ ghost use Rattle.elf_reader.specs.File.{plain_symbol};
 ghost use Rattle.workload_gen.specs.Pieces.{half_bytes, word_bytes};
 ghost use Rattle.elf_writer.specs.Changes.{Change, changed};
 ghost use Rattle.elf_writer.specs.Parts.{patch_change, move_changes, moves_changes};
+ghost use Rattle.elf_writer.specs.Conditions.{HasWordValue};
 ghost use Rattle.elf_writer.specs.Fits.{PatchFits, MoveFits};
 
 use crate::parts::{Patch, SymbolMove};
@@ -13,7 +14,6 @@ use elf_reader::Symbol;
 const SHN_ABS: u16 = 0xfff1;
 
 /// Puts bytes in the place of those that stand from `place` on.
-
 fn put_bytes(out: &mut [u8], place: usize, bytes: &[u8])
     requires { place + length bytes.now ≤ length out.old }
     ensures { out.new ≡ changed (record { place = place; content = bytes.now } ∷ []) 0 out.old }
@@ -50,7 +50,8 @@ pub(crate) fn put_patches(out: &mut [u8], patches: &[Patch])
 /// Gives a symbol an absolute value.
 fn put_move(out: &mut [u8], symbol: &Symbol, value: u32)
     requires { symbol.now.at + 16 ≤ length out.old }
-    ensures { out.new ≡ changed (record { place = symbol.now.at + 4; content = word_bytes value } ∷ record { place = symbol.now.at + 14; content = half_bytes 65521 } ∷ []) 0 out.old }
+    ensures word { value < 4294967296 }
+    ensures new { out.new ≡ changed (record { place = symbol.now.at + 4; content = word_bytes value } ∷ record { place = symbol.now.at + 14; content = half_bytes 65521 } ∷ []) 0 out.old }
 {
     let at = symbol.at as usize;
     put_word(out, at + 4, value);
@@ -60,7 +61,8 @@ fn put_move(out: &mut [u8], symbol: &Symbol, value: u32)
 /// Gives moved symbols their values.
 pub(crate) fn put_moves(out: &mut [u8], symbols: &[Symbol], moves: &[SymbolMove])
     requires { All (MoveFits (length out.old) (map plain_symbol symbols.now)) moves.now }
-    ensures { out.new ≡ changed (moves_changes (map plain_symbol symbols.now) moves.now) 0 out.old }
+    ensures words { All HasWordValue moves.now }
+    ensures new { out.new ≡ changed (moves_changes (map plain_symbol symbols.now) moves.now) 0 out.old }
 {
     for change in moves {
         put_move(out, &symbols[change.symbol as usize], change.value);

@@ -1,5 +1,5 @@
 ghost use Rattle.elf_writer.specs.Images.{NewBytesLoaded, ChangedBytesLoaded, ZerosLoaded, OthersUntouched, UntouchedStay, PatchesLoaded, SectionPatchesLoaded};
-ghost use Rattle.elf_writer.specs.Laws.{BytesWritten, RangesWritten, OthersStay};
+ghost use Rattle.elf_writer.specs.Laws.{BytesWritten, RangesWritten, OthersStay, WrittenReadsBack, WrittenIsFile};
 
 /// A byte of the input stays in the file that is written, but for the changes of its place.
 pub fn bytes_written()
@@ -14,6 +14,17 @@ pub fn ranges_written()
 /// Bytes that no change touches stay.
 pub fn others_stay()
     ensures { OthersStay }
+{}
+
+/// A reader finds in the file that is written the view of the input with the words, the segment and the
+/// moves, and with the changed bytes of the ELF header and of the symbol table wherever a segment loads them.
+pub fn written_reads_back()
+    ensures { WrittenReadsBack }
+{}
+
+/// Each view that says this is one of the file that is written.
+pub fn written_is_file()
+    ensures { WrittenIsFile }
 {}
 
 /// The new segment's bytes stand in memory at its addresses.

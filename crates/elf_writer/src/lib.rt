@@ -9,7 +9,8 @@ mod writing;
 
 pub use laws::{
     bytes_written, changed_bytes_loaded, new_bytes_loaded, others_stay, others_untouched,
-    patches_loaded, ranges_written, section_patches_loaded, untouched_stay, zeros_loaded,
+    patches_loaded, ranges_written, section_patches_loaded, untouched_stay, written_is_file,
+    written_reads_back, zeros_loaded,
 };
 pub use parts::{Patch, SegmentBytes, SymbolMove};
 pub use writing::write;

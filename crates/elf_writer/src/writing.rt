@@ -1,12 +1,13 @@
 ghost use Rattle.std.specs.Prelude.{◌≡◌, ℕ, ◌+◌, ◌*◌, ◌%◌, ◌-◌, ◌<◌, ◌≤◌, ◌++◌, ◌∷◌, [], List, Option, Some, None, map, length, option_map, OnOk, IfOk, All};
-ghost use Rattle.elf_reader.specs.File.{IsFile, plain_symbol, plain_view};
+ghost use Rattle.elf_reader.specs.File.{IsFile, plain_symbol, plain_view, view_in};
 ghost use Rattle.elf_reader.specs.Faults.{first_fault};
 ghost use Rattle.workload_gen.specs.Pieces.{half_bytes, word_bytes, zero_bytes, padding};
 ghost use Rattle.elf_writer.specs.Changes.{Change, changed};
 ghost use Rattle.elf_writer.specs.Parts.{new_segment, patch_change, moves_changes, content_changes, table_place, header_changes};
 ghost use Rattle.elf_writer.specs.Written.{appended, written};
 ghost use Rattle.elf_writer.specs.Fits.{PatchFits, MoveFits, SegmentFits, WriteFits};
-ghost use Rattle.elf_writer.specs.Conditions.{IsWritable};
+ghost use Rattle.elf_writer.specs.Conditions.{IsWritable, HasWordValue, HasWords};
+ghost use Rattle.elf_writer.specs.View.{written_view};
 
 use crate::changing::{put_half, put_moves, put_patches, put_word};
 use crate::parts::{Patch, SegmentBytes, SymbolMove};
@@ -26,7 +27,8 @@ const E_PHNUM: usize = 44;
 fn put_contents(out: &mut [u8], patches: &[Patch], symbols: &[Symbol], moves: &[SymbolMove])
     requires patches { All (PatchFits (length out.old)) patches.now }
     requires moves { All (MoveFits (length out.old) (map plain_symbol symbols.now)) moves.now }
-    ensures { out.new ≡ changed (map patch_change patches.now ++ moves_changes (map plain_symbol symbols.now) moves.now) 0 out.old }
+    ensures words { All HasWordValue moves.now }
+    ensures new { out.new ≡ changed (map patch_change patches.now ++ moves_changes (map plain_symbol symbols.now) moves.now) 0 out.old }
 {
     put_patches(out, patches);
     put_moves(out, symbols, moves);
@@ -82,7 +84,8 @@ fn with_segment(
 ) -> Result<Vec<u8>, AllocError>
     requires fits { SegmentFits (plain_view base.now) (new_segment segment.now) }
     requires length { length out.items ≡ length base.now.bytes.now }
-    ensures { IfOk result (λ new. new.items ≡ changed (header_changes (plain_view base.now) (new_segment segment.now)) 0 out.items ++ appended (plain_view base.now) (Some (new_segment segment.now))) }
+    ensures word { segment.now.entry < 4294967296 }
+    ensures new { IfOk result (λ new. new.items ≡ changed (header_changes (plain_view base.now) (new_segment segment.now)) 0 out.items ++ appended (plain_view base.now) (Some (new_segment segment.now))) }
 {
     let size = base.bytes.len();
     let table = size + (4 - size % 4) % 4;
@@ -105,7 +108,8 @@ fn with_contents(
 ) -> Result<Vec<u8>, AllocError>
     requires patches { All (PatchFits (length base.now.bytes.now)) patches.now }
     requires moves { All (MoveFits (length base.now.bytes.now) (plain_view base.now).symbols) moves.now }
-    ensures { IfOk result (λ out. out.items ≡ changed (content_changes (plain_view base.now) patches.now moves.now) 0 base.now.bytes.now) }
+    ensures words { OnOk result (All HasWordValue moves.now) }
+    ensures new { IfOk result (λ out. out.items ≡ changed (content_changes (plain_view base.now) patches.now moves.now) 0 base.now.bytes.now) }
 {
     let mut out = base.bytes.to_vec(alloc)?;
     put_contents(&mut out, patches, &base.symbols, moves);
@@ -121,7 +125,8 @@ fn write_fitting(
     moves: &[SymbolMove],
 ) -> Result<Vec<u8>, AllocError>
     requires { WriteFits (plain_view base.now) patches.now (option_map (λ s. new_segment s.now) segment) moves.now }
-    ensures { IfOk result (λ out. out.items ≡ written (plain_view base.now) patches.now (option_map (λ s. new_segment s.now) segment.entry) moves.now) }
+    ensures words { OnOk result (HasWords (option_map (λ s. new_segment s.now) segment.entry) moves.now) }
+    ensures bytes { IfOk result (λ out. out.items ≡ written (plain_view base.now) patches.now (option_map (λ s. new_segment s.now) segment.entry) moves.now) }
 {
     let out = with_contents(alloc, base, patches, moves)?;
     match segment {
@@ -150,6 +155,7 @@ pub fn write(
     requires sound { first_fault base.now.bytes.now ≡ None }
     requires writable { IsWritable (plain_view base.now) patches.now (option_map (λ s. new_segment s.now) segment) moves.now }
     ensures bytes { IfOk result (λ out. out.items ≡ written (plain_view base.now) patches.now (option_map (λ s. new_segment s.now) segment.entry) moves.now) }
+    ensures reads { IfOk result (λ out. view_in out.items ≡ written_view (plain_view base.now) patches.now (option_map (λ s. new_segment s.now) segment.entry) moves.now) }
 {
     write_fitting(alloc, base, patches, segment, moves)
 }
