@@ -1,6 +1,7 @@
 -- Patched words in memory, and the places that no change touches.
-use Rattle.std.proofs.Common.{◌≡◌, ◌∙◌, ◌⊎◌, inl, inr, ℕ, zero, suc, ◌+◌, ◌-◌, ◌*◌, ◌/◌, ◌<◌, ◌≤◌, ◌==◌, nat_le, nat_lt, Bool, true, false, ◌&&◌, ◌||◌, List, [], ◌∷◌, ◌++◌, map, length, get_or, slice_index, Option, Some, None, refl, sym, ap, subst, arith}
+use Rattle.std.proofs.Common.{◌≡◌, ◌∙◌, ◌⊎◌, inl, inr, ℕ, zero, suc, ◌+◌, ◌-◌, ◌*◌, ◌/◌, ◌<◌, ◌≤◌, ◌==◌, nat_le, nat_lt, Bool, true, false, not, ◌&&◌, ◌||◌, List, [], ◌∷◌, ◌++◌, map, length, get_or, slice_index, Option, Some, None, refl, sym, ap, subst, arith}
 use Rattle.std.specs.List.{All, AllPairs}
+use Rattle.std.proofs.lemmas.Bool.{eqb-true, cases_Bool}
 use Rattle.std.proofs.lemmas.Bool.Decides.{nat_tests}
 use Rattle.std.proofs.lemmas.List.Elements.{All-append}
 use Rattle.index_tests.specs.Tests.{any_below, meets}
@@ -19,12 +20,12 @@ use Rattle.elf_writer.specs.Changes.{Change, changes_place, byte_after, byte_cha
 use Rattle.elf_writer.specs.Parts.{NewSegment, patch_change, nth_symbol, moves_changes, content_changes, header_changes}
 use Rattle.elf_writer.specs.Written.{all_changes}
 use Rattle.elf_writer.specs.Conditions.{ArePatchesApart, HasSymbol, IsWritable}
-use Rattle.elf_writer.specs.Images.{within, file_place, in_symbol_table, is_changed_place, IsUnpatched, IsUntouched, written_image, OthersUntouched, PatchesLoaded, SectionPatchesLoaded}
+use Rattle.elf_writer.specs.Images.{within, file_place, in_symbol_table, is_changed_place, IsUnpatched, IsUntouched, written_image, OthersUntouched, PatchesLoaded, StandsAt, WordsLoaded, holds_changed_byte, OthersLoaded}
 use Rattle.elf_writer.proofs.ChangeLemmas.{byte_changed-append}
 use Rattle.elf_writer.proofs.FreeLemmas.{IsFree, free_stays, patches_free, IsOffRecord, moves_free, header_free, behind_header}
 use Rattle.elf_writer.proofs.PlaceLemmas.{content_off_header, patched_section, PatchedSection, own_table, OwnTable, moved_record, MovedRecord}
 use Rattle.elf_writer.proofs.RangeLemmas.{OffTable, off_moves, kinds_differ}
-use Rattle.elf_writer.proofs.ImageLemmas.{changed_bytes_loaded}
+use Rattle.elf_writer.proofs.ImageLemmas.{changed_bytes_loaded, untouched_stay}
 
 -- ---- places outside of the patches, the ELF header and the symbol table
 
@@ -156,15 +157,79 @@ filled_by : (v : PlainView) (k g : ℕ) (s : PlainSection) → IsFilled v k g s 
 filled_by v k g s (inl filled) kind = filled
 filled_by v k g s (inr zeroed) kind = absurd (omega (arith, kind, zeroed.kind))
 
-pub section_patches_loaded : SectionPatchesLoaded
-section_patches_loaded file ps new ms j d k a i none is below loaded kind from to is_place within_word =
+pub words_loaded : WordsLoaded
+words_loaded file ps new ms j d k x i none is below stands within_word =
     let v = view_in file in
     let s = section_at v k in
-    let (g, facts) = loaded_found v k loaded in
+    let (g, facts) = loaded_found v k stands.loaded in
     let t = segment_at v g in
-    let filled = filled_by v k g s facts.rest kind in
+    let filled = filled_by v k g s facts.rest stands.kind in
     let starts = filled.starts in
     let ends = filled.ends in
     let aligned = filled.aligned in
-    patches_loaded file ps new ms j d g a i none is below facts.below (omega (arith, starts, from)) (omega (arith, ends, to))
-    (omega (arith, is_place, starts, from, aligned)) within_word
+    let from = stands.from in
+    let to = stands.to in
+    let place = stands.place in
+    patches_loaded file ps new ms j d g x i none is below facts.below (omega (arith, starts, from)) (omega (arith, ends, to))
+    (omega (arith, place, starts, from, aligned)) within_word
+
+-- ---- addresses outside of the patched words
+
+has_from : (s : PlainSegment) (a : ℕ) → has_byte s a ≡ true → s.vaddr ≤ a
+has_from s a has = grind (arith, nat_tests, has)
+
+has_to : (s : PlainSegment) (a : ℕ) → has_byte s a ≡ true → a < s.vaddr + length s.content
+has_to s a has = grind (arith, nat_tests, has)
+
+-- by the segment that loads the section
+same_off : (x a at place : ℕ) → within x 4 a ≡ false → at + a ≡ place + x → within at 4 place ≡ false
+same_off x a at place off same = grind (arith, nat_tests, off, same)
+
+-- by another one, whose bytes the section doesn't meet
+other_off : (b m c n at q : ℕ) → meets b m c n ≡ false → b ≤ at → at + 4 ≤ b + m → c ≤ q → q < c + n → within at 4 q ≡ false
+other_off b m c n at q apart starts ends from to = grind (arith, nat_tests, apart, starts, ends, from, to)
+
+differs_meet : (same meet : Bool) → not same && meet ≡ false → same ≡ false → meet ≡ false
+differs_meet same meet none differs = grind arith
+
+address_off : (v : PlainView) (p : Patch) (k x a g : ℕ) → g < length v.segments → has_byte (segment_at v g) a ≡ true → StandsAt v p k x → within x 4 a ≡ false → within p.offset 4 (file_place v a g) ≡ false
+address_off v p k x a g below has stands off =
+    let s = section_at v k in
+    let (h, facts) = loaded_found v k stands.loaded in
+    let filled = filled_by v k h s facts.rest stands.kind in
+    let t = segment_at v h in
+    let u = segment_at v g in
+    let starts = filled.starts in
+    let aligned = filled.aligned in
+    let from = stands.from in
+    let to = stands.to in
+    let place = stands.place in
+    let has_low = has_from u a has in
+    let has_high = has_to u a has in
+    elim (cases_Bool (g == h)) [
+      | inl one ↦
+          let same : g ≡ h = eqb-true g h one in
+          let low : t.vaddr ≤ a = subst (λ (i : ℕ). (segment_at v i).vaddr ≤ a) same has_low in
+          let there : file_place v a g ≡ file_place v a h = ap (file_place v a) same in
+          same_off x a p.offset (file_place v a g) off (omega (arith, there, place, starts, aligned, from, low))
+      | inr other ↦
+          let apart = differs_meet (g == h) (meets s.offset s.size u.offset (length u.content)) (filled.own.segment g below) other in
+          other_off s.offset s.size u.offset (length u.content) p.offset (file_place v a g) apart (omega (arith, place)) (omega (arith, place, from, to))
+          (omega arith) (omega (arith, has_low, has_high))
+    ]
+
+no_changed_place : (has changed : Bool) → has && changed ≡ false → has ≡ true → changed ≡ false
+no_changed_place has changed none is = grind arith
+
+pub others_loaded : OthersLoaded
+others_loaded file ps new ms a none is outside off other =
+    let v = view_in file in
+    untouched_stay file ps new ms a none is outside
+    (λ g below has.
+    let unpatched : IsUnpatched ps (file_place v a g) =
+    λ j d inside.
+    let (k, x, stands, away) = off j d inside in
+    address_off v (get_or ps j d) k x a g below has stands away
+    in
+    let here = none_at (holds_changed_byte v a) (length v.segments) g below other in
+    others_untouched file ps new ms (file_place v a g) none is unpatched (no_changed_place (has_byte (segment_at v g) a) (is_changed_place v (file_place v a g)) here has))

@@ -94,11 +94,36 @@ PatchesLoaded =
     → (slice_index_or ps j d).offset ≡ file_place (view_in file) a g → i < 4
     → written_image (view_in file) ps new ms (a + i) ≡ slice_index (word_bytes (slice_index_or ps j d).word) i
 
--- the same by a loaded section with content (SHT_PROGBITS, 1) in which the word lies
-abbrev pub SectionPatchesLoaded : Type 0
-SectionPatchesLoaded =
-    (file : List ℕ) (ps : List Patch) (new : Option NewSegment) (ms : List SymbolMove) (j : ℕ) (d : Patch) (k a i : ℕ) → first_fault file ≡ None → IsWritable (view_in file) ps new ms
-    → j < length ps → is_loaded (view_in file) k ≡ true → (section_at (view_in file) k).kind ≡ 1
-    → (section_at (view_in file) k).addr ≤ a → a + 4 ≤ (section_at (view_in file) k).addr + (section_at (view_in file) k).size
-    → (slice_index_or ps j d).offset ≡ (section_at (view_in file) k).offset + (a - (section_at (view_in file) k).addr) → i < 4
-    → written_image (view_in file) ps new ms (a + i) ≡ slice_index (word_bytes (slice_index_or ps j d).word) i
+-- the patched word is that at address `x`, which lies in section `k`: a loaded one with content
+-- (SHT_PROGBITS, 1), and the word stands as far behind its beginning in the file as in memory
+pub record StandsAt (v : PlainView) (p : Patch) (k x : ℕ) : Type 0 where
+  pub loaded : is_loaded v k ≡ true
+  pub kind : (section_at v k).kind ≡ 1
+  pub from : (section_at v k).addr ≤ x
+  pub to : x + 4 ≤ (section_at v k).addr + (section_at v k).size
+  pub place : p.offset ≡ (section_at v k).offset + (x - (section_at v k).addr)
+
+-- the bytes of patch `j` stand from its address on
+abbrev pub WordsLoaded : Type 0
+WordsLoaded =
+    (file : List ℕ) (ps : List Patch) (new : Option NewSegment) (ms : List SymbolMove) (j : ℕ) (d : Patch) (k x i : ℕ) → first_fault file ≡ None → IsWritable (view_in file) ps new ms
+    → j < length ps → StandsAt (view_in file) (slice_index_or ps j d) k x → i < 4
+    → written_image (view_in file) ps new ms (x + i) ≡ slice_index (word_bytes (slice_index_or ps j d).word) i
+
+-- segment `g` puts a byte of the ELF header or of the symbol table at the address
+abbrev pub holds_changed_byte : PlainView → ℕ → ℕ → Bool
+holds_changed_byte v a g = has_byte (segment_at v g) a && is_changed_place v (file_place v a g)
+
+-- the word of each patch stands at another address
+abbrev pub IsOffPatches : PlainView → List Patch → ℕ → Type 0
+IsOffPatches v ps a =
+    (j : ℕ) (d : Patch) → j < length ps → (k : ℕ) × (x : ℕ) × StandsAt v (slice_index_or ps j d) k x × (within x 4 a ≡ false)
+
+-- every other address outside the new segment keeps its byte, where no segment puts a byte of the ELF
+-- header or of the symbol table
+abbrev pub OthersLoaded : Type 0
+OthersLoaded =
+    (file : List ℕ) (ps : List Patch) (new : Option NewSegment) (ms : List SymbolMove) (a : ℕ) → first_fault file ≡ None → IsWritable (view_in file) ps new ms
+    → IsOutside new a → IsOffPatches (view_in file) ps a
+    → any_below (holds_changed_byte (view_in file) a) (length (view_in file).segments) ≡ false
+    → written_image (view_in file) ps new ms a ≡ image_of (view_in file).segments a

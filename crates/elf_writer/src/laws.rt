@@ -1,4 +1,4 @@
-ghost use Rattle.elf_writer.specs.Images.{NewBytesLoaded, ChangedBytesLoaded, ZerosLoaded, OthersUntouched, UntouchedStay, PatchesLoaded, SectionPatchesLoaded};
+ghost use Rattle.elf_writer.specs.Images.{NewBytesLoaded, ChangedBytesLoaded, ZerosLoaded, OthersUntouched, UntouchedStay, PatchesLoaded, WordsLoaded, OthersLoaded};
 ghost use Rattle.elf_writer.specs.Laws.{BytesWritten, RangesWritten, OthersStay, WrittenReadsBack, WrittenIsFile};
 
 /// A byte of the input stays in the file that is written, but for the changes of its place.
@@ -59,7 +59,13 @@ pub fn patches_loaded()
     ensures { PatchesLoaded }
 {}
 
-/// A patched word of a loaded section stands in memory as far behind the section's beginning as in the file.
-pub fn section_patches_loaded()
-    ensures { SectionPatchesLoaded }
+/// So it does at the address that is as far behind the beginning of its section as the word in the file.
+pub fn words_loaded()
+    ensures { WordsLoaded }
+{}
+
+/// Every other address outside of the new segment keeps its byte, where no segment puts a byte of the ELF
+/// header or of the symbol table.
+pub fn others_loaded()
+    ensures { OthersLoaded }
 {}

@@ -8,9 +8,9 @@ mod program_headers;
 mod writing;
 
 pub use laws::{
-    bytes_written, changed_bytes_loaded, new_bytes_loaded, others_stay, others_untouched,
-    patches_loaded, ranges_written, section_patches_loaded, untouched_stay, written_is_file,
-    written_reads_back, zeros_loaded,
+    bytes_written, changed_bytes_loaded, new_bytes_loaded, others_loaded, others_stay,
+    others_untouched, patches_loaded, ranges_written, untouched_stay, words_loaded,
+    written_is_file, written_reads_back, zeros_loaded,
 };
 pub use parts::{Patch, SegmentBytes, SymbolMove};
 pub use writing::write;

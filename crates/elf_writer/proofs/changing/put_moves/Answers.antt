@@ -19,12 +19,12 @@ loop-change-preserved c =
     let there = c.requires c.loop-change.change-index none c.loop-change-test.true in
     let fit = All-more HasWordValue c.args.moves.now c.loop-change.change-index _ c.loop-change-test.true c.loop-change.invariant.0 c.put_move.ensures.word in (
       fit,
-    changes_step (move_changes (map plain_symbol symbols)) (moves_changes (map plain_symbol symbols)) c.args.moves.now c.loop-change.change-index none c.loop-change.out _ _
-    (λ m rest. refl) c.loop-change-test.true
-    (c.put_move.ensures.new
-    ∙ ap (λ (s : PlainSymbol). changed (record { place = s.at + 4; content = word_bytes m.value } ∷ record { place = s.at + 14; content = half_bytes 65521 } ∷ []) 0 c.loop-change.out)
-    (sym (symbol_in symbols m.symbol _ there.below)))
-    c.loop-change.invariant.1,
+      changes_step (move_changes (map plain_symbol symbols)) (moves_changes (map plain_symbol symbols)) c.args.moves.now c.loop-change.change-index none c.loop-change.out _ _
+          (λ m rest. refl) c.loop-change-test.true
+          (c.put_move.ensures.new
+          ∙ ap (λ (s : PlainSymbol). changed (record { place = s.at + 4; content = word_bytes m.value } ∷ record { place = s.at + 14; content = half_bytes 65521 } ∷ []) 0 c.loop-change.out)
+          (sym (symbol_in symbols m.symbol _ there.below)))
+          c.loop-change.invariant.1,
     )
 
 pub returns-clause-words : goal.returns-clause-words

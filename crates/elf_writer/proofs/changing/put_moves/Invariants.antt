@@ -10,4 +10,4 @@ abbrev pub invariant-loop-change : goal.invariant-loop-change
 invariant-loop-change l =
     All HasWordValue (take l.change-index l.moves)
     × (changed (moves_changes (map plain_symbol l.symbols) (drop l.change-index l.moves)) 0 l.out
-      ≡ changed (moves_changes (map plain_symbol l.symbols) l.moves) 0 l.fn.out)
+    ≡ changed (moves_changes (map plain_symbol l.symbols) l.moves) 0 l.fn.out)
