@@ -8,18 +8,10 @@ use Rattle.workload_gen.specs.Pieces.{half_bytes, word_bytes}
 use Rattle.elf_reader.specs.File.{PlainSymbol, PlainView}
 use Rattle.elf_writer.specs.declared.parts.Patch.{Patch}
 use Rattle.elf_writer.specs.declared.parts.SymbolMove.{SymbolMove}
-use Rattle.elf_writer.specs.Changes.{Change, changes_place, byte_after, byte_changed, changed}
+use Rattle.elf_writer.specs.Changes.{Change, within, changes_place, IsUntouched, byte_after, byte_changed, changed}
 use Rattle.elf_writer.specs.Parts.{NewSegment, patch_change, nth_symbol, move_changes, moves_changes, table_place, header_changes}
 
--- a place in a range of `n` places from `start`
-abbrev pub within : ℕ → ℕ → ℕ → Bool
-within start n q = nat_le start q && nat_lt q (start + n)
-
--- no change touches the place
-abbrev pub IsFree : List Change → ℕ → Type 0
-IsFree cs q = All (λ c. changes_place c q ≡ false) cs
-
-pub free_stays : (cs : List Change) (q old : ℕ) → IsFree cs q → byte_changed cs q old ≡ old
+pub free_stays : (cs : List Change) (q old : ℕ) → IsUntouched cs q → byte_changed cs q old ≡ old
 free_stays [] q old free = refl
 free_stays (c ∷ cs) q old free =
     let here : changes_place c q ≡ false = All-head (λ c. changes_place c q ≡ false) c cs free in
@@ -27,17 +19,17 @@ free_stays (c ∷ cs) q old free =
     ap (byte_changed cs q) first ∙ free_stays cs q old (All-tail (λ c. changes_place c q ≡ false) c cs free)
 
 -- bytes at free places stay
-pub free_range : (cs : List Change) (start : ℕ) (bytes : List ℕ) → ((i : ℕ) → i < length bytes → IsFree cs (start + i)) → changed cs start bytes ≡ bytes
+pub free_range : (cs : List Change) (start : ℕ) (bytes : List ℕ) → ((i : ℕ) → i < length bytes → IsUntouched cs (start + i)) → changed cs start bytes ≡ bytes
 free_range cs start [] free = refl
 free_range cs start (byte ∷ bytes) free =
     let none : start + 0 ≡ start = omega arith in
-    let first = free_stays cs start byte (subst (λ (q : ℕ). IsFree cs q) none (free 0 (omega arith))) in
-    let rest = free_range cs (start + 1) bytes (λ i below. let same : start + suc i ≡ start + 1 + i = omega arith in subst (λ (q : ℕ). IsFree cs q) same (free (suc i) (omega (arith, below)))) in
+    let first = free_stays cs start byte (subst (λ (q : ℕ). IsUntouched cs q) none (free 0 (omega arith))) in
+    let rest = free_range cs (start + 1) bytes (λ i below. let same : start + suc i ≡ start + 1 + i = omega arith in subst (λ (q : ℕ). IsUntouched cs q) same (free (suc i) (omega (arith, below)))) in
     λ i. first i ∷ rest i
 
 -- ---- of each kind of change
 
-pub patches_free : (ps : List Patch) (q : ℕ) → All (λ p. within p.offset 4 q ≡ false) ps → IsFree (map patch_change ps) q
+pub patches_free : (ps : List Patch) (q : ℕ) → All (λ p. within p.offset 4 q ≡ false) ps → IsUntouched (map patch_change ps) q
 patches_free ps q off = All-map (λ c. changes_place c q ≡ false) patch_change ps off
 
 -- the place isn't in the record of the symbol
@@ -61,7 +53,7 @@ pub record IsOffChanges (at q : ℕ) : Type 0 where
   pub value : within (at + 4) 4 q ≡ false
   pub number : within (at + 14) 2 q ≡ false
 
-pub moves_off : (symbols : List PlainSymbol) (ms : List SymbolMove) (q : ℕ) → All (λ m. IsOffChanges (nth_symbol symbols m.symbol).at q) ms → IsFree (moves_changes symbols ms) q
+pub moves_off : (symbols : List PlainSymbol) (ms : List SymbolMove) (q : ℕ) → All (λ m. IsOffChanges (nth_symbol symbols m.symbol).at q) ms → IsUntouched (moves_changes symbols ms) q
 moves_off symbols [] q off = All-nil (λ c. changes_place c q ≡ false)
 moves_off symbols (m ∷ ms) q off =
     let at = (nth_symbol symbols m.symbol).at in
@@ -73,7 +65,7 @@ moves_off symbols (m ∷ ms) q off =
     let rest = moves_changes symbols ms in
     all_cons IsOff value (number ∷ rest) here.value (all_cons IsOff number rest here.number later)
 
-pub moves_free : (symbols : List PlainSymbol) (ms : List SymbolMove) (q : ℕ) → All (IsOffRecord symbols q) ms → IsFree (moves_changes symbols ms) q
+pub moves_free : (symbols : List PlainSymbol) (ms : List SymbolMove) (q : ℕ) → All (IsOffRecord symbols q) ms → IsUntouched (moves_changes symbols ms) q
 moves_free symbols ms q off =
     moves_off symbols ms q
     (λ i d below.
@@ -84,7 +76,7 @@ moves_free symbols ms q off =
 header_off : (at n q : ℕ) → at + n ≤ 52 → 52 ≤ q → within at n q ≡ false
 header_off at n q inside behind = grind (arith, nat_tests, inside, behind)
 
-pub header_free : (v : PlainView) (s : NewSegment) (q : ℕ) → 52 ≤ q → IsFree (header_changes v s) q
+pub header_free : (v : PlainView) (s : NewSegment) (q : ℕ) → 52 ≤ q → IsUntouched (header_changes v s) q
 header_free v s q behind =
     let IsOff : Change → Type 0 = λ c. changes_place c q ≡ false in
     let entry : Change = record { place = 24; content = word_bytes s.entry } in

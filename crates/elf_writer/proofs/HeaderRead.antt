@@ -70,7 +70,7 @@ pub record IsHeader (out : List ℕ) (entry ph_at ph_count : ℕ) : Type 0 where
   pub at_is : (file_header out).e_phoff ≡ ph_at
   pub count_is : (file_header out).e_phnum ≡ ph_count
 
-whole_word : (n : ℕ) → n < 4294967296 → word_of (byte_of n 0) (byte_of n 1) (byte_of n 2) (byte_of n 3) ≡ n
+pub whole_word : (n : ℕ) → n < 4294967296 → word_of (byte_of n 0) (byte_of n 1) (byte_of n 2) (byte_of n 3) ≡ n
 whole_word n fits = omega arith
 
 whole_half : (n : ℕ) → n < 65536 → half_of (byte_of n 0) (byte_of n 1) ≡ n

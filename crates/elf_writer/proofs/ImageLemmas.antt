@@ -15,12 +15,12 @@ use Rattle.elf_reader.proofs.SegmentLemmas.{none_of_headers, load_segments_apart
 use Rattle.elf_reader.proofs.LoadedLemmas.{IsPlaced, load_segments_placed, nth_segment, image_without, image_at, HasAddress, only_segment}
 use Rattle.elf_writer.specs.declared.parts.Patch.{Patch}
 use Rattle.elf_writer.specs.declared.parts.SymbolMove.{SymbolMove}
-use Rattle.elf_writer.specs.Changes.{Change, changes_place, byte_after, byte_changed, changed}
+use Rattle.elf_writer.specs.Changes.{Change, changes_place, byte_after, byte_changed, changed, IsUntouched, within}
 use Rattle.elf_writer.specs.Parts.{NewSegment}
 use Rattle.elf_writer.specs.Written.{all_changes}
 use Rattle.elf_writer.specs.Conditions.{IsClearOf, IsAddable, IsWritable}
 use Rattle.elf_writer.specs.View.{changed_segment, added_segment, numbered_behind, with_added, with_segment, written_segments}
-use Rattle.elf_writer.specs.Images.{within, file_place, IsUntouched, IsOutside, written_image, NewBytesLoaded, ChangedBytesLoaded, ZerosLoaded, UntouchedStay}
+use Rattle.elf_writer.specs.Images.{file_place, IsOutside, written_image, NewBytesLoaded, ChangedBytesLoaded, ZerosLoaded, UntouchedStay}
 use Rattle.elf_writer.proofs.ChangeLemmas.{length-changed, changed_at}
 use Rattle.elf_writer.proofs.FreeLemmas.{free_stays}
 
@@ -60,10 +60,10 @@ changed_nth cs ss g below = get_or-map (changed_segment cs) ss g no_segment no_s
 changed_nth_has : (cs : List Change) (ss : List PlainSegment) (g a : ℕ) → g < length ss → has_byte (nth_segment (map (changed_segment cs) ss) g) a ≡ has_byte (nth_segment ss g) a
 changed_nth_has cs ss g a below = ap (λ s. has_byte s a) (changed_nth cs ss g below) ∙ changed_has cs (nth_segment ss g) a
 
-has_from : (s : PlainSegment) (a : ℕ) → has_byte s a ≡ true → s.vaddr ≤ a
+pub has_from : (s : PlainSegment) (a : ℕ) → has_byte s a ≡ true → s.vaddr ≤ a
 has_from s a has = grind (arith, nat_tests, has)
 
-has_to : (s : PlainSegment) (a : ℕ) → has_byte s a ≡ true → a < s.vaddr + length s.content
+pub has_to : (s : PlainSegment) (a : ℕ) → has_byte s a ≡ true → a < s.vaddr + length s.content
 has_to s a has = grind (arith, nat_tests, has)
 
 -- a segment that has a byte has memory there

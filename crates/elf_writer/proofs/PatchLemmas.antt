@@ -16,16 +16,16 @@ use Rattle.elf_reader.specs.Loaded.{section_at, segment_at}
 use Rattle.elf_reader.proofs.LoadedLemmas.{length_sections, section_is, loaded_found, Loads, IsFilled, IsZeroed}
 use Rattle.elf_writer.specs.declared.parts.Patch.{Patch}
 use Rattle.elf_writer.specs.declared.parts.SymbolMove.{SymbolMove}
-use Rattle.elf_writer.specs.Changes.{Change, changes_place, byte_after, byte_changed}
+use Rattle.elf_writer.specs.Changes.{Change, changes_place, byte_after, byte_changed, IsUntouched, within}
 use Rattle.elf_writer.specs.Parts.{NewSegment, patch_change, nth_symbol, moves_changes, content_changes, header_changes}
 use Rattle.elf_writer.specs.Written.{all_changes}
 use Rattle.elf_writer.specs.Conditions.{ArePatchesApart, HasSymbol, IsWritable}
-use Rattle.elf_writer.specs.Images.{within, file_place, in_symbol_table, is_changed_place, IsUnpatched, IsUntouched, written_image, OthersUntouched, PatchesLoaded, StandsAt, WordsLoaded, holds_changed_byte, OthersLoaded}
+use Rattle.elf_writer.specs.Images.{file_place, in_symbol_table, is_changed_place, IsUnpatched, written_image, OthersUntouched, PatchesLoaded, StandsAt, WordsLoaded, holds_changed_byte, OthersLoaded}
 use Rattle.elf_writer.proofs.ChangeLemmas.{byte_changed-append}
-use Rattle.elf_writer.proofs.FreeLemmas.{IsFree, free_stays, patches_free, IsOffRecord, moves_free, header_free, behind_header}
+use Rattle.elf_writer.proofs.FreeLemmas.{free_stays, patches_free, IsOffRecord, moves_free, header_free, behind_header}
 use Rattle.elf_writer.proofs.PlaceLemmas.{content_off_header, patched_section, PatchedSection, own_table, OwnTable, moved_record, MovedRecord}
 use Rattle.elf_writer.proofs.RangeLemmas.{OffTable, off_moves, kinds_differ}
-use Rattle.elf_writer.proofs.ImageLemmas.{changed_bytes_loaded, untouched_stay}
+use Rattle.elf_writer.proofs.ImageLemmas.{has_from, has_to, changed_bytes_loaded, untouched_stay}
 
 -- ---- places outside of the patches, the ELF header and the symbol table
 
@@ -53,7 +53,7 @@ outside_record file m q none has outside =
     let off = record_off s.sh_offset s.sh_size at q (outside_table file t q (own_table file t none moved.found) outside) (omega arith) ends in
     subst (λ (place : ℕ). within place 16 q ≡ false) (sym moved.place) off
 
-outside_contents : (file : List ℕ) (ps : List Patch) (ms : List SymbolMove) (q : ℕ) → first_fault file ≡ None → All (HasSymbol (view_in file)) ms → IsUnpatched ps q → any_below (in_symbol_table (view_in file) q) (length (view_in file).sections) ≡ false → IsFree (content_changes (view_in file) ps ms) q
+outside_contents : (file : List ℕ) (ps : List Patch) (ms : List SymbolMove) (q : ℕ) → first_fault file ≡ None → All (HasSymbol (view_in file)) ms → IsUnpatched ps q → any_below (in_symbol_table (view_in file) q) (length (view_in file).sections) ≡ false → IsUntouched (content_changes (view_in file) ps ms) q
 outside_contents file ps ms q none has unpatched outside =
     All-append (λ c. changes_place c q ≡ false) (map patch_change ps) (moves_changes (view_in file).symbols ms)
     (patches_free ps q unpatched)
@@ -92,7 +92,7 @@ patch_here p q i old is below =
 patched_byte : (ps : List Patch) (j : ℕ) (d : Patch) (q i old : ℕ) → AllPairs ArePatchesApart ps → j < length ps → (get_or ps j d).offset + i ≡ q → i < 4 → byte_changed (map patch_change ps) q old ≡ slice_index (word_bytes (get_or ps j d).word) i
 patched_byte [] j d q i old apart below is within_word = absurd (omega (arith, below))
 patched_byte (p ∷ ps) zero d q i old apart below is within_word =
-    let rest : IsFree (map patch_change ps) q =
+    let rest : IsUntouched (map patch_change ps) q =
     patches_free ps q (λ k e inside. apart_off p (get_or ps k e) q i (apart 0 (suc k) e (omega arith) (omega (arith, inside))) is within_word)
     in
     free_stays (map patch_change ps) q (byte_after (patch_change p) q old) rest ∙ patch_here p q i old is within_word
@@ -174,12 +174,6 @@ words_loaded file ps new ms j d k x i none is below stands within_word =
     (omega (arith, place, starts, from, aligned)) within_word
 
 -- ---- addresses outside of the patched words
-
-has_from : (s : PlainSegment) (a : ℕ) → has_byte s a ≡ true → s.vaddr ≤ a
-has_from s a has = grind (arith, nat_tests, has)
-
-has_to : (s : PlainSegment) (a : ℕ) → has_byte s a ≡ true → a < s.vaddr + length s.content
-has_to s a has = grind (arith, nat_tests, has)
 
 -- by the segment that loads the section
 same_off : (x a at place : ℕ) → within x 4 a ≡ false → at + a ≡ place + x → within at 4 place ≡ false

@@ -10,13 +10,13 @@ use Rattle.elf_reader.specs.File.{PlainSymbol, PlainView, view_in}
 use Rattle.elf_reader.specs.Faults.{first_fault}
 use Rattle.elf_writer.specs.declared.parts.Patch.{Patch}
 use Rattle.elf_writer.specs.declared.parts.SymbolMove.{SymbolMove}
-use Rattle.elf_writer.specs.Changes.{Change, changes_place, byte_changed, changed}
+use Rattle.elf_writer.specs.Changes.{Change, changes_place, byte_changed, changed, IsUntouched, within}
 use Rattle.elf_writer.specs.Parts.{NewSegment, patch_change, nth_symbol, moves_changes, content_changes, header_changes}
 use Rattle.elf_writer.specs.Written.{all_changes, written}
 use Rattle.elf_writer.specs.Conditions.{PatchesLoadedWord, HasSymbol, IsWritable}
 use Rattle.elf_writer.proofs.WrittenLemmas.{bytes_written, ranges_written}
 use Rattle.elf_writer.proofs.AlikeLemmas.{Alike}
-use Rattle.elf_writer.proofs.FreeLemmas.{within, IsFree, free_stays, free_range, patches_free, IsOffRecord, moves_free, header_free, apart_places, behind_header}
+use Rattle.elf_writer.proofs.FreeLemmas.{free_stays, free_range, patches_free, IsOffRecord, moves_free, header_free, apart_places, behind_header}
 use Rattle.elf_writer.proofs.PlaceLemmas.{content_off_header, headers_off_header, OwnSection, patched_section, OwnTable, own_table, moved_record}
 
 -- the range meets no section that may be patched
@@ -35,7 +35,7 @@ pub record StaysOff (file : List ℕ) (c n : ℕ) : Type 0 where
   pub sections : OffSections file c n
   pub table : OffTable file c n
 
-pub off_patches : (file : List ℕ) (ps : List Patch) (c n q : ℕ) → All (PatchesLoadedWord (view_in file)) ps → OffSections file c n → c ≤ q → q < c + n → IsFree (map patch_change ps) q
+pub off_patches : (file : List ℕ) (ps : List Patch) (c n q : ℕ) → All (PatchesLoadedWord (view_in file)) ps → OffSections file c n → c ≤ q → q < c + n → IsUntouched (map patch_change ps) q
 off_patches file ps c n q patched off from to =
     patches_free ps q (λ i d below.
     let at = (get_or ps i d).offset in
@@ -52,18 +52,18 @@ off_record file m c n q none has off from to =
     let apart = apart_places s.sh_offset s.sh_size c n q at 16 (off t (own_table file t none moved.found)) from to (omega arith) ends in
     subst (λ (place : ℕ). within place 16 q ≡ false) (sym moved.place) apart
 
-pub off_moves : (file : List ℕ) (ms : List SymbolMove) (c n q : ℕ) → first_fault file ≡ None → All (HasSymbol (view_in file)) ms → OffTable file c n → c ≤ q → q < c + n → IsFree (moves_changes (view_in file).symbols ms) q
+pub off_moves : (file : List ℕ) (ms : List SymbolMove) (c n q : ℕ) → first_fault file ≡ None → All (HasSymbol (view_in file)) ms → OffTable file c n → c ≤ q → q < c + n → IsUntouched (moves_changes (view_in file).symbols ms) q
 off_moves file ms c n q none has off from to =
     moves_free (view_in file).symbols ms q (λ i d below. off_record file (get_or ms i d) c n q none (has i d below) off from to)
 
-pub off_contents : (file : List ℕ) (ps : List Patch) (ms : List SymbolMove) (c n q : ℕ) → first_fault file ≡ None → All (PatchesLoadedWord (view_in file)) ps → All (HasSymbol (view_in file)) ms → OffSections file c n → OffTable file c n → c ≤ q → q < c + n → IsFree (content_changes (view_in file) ps ms) q
+pub off_contents : (file : List ℕ) (ps : List Patch) (ms : List SymbolMove) (c n q : ℕ) → first_fault file ≡ None → All (PatchesLoadedWord (view_in file)) ps → All (HasSymbol (view_in file)) ms → OffSections file c n → OffTable file c n → c ≤ q → q < c + n → IsUntouched (content_changes (view_in file) ps ms) q
 off_contents file ps ms c n q none patched has off off_table from to =
     All-append (λ c. changes_place c q ≡ false) (map patch_change ps) (moves_changes (view_in file).symbols ms)
     (off_patches file ps c n q patched off from to)
     (off_moves file ms c n q none has off_table from to)
 
 -- no change touches such a range
-pub off_all : (file : List ℕ) (ps : List Patch) (new : Option NewSegment) (ms : List SymbolMove) (c n q : ℕ) → first_fault file ≡ None → IsWritable (view_in file) ps new ms → StaysOff file c n → c ≤ q → q < c + n → IsFree (all_changes (view_in file) ps new ms) q
+pub off_all : (file : List ℕ) (ps : List Patch) (new : Option NewSegment) (ms : List SymbolMove) (c n q : ℕ) → first_fault file ≡ None → IsWritable (view_in file) ps new ms → StaysOff file c n → c ≤ q → q < c + n → IsUntouched (all_changes (view_in file) ps new ms) q
 off_all file ps None ms c n q none is off from to =
     off_contents file ps ms c n q none is.patched is.symbols off.sections off.table from to
 off_all file ps (Some s) ms c n q none is off from to =
@@ -72,7 +72,7 @@ off_all file ps (Some s) ms c n q none is off from to =
     (header_free (view_in file) s q (behind_header c n q off.header from to))
 
 -- a byte at a place that no change touches
-pub free_byte : (v : PlainView) (ps : List Patch) (new : Option NewSegment) (ms : List SymbolMove) (q : ℕ) → q < length v.bytes → IsFree (all_changes v ps new ms) q → slice_index (written v ps new ms) q ≡ slice_index v.bytes q
+pub free_byte : (v : PlainView) (ps : List Patch) (new : Option NewSegment) (ms : List SymbolMove) (q : ℕ) → q < length v.bytes → IsUntouched (all_changes v ps new ms) q → slice_index (written v ps new ms) q ≡ slice_index v.bytes q
 free_byte v ps new ms q inside free =
     bytes_written v ps new ms q inside ∙ free_stays (all_changes v ps new ms) q (slice_index v.bytes q) free
 
@@ -127,6 +127,6 @@ header_off_table file none t own =
     content_off_header file t none own.below stands
 
 -- what only the header's changes touch
-pub header_contents_free : (file : List ℕ) (ps : List Patch) (new : Option NewSegment) (ms : List SymbolMove) (q : ℕ) → first_fault file ≡ None → IsWritable (view_in file) ps new ms → q < 52 → IsFree (content_changes (view_in file) ps ms) q
+pub header_contents_free : (file : List ℕ) (ps : List Patch) (new : Option NewSegment) (ms : List SymbolMove) (q : ℕ) → first_fault file ≡ None → IsWritable (view_in file) ps new ms → q < 52 → IsUntouched (content_changes (view_in file) ps ms) q
 header_contents_free file ps new ms q none is below =
     off_contents file ps ms 0 52 q none is.patched is.symbols (header_off_sections file none) (header_off_table file none) (omega arith) (omega (arith, below))

@@ -14,7 +14,7 @@ use Rattle.elf_reader.specs.Faults.{first_fault}
 use Rattle.elf_reader.specs.SymbolTables.{IsReadable, HasReadable}
 use Rattle.elf_writer.specs.declared.parts.Patch.{Patch}
 use Rattle.elf_writer.specs.declared.parts.SymbolMove.{SymbolMove}
-use Rattle.elf_writer.specs.Changes.{Change, byte_after, byte_changed}
+use Rattle.elf_writer.specs.Changes.{Change, byte_after, byte_changed, IsUntouched, within}
 use Rattle.elf_writer.specs.Parts.{NewSegment, patch_change, nth_symbol, moves_changes, content_changes, header_changes}
 use Rattle.elf_writer.specs.Written.{written}
 use Rattle.elf_writer.specs.Conditions.{HasSymbol, IsWritable, HasWordValue}
@@ -22,11 +22,11 @@ use Rattle.elf_writer.specs.View.{moved_value, moved_section, moved_symbol, move
 use Rattle.elf_writer.proofs.ChangeLemmas.{byte_changed-append}
 use Rattle.elf_writer.proofs.WrittenLemmas.{bytes_written}
 use Rattle.elf_writer.proofs.AlikeLemmas.{Alike, word_alike}
-use Rattle.elf_writer.proofs.FreeLemmas.{within, IsFree, free_stays, IsOffChanges, moves_off, header_free, behind_header}
+use Rattle.elf_writer.proofs.FreeLemmas.{free_stays, IsOffChanges, moves_off, header_free, behind_header}
 use Rattle.elf_writer.proofs.FitLemmas.{contents_held, readable_held, length_symbols}
 use Rattle.elf_writer.proofs.PlaceLemmas.{content_off_header, OwnSection, OwnTable, own_table, moved_record, MovedRecord}
 use Rattle.elf_writer.proofs.RangeLemmas.{OffSections, off_patches, kinds_differ}
-use Rattle.elf_writer.proofs.HeaderRead.{keeps_header}
+use Rattle.elf_writer.proofs.HeaderRead.{keeps_header, whole_word}
 use Rattle.elf_writer.proofs.SectionsRead.{section_header_is, strings_stay}
 
 -- the section header of the symbol table is found at the same place
@@ -93,7 +93,7 @@ off_fields : (start i j r at q : ℕ) → at ≡ start + 16 * j → q ≡ start 
 off_fields start i j r at q is_at is_q below other =
     record { value = grind (arith, nat_tests, is_at, is_q, below, other); number = grind (arith, nat_tests, is_at, is_q, below) }
 
-field_free : (symbols : List PlainSymbol) (ms : List SymbolMove) (start i r q : ℕ) → All (StandsFrom symbols start) ms → q ≡ start + 16 * i + r → r < 14 → (nat_le 4 r && nat_lt r 8) ≡ false → IsFree (moves_changes symbols ms) q
+field_free : (symbols : List PlainSymbol) (ms : List SymbolMove) (start i r q : ℕ) → All (StandsFrom symbols start) ms → q ≡ start + 16 * i + r → r < 14 → (nat_le 4 r && nat_lt r 8) ≡ false → IsUntouched (moves_changes symbols ms) q
 field_free symbols ms start i r q stand is_q below other =
     moves_off symbols ms q (λ k d inside.
     let m = get_or ms k d in
@@ -122,9 +122,6 @@ other_byte at q value old off =
 
 other_record : (start i j r at q : ℕ) → at ≡ start + 16 * j → q ≡ start + 16 * i + r → r < 16 → (j == i) ≡ false → within at 16 q ≡ false
 other_record start i j r at q is_at is_q below differs = grind (arith, nat_tests, is_at, is_q, below, differs)
-
-whole_word : (n : ℕ) → n < 4294967296 → word_of (byte_of n 0) (byte_of n 1) (byte_of n 2) (byte_of n 3) ≡ n
-whole_word n fits = omega arith
 
 -- a byte after one move, and after the rest
 unfoldable step_byte : (symbols : List PlainSymbol) (m : SymbolMove) (q old : ℕ) → ℕ

@@ -14,14 +14,13 @@ use Rattle.elf_reader.proofs.LoadedLemmas.{length_sections, section_is, byte_of_
 use Rattle.elf_reader.specs.Loaded.{no_section, section_at}
 use Rattle.elf_writer.specs.declared.parts.Patch.{Patch}
 use Rattle.elf_writer.specs.declared.parts.SymbolMove.{SymbolMove}
-use Rattle.elf_writer.specs.Changes.{Change, changes_place, changed}
+use Rattle.elf_writer.specs.Changes.{Change, changes_place, changed, IsUntouched}
 use Rattle.elf_writer.specs.Parts.{NewSegment, patch_change, moves_changes, table_place, content_place}
 use Rattle.elf_writer.specs.Written.{new_number, new_record, record_place, new_table, all_changes, appended, written}
 use Rattle.elf_writer.specs.Conditions.{keeps_program_headers, KeepsProgramHeaders, HasSymbol, IsAddable, IsWritable}
 use Rattle.elf_writer.specs.Fits.{SegmentFits, WriteFits}
 use Rattle.elf_writer.proofs.ChangeLemmas.{length-changed}
 use Rattle.elf_writer.proofs.AlikeLemmas.{Alike, part_alike, program_header_alike}
-use Rattle.elf_writer.proofs.FreeLemmas.{IsFree}
 use Rattle.elf_writer.proofs.FitLemmas.{table_inside, number_within, length_range, length_table, fits}
 use Rattle.elf_writer.proofs.PlaceLemmas.{OwnTable}
 use Rattle.elf_writer.proofs.RangeLemmas.{OffTable, off_patches, off_moves, free_byte}
@@ -42,7 +41,7 @@ kept_headers file keeps t own =
     let s = section_header file t in
     without_headers (s.sh_type == 2) (meets s.sh_offset s.sh_size v.ph_at (32 * v.ph_count)) plain (ap (λ n. n == 2) own.kind)
 
-table_free : (file : List ℕ) (ps : List Patch) (ms : List SymbolMove) (q : ℕ) → first_fault file ≡ None → IsWritable (view_in file) ps None ms → (file_header file).e_phoff ≤ q → q < (file_header file).e_phoff + 32 * program_header_count file → IsFree (all_changes (view_in file) ps None ms) q
+table_free : (file : List ℕ) (ps : List Patch) (ms : List SymbolMove) (q : ℕ) → first_fault file ≡ None → IsWritable (view_in file) ps None ms → (file_header file).e_phoff ≤ q → q < (file_header file).e_phoff + 32 * program_header_count file → IsUntouched (all_changes (view_in file) ps None ms) q
 table_free file ps [] q none is from to =
     All-append (λ c. changes_place c q ≡ false) (map patch_change ps) []
     (off_patches file ps (file_header file).e_phoff (32 * program_header_count file) q is.patched (λ k own. own.programs) from to)

@@ -1,14 +1,22 @@
 -- Bytes of a file that are changed where they stand.
-use Rattle.std.specs.Prelude.{ℕ, ◌+◌, ◌-◌, nat_lt, nat_le, Bool, ◌&&◌, if◌then◌else◌, List, [], ◌∷◌, length, slice_index}
+use Rattle.std.specs.Prelude.{◌≡◌, ℕ, ◌+◌, ◌-◌, nat_lt, nat_le, Bool, false, ◌&&◌, if◌then◌else◌, List, [], ◌∷◌, length, slice_index, All}
 
 -- bytes, and the place in the file from which on they come to stand
 pub record Change : Type 0 where
   pub place : ℕ
   pub content : List ℕ
 
+-- one of `n` places from `start` on
+abbrev pub within : ℕ → ℕ → ℕ → Bool
+within start n place = nat_le start place && nat_lt place (start + n)
+
 -- one of them comes to stand at place `at`
 abbrev pub changes_place : Change → ℕ → Bool
-changes_place c at = nat_le c.place at && nat_lt at (c.place + length c.content)
+changes_place c at = within c.place (length c.content) at
+
+-- a place that no change touches
+abbrev pub IsUntouched : List Change → ℕ → Type 0
+IsUntouched cs place = All (λ c. changes_place c place ≡ false) cs
 
 -- what stands there after the change, where `old` stood before
 abbrev pub byte_after : Change → ℕ → ℕ → ℕ

@@ -8,15 +8,11 @@ use Rattle.elf_reader.specs.Image.{has_byte, image_of}
 use Rattle.elf_reader.specs.Loaded.{section_at, segment_at, is_loaded}
 use Rattle.elf_writer.specs.declared.parts.Patch.{Patch}
 use Rattle.elf_writer.specs.declared.parts.SymbolMove.{SymbolMove}
-use Rattle.elf_writer.specs.Changes.{Change, changes_place, byte_changed}
+use Rattle.elf_writer.specs.Changes.{within, IsUntouched, byte_changed}
 use Rattle.elf_writer.specs.Parts.{NewSegment}
 use Rattle.elf_writer.specs.Written.{all_changes}
 use Rattle.elf_writer.specs.Conditions.{IsWritable}
 use Rattle.elf_writer.specs.View.{written_segments}
-
--- one of `n` places from `start` on
-abbrev pub within : ℕ → ℕ → ℕ → Bool
-within start n place = nat_le start place && nat_lt place (start + n)
 
 -- which byte of the file segment `g` puts at address `a`, if it puts one
 abbrev pub file_place : PlainView → ℕ → ℕ → ℕ
@@ -34,10 +30,6 @@ is_changed_place v place = nat_lt place 52 || any_below (in_symbol_table v place
 -- a place that no patch touches
 abbrev pub IsUnpatched : List Patch → ℕ → Type 0
 IsUnpatched ps place = All (λ p. within p.offset 4 place ≡ false) ps
-
--- a place that no change touches
-abbrev pub IsUntouched : List Change → ℕ → Type 0
-IsUntouched cs place = All (λ c. changes_place c place ≡ false) cs
 
 -- the address isn't in the new segment
 abbrev pub IsOutside : Option NewSegment → ℕ → Type 0
