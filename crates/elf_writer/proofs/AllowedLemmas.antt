@@ -1,12 +1,12 @@
 -- What may be written, by what tests at run time found.
-use Rattle.std.proofs.Common.{◌≡◌, ◌∙◌, ℕ, zero, suc, ◌+◌, ◌*◌, ◌<◌, ◌≤◌, ◌==◌, Bool, true, false, not, ◌&&◌, List, [], ◌∷◌, ◌++◌, map, length, get_or, Option, Some, None, refl, sym, ap, subst, arith, take, length-append, length-take}
-use Rattle.std.specs.List.{All, AllPairs, slice_index_or}
+use Rattle.std.proofs.Common.{◌≡◌, ◌∙◌, ℕ, zero, suc, ◌+◌, ◌*◌, ◌<◌, ◌≤◌, ◌==◌, Bool, true, false, ◌&&◌, List, [], ◌∷◌, map, length, get_or, Some, None, refl, sym, subst, arith, take, length-append, length-take}
+use Rattle.std.specs.List.{All, AllPairs}
 use Rattle.std.proofs.lemmas.List.{get_or-map, get_or-take, length-map}
 use Rattle.std.proofs.lemmas.Bool.{leb-true}
 use Rattle.index_tests.specs.Tests.{lies_in, meets}
 use Rattle.index_tests.proofs.TestLemmas.{any_at}
 use Rattle.fault_order.proofs.FirstLemmas.{both_none, holds}
-use Rattle.elf_reader.specs.File.{IsFile, PlainSegment, PlainSection, PlainView, plain_segment, plain_section, plain_view, view_in}
+use Rattle.elf_reader.specs.File.{IsFile, PlainView, plain_segment, plain_section, plain_view, view_in}
 use Rattle.elf_reader.specs.HeaderChecks.{size_fault, header_fault}
 use Rattle.elf_reader.specs.Faults.{first_fault}
 use Rattle.elf_reader.specs.Loaded.{no_section, section_at, is_loaded}
@@ -18,7 +18,7 @@ use Rattle.loaded_code.proofs.LoadedSections.{mark_is}
 use Rattle.elf_writer.specs.declared.parts.Patch.{Patch}
 use Rattle.elf_writer.specs.declared.parts.SymbolMove.{SymbolMove}
 use Rattle.elf_writer.specs.Changes.{changed}
-use Rattle.elf_writer.specs.Parts.{NewSegment, content_place}
+use Rattle.elf_writer.specs.Parts.{NewSegment}
 use Rattle.elf_writer.specs.Written.{all_changes, written}
 use Rattle.elf_writer.specs.Conditions.{has_word, is_loaded_word, PatchesLoadedWord, ArePatchesApart, HasSymbol, AreOfTwoSymbols, IsClearOf, IsAddable, IsWritable}
 use Rattle.elf_writer.proofs.ChangeLemmas.{length-changed}

@@ -1,9 +1,9 @@
 -- How changes act on lists of bytes.
-use Rattle.std.proofs.Common.{◌≡◌, ◌∙◌, ℕ, zero, suc, ◌+◌, ◌-◌, ◌<◌, ◌≤◌, List, [], ◌∷◌, ◌++◌, length, get_or, take, drop, slice_index, slice_range, refl, ap, sym, arith, append_assoc, length-append, length-take, length-drop, add-one, false, true, Bool, ◌&&◌, nat_le, nat_lt, inl, inr, if◌then◌else◌}
+use Rattle.std.proofs.Common.{◌≡◌, ◌∙◌, ℕ, zero, suc, ◌+◌, ◌-◌, ◌<◌, ◌≤◌, List, [], ◌∷◌, ◌++◌, length, get_or, take, drop, slice_index, slice_range, refl, ap, sym, arith, length-append, length-take, length-drop, false, true, ◌&&◌, nat_le, nat_lt, inl, inr}
 use Rattle.std.proofs.lemmas.List.{ext_get_or, get_or-take, get_or-drop, get_or_append_left, get_or-append_right, drop-drop, at_drop_more, at_drop_all}
 use Rattle.std.proofs.lemmas.Bool.{cases_lt}
 use Rattle.std.proofs.lemmas.Bool.Decides.{nat_tests}
-use Rattle.elf_writer.specs.Changes.{Change, changes_place, byte_after, byte_changed, changed}
+use Rattle.elf_writer.specs.Changes.{Change, byte_after, byte_changed, changed}
 
 pub length-changed : (cs : List Change) (at : ℕ) (bytes : List ℕ) → length (changed cs at bytes) ≡ length bytes
 length-changed cs at [] = refl

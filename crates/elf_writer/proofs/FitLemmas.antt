@@ -1,5 +1,5 @@
 -- Where the parts of a view stand in its file, and that what may be written fits.
-use Rattle.std.proofs.Common.{◌≡◌, ◌∙◌, ℕ, zero, suc, ◌+◌, ◌-◌, ◌*◌, ◌<◌, ◌≤◌, ◌==◌, nat_le, nat_lt, Bool, true, false, not, ◌&&◌, IsTrue, List, [], ◌∷◌, ◌++◌, map, length, get_or, slice_range, Option, Some, None, inl, inr, refl, sym, ap, subst, arith, if◌then◌else◌, length-append, length-take, length-drop, append-nil}
+use Rattle.std.proofs.Common.{◌≡◌, ◌∙◌, ℕ, zero, suc, ◌+◌, ◌-◌, ◌*◌, ◌<◌, ◌≤◌, ◌==◌, nat_lt, true, ◌&&◌, IsTrue, List, [], ◌∷◌, ◌++◌, map, length, get_or, slice_range, Option, Some, None, inl, inr, refl, sym, ap, subst, arith, length-append, length-take, length-drop, append-nil}
 use Rattle.std.specs.List.{All}
 use Rattle.std.proofs.Math.ListN.{get_or-append}
 use Rattle.std.proofs.Math.Seq.{get_or-append_seam}
@@ -7,12 +7,12 @@ use Rattle.std.proofs.lemmas.Bool.{leb-true, eqb-true, cond_both, cases_lt}
 use Rattle.std.proofs.lemmas.Bool.Decides.{nat_tests}
 use Rattle.std.proofs.lemmas.List.{get_or-map, length-map}
 use Rattle.std.proofs.lemmas.List.Elements.{All-nil, All-push, All-head, All-tail}
-use Rattle.index_tests.specs.Tests.{any_below, lies_in}
+use Rattle.index_tests.specs.Tests.{lies_in}
 use Rattle.index_tests.proofs.TestLemmas.{both, any_found}
 use Rattle.fault_order.proofs.FirstLemmas.{both_none, none_at, holds}
-use Rattle.elf_reader.specs.Layout.{program_header_count, program_header_at, program_header, section_count, section_header, symbol_at}
+use Rattle.elf_reader.specs.Layout.{program_header_count, program_header_at, program_header, section_count, section_header}
 use Rattle.elf_reader.specs.Sections.{stands_in_file, symbol_table, symbol_count_of}
-use Rattle.elf_reader.specs.File.{IsFile, PlainSegment, PlainSection, PlainSymbol, PlainView, plain_symbol, plain_view, view_in, is_load, segment_of, segments_below, load_segments, section_of, symbol_of, symbols_below, symbols_in, all_symbols}
+use Rattle.elf_reader.specs.File.{IsFile, PlainSegment, PlainSection, PlainView, plain_symbol, plain_view, view_in, is_load, segment_of, segments_below, load_segments, section_of, symbol_of, symbols_below, symbols_in, all_symbols}
 use Rattle.elf_reader.specs.HeaderChecks.{size_fault, header_fault}
 use Rattle.elf_reader.specs.ProgramHeaderChecks.{place_fault, table_fault, program_headers_fault}
 use Rattle.elf_reader.specs.SectionChecks.{sections_fault}
@@ -26,7 +26,7 @@ use Rattle.elf_reader.specs.declared.view.Symbol.{Symbol}
 use Rattle.elf_reader.proofs.SegmentLemmas.{none_of_headers}
 use Rattle.elf_reader.proofs.SectionLemmas.{none_of_sections, section_contents_held}
 use Rattle.elf_reader.proofs.SymbolLemmas.{symbols_readable}
-use Rattle.elf_reader.proofs.LoadedLemmas.{length_sections, section_is, loaded_below}
+use Rattle.elf_reader.proofs.LoadedLemmas.{section_is, loaded_below}
 use Rattle.elf_writer.specs.declared.parts.Patch.{Patch}
 use Rattle.elf_writer.specs.declared.parts.SymbolMove.{SymbolMove}
 use Rattle.elf_writer.specs.Parts.{NewSegment, no_symbol, nth_symbol, content_place}

@@ -1,5 +1,5 @@
 -- Places of a file that no change touches.
-use Rattle.std.proofs.Common.{◌≡◌, ◌∙◌, ℕ, zero, suc, ◌+◌, ◌*◌, ◌<◌, ◌≤◌, nat_le, nat_lt, Bool, true, false, ◌&&◌, List, [], ◌∷◌, ◌++◌, map, length, get_or, refl, ap, subst, arith, if◌then◌else◌}
+use Rattle.std.proofs.Common.{◌≡◌, ◌∙◌, ℕ, suc, ◌+◌, ◌<◌, ◌≤◌, false, List, [], ◌∷◌, map, length, get_or, refl, ap, subst, arith}
 use Rattle.std.specs.List.{All}
 use Rattle.std.proofs.lemmas.Bool.Decides.{nat_tests}
 use Rattle.std.proofs.lemmas.List.Elements.{All-nil, All-head, All-tail, All-append, All-map, All-push}
@@ -9,7 +9,7 @@ use Rattle.elf_reader.specs.File.{PlainSymbol, PlainView}
 use Rattle.elf_writer.specs.declared.parts.Patch.{Patch}
 use Rattle.elf_writer.specs.declared.parts.SymbolMove.{SymbolMove}
 use Rattle.elf_writer.specs.Changes.{Change, within, changes_place, IsUntouched, byte_after, byte_changed, changed}
-use Rattle.elf_writer.specs.Parts.{NewSegment, patch_change, nth_symbol, move_changes, moves_changes, table_place, header_changes}
+use Rattle.elf_writer.specs.Parts.{NewSegment, patch_change, nth_symbol, moves_changes, table_place, header_changes}
 
 pub free_stays : (cs : List Change) (q old : ℕ) → IsUntouched cs q → byte_changed cs q old ≡ old
 free_stays [] q old free = refl

@@ -1,16 +1,16 @@
 -- The ELF header of a written file, read back.
-use Rattle.std.proofs.Common.{◌≡◌, ◌∙◌, ℕ, ◌+◌, ◌*◌, ◌<◌, ◌≤◌, List, length, slice_index, Option, Some, None, refl, sym, ap, arith}
+use Rattle.std.proofs.Common.{◌≡◌, ◌∙◌, ℕ, ◌+◌, ◌<◌, List, slice_index, Option, Some, None, sym, ap, arith}
 use Rattle.word_bits.specs.Words.{byte_of, half_of, word_of}
 use Rattle.elf_reader.specs.Layout.{file_header}
-use Rattle.elf_reader.specs.File.{PlainView, view_in}
+use Rattle.elf_reader.specs.File.{view_in}
 use Rattle.elf_reader.specs.Faults.{first_fault}
 use Rattle.elf_writer.specs.declared.parts.Patch.{Patch}
 use Rattle.elf_writer.specs.declared.parts.SymbolMove.{SymbolMove}
 use Rattle.elf_writer.specs.Changes.{byte_changed}
-use Rattle.elf_writer.specs.Parts.{NewSegment, content_changes, table_place, content_place, header_changes}
+use Rattle.elf_writer.specs.Parts.{NewSegment, content_changes, table_place, header_changes}
 use Rattle.elf_writer.specs.Written.{written}
-use Rattle.elf_writer.specs.Conditions.{IsAddable, IsWritable, HasWordEntry}
-use Rattle.elf_writer.specs.Fits.{SegmentFits, WriteFits}
+use Rattle.elf_writer.specs.Conditions.{IsWritable, HasWordEntry}
+use Rattle.elf_writer.specs.Fits.{SegmentFits}
 use Rattle.elf_writer.specs.View.{written_entry, written_ph_at, written_ph_count}
 use Rattle.elf_writer.proofs.ChangeLemmas.{byte_changed-append}
 use Rattle.elf_writer.proofs.WrittenLemmas.{bytes_written}

@@ -1,26 +1,23 @@
 -- The memory that the segments of a written file make.
-use Rattle.std.proofs.Common.{◌≡◌, ◌∙◌, ◌⊎◌, inl, inr, ℕ, zero, suc, ◌+◌, ◌-◌, ◌*◌, ◌<◌, ◌≤◌, ◌==◌, nat_le, nat_lt, Bool, true, false, ◌&&◌, ◌||◌, List, [], ◌∷◌, ◌++◌, map, length, get_or, slice_index, Option, Some, None, refl, sym, ap, subst, arith, if◌then◌else◌}
-use Rattle.std.specs.List.{All, slice_index_or}
-use Rattle.std.proofs.lemmas.Bool.{cases_Bool, cases_lt, cond_both, cond-true, cond-false, both_ways, eqb-true}
+use Rattle.std.proofs.Common.{◌≡◌, ◌∙◌, ◌⊎◌, inl, inr, ℕ, zero, suc, ◌+◌, ◌-◌, ◌<◌, ◌≤◌, nat_le, nat_lt, true, false, ◌&&◌, List, [], ◌∷◌, map, length, get_or, slice_index, Some, None, refl, sym, ap, subst, arith, if◌then◌else◌}
+use Rattle.std.specs.List.{All}
+use Rattle.std.proofs.lemmas.Bool.{cases_Bool, cases_lt, cond_both, cond-true, cond-false, both_ways}
 use Rattle.std.proofs.lemmas.Bool.Decides.{nat_tests}
 use Rattle.std.proofs.lemmas.List.{get_or-map, length-map}
 use Rattle.std.proofs.lemmas.List.Elements.{All-head, All-tail, All-map}
-use Rattle.index_tests.specs.Tests.{any_below, meets}
+use Rattle.index_tests.specs.Tests.{meets}
 use Rattle.elf_reader.specs.File.{PlainSegment, PlainView, view_in}
-use Rattle.elf_reader.specs.Faults.{first_fault}
 use Rattle.elf_reader.specs.Image.{has_byte, image_of}
 use Rattle.elf_reader.specs.Loadable.{AreApart}
 use Rattle.elf_reader.specs.Loaded.{no_segment, segment_at}
 use Rattle.elf_reader.proofs.SegmentLemmas.{none_of_headers, load_segments_apart}
 use Rattle.elf_reader.proofs.LoadedLemmas.{IsPlaced, load_segments_placed, nth_segment, image_without, image_at, HasAddress, only_segment}
-use Rattle.elf_writer.specs.declared.parts.Patch.{Patch}
-use Rattle.elf_writer.specs.declared.parts.SymbolMove.{SymbolMove}
-use Rattle.elf_writer.specs.Changes.{Change, changes_place, byte_after, byte_changed, changed, IsUntouched, within}
+use Rattle.elf_writer.specs.Changes.{Change, byte_changed, changed}
 use Rattle.elf_writer.specs.Parts.{NewSegment}
 use Rattle.elf_writer.specs.Written.{all_changes}
-use Rattle.elf_writer.specs.Conditions.{IsClearOf, IsAddable, IsWritable}
-use Rattle.elf_writer.specs.View.{changed_segment, added_segment, numbered_behind, with_added, with_segment, written_segments}
-use Rattle.elf_writer.specs.Images.{file_place, IsOutside, written_image, NewBytesLoaded, ChangedBytesLoaded, ZerosLoaded, UntouchedStay}
+use Rattle.elf_writer.specs.Conditions.{IsClearOf}
+use Rattle.elf_writer.specs.View.{changed_segment, added_segment, numbered_behind, with_added}
+use Rattle.elf_writer.specs.Images.{file_place, NewBytesLoaded, ChangedBytesLoaded, ZerosLoaded, UntouchedStay}
 use Rattle.elf_writer.proofs.ChangeLemmas.{length-changed, changed_at}
 use Rattle.elf_writer.proofs.FreeLemmas.{free_stays}
 

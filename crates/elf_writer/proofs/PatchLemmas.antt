@@ -1,5 +1,5 @@
 -- Patched words in memory, and the places that no change touches.
-use Rattle.std.proofs.Common.{◌≡◌, ◌∙◌, ◌⊎◌, inl, inr, ℕ, zero, suc, ◌+◌, ◌-◌, ◌*◌, ◌/◌, ◌<◌, ◌≤◌, ◌==◌, nat_le, nat_lt, Bool, true, false, not, ◌&&◌, ◌||◌, List, [], ◌∷◌, ◌++◌, map, length, get_or, slice_index, Option, Some, None, refl, sym, ap, subst, arith}
+use Rattle.std.proofs.Common.{◌≡◌, ◌∙◌, ◌⊎◌, inl, inr, ℕ, zero, suc, ◌+◌, ◌-◌, ◌*◌, ◌/◌, ◌<◌, ◌≤◌, ◌==◌, nat_lt, Bool, true, false, not, ◌&&◌, List, [], ◌∷◌, map, length, get_or, slice_index, Option, Some, None, sym, ap, subst, arith}
 use Rattle.std.specs.List.{All, AllPairs}
 use Rattle.std.proofs.lemmas.Bool.{eqb-true, cases_Bool}
 use Rattle.std.proofs.lemmas.Bool.Decides.{nat_tests}
@@ -13,17 +13,17 @@ use Rattle.elf_reader.specs.File.{PlainSegment, PlainSection, PlainView, view_in
 use Rattle.elf_reader.specs.Faults.{first_fault}
 use Rattle.elf_reader.specs.Image.{has_byte, image_of}
 use Rattle.elf_reader.specs.Loaded.{section_at, segment_at}
-use Rattle.elf_reader.proofs.LoadedLemmas.{length_sections, section_is, loaded_found, Loads, IsFilled, IsZeroed}
+use Rattle.elf_reader.proofs.LoadedLemmas.{length_sections, section_is, loaded_found, IsFilled, IsZeroed}
 use Rattle.elf_writer.specs.declared.parts.Patch.{Patch}
 use Rattle.elf_writer.specs.declared.parts.SymbolMove.{SymbolMove}
-use Rattle.elf_writer.specs.Changes.{Change, changes_place, byte_after, byte_changed, IsUntouched, within}
-use Rattle.elf_writer.specs.Parts.{NewSegment, patch_change, nth_symbol, moves_changes, content_changes, header_changes}
+use Rattle.elf_writer.specs.Changes.{changes_place, byte_after, byte_changed, IsUntouched, within}
+use Rattle.elf_writer.specs.Parts.{NewSegment, patch_change, moves_changes, content_changes, header_changes}
 use Rattle.elf_writer.specs.Written.{all_changes}
 use Rattle.elf_writer.specs.Conditions.{ArePatchesApart, HasSymbol, IsWritable}
-use Rattle.elf_writer.specs.Images.{file_place, in_symbol_table, is_changed_place, IsUnpatched, written_image, OthersUntouched, PatchesLoaded, StandsAt, WordsLoaded, holds_changed_byte, OthersLoaded}
+use Rattle.elf_writer.specs.Images.{file_place, in_symbol_table, is_changed_place, IsUnpatched, OthersUntouched, PatchesLoaded, StandsAt, WordsLoaded, holds_changed_byte, OthersLoaded}
 use Rattle.elf_writer.proofs.ChangeLemmas.{byte_changed-append}
 use Rattle.elf_writer.proofs.FreeLemmas.{free_stays, patches_free, IsOffRecord, moves_free, header_free, behind_header}
-use Rattle.elf_writer.proofs.PlaceLemmas.{content_off_header, patched_section, PatchedSection, own_table, OwnTable, moved_record, MovedRecord}
+use Rattle.elf_writer.proofs.PlaceLemmas.{content_off_header, patched_section, PatchedSection, own_table, OwnTable, moved_record}
 use Rattle.elf_writer.proofs.RangeLemmas.{OffTable, off_moves, kinds_differ}
 use Rattle.elf_writer.proofs.ImageLemmas.{has_from, has_to, changed_bytes_loaded, untouched_stay}
 

@@ -1,18 +1,17 @@
 -- Where the words that are patched and the symbols that are moved stand in a file in which no check
 -- fails, and what else stands there: nothing that is read of the file.
-use Rattle.std.proofs.Common.{◌≡◌, ◌∙◌, ◌⊎◌, inl, inr, ℕ, ◌+◌, ◌*◌, ◌<◌, ◌≤◌, ◌==◌, Bool, true, false, not, ◌&&◌, ◌||◌, List, length, get_or, Option, Some, None, refl, sym, ap, subst, arith}
-use Rattle.std.proofs.lemmas.Bool.{eqb-true, cond_both, both_ways}
-use Rattle.std.proofs.lemmas.Bool.Decides.{nat_tests}
+use Rattle.std.proofs.Common.{◌≡◌, ◌∙◌, ◌⊎◌, inl, inr, ℕ, ◌+◌, ◌*◌, ◌<◌, ◌≤◌, ◌==◌, Bool, true, false, not, ◌&&◌, List, length, Option, Some, None, refl, ap, subst, arith}
+use Rattle.std.proofs.lemmas.Bool.{eqb-true}
 use Rattle.index_tests.specs.Tests.{any_below, meets}
-use Rattle.index_tests.proofs.TestLemmas.{both, neither, not_true, none_at}
+use Rattle.index_tests.proofs.TestLemmas.{neither, not_true, none_at}
 use Rattle.fault_order.proofs.FirstLemmas.{both_none, holds}
-use Rattle.elf_reader.specs.Layout.{file_header, section_count, section_header, symbol_at}
-use Rattle.elf_reader.specs.Sections.{stands_in_file, is_table_at, symbol_table, symbol_count_of}
-use Rattle.elf_reader.specs.File.{PlainSection, PlainView, view_in, section_of, all_sections, symbols_in, symbol_of}
+use Rattle.elf_reader.specs.Layout.{file_header, section_count, section_header}
+use Rattle.elf_reader.specs.Sections.{stands_in_file, symbol_table, symbol_count_of}
+use Rattle.elf_reader.specs.File.{PlainSection, PlainView, view_in, section_of, symbols_in}
 use Rattle.elf_reader.specs.SectionChecks.{header_places_fault, table_start_fault, content_fault, section_place_fault, section_places_fault}
 use Rattle.elf_reader.specs.SymbolChecks.{one_table_fault, symbol_size_fault, meets_section_headers, shares_bytes, shared_table_fault, symbol_table_fault, found_table_fault}
 use Rattle.elf_reader.specs.Faults.{first_fault}
-use Rattle.elf_reader.specs.Loaded.{section_at, segment_at, meets_headers, meets_section}
+use Rattle.elf_reader.specs.Loaded.{section_at, segment_at}
 use Rattle.elf_reader.proofs.SectionLemmas.{none_of_sections, none_of_section_headers}
 use Rattle.elf_reader.proofs.SymbolLemmas.{table_is}
 use Rattle.elf_reader.proofs.LoadedLemmas.{length_sections, section_is, loaded_found, loaded_below, IsFilled, IsZeroed, HasOwnBytes}

@@ -1,17 +1,17 @@
 -- Ranges of the file whose bytes stay.
-use Rattle.std.proofs.Common.{◌≡◌, ◌∙◌, inl, inr, ℕ, zero, suc, ◌+◌, ◌*◌, ◌/◌, ◌<◌, ◌≤◌, ◌==◌, Bool, true, false, List, [], ◌∷◌, ◌++◌, map, length, get_or, slice_index, slice_range, Option, Some, None, refl, sym, ap, subst, arith, length-take, length-drop}
+use Rattle.std.proofs.Common.{◌≡◌, ◌∙◌, inl, inr, ℕ, ◌+◌, ◌*◌, ◌/◌, ◌<◌, ◌≤◌, ◌==◌, true, false, List, map, length, get_or, slice_index, slice_range, Option, Some, None, sym, ap, subst, arith, length-take, length-drop}
 use Rattle.std.specs.List.{All}
 use Rattle.std.proofs.lemmas.Bool.{eqb-true, cases_Bool}
 use Rattle.std.proofs.lemmas.List.Elements.{All-append}
 use Rattle.index_tests.specs.Tests.{meets}
 use Rattle.elf_reader.specs.Layout.{file_header, section_count, section_header}
-use Rattle.elf_reader.specs.Sections.{stands_in_file, symbol_count_of}
-use Rattle.elf_reader.specs.File.{PlainSymbol, PlainView, view_in}
+use Rattle.elf_reader.specs.Sections.{stands_in_file}
+use Rattle.elf_reader.specs.File.{PlainView, view_in}
 use Rattle.elf_reader.specs.Faults.{first_fault}
 use Rattle.elf_writer.specs.declared.parts.Patch.{Patch}
 use Rattle.elf_writer.specs.declared.parts.SymbolMove.{SymbolMove}
-use Rattle.elf_writer.specs.Changes.{Change, changes_place, byte_changed, changed, IsUntouched, within}
-use Rattle.elf_writer.specs.Parts.{NewSegment, patch_change, nth_symbol, moves_changes, content_changes, header_changes}
+use Rattle.elf_writer.specs.Changes.{changes_place, IsUntouched, within}
+use Rattle.elf_writer.specs.Parts.{NewSegment, patch_change, moves_changes, content_changes, header_changes}
 use Rattle.elf_writer.specs.Written.{all_changes, written}
 use Rattle.elf_writer.specs.Conditions.{PatchesLoadedWord, HasSymbol, IsWritable}
 use Rattle.elf_writer.proofs.WrittenLemmas.{bytes_written, ranges_written}

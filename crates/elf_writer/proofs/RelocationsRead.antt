@@ -1,18 +1,18 @@
 -- The relocations of a written file, read back.
-use Rattle.std.proofs.Common.{◌≡◌, ◌∙◌, inl, inr, ℕ, zero, suc, ◌+◌, ◌*◌, ◌/◌, ◌<◌, ◌≤◌, ◌==◌, nat_lt, Bool, true, false, not, ◌&&◌, List, [], ◌∷◌, ◌++◌, length, Option, None, refl, sym, ap, arith, if◌then◌else◌}
-use Rattle.std.proofs.lemmas.Bool.{eqb-true, cases_lt, cases_Bool}
+use Rattle.std.proofs.Common.{◌≡◌, ◌∙◌, inl, inr, ℕ, zero, suc, ◌+◌, ◌*◌, ◌/◌, ◌<◌, ◌≤◌, nat_lt, Bool, true, false, not, ◌&&◌, List, [], ◌∷◌, ◌++◌, Option, None, refl, ap, arith, if◌then◌else◌}
+use Rattle.std.proofs.lemmas.Bool.{eqb-true, cases_lt}
 use Rattle.std.proofs.lemmas.Bool.Decides.{nat_tests}
 use Rattle.index_tests.proofs.TestLemmas.{both}
 use Rattle.elf_reader.specs.Layout.{section_count, section_header, relocation_record_in, relocation_record}
 use Rattle.elf_reader.specs.Sections.{is_allocated, is_rela, is_relocation_section, names_section, is_read, relocation_count_at, symbol_of_info, kind_of_info}
-use Rattle.elf_reader.specs.File.{PlainView, view_in, relocation_of, relocations_within, relocations_below, all_relocations}
+use Rattle.elf_reader.specs.File.{view_in, relocation_of, relocations_within, relocations_below, all_relocations}
 use Rattle.elf_reader.specs.Faults.{first_fault}
 use Rattle.elf_writer.specs.declared.parts.Patch.{Patch}
 use Rattle.elf_writer.specs.declared.parts.SymbolMove.{SymbolMove}
 use Rattle.elf_writer.specs.Parts.{NewSegment}
 use Rattle.elf_writer.specs.Written.{written}
 use Rattle.elf_writer.specs.Conditions.{IsWritable}
-use Rattle.elf_writer.proofs.AlikeLemmas.{Alike, part_alike, relocation_alike}
+use Rattle.elf_writer.proofs.AlikeLemmas.{part_alike, relocation_alike}
 use Rattle.elf_writer.proofs.HeaderRead.{keeps_header}
 use Rattle.elf_writer.proofs.SectionsRead.{section_header_is, kept_content}
 

@@ -1,13 +1,12 @@
 -- The sections of a written file, read back.
-use Rattle.std.proofs.Common.{◌≡◌, ◌∙◌, inl, inr, ℕ, zero, suc, ◌+◌, ◌-◌, ◌*◌, ◌<◌, ◌≤◌, ◌==◌, nat_lt, true, false, IsTrue, List, [], ◌∷◌, ◌++◌, map, length, slice_range, Option, None, refl, sym, ap, arith, if◌then◌else◌}
+use Rattle.std.proofs.Common.{◌≡◌, ◌∙◌, inl, inr, ℕ, zero, suc, ◌+◌, ◌-◌, ◌*◌, ◌<◌, ◌≤◌, nat_lt, true, IsTrue, List, [], ◌∷◌, ◌++◌, map, length, Option, None, refl, sym, ap, arith}
 use Rattle.std.proofs.lemmas.Bool.{eqb-true, ltb-true, cases_Bool}
 use Rattle.std.proofs.lemmas.List.{map-append}
 use Rattle.index_tests.proofs.TestLemmas.{both}
 use Rattle.elf_reader.specs.Layout.{file_header, section_count, section_header_in, section_header}
 use Rattle.elf_reader.specs.Sections.{stands_in_file, content_of, section_content, is_string_table, names_section, name_in, section_names}
-use Rattle.elf_reader.specs.File.{PlainSection, PlainView, view_in, section_of, sections_below, all_sections}
+use Rattle.elf_reader.specs.File.{view_in, section_of, sections_below, all_sections}
 use Rattle.elf_reader.specs.Faults.{first_fault}
-use Rattle.elf_reader.specs.Placed.{HasContents}
 use Rattle.elf_reader.proofs.SectionLemmas.{none_of_sections, section_headers_held, names_table_held}
 use Rattle.elf_writer.specs.declared.parts.Patch.{Patch}
 use Rattle.elf_writer.specs.declared.parts.SymbolMove.{SymbolMove}
@@ -20,7 +19,7 @@ use Rattle.elf_writer.proofs.FitLemmas.{contents_held}
 use Rattle.elf_writer.proofs.WrittenLemmas.{ranges_written}
 use Rattle.elf_writer.proofs.AlikeLemmas.{Alike, part_alike, section_header_alike}
 use Rattle.elf_writer.proofs.RangeLemmas.{range_alike, range_stays, section_headers_off, content_off}
-use Rattle.elf_writer.proofs.HeaderRead.{KeepsHeader, keeps_header}
+use Rattle.elf_writer.proofs.HeaderRead.{keeps_header}
 
 -- the section headers stay
 headers_inside : (file : List ℕ) (k : ℕ) → first_fault file ≡ None → k < section_count file → (file_header file).e_shoff + 40 * section_count file ≤ length file

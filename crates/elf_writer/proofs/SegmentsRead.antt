@@ -1,5 +1,5 @@
 -- The segments of a written file, read back.
-use Rattle.std.proofs.Common.{◌≡◌, ◌∙◌, ℕ, zero, suc, ◌+◌, ◌-◌, ◌*◌, ◌<◌, ◌≤◌, ◌==◌, nat_lt, Bool, true, false, IsTrue, List, [], ◌∷◌, ◌++◌, map, length, slice_range, Option, Some, None, refl, sym, ap, subst, arith, append_assoc, append-nil, if◌then◌else◌}
+use Rattle.std.proofs.Common.{◌≡◌, ◌∙◌, ℕ, zero, suc, ◌+◌, ◌-◌, ◌*◌, ◌<◌, ◌≤◌, ◌==◌, nat_lt, true, false, List, [], ◌∷◌, ◌++◌, map, length, slice_range, Option, Some, None, refl, sym, ap, arith, append_assoc, append-nil, if◌then◌else◌}
 use Rattle.std.specs.List.{All}
 use Rattle.std.proofs.lemmas.Bool.{cond_both, cond-true, cond-false}
 use Rattle.std.proofs.lemmas.Bool.Decides.{nat_tests}
@@ -8,14 +8,14 @@ use Rattle.std.proofs.lemmas.List.Elements.{All-nil, All-head, All-tail, All-pus
 use Rattle.fault_order.proofs.FirstLemmas.{both_none}
 use Rattle.workload_gen.proofs.Standing.{stands_range}
 use Rattle.elf_reader.specs.Layout.{program_header_count, program_header, program_header_in}
-use Rattle.elf_reader.specs.File.{PlainSegment, PlainView, view_in, is_load, segment_of, segments_at, segments_below, load_segments}
+use Rattle.elf_reader.specs.File.{PlainSegment, view_in, is_load, segment_of, segments_at, segments_below, load_segments}
 use Rattle.elf_reader.specs.Faults.{first_fault}
 use Rattle.elf_reader.specs.Loadable.{HasSegments}
 use Rattle.elf_reader.specs.ProgramHeaderChecks.{table_fault, entries_fault}
 use Rattle.elf_reader.proofs.SegmentLemmas.{segments_held, none_of_headers}
 use Rattle.elf_writer.specs.declared.parts.Patch.{Patch}
 use Rattle.elf_writer.specs.declared.parts.SymbolMove.{SymbolMove}
-use Rattle.elf_writer.specs.Changes.{Change, changed}
+use Rattle.elf_writer.specs.Changes.{changed}
 use Rattle.elf_writer.specs.Parts.{NewSegment, table_place, content_place}
 use Rattle.elf_writer.specs.Written.{new_number, all_changes, written}
 use Rattle.elf_writer.specs.Conditions.{IsWritable, HasWordEntry}
@@ -23,7 +23,7 @@ use Rattle.elf_writer.specs.View.{changed_segment, added_segment, numbered_behin
 use Rattle.elf_writer.proofs.FitLemmas.{numbers_below, number_within}
 use Rattle.elf_writer.proofs.WrittenLemmas.{ranges_written}
 use Rattle.elf_writer.proofs.HeaderRead.{header_is}
-use Rattle.elf_writer.proofs.TableRead.{program_header_stays, program_header_before, program_header_behind, HasTable, has_table, IsNew, new_read}
+use Rattle.elf_writer.proofs.TableRead.{program_header_stays, program_header_before, program_header_behind, has_table, new_read}
 
 pub segments_hold : (file : List ℕ) → first_fault file ≡ None → HasSegments file
 segments_hold file none =

@@ -1,15 +1,15 @@
 -- The symbols of a written file, read back.
-use Rattle.std.proofs.Common.{◌≡◌, ◌∙◌, ◌⊎◌, inl, inr, ℕ, zero, suc, ◌+◌, ◌-◌, ◌*◌, ◌/◌, ◌%◌, ◌<◌, ◌≤◌, ◌==◌, nat_le, nat_lt, Bool, true, false, not, ◌&&◌, List, [], ◌∷◌, ◌++◌, map, length, get_or, slice_index, Option, Some, None, refl, sym, ap, subst, arith, add-one, if◌then◌else◌}
+use Rattle.std.proofs.Common.{◌≡◌, ◌∙◌, ◌⊎◌, inl, inr, ℕ, zero, suc, ◌+◌, ◌-◌, ◌*◌, ◌%◌, ◌<◌, ◌≤◌, ◌==◌, nat_le, nat_lt, true, false, not, ◌&&◌, List, [], ◌∷◌, ◌++◌, map, length, get_or, slice_index, Option, Some, None, refl, sym, ap, subst, arith, if◌then◌else◌}
 use Rattle.std.specs.List.{All}
 use Rattle.std.proofs.lemmas.Bool.{eqb-true, cases_Bool, cond-true, cond-false}
 use Rattle.std.proofs.lemmas.Bool.Decides.{nat_tests}
 use Rattle.std.proofs.lemmas.List.Elements.{All-head, All-tail}
 use Rattle.fault_order.specs.First.{◌or_else◌, unless}
-use Rattle.word_bits.specs.Words.{byte_of, half_of, word_of}
+use Rattle.word_bits.specs.Words.{half_of, word_of}
 use Rattle.workload_gen.specs.Pieces.{half_bytes, word_bytes}
 use Rattle.elf_reader.specs.Layout.{section_count, section_header, half_in, word_in, symbol_record_in, symbol_record}
 use Rattle.elf_reader.specs.Sections.{stands_in_file, is_symbol_table, section_content, name_in, symbol_table_below, symbol_table, symbol_count_of, symbol_names}
-use Rattle.elf_reader.specs.File.{PlainSymbol, PlainView, view_in, symbol_of, symbols_below, symbols_in, all_symbols}
+use Rattle.elf_reader.specs.File.{PlainSymbol, view_in, symbol_of, symbols_below, symbols_in, all_symbols}
 use Rattle.elf_reader.specs.Faults.{first_fault}
 use Rattle.elf_reader.specs.SymbolTables.{IsReadable, HasReadable}
 use Rattle.elf_writer.specs.declared.parts.Patch.{Patch}
@@ -21,10 +21,10 @@ use Rattle.elf_writer.specs.Conditions.{HasSymbol, IsWritable, HasWordValue}
 use Rattle.elf_writer.specs.View.{moved_value, moved_section, moved_symbol, moved_symbols}
 use Rattle.elf_writer.proofs.ChangeLemmas.{byte_changed-append}
 use Rattle.elf_writer.proofs.WrittenLemmas.{bytes_written}
-use Rattle.elf_writer.proofs.AlikeLemmas.{Alike, word_alike}
+use Rattle.elf_writer.proofs.AlikeLemmas.{word_alike}
 use Rattle.elf_writer.proofs.FreeLemmas.{free_stays, IsOffChanges, moves_off, header_free, behind_header}
 use Rattle.elf_writer.proofs.FitLemmas.{contents_held, readable_held, length_symbols}
-use Rattle.elf_writer.proofs.PlaceLemmas.{content_off_header, OwnSection, OwnTable, own_table, moved_record, MovedRecord}
+use Rattle.elf_writer.proofs.PlaceLemmas.{content_off_header, OwnTable, own_table, moved_record}
 use Rattle.elf_writer.proofs.RangeLemmas.{OffSections, off_patches, kinds_differ}
 use Rattle.elf_writer.proofs.HeaderRead.{keeps_header, whole_word}
 use Rattle.elf_writer.proofs.SectionsRead.{section_header_is, strings_stay}

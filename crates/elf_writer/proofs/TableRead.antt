@@ -1,28 +1,26 @@
 -- The program headers of a written file, read back.
-use Rattle.std.proofs.Common.{◌≡◌, ◌∙◌, ℕ, zero, suc, ◌+◌, ◌-◌, ◌*◌, ◌<◌, ◌≤◌, ◌==◌, Bool, true, false, not, ◌&&◌, IsTrue, List, [], ◌∷◌, ◌++◌, map, length, get_or, slice_index, slice_range, Option, Some, None, refl, sym, ap, subst, arith, length-append}
+use Rattle.std.proofs.Common.{◌≡◌, ◌∙◌, ℕ, ◌+◌, ◌-◌, ◌*◌, ◌<◌, ◌≤◌, ◌==◌, Bool, true, false, not, ◌&&◌, List, [], ◌∷◌, ◌++◌, map, length, slice_range, Some, None, refl, ap, subst, arith}
 use Rattle.std.specs.List.{All}
 use Rattle.std.proofs.lemmas.List.Elements.{All-nil, All-append}
 use Rattle.index_tests.specs.Tests.{meets}
-use Rattle.index_tests.proofs.TestLemmas.{not_true}
-use Rattle.workload_gen.specs.Pieces.{words_bytes, zero_bytes, padding}
+use Rattle.workload_gen.specs.Pieces.{zero_bytes, padding}
 use Rattle.workload_gen.proofs.ByteLemmas.{length-zero_bytes}
-use Rattle.workload_gen.proofs.Standing.{Stands, stands_whole, stands_first, stands_behind, stands_range, byte_there, words_there}
-use Rattle.elf_reader.specs.Layout.{file_header, program_header_count, program_header_at, program_header_in, program_header, section_count, section_header}
+use Rattle.workload_gen.proofs.Standing.{Stands, stands_whole, stands_first, stands_behind, byte_there, words_there}
+use Rattle.elf_reader.specs.Layout.{file_header, program_header_count, program_header_in, program_header, section_count, section_header}
 use Rattle.elf_reader.specs.File.{PlainSection, PlainView, view_in}
 use Rattle.elf_reader.specs.Faults.{first_fault}
 use Rattle.elf_reader.proofs.LoadedLemmas.{length_sections, section_is, byte_of_range}
-use Rattle.elf_reader.specs.Loaded.{no_section, section_at}
+use Rattle.elf_reader.specs.Loaded.{no_section}
 use Rattle.elf_writer.specs.declared.parts.Patch.{Patch}
 use Rattle.elf_writer.specs.declared.parts.SymbolMove.{SymbolMove}
-use Rattle.elf_writer.specs.Changes.{Change, changes_place, changed, IsUntouched}
+use Rattle.elf_writer.specs.Changes.{changes_place, changed, IsUntouched}
 use Rattle.elf_writer.specs.Parts.{NewSegment, patch_change, moves_changes, table_place, content_place}
 use Rattle.elf_writer.specs.Written.{new_number, new_record, record_place, new_table, all_changes, appended, written}
-use Rattle.elf_writer.specs.Conditions.{keeps_program_headers, KeepsProgramHeaders, HasSymbol, IsAddable, IsWritable}
-use Rattle.elf_writer.specs.Fits.{SegmentFits, WriteFits}
+use Rattle.elf_writer.specs.Conditions.{keeps_program_headers, KeepsProgramHeaders, IsWritable}
+use Rattle.elf_writer.specs.Fits.{SegmentFits}
 use Rattle.elf_writer.proofs.ChangeLemmas.{length-changed}
 use Rattle.elf_writer.proofs.AlikeLemmas.{Alike, part_alike, program_header_alike}
-use Rattle.elf_writer.proofs.FitLemmas.{table_inside, number_within, length_range, length_table, fits}
-use Rattle.elf_writer.proofs.PlaceLemmas.{OwnTable}
+use Rattle.elf_writer.proofs.FitLemmas.{table_inside, length_range, length_table, fits}
 use Rattle.elf_writer.proofs.RangeLemmas.{OffTable, off_patches, off_moves, free_byte}
 use Rattle.elf_writer.proofs.HeaderRead.{header_is}
 

@@ -1,5 +1,5 @@
 -- A written file, read back.
-use Rattle.std.proofs.Common.{◌≡◌, ◌∙◌, ℕ, List, Option, None, Result, Ok, Err, OnOk, IfOk, Vec, refl, sym, ap, subst}
+use Rattle.std.proofs.Common.{◌≡◌, ◌∙◌, ℕ, List, Option, None, Result, Ok, Err, OnOk, IfOk, Vec, sym, ap, subst}
 use Rattle.std.specs.declared.alloc.Global.{Global}
 use Rattle.elf_reader.specs.File.{IsFile, PlainView, plain_view, view_in}
 use Rattle.elf_reader.specs.Faults.{first_fault}

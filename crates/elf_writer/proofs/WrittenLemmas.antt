@@ -1,15 +1,11 @@
 -- The bytes of a file that is written, place by place.
-use Rattle.std.proofs.Common.{◌≡◌, ◌∙◌, ◌⊎◌, inl, inr, ℕ, suc, ◌+◌, ◌-◌, ◌<◌, ◌≤◌, false, List, [], ◌∷◌, ◌++◌, length, get_or, take, drop, slice_index, slice_range, Option, refl, ap, arith, length-drop}
+use Rattle.std.proofs.Common.{◌≡◌, ◌∙◌, inl, inr, ℕ, suc, ◌+◌, ◌-◌, ◌≤◌, false, List, [], ◌∷◌, ◌++◌, length, get_or, take, drop, slice_index, slice_range, refl, ap, arith, length-drop}
 use Rattle.std.specs.List.{All}
 use Rattle.std.proofs.lemmas.Bool.Decides.{nat_tests}
 use Rattle.std.proofs.lemmas.List.{get_or_append_left, take-append-le, drop-append-le}
 use Rattle.std.proofs.lemmas.List.Elements.{All-head, All-tail}
-use Rattle.elf_reader.specs.File.{PlainView}
-use Rattle.elf_writer.specs.declared.parts.Patch.{Patch}
-use Rattle.elf_writer.specs.declared.parts.SymbolMove.{SymbolMove}
 use Rattle.elf_writer.specs.Changes.{Change, changes_place, byte_after, byte_changed, changed}
-use Rattle.elf_writer.specs.Parts.{NewSegment}
-use Rattle.elf_writer.specs.Written.{all_changes, appended, written}
+use Rattle.elf_writer.specs.Written.{all_changes, appended}
 use Rattle.elf_writer.specs.Laws.{BytesWritten, RangesWritten, IsOff, OthersStay}
 use Rattle.elf_writer.proofs.ChangeLemmas.{length-changed, changed_at, range-changed}
 

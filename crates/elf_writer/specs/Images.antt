@@ -1,8 +1,8 @@
 -- What the segments of a file that is written put into memory.
-use Rattle.std.specs.Prelude.{◌≡◌, ℕ, ◌+◌, ◌-◌, ◌<◌, ◌≤◌, ◌==◌, nat_lt, nat_le, Bool, true, false, ◌&&◌, ◌||◌, List, length, slice_index, slice_index_or, Option, Some, None, All}
+use Rattle.std.specs.Prelude.{◌≡◌, ℕ, ◌+◌, ◌-◌, ◌<◌, ◌≤◌, ◌==◌, nat_lt, Bool, true, false, ◌&&◌, ◌||◌, List, length, slice_index, slice_index_or, Option, Some, None, All}
 use Rattle.index_tests.specs.Tests.{any_below}
 use Rattle.workload_gen.specs.Pieces.{word_bytes}
-use Rattle.elf_reader.specs.File.{PlainSegment, PlainView, view_in}
+use Rattle.elf_reader.specs.File.{PlainView, view_in}
 use Rattle.elf_reader.specs.Faults.{first_fault}
 use Rattle.elf_reader.specs.Image.{has_byte, image_of}
 use Rattle.elf_reader.specs.Loaded.{section_at, segment_at, is_loaded}

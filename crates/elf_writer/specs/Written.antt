@@ -5,7 +5,7 @@ use Rattle.workload_gen.specs.Pieces.{words_bytes, zero_bytes, padding}
 use Rattle.elf_writer.specs.declared.parts.Patch.{Patch}
 use Rattle.elf_writer.specs.declared.parts.SymbolMove.{SymbolMove}
 use Rattle.elf_writer.specs.Changes.{Change, changed}
-use Rattle.elf_writer.specs.Parts.{NewSegment, content_changes, table_place, content_place, header_changes}
+use Rattle.elf_writer.specs.Parts.{NewSegment, content_changes, content_place, header_changes}
 
 -- the number of the program header before which a segment at `base` is put: that of the first segment to
 -- be loaded which begins at a higher address, or the count of program headers where none does

@@ -1,4 +1,4 @@
-use Rattle.std.proofs.Common.{◌≡◌, ◌∙◌, ℕ, ◌+◌, ◌∷◌, [], List, map, get_or, refl, ap, sym}
+use Rattle.std.proofs.Common.{◌∙◌, ◌+◌, ◌∷◌, [], map, get_or, refl, ap, sym}
 use Rattle.elf_reader.specs.File.{PlainSymbol, plain_symbol}
 use Rattle.workload_gen.specs.Pieces.{half_bytes, word_bytes}
 use Rattle.elf_writer.specs.Changes.{changed}

@@ -1,4 +1,4 @@
-use Rattle.std.proofs.Common.{◌≡◌, ℕ, ◌+◌, List, map, length, take, drop}
+use Rattle.std.proofs.Common.{◌≡◌, map, take, drop}
 use Rattle.std.specs.List.{All}
 use Rattle.elf_reader.specs.File.{plain_symbol}
 use Rattle.elf_writer.specs.Changes.{changed}

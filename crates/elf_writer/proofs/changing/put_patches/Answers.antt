@@ -1,4 +1,4 @@
-use Rattle.std.proofs.Common.{◌≡◌, ℕ, ◌∷◌, [], List, map, refl}
+use Rattle.std.proofs.Common.{◌∷◌, [], map, refl}
 use Rattle.elf_writer.specs.Parts.{patch_change}
 use Rattle.elf_writer.proofs.ChangeLemmas.{changes_step, changes_end}
 use Rattle.elf_writer.proofs.changing.put_patches.Goals as goal

@@ -1,4 +1,4 @@
-use Rattle.std.proofs.Common.{◌≡◌, ℕ, ◌+◌, List, map, length, drop}
+use Rattle.std.proofs.Common.{◌≡◌, map, drop}
 use Rattle.elf_writer.specs.Changes.{changed}
 use Rattle.elf_writer.specs.Parts.{patch_change}
 use Rattle.elf_writer.proofs.changing.put_patches.Given as goal
