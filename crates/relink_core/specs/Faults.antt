@@ -1,5 +1,5 @@
 -- The faults of an analysis, in their order.
-use Rattle.std.specs.Prelude.{◌≡◌, ◌≢◌, ◌⊎◌, ℕ, ◌==◌, nat_le, Bool, not, if◌then◌else◌, List, Option, option_map}
+use Rattle.std.specs.Prelude.{◌≡◌, ◌≢◌, ◌⊎◌, ℕ, ◌==◌, nat_le, Bool, not, if◌then◌else◌, List, Option, Some, None, Result, Ok, Err, option_map}
 use Rattle.fault_order.specs.First.{◌or_else◌, unless}
 use Rattle.elf_reader.specs.Layout.{program_header_count}
 use Rattle.elf_reader.specs.File.{PlainView, view_in}
@@ -8,8 +8,13 @@ use Rattle.elf_reader.specs.declared.fault.ElfFault.TheVariants as elf
 use Rattle.board_config.specs.declared.board.Board.{Board}
 use Rattle.object_graph.specs.LayoutFaults.{layout_fault}
 use Rattle.object_graph.specs.declared.fault.GraphFault.TheVariants as graph
-use Rattle.code_blocks.specs.Blocks.{code_fault}
+use Rattle.code_blocks.specs.Blocks.{IsCode, code_fault}
+use Rattle.code_blocks.specs.declared.parts.Code.{Code}
 use Rattle.code_blocks.specs.declared.fault.CodeFault.TheVariants as code
+use Rattle.region_former.specs.Faults.{Fault, plain_fault}
+use Rattle.region_former.specs.Regions.{region_fault}
+use Rattle.region_former.specs.declared.fault.RegionFault.{RegionFault}
+use Rattle.region_former.specs.declared.fault.RegionFault.TheVariants as region
 use Rattle.relink_core.specs.declared.fault.AnalyseFault.{AnalyseFault}
 use Rattle.relink_core.specs.declared.fault.AnalyseFault.TheVariants as analyse
 
@@ -26,6 +31,7 @@ IsOutermost (analyse.Elf part) = part ≢ elf.Memory
 IsOutermost (analyse.Graph part) = part ≢ graph.Memory
 IsOutermost (analyse.PatchTooSmall need have) = Unit
 IsOutermost (analyse.Code part) = part ≢ code.Memory
+IsOutermost (analyse.Region part) = part ≢ region.Memory
 IsOutermost analyse.Memory = Unit
 
 -- ---- the checks
@@ -56,6 +62,41 @@ places_fault v board = option_map analyse.Graph (layout_fault v board) or_else p
 abbrev pub view_fault : PlainView → Board → Option AnalyseFault
 view_fault v board = places_fault v board or_else option_map analyse.Code (code_fault v)
 
--- the first fault of a file and a board
+-- the first fault of a file and a board before its regions
 abbrev pub analyse_fault : List ℕ → Board → Option AnalyseFault
 analyse_fault file board = file_fault file or_else view_fault (view_in file) board
+
+-- ---- the names of regions
+
+-- the first name that a board lists and that stands for no function of a file's code, or for one that was listed
+-- before, if there is one
+pub record IsRegionFault (file : List ℕ) (board : Board) (fault : Option Fault) : Type 0 where
+  pub code : Code
+  pub is_code : IsCode (view_in file) code
+  pub first : region_fault (view_in file) code board ≡ fault
+
+-- a file and a board have no fault at all
+pub record IsFaultless (file : List ℕ) (board : Board) : Type 0 where
+  pub before : analyse_fault file board ≡ None
+  pub regions : IsRegionFault file board None
+
+-- the first fault of a file and a board: the names of regions come last
+pub data IsFirst (file : List ℕ) (board : Board) (fault : AnalyseFault) : Type 0 where
+  before_regions : analyse_fault file board ≡ Some fault → IsFirst file board fault
+  of_regions : (part : RegionFault) → analyse_fault file board ≡ None → IsRegionFault file board (Some (plain_fault part))
+      → fault ≡ analyse.Region part → IsFirst file board fault
+
+-- a result tells of the first fault, or that no memory was left: Ok exactly where there is none
+abbrev pub TellsAnalysis : {T : Type 0} → List ℕ → Board → Result T AnalyseFault → Type 0
+TellsAnalysis file board (Ok value) = IsFaultless file board
+TellsAnalysis file board (Err fault) = (fault ≡ analyse.Memory) ⊎ IsFirst file board fault
+
+-- so does that of the regions of a view's code
+pub record IsOfRegions (v : PlainView) (c : Code) (board : Board) (fault : AnalyseFault) : Type 0 where
+  pub part : RegionFault
+  pub first : region_fault v c board ≡ Some (plain_fault part)
+  pub fault_is : fault ≡ analyse.Region part
+
+abbrev pub TellsRegions : {T : Type 0} → PlainView → Code → Board → Result T AnalyseFault → Type 0
+TellsRegions v c board (Ok value) = region_fault v c board ≡ None
+TellsRegions v c board (Err fault) = (fault ≡ analyse.Memory) ⊎ IsOfRegions v c board fault

@@ -1,19 +1,27 @@
-ghost use Rattle.std.specs.Prelude.{◌≡◌, IfOk, OnOk, IfErr, None, option_map};
+ghost use Rattle.std.specs.Prelude.{◌≡◌, ◌↔◌, ◌<◌, true, IfOk, OnOk, IfErr, None, option_map};
+ghost use Rattle.std.specs.List.Sorted.{IsStrictlyIncreasing};
 ghost use Rattle.fault_order.specs.First.{Tells, TellsUnless};
 ghost use Rattle.elf_reader.specs.Faults.{first_fault};
 ghost use Rattle.elf_reader.specs.File.{IsFile, plain_view, view_in};
+ghost use Rattle.board_config.specs.Board.{IsLawful};
 ghost use Rattle.loaded_code.specs.Read.{IsRead};
 ghost use Rattle.object_graph.specs.Graphs.{IsGraph};
 ghost use Rattle.code_blocks.specs.Blocks.{IsCode, code_fault};
+ghost use Rattle.code_blocks.specs.Numbers.{starts_of};
+ghost use Rattle.liveness.specs.Tables.{IsTableOf};
 ghost use Rattle.relink_core.specs.declared.fault.AnalyseFault.TheVariants as analyse;
-ghost use Rattle.relink_core.specs.Faults.{IsOutermost, headers_fault, file_fault, least_patch, patch_fault, places_fault, view_fault, analyse_fault};
+ghost use Rattle.relink_core.specs.Faults.{IsOutermost, headers_fault, file_fault, least_patch, patch_fault, places_fault, view_fault, analyse_fault, TellsAnalysis, TellsRegions};
+ghost use Rattle.relink_core.specs.Regions.{HasDeadAt, TellsDead, AreRegions};
 
 use crate::fault::AnalyseFault;
 use board_config::Board;
 use code_blocks::{Code, blocks};
 use elf_reader::{ElfFault, ElfView, read};
+use liveness::{LiveTable, live};
 use object_graph::{Graph, graph};
-use std::alloc::Global;
+use region_former::{RegionTable, regions};
+use rv_decode::RegSet;
+use std::alloc::{AllocError, Global};
 
 /// The most program headers of a file that is read. A result has one more than the program, so that many are
 /// too many here.
@@ -37,6 +45,18 @@ pub struct Analysis<'a> {
     pub graph: Graph,
     /// The blocks and functions of the code.
     pub code: Code,
+    /// The registers that are live where blocks begin.
+    pub live: LiveTable,
+    /// The regions of the blocks.
+    pub regions: RegionTable,
+}
+
+/// What they say before the code is followed further.
+#[derive(Drop)]
+struct Parts<'a> {
+    view: ElfView<'a>,
+    graph: Graph,
+    code: Code,
 }
 
 /// Analyses a program for a board.
@@ -44,16 +64,41 @@ pub struct Analysis<'a> {
 /// The error is the first check that fails, in this order: those of reading the file (`Elf`); the file has not
 /// 64 program headers, the most of a file, since a result has one more (`Elf(OverLimit)`); those of where the
 /// program lies (`Graph`); the patch range has room for the control words and the start stub
-/// (`PatchTooSmall`), which take 84 bytes, or 88 with a FENCE.I; those of the code (`Code`). `Memory` comes
-/// only where no memory was left.
+/// (`PatchTooSmall`), which take 84 bytes, or 88 with a FENCE.I; those of the code (`Code`); and those of the names
+/// by which the board lists regions (`Region`). `Memory` comes only where no memory was left.
 ///
 /// The time grows with n log n, where n is the number of words of code, symbols and relocations, times the
-/// number of sections.
+/// number of sections. For each name that the board lists all symbols are looked at.
 pub fn analyse<'a>(
     alloc: Global,
     bytes: &'a [u8],
     board: &Board,
 ) -> Result<Analysis<'a>, AnalyseFault>
+    requires lawful { IsLawful board.now }
+    ensures fault { TellsAnalysis bytes.now board.now result }
+    ensures file { IfOk result (λ a. IsFile bytes.now a.view) }
+    ensures graph { IfOk result (λ a. IsGraph (view_in bytes.now) board.now a.graph) }
+    ensures code { IfOk result (λ a. IsCode (view_in bytes.now) a.code) }
+    ensures live { IfOk result (λ a. IsTableOf a.code a.live) }
+    ensures regions { IfOk result (λ a. AreRegions (view_in bytes.now) a.code board.now a.regions) }
+    ensures inner { IfErr result IsOutermost }
+{
+    let parts = parts_of(alloc, bytes, board)?;
+    let live = live(alloc, &parts.code)?;
+    match regions_of(alloc, &parts.view, board, &parts.code, &live) {
+        Ok(regions) => Ok(Analysis {
+            view: parts.view,
+            graph: parts.graph,
+            code: parts.code,
+            live,
+            regions,
+        }),
+        Err(fault) => Err(fault),
+    }
+}
+
+/// The view, the graph and the code of a program.
+fn parts_of<'a>(alloc: Global, bytes: &'a [u8], board: &Board) -> Result<Parts<'a>, AnalyseFault>
     ensures fault { TellsUnless AnalyseFault.Memory result (analyse_fault bytes.now board.now) }
     ensures file { IfOk result (λ a. IsFile bytes.now a.view) }
     ensures graph { IfOk result (λ a. IsGraph (view_in bytes.now) board.now a.graph) }
@@ -63,7 +108,46 @@ pub fn analyse<'a>(
     let view = read_extendable(alloc, bytes)?;
     let graph = placed_graph(alloc, &view, board)?;
     let code = code_of(alloc, &view)?;
-    Ok(Analysis { view, graph, code })
+    Ok(Parts { view, graph, code })
+}
+
+/// The regions of a program's code.
+fn regions_of(
+    alloc: Global,
+    view: &ElfView,
+    board: &Board,
+    code: &Code,
+    live: &LiveTable,
+) -> Result<RegionTable, AnalyseFault>
+    requires lawful { IsLawful board.now }
+    requires code { IsCode (plain_view view.now) code.now }
+    requires live { IsTableOf code.now live.now }
+    ensures fault { TellsRegions (plain_view view.now) code.now board.now result }
+    ensures regions { IfOk result (AreRegions (plain_view view.now) code.now board.now) }
+    ensures inner { IfErr result IsOutermost }
+{
+    let has_dead = dead_marks(alloc, code, live)?;
+    Ok(regions(alloc, code, view, board, &has_dead)?)
+}
+
+/// Whether some register is dead where each block begins.
+fn dead_marks(alloc: Global, code: &Code, live: &LiveTable) -> Result<Vec<bool>, AllocError>
+    requires ascending { IsStrictlyIncreasing (starts_of code.now) }
+    requires live { IsTableOf code.now live.now }
+    ensures { IfOk result (λ marks. TellsDead code.now marks.items) }
+{
+    let mut marks = Vec::with_capacity(alloc, code.blocks.len())?;
+    for b in 0..code.blocks.len() {
+        marks.push(has_dead(live, code.blocks[b].start))?;
+    }
+    Ok(marks)
+}
+
+/// Some register from x5 on is dead where the block at `leader` begins.
+fn has_dead(live: &LiveTable, leader: u32) -> bool
+    ensures { (c : Code) → IsTableOf c live.now → (result ≡ true) ↔ HasDeadAt c leader }
+{
+    live.dead_at(leader, RegSet { bits: 0 }).is_some()
 }
 
 /// The view of a file to which a program header may be added.

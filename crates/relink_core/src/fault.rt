@@ -1,12 +1,13 @@
 use code_blocks::CodeFault;
 use elf_reader::ElfFault;
 use object_graph::GraphFault;
+use region_former::RegionFault;
 use std::alloc::AllocError;
 use thiserror::Error;
 
 /// Why a program can't be analysed for a board, the first in this order. The faults of the parts are never
 /// their own want of memory: that is `Memory`.
-#[derive(Clone, Copy, Debug, PartialEq, Eq, Error)]
+#[derive(Debug, Drop, Error)]
 pub enum AnalyseFault {
     /// The file is not one that is read, or leaves no room for one more program header.
     #[error("{0}")]
@@ -20,6 +21,9 @@ pub enum AnalyseFault {
     /// The code can't be split into blocks.
     #[error("{0}")]
     Code(CodeFault),
+    /// The board lists regions that the program can't have.
+    #[error("{0}")]
+    Region(RegionFault),
     /// No memory was left.
     #[error("out of memory")]
     Memory,
@@ -77,6 +81,21 @@ impl From<CodeFault> for AnalyseFault {
         match part {
             CodeFault::Memory => AnalyseFault::Memory,
             part => AnalyseFault::Code(part),
+        }
+    }
+}
+
+impl From<RegionFault> for AnalyseFault {
+    ghost use Rattle.region_former.specs.declared.fault.RegionFault.TheVariants as region;
+    ghost use Rattle.relink_core.specs.declared.fault.AnalyseFault.TheVariants as analyse;
+    ghost use Rattle.relink_core.specs.Faults.{Becomes};
+
+    ghost from_gives = { λ part fault. Becomes region.Memory analyse.Region part fault };
+
+    fn from(part: RegionFault) -> AnalyseFault {
+        match part {
+            RegionFault::Memory => AnalyseFault::Memory,
+            part => AnalyseFault::Region(part),
         }
     }
 }

@@ -1,4 +1,4 @@
-//! What a program and a board say of what may move: the view of the file, its graph and its code.
+//! What a program and a board say of what may move: the view of the file, its graph, its code, and its regions.
 #![tactic(auto)]
 
 mod analysis;
