@@ -1,0 +1,191 @@
+-- Nodes and their marks, in lists that grow at their ends.
+use Rattle.std.proofs.Common.{◌≡◌, ◌≢◌, inl, inr, ℕ, zero, suc, ◌+◌, ◌*◌, ◌%◌, ◌^◌, ◌<◌, ◌≤◌, ◌==◌, true, false, if◌then◌else◌, List, [], ◌∷◌, ◌++◌, length, slice_index_or, slice_set, replicate, refl, sym, ◌∙◌, ap, subst, arith}
+use Rattle.std.specs.Prelude.{◌↔◌, IsTrue}
+use Rattle.std.specs.List.{AllPairs, list_any}
+use Rattle.std.specs.List.Sorted.{IsStrictlyIncreasing}
+use Rattle.std.proofs.lemmas.Bool.{cases_eq, cases_lt, eq-eqb}
+use Rattle.std.proofs.lemmas.Bool.Decides.{nat_tests}
+use Rattle.std.specs.Int.{bit_at}
+use Rattle.std.proofs.lemmas.Nat.{one_shl}
+use Rattle.std.proofs.lemmas.Nat.Bits.{bit_at-pow_same, bit_at-pow_other}
+use Rattle.std.proofs.lemmas.List.{get_or_append_left, get_or_push, length_push, get_or_past, get_or-replicate, length-replicate, get_or-set_same, get_or-set_other}
+use Rattle.std.proofs.lemmas.List.Kept.{AllPairs-from_increasing}
+use Rattle.std.proofs.lemmas.List.Quantifiers.{all_pairs_push}
+use Rattle.index_tests.proofs.TestLemmas.{neither}
+use Rattle.code_leaders.specs.Early.{has}
+use Rattle.reach_graph.specs.Reaching.{HasMark, word_at, Reaches}
+use Rattle.reach_graph.specs.declared.arrows.Arrow.{Arrow}
+use Rattle.reach_graph.proofs.MarkLemmas.{none_in_zero}
+use Rattle.points_to.specs.Nodes.{memory}
+use Rattle.points_to.specs.Tables.{word_of, Kept, kept_word, AreKept, Keeps, Begins, IsReached}
+
+-- ---- one more node
+
+if_same : (n m w v : ℕ) → n ≡ m → (if n == m then w else v) ≡ w
+if_same n m w v same = let is : (n == m) ≡ true = eq-eqb n m same in rw is refl
+
+if_other : (n m w v : ℕ) → n ≢ m → (if n == m then w else v) ≡ v
+if_other n m w v other = let is : (n == m) ≡ false = grind (arith, nat_tests, other) in rw is refl
+
+push_other : (nodes words : List ℕ) (n w m : ℕ) → length words ≡ length nodes → m ≢ n → word_of (nodes ++ n ∷ []) (words ++ w ∷ []) m ≡ word_of nodes words m
+push_other [] [] n w m same other = if_other n m w 0 (λ e. other (sym e))
+push_other [] (v ∷ words) n w m same other = absurd (omega (arith, same))
+push_other (y ∷ nodes) [] n w m same other = absurd (omega (arith, same))
+push_other (y ∷ nodes) (v ∷ words) n w m same other =
+    ap (λ (k : ℕ). if y == m then v else k) (push_other nodes words n w m (omega (arith, same)) other)
+
+push_same : (nodes words : List ℕ) (n w : ℕ) → length words ≡ length nodes → ((k d : ℕ) → k < length nodes → slice_index_or nodes k d < n) → word_of (nodes ++ n ∷ []) (words ++ w ∷ []) n ≡ w
+push_same [] [] n w same below = if_same n n w 0 refl
+push_same [] (v ∷ words) n w same below = absurd (omega (arith, same))
+push_same (y ∷ nodes) [] n w same below = absurd (omega (arith, same))
+push_same (y ∷ nodes) (v ∷ words) n w same below =
+    let less : y < n = below 0 0 (omega arith) in
+    if_other y n v (word_of (nodes ++ n ∷ []) (words ++ w ∷ []) n) (λ e. omega (arith, less, e))
+    ∙ push_same nodes words n w (omega (arith, same)) (λ k d inside. below (suc k) d (omega (arith, inside)))
+
+absent : (nodes words : List ℕ) (m : ℕ) → ((k d : ℕ) → k < length nodes → slice_index_or nodes k d < m) → word_of nodes words m ≡ 0
+absent [] words m below = refl
+absent (y ∷ nodes) [] m below = refl
+absent (y ∷ nodes) (v ∷ words) m below =
+    let less : y < m = below 0 0 (omega arith) in
+    if_other y m v (word_of nodes words m) (λ e. omega (arith, less, e))
+    ∙ absent nodes words m (λ k d inside. below (suc k) d (omega (arith, inside)))
+
+-- ---- what is kept up to a node
+
+pub kept_first : (marks : List ℕ) → AreKept marks 0 [] []
+kept_first marks = record {
+  ascending = λ k within. absurd (omega (arith, within));
+  below = λ k d inside. absurd (omega (arith, inside));
+  one_each = refl;
+  exact = λ m low. absurd (omega (arith, low));
+}
+
+pub kept_none : (marks : List ℕ) (end w : ℕ) (nodes words : List ℕ) → w ≡ word_at marks end → w ≡ 0 → AreKept marks end nodes words → AreKept marks (end + 1) nodes words
+kept_none marks end w nodes words is none are = record {
+  ascending = are.ascending;
+  below = λ k d inside. let less = are.below k d inside in omega (arith, less);
+  one_each = are.one_each;
+  exact = λ m low. elim (cases_eq m end) [
+    | inl same ↦ ap (word_of nodes words) same ∙ absent nodes words end are.below ∙ sym none ∙ is ∙ ap (word_at marks) (sym same)
+    | inr other ↦ are.exact m (omega (arith, low, other))
+  ];
+}
+
+grown : (xs : List ℕ) (x : ℕ) → IsStrictlyIncreasing xs → ((k d : ℕ) → k < length xs → slice_index_or xs k d < x) → IsStrictlyIncreasing (xs ++ x ∷ [])
+grown xs x rise below =
+    let pairs = all_pairs_push (λ (a b : ℕ). a < b) xs x (AllPairs-from_increasing xs rise) below in
+    λ k within. pairs k (k + 1) 0 (omega arith) within
+
+pub kept_more : (marks : List ℕ) (end w : ℕ) (nodes words : List ℕ) → w ≡ word_at marks end → AreKept marks end nodes words → AreKept marks (end + 1) (nodes ++ end ∷ []) (words ++ w ∷ [])
+kept_more marks end w nodes words is are =
+    let longer = length_push nodes end in
+    let wider = length_push words w in
+    let each = are.one_each in record {
+      ascending = grown nodes end are.ascending are.below;
+      below = λ k d inside. elim (cases_eq k (length nodes)) [
+        | inl last ↦ let here = get_or_push nodes end d k (sym last) in omega (arith, here)
+        | inr other ↦
+            let before : k < length nodes = omega (arith, inside, longer, other) in
+            let here = get_or_append_left nodes (end ∷ []) d k before in
+            let less = are.below k d before in
+            omega (arith, here, less)
+      ];
+      one_each = omega (arith, longer, wider, each);
+      exact = λ m low. elim (cases_eq m end) [
+        | inl same ↦ ap (word_of (nodes ++ end ∷ []) (words ++ w ∷ [])) same ∙ push_same nodes words end w each are.below ∙ is ∙ ap (word_at marks) (sym same)
+        | inr other ↦ push_other nodes words end w m each other ∙ are.exact m (omega (arith, low, other))
+      ];
+    }
+
+-- ---- what is looked up
+
+pub unlisted : (nodes words : List ℕ) (m : ℕ) → has nodes m ≡ false → word_of nodes words m ≡ 0
+unlisted [] words m none = refl
+unlisted (y ∷ nodes) [] m none = refl
+unlisted (y ∷ nodes) (v ∷ words) m none =
+    let parts = neither (m == y) (list_any (λ x. m == x) nodes) none in
+    if_other y m v (word_of nodes words m) (λ e. let on : (m == y) ≡ true = eq-eqb m y (sym e) in absurd (cc (on, parts.0)))
+    ∙ unlisted nodes words m parts.1
+
+listed_pairs : (nodes words : List ℕ) (i m : ℕ) → AllPairs (λ (a b : ℕ). a < b) nodes → length words ≡ length nodes → i < length nodes → slice_index_or nodes i 0 ≡ m → word_of nodes words m ≡ word_at words i
+listed_pairs [] words i m pairs same inside is = absurd (omega (arith, inside))
+listed_pairs (y ∷ nodes) [] i m pairs same inside is = absurd (omega (arith, same))
+listed_pairs (y ∷ nodes) (v ∷ words) zero m pairs same inside is = if_same y m v (word_of nodes words m) is
+listed_pairs (y ∷ nodes) (v ∷ words) (suc i) m pairs same inside is =
+    let less : y < slice_index_or nodes i 0 = pairs 0 (suc i) 0 (omega arith) inside in
+    if_other y m v (word_of nodes words m) (λ e. omega (arith, less, is, e))
+    ∙ listed_pairs nodes words i m (λ j k d lower below. pairs (suc j) (suc k) d (omega (arith, lower)) (omega (arith, below))) (omega (arith, same)) (omega (arith, inside)) is
+
+pub listed : (nodes words : List ℕ) (i m : ℕ) → IsStrictlyIncreasing nodes → length words ≡ length nodes → i < length nodes → slice_index_or nodes i 0 ≡ m → word_of nodes words m ≡ word_at words i
+listed nodes words i m rise same inside is = listed_pairs nodes words i m (AllPairs-from_increasing nodes rise) same inside is
+
+-- numbers that rise do not fall
+pub not_falling : (xs : List ℕ) → IsStrictlyIncreasing xs → (i j : ℕ) → i ≤ j → j < length xs → slice_index_or xs i 0 ≤ slice_index_or xs j 0
+not_falling xs rise i j before below =
+    elim (cases_lt i j) [
+      | inl lower ↦ let less = AllPairs-from_increasing xs rise i j 0 lower below in omega (arith, less)
+      | inr behind ↦ let same : i ≡ j = omega (arith, before, behind) in rw same (omega arith)
+    ]
+
+-- a word of no marks
+pub no_mark : (w k : ℕ) → w ≡ 0 → IsTrue false ↔ HasMark w k
+no_mark w k none = (λ never. absurd cc, λ mark. absurd (none_in_zero k (subst (λ (v : ℕ). HasMark v k) none mark)))
+
+-- ---- marks to begin with
+
+word_of_zeros : (n b : ℕ) → word_at (replicate n 0) b ≡ 0
+word_of_zeros n b =
+    elim (cases_lt b n) [
+      | inl below ↦ get_or-replicate n b 0 0 below
+      | inr past ↦ get_or_past (replicate n 0) b 0 (omega (arith, past, length-replicate {A = ℕ} n 0))
+    ]
+
+pub begun_none : (first n : ℕ) (marks : List ℕ) → marks ≡ replicate n 0 → Begins first 0 marks
+begun_none first n marks bare = record {
+  only = λ m k has. absurd (none_in_zero k (subst (λ (w : ℕ). HasMark w k) (ap (λ (ws : List ℕ). word_at ws m) bare ∙ word_of_zeros n m) has));
+  there = λ k low. absurd (omega (arith, low));
+}
+
+pub begun_more : (first k w : ℕ) (marks : List ℕ) → first + k < length marks → ((j : ℕ) → HasMark w j ↔ (j ≡ k)) → Begins first k marks → Begins first (k + 1) (slice_set marks (first + k) w)
+begun_more first k w marks inside one begins =
+    let here : word_at (slice_set marks (first + k) w) (first + k) ≡ w = get_or-set_same marks (first + k) w 0 inside in record {
+      only = λ m j mark. elim (cases_eq m (first + k)) [
+        | inl same ↦
+            let at : word_at (slice_set marks (first + k) w) m ≡ w = ap (word_at (slice_set marks (first + k) w)) same ∙ here in
+            let is : j ≡ k = (one j).0 (subst (λ (v : ℕ). HasMark v j) at mark) in
+            omega (arith, same, is)
+        | inr other ↦ begins.only m j (subst (λ (v : ℕ). HasMark v j) (get_or-set_other marks (first + k) m w 0 other) mark)
+      ];
+      there = λ j low. elim (cases_eq j k) [
+        | inl same ↦
+            let at : word_at (slice_set marks (first + k) w) (first + j) ≡ w = ap (λ (i : ℕ). word_at (slice_set marks (first + k) w) (first + i)) same ∙ here in
+            subst (λ (v : ℕ). HasMark v j) (sym at) ((one j).1 same)
+        | inr other ↦
+            let apart : first + j ≢ first + k = λ e. other (omega (arith, e)) in
+            let at = get_or-set_other marks (first + k) (first + j) w 0 apart in
+            subst (λ (v : ℕ). HasMark v j) (sym at) (begins.there j (omega (arith, low, other)))
+      ];
+    }
+
+pub one_bit : (m k : ℕ) → m < 64 → HasMark (1 * 2 ^ m % 2 ^ 64) k ↔ (k ≡ m)
+one_bit m k low =
+    let e : 1 * 2 ^ m % 2 ^ 64 ≡ 2 ^ m = one_shl m 64 low in (
+      λ has. elim (cases_eq k m) [
+        | inl same ↦ same
+        | inr other ↦
+            let none = bit_at-pow_other m k other in
+            let at : bit_at (2 ^ m) k ≡ 1 = subst (λ (v : ℕ). HasMark v k) e has in
+            absurd (omega (arith, none, at))
+      ],
+      λ same. subst (λ (v : ℕ). HasMark v k) (sym e) (ap (bit_at (2 ^ m)) same ∙ bit_at-pow_same m),
+    )
+
+-- what is kept of the marks that spread
+pub reached_is : (rows : List (List Arrow)) (n first count : ℕ) (start marks : List ℕ) (kept : Kept) → Begins first count start → ((m k : ℕ) → HasMark (word_at marks m) k ↔ Reaches rows start m k) → Keeps marks n kept → IsReached rows n first count kept
+reached_is rows n first count start marks kept begins spread keeps = record {
+  start = start;
+  begins = begins;
+  entries = λ m k low. subst (λ (w : ℕ). HasMark w k ↔ Reaches rows start m k) (sym (keeps.entries m low)) (spread m k);
+  in_memory = λ k. subst (λ (w : ℕ). HasMark w k ↔ Reaches rows start (memory n) k) (sym keeps.in_memory) (spread (memory n) k);
+}

@@ -1,0 +1,12 @@
+pub mod PlaceLemmas
+pub mod EdgeLemmas
+pub mod SourceLemmas
+pub mod SiteLemmas
+pub mod BlockLemmas
+pub mod RuleLemmas
+pub mod CompleteLemmas
+pub mod SoundLemmas
+pub mod TableLemmas
+pub mod KeptLemmas
+pub mod FactLemmas
+pub mod QueryLemmas

@@ -1,0 +1,125 @@
+-- The edges of what units make and load.
+use Rattle.std.proofs.Common.{◌≡◌, ◌≢◌, ◌⊎◌, inl, inr, ℕ, zero, suc, ◌+◌, ◌<◌, ◌≤◌, Bool, true, false, List, [], ◌∷◌, length, Option, Some, None, refl, sym, ◌∙◌, ap, subst, arith}
+use Rattle.std.specs.Prelude.{◌↔◌}
+use Rattle.rv_decode.specs.declared.instructions.Instr.{Instr}
+use Rattle.rv_decode.specs.declared.instructions.Instr.TheVariants.{Lui, Auipc, Load, OpImm}
+use Rattle.rv_decode.specs.declared.instructions.LoadKind.TheVariants.{Lw}
+use Rattle.rv_decode.specs.declared.instructions.ImmKind.TheVariants.{Addi}
+use Rattle.object_graph.specs.declared.parts.SiteKind.{SiteKind}
+use Rattle.object_graph.specs.declared.parts.SiteKind.TheVariants.{Hi, LowI, LowS}
+use Rattle.object_graph.specs.declared.parts.Site.{Site}
+use Rattle.code_blocks.specs.declared.parts.Unit.{Unit}
+use Rattle.points_to.specs.Points.{IsHolder, site_at, MakesIn, Makes, Loads}
+use Rattle.points_to.specs.Flows.{written, made_in, made, loads, Leads, Has, row, AreRows}
+use Rattle.points_to.specs.Nodes.{Adds, Upto, PlaceEdge, FlowEdge, SourceEdges, UnitEdges, object_node, loaded, end_of}
+use Rattle.points_to.specs.declared.flows.Places.{Places}
+use Rattle.reach_graph.specs.declared.arrows.Arrow.{Arrow}
+use Rattle.points_to.proofs.EdgeLemmas.{adds_none, adds_same, upto_same}
+
+makes_in : (kind : SiteKind) (i : Option Instr) (o x : ℕ) → MakesIn kind i x → (made_in kind o i ≡ Some o) × (x ≡ written i)
+makes_in Hi (Some (Lui rd imm)) o x is = (refl, is)
+makes_in Hi (Some (Auipc rd imm)) o x is = (refl, is)
+makes_in LowI (Some (OpImm Addi rd rs1 imm)) o x is = (refl, is)
+makes_in kind i o x is = absurd is
+
+pub makes_made : (s : Option Site) (i : Option Instr) (o x : ℕ) → Makes s i o x → (made s i ≡ Some o) × (x ≡ written i)
+makes_made None i o x makes = absurd makes
+makes_made (Some s) i o x makes =
+    let (is, in_kind) = makes in
+    let (found, register) = makes_in s.kind i s.object x in_kind in
+    (found ∙ ap (λ (k : ℕ). Some k) is, register)
+
+made_makes_in : (kind : SiteKind) (i : Option Instr) (o p : ℕ) → made_in kind o i ≡ Some p → (o ≡ p) × MakesIn kind i (written i)
+made_makes_in Hi (Some (Lui rd imm)) o p is = (cc, refl)
+made_makes_in Hi (Some (Auipc rd imm)) o p is = (cc, refl)
+made_makes_in LowI (Some (OpImm Addi rd rs1 imm)) o p is = (cc, refl)
+made_makes_in kind i o p is = cc
+
+pub made_makes : (s : Option Site) (i : Option Instr) (o : ℕ) → made s i ≡ Some o → Makes s i o (written i)
+made_makes None i o is = cc
+made_makes (Some s) i o is = made_makes_in s.kind i s.object o is
+
+made_no_load_in : (kind : SiteKind) (i : Option Instr) (o p : ℕ) → made_in kind o i ≡ Some p → loads i ≡ true → ⊥
+made_no_load_in Hi (Some (Load Lw rd rs1 imm)) o p is load = cc
+made_no_load_in LowI (Some (Load Lw rd rs1 imm)) o p is load = cc
+made_no_load_in LowS (Some (Load Lw rd rs1 imm)) o p is load = cc
+made_no_load_in kind i o p is load = cc
+
+pub made_no_load : (s : Option Site) (i : Option Instr) (o : ℕ) → made s i ≡ Some o → loads i ≡ true → ⊥
+made_no_load None i o is load = cc
+made_no_load (Some s) i o is load = made_no_load_in s.kind i s.object o is load
+
+pub loads_load : (i : Option Instr) (x : ℕ) → Loads i x → (loads i ≡ true) × (x ≡ written i)
+loads_load (Some (Load Lw rd rs1 imm)) x is = (refl, is)
+loads_load i x is = absurd is
+
+pub load_loads : (i : Option Instr) → loads i ≡ true → Loads i (written i)
+load_loads (Some (Load Lw rd rs1 imm)) is = refl
+load_loads i is = cc
+
+-- ---- by the rows of a table
+
+pub place_flow : (n b : ℕ) (sites : List Site) (us : List Unit) (rows : List Places) (x from f t : ℕ) → AreRows sites us rows → IsHolder x → Upto 32 (FlowEdge n b sites us x from) f t ↔ Upto 32 (PlaceEdge from (end_of n b 0) (row rows x)) f t
+place_flow n b sites us rows x from f t are holder =
+    upto_same 32 (FlowEdge n b sites us x from) (PlaceEdge from (end_of n b 0) (row rows x)) f t (λ y below. (
+      λ (leads, leaves, comes). ((are.exact x y holder below).1 leads, leaves, comes),
+      λ (has, leaves, comes). ((are.exact x y holder below).0 has, leaves, comes),
+    ))
+
+pub no_holder : (n b : ℕ) (sites : List Site) (u : Unit) (us : List Unit) (f t : ℕ) → (IsHolder (written u.instr) → ⊥) → SourceEdges n b sites u us f t → ⊥
+no_holder n b sites u us f t none (SourceEdges.made x o holder makes flow) =
+    none (subst IsHolder (makes_made (site_at sites u.at) u.instr o x makes).1 holder)
+no_holder n b sites u us f t none (SourceEdges.gained x holder load flow) =
+    none (subst IsHolder (loads_load u.instr x load).1 holder)
+
+pub makes_nothing : (n b : ℕ) (sites : List Site) (u : Unit) (us : List Unit) (f t : ℕ) → ((o : ℕ) → made (site_at sites u.at) u.instr ≡ Some o → ⊥) → loads u.instr ≡ false → SourceEdges n b sites u us f t → ⊥
+makes_nothing n b sites u us f t none off (SourceEdges.made x o holder makes flow) =
+    none o (makes_made (site_at sites u.at) u.instr o x makes).0
+makes_nothing n b sites u us f t none off (SourceEdges.gained x holder load flow) =
+    let on = (loads_load u.instr x load).0 in
+    absurd (cc (on, off))
+
+made_only : (n b : ℕ) (sites : List Site) (u : Unit) (us : List Unit) (o f t : ℕ) → made (site_at sites u.at) u.instr ≡ Some o → SourceEdges n b sites u us f t → Upto 32 (FlowEdge n b sites us (written u.instr) (object_node n o)) f t
+made_only n b sites u us o f t is (SourceEdges.made x p holder makes flow) =
+    let (found, register) = makes_made (site_at sites u.at) u.instr p x makes in
+    let same : p ≡ o = cc (found, is) in
+    subst (λ (q : ℕ). Upto 32 (FlowEdge n b sites us (written u.instr) (object_node n q)) f t) same
+    (subst (λ (z : ℕ). Upto 32 (FlowEdge n b sites us z (object_node n p)) f t) register flow)
+made_only n b sites u us o f t is (SourceEdges.gained x holder load flow) =
+    absurd (made_no_load (site_at sites u.at) u.instr o is (loads_load u.instr x load).0)
+
+pub makes_one : (n b : ℕ) (sites : List Site) (u : Unit) (us : List Unit) (o f t : ℕ) → made (site_at sites u.at) u.instr ≡ Some o → IsHolder (written u.instr) → SourceEdges n b sites u us f t ↔ Upto 32 (FlowEdge n b sites us (written u.instr) (object_node n o)) f t
+makes_one n b sites u us o f t is holder = (
+  λ source. made_only n b sites u us o f t is source,
+  λ flow. SourceEdges.made (written u.instr) o holder (made_makes (site_at sites u.at) u.instr o is) flow,
+)
+
+gained_only : (n b : ℕ) (sites : List Site) (u : Unit) (us : List Unit) (f t : ℕ) → loads u.instr ≡ true → SourceEdges n b sites u us f t → Upto 32 (FlowEdge n b sites us (written u.instr) (loaded n)) f t
+gained_only n b sites u us f t is (SourceEdges.made x p holder makes flow) =
+    absurd (made_no_load (site_at sites u.at) u.instr p (makes_made (site_at sites u.at) u.instr p x makes).0 is)
+gained_only n b sites u us f t is (SourceEdges.gained x holder load flow) =
+    subst (λ (z : ℕ). Upto 32 (FlowEdge n b sites us z (loaded n)) f t) (loads_load u.instr x load).1 flow
+
+pub gains_one : (n b : ℕ) (sites : List Site) (u : Unit) (us : List Unit) (f t : ℕ) → loads u.instr ≡ true → IsHolder (written u.instr) → SourceEdges n b sites u us f t ↔ Upto 32 (FlowEdge n b sites us (written u.instr) (loaded n)) f t
+gains_one n b sites u us f t is holder = (
+  λ source. gained_only n b sites u us f t is source,
+  λ flow. SourceEdges.gained (written u.instr) holder (load_loads u.instr is) flow,
+)
+
+-- ---- what the code adds
+
+pub adds_nothing : (n b : ℕ) (sites : List Site) (u : Unit) (us : List Unit) (a : List (List Arrow)) → ((f t : ℕ) → SourceEdges n b sites u us f t → ⊥) → Adds (SourceEdges n b sites u us) a a
+adds_nothing n b sites u us a none = adds_none (SourceEdges n b sites u us) a none
+
+pub adds_flow : (n b : ℕ) (sites : List Site) (u : Unit) (us : List Unit) (rows : List Places) (x from : ℕ) (old new : List (List Arrow)) → AreRows sites us rows → IsHolder x → ((f t : ℕ) → SourceEdges n b sites u us f t ↔ Upto 32 (FlowEdge n b sites us x from) f t) → Adds (Upto 32 (PlaceEdge from (end_of n b 0) (row rows x))) old new → Adds (SourceEdges n b sites u us) old new
+adds_flow n b sites u us rows x from old new are holder is adds =
+    adds_same (Upto 32 (PlaceEdge from (end_of n b 0) (row rows x))) (SourceEdges n b sites u us) old new adds
+    (λ f t.
+    let same = place_flow n b sites us rows x from f t are holder in
+    (λ source. same.0 ((is f t).0 source), λ places. (is f t).1 (same.1 places)))
+
+pub units_more : (n b : ℕ) (sites : List Site) (u : Unit) (us : List Unit) (f t : ℕ) → UnitEdges n b sites (u ∷ us) f t ↔ (UnitEdges n b sites us f t ⊎ SourceEdges n b sites u us f t)
+units_more n b sites u us f t = (
+  λ edge. elim edge [ inl source ↦ inr source | inr rest ↦ inl rest ],
+  λ edge. elim edge [ inl rest ↦ inr rest | inr source ↦ inl source ],
+)

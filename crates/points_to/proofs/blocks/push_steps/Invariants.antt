@@ -1,0 +1,6 @@
+use Rattle.points_to.specs.Nodes.{Adds, Upto, StepEdge}
+use Rattle.reach_graph.specs.Reaching.{plain_rows}
+use Rattle.points_to.proofs.blocks.push_steps.Given as goal
+
+abbrev pub invariant-loop-i : goal.invariant-loop-i
+invariant-loop-i l = Adds (Upto l.i (StepEdge l.nodes.blocks l.block l.numbers)) (plain_rows l.fn.arrows) (plain_rows l.arrows)

@@ -1,0 +1,20 @@
+use Rattle.std.proofs.Common.{◌≡◌, ℕ, ◌+◌, ◌<◌, refl, subst, arith}
+use Rattle.points_to.specs.Nodes.{Adds, Upto, PlaceEdge, RowEdge, entry, end_of}
+use Rattle.points_to.specs.Flows.{row}
+use Rattle.reach_graph.specs.Reaching.{plain_rows}
+use Rattle.points_to.proofs.EdgeLemmas.{adds_same, adds_more, row_one}
+use Rattle.points_to.proofs.edges.push_rows.Goals as goal
+
+pub loop-x-preserved : goal.loop-x-preserved
+loop-x-preserved c =
+    let n = c.args.nodes.blocks in
+    let b = c.args.block in
+    let rows = c.args.rows.now in
+    let x = c.loop-x.x in
+    let register : 0 < x = omega arith in
+    adds_more x (RowEdge n b rows) _ _ _ c.loop-x.invariant (adds_same (Upto 32 (PlaceEdge (entry b x) (end_of n b 0) (row rows x))) (RowEdge n b rows x) _ _ c.in_ok-push_row.ensures (λ f t. row_one n b x rows (row rows x) f t register refl))
+
+pub returns : goal.returns
+returns c =
+    let all : c.loop-x.x ≡ 32 = omega arith in
+    subst (λ (m : ℕ). Adds (Upto m (RowEdge c.args.nodes.blocks c.args.block c.args.rows.now)) (plain_rows c.args.arrows.now) (plain_rows c.loop-x.arrows)) all c.loop-x.invariant

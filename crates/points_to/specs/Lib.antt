@@ -1,0 +1,9 @@
+pub use Rattle.reach_graph.specs.Reaching
+pub use Rattle.rv_decode.specs.Acts
+pub use Rattle.object_graph.specs.Lookups
+pub use Rattle.code_blocks.specs.Edges
+pub use Rattle.code_blocks.specs.Numbers
+pub mod Points
+pub mod Flows
+pub mod Nodes
+pub mod Tables
