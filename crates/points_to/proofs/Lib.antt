@@ -10,3 +10,4 @@ pub mod TableLemmas
 pub mod KeptLemmas
 pub mod FactLemmas
 pub mod QueryLemmas
+pub mod SweepLemmas

@@ -6,4 +6,5 @@ pub use Rattle.code_blocks.specs.Numbers
 pub mod Points
 pub mod Flows
 pub mod Nodes
+pub mod Sweeps
 pub mod Tables

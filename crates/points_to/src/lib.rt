@@ -11,6 +11,7 @@ mod pointing;
 mod reached;
 mod sources;
 mod starting;
+mod sweeping;
 mod table;
 mod units;
 

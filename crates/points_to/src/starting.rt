@@ -6,6 +6,7 @@ ghost use Rattle.points_to.specs.Tables.{Begins, IsReached, plain};
 use crate::marks::one_mark;
 use crate::nodes::Nodes;
 use crate::reached::Reached;
+use crate::sweeping::sweep;
 use reach_graph::{Arrow, spread};
 use std::alloc::{AllocError, Global};
 
@@ -44,6 +45,7 @@ fn reach(
     ensures { IfOk result (λ r. IsReached (plain_rows arrows.now) nodes.blocks first count (plain r)) }
 {
     begin_marks(marks, first, count);
+    sweep(nodes, arrows, first, count, marks);
     spread(alloc, arrows, marks)?;
     let reached = Reached::of(alloc, nodes, marks)?;
     Ok(reached)

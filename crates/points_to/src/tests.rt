@@ -242,7 +242,9 @@ fn zero_register_holds_nothing(rt: HostRuntime) -> Result<(), Fail> {
 
 /// A fourth of the number of blocks of a large program, and the number of its objects.
 const FOURTH: u32 = 16_384;
+
 const OBJECTS: u32 = 4096;
+
 const DATA: u32 = 0x6_0000;
 
 /// One time less: a branch over a word, the upper part of the next object's address (lui a0), the same branch, and

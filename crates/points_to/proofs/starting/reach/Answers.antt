@@ -1,9 +1,14 @@
 use Rattle.reach_graph.specs.Reaching.{plain_rows}
 use Rattle.points_to.specs.Tables.{plain}
 use Rattle.points_to.proofs.KeptLemmas.{reached_is}
+use Rattle.points_to.proofs.SweepLemmas.{between_first, as_far}
 use Rattle.points_to.proofs.starting.reach.Goals as goal
 
 pub returns : goal.returns
 returns c =
-    reached_is (plain_rows c.args.arrows.now) c.args.nodes.blocks c.args.first c.args.count c.begin_marks.new.marks c.spread.new.marks (plain c.in_ok-reached.reached)
-    c.begin_marks.ensures c.in_ok-spread.ensures c.in_ok-reached.ensures
+    let rows = plain_rows c.args.arrows.now in
+    let start = c.begin_marks.new.marks in
+    let between = c.sweep.ensures start (between_first rows start) in
+    let marks = c.spread.new.marks in
+    reached_is rows c.args.nodes.blocks c.args.first c.args.count start marks (plain c.in_ok-reached.reached) c.begin_marks.ensures
+    (as_far rows start c.sweep.new.marks between marks c.in_ok-spread.ensures) c.in_ok-reached.ensures
