@@ -1,0 +1,14 @@
+pub mod SlotLemmas
+pub mod WeightLemmas
+pub mod LoadLemmas
+pub mod ItemLemmas
+pub mod LayLemmas
+pub mod TableLemmas
+pub mod WordLemmas
+pub mod ListLemmas
+pub mod PlaceLemmas
+pub mod StandLemmas
+pub mod ObjectLemmas
+pub mod GrainLemmas
+pub mod FitLemmas
+pub mod Examples

@@ -1,0 +1,16 @@
+pub use Rattle.rv_decode.specs.Table
+pub use Rattle.loaded_code.specs.Code
+pub use Rattle.object_graph.specs.Graphs
+pub use Rattle.object_graph.specs.LayoutFaults
+pub use Rattle.cell_values.specs.Objects
+pub use Rattle.value_words.specs.Stands
+pub use Rattle.placement_programme.specs.Programme
+pub use Rattle.placement_programme.specs.Rows
+pub mod Slots
+pub mod Placing
+pub mod Space
+pub mod SiteWords
+pub mod Laying
+pub mod Gathering
+pub mod Laws
+pub mod Examples

@@ -1,0 +1,39 @@
+// Laws of the definitions: functions that do nothing, whose contracts are what is proved.
+ghost use Rattle.relocator.specs.Laws.{SlotsInside, SlotsApart, ObjectsStand, PlacesFit, HomesOffScratchpad, ObjectsOffCodeSlots};
+ghost use Rattle.relocator.specs.Examples.{TableHasSpace};
+
+/// The slots of a feasible choice lie in the scratchpad.
+pub fn slots_inside()
+    ensures { SlotsInside }
+{}
+
+/// Slots of what is in the scratchpad at one time share no byte.
+pub fn slots_apart()
+    ensures { SlotsApart }
+{}
+
+/// Each object stands wholly in a slot that is its own, or at home.
+pub fn objects_stand()
+    ensures { ObjectsStand }
+{}
+
+/// In each region the objects are at places at which they may stand: as their homes modulo the grain, behind
+/// address 0 and below 2^32, and no two share a byte.
+pub fn places_fit()
+    ensures { PlacesFit }
+{}
+
+/// No object's home lies in the scratchpad.
+pub fn homes_off_scratchpad()
+    ensures { HomesOffScratchpad }
+{}
+
+/// No object shares a byte with the slot of code that is in the scratchpad at the same time.
+pub fn objects_off_code_slots()
+    ensures { ObjectsOffCodeSlots }
+{}
+
+/// There are programmes that can be laid out: that of the first object of a graph is one.
+pub fn table_has_space()
+    ensures { TableHasSpace }
+{}
