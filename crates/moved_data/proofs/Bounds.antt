@@ -1,4 +1,4 @@
--- The start stub runs at most six words for each byte of the scratchpad that it fills, and eleven more.
+-- The start stub runs at most six words for each byte of the scratchpad that it fills, and six more.
 use Rattle.std.proofs.Common.{◌≡◌, inl, inr, ℕ, ◌+◌, ◌*◌, ◌/◌, ◌%◌, ◌<◌, ◌≤◌, Bool, true, false, List, [], ◌∷◌, map, length, sym, subst, arith}
 use Rattle.std.specs.Prelude.{All}
 use Rattle.std.proofs.lemmas.List.Elements.{All-head, All-tail}
