@@ -9,7 +9,8 @@ use Rattle.overlay_stubs.specs.Jobs.{unit_bytes, copies_words, job_run}
 use Rattle.overlay_stubs.specs.Start.{StartPlan, fences, jobs_run, start_run}
 use Rattle.cell_values.specs.Objects.{Objects, IsGrain}
 use Rattle.value_words.specs.Stands.{Places}
-use Rattle.moved_data.specs.Placing.{rounded_up, spans}
+use Rattle.moved_data.specs.Placing.{spans}
+use Rattle.placement_programme.specs.Rows.{rounded_up}
 use Rattle.moved_data.specs.Moved.{start_job}
 use Rattle.moved_data.specs.Laws.{most_steps}
 

@@ -29,7 +29,7 @@ use Rattle.file_at_home.proofs.Sites.{SiteBy, by_high, by_wide, by_store, by_pai
 use Rattle.file_at_home.proofs.Sound.{loadable}
 use Rattle.file_at_home.proofs.Start.{word_given}
 use Rattle.file_at_home.proofs.Words.{code_range, code_even, code_below}
-use Rattle.moved_data.specs.SiteWords.{IsSiteWord}
+use Rattle.relocator.specs.SiteWords.{IsSiteWord}
 use Rattle.moved_data.specs.Moved.{IsMovedSite, IsOffWord, IsMovedView}
 use Rattle.moved_data.specs.Placing.{Placing}
 use Rattle.moved_data.proofs.Loaded.{IsKept, loaded_kept}

@@ -38,7 +38,7 @@ use Rattle.file_at_home.proofs.Sites.{site_of}
 use Rattle.file_at_home.proofs.Sound.{loadable}
 use Rattle.file_at_home.proofs.Units.{unit_home}
 use Rattle.file_at_home.proofs.Words.{code_below, stands_home, unit_is_code}
-use Rattle.moved_data.specs.SiteWords.{IsRewritten}
+use Rattle.relocator.specs.SiteWords.{IsRewritten}
 use Rattle.moved_data.specs.Placing.{Placing}
 use Rattle.moved_data.specs.Moved.{moved_setup}
 use Rattle.moved_data.specs.Laws.{IsMoved, unnamed_in, setup_of, UnitsAreMoved}

@@ -22,7 +22,7 @@ use Rattle.object_machine.specs.Program.{Program}
 use Rattle.simulation.specs.Setups.{Setup}
 use Rattle.file_at_home.specs.Home.{is_code_byte}
 use Rattle.moved_data.specs.Placing.{Placing}
-use Rattle.moved_data.specs.SiteWords.{IsSiteWord}
+use Rattle.relocator.specs.SiteWords.{IsSiteWord}
 
 -- ---- the start stub
 

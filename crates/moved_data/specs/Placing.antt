@@ -1,11 +1,12 @@
 -- Where objects stand when some of them are moved into the scratchpad.
-use Rattle.std.specs.Prelude.{◌≡◌, ℕ, ◌+◌, ◌-◌, ◌*◌, ◌/◌, ◌%◌, ◌<◌, ◌≤◌, ◌==◌, Bool, false, List, [], ◌∷◌, length, All}
+use Rattle.std.specs.Prelude.{◌≡◌, ℕ, ◌+◌, ◌%◌, ◌<◌, ◌≤◌, ◌==◌, Bool, false, List, [], ◌∷◌, length, All}
 use Rattle.std.specs.List.{AllPairs, list_any}
 use Rattle.board_config.specs.declared.board.Board.{Board}
 use Rattle.board_config.specs.declared.board.Range.{Range}
 use Rattle.object_graph.specs.declared.parts.Graph.{Graph}
 use Rattle.cell_values.specs.Objects.{Objects, objects_of}
 use Rattle.value_words.specs.Stands.{Places, Fit}
+use Rattle.placement_programme.specs.Rows.{rounded_up}
 
 -- the place of each object by its number in the graph, and the numbers of those that are moved, in order
 pub record Placing : Type 0 where
@@ -14,10 +15,6 @@ pub record Placing : Type 0 where
 
 abbrev pub is_taken : Placing → ℕ → Bool
 is_taken pl o = list_any (λ k. k == o) pl.taken
-
--- a number rounded up to a multiple of the grain
-abbrev pub rounded_up : ℕ → ℕ → ℕ
-rounded_up grain n = (n + (grain - 1)) / grain * grain
 
 -- the bytes of the scratchpad that an object takes, with those before it in its first chunk; and that
 -- several take
