@@ -3,7 +3,7 @@ ghost use Rattle.elf_reader.specs.File.{PlainView, plain_view};
 ghost use Rattle.board_config.specs.Board.{IsLawful};
 ghost use Rattle.loaded_code.specs.Read.{IsRead};
 ghost use Rattle.object_graph.specs.Graphs.{IsGraph};
-ghost use Rattle.placement_programme.specs.Rows.{data_span};
+ghost use Rattle.placement_programme.specs.Rows.{data_span, rounded_up};
 ghost use Rattle.placement_programme.specs.Views.{plain_side};
 ghost use Rattle.relocator.specs.declared.slots.Slot.{Slot};
 ghost use Rattle.relocator.specs.Placing.{rows_of, IsTable};
@@ -20,6 +20,16 @@ use std::alloc::{AllocError, Global};
 use std::test::Fail;
 use workload_gen::{FileSpec, SectionSpec, SymbolSpec, build};
 
+/// A number rounded up to a multiple of the grain.
+fn rounded_up(grain: u64, n: u64) -> u64
+    requires grain { 0 < grain }
+    requires small { grain < 4294967296 }
+    requires bound { n < 8589934592 }
+    ensures { result ≡ rounded_up grain n }
+{
+    (n + (grain - 1)) / grain * grain
+}
+
 /// The first object of a graph takes this many bytes of the scratchpad.
 fn first_span(graph: &Graph) -> u64
     requires some { 0 < length graph.now.objects.items }
@@ -27,9 +37,9 @@ fn first_span(graph: &Graph) -> u64
     ensures { result ≡ data_span graph.now.grain (datum_of graph.now 0) }
 {
     let object = &graph.objects[0];
-    let grain = u64::from(graph.grain);
-    let bytes = u64::from(object.home) % grain + u64::from(object.size);
-    (bytes + (grain - 1)) / grain * grain
+    let low = object.home % graph.grain;
+    let bytes = u64::from(low) + u64::from(object.size);
+    rounded_up(u64::from(graph.grain), bytes)
 }
 
 /// The side that has the first object alone.
@@ -69,12 +79,13 @@ fn laid_out(
         on: false,
         take: vec![in alloc; 0u32]?,
     };
-    if !feasible(&p, &c) {
-        return Ok(None);
-    }
-    match layout(alloc, &p, &c, graph, 0, board) {
-        Ok(places) => Ok(Some(places)),
-        Err(error) => Err(error),
+    if feasible(&p, &c) {
+        match layout(alloc, &p, &c, graph, 0, board) {
+            Ok(places) => Ok(Some(places)),
+            Err(error) => Err(error),
+        }
+    } else {
+        Ok(None)
     }
 }
 
