@@ -1,25 +1,25 @@
 -- The edges of blocks.
-use Rattle.std.proofs.Common.{◌≡◌, ◌≢◌, ◌⊎◌, inl, inr, ℕ, zero, suc, ◌+◌, ◌<◌, ◌≤◌, Bool, true, false, List, [], ◌∷◌, map, length, slice_index_or, Option, Some, None, MatchOption, refl, sym, ◌∙◌, ap, subst, arith}
+use Rattle.std.proofs.Common.{◌≡◌, ◌⊎◌, inl, inr, ℕ, zero, suc, ◌<◌, Bool, true, false, List, [], ◌∷◌, map, length, slice_index_or, refl, sym, ◌∙◌, ap, subst, arith}
 use Rattle.std.specs.Prelude.{◌↔◌}
-use Rattle.std.specs.List.{All, Contains, filter}
+use Rattle.std.specs.List.{Contains, filter}
 use Rattle.std.specs.List.Sorted.{IsStrictlyIncreasing}
-use Rattle.std.proofs.lemmas.Bool.{cases_eq, cases_order}
+use Rattle.std.proofs.lemmas.Bool.{cases_order}
 use Rattle.std.proofs.lemmas.List.{length-map, get_or-map}
 use Rattle.std.proofs.lemmas.List.Kept.{AllPairs-from_increasing}
 use Rattle.object_graph.specs.declared.parts.Graph.{Graph}
 use Rattle.object_graph.specs.declared.parts.Site.{Site}
 use Rattle.code_leaders.specs.Early.{has}
 use Rattle.code_blocks.specs.Edges.{successors, is_indirect_end}
-use Rattle.code_blocks.specs.Numbers.{starts_of, start_at, ending_of, end_at, IsNumberAt, AreNumbersAt}
+use Rattle.code_blocks.specs.Numbers.{starts_of, start_at, ending_of, end_at, AreNumbersAt}
 use Rattle.code_blocks.specs.declared.ends.End.TheVariants.{Stop}
 use Rattle.code_blocks.specs.declared.parts.Block.{Block}
 use Rattle.code_blocks.specs.Blocks.{start_of}
 use Rattle.code_blocks.specs.declared.parts.Unit.{Unit}
 use Rattle.code_blocks.specs.declared.parts.Code.{Code}
 use Rattle.code_blocks.proofs.ListLemmas.{has_at}
-use Rattle.points_to.specs.Points.{IsHolder, IsBlockOf, LeadsOn, units_in, units_at}
-use Rattle.points_to.specs.Flows.{Leads, row, AreRows}
-use Rattle.points_to.specs.Nodes.{HasEdge, AreFull, Adds, Upto, OneEdge, RegisterEdge, PlaceEdge, RowEdge, FlowEdge, UnitEdges, EntryEdge, StepEdge, NextEdges, LeaveEdges, BlockEdges, ArrivalEdge, WordEdge, AllEdges, entry, end_of, hub, memory}
+use Rattle.points_to.specs.Points.{IsBlockOf, units_in, units_at}
+use Rattle.points_to.specs.Flows.{AreRows}
+use Rattle.points_to.specs.Nodes.{Adds, Upto, OneEdge, RegisterEdge, RowEdge, UnitEdges, EntryEdge, StepEdge, NextEdges, LeaveEdges, BlockEdges, ArrivalEdge, WordEdge, AllEdges, entry, end_of, hub, memory}
 use Rattle.points_to.specs.declared.flows.Places.{Places}
 use Rattle.reach_graph.specs.declared.arrows.Arrow.{Arrow}
 use Rattle.points_to.proofs.EdgeLemmas.{adds_none, adds_both, adds_same, upto_same}

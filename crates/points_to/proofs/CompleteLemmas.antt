@@ -1,18 +1,16 @@
 -- What is derived is reached along the edges.
-use Rattle.std.proofs.Common.{◌≡◌, ◌≢◌, ◌⊎◌, inl, inr, ℕ, zero, suc, ◌+◌, ◌*◌, ◌<◌, ◌≤◌, Bool, true, List, [], ◌∷◌, map, length, drop, slice_index_or, Option, refl, sym, ◌∙◌, ap, subst, arith}
-use Rattle.std.specs.List.{Contains}
+use Rattle.std.proofs.Common.{◌≡◌, inl, inr, ℕ, zero, suc, ◌+◌, ◌<◌, List, [], ◌∷◌, map, length, drop, slice_index_or, refl, sym, ◌∙◌, ap, subst, arith}
 use Rattle.std.proofs.Math.Seq.{drop-cons, drop-length}
 use Rattle.std.proofs.lemmas.Bool.{cases_lt}
 use Rattle.std.proofs.lemmas.List.{get_or_past, get_or_default, length-map}
-use Rattle.object_graph.specs.declared.parts.Site.{Site}
 use Rattle.object_graph.specs.declared.parts.DataWord.{DataWord}
 use Rattle.object_graph.specs.declared.parts.Graph.{Graph}
 use Rattle.code_blocks.specs.Numbers.{start_at}
 use Rattle.code_blocks.specs.declared.parts.Unit.{Unit}
 use Rattle.code_blocks.specs.declared.parts.Code.{Code}
-use Rattle.points_to.specs.Points.{IsHolder, IsBlockOf, LeadsOn, LeadsAnywhere, units_in, units_at, no_unit, unit_of, instr_of, site_of, site_at, Makes, Moves, Sums, Stores, Loads, Defines, Fact, Held, Escaped, Derives}
-use Rattle.points_to.specs.Flows.{written, Passes, PassesAt, Leads}
-use Rattle.points_to.specs.Nodes.{Upto, OneEdge, RegisterEdge, FlowEdge, SourceEdges, UnitEdges, EntryEdge, NextEdges, LeaveEdges, BlockEdges, ArrivalEdge, WordEdge, AllEdges, no_word, entry, end_of, hub, memory, loaded, object_node}
+use Rattle.points_to.specs.Points.{IsHolder, IsBlockOf, units_in, units_at, no_unit, unit_of, instr_of, site_of, Fact, Held, Escaped, Derives}
+use Rattle.points_to.specs.Flows.{PassesAt, Leads}
+use Rattle.points_to.specs.Nodes.{SourceEdges, UnitEdges, BlockEdges, AllEdges, no_word, entry, end_of, hub, memory, loaded, object_node}
 use Rattle.points_to.proofs.RuleLemmas.{moves_pass, sums_pass, stores_stored, written_defined}
 
 -- a set of nodes that the edges close, with an object, and with what is loaded where memory is in it

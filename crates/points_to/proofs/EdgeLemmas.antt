@@ -1,15 +1,15 @@
 -- Sets of edges that are added.
-use Rattle.std.proofs.Common.{◌≡◌, ◌≢◌, ◌⊎◌, inl, inr, ℕ, zero, suc, ◌+◌, ◌*◌, ◌<◌, ◌≤◌, List, [], ◌∷◌, length, slice_index_or, refl, sym, ◌∙◌, ap, subst, arith}
+use Rattle.std.proofs.Common.{◌≡◌, ◌≢◌, ◌⊎◌, inl, inr, ℕ, ◌+◌, ◌<◌, List, [], ◌∷◌, length, refl, sym, ◌∙◌, ap, subst, arith}
 use Rattle.std.specs.Prelude.{◌↔◌, Vec}
 use Rattle.std.specs.Global.{Global}
-use Rattle.std.proofs.Common.{map, set, get_or, ◌++◌}
+use Rattle.std.proofs.Common.{set, get_or, ◌++◌}
 use Rattle.std.proofs.lemmas.Bool.{cases_eq}
 use Rattle.std.proofs.lemmas.List.{get_or-set_same, get_or-set_other, get_or_append_left, get_or_push, map-set, length-map, get_or-map, length-append}
 use Rattle.std.proofs.Math.ListN.{length-set}
 use Rattle.points_to.specs.Flows.{Has, row}
-use Rattle.reach_graph.specs.Reaching.{arrows_of, arrow_at, arrow_in, no_arrow, row_items, plain_rows}
+use Rattle.reach_graph.specs.Reaching.{arrows_of, arrow_at, no_arrow, row_items, plain_rows}
 use Rattle.points_to.specs.declared.flows.Places.{Places}
-use Rattle.points_to.specs.Nodes.{HasEdge, AreFull, all_marks, Adds, Upto, OneEdge, PlaceEdge, RegisterEdge, RowEdge, entry, end_of}
+use Rattle.points_to.specs.Nodes.{HasEdge, all_marks, Adds, Upto, OneEdge, PlaceEdge, RegisterEdge, RowEdge, entry, end_of}
 use Rattle.reach_graph.specs.declared.arrows.Arrow.{Arrow}
 
 pub adds_none : (S : ℕ → ℕ → Type 0) (a : List (List Arrow)) → ((f t : ℕ) → S f t → ⊥) → Adds S a a

@@ -17,7 +17,7 @@ use Rattle.reach_graph.specs.Reaching.{HasMark, word_at, Reaches}
 use Rattle.reach_graph.specs.declared.arrows.Arrow.{Arrow}
 use Rattle.reach_graph.proofs.MarkLemmas.{none_in_zero}
 use Rattle.points_to.specs.Nodes.{memory}
-use Rattle.points_to.specs.Tables.{word_of, Kept, kept_word, AreKept, Keeps, Begins, IsReached}
+use Rattle.points_to.specs.Tables.{word_of, Kept, AreKept, Keeps, Begins, IsReached}
 
 -- ---- one more node
 

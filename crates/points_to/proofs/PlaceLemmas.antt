@@ -1,14 +1,11 @@
 -- Sets of places, and tables of them.
-use Rattle.std.proofs.Common.{◌≡◌, ◌≢◌, ◌⊎◌, inl, inr, ℕ, zero, suc, ◌+◌, ◌*◌, ◌%◌, ◌^◌, ◌<◌, ◌≤◌, List, [], ◌∷◌, length, slice_index_or, get_or, set, bit_or, Option, refl, sym, ◌∙◌, ap, subst, arith}
+use Rattle.std.proofs.Common.{◌≡◌, ◌≢◌, ◌⊎◌, inl, inr, ℕ, ◌*◌, ◌%◌, ◌^◌, ◌<◌, List, length, set, bit_or, sym, ◌∙◌, subst, arith}
 use Rattle.std.specs.Prelude.{◌↔◌}
 use Rattle.std.specs.Int.{bit_at, w32}
 use Rattle.std.proofs.lemmas.Bool.{cases_eq}
 use Rattle.std.proofs.lemmas.Nat.Bits.{bit_at_or, bit_at-lt, bit_at-zero, bit_at_set_same, bit_at_set_other}
 use Rattle.std.proofs.lemmas.List.{get_or-set_same, get_or-set_other}
-use Rattle.object_graph.specs.declared.parts.Site.{Site}
-use Rattle.code_blocks.specs.declared.parts.Unit.{Unit}
-use Rattle.points_to.specs.Points.{IsHolder, site_at}
-use Rattle.points_to.specs.Flows.{written, first_source, second_source, stored, Passes, PassesAt, Leads, Has, no_places, row, AreRows}
+use Rattle.points_to.specs.Flows.{Has, no_places, row}
 use Rattle.points_to.specs.declared.flows.Places.{Places}
 
 pub in_either : (a b y : ℕ) → (bit_at (bit_or a b) y ≡ 1) ↔ ((bit_at a y ≡ 1) ⊎ (bit_at b y ≡ 1))

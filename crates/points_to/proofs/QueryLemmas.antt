@@ -1,5 +1,5 @@
 -- What is kept of the marks along the arrows of a program tells all facts.
-use Rattle.std.proofs.Common.{◌≡◌, ◌⊎◌, inl, inr, ℕ, zero, suc, ◌+◌, ◌-◌, ◌*◌, ◌/◌, ◌%◌, ◌<◌, ◌≤◌, min, true, false, List, [], ◌∷◌, length, slice_index_or, refl, sym, ◌∙◌, ap, subst, arith}
+use Rattle.std.proofs.Common.{◌≡◌, inl, inr, ℕ, ◌+◌, ◌-◌, ◌*◌, ◌/◌, ◌%◌, ◌<◌, ◌≤◌, min, true, false, List, [], ◌∷◌, length, slice_index_or, refl, sym, ◌∙◌, ap, subst, arith}
 use Rattle.std.specs.Prelude.{◌↔◌, IsTrue}
 use Rattle.std.specs.List.Sorted.{IsStrictlyIncreasing}
 use Rattle.std.proofs.lemmas.Bool.{cases_lt}
@@ -12,12 +12,12 @@ use Rattle.code_blocks.specs.Blocks.{start_of}
 use Rattle.code_blocks.specs.Numbers.{starts_of, start_at}
 use Rattle.code_blocks.specs.declared.parts.Unit.{Unit}
 use Rattle.code_blocks.specs.declared.parts.Code.{Code}
-use Rattle.reach_graph.specs.Reaching.{HasMark, arrow_in, AreInside, Reaches}
+use Rattle.reach_graph.specs.Reaching.{HasMark, arrow_in, AreInside}
 use Rattle.reach_graph.specs.declared.arrows.Arrow.{Arrow}
 use Rattle.reach_graph.proofs.MarkLemmas.{none_in_zero}
 use Rattle.points_to.specs.Points.{IsBlockOf, units_at, Held, Escaped, Derives, Before, MayHold}
 use Rattle.points_to.specs.Nodes.{SourceEdges, UnitEdges, BlockEdges, AllEdges, AreArrows, entry, memory, loaded, object_node, node_count}
-use Rattle.points_to.specs.Tables.{Kept, kept_word, IsReached, none_kept, group_at, AreGroups, group_of, Holds, AreFacts}
+use Rattle.points_to.specs.Tables.{Kept, kept_word, IsReached, none_kept, AreGroups, group_of, Holds, AreFacts}
 use Rattle.points_to.proofs.BlockLemmas.{same_start, starts_there}
 use Rattle.points_to.proofs.SoundLemmas.{told_entry, told_memory}
 use Rattle.points_to.proofs.TableLemmas.{own_sound, loads_sound, escapes_exact, may_exact}

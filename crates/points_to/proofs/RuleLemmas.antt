@@ -1,14 +1,14 @@
 -- What units do with addresses, as the register that they write and those of which they make it.
-use Rattle.std.proofs.Common.{◌≡◌, ◌≢◌, ◌⊎◌, inl, inr, ℕ, zero, suc, ◌+◌, ◌<◌, ◌≤◌, ◌==◌, Bool, true, false, not, if◌then◌else◌, List, [], ◌∷◌, length, slice_index_or, Option, Some, None, refl, sym, ◌∙◌, ap, subst, arith}
-use Rattle.std.specs.List.{Contains, filter}
+use Rattle.std.proofs.Common.{◌≡◌, ◌⊎◌, inl, inr, ℕ, ◌<◌, ◌==◌, Bool, true, false, not, if◌then◌else◌, [], ◌∷◌, Option, Some, None, refl, sym, subst, arith}
+use Rattle.std.specs.List.{Contains}
 use Rattle.std.proofs.lemmas.Bool.Decides.{nat_tests}
-use Rattle.rv_decode.specs.Acts.{without_zero, defined}
+use Rattle.rv_decode.specs.Acts.{without_zero}
 use Rattle.rv_decode.specs.declared.instructions.Instr.{Instr}
 use Rattle.rv_decode.specs.declared.instructions.Instr.TheVariants.{Lui, Auipc, Jal, Jalr, Branch, Load, Store, OpImm, OpReg, Fence, FenceI, Ecall, Ebreak}
 use Rattle.object_graph.specs.declared.parts.Site.{Site}
-use Rattle.points_to.specs.Points.{IsHolder, is_move, is_sum, Moves, Sums, Stores, Defines}
+use Rattle.points_to.specs.Points.{is_move, is_sum, Moves, Sums, Stores, Defines}
 use Rattle.points_to.specs.Flows.{written, first_source, second_source, stored, Passes}
-use Rattle.points_to.proofs.BlockLemmas.{kept, from_kept, in_first, in_cons, two_truths}
+use Rattle.points_to.proofs.BlockLemmas.{kept, from_kept, in_first, in_cons}
 
 -- ---- what is defined
 

@@ -1,21 +1,18 @@
 -- What is reached along the edges is derived.
-use Rattle.std.proofs.Common.{◌≡◌, ◌≢◌, ◌⊎◌, inl, inr, ℕ, zero, suc, ◌+◌, ◌*◌, ◌<◌, ◌≤◌, Bool, true, List, [], ◌∷◌, map, length, drop, slice_index_or, Option, refl, sym, ◌∙◌, ap, subst, arith}
-use Rattle.std.specs.List.{Contains}
-use Rattle.std.proofs.Math.Seq.{drop-cons, drop-length}
-use Rattle.std.proofs.lemmas.Bool.{cases_lt, cases_eq}
+use Rattle.std.proofs.Common.{◌≡◌, ◌⊎◌, inl, inr, ℕ, suc, ◌+◌, ◌<◌, ◌≤◌, true, List, [], ◌∷◌, length, drop, slice_index_or, refl, sym, ◌∙◌, ap, subst, arith}
+use Rattle.std.proofs.Math.Seq.{drop-cons}
+use Rattle.std.proofs.lemmas.Bool.{cases_eq}
 use Rattle.std.proofs.lemmas.List.{length-drop, get_or_default}
 use Rattle.std.proofs.lemmas.List.Elements.{Contains-get_or}
-use Rattle.object_graph.specs.declared.parts.Site.{Site}
-use Rattle.object_graph.specs.declared.parts.DataWord.{DataWord}
 use Rattle.object_graph.specs.declared.parts.Graph.{Graph}
 use Rattle.code_blocks.specs.Edges.{is_indirect_end}
 use Rattle.code_blocks.specs.Numbers.{start_at, end_at}
 use Rattle.code_blocks.specs.declared.parts.Unit.{Unit}
 use Rattle.code_blocks.specs.declared.parts.Code.{Code}
-use Rattle.points_to.specs.Points.{IsHolder, IsBlockOf, LeadsOn, LeadsAnywhere, units_at, no_unit, unit_of, instr_of, site_of, site_at, Makes, Moves, Sums, Stores, Loads, Defines, Fact, Held, Escaped, Derives}
+use Rattle.points_to.specs.Points.{IsHolder, IsBlockOf, LeadsAnywhere, units_at, no_unit, unit_of, instr_of, site_of, Makes, Held, Escaped, Derives}
 use Rattle.points_to.specs.Flows.{written, PassesAt, Leads}
 use Rattle.points_to.specs.Flows.{stored as stored_by}
-use Rattle.points_to.specs.Nodes.{Upto, OneEdge, RegisterEdge, FlowEdge, SourceEdges, UnitEdges, EntryEdge, NextEdges, LeaveEdges, BlockEdges, ArrivalEdge, WordEdge, AllEdges, no_word, entry, end_of, hub, memory, loaded, object_node}
+use Rattle.points_to.specs.Nodes.{SourceEdges, UnitEdges, BlockEdges, AllEdges, no_word, entry, end_of, hub, memory, loaded, object_node}
 use Rattle.points_to.proofs.RuleLemmas.{first_rule, second_rule, stored_stores, defined_written}
 
 -- what a node stands for

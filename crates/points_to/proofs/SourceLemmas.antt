@@ -1,5 +1,5 @@
 -- The edges of what units make and load.
-use Rattle.std.proofs.Common.{◌≡◌, ◌≢◌, ◌⊎◌, inl, inr, ℕ, zero, suc, ◌+◌, ◌<◌, ◌≤◌, Bool, true, false, List, [], ◌∷◌, length, Option, Some, None, refl, sym, ◌∙◌, ap, subst, arith}
+use Rattle.std.proofs.Common.{◌≡◌, ◌⊎◌, inl, inr, ℕ, true, false, List, ◌∷◌, Option, Some, None, refl, ◌∙◌, ap, subst}
 use Rattle.std.specs.Prelude.{◌↔◌}
 use Rattle.rv_decode.specs.declared.instructions.Instr.{Instr}
 use Rattle.rv_decode.specs.declared.instructions.Instr.TheVariants.{Lui, Auipc, Load, OpImm}
@@ -10,7 +10,7 @@ use Rattle.object_graph.specs.declared.parts.SiteKind.TheVariants.{Hi, LowI, Low
 use Rattle.object_graph.specs.declared.parts.Site.{Site}
 use Rattle.code_blocks.specs.declared.parts.Unit.{Unit}
 use Rattle.points_to.specs.Points.{IsHolder, site_at, MakesIn, Makes, Loads}
-use Rattle.points_to.specs.Flows.{written, made_in, made, loads, Leads, Has, row, AreRows}
+use Rattle.points_to.specs.Flows.{written, made_in, made, loads, row, AreRows}
 use Rattle.points_to.specs.Nodes.{Adds, Upto, PlaceEdge, FlowEdge, SourceEdges, UnitEdges, object_node, loaded, end_of}
 use Rattle.points_to.specs.declared.flows.Places.{Places}
 use Rattle.reach_graph.specs.declared.arrows.Arrow.{Arrow}

@@ -1,7 +1,6 @@
 -- What marks reach along the arrows of a program is what is derived.
-use Rattle.std.proofs.Common.{◌≡◌, ◌⊎◌, inl, inr, ℕ, zero, suc, ◌+◌, ◌*◌, ◌<◌, ◌≤◌, List, [], ◌∷◌, ◌++◌, take, length, replicate, refl, sym, ◌∙◌, ap, subst, arith}
+use Rattle.std.proofs.Common.{◌≡◌, ◌⊎◌, inl, inr, ℕ, ◌+◌, ◌<◌, List, [], ◌++◌, take, length, replicate, refl, sym, ◌∙◌, ap, subst, arith}
 use Rattle.std.specs.Prelude.{◌↔◌}
-use Rattle.std.specs.Int.{bit_at}
 use Rattle.std.proofs.Math.Seq.{take-length}
 use Rattle.std.proofs.lemmas.Bool.{cases_lt}
 use Rattle.std.proofs.lemmas.List.{take-append-le, get_or-replicate, get_or_past, length-replicate}
@@ -10,8 +9,8 @@ use Rattle.object_graph.specs.declared.parts.Graph.{Graph}
 use Rattle.code_blocks.specs.declared.parts.Code.{Code}
 use Rattle.reach_graph.specs.Reaching.{HasMark, word_at, arrows_of, arrow_in, Reaches}
 use Rattle.reach_graph.specs.declared.arrows.Arrow.{Arrow}
-use Rattle.points_to.specs.Points.{IsHolder, IsBlockOf, Held, Escaped, Derives}
-use Rattle.points_to.specs.Nodes.{all_marks, HasEdge, Adds, AllEdges, AreArrows, node_count, entry, memory, loaded, object_node}
+use Rattle.points_to.specs.Points.{IsBlockOf, Held, Escaped, Derives}
+use Rattle.points_to.specs.Nodes.{all_marks, Adds, AllEdges, AreArrows, node_count, entry, memory, loaded, object_node}
 use Rattle.points_to.specs.Tables.{Begins}
 use Rattle.points_to.proofs.CompleteLemmas.{IsClosed, complete}
 use Rattle.points_to.proofs.SoundLemmas.{Tells, told_entry, told_memory, edge_sound}

@@ -1,4 +1,4 @@
-use Rattle.std.proofs.Common.{◌≡◌, ◌∙◌, List, Vec, take, drop, ◌++◌, length, sym, ap, subst, arith}
+use Rattle.std.proofs.Common.{◌≡◌, List, Vec, drop, length, sym, ap, subst, arith}
 use Rattle.std.specs.Global.{Global}
 use Rattle.reach_graph.specs.Reaching.{plain_rows}
 use Rattle.reach_graph.specs.declared.arrows.Arrow.{Arrow}

@@ -1,6 +1,6 @@
 use Rattle.std.proofs.Common.{◌≡◌, ◌∙◌, ℕ, slice_index_or, subst, arith}
 use Rattle.std.proofs.lemmas.Grind.{common_steps}
-use Rattle.points_to.specs.Nodes.{Adds, Upto, RegisterEdge, entry, hub}
+use Rattle.points_to.specs.Nodes.{Adds, Upto, RegisterEdge, hub}
 use Rattle.reach_graph.specs.Reaching.{plain_rows}
 use Rattle.points_to.proofs.BlockLemmas.{arrival_adds}
 use Rattle.points_to.proofs.blocks.push_arrival.Goals as goal

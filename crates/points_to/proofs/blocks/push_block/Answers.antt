@@ -1,8 +1,8 @@
-use Rattle.std.proofs.Common.{◌≡◌, ◌∙◌, ℕ, ◌<◌, List, sym, subst, arith}
+use Rattle.std.proofs.Common.{◌≡◌, ◌∙◌, ℕ, List, sym, subst, arith}
 use Rattle.code_blocks.specs.declared.parts.Unit.{Unit}
 use Rattle.points_to.specs.Points.{IsBlockOf, units_at}
 use Rattle.points_to.specs.Flows.{AreRows}
-use Rattle.points_to.specs.Nodes.{Adds, OneEdge, UnitEdges, end_of, memory}
+use Rattle.points_to.specs.Nodes.{Adds, OneEdge, UnitEdges, end_of}
 use Rattle.reach_graph.specs.Reaching.{plain_rows}
 use Rattle.points_to.proofs.BlockLemmas.{units_are, block_adds}
 use Rattle.points_to.proofs.blocks.push_block.Goals as goal

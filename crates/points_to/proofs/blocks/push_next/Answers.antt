@@ -1,4 +1,4 @@
-use Rattle.std.proofs.Common.{◌≡◌, ℕ, ◌<◌, List, length, subst, arith}
+use Rattle.std.proofs.Common.{ℕ, List, length, subst, arith}
 use Rattle.points_to.specs.Points.{IsBlockOf}
 use Rattle.points_to.specs.Nodes.{Adds, Upto, StepEdge, NextEdges}
 use Rattle.reach_graph.specs.Reaching.{plain_rows}

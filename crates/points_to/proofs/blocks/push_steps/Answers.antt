@@ -1,5 +1,5 @@
-use Rattle.std.proofs.Common.{◌≡◌, ℕ, ◌+◌, slice_index_or, subst}
-use Rattle.points_to.specs.Nodes.{Adds, Upto, RegisterEdge, StepEdge, entry, end_of}
+use Rattle.std.proofs.Common.{ℕ, subst}
+use Rattle.points_to.specs.Nodes.{Adds, Upto, RegisterEdge, StepEdge, end_of}
 use Rattle.reach_graph.specs.Reaching.{plain_rows}
 use Rattle.points_to.proofs.EdgeLemmas.{adds_more}
 use Rattle.points_to.proofs.blocks.push_steps.Goals as goal

@@ -1,4 +1,4 @@
-use Rattle.std.proofs.Common.{◌≡◌, ◌∙◌, ℕ, ◌+◌, ◌<◌, slice_index_or, length, ap, subst, arith}
+use Rattle.std.proofs.Common.{◌≡◌, ◌∙◌, ℕ, ◌<◌, slice_index_or, length, ap, subst, arith}
 use Rattle.std.proofs.lemmas.List.{get_or_default}
 use Rattle.object_graph.specs.declared.parts.DataWord.{DataWord}
 use Rattle.points_to.specs.Nodes.{Adds, Upto, OneEdge, WordEdge, no_word, object_node, memory}

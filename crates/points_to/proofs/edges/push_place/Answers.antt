@@ -1,4 +1,4 @@
-use Rattle.std.proofs.Common.{◌≡◌, ℕ, ◌+◌, subst}
+use Rattle.std.proofs.Common.{ℕ, ◌+◌, subst}
 use Rattle.points_to.specs.Nodes.{Adds, OneEdge, PlaceEdge}
 use Rattle.reach_graph.specs.Reaching.{plain_rows}
 use Rattle.points_to.proofs.EdgeLemmas.{adds_same, place_one}

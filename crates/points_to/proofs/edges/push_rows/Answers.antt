@@ -1,4 +1,4 @@
-use Rattle.std.proofs.Common.{◌≡◌, ℕ, ◌+◌, ◌<◌, refl, subst, arith}
+use Rattle.std.proofs.Common.{◌≡◌, ℕ, ◌<◌, refl, subst, arith}
 use Rattle.points_to.specs.Nodes.{Adds, Upto, PlaceEdge, RowEdge, entry, end_of}
 use Rattle.points_to.specs.Flows.{row}
 use Rattle.reach_graph.specs.Reaching.{plain_rows}

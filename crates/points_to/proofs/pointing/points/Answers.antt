@@ -1,4 +1,4 @@
-use Rattle.std.proofs.Common.{◌≡◌, ◌≤◌, ◌+◌, ◌*◌, ◌/◌, List, Vec, map, sym, ap, subst, arith}
+use Rattle.std.proofs.Common.{◌≤◌, ◌+◌, ◌*◌, ◌/◌, List, Vec, map, sym, ap, subst, arith}
 use Rattle.std.specs.Global.{Global}
 use Rattle.reach_graph.specs.Reaching.{plain_rows, AreInside}
 use Rattle.reach_graph.specs.declared.arrows.Arrow.{Arrow}

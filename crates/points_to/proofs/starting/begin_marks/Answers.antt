@@ -1,4 +1,4 @@
-use Rattle.std.proofs.Common.{ℕ, ◌+◌, ◌<◌, length, arith}
+use Rattle.std.proofs.Common.{◌+◌, ◌<◌, length, arith}
 use Rattle.points_to.proofs.KeptLemmas.{begun_none, begun_more}
 use Rattle.points_to.proofs.starting.begin_marks.Goals as goal
 

@@ -1,4 +1,4 @@
-use Rattle.std.proofs.Common.{◌≡◌, ◌∙◌, ◌<◌, ℕ, List, length, sym, subst, arith}
+use Rattle.std.proofs.Common.{◌<◌, ℕ, List, length, sym, subst, arith}
 use Rattle.reach_graph.specs.Reaching.{arrow_at}
 use Rattle.points_to.specs.Sweeps.{AreBetween}
 use Rattle.points_to.proofs.SweepLemmas.{between_more}
