@@ -1,18 +1,15 @@
 -- A programme that meets the conditions of a layout.
-use Rattle.std.proofs.Common.{◌≡◌, ◌≢◌, ◌∙◌, ℕ, zero, suc, ◌+◌, ◌<◌, ◌≤◌, ◌==◌, false, List, [], ◌∷◌, replicate, length, get_or, refl, sym, ap, subst, arith}
-use Rattle.std.specs.List.{All, AllPairs}
-use Rattle.std.proofs.lemmas.List.{get_or-replicate, get_or-map, length-map, length-replicate, get_or_default}
+use Rattle.std.proofs.Common.{◌≡◌, ◌∙◌, ℕ, ◌<◌, false, List, [], ◌∷◌, replicate, length, get_or, refl, sym, ap, subst, arith}
+use Rattle.std.proofs.lemmas.List.{get_or-replicate, length-map, length-replicate}
 use Rattle.std.proofs.lemmas.List.Elements.{All-nil, All-cons}
 use Rattle.board_config.specs.declared.board.Board.{Board}
 use Rattle.object_graph.specs.declared.parts.Graph.{Graph}
 use Rattle.placement_programme.specs.declared.variables.VarName.TheVariants.{StaticData}
-use Rattle.placement_programme.specs.Plain.{PlainVar}
-use Rattle.placement_programme.specs.Programme.{weight_in}
-use Rattle.placement_programme.specs.Rows.{Layout, data_span, static_data, weights, job_bytes}
+use Rattle.placement_programme.specs.Rows.{Layout, static_data}
 use Rattle.relocator.specs.declared.slots.Slot.{Slot}
 use Rattle.relocator.specs.declared.places.Places.{Places}
 use Rattle.relocator.specs.Placing.{rows_of, IsTable}
-use Rattle.relocator.specs.Space.{IsSpaceRow, datum_of, IsVariable, IsLayoutOf, HasSpace, IsSpaceOf}
+use Rattle.relocator.specs.Space.{datum_of, IsVariable}
 use Rattle.relocator.specs.SiteWords.{HasPlaces}
 use Rattle.relocator.specs.Examples.{table_side, TableHasSpace}
 

@@ -1,10 +1,10 @@
 -- Slots one by one.
-use Rattle.std.proofs.Common.{◌≡◌, ◌≢◌, ◌∙◌, inl, inr, ℕ, zero, suc, ◌+◌, ◌<◌, ◌≤◌, ◌==◌, if◌then◌else◌, List, [], ◌∷◌, ◌++◌, drop, replicate, length, get_or, get_or-set_same, get_or-set_other, refl, sym, ap, subst, arith}
+use Rattle.std.proofs.Common.{◌≡◌, ◌∙◌, inl, inr, ℕ, zero, suc, ◌+◌, ◌<◌, ◌≤◌, ◌==◌, if◌then◌else◌, List, [], ◌∷◌, ◌++◌, drop, replicate, length, get_or, get_or-set_same, get_or-set_other, refl, sym, ap, subst, arith}
 use Rattle.std.specs.List.{All}
-use Rattle.std.proofs.Math.ListN.{set, length-set}
-use Rattle.std.proofs.lemmas.Bool.{cases_eq, cases_lt}
+use Rattle.std.proofs.Math.ListN.{set}
+use Rattle.std.proofs.lemmas.Bool.{cases_eq}
 use Rattle.std.proofs.lemmas.Bool.Decides.{nat_tests}
-use Rattle.std.proofs.lemmas.List.{drop_more, at_drop_more, get_or_default, get_or-replicate, length-replicate}
+use Rattle.std.proofs.lemmas.List.{drop_more, get_or_default, get_or-replicate, length-replicate}
 use Rattle.std.proofs.lemmas.List.Elements.{All-head, All-tail}
 use Rattle.relocator.specs.declared.items.Item.{Item}
 use Rattle.relocator.specs.declared.slots.Slot.{Slot}

@@ -12,3 +12,4 @@ pub mod ObjectLemmas
 pub mod GrainLemmas
 pub mod FitLemmas
 pub mod Examples
+pub mod SpaceLemmas

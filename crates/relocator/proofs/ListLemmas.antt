@@ -1,7 +1,7 @@
 -- The new words as a list.
-use Rattle.std.proofs.Common.{◌≡◌, ◌≢◌, ◌∙◌, ◌⊎◌, inl, inr, ℕ, zero, suc, ◌+◌, ◌-◌, ◌<◌, ◌≤◌, ◌==◌, Bool, true, false, ◌&&◌, ◌||◌, List, [], ◌∷◌, ◌++◌, length, get_or, length-append, refl, sym, ap, subst, arith}
-use Rattle.std.specs.List.{AllPairs, list_any}
-use Rattle.std.proofs.lemmas.Bool.{cases_eq, cases_lt, eqb-true}
+use Rattle.std.proofs.Common.{◌≡◌, ◌∙◌, ◌⊎◌, inl, inr, ℕ, zero, suc, ◌+◌, ◌-◌, ◌<◌, ◌≤◌, ◌==◌, Bool, true, false, ◌||◌, List, [], ◌∷◌, ◌++◌, length, get_or, length-append, refl, sym, ap, subst, arith}
+use Rattle.std.specs.List.{list_any}
+use Rattle.std.proofs.lemmas.Bool.{cases_lt, eqb-true}
 use Rattle.std.proofs.lemmas.Bool.Decides.{nat_tests}
 use Rattle.std.proofs.lemmas.List.{length_push, get_or_append_left, get_or-append_right, get_or_push}
 use Rattle.std.proofs.lemmas.List.Folds.{list_any_at, list_any-append}
@@ -9,12 +9,11 @@ use Rattle.index_tests.specs.Tests.{meets}
 use Rattle.index_tests.proofs.TestLemmas.{either, both}
 use Rattle.elf_reader.specs.File.{PlainView}
 use Rattle.board_config.specs.declared.board.Board.{Board}
-use Rattle.loaded_code.specs.Code.{image_word}
 use Rattle.object_graph.specs.declared.parts.Graph.{Graph}
 use Rattle.object_graph.specs.Graphs.{IsGraph}
 use Rattle.object_graph.specs.Gathered.{AreSeparate, AreInOrder}
 use Rattle.relocator.specs.declared.places.Places.{Places}
-use Rattle.relocator.specs.SiteWords.{site_at, data_word_at, word_address, IsNewAtSite, IsNewWord, is_entry, has_entry, AreSiteWords}
+use Rattle.relocator.specs.SiteWords.{site_at, data_word_at, word_address, IsNewAtSite, is_entry, has_entry, AreSiteWords}
 use Rattle.relocator.specs.Gathering.{entry_of, AreOfSites, AreOfWords, address_of}
 use Rattle.relocator.proofs.WordLemmas.{site_listed, word_listed, site_off_word}
 

@@ -1,28 +1,19 @@
 -- The items of a choice in the rows of the scratchpad.
-use Rattle.std.proofs.Common.{◌≡◌, ◌≢◌, ◌∙◌, ◌⊎◌, inl, inr, ℕ, zero, suc, ◌+◌, ◌*◌, ◌<◌, ◌≤◌, ◌==◌, Bool, true, false, if◌then◌else◌, List, [], ◌∷◌, map, length, get_or, Option, Some, None, refl, sym, ap, subst, arith}
-use Rattle.std.specs.Prelude.{IsSomeAnd}
-use Rattle.std.specs.List.{All, sum_by}
+use Rattle.std.proofs.Common.{◌≡◌, ◌∙◌, inl, inr, ℕ, zero, suc, ◌+◌, ◌<◌, ◌≤◌, ◌==◌, Bool, true, false, if◌then◌else◌, List, [], ◌∷◌, length, get_or, refl, sym, ap, subst, arith}
+use Rattle.std.specs.List.{All}
 use Rattle.std.proofs.lemmas.Bool.{cases_eq}
 use Rattle.std.proofs.lemmas.Bool.Decides.{nat_tests}
-use Rattle.std.proofs.lemmas.List.Elements.{All-nil, All-cons, All-head, All-tail, All-weaker, All-map}
+use Rattle.std.proofs.lemmas.List.Elements.{All-head, All-tail}
 use Rattle.std.proofs.lemmas.List.Sums.{sum_by-cons}
-use Rattle.board_config.specs.declared.board.Board.{Board}
 use Rattle.object_graph.specs.declared.parts.Graph.{Graph}
-use Rattle.cell_values.specs.Objects.{IsGrain}
 use Rattle.placement_programme.specs.declared.variables.VarName.{VarName}
-use Rattle.placement_programme.specs.Plain.{PlainVar, PlainSide, PlainProgramme, PlainChoice}
+use Rattle.placement_programme.specs.Plain.{PlainVar, PlainSide}
 use Rattle.placement_programme.specs.Bounds.{AscendWithin}
-use Rattle.placement_programme.specs.Programme.{weight_in, weight_at, load_in, side_for, Fits, IsFeasible}
-use Rattle.placement_programme.specs.Rows.{Layout}
+use Rattle.placement_programme.specs.Programme.{weight_in, weight_at, load_in, Fits}
 use Rattle.placement_programme.proofs.AscendLemmas.{number_below}
 use Rattle.relocator.specs.declared.items.Item.{Item}
-use Rattle.relocator.specs.declared.slots.Slot.{Slot}
-use Rattle.relocator.specs.Slots.{region_of, no_var, name_at, item_at, items_in, vars_for, items_of, bytes_in, first_slots, slots_from, slots_of}
-use Rattle.relocator.specs.Placing.{chosen_slots}
-use Rattle.relocator.specs.Space.{IsVariable, IsLayoutOf, HasSpace, IsSpaceOf}
-use Rattle.relocator.specs.Laws.{CanLayOut, LiesWithin}
-use Rattle.relocator.proofs.SlotLemmas.{IsBetween, slots_between, slot_keeps}
-use Rattle.relocator.proofs.WeightLemmas.{IsSized, weights_same, IsWeighed, variable_weighed}
+use Rattle.relocator.specs.Slots.{region_of, no_var, name_at, item_at, items_in, bytes_in}
+use Rattle.relocator.proofs.WeightLemmas.{IsSized, weights_same, IsWeighed}
 
 -- ---- items
 

@@ -1,6 +1,6 @@
 -- The homes of the objects of a graph.
-use Rattle.std.proofs.Common.{◌≡◌, ◌∙◌, inl, inr, ℕ, ◌+◌, ◌-◌, ◌<◌, ◌≤◌, ◌==◌, true, false, not, ◌&&◌, Bool, length, None, Option, refl, sym, ap, arith}
-use Rattle.std.proofs.lemmas.Bool.{cases_lt, cases_order, cases_Bool}
+use Rattle.std.proofs.Common.{◌≡◌, ◌∙◌, inl, inr, ℕ, ◌+◌, ◌-◌, ◌<◌, ◌≤◌, ◌==◌, true, false, not, ◌&&◌, Bool, length, None, refl, sym, ap, arith}
+use Rattle.std.proofs.lemmas.Bool.{cases_lt, cases_order}
 use Rattle.std.proofs.lemmas.Bool.Decides.{nat_tests}
 use Rattle.std.proofs.lemmas.List.{get_or_past}
 use Rattle.std.proofs.lemmas.List.Folds.{list_any_at}
@@ -8,7 +8,7 @@ use Rattle.fault_order.specs.First.{unless, first_below}
 use Rattle.fault_order.proofs.FirstLemmas.{both_none, none_at}
 use Rattle.index_tests.specs.Tests.{lies_in, meets}
 use Rattle.elf_reader.specs.File.{PlainView}
-use Rattle.elf_reader.specs.Loaded.{section_at, segment_at}
+use Rattle.elf_reader.specs.Loaded.{segment_at}
 use Rattle.elf_reader.proofs.LoadedLemmas.{loaded_found}
 use Rattle.board_config.specs.declared.board.Board.{Board}
 use Rattle.loaded_code.specs.Records.{symbol_at}

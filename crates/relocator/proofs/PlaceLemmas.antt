@@ -1,31 +1,28 @@
 -- Slots and places of a feasible choice.
-use Rattle.std.proofs.Common.{◌≡◌, ◌≢◌, ◌∙◌, ◌⊎◌, inl, inr, ℕ, zero, suc, ◌+◌, ◌*◌, ◌%◌, ◌<◌, ◌≤◌, ◌==◌, Bool, true, false, ◌&&◌, if◌then◌else◌, List, [], ◌∷◌, map, length, get_or, Option, Some, None, refl, sym, ap, subst, arith}
+use Rattle.std.proofs.Common.{◌≡◌, ◌∙◌, ℕ, zero, suc, ◌+◌, ◌<◌, ◌≤◌, ◌==◌, Bool, true, false, if◌then◌else◌, List, length, get_or, Option, Some, None, refl, subst, arith}
 use Rattle.std.specs.Prelude.{IsSomeAnd}
-use Rattle.std.specs.List.{All, AllPairs}
-use Rattle.std.proofs.lemmas.Bool.{cases_eq, cases_Bool, eqb-true}
+use Rattle.std.specs.List.{All}
 use Rattle.std.proofs.lemmas.Bool.Decides.{nat_tests}
-use Rattle.std.proofs.lemmas.List.Elements.{All-nil, All-cons, All-head, All-tail, All-weaker, All-map}
-use Rattle.index_tests.proofs.TestLemmas.{both}
+use Rattle.std.proofs.lemmas.List.Elements.{All-map}
 use Rattle.board_config.specs.declared.board.Board.{Board}
 use Rattle.board_config.specs.Board.{IsLawful}
 use Rattle.board_config.specs.declared.board.Range.{Range}
 use Rattle.object_graph.specs.Sites.{no_area}
 use Rattle.object_graph.specs.declared.parts.Graph.{Graph}
-use Rattle.cell_values.specs.Objects.{IsGrain, object_of}
+use Rattle.cell_values.specs.Objects.{IsGrain}
 use Rattle.placement_programme.specs.declared.variables.VarName.{VarName}
 use Rattle.placement_programme.specs.declared.variables.VarName.TheVariants.{StaticData, StaticCode, OverlayData, OverlayCode}
-use Rattle.placement_programme.specs.Plain.{PlainVar, PlainSide, PlainProgramme, PlainChoice}
+use Rattle.placement_programme.specs.Plain.{PlainSide, PlainProgramme, PlainChoice}
 use Rattle.placement_programme.specs.Programme.{load_in, side_for, Fits}
 use Rattle.relocator.specs.declared.items.Item.{Item}
 use Rattle.relocator.specs.declared.slots.Slot.{Slot}
-use Rattle.relocator.specs.Slots.{region_of, no_var, name_at, item_at, items_in, vars_for, items_of, bytes_in, moved_on, first_slots, slots_from, slots_of}
-use Rattle.relocator.specs.Placing.{puts, place_in, placed, chosen_slots, place_of}
-use Rattle.relocator.specs.Space.{HasSpace, IsSpaceRow, IsSpaceOf}
+use Rattle.relocator.specs.Slots.{region_of, item_at, items_in, vars_for, items_of, bytes_in, first_slots, slots_from, slots_of}
+use Rattle.relocator.specs.Space.{IsSpaceRow, IsSpaceOf}
 use Rattle.relocator.specs.Laying.{AreRoomy, AreOfRegions, CanPut, CanPutAll}
 use Rattle.relocator.specs.Laws.{CanLayOut, LiesWithin}
-use Rattle.relocator.proofs.SlotLemmas.{IsBetween, slots_between, slot_keeps}
-use Rattle.relocator.proofs.WeightLemmas.{HasRoomFor, HasRoom, IsSized, IsWeighed, variable_weighed}
-use Rattle.relocator.proofs.LoadLemmas.{IsItem, all_items, load_held, static_load, RegionFits, region_fits}
+use Rattle.relocator.proofs.SlotLemmas.{slots_between, slot_keeps}
+use Rattle.relocator.proofs.WeightLemmas.{IsSized, IsWeighed, variable_weighed}
+use Rattle.relocator.proofs.LoadLemmas.{all_items, load_held, static_load, RegionFits, region_fits}
 
 -- ---- the items of a choice
 

@@ -1,5 +1,5 @@
 -- Slots one behind the other.
-use Rattle.std.proofs.Common.{◌≡◌, ◌≢◌, ◌∙◌, ◌⊎◌, inl, inr, ℕ, zero, suc, ◌+◌, ◌*◌, ◌<◌, ◌≤◌, ◌==◌, true, false, if◌then◌else◌, List, [], ◌∷◌, length, get_or, refl, sym, ap, subst, arith}
+use Rattle.std.proofs.Common.{◌≡◌, ◌≢◌, ◌∙◌, inl, inr, ℕ, zero, suc, ◌+◌, ◌≤◌, List, [], ◌∷◌, get_or, refl, sym, subst, arith}
 use Rattle.std.specs.List.{All, AllPairs}
 use Rattle.std.proofs.lemmas.Bool.{cases_eq}
 use Rattle.std.proofs.lemmas.Bool.Decides.{nat_tests}
@@ -9,7 +9,7 @@ use Rattle.placement_programme.specs.declared.variables.VarName.{VarName}
 use Rattle.relocator.specs.declared.items.Item.{Item}
 use Rattle.relocator.specs.declared.slots.Slot.{Slot}
 use Rattle.relocator.specs.Slots.{region_of, bytes_in, moved_on, slots_from, first_slots, slots_of}
-use Rattle.relocator.specs.Laws.{IsPresent, AreApart, AreApartIn}
+use Rattle.relocator.specs.Laws.{IsPresent, AreApartIn}
 
 -- ---- one item more
 

@@ -1,8 +1,7 @@
 -- Where an object stands among slots.
-use Rattle.std.proofs.Common.{◌≡◌, ◌≢◌, ◌∙◌, ◌⊎◌, inl, inr, ℕ, zero, suc, ◌+◌, ◌*◌, ◌%◌, ◌<◌, ◌≤◌, ◌==◌, Bool, true, false, ◌&&◌, if◌then◌else◌, List, [], ◌∷◌, length, get_or, refl, sym, ap, subst, arith}
+use Rattle.std.proofs.Common.{◌≡◌, ◌∙◌, ◌⊎◌, inl, inr, ℕ, suc, ◌+◌, ◌%◌, ◌==◌, Bool, true, false, if◌then◌else◌, List, [], ◌∷◌, refl, sym, ap, subst, arith}
 use Rattle.std.specs.List.{All}
 use Rattle.std.proofs.lemmas.Bool.{cases_Bool, eqb-true}
-use Rattle.std.proofs.lemmas.Bool.Decides.{nat_tests}
 use Rattle.std.proofs.lemmas.List.Elements.{All-nil, All-cons, All-head, All-tail}
 use Rattle.index_tests.proofs.TestLemmas.{both}
 use Rattle.object_graph.specs.declared.parts.Graph.{Graph}
@@ -12,7 +11,7 @@ use Rattle.placement_programme.specs.declared.variables.VarName.TheVariants.{Sta
 use Rattle.relocator.specs.declared.slots.Slot.{Slot}
 use Rattle.relocator.specs.Slots.{region_of, is_code}
 use Rattle.relocator.specs.Placing.{puts, placed}
-use Rattle.relocator.specs.Laws.{slot_at, StandsIn, StandsAtHome}
+use Rattle.relocator.specs.Laws.{StandsIn, StandsAtHome}
 use Rattle.relocator.proofs.WeightLemmas.{HasRoomFor, HasRoom, IsSized}
 
 -- ---- what a variable puts into its slot

@@ -1,6 +1,5 @@
 -- What a variable of a programme for this graph weighs in the rows of the scratchpad.
-use Rattle.std.proofs.Common.{◌≡◌, ◌≢◌, ◌∙◌, ◌⊎◌, inl, inr, ℕ, zero, suc, ◌+◌, ◌-◌, ◌*◌, ◌/◌, ◌%◌, ◌<◌, ◌≤◌, ◌==◌, Bool, true, false, List, [], ◌∷◌, ◌++◌, length, get_or, refl, sym, ap, subst, arith}
-use Rattle.std.specs.List.{All}
+use Rattle.std.proofs.Common.{◌≡◌, ◌∙◌, inl, inr, ℕ, zero, suc, ◌+◌, ◌-◌, ◌*◌, ◌/◌, ◌%◌, ◌<◌, ◌≤◌, Bool, true, false, List, [], ◌∷◌, ◌++◌, length, get_or, refl, sym, ap, subst, arith}
 use Rattle.std.proofs.lemmas.Bool.{cases_eq}
 use Rattle.std.proofs.lemmas.Bool.Decides.{nat_tests}
 use Rattle.object_graph.specs.declared.parts.Graph.{Graph}
@@ -8,10 +7,10 @@ use Rattle.cell_values.specs.Objects.{IsGrain, object_of}
 use Rattle.placement_programme.specs.declared.variables.VarName.{VarName}
 use Rattle.placement_programme.specs.declared.variables.VarName.TheVariants.{StaticData, StaticCode, OverlayData, OverlayCode}
 use Rattle.placement_programme.specs.Plain.{PlainVar}
-use Rattle.placement_programme.specs.Programme.{weights_at, weight_in, weight_at}
-use Rattle.placement_programme.specs.Rows.{Layout, Datum, Candidate, static_data, static_code, overlay_data, overlay_code, name_of, rounded_up, data_span, code_span, in_rows, job_bytes, off_code_bytes, overlay_data_bytes, off_block_row, on_code_bytes, blocks_of, patch_row, block_row, object_row, weights, IsOfSide, IsRegionOf}
-use Rattle.relocator.specs.Slots.{region_of, no_var, name_at}
-use Rattle.relocator.specs.Space.{IsSpaceRow, datum_of, IsDatumOf, IsOfGraph, IsVariableOf, IsVariable}
+use Rattle.placement_programme.specs.Programme.{weights_at, weight_in}
+use Rattle.placement_programme.specs.Rows.{Layout, Datum, Candidate, static_data, static_code, overlay_data, overlay_code, name_of, rounded_up, data_span, code_span, in_rows, job_bytes, off_code_bytes, overlay_data_bytes, off_block_row, on_code_bytes, blocks_of, patch_row, block_row, object_row, weights, IsOfSide}
+use Rattle.relocator.specs.Slots.{region_of, no_var}
+use Rattle.relocator.specs.Space.{IsSpaceRow, IsDatumOf, IsOfGraph, IsVariableOf, IsVariable}
 
 -- ---- spans
 

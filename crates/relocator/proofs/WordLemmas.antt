@@ -1,6 +1,5 @@
 -- The words of sites can be made anew, and share no byte with words of data.
-use Rattle.std.proofs.Common.{◌≡◌, ◌≢◌, ◌∙◌, ◌⊎◌, inl, inr, ℕ, zero, suc, ◌+◌, ◌<◌, ◌≤◌, ◌==◌, nat_lt, nat_le, Bool, true, false, not, ◌&&◌, ◌||◌, List, length, slice_index_or, refl, sym, ap, subst, arith}
-use Rattle.std.specs.List.{list_any}
+use Rattle.std.proofs.Common.{◌≡◌, ◌≢◌, ◌∙◌, ◌⊎◌, inl, inr, ℕ, ◌<◌, ◌==◌, nat_lt, nat_le, Bool, true, false, not, ◌&&◌, ◌||◌, List, length, slice_index_or, refl, sym, subst, arith}
 use Rattle.std.proofs.lemmas.Bool.{eqb-true, ltb-true}
 use Rattle.std.proofs.lemmas.Bool.Decides.{nat_tests}
 use Rattle.std.proofs.lemmas.List.{get_or_default}
@@ -14,19 +13,19 @@ use Rattle.rv_decode.specs.declared.instructions.ImmKind.TheVariants.{Addi}
 use Rattle.elf_reader.specs.File.{PlainView}
 use Rattle.elf_reader.specs.declared.view.Reloc.{Reloc}
 use Rattle.loaded_code.specs.Code.{is_code_word, image_word}
-use Rattle.loaded_code.specs.Records.{symbol_at, reloc_at, counts, target, is_mute, width_of}
-use Rattle.sound_relocations.specs.Sound.{is_meant, displacement, holds_data, cuts_range, changes_word, is_sound_word, takes_low_i, takes_low_s, is_sound_high, is_sound_low, is_sound_pair, distance, names_high}
+use Rattle.loaded_code.specs.Records.{reloc_at, counts, target, is_mute, width_of}
+use Rattle.sound_relocations.specs.Sound.{is_meant, displacement, holds_data, cuts_range, changes_word, is_sound_word, is_sound_high, is_sound_low, is_sound_pair, distance, names_high}
 use Rattle.movable_ranges.specs.Fixed.{leads_to}
 use Rattle.object_graph.specs.declared.parts.Object.{Object}
 use Rattle.object_graph.specs.declared.parts.SiteKind.{SiteKind}
 use Rattle.object_graph.specs.declared.parts.SiteKind.TheVariants.{Hi, LowI, LowS}
 use Rattle.object_graph.specs.declared.parts.Site.{Site}
 use Rattle.object_graph.specs.declared.parts.DataWord.{DataWord}
-use Rattle.object_graph.specs.Graphs.{object_at, makes_part, gives_directly, gives_low_of, gives_offset, gives_site, is_site_of_list, same_part, same_site, IsSites, gives_word, is_word_of_list, same_word, IsWords}
+use Rattle.object_graph.specs.Graphs.{object_at, makes_part, gives_directly, gives_low_of, gives_offset, gives_site, same_part, same_site, IsSites, gives_word, same_word, IsWords}
 use Rattle.object_graph.specs.Laws.{HasLower, StoresAtLower}
 use Rattle.object_graph.proofs.SoundLemmas.{high_parts, low_parts, pair_parts}
 use Rattle.object_graph.proofs.LeadLemmas.{has_lower, stores_at_lower, paired_low}
-use Rattle.relocator.specs.Gathering.{CanMake, CanRewrite}
+use Rattle.relocator.specs.Gathering.{CanRewrite}
 use Rattle.relocator.specs.SiteWords.{no_site, no_word}
 
 -- ---- one instruction

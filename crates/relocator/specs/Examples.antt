@@ -1,10 +1,10 @@
 -- The programme of one table: the first object of a graph, and nothing else that may be taken.
-use Rattle.std.specs.Prelude.{ℕ, ◌<◌, false, [], ◌∷◌, length}
+use Rattle.std.specs.Prelude.{◌<◌, false, [], ◌∷◌, length}
 use Rattle.board_config.specs.declared.board.Board.{Board}
 use Rattle.object_graph.specs.declared.parts.Graph.{Graph}
 use Rattle.placement_programme.specs.declared.variables.VarName.TheVariants.{StaticData}
 use Rattle.placement_programme.specs.Plain.{PlainSide}
-use Rattle.placement_programme.specs.Rows.{Layout, data_span, job_bytes}
+use Rattle.placement_programme.specs.Rows.{data_span, job_bytes}
 use Rattle.relocator.specs.Space.{datum_of, IsSpaceOf}
 
 -- its side without overlay; its gain plays no part

@@ -1,5 +1,5 @@
 -- What holds of slots and places.
-use Rattle.std.specs.Prelude.{◌≡◌, ◌⊎◌, ℕ, ◌+◌, ◌%◌, ◌<◌, ◌≤◌, Bool, true, false, IsSomeAnd, List, length, slice_index_or, Option, None}
+use Rattle.std.specs.Prelude.{◌≡◌, ◌≢◌, ◌⊎◌, ℕ, ◌+◌, ◌%◌, ◌<◌, ◌≤◌, Bool, true, false, IsSomeAnd, List, length, slice_index_or, None}
 use Rattle.std.specs.List.{All, AllPairs}
 use Rattle.elf_reader.specs.File.{PlainView}
 use Rattle.board_config.specs.Board.{IsLawful}
@@ -11,12 +11,13 @@ use Rattle.object_graph.specs.declared.parts.Graph.{Graph}
 use Rattle.cell_values.specs.Objects.{IsGrain, object_of, objects_of}
 use Rattle.value_words.specs.Stands.{Fit}
 use Rattle.placement_programme.specs.declared.variables.VarName.TheVariants.{StaticData}
-use Rattle.placement_programme.specs.Plain.{PlainProgramme, PlainChoice}
+use Rattle.placement_programme.specs.Plain.{PlainVar, PlainSide, PlainProgramme, PlainChoice}
 use Rattle.placement_programme.specs.Programme.{side_for, IsFeasible}
 use Rattle.relocator.specs.declared.slots.Slot.{Slot}
 use Rattle.relocator.specs.Slots.{region_of, is_code}
 use Rattle.relocator.specs.Placing.{puts, chosen_slots, place_of}
-use Rattle.relocator.specs.Space.{IsSpaceOf}
+use Rattle.placement_programme.specs.Rows.{Layout, Candidate, name_of, capacities, weights, IsOfSide}
+use Rattle.relocator.specs.Space.{IsOfGraph, IsLayoutOf, IsSpaceOf}
 
 -- a feasible choice of a programme that is made for a graph, a board and a number of regions
 pub record CanLayOut (g : Graph) (regions : ℕ) (board : Board) (p : PlainProgramme) (c : PlainChoice) : Type 0 where
@@ -110,3 +111,21 @@ ObjectsOffCodeSlots =
     (v : PlainView) (g : Graph) (regions : ℕ) (board : Board) (p : PlainProgramme) (c : PlainChoice) (region : ℕ)
     → IsLaidOut v board g → CanLayOut g regions board p c
     → All (λ s. is_code s.name ≡ true → IsPresent region s → AreObjectsOff g (place_of g board p c region) s.at s.span) (chosen_slots board p c)
+
+-- ---- whole layouts
+
+-- a variable is that of a candidate of the side, with all its weights
+pub record IsWholeVariable (g : Graph) (on : Bool) (l : Layout) (candidate : Candidate) (v : PlainVar) : Type 0 where
+  pub name : v.name ≡ name_of candidate
+  pub side : IsOfSide on candidate
+  pub item : IsOfGraph g l candidate
+  pub weights : v.weights ≡ weights on l candidate
+
+-- a side whose rows are those of a layout, and whose variables are those of candidates, is made for the graph
+abbrev pub WholeSideHasSpace : Type 0
+WholeSideHasSpace =
+    (g : Graph) (regions : ℕ) (board : Board) (on : Bool) (l : Layout) (side : PlainSide) → IsLayoutOf g regions board l
+    → side.rows ≡ capacities on l
+    → All (λ v. (candidate : Candidate) × IsWholeVariable g on l candidate v) side.vars
+    → AllPairs (λ v w. v.name ≢ w.name) side.vars
+    → IsSpaceOf g regions board on side

@@ -1,12 +1,12 @@
 -- What is asked of a programme whose choices are laid out: it is made for this graph, board and number of regions.
-use Rattle.std.specs.Prelude.{◌≡◌, ◌≢◌, ◌⊎◌, ℕ, ◌+◌, ◌<◌, ◌≤◌, Bool, true, false, length, slice_index_or}
+use Rattle.std.specs.Prelude.{◌≡◌, ◌≢◌, ℕ, ◌<◌, ◌≤◌, Bool, true, false, length, slice_index_or}
 use Rattle.std.specs.List.{All, AllPairs}
 use Rattle.board_config.specs.declared.board.Board.{Board}
 use Rattle.object_graph.specs.declared.parts.Graph.{Graph}
 use Rattle.cell_values.specs.Objects.{object_of}
 use Rattle.placement_programme.specs.Plain.{PlainVar, PlainSide}
 use Rattle.placement_programme.specs.Programme.{weight_in}
-use Rattle.placement_programme.specs.Rows.{Layout, Datum, Part, Candidate, static_data, static_code, overlay_data, overlay_code, name_of, space_row, off_space_row, object_row, weights, IsOfSide, IsRegionOf}
+use Rattle.placement_programme.specs.Rows.{Layout, Datum, Candidate, static_data, static_code, overlay_data, overlay_code, name_of, space_row, off_space_row, object_row, weights, IsOfSide, IsRegionOf}
 
 -- ---- the rows of places
 

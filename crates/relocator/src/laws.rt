@@ -1,5 +1,5 @@
 // Laws of the definitions: functions that do nothing, whose contracts are what is proved.
-ghost use Rattle.relocator.specs.Laws.{SlotsInside, SlotsApart, ObjectsStand, PlacesFit, HomesOffScratchpad, ObjectsOffCodeSlots};
+ghost use Rattle.relocator.specs.Laws.{SlotsInside, SlotsApart, ObjectsStand, PlacesFit, HomesOffScratchpad, ObjectsOffCodeSlots, WholeSideHasSpace};
 ghost use Rattle.relocator.specs.Examples.{TableHasSpace};
 
 /// The slots of a feasible choice lie in the scratchpad.
@@ -31,6 +31,11 @@ pub fn homes_off_scratchpad()
 /// No object shares a byte with the slot of code that is in the scratchpad at the same time.
 pub fn objects_off_code_slots()
     ensures { ObjectsOffCodeSlots }
+{}
+
+/// A side with the rows of a layout, whose variables weigh what candidates do, is one that can be laid out.
+pub fn whole_side_has_space()
+    ensures { WholeSideHasSpace }
 {}
 
 /// There are programmes that can be laid out: that of the first object of a graph is one.

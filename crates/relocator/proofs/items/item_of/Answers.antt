@@ -1,4 +1,4 @@
-use Rattle.std.proofs.Common.{◌≡◌, ◌∙◌, ℕ, List, refl, sym, ap}
+use Rattle.std.proofs.Common.{◌∙◌, ℕ, List, refl, sym, ap}
 use Rattle.placement_programme.specs.Programme.{weight_in}
 use Rattle.placement_programme.proofs.WeightLemmas.{at_place, var_weights}
 use Rattle.relocator.proofs.ItemLemmas.{item_is}

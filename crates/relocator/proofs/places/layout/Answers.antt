@@ -1,4 +1,4 @@
-use Rattle.std.proofs.Common.{◌≡◌, ◌∙◌, ℕ, List, sym, ap, subst}
+use Rattle.std.proofs.Common.{◌∙◌, List, sym, ap, subst}
 use Rattle.cell_values.specs.Objects.{IsGrain}
 use Rattle.placement_programme.specs.Views.{plain_programme, plain_choice}
 use Rattle.relocator.specs.declared.items.Item.{Item}

@@ -1,4 +1,4 @@
-use Rattle.std.proofs.Common.{◌≡◌, ◌∙◌, ◌+◌, ℕ, replicate, ap}
+use Rattle.std.proofs.Common.{◌∙◌, ◌+◌, ℕ, replicate, ap}
 use Rattle.relocator.proofs.LayLemmas.{first_agree}
 use Rattle.relocator.proofs.slots.first_slots.Goals as goal
 

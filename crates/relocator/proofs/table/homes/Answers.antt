@@ -1,5 +1,5 @@
-use Rattle.std.proofs.Common.{◌≡◌, ◌∙◌, ℕ, take, map, length, sym, ap, subst, arith}
-use Rattle.relocator.proofs.TableLemmas.{home_row, homes_are, all_homes}
+use Rattle.std.proofs.Common.{◌∙◌, arith}
+use Rattle.relocator.proofs.TableLemmas.{homes_are, all_homes}
 use Rattle.relocator.specs.Placing.{rows_of}
 use Rattle.relocator.proofs.table.homes.Goals as goal
 

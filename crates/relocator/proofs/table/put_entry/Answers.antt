@@ -1,5 +1,3 @@
-use Rattle.std.proofs.Common.{◌≡◌, ◌∙◌, List, get_or, [], ℕ, sym, ap}
-use Rattle.std.proofs.Math.ListN.{set}
 use Rattle.relocator.proofs.TableLemmas.{set_in_row}
 use Rattle.relocator.proofs.table.put_entry.Goals as goal
 

@@ -1,4 +1,4 @@
-use Rattle.std.proofs.Common.{◌≡◌, ◌∙◌, ℕ, Bool, List, ◌++◌, sym, ap, subst, arith}
+use Rattle.std.proofs.Common.{◌∙◌, ℕ, List, ◌++◌, sym, ap, subst, arith}
 use Rattle.std.specs.List.{list_any}
 use Rattle.elf_reader.specs.File.{plain_view}
 use Rattle.object_graph.specs.Gathered.{AreSeparate}

@@ -1,6 +1,5 @@
-use Rattle.std.proofs.Common.{◌≡◌, ◌≤◌, ℕ, length, sym, subst, arith}
+use Rattle.std.proofs.Common.{ℕ, length, sym, subst, arith}
 use Rattle.elf_reader.specs.File.{plain_view}
-use Rattle.loaded_code.specs.Code.{image_word}
 use Rattle.relocator.specs.Gathering.{CanRewrite}
 use Rattle.relocator.proofs.WordLemmas.{listed_here, code_of, can_of}
 use Rattle.relocator.proofs.words.word_of_site.Goals as goal
