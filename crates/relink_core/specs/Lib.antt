@@ -1,3 +1,6 @@
 pub mod Faults
 pub mod Keeps
 pub mod Regions
+pub mod Realises
+pub mod Choices
+pub mod Making

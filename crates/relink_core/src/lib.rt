@@ -1,13 +1,19 @@
-//! What a program and a board say of what may move: the view of the file, its graph, its code, and its regions.
+//! The analyses of a program, and its result for a choice of what stands in the scratchpad.
 #![tactic(auto)]
 
 mod analysis;
 mod fault;
 mod laws;
+mod patching;
+mod realising;
+mod starting;
+mod symbol_moves;
+mod taking;
 
 pub use analysis::{Analysis, analyse};
 pub use fault::AnalyseFault;
 pub use laws::unmoved_file_keeps;
+pub use realising::realise;
 
 #[cfg(test)]
 mod tests;

@@ -1,0 +1,88 @@
+-- What is asked of an analysis, a programme and a choice that are realised.
+use Rattle.std.specs.Prelude.{◌≡◌, ℕ, ◌<◌, false, List, [], ◌∷◌, map, length, None}
+use Rattle.std.specs.List.{All, AllPairs}
+use Rattle.elf_reader.specs.File.{IsFile, view_in}
+use Rattle.elf_reader.specs.Loadable.{AreBytes}
+use Rattle.board_config.specs.Board.{IsLawful}
+use Rattle.board_config.specs.declared.board.Board.{Board}
+use Rattle.object_graph.specs.Graphs.{IsGraph}
+use Rattle.object_graph.specs.declared.parts.Graph.{Graph}
+use Rattle.placement_programme.specs.declared.variables.VarName.{VarName}
+use Rattle.placement_programme.specs.declared.variables.VarName.TheVariants.{StaticData, StaticCode, OverlayData, OverlayCode}
+use Rattle.placement_programme.specs.Plain.{PlainVar, PlainSide, PlainProgramme, PlainChoice}
+use Rattle.placement_programme.specs.Programme.{IsFeasible}
+use Rattle.placement_programme.specs.Rows.{Layout, static_data, off_capacities, off_weights}
+use Rattle.relocator.specs.Slots.{name_at}
+use Rattle.relocator.specs.Space.{datum_of}
+use Rattle.moved_data.specs.Laws.{KeepsRuns}
+use Rattle.relink_core.specs.declared.analysis.Analysis.{Analysis}
+use Rattle.relink_core.specs.Faults.{analyse_fault}
+use Rattle.relink_core.specs.Keeps.{KeepsPaired}
+
+-- ---- the analysis
+
+-- the analysis is of the file for the board, and no check failed
+pub record IsAnalysisOf (file : List ℕ) (board : Board) (a : Analysis) : Type 0 where
+  pub file : IsFile file a.view
+  pub passes : analyse_fault file board ≡ None
+  pub lawful : IsLawful board
+  pub graph : IsGraph (view_in file) board a.graph
+
+-- ---- the programme
+
+-- what the rows and weights of a programme of static data depend on
+abbrev pub data_layout : Board → Graph → ℕ → Layout
+data_layout board g blocks =
+    record {
+      scratchpad = board.spm.size;
+      patch = board.patch.size;
+      fence_i = board.fence_i;
+      blocks = blocks;
+      objects = length g.objects.items;
+      regions = 0;
+      displaced = [];
+      grain = board.grain;
+    }
+
+-- a variable is that of an object of the graph, and has its weights
+pub record IsDataVar (board : Board) (g : Graph) (blocks : ℕ) (v : PlainVar) : Type 0 where
+  pub object : ℕ
+  pub below : object < length g.objects.items
+  pub name : v.name ≡ StaticData object
+  pub weights : v.weights ≡ off_weights (data_layout board g blocks) (static_data (datum_of g object))
+
+-- one object's variable stands before that of the other
+abbrev pub StandsBefore : VarName → VarName → Type 0
+StandsBefore (StaticData one) (StaticData other) = one < other
+StandsBefore one other = ⊥
+
+abbrev pub AreInOrder : PlainVar → PlainVar → Type 0
+AreInOrder v w = StandsBefore v.name w.name
+
+-- a side has the rows for a graph and a board, and its variables are those of different objects, in their order. Gains
+-- and the fixed cost may be any
+pub record IsDataSide (board : Board) (g : Graph) (blocks : ℕ) (side : PlainSide) : Type 0 where
+  pub rows : side.rows ≡ off_capacities (data_layout board g blocks)
+  pub vars : All (IsDataVar board g blocks) side.vars
+  pub ordered : AllPairs AreInOrder side.vars
+
+-- ---- the choice
+
+-- a feasible choice of static data
+pub record IsDataChoice (board : Board) (g : Graph) (p : PlainProgramme) (c : PlainChoice) : Type 0 where
+  pub blocks : ℕ
+  pub side : IsDataSide board g blocks p.off
+  pub off : c.on ≡ false
+  pub feasible : IsFeasible p c
+
+-- the names of the variables that are taken, in order
+abbrev pub taken_names : PlainProgramme → PlainChoice → List VarName
+taken_names p c = map (name_at p.off.vars) c.take
+
+-- ---- the meaning
+
+-- a result keeps the meaning of its file. Where nothing is taken the words of code that add to their own address stay,
+-- and only paired runs are spoken of
+abbrev pub KeepsMeaning : List VarName → List ℕ → List ℕ → Board → Type 0
+KeepsMeaning [] file out board = KeepsPaired file out board
+KeepsMeaning (name ∷ names) file out board = KeepsRuns file out board
