@@ -1,5 +1,5 @@
 -- The parts of a result, as they are made of what is read.
-use Rattle.std.specs.Prelude.{◌≡◌, ℕ, zero, suc, ◌-◌, ◌<◌, ◌≤◌, ◌==◌, ◌&&◌, if◌then◌else◌, List, [], ◌∷◌, ◌++◌, map, length, Option, Some, None, All}
+use Rattle.std.specs.Prelude.{◌≡◌, ℕ, zero, suc, ◌+◌, ◌*◌, ◌-◌, ◌<◌, ◌≤◌, ◌==◌, ◌&&◌, if◌then◌else◌, List, [], ◌∷◌, ◌++◌, map, length, replicate, Option, Some, None, All}
 use Rattle.word_bits.specs.Words.{plus}
 use Rattle.elf_reader.specs.File.{PlainSegment, PlainSymbol, PlainView}
 use Rattle.elf_reader.specs.Image.{has_byte}
@@ -20,9 +20,11 @@ use Rattle.placement_programme.specs.Plain.{PlainVar}
 use Rattle.relocator.specs.declared.places.Places.{Places}
 use Rattle.relocator.specs.Placing.{place_at}
 use Rattle.relocator.specs.Slots.{name_at}
-use Rattle.relocator.specs.SiteWords.{row_length}
-use Rattle.moved_data.specs.Placing.{Placing}
+use Rattle.relocator.specs.SiteWords.{row_length, AreSiteWords}
+use Rattle.moved_data.specs.Placing.{IsPlacing}
 use Rattle.moved_data.specs.Moved.{start_job}
+use Rattle.relink_core.specs.Faults.{least_patch}
+use Rattle.relink_core.specs.Realises.{data_placing}
 
 -- ---- what is taken
 
@@ -50,6 +52,16 @@ pub record HasStarts (g : Graph) (places : Places) : Type 0 where
   pub objects : length g.objects.items ≤ length places.of.items
   pub rows : (o : ℕ) → o < length g.objects.items → 0 < row_length places o
 
+-- and it is that of objects that are taken
+pub record ArePlacesOf (board : Board) (g : Graph) (taken : List ℕ) (places : Places) : Type 0 where
+  pub starts : HasStarts g places
+  pub exact : (o : ℕ) → o < length g.objects.items → start_place places o ≡ (data_placing board g taken).place o
+
+-- objects may be moved: they may stand there, and the patch range has room for their jobs
+pub record CanMove (board : Board) (g : Graph) (taken : List ℕ) : Type 0 where
+  pub placing : IsPlacing board g (data_placing board g taken)
+  pub room : least_patch board.fence_i + 44 * length taken ≤ board.patch.size
+
 abbrev pub AreOfGraph : Graph → List ℕ → Type 0
 AreOfGraph g os = All (λ o. o < length g.objects.items) os
 
@@ -63,6 +75,12 @@ place_in (s ∷ ss) a = if has_byte s a then plus s.offset (a - s.vaddr) else pl
 
 abbrev pub patch_of : PlainView → ℕ × ℕ → Patch
 patch_of v e = record { offset = place_in v.segments e.0; word = e.1 }
+
+-- the patches put the new words of sites and of words of data
+pub record ArePatchesFor (v : PlainView) (g : Graph) (places : Places) (patches : List Patch) : Type 0 where
+  pub words : List (ℕ × ℕ)
+  pub new : AreSiteWords v g places (replicate (length g.sites.items) 0) words
+  pub put : patches ≡ map (patch_of v) words
 
 -- ---- the start stub
 

@@ -25,13 +25,7 @@ fn is_range(graph: &Graph, object: u32, home: u32, size: u32) -> bool
 }
 
 /// The place of the first of some objects that has `size` bytes at `home`.
-fn range_value(
-    graph: &Graph,
-    places: &Places,
-    home: u32,
-    size: u32,
-    objects: &[u32],
-) -> Option<u32>
+fn range_value(graph: &Graph, places: &Places, home: u32, size: u32, objects: &[u32]) -> Option<u32>
     requires listed { AreOfGraph graph.now objects.now }
     requires starts { HasStarts graph.now places.now }
     ensures { result ≡ range_value graph.now places.now home size objects.now }
@@ -65,11 +59,7 @@ fn symbol_value(
 }
 
 /// Appends the move of symbol `k`, if it has a new value.
-fn push_move(
-    moves: &mut Vec<SymbolMove>,
-    symbol: u32,
-    value: Option<u32>,
-) -> Result<(), AllocError>
+fn push_move(moves: &mut Vec<SymbolMove>, symbol: u32, value: Option<u32>) -> Result<(), AllocError>
     ensures { OnOk result (moves.new.items ≡ moves.old.items ++ move_to symbol value) }
 {
     if let Some(value) = value {

@@ -1,0 +1,253 @@
+-- The start stub of a result can stand at the beginning of the patch range.
+use Rattle.std.proofs.Common.{◌≡◌, ◌≢◌, ◌∙◌, ◌⊎◌, inl, inr, ℕ, zero, suc, ◌+◌, ◌*◌, ◌-◌, ◌%◌, ◌<◌, ◌≤◌, ◌==◌, min, max, nat_lt, nat_le, Bool, true, false, not, ◌&&◌, if◌then◌else◌, List, [], ◌∷◌, ◌++◌, map, length, get_or, Option, Some, None, ℤ, pos, negsuc, refl, sym, ap, subst, arith}
+use Rattle.std.specs.List.{All, AllPairs}
+use Rattle.std.specs.Int.{cast_unsigned, cast_signed, w32}
+use Rattle.std.proofs.lemmas.Bool.{cases_eq, cases_lt, leb-true}
+use Rattle.std.proofs.lemmas.Bool.Decides.{nat_tests}
+use Rattle.std.proofs.lemmas.Int.{of_z-to_z}
+use Rattle.std.proofs.lemmas.List.{length-map, length-append, get_or-map}
+use Rattle.std.proofs.Math.Nat.{min-le_left, min-le_right, le-max_left, le-max_right}
+use Rattle.word_bits.specs.Words.{minus}
+use Rattle.fault_order.specs.First.{unless, first_below}
+use Rattle.fault_order.proofs.FirstLemmas.{both_none, holds}
+use Rattle.index_tests.specs.Tests.{meets}
+use Rattle.index_tests.proofs.TestLemmas.{both, not_true}
+use Rattle.rv_decode.specs.Table.{IsWithin, IsEvenWithin}
+use Rattle.rv_decode.specs.declared.instructions.Instr.{Instr}
+use Rattle.rv_decode.specs.declared.instructions.Instr.TheVariants.{Jal}
+use Rattle.elf_reader.specs.File.{PlainView, view_in}
+use Rattle.elf_reader.specs.Loaded.{section_at}
+use Rattle.elf_reader.proofs.SegmentLemmas.{none_of_headers, load_segments_loadable}
+use Rattle.board_config.specs.Board.{IsLawful}
+use Rattle.board_config.specs.declared.board.Board.{Board}
+use Rattle.loaded_code.specs.Code.{is_code_word, is_code_range}
+use Rattle.code_leaders.specs.Words.{any_code_word}
+use Rattle.code_blocks.specs.Blocks.{is_any, code_fault}
+use Rattle.code_blocks.specs.declared.fault.CodeFault.TheVariants.{NoText, EntryNotLeader}
+use Rattle.object_graph.specs.LayoutFaults.{has_code, least_below, greatest_below, span_of, patch_far_fault, spm_meets_patch_fault, places_fault, layout_fault, spm_overlap_fault, patch_overlap_fault}
+use Rattle.object_graph.specs.declared.fault.GraphFault.TheVariants.{PatchFar, SpmMeetsPatch}
+use Rattle.object_graph.specs.declared.parts.Graph.{Graph}
+use Rattle.object_graph.proofs.LookupLemmas.{laid_out}
+use Rattle.cell_values.specs.Objects.{absent_object, object_of, objects_of}
+use Rattle.overlay_stubs.specs.declared.plan.CopyJob.{CopyJob}
+use Rattle.overlay_stubs.specs.Jobs.{AreApart, IsJob}
+use Rattle.overlay_stubs.specs.Start.{StartPlan, before_jump, start_at, jump_at, start_stub, start_bytes, distance, fences, Spares, CanStart}
+use Rattle.overlay_stubs.proofs.WordLemmas.{bytes_are}
+use Rattle.file_at_home.specs.Laws.{IsAccepted}
+use Rattle.file_at_home.proofs.Objects.{object_extends}
+use Rattle.file_at_home.proofs.Words.{InRange, code_range, code_even, code_below}
+use Rattle.relocator.specs.Laws.{AreObjectsOff}
+use Rattle.moved_data.specs.Placing.{Placing, LiesIn, IsPlacing}
+use Rattle.moved_data.specs.Moved.{start_job, start_plan}
+use Rattle.relink_core.specs.Faults.{least_patch}
+use Rattle.relink_core.specs.Realises.{data_placing}
+use Rattle.relink_core.specs.Making.{CanMove}
+
+-- ---- ranges
+
+-- what lies in a range that another one shares no address with is apart from that
+apart_of : (home size base span to : ℕ) → 0 < size → base ≤ to → to + size ≤ base + span → ((i j : ℕ) → i < size → j < span → home + i ≡ base + j → ⊥) → AreApart home size to size
+apart_of home size base span to some from end off =
+    elim (cases_lt base (home + size)) [
+      | inr before ↦ inl (omega (arith, before, from))
+      | inl reaches ↦ elim (cases_lt home (base + span)) [
+        | inr behind ↦ inr (omega (arith, behind, end))
+        | inl begins ↦ elim (cases_lt home base) [
+          | inl lower ↦ absurd (off (base - home) 0 (omega (arith, reaches, lower)) (omega (arith, from, end, some)) (omega (arith, lower)))
+          | inr higher ↦ absurd (off 0 (home - base) some (omega (arith, begins, higher)) (omega (arith, higher)))
+        ]
+      ]
+    ]
+
+ranges_apart : (b m c n : ℕ) → meets b m c n ≡ false → 0 < m → 0 < n → (b + m ≤ c) ⊎ (c + n ≤ b)
+ranges_apart b m c n off some some_other =
+    elim (cases_lt c (b + m)) [
+      | inr before ↦ inl before
+      | inl reaches ↦ elim (cases_lt b (c + n)) [
+        | inr behind ↦ inr behind
+        | inl begins ↦
+            let meeting : meets b m c n ≡ true = grind (arith, nat_tests, some, some_other, reaches, begins) in
+            absurd (cc (off, meeting))
+      ]
+    ]
+
+-- ---- how far the patch range is from the code
+
+at_most : (b : Bool) (x y : ℕ) → (if b then min x y else x) ≤ x
+at_most true x y = min-le_left x y
+at_most false x y = omega arith
+
+at_most_there : (b : Bool) (x y : ℕ) → b ≡ true → (if b then min x y else x) ≤ y
+at_most_there true x y is = min-le_right x y
+at_most_there false x y is = absurd (cc (is))
+
+at_least : (b : Bool) (x y : ℕ) → x ≤ (if b then max x y else x)
+at_least true x y = le-max_left x y
+at_least false x y = omega arith
+
+at_least_there : (b : Bool) (x y : ℕ) → b ≡ true → y ≤ (if b then max x y else x)
+at_least_there true x y is = le-max_right x y
+at_least_there false x y is = absurd (cc (is))
+
+least_patched : (v : PlainView) (board : Board) (n : ℕ) → least_below v board n ≤ board.patch.base
+least_patched v board zero = omega arith
+least_patched v board (suc n) =
+    let earlier = least_patched v board n in
+    let here = at_most (has_code v n) (least_below v board n) (section_at v n).addr in
+    omega (arith, earlier, here)
+
+greatest_patched : (v : PlainView) (board : Board) (n : ℕ) → board.patch.base + board.patch.size ≤ greatest_below v board n
+greatest_patched v board zero = omega arith
+greatest_patched v board (suc n) =
+    let earlier = greatest_patched v board n in
+    let here = at_least (has_code v n) (greatest_below v board n) ((section_at v n).addr + (section_at v n).size) in
+    omega (arith, earlier, here)
+
+least_coded : (v : PlainView) (board : Board) (n k : ℕ) → k < n → has_code v k ≡ true → least_below v board n ≤ (section_at v k).addr
+least_coded v board zero k below has = absurd (omega (arith, below))
+least_coded v board (suc n) k below has =
+    elim (cases_eq n k) [
+      | inl same ↦
+          let held : has_code v n ≡ true = subst (λ (j : ℕ). has_code v j ≡ true) (sym same) has in
+          let here = at_most_there (has_code v n) (least_below v board n) (section_at v n).addr held in
+          subst (λ (j : ℕ). least_below v board (suc n) ≤ (section_at v j).addr) same here
+      | inr other ↦
+          let earlier = least_coded v board n k (omega (arith, below, other)) has in
+          let here = at_most (has_code v n) (least_below v board n) (section_at v n).addr in
+          omega (arith, earlier, here)
+    ]
+
+greatest_coded : (v : PlainView) (board : Board) (n k : ℕ) → k < n → has_code v k ≡ true → (section_at v k).addr + (section_at v k).size ≤ greatest_below v board n
+greatest_coded v board zero k below has = absurd (omega (arith, below))
+greatest_coded v board (suc n) k below has =
+    elim (cases_eq n k) [
+      | inl same ↦
+          let held : has_code v n ≡ true = subst (λ (j : ℕ). has_code v j ≡ true) (sym same) has in
+          let here = at_least_there (has_code v n) (greatest_below v board n) ((section_at v n).addr + (section_at v n).size) held in
+          subst (λ (j : ℕ). (section_at v j).addr + (section_at v j).size ≤ greatest_below v board (suc n)) same here
+      | inr other ↦
+          let earlier = greatest_coded v board n k (omega (arith, below, other)) has in
+          let here = at_least (has_code v n) (greatest_below v board n) ((section_at v n).addr + (section_at v n).size) in
+          omega (arith, earlier, here)
+    ]
+
+-- ---- a jump
+
+forward : (at to : ℕ) → at ≤ to → to < 4294967296 → minus to at ≡ to - at
+forward at to order small = omega (arith, order, small)
+
+backward : (at to : ℕ) → to < at → at < 4294967296 → minus to at ≡ 4294967296 - (at - to)
+backward at to order small = omega (arith, order, small)
+
+signed_small : (n : ℕ) → n < 1048576 → cast_signed w32 n ≡ pos n
+signed_small n small = grind (arith, nat_tests, small)
+
+signed_large : (n : ℕ) → 4293918720 ≤ n → n < 4294967296 → cast_signed w32 n ≡ negsuc (4294967295 - n)
+signed_large n large small = grind (arith, nat_tests, large, small)
+
+within_small : (n : ℕ) → n < 1048576 → IsWithin 1048576 (cast_signed w32 n)
+within_small n small = subst (λ (z : ℤ). IsWithin 1048576 z) (sym (signed_small n small)) small
+
+within_large : (n : ℕ) → 4293918720 ≤ n → n < 4294967296 → IsWithin 1048576 (cast_signed w32 n)
+within_large n large small =
+    let short : 4294967295 - n < 1048576 = omega (arith, large, small) in
+    subst (λ (z : ℤ). IsWithin 1048576 z) (sym (signed_large n large small)) short
+
+in_reach : (at to : ℕ) → at < 4294967296 → to < 4294967296 → to < at + 1048576 → at ≤ to + 1048576 → at % 2 ≡ 0 → to % 2 ≡ 0 → IsEvenWithin 1048576 (distance at to)
+in_reach at to small small_to above below even even_to =
+    let n : ℕ = minus to at in
+    let fits : n < 4294967296 = omega arith in
+    let back : cast_unsigned w32 (cast_signed w32 n) ≡ n = of_z-to_z w32 n fits in
+    let even_n : n % 2 ≡ 0 = omega (arith, even, even_to) in
+    elim (cases_lt to at) [
+      | inl order ↦
+          let value = backward at to order small in
+          (within_large n (omega (arith, value, below, order)) fits, omega (arith, back, even_n))
+      | inr order ↦
+          let value = forward at to order small_to in
+          (within_small n (omega (arith, value, above, order)), omega (arith, back, even_n))
+    ]
+
+-- ---- the stub
+
+-- what is known of the patch range and of the code
+pub record IsNear (v : PlainView) (board : Board) : Type 0 where
+  pub base : board.patch.base % 64 ≡ 0
+  pub some : 0 < board.patch.size
+  pub ends : board.patch.base + board.patch.size < 4294967296
+  pub entry : v.entry % 4 ≡ 0
+  pub above : v.entry < board.patch.base + 1048576
+  pub below : board.patch.base + board.patch.size ≤ v.entry + 1048576
+  pub small : v.entry < 4294967296
+
+entry_is_code : (v : PlainView) → code_fault v ≡ None → is_code_word v v.entry ≡ true
+entry_is_code v none =
+    let rest = (both_none (unless (any_code_word v is_any) NoText) _ none).1 in
+    holds (is_code_word v v.entry) EntryNotLeader (both_none (unless (is_code_word v v.entry) EntryNotLeader) _ rest).0
+
+-- the checks of where the ranges lie, one by one
+pub record IsLaid (v : PlainView) (board : Board) : Type 0 where
+  pub patch : first_below (patch_overlap_fault v board) (length v.segments) ≡ None
+  pub near : span_of v board ≤ 1048576
+  pub spm : meets board.spm.base board.spm.size board.patch.base board.patch.size ≡ false
+
+pub is_laid : (v : PlainView) (board : Board) → layout_fault v board ≡ None → IsLaid v board
+is_laid v board none =
+    let places = (both_none (places_fault v board) _ none).0 in
+    let first = both_none (first_below (spm_overlap_fault v board) (length v.segments)) _ places in
+    let second = both_none (first_below (patch_overlap_fault v board) (length v.segments)) _ first.1 in
+    let third = both_none (patch_far_fault v board) _ second.1 in
+    let fourth = both_none (spm_meets_patch_fault board) _ third.1 in
+    record {
+      patch = second.0;
+      near = leb-true _ _ (holds (nat_le (span_of v board) 1048576) _ third.0);
+      spm = not_true (meets board.spm.base board.spm.size board.patch.base board.patch.size) (holds _ SpmMeetsPatch fourth.0);
+    }
+
+pub is_near : (file : List ℕ) (board : Board) (g : Graph) → IsAccepted file board g → IsNear (view_in file) board
+is_near file board g accepted =
+    let v = view_in file in
+    let laid = is_laid v board accepted.layout in
+    let code = entry_is_code v accepted.code in
+    let range = code_range v v.entry code in
+    let k = range.0 in
+    let in_it = range.1 in
+    let from = in_it.from in
+    let to = in_it.to in
+    let sized : has_code v k ≡ true = grind (arith, nat_tests, in_it.range, from, to) in
+    let least = least_coded v board (length v.sections) k in_it.below sized in
+    let greatest = greatest_coded v board (length v.sections) k in_it.below sized in
+    let first = least_patched v board (length v.sections) in
+    let last = greatest_patched v board (length v.sections) in
+    let near = laid.near in
+    let patch = accepted.lawful.ranges 2 board.patch (omega arith) in
+    let size = patch.some in
+    let ends = patch.within in
+    let loadable = load_segments_loadable file accepted.bytes (none_of_headers file accepted.none) in
+    let small = code_below v v.entry loadable code in
+    record {
+      base = accepted.lawful.patch.base;
+      some = size;
+      ends = omega (arith, ends);
+      entry = code_even v v.entry code;
+      above = omega (arith, from, to, least, greatest, first, last, near, size);
+      below = omega (arith, from, to, least, greatest, first, last, near, size);
+      small = omega (arith, small);
+    }
+
+-- the stub's size, and where its jump stands
+fence_least : (fence : Bool) → 84 + 4 * length (fences fence) ≡ least_patch fence
+fence_least true = refl
+fence_least false = refl
+
+pub stub_ends : (board : Board) (p : StartPlan) → p.fence_i ≡ board.fence_i → 64 + start_bytes p ≡ least_patch board.fence_i + 44 * length p.jobs
+stub_ends board p fence =
+    let bytes = bytes_are p in
+    let least = fence_least p.fence_i in
+    let same = ap least_patch fence in
+    omega (arith, bytes, least, same)
+
+jump_place : (p : StartPlan) → jump_at p + 4 ≡ start_at p + start_bytes p
+jump_place p =
+    let count = length-append (before_jump p) (Jal 0 (distance (jump_at p) p.entry) ∷ []) in
+    omega (arith, count)
