@@ -3,3 +3,9 @@ pub mod RegionLemmas
 pub mod DataChoices
 pub mod DataPlaces
 pub mod StubLemmas
+pub mod PatchPlaces
+pub mod MoveLemmas
+pub mod WritableLemmas
+pub mod MovedLemmas
+pub mod LoadableLemmas
+pub mod ResultLemmas

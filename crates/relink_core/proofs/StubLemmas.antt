@@ -6,6 +6,7 @@ use Rattle.std.proofs.lemmas.Bool.{cases_eq, cases_lt, leb-true}
 use Rattle.std.proofs.lemmas.Bool.Decides.{nat_tests}
 use Rattle.std.proofs.lemmas.Int.{of_z-to_z}
 use Rattle.std.proofs.lemmas.List.{length-map, length-append, get_or-map}
+use Rattle.std.proofs.lemmas.List.Elements.{All-map}
 use Rattle.std.proofs.Math.Nat.{min-le_left, min-le_right, le-max_left, le-max_right}
 use Rattle.word_bits.specs.Words.{minus}
 use Rattle.fault_order.specs.First.{unless, first_below}
@@ -36,12 +37,13 @@ use Rattle.overlay_stubs.proofs.WordLemmas.{bytes_are}
 use Rattle.file_at_home.specs.Laws.{IsAccepted}
 use Rattle.file_at_home.proofs.Objects.{object_extends}
 use Rattle.file_at_home.proofs.Words.{InRange, code_range, code_even, code_below}
+use Rattle.relocator.specs.declared.places.Places.{Places}
 use Rattle.relocator.specs.Laws.{AreObjectsOff}
 use Rattle.moved_data.specs.Placing.{Placing, LiesIn, IsPlacing}
 use Rattle.moved_data.specs.Moved.{start_job, start_plan}
 use Rattle.relink_core.specs.Faults.{least_patch}
 use Rattle.relink_core.specs.Realises.{data_placing}
-use Rattle.relink_core.specs.Making.{CanMove}
+use Rattle.relink_core.specs.Making.{start_place, AreOfGraph, ArePlacesOf, CanMove, start_plan_of}
 
 -- ---- ranges
 
@@ -59,7 +61,7 @@ apart_of home size base span to some from end off =
       ]
     ]
 
-ranges_apart : (b m c n : ℕ) → meets b m c n ≡ false → 0 < m → 0 < n → (b + m ≤ c) ⊎ (c + n ≤ b)
+pub ranges_apart : (b m c n : ℕ) → meets b m c n ≡ false → 0 < m → 0 < n → (b + m ≤ c) ⊎ (c + n ≤ b)
 ranges_apart b m c n off some some_other =
     elim (cases_lt c (b + m)) [
       | inr before ↦ inl before
@@ -180,7 +182,7 @@ pub record IsNear (v : PlainView) (board : Board) : Type 0 where
   pub below : board.patch.base + board.patch.size ≤ v.entry + 1048576
   pub small : v.entry < 4294967296
 
-entry_is_code : (v : PlainView) → code_fault v ≡ None → is_code_word v v.entry ≡ true
+pub entry_is_code : (v : PlainView) → code_fault v ≡ None → is_code_word v v.entry ≡ true
 entry_is_code v none =
     let rest = (both_none (unless (any_code_word v is_any) NoText) _ none).1 in
     holds (is_code_word v v.entry) EntryNotLeader (both_none (unless (is_code_word v v.entry) EntryNotLeader) _ rest).0
@@ -251,3 +253,76 @@ jump_place : (p : StartPlan) → jump_at p + 4 ≡ start_at p + start_bytes p
 jump_place p =
     let count = length-append (before_jump p) (Jal 0 (distance (jump_at p) p.entry) ∷ []) in
     omega (arith, count)
+
+-- ---- the jobs
+
+pub job_is : (file : List ℕ) (board : Board) (g : Graph) (taken : List ℕ) (o : ℕ) → IsAccepted file board g → AreObjectsOff g (λ k. (object_of g k).home) board.spm.base board.spm.size → IsPlacing board g (data_placing board g taken) → o < length g.objects.items → LiesIn board.spm (objects_of g) (data_placing board g taken).place o → IsJob (start_job (objects_of g) (data_placing board g taken).place o)
+job_is file board g taken o accepted off placing below lies =
+    let some : 0 < (object_of g o).size = (laid_out (view_in file) board g.objects.items accepted.graph.objects).filled o absent_object below in
+    record {
+      some = some;
+      source = (object_extends (view_in file) board g o accepted.graph.objects).ends;
+      target = placing.fit.below o;
+      apart = apart_of (object_of g o).home (object_of g o).size board.spm.base board.spm.size ((data_placing board g taken).place o) some lies.from lies.to (off o);
+    }
+
+spares : (board : Board) (g : Graph) (place : ℕ → ℕ) (p : StartPlan) (o : ℕ) → p.base ≡ board.patch.base → meets board.spm.base board.spm.size board.patch.base board.patch.size ≡ false → 0 < board.spm.size → 0 < board.patch.size → 64 + start_bytes p ≤ board.patch.size → LiesIn board.spm (objects_of g) place o → Spares p (start_job (objects_of g) place o)
+spares board g place p o base off some some_patch inside lies =
+    let from = lies.from in
+    let to = lies.to in
+    elim (ranges_apart board.spm.base board.spm.size board.patch.base board.patch.size off some some_patch) [
+      | inl before ↦ inl (omega (arith, before, to, base))
+      | inr behind ↦ inr (omega (arith, behind, from, base, inside))
+    ]
+
+-- the stub of the objects that are taken
+abbrev plan_for : List ℕ → Board → Graph → List ℕ → StartPlan
+plan_for file board g taken = start_plan (view_in file) board g (data_placing board g taken)
+
+pub stub_fits : (file : List ℕ) (board : Board) (g : Graph) (taken : List ℕ) → CanMove board g taken → 64 + start_bytes (plan_for file board g taken) ≤ board.patch.size
+stub_fits file board g taken can =
+    let ends = stub_ends board (plan_for file board g taken) refl in
+    let count = length-map taken (start_job (objects_of g) (data_placing board g taken).place) in
+    let room = can.room in
+    omega (arith, ends, count, room)
+
+pub can_start : (file : List ℕ) (board : Board) (g : Graph) (taken : List ℕ) → IsAccepted file board g → AreObjectsOff g (λ k. (object_of g k).home) board.spm.base board.spm.size → CanMove board g taken → CanStart (plan_for file board g taken)
+can_start file board g taken accepted off can =
+    let p = plan_for file board g taken in
+    let place = (data_placing board g taken).place in
+    let placing = can.placing in
+    let near = is_near file board g accepted in
+    let laid = is_laid (view_in file) board accepted.layout in
+    let fits = stub_fits file board g taken can in
+    let jump = jump_place p in
+    let ends = near.ends in
+    let base = near.base in
+    let entry = near.entry in
+    let above = near.above in
+    let below = near.below in
+    let spm_some = (accepted.lawful.ranges 1 board.patch (omega arith)).some in
+    record {
+      aligned = near.base;
+      entry = near.small;
+      jobs = All-map IsJob (start_job (objects_of g) place) taken
+          (λ k d inside. job_is file board g taken (get_or taken k d) accepted off placing (placing.listed k d inside) (placing.moved k d inside));
+      spared = All-map (Spares p) (start_job (objects_of g) place) taken
+          (λ k d inside. spares board g place p (get_or taken k d) refl laid.spm spm_some near.some fits (placing.moved k d inside));
+      ends = omega (arith, fits, ends);
+      reach = in_reach (jump_at p) p.entry (omega (arith, jump, fits, ends)) near.small (omega (arith, above)) (omega (arith, jump, fits, below))
+          (omega (arith, base)) (omega (arith, entry));
+    }
+
+-- ---- the plan that the code makes
+
+jobs_same : (g : Graph) (one other : ℕ → ℕ) (taken : List ℕ) → All (λ o. o < length g.objects.items) taken → ((o : ℕ) → o < length g.objects.items → one o ≡ other o) → map (start_job (objects_of g) one) taken ≡ map (start_job (objects_of g) other) taken
+jobs_same g one other [] listed same = refl
+jobs_same g one other (o ∷ os) listed same =
+    let here = same o (listed 0 o (omega arith)) in
+    let rest = jobs_same g one other os (λ k d below. listed (suc k) d (omega (arith, below))) same in
+    λ i. record { from = (object_of g o).home; to = here i; bytes = (object_of g o).size } ∷ rest i
+
+pub plan_same : (v : PlainView) (board : Board) (g : Graph) (places : Places) (taken : List ℕ) → AreOfGraph g taken → ArePlacesOf board g taken places → start_plan_of v board g places taken ≡ start_plan v board g (data_placing board g taken)
+plan_same v board g places taken listed are =
+    let jobs = jobs_same g (start_place places) (data_placing board g taken).place taken listed are.exact in
+    λ i. record { base = board.patch.base; entry = v.entry; fence_i = board.fence_i; jobs = jobs i }

@@ -97,6 +97,7 @@ start_plan_of v board g places os =
 pub record IsStartSegment (plan : StartPlan) (s : NewSegment) : Type 0 where
   pub words : List ℕ
   pub are : AreStartWords plan words
+  pub small : All (λ w. w < 4294967296) words
   pub base : s.base ≡ plan.base
   pub entry : s.entry ≡ start_at plan
   pub content : s.content ≡ words_bytes words
