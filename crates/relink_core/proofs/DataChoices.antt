@@ -121,10 +121,10 @@ patch_is g vars low (k ∷ ks) are asc =
 all_below : (g : Graph) (vars : List PlainVar) (take : List ℕ) → AreTaken g vars → AscendWithin 0 (length vars) take → AreOfGraph g (taken_objects vars take)
 all_below g vars take are asc =
     λ k d below.
-      let inside : k < length take = omega (arith, below, length-map take (taken_object vars)) in
-      let number = (within 0 (length vars) take asc k 0 inside).1 in
-      subst (λ (o : ℕ). o < length g.objects.items) (sym (get_or-map (taken_object vars) take k 0 d inside))
-      (are (get_or take k 0) number).below
+    let inside : k < length take = omega (arith, below, length-map take (taken_object vars)) in
+    let number = (within 0 (length vars) take asc k 0 inside).1 in
+    subst (λ (o : ℕ). o < length g.objects.items) (sym (get_or-map (taken_object vars) take k 0 d inside))
+    (are (get_or take k 0) number).below
 
 -- they are different
 objects_rise : (g : Graph) (vars : List PlainVar) (k l : ℕ) → AreTaken g vars → AllPairs (λ v w. StandsBefore v.name w.name) vars → k < l → l < length vars → taken_object vars k < taken_object vars l
@@ -139,12 +139,12 @@ objects_rise g vars k l are ordered before below =
 all_different : (g : Graph) (vars : List PlainVar) (take : List ℕ) → AreTaken g vars → AllPairs (λ v w. StandsBefore v.name w.name) vars → AscendWithin 0 (length vars) take → AllPairs AreTwo (taken_objects vars take)
 all_different g vars take are ordered asc =
     λ i j d before below same.
-      let inside : j < length take = omega (arith, below, length-map take (taken_object vars)) in
-      let number = (within 0 (length vars) take asc j 0 inside).1 in
-      let rises = objects_rise g vars (get_or take i 0) (get_or take j 0) are ordered (rising 0 (length vars) take asc i j 0 before inside) number in
-      let first = get_or-map (taken_object vars) take i 0 d (omega (arith, before, inside)) in
-      let last = get_or-map (taken_object vars) take j 0 d inside in
-      omega (arith, rises, first, last, same)
+    let inside : j < length take = omega (arith, below, length-map take (taken_object vars)) in
+    let number = (within 0 (length vars) take asc j 0 inside).1 in
+    let rises = objects_rise g vars (get_or take i 0) (get_or take j 0) are ordered (rising 0 (length vars) take asc i j 0 before inside) number in
+    let first = get_or-map (taken_object vars) take i 0 d (omega (arith, before, inside)) in
+    let last = get_or-map (taken_object vars) take j 0 d inside in
+    omega (arith, rises, first, last, same)
 
 -- ---- the choice
 
@@ -197,14 +197,16 @@ choice_takes board g p c grain is =
 variable_is : (board : Board) (g : Graph) (blocks : ℕ) (v : PlainVar) → IsDataVar board g blocks v → IsVariable g false (data_layout board g blocks) v
 variable_is board g blocks v is =
     let candidate : Candidate = static_data (datum_of g is.object) in
-    let same = is.weights in
-    (candidate, record {
-      name = is.name;
-      side = tt;
-      item = (is.below, refl);
-      space = λ row of. ap (λ ws. weight_in ws row) same;
-      objects = λ row of. absurd of;
-    })
+    let same = is.weights in (
+      candidate,
+      record {
+        name = is.name;
+        side = tt;
+        item = (is.below, refl);
+        space = λ row of. ap (λ ws. weight_in ws row) same;
+        objects = λ row of. absurd of;
+      },
+    )
 
 before_none : (n : VarName) → StandsBefore n n → ⊥
 before_none (StaticData o) before = omega (arith, before)

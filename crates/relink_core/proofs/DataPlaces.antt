@@ -12,7 +12,7 @@ use Rattle.object_graph.specs.declared.parts.Graph.{Graph}
 use Rattle.cell_values.specs.Objects.{IsGrain, object_of, objects_of}
 use Rattle.value_words.specs.Stands.{Fit}
 use Rattle.placement_programme.specs.Plain.{PlainProgramme, PlainChoice}
-use Rattle.placement_programme.specs.Rows.{data_span}
+use Rattle.placement_programme.specs.Rows.{rounded_up, data_span}
 use Rattle.relocator.specs.declared.items.Item.{Item}
 use Rattle.relocator.specs.declared.slots.Slot.{Slot}
 use Rattle.relocator.specs.declared.places.Places.{Places}
@@ -20,7 +20,7 @@ use Rattle.relocator.specs.Slots.{moved_on, first_slots, slots_from, slots_of}
 use Rattle.relocator.specs.Placing.{place_in, placed, chosen_slots, rows_of, ArePlaces}
 use Rattle.relocator.specs.Space.{datum_of}
 use Rattle.relocator.specs.Laws.{CanLayOut, IsLaidOut, PlacesFit}
-use Rattle.moved_data.specs.Placing.{rounded_up, span, spans, LiesIn, is_taken, IsPlacing}
+use Rattle.moved_data.specs.Placing.{span, spans, LiesIn, is_taken, IsPlacing}
 use Rattle.relink_core.specs.Faults.{least_patch}
 use Rattle.relink_core.specs.Realises.{data_item, data_slots, data_placing}
 use Rattle.relink_core.specs.Making.{start_place, HasStarts, ArePlacesOf, CanMove}
@@ -98,12 +98,12 @@ listed_at taken k d below =
 all_lie : (board : Board) (g : Graph) (taken : List ℕ) → IsGrain g.grain → spans (objects_of g) taken ≤ board.spm.size → All (LiesIn board.spm (objects_of g) (placed g (data_slots board g taken) 0)) taken
 all_lie board g taken grain room =
     λ k d below.
-      let o = get_or taken k d in
-      let begin = first_is board.spm.base (map (data_item g) taken) in
-      let stands = stands_between g (first_slots board.spm.base (map (data_item g) taken)) taken o grain (listed_at taken k d below) in
-      let from = stands.from in
-      let to = stands.to in
-      record { from = omega (arith, from, begin); to = omega (arith, to, begin, room) }
+    let o = get_or taken k d in
+    let begin = first_is board.spm.base (map (data_item g) taken) in
+    let stands = stands_between g (first_slots board.spm.base (map (data_item g) taken)) taken o grain (listed_at taken k d below) in
+    let from = stands.from in
+    let to = stands.to in
+    record { from = omega (arith, from, begin); to = omega (arith, to, begin, room) }
 
 pub placing_is : (law : PlacesFit) (v : PlainView) (board : Board) (g : Graph) (p : PlainProgramme) (c : PlainChoice) (taken : List ℕ) → IsGrain g.grain → IsLaidOut v board g → CanLayOut g 0 board p c → Takes board g p c taken → IsPlacing board g (data_placing board g taken)
 placing_is law v board g p c taken grain laid can takes =
@@ -132,10 +132,10 @@ places_are board g p c taken places slots are =
       starts = record {
         objects = omega (arith, count, objects);
         rows = λ o below.
-          let wide : length (get_or rows o []) ≡ 1 = are.table.widths o [] (omega (arith, below, objects)) in
-          omega (arith, wide);
+            let wide : length (get_or rows o []) ≡ 1 = are.table.widths o [] (omega (arith, below, objects)) in
+            omega (arith, wide);
       };
       exact = λ o below.
-        are.table.exact o 0 below (omega arith)
-        ∙ ap (λ (s : List Slot). placed g s 0 o) slots;
+          are.table.exact o 0 below (omega arith)
+          ∙ ap (λ (s : List Slot). placed g s 0 o) slots;
     }

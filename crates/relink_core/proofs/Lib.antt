@@ -9,3 +9,5 @@ pub mod WritableLemmas
 pub mod MovedLemmas
 pub mod LoadableLemmas
 pub mod ResultLemmas
+pub mod RealiseLemmas
+pub mod CollectLemmas

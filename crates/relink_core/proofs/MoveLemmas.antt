@@ -79,7 +79,7 @@ listed_moves v g places os m (suc n) =
     λ i. first i || last i in
     whole ∙ both_parts
     ∙ merged m.symbol n (has_value v g places os m) (is_value (symbol_value v g places os (symbol_at v n)) m.value)
-      (λ same. ap (λ (k : ℕ). is_value (symbol_value v g places os (symbol_at v k)) m.value) (sym same))
+    (λ same. ap (λ (k : ℕ). is_value (symbol_value v g places os (symbol_at v k)) m.value) (sym same))
 
 -- ---- each symbol once
 
@@ -223,6 +223,6 @@ moves_are v board g places taken is listed are =
     record {
       distinct = distinct_all v g places taken (length v.symbols);
       exact = λ m.
-        listed_moves v g places taken m (length v.symbols)
-        ∙ ap (λ (b : Bool). nat_lt m.symbol (length v.symbols) && b) (value_same v board g places taken m is listed are);
+          listed_moves v g places taken m (length v.symbols)
+          ∙ ap (λ (b : Bool). nat_lt m.symbol (length v.symbols) && b) (value_same v board g places taken m is listed are);
     }

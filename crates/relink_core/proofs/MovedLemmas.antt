@@ -10,9 +10,6 @@ use Rattle.word_bits.specs.Words.{plus, word_of, byte_of, BytesRebuild}
 use Rattle.word_bits.specs.Memory.{Memory, word_at}
 use Rattle.index_tests.specs.Tests.{any_below}
 use Rattle.index_tests.proofs.TestLemmas.{both}
-use Rattle.rv_decode.specs.declared.instructions.Instr.{Instr}
-use Rattle.rv_decode.specs.declared.instructions.Instr.TheVariants.{Lui, Auipc, Jal, Jalr, Branch, Load, Store, OpImm, OpReg, Fence, FenceI, Ecall, Ebreak}
-use Rattle.rv_decode.specs.declared.instructions.ImmKind.TheVariants.{Addi, Slti, Sltiu, Xori, Ori, Andi, Slli, Srli, Srai}
 use Rattle.elf_reader.specs.File.{PlainView, view_in}
 use Rattle.elf_reader.specs.Faults.{first_fault}
 use Rattle.elf_reader.specs.Image.{image_of}
@@ -44,7 +41,6 @@ use Rattle.relocator.specs.declared.places.Places.{Places}
 use Rattle.relocator.specs.Placing.{place_at}
 use Rattle.relocator.specs.SiteWords as new
 use Rattle.relocator.specs.SiteWords.{no_site, site_at, no_word, data_word_at, is_entry, has_entry, AreSiteWords, IsNewWord}
-use Rattle.moved_data.specs.SiteWords as moved
 use Rattle.moved_data.specs.Moved.{IsOffWord, IsElsewhere, IsMovedSite, IsMovedWord}
 use Rattle.relink_core.specs.Realises.{data_placing}
 use Rattle.relink_core.specs.Making.{start_place, patch_of, AreOfGraph, ArePlacesOf, ArePatchesFor}
@@ -95,68 +91,6 @@ byte_in_words (w ∷ ws) (suc k) i below inside =
     let rest = byte_in_words ws k i (omega (arith, below)) inside in
     let place : 4 * suc k + i ≡ suc (suc (suc (suc (4 * k + i)))) = omega arith in
     ap (slice_index (words_bytes (w ∷ ws))) place ∙ rest
-
--- ---- site words
-
-same_rewrite : (part : SiteKind) (a : ℕ) (i j : Instr) → new.IsRewritten part a i j → moved.IsRewritten part a i j
-same_rewrite Hi a (Lui rd n) j is = is
-same_rewrite Hi a (Auipc rd n) j is = is
-same_rewrite Hi a (Jal rd n) j is = absurd is
-same_rewrite Hi a (Jalr rd rs1 n) j is = absurd is
-same_rewrite Hi a (Branch kind rs1 rs2 n) j is = absurd is
-same_rewrite Hi a (Load kind rd rs1 n) j is = absurd is
-same_rewrite Hi a (Store kind rs1 rs2 n) j is = absurd is
-same_rewrite Hi a (OpReg kind rd rs1 rs2) j is = absurd is
-same_rewrite Hi a (Fence n) j is = absurd is
-same_rewrite Hi a (FenceI n) j is = absurd is
-same_rewrite Hi a Ecall j is = absurd is
-same_rewrite Hi a Ebreak j is = absurd is
-same_rewrite Hi a (OpImm kind rd rs1 n) j is = absurd is
-same_rewrite LowI a (Lui rd n) j is = absurd is
-same_rewrite LowI a (Auipc rd n) j is = absurd is
-same_rewrite LowI a (Jal rd n) j is = absurd is
-same_rewrite LowI a (Jalr rd rs1 n) j is = absurd is
-same_rewrite LowI a (Branch kind rs1 rs2 n) j is = absurd is
-same_rewrite LowI a (Load kind rd rs1 n) j is = is
-same_rewrite LowI a (Store kind rs1 rs2 n) j is = absurd is
-same_rewrite LowI a (OpReg kind rd rs1 rs2) j is = absurd is
-same_rewrite LowI a (Fence n) j is = absurd is
-same_rewrite LowI a (FenceI n) j is = absurd is
-same_rewrite LowI a Ecall j is = absurd is
-same_rewrite LowI a Ebreak j is = absurd is
-same_rewrite LowI a (OpImm Addi rd rs1 n) j is = is
-same_rewrite LowI a (OpImm Slti rd rs1 n) j is = absurd is
-same_rewrite LowI a (OpImm Sltiu rd rs1 n) j is = absurd is
-same_rewrite LowI a (OpImm Xori rd rs1 n) j is = absurd is
-same_rewrite LowI a (OpImm Ori rd rs1 n) j is = absurd is
-same_rewrite LowI a (OpImm Andi rd rs1 n) j is = absurd is
-same_rewrite LowI a (OpImm Slli rd rs1 n) j is = absurd is
-same_rewrite LowI a (OpImm Srli rd rs1 n) j is = absurd is
-same_rewrite LowI a (OpImm Srai rd rs1 n) j is = absurd is
-same_rewrite LowS a (Lui rd n) j is = absurd is
-same_rewrite LowS a (Auipc rd n) j is = absurd is
-same_rewrite LowS a (Jal rd n) j is = absurd is
-same_rewrite LowS a (Jalr rd rs1 n) j is = absurd is
-same_rewrite LowS a (Branch kind rs1 rs2 n) j is = absurd is
-same_rewrite LowS a (Load kind rd rs1 n) j is = absurd is
-same_rewrite LowS a (Store kind rs1 rs2 n) j is = is
-same_rewrite LowS a (OpReg kind rd rs1 rs2) j is = absurd is
-same_rewrite LowS a (Fence n) j is = absurd is
-same_rewrite LowS a (FenceI n) j is = absurd is
-same_rewrite LowS a Ecall j is = absurd is
-same_rewrite LowS a Ebreak j is = absurd is
-same_rewrite LowS a (OpImm kind rd rs1 n) j is = absurd is
-
-pub same_word : (part : SiteKind) (a old w : ℕ) → new.IsSiteWord part a old w → moved.IsSiteWord part a old w
-same_word part a old w is =
-    record {
-      from = is.from;
-      to = is.to;
-      old_means = is.old_means;
-      rewritten = same_rewrite part a is.from is.to is.rewritten;
-      new_means = is.new_means;
-      below = is.below;
-    }
 
 -- ---- addresses apart
 
@@ -234,6 +168,7 @@ module _ (file : List ℕ) (board : Board) (g : Graph) (places : Places) (taken 
         | inl site ↦ subst (λ (x : ℕ). IsOffWord a x) site.1.1 (is.sites site.0 no_site site.1.0)
         | inr word ↦ subst (λ (x : ℕ). IsOffWord a x) word.1.1 (is.words word.0 no_word word.1.0)
       ]
+
   pub rest_stays : (a : ℕ) → IsElsewhere v board g a → memory a ≡ image_of v.segments a
   rest_stays a is =
       let outside : IsOutside (Some s) a =
@@ -242,9 +177,9 @@ module _ (file : List ℕ) (board : Board) (g : Graph) (places : Places) (taken 
       let count : length patches ≡ length entries = ap length put.for.put ∙ length-map entries (patch_of v) in
       let off : IsOffPatches v patches a =
       λ j d below.
-        let inside : j < length entries = omega (arith, count, below) in
-        let stands = entry_stands j d inside in
-        (stands.0, (get_or entries j (0, 0)).0, stands.1, off_word (get_or entries j (0, 0)).0 a (off_entries a is j inside)) in
+      let inside : j < length entries = omega (arith, count, below) in
+      let stands = entry_stands j d inside in
+      (stands.0, (get_or entries j (0, 0)).0, stands.1, off_word (get_or entries j (0, 0)).0 a (off_entries a is j inside)) in
       others_loaded file patches (Some s) moves a put.accepted.none put.writable outside off is.unchanged
 
   -- ---- sites and words of data
@@ -258,7 +193,7 @@ module _ (file : List ℕ) (board : Board) (g : Graph) (places : Places) (taken 
   placed_at : (o : ℕ) → o < length g.objects.items → start_place places o ≡ (data_placing board g taken).place o
   placed_at o below = put.are.exact o below
 
-  pub site_moved : (k : ℕ) → k < length g.sites.items → (site_at g k).object < length g.objects.items → (site_at g k).at + 4 ≤ 4294967296 → moved.IsSiteWord (site_at g k).kind (address_word (data_placing board g taken).place (site_at g k).object (site_at g k).offset) (image_word v (site_at g k).at) (word_at memory (site_at g k).at)
+  pub site_moved : (k : ℕ) → k < length g.sites.items → (site_at g k).object < length g.objects.items → (site_at g k).at + 4 ≤ 4294967296 → new.IsSiteWord (site_at g k).kind (address_word (data_placing board g taken).place (site_at g k).object (site_at g k).offset) (image_word v (site_at g k).at) (word_at memory (site_at g k).at)
   site_moved k below object fits =
       let t = site_at g k in
       let (w, (has, is)) = put.for.new.sites k below in
@@ -266,9 +201,8 @@ module _ (file : List ℕ) (board : Board) (g : Graph) (places : Places) (taken 
       ap (λ (r : ℕ). plus (place_at places t.object r) t.offset) (region_zero (length g.sites.items) k)
       ∙ ap (λ (x : ℕ). plus x t.offset) (placed_at t.object object) in
       let word : word_at memory t.at ≡ w = word_from memory t.at w fits is.below (λ i inside. word_loaded t.at w i has inside) in
-      let here : moved.IsSiteWord t.kind (new.site_address g places regions k) (image_word v t.at) w = same_word t.kind (new.site_address g places regions k) (image_word v t.at) w is in
-      subst (λ (x : ℕ). moved.IsSiteWord t.kind x (image_word v t.at) (word_at memory t.at)) address
-      (subst (λ (x : ℕ). moved.IsSiteWord t.kind (new.site_address g places regions k) (image_word v t.at) x) (sym word) here)
+      subst (λ (x : ℕ). new.IsSiteWord t.kind x (image_word v t.at) (word_at memory t.at)) address
+      (subst (λ (x : ℕ). new.IsSiteWord t.kind (new.site_address g places regions k) (image_word v t.at) x) (sym word) is)
 
   pub word_moved : (k : ℕ) → k < length g.data_words.items → (data_word_at g k).object < length g.objects.items → (i : ℕ) → i < 4 → memory ((data_word_at g k).at + i) ≡ byte_of (address_word (data_placing board g taken).place (data_word_at g k).object (data_word_at g k).offset) i
   word_moved k below object i inside =
@@ -288,8 +222,8 @@ module _ (file : List ℕ) (board : Board) (g : Graph) (places : Places) (taken 
       let at = board.patch.base + 4 * k in
       word_from memory at w (omega (arith, size, all, inside, below, ends)) (small k 0 below)
       (λ i less.
-        let place : at + i ≡ s.base + (4 * k + i) = let base = put.base in omega (arith, base) in
-        ap memory place
-        ∙ new_bytes_loaded file patches s moves (4 * k + i) put.accepted.none put.writable (omega (arith, size, all, below, less))
-        ∙ ap (λ (bytes : List ℕ). slice_index bytes (4 * k + i)) content
-        ∙ byte_in_words words k i below less)
+      let place : at + i ≡ s.base + (4 * k + i) = let base = put.base in omega (arith, base) in
+      ap memory place
+      ∙ new_bytes_loaded file patches s moves (4 * k + i) put.accepted.none put.writable (omega (arith, size, all, below, less))
+      ∙ ap (λ (bytes : List ℕ). slice_index bytes (4 * k + i)) content
+      ∙ byte_in_words words k i below less)

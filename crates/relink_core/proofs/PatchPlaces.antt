@@ -60,14 +60,16 @@ range_kind v k range =
 
 pub code_held : (v : PlainView) (a : ℕ) → is_code_word v a ≡ true → (k : ℕ) × HoldsWord v a k
 code_held v a code =
-    let range = code_range v a code in
-    (range.0, record {
-      below = range.1.below;
-      loaded = range.1.loaded;
-      kind = range_kind v range.0 range.1.range;
-      from = range.1.from;
-      to = range.1.to;
-    })
+    let range = code_range v a code in (
+      range.0,
+      record {
+        below = range.1.below;
+        loaded = range.1.loaded;
+        kind = range_kind v range.0 range.1.range;
+        from = range.1.from;
+        to = range.1.to;
+      },
+    )
 
 -- a word of data of a graph
 pub data_held : (v : PlainView) (board : Board) (g : Graph) (k : ℕ) → IsGraph v board g → k < length g.data_words.items → (j : ℕ) × HoldsWord v (data_word_at g k).at j

@@ -24,9 +24,8 @@ use Rattle.overlay_stubs.specs.Plans.{AreStartWords}
 use Rattle.file_at_home.specs.Laws.{IsAccepted}
 use Rattle.file_at_home.proofs.Words.{code_below}
 use Rattle.relocator.specs.declared.places.Places.{Places}
-use Rattle.relocator.specs.SiteWords.{no_site, site_at, no_word, data_word_at}
+use Rattle.relocator.specs.SiteWords.{IsSiteWord, no_site, site_at, no_word, data_word_at}
 use Rattle.value_words.specs.Stands.{address_word}
-use Rattle.moved_data.specs.SiteWords as moved
 use Rattle.moved_data.specs.Moved.{start_plan, IsMovedSite, IsMovedWord, HoldsStart, IsMovedView}
 use Rattle.relink_core.specs.Realises.{data_placing, start_segment, IsWrittenOver, MovesData}
 use Rattle.relink_core.specs.Making.{AreOfGraph, ArePlacesOf, CanMove, ArePatchesFor, start_plan_of, IsStartSegment, moves_below}
@@ -114,8 +113,8 @@ module _ (file : List ℕ) (board : Board) (g : Graph) (places : Places) (taken 
         can = is.start;
         inside = stub_fits file board g taken is.can;
         stands = λ k below.
-          subst (λ (mem : Memory). word_at mem (board.patch.base + 4 * k) ≡ get_or words k 0) (sym memory_same)
-          (start_loaded file board g places taken patches s moves is.put words k is.segment.content is.segment.small ends below);
+            subst (λ (mem : Memory). word_at mem (board.patch.base + 4 * k) ≡ get_or words k 0) (sym memory_same)
+            (start_loaded file board g places taken patches s moves is.put words k is.segment.content is.segment.small ends below);
       }
 
   sites : All (IsMovedSite v (view_in out) (data_placing board g taken).place) g.sites.items
@@ -125,7 +124,7 @@ module _ (file : List ℕ) (board : Board) (g : Graph) (places : Places) (taken 
       let small = code_below v t.at loadable (is.put.codes k below) in
       let here = site_moved file board g places taken patches s moves is.put k below (is.graphs.sites k below) (omega (arith, small)) in
       let there : IsMovedSite v (view_in out) (data_placing board g taken).place t =
-      subst (λ (mem : Memory). moved.IsSiteWord t.kind (address_word (data_placing board g taken).place t.object t.offset) (image_word v t.at) (word_at mem t.at)) (sym memory_same) here in
+      subst (λ (mem : Memory). IsSiteWord t.kind (address_word (data_placing board g taken).place t.object t.offset) (image_word v t.at) (word_at mem t.at)) (sym memory_same) here in
       subst (IsMovedSite v (view_in out) (data_placing board g taken).place) (sym at) there
 
   data_words : All (IsMovedWord (view_in out) (data_placing board g taken).place) g.data_words.items
@@ -134,8 +133,8 @@ module _ (file : List ℕ) (board : Board) (g : Graph) (places : Places) (taken 
       let t = data_word_at g k in
       let there : IsMovedWord (view_in out) (data_placing board g taken).place t =
       λ i inside.
-        ap (λ (mem : Memory). mem (t.at + i)) memory_same
-        ∙ word_moved file board g places taken patches s moves is.put k below (is.graphs.words k below) i inside in
+      ap (λ (mem : Memory). mem (t.at + i)) memory_same
+      ∙ word_moved file board g places taken patches s moves is.put k below (is.graphs.words k below) i inside in
       subst (IsMovedWord (view_in out) (data_placing board g taken).place) (sym at) there
 
   pub is_moved : MovesData file board g taken out
@@ -151,7 +150,7 @@ module _ (file : List ℕ) (board : Board) (g : Graph) (places : Places) (taken 
           sites = sites;
           words = data_words;
           elsewhere = λ a off.
-            ap (λ (mem : Memory). mem a) memory_same
-            ∙ rest_stays file board g places taken patches s moves is.put a off;
+              ap (λ (mem : Memory). mem a) memory_same
+              ∙ rest_stays file board g places taken patches s moves is.put a off;
         };
       }

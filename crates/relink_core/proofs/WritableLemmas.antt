@@ -113,7 +113,7 @@ small_file file none =
 clear_part : (b m c n k : ℕ) → meets b m c n ≡ false → k ≤ n → meets b m c k ≡ false
 clear_part b m c n k off part = grind (arith, nat_tests, off, part)
 
-is_addable : (file : List ℕ) (board : Board) (g : Graph) (s : NewSegment) → IsAccepted file board g → headers_fault (program_header_count file) ≡ None → s.base ≡ board.patch.base → 0 < length s.content → length s.content ≤ board.patch.size → IsAddable (view_in file) s
+pub is_addable : (file : List ℕ) (board : Board) (g : Graph) (s : NewSegment) → IsAccepted file board g → headers_fault (program_header_count file) ≡ None → s.base ≡ board.patch.base → 0 < length s.content → length s.content ≤ board.patch.size → IsAddable (view_in file) s
 is_addable file board g s accepted headers base some inside =
     let v = view_in file in
     let laid = is_laid v board accepted.layout in
@@ -123,13 +123,13 @@ is_addable file board g s accepted headers base some inside =
     record {
       some = some;
       clear = λ k d below.
-        let at = get_or_default v.segments k d no_segment below in
-        let none = none_at (patch_overlap_fault v board) (length v.segments) k below laid.patch in
-        let off = not_true (segment_meets (segment_at v k) board.patch) (holds _ _ none) in
-        let clear : IsClearOf s (segment_at v k) =
-        subst (λ (b : ℕ). meets (segment_at v k).vaddr (segment_at v k).memsz b (length s.content) ≡ false) (sym base)
-        (clear_part (segment_at v k).vaddr (segment_at v k).memsz board.patch.base board.patch.size (length s.content) off inside) in
-        subst (IsClearOf s) (sym at) clear;
+          let at = get_or_default v.segments k d no_segment below in
+          let none = none_at (patch_overlap_fault v board) (length v.segments) k below laid.patch in
+          let off = not_true (segment_meets (segment_at v k) board.patch) (holds _ _ none) in
+          let clear : IsClearOf s (segment_at v k) =
+          subst (λ (b : ℕ). meets (segment_at v k).vaddr (segment_at v k).memsz b (length s.content) ≡ false) (sym base)
+          (clear_part (segment_at v k).vaddr (segment_at v k).memsz board.patch.base board.patch.size (length s.content) off inside) in
+          subst (IsClearOf s) (sym at) clear;
       ends = omega (arith, base, inside, ends);
       from_one = some_header file board g accepted;
       to_limit = at_most_63 (program_header_count file) few full;
@@ -172,22 +172,22 @@ is_writable file board g places taken patches s accepted headers codes listed ar
     let patched : All (PatchesLoadedWord v) (map (patch_of v) words) =
     All-map (PatchesLoadedWord v) (patch_of v) words
     (λ j d below.
-      let h = held j d below in
-      stands_loaded v (patch_of v (get_or words j d)) h.0 (get_or words j d).0 h.1.below (patch_stands file (get_or words j d) h.0 accepted.none h.1)) in
+    let h = held j d below in
+    stands_loaded v (patch_of v (get_or words j d)) h.0 (get_or words j d).0 h.1.below (patch_stands file (get_or words j d) h.0 accepted.none h.1)) in
     let apart : AllPairs ArePatchesApart (map (patch_of v) words) =
     λ i j d before below.
-      let count = length-map words (patch_of v) in
-      let inside_j : j < length words = omega (arith, below, count) in
-      let inside_i : i < length words = omega (arith, before, inside_j) in
-      let e = get_or words i (0, 0) in
-      let f = get_or words j (0, 0) in
-      let one = held i (0, 0) inside_i in
-      let other = held j (0, 0) inside_j in
-      let here = stand_apart v (patch_of v e) (patch_of v f) one.0 other.0 e.0 f.0 one.1.below other.1.below (patch_stands file e one.0 accepted.none one.1) (patch_stands file f other.0 accepted.none other.1) (for.new.apart i j (0, 0) before inside_j) in
-      let first = get_or-map (patch_of v) words i (0, 0) d inside_i in
-      let last = get_or-map (patch_of v) words j (0, 0) d inside_j in
-      subst (λ (p : Patch). ArePatchesApart p (get_or (map (patch_of v) words) j d)) (sym first)
-      (subst (λ (p : Patch). ArePatchesApart (patch_of v e) p) (sym last) here) in
+    let count = length-map words (patch_of v) in
+    let inside_j : j < length words = omega (arith, below, count) in
+    let inside_i : i < length words = omega (arith, before, inside_j) in
+    let e = get_or words i (0, 0) in
+    let f = get_or words j (0, 0) in
+    let one = held i (0, 0) inside_i in
+    let other = held j (0, 0) inside_j in
+    let here = stand_apart v (patch_of v e) (patch_of v f) one.0 other.0 e.0 f.0 one.1.below other.1.below (patch_stands file e one.0 accepted.none one.1) (patch_stands file f other.0 accepted.none other.1) (for.new.apart i j (0, 0) before inside_j) in
+    let first = get_or-map (patch_of v) words i (0, 0) d inside_i in
+    let last = get_or-map (patch_of v) words j (0, 0) d inside_j in
+    subst (λ (p : Patch). ArePatchesApart p (get_or (map (patch_of v) words) j d)) (sym first)
+    (subst (λ (p : Patch). ArePatchesApart (patch_of v e) p) (sym last) here) in
     let put = for.put in
     let number = number_within file s.base in
     let table = table_inside file accepted.none (some_header file board g accepted) in

@@ -23,6 +23,7 @@ use Rattle.relink_core.specs.Keeps.{KeepsPaired}
 
 -- the analysis is of the file for the board, and no check failed
 pub record IsAnalysisOf (file : List ℕ) (board : Board) (a : Analysis) : Type 0 where
+  pub bytes : AreBytes file
   pub is_file : IsFile file a.view
   pub passes : analyse_fault file board ≡ None
   pub lawful : IsLawful board

@@ -1,12 +1,13 @@
-ghost use Rattle.std.specs.Prelude.{◌≡◌, ℕ, List, IfOk};
+ghost use Rattle.std.specs.Prelude.{◌≡◌, ℕ, List, length, replicate, IfOk};
 ghost use Rattle.elf_reader.specs.File.{PlainView, plain_view};
+ghost use Rattle.elf_writer.specs.Parts.{new_segment};
 ghost use Rattle.loaded_code.specs.Read.{IsRead};
 ghost use Rattle.board_config.specs.Board.{IsLawful};
 ghost use Rattle.board_config.specs.declared.board.Board.{Board};
 ghost use Rattle.object_graph.specs.Graphs.{IsGraph};
 ghost use Rattle.placement_programme.specs.Views.{plain_programme, plain_choice};
 ghost use Rattle.relink_core.specs.Choices.{IsAnalysisOf, IsDataChoice, taken_names, KeepsMeaning};
-ghost use Rattle.relink_core.specs.Making.{taken_objects, HasStarts, ArePlacesOf, CanMove, ArePatchesFor};
+ghost use Rattle.relink_core.specs.Making.{taken_objects, HasStarts, ArePlacesOf, CanMove, ArePatchesFor, start_plan_of, IsStartSegment, moves_below};
 ghost use Rattle.relink_core.specs.Realises.{MovesData, Realises};
 
 use crate::analysis::Analysis;
@@ -16,7 +17,7 @@ use crate::symbol_moves::symbol_moves;
 use crate::taking::taken_objects;
 use board_config::Board;
 use elf_reader::ElfView;
-use elf_writer::{Patch, write};
+use elf_writer::{Patch, SegmentBytes, SymbolMove, write};
 use object_graph::Graph;
 use placement_programme::{Choice, Programme};
 use relocator::{Places, layout, site_words};
@@ -40,7 +41,7 @@ pub fn realise(
     ensures keeps { IfOk result (λ out. (file : List ℕ) → IsAnalysisOf file board.now a.now → KeepsMeaning (taken_names (plain_programme p.now) (plain_choice c.now)) file out.items board.now) }
 {
     if c.take.is_empty() {
-        match a.view.bytes.to_vec(alloc) {
+        match copied(alloc, a.view.bytes) {
             Ok(file) => Ok(file),
             Err(error) => Err(error),
         }
@@ -50,6 +51,13 @@ pub fn realise(
             Err(error) => Err(error),
         }
     }
+}
+
+/// The bytes once more.
+fn copied(alloc: Global, bytes: &[u8]) -> Result<Vec<u8>, AllocError>
+    ensures { IfOk result (λ out. out.items ≡ bytes.now) }
+{
+    bytes.to_vec(alloc)
 }
 
 /// The result in which the objects that are taken are moved.
@@ -65,7 +73,7 @@ fn moved(
     ensures { IfOk result (λ out. (file : List ℕ) → IsAnalysisOf file board.now a.now → MovesData file board.now a.now.graph (taken_objects (plain_programme p.now).off.vars c.now.take.items) out.items) }
 {
     let places = start_places(alloc, &a.graph, board, p, c)?;
-    let objects = taken_objects(alloc, &p.off.vars, &c.take)?;
+    let objects = taken_objects(alloc, p, &c.take)?;
     match with_places(alloc, a, board, &places, &objects) {
         Ok(out) => Ok(out),
         Err(error) => Err(error),
@@ -107,7 +115,32 @@ fn with_places(
     let patches = place_patches(alloc, &a.view, &a.graph, places)?;
     let segment = start_segment(alloc, &a.view, board, &a.graph, places, objects)?;
     let moves = symbol_moves(alloc, &a.view, &a.graph, places, objects)?;
-    match write(alloc, &a.view, &patches, Some(&segment), &moves) {
+    match write_parts(alloc, a, board, places, objects, &patches, &segment, &moves) {
+        Ok(out) => Ok(out),
+        Err(error) => Err(error),
+    }
+}
+
+/// The result that is made of these parts.
+fn write_parts(
+    alloc: Global,
+    a: &Analysis,
+    board: &Board,
+    places: &Places,
+    objects: &[u32],
+    patches: &[Patch],
+    segment: &SegmentBytes,
+    moves: &[SymbolMove],
+) -> Result<Vec<u8>, AllocError>
+    requires analysis { (file : List ℕ) × IsAnalysisOf file board.now a.now }
+    requires places { ArePlacesOf board.now a.now.graph objects.now places.now }
+    requires can { CanMove board.now a.now.graph objects.now }
+    requires patches { ArePatchesFor (plain_view a.now.view) a.now.graph places.now patches.now }
+    requires segment { IsStartSegment (start_plan_of (plain_view a.now.view) board.now a.now.graph places.now objects.now) (new_segment segment.now) }
+    requires moves { moves.now ≡ moves_below (plain_view a.now.view) a.now.graph places.now objects.now (length a.now.view.symbols.items) }
+    ensures { IfOk result (λ out. (file : List ℕ) → IsAnalysisOf file board.now a.now → MovesData file board.now a.now.graph objects.now out.items) }
+{
+    match write(alloc, &a.view, patches, Some(segment), moves) {
         Ok(out) => Ok(out),
         Err(error) => Err(error),
     }
@@ -126,7 +159,27 @@ fn place_patches(
     ensures { IfOk result (λ patches. ArePatchesFor (plain_view view.now) graph.now places.now patches.items) }
 {
     let region_at = vec![in alloc; 0; graph.sites.len()]?;
-    let words = site_words(alloc, view, graph, places, &region_at)?;
+    match patches_with(alloc, view, graph, places, &region_at) {
+        Ok(patches) => Ok(patches),
+        Err(error) => Err(error),
+    }
+}
+
+/// The same, where `region_at` says that no site is in a region.
+fn patches_with(
+    alloc: Global,
+    view: &ElfView,
+    graph: &Graph,
+    places: &Places,
+    region_at: &[u32],
+) -> Result<Vec<Patch>, AllocError>
+    requires read { IsRead view.now }
+    requires graph { (board : Board) × IsGraph (plain_view view.now) board graph.now }
+    requires starts { HasStarts graph.now places.now }
+    requires regions { region_at.now ≡ replicate (length graph.now.sites.items) 0 }
+    ensures { IfOk result (λ patches. ArePatchesFor (plain_view view.now) graph.now places.now patches.items) }
+{
+    let words = site_words(alloc, view, graph, places, region_at)?;
     match patches(alloc, view, &words) {
         Ok(patches) => Ok(patches),
         Err(error) => Err(error),

@@ -1,5 +1,5 @@
 //! The new segment of a result: control words and the start stub.
-ghost use Rattle.std.specs.Prelude.{◌≡◌, ℕ, ◌<◌, List, length, ◌++◌, map, OnOk, IfOk};
+ghost use Rattle.std.specs.Prelude.{◌≡◌, ℕ, ◌<◌, List, length, ◌++◌, map, OnOk, IfOk, All};
 ghost use Rattle.elf_reader.specs.File.{plain_view};
 ghost use Rattle.workload_gen.specs.Pieces.{words_bytes};
 ghost use Rattle.elf_writer.specs.Parts.{NewSegment, new_segment};
@@ -52,7 +52,8 @@ fn start_jobs(
 
 /// The bytes of words, each least byte first.
 fn bytes_of(alloc: Global, words: &[u32]) -> Result<Vec<u8>, AllocError>
-    ensures { IfOk result (λ bytes. bytes.items ≡ words_bytes words.now) }
+    ensures bytes { IfOk result (λ bytes. bytes.items ≡ words_bytes words.now) }
+    ensures small { All (λ w. w < 4294967296) words.now }
 {
     let mut bytes = Vec::new(alloc);
     push_words(&mut bytes, words)?;

@@ -1,13 +1,13 @@
 //! The symbols of objects that are moved.
-ghost use Rattle.std.specs.Prelude.{◌≡◌, ℕ, ◌<◌, ◌==◌, ◌&&◌, length, OnOk, IfOk, Option, MatchOption, ◌++◌};
-ghost use Rattle.elf_reader.specs.File.{plain_symbol, plain_view};
+ghost use Rattle.std.specs.Prelude.{◌≡◌, ℕ, ◌<◌, ◌≤◌, ◌==◌, ◌&&◌, length, OnOk, IfOk, Option, MatchOption, ◌++◌};
+ghost use Rattle.elf_reader.specs.File.{plain_view};
 ghost use Rattle.loaded_code.specs.Marks.{all_loaded};
 ghost use Rattle.loaded_code.specs.Records.{symbol_at};
 ghost use Rattle.cell_values.specs.Objects.{object_of};
 ghost use Rattle.relink_core.specs.Making.{range_value, symbol_value, move_to, moves_below, HasStarts, AreOfGraph};
 
 use crate::taking::start_place;
-use elf_reader::{ElfView, Symbol};
+use elf_reader::ElfView;
 use elf_writer::SymbolMove;
 use loaded_code::loaded_sections;
 use object_graph::Graph;
@@ -38,20 +38,22 @@ fn range_value(graph: &Graph, places: &Places, home: u32, size: u32, objects: &[
     None
 }
 
-/// The new value of a symbol, if it is one of an object that is moved.
+/// The new value of symbol `k`, if it is one of an object that is moved.
 fn symbol_value(
     view: &ElfView,
     loaded: &[bool],
     graph: &Graph,
     places: &Places,
     objects: &[u32],
-    symbol: &Symbol,
+    k: usize,
 ) -> Option<u32>
     requires marks { loaded.now ≡ all_loaded (plain_view view.now) }
     requires listed { AreOfGraph graph.now objects.now }
     requires starts { HasStarts graph.now places.now }
-    ensures { result ≡ symbol_value (plain_view view.now) graph.now places.now objects.now (plain_symbol symbol.now) }
+    requires below { k < length view.now.symbols.items }
+    ensures { result ≡ symbol_value (plain_view view.now) graph.now places.now objects.now (symbol_at (plain_view view.now) k) }
 {
+    let symbol = &view.symbols[k];
     if !has_range(view, loaded, symbol) {
         return None;
     }
@@ -81,13 +83,13 @@ pub(crate) fn symbol_moves(
 ) -> Result<Vec<SymbolMove>, AllocError>
     requires listed { AreOfGraph graph.now objects.now }
     requires starts { HasStarts graph.now places.now }
-    requires few { length view.now.symbols.items < 4294967296 }
+    requires few { length view.now.symbols.items ≤ 65536 }
     ensures { IfOk result (λ moves. moves.items ≡ moves_below (plain_view view.now) graph.now places.now objects.now (length view.now.symbols.items)) }
 {
     let loaded = loaded_sections(alloc, view)?;
     let mut moves = Vec::new(alloc);
     for k in 0..view.symbols.len() {
-        let value = symbol_value(view, &loaded, graph, places, objects, &view.symbols[k]);
+        let value = symbol_value(view, &loaded, graph, places, objects, k);
         push_move(&mut moves, k as u32, value)?;
     }
     Ok(moves)

@@ -1,12 +1,13 @@
 //! What a choice takes, and where that stands at the start.
-ghost use Rattle.std.specs.Prelude.{◌≡◌, ℕ, ◌<◌, map, length, IfOk};
-ghost use Rattle.placement_programme.specs.Plain.{plain_var};
+ghost use Rattle.std.specs.Prelude.{◌≡◌, ℕ, ◌<◌, length, IfOk};
+ghost use Rattle.placement_programme.specs.Views.{plain_programme};
+ghost use Rattle.relocator.specs.SiteWords.{row_length};
 ghost use Rattle.placement_programme.specs.Bounds.{AscendWithin};
 ghost use Rattle.object_graph.specs.declared.parts.Graph.{Graph};
 ghost use Rattle.relink_core.specs.Making.{object_named, taken_object, taken_objects, start_place, HasStarts};
 
 use object_graph::Graph;
-use placement_programme::{Var, VarName};
+use placement_programme::{Programme, VarName};
 use relocator::Places;
 use std::alloc::{AllocError, Global};
 
@@ -26,28 +27,37 @@ fn object_named(name: VarName) -> u32
     }
 }
 
-/// The object of variable `k`.
-fn taken_object(vars: &[Var], k: u32) -> u32
-    requires { k < length vars.now }
-    ensures { result ≡ taken_object (map plain_var vars.now) k }
+/// The object of variable `k` of those without overlay.
+fn taken_object(p: &Programme, k: u32) -> u32
+    requires { k < length p.now.off.vars.items }
+    ensures { result ≡ taken_object (plain_programme p.now).off.vars k }
 {
-    object_named(vars[k as usize].name)
+    object_named(p.off.vars[k as usize].name)
 }
 
 /// The objects of the variables that are taken, in order. It fails only where no memory was left.
 pub(crate) fn taken_objects(
     alloc: Global,
-    vars: &[Var],
+    p: &Programme,
     take: &[u32],
 ) -> Result<Vec<u32>, AllocError>
-    requires { AscendWithin 0 (length vars.now) take.now }
-    ensures { IfOk result (λ objects. objects.items ≡ taken_objects (map plain_var vars.now) take.now) }
+    requires { AscendWithin 0 (length p.now.off.vars.items) take.now }
+    ensures { IfOk result (λ objects. objects.items ≡ taken_objects (plain_programme p.now).off.vars take.now) }
 {
     let mut objects = Vec::new(alloc);
     for k in take {
-        objects.push(taken_object(vars, *k))?;
+        objects.push(taken_object(p, *k))?;
     }
     Ok(objects)
+}
+
+/// The first place of an object's row.
+fn first_place(places: &Places, object: u32) -> u32
+    requires object { object < length places.now.of.items }
+    requires row { 0 < row_length places.now object }
+    ensures { result ≡ start_place places.now object }
+{
+    places.of[object as usize][0]
 }
 
 /// Where an object stands before a region is entered.
@@ -56,5 +66,5 @@ pub(crate) fn start_place(graph: &Graph, places: &Places, object: u32) -> u32
     requires starts { HasStarts graph.now places.now }
     ensures { result ≡ start_place places.now object }
 {
-    places.of[object as usize][0]
+    first_place(places, object)
 }
