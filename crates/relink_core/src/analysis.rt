@@ -9,6 +9,7 @@ ghost use Rattle.object_graph.specs.Graphs.{IsGraph};
 ghost use Rattle.code_blocks.specs.Blocks.{IsCode, code_fault};
 ghost use Rattle.code_blocks.specs.Numbers.{starts_of};
 ghost use Rattle.liveness.specs.Tables.{IsTableOf};
+ghost use Rattle.points_to.specs.Tables.{IsTableOf as IsPointsOf};
 ghost use Rattle.relink_core.specs.declared.fault.AnalyseFault.TheVariants as analyse;
 ghost use Rattle.relink_core.specs.Faults.{IsOutermost, headers_fault, file_fault, least_patch, patch_fault, places_fault, view_fault, analyse_fault, TellsAnalysis, TellsRegions};
 ghost use Rattle.relink_core.specs.Regions.{HasDeadAt, TellsDead, AreRegions};
@@ -19,6 +20,7 @@ use code_blocks::{Code, blocks};
 use elf_reader::{ElfFault, ElfView, read};
 use liveness::{LiveTable, live};
 use object_graph::{Graph, graph};
+use points_to::{PointsTable, points};
 use region_former::{RegionTable, regions};
 use rv_decode::RegSet;
 use std::alloc::{AllocError, Global};
@@ -47,6 +49,8 @@ pub struct Analysis<'a> {
     pub code: Code,
     /// The registers that are live where blocks begin.
     pub live: LiveTable,
+    /// The registers that may hold addresses of objects where blocks begin, and the objects that escape.
+    pub points: PointsTable,
     /// The regions of the blocks.
     pub regions: RegionTable,
 }
@@ -80,17 +84,20 @@ pub fn analyse<'a>(
     ensures graph { IfOk result (λ a. IsGraph (view_in bytes.now) board.now a.graph) }
     ensures code { IfOk result (λ a. IsCode (view_in bytes.now) a.code) }
     ensures live { IfOk result (λ a. IsTableOf a.code a.live) }
+    ensures points { IfOk result (λ a. IsPointsOf a.code a.graph a.points) }
     ensures regions { IfOk result (λ a. AreRegions (view_in bytes.now) a.code board.now a.regions) }
     ensures inner { IfErr result IsOutermost }
 {
     let parts = parts_of(alloc, bytes, board)?;
     let live = live(alloc, &parts.code)?;
+    let points = points(alloc, &parts.code, &parts.graph)?;
     match regions_of(alloc, &parts.view, board, &parts.code, &live) {
         Ok(regions) => Ok(Analysis {
             view: parts.view,
             graph: parts.graph,
             code: parts.code,
             live,
+            points,
             regions,
         }),
         Err(fault) => Err(fault),

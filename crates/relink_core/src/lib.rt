@@ -5,7 +5,6 @@ mod analysis;
 mod fault;
 mod laws;
 mod patching;
-mod probe;
 mod realising;
 mod starting;
 mod symbol_moves;
