@@ -11,3 +11,4 @@ pub mod LoadableLemmas
 pub mod ResultLemmas
 pub mod RealiseLemmas
 pub mod CollectLemmas
+pub mod StatedLemmas

@@ -1,7 +1,11 @@
 -- What an analysis and a choice give, and what is made of them.
-use Rattle.std.proofs.Common.{◌≡◌, ◌∙◌, ℕ, zero, suc, ◌+◌, ◌*◌, ◌<◌, ◌≤◌, ◌==◌, true, false, nat_le, List, [], ◌∷◌, map, length, get_or, Option, Some, None, option_map, refl, sym, ap, subst, arith}
+use Rattle.std.proofs.Common.{◌≡◌, ◌∙◌, ℕ, zero, suc, ◌+◌, ◌*◌, ◌<◌, ◌≤◌, ◌==◌, Bool, true, false, nat_le, List, [], ◌∷◌, map, length, get_or, Option, Some, None, option_map, refl, sym, ap, subst, arith}
 use Rattle.std.specs.List.{All, AllPairs}
-use Rattle.std.proofs.lemmas.Bool.{leb-true}
+use Rattle.std.proofs.lemmas.Bool.{eqb-true, leb-true}
+use Rattle.std.proofs.lemmas.Bool.Decides.{nat_tests}
+use Rattle.std.specs.Prelude.{Vec}
+use Rattle.std.specs.Vec.{vec_len}
+use Rattle.std.specs.declared.alloc.Global.{Global}
 use Rattle.std.proofs.lemmas.List.{length-map}
 use Rattle.fault_order.proofs.FirstLemmas.{both_none, holds}
 use Rattle.elf_reader.specs.Layout.{program_header_count}
@@ -245,11 +249,18 @@ pub numbers_of : (board : Board) (g : Graph) (p : Programme) (c : PlainChoice) �
 numbers_of board g p c grain is =
     subst (λ (n : ℕ). AscendWithin 0 n c.take) (length-map p.off.vars.items plain_var) (choice_takes board g (plain_programme p) c grain is).numbers
 
--- a list is empty where its length is 0
-pub none_taken : (take : List ℕ) → (length take == 0) ≡ true → take ≡ []
-none_taken [] empty = refl
-none_taken (k ∷ ks) empty = absurd (cc (empty))
+no_items : (xs : List ℕ) → length xs ≡ 0 → xs ≡ []
+no_items [] none = refl
+no_items (x ∷ xs) none = absurd (omega (arith, none))
 
-pub some_taken : (take : List ℕ) → (length take == 0) ≡ false → 0 < length take
-some_taken [] filled = absurd (cc (filled))
-some_taken (k ∷ ks) filled = omega arith
+-- nothing is taken, or something is
+pub none_taken : (take : Vec ℕ Global) (b : Bool) → b ≡ (vec_len take == 0) → b ≡ true → take.items ≡ []
+none_taken take b is empty =
+    let len : vec_len take ≡ 0 = eqb-true (vec_len take) 0 (sym is ∙ empty) in
+    no_items take.items (sym take.ok.0 ∙ len)
+
+pub some_taken : (take : Vec ℕ Global) (b : Bool) → b ≡ (vec_len take == 0) → b ≡ false → 0 < length take.items
+some_taken take b is some =
+    let apart : (vec_len take == 0) ≡ false = sym is ∙ some in
+    let len : 0 < vec_len take = grind (arith, nat_tests, apart) in
+    omega (arith, len, take.ok.0)

@@ -4,3 +4,4 @@ pub mod Regions
 pub mod Realises
 pub mod Choices
 pub mod Making
+pub mod Statements

@@ -1,7 +1,14 @@
 // Laws of the definitions: functions that do nothing, whose contracts are what is proved.
 ghost use Rattle.relink_core.specs.Keeps.{UnmovedFileKeeps};
+ghost use Rattle.relink_core.specs.Statements.{StatedIsRealisable};
 
 /// A file that is handed on as it is keeps its meaning in every paired run.
 pub fn unmoved_file_keeps()
     ensures { UnmovedFileKeeps }
+{}
+
+/// The variables of the programme that a run states for static data are those of different objects of the graph, in
+/// their order, with their weights.
+pub fn stated_is_realisable()
+    ensures { StatedIsRealisable }
 {}
