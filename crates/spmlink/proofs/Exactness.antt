@@ -14,7 +14,8 @@ use Rattle.spmlink.specs.Reading.{HoldsAll}
 use Rattle.compare_runner.specs.declared.comparing.Comparison.TheVariants.{Same}
 use Rattle.spmlink.specs.ProgramRun.{of_none}
 use Rattle.spmlink.specs.CompareFiles.{of_comparison}
-use Rattle.spmlink.specs.Meaning.{Compares, IsFirst, run_first, relink_first, profile_first, compare_first, gen_first, hex_first, check_difference, Yields, runs, relinks, profiles, compares, generates, writes_hex, agrees}
+use Rattle.spmlink.specs.CheckFile.{of_certificate}
+use Rattle.spmlink.specs.Meaning.{Compares, IsFirst, run_first, relink_first, profile_first, compare_first, check_first, gen_first, hex_first, check_difference, Yields, runs, relinks, profiles, compares, checks, generates, writes_hex, agrees}
 use Rattle.spmlink.specs.Answers.{IsDone, Cause, HasCause, EndsRefused, InputFails, AnswersInputs, AnswersUsage, AnswersCommand, TellsAll}
 use Rattle.spmlink.specs.declared.refused.Refused.{Refused}
 use Rattle.spmlink.specs.declared.faults.Refusal.{Refusal}
@@ -23,6 +24,7 @@ use Rattle.spmlink.proofs.OneCommand.{one_command, one_reading}
 use Rattle.spmlink.proofs.Statuses.{status_positive}
 use Rattle.spmlink.proofs.Profiling.{profile_runs}
 use Rattle.spmlink.proofs.Stating.{relinked_runs}
+use Rattle.spmlink.proofs.Certificates.{nothing_told}
 
 -- ---- what the inputs are
 
@@ -45,6 +47,9 @@ yields_first command inputs outputs text (profiles f b i file board input is are
 yields_first command inputs outputs text (compares f r b i file relinked board input is are outs made) =
     compare_first f r b i file relinked board input is are
     (of_comparison made.board (Same made.outcome) made.accepts made.sound made.compared refl)
+yields_first command inputs outputs text (checks f b i c file board input cert is are outs made) =
+    check_first f b i c file board input cert is are
+    (of_certificate made.board made.programme made.accepts made.states (nothing_told made.programme made.board.nodes cert text made.reports))
 yields_first command inputs outputs text (generates s k o is are outs printed) = gen_first s k o is are refl
 yields_first command inputs outputs text (writes_hex f o file is are none outs printed) = hex_first f o file is are (sym none)
 yields_first command inputs outputs text (agrees f h file hex_text is are none spelled outs printed) =
@@ -120,6 +125,9 @@ refused_usage (refusal.Board fault) status words old new sink mid e c none = abs
 refused_usage (refusal.Elf fault) status words old new sink mid e c none = absurd (none c.0.command c.0.is_command)
 refused_usage (refusal.Analyse fault) status words old new sink mid e c none = absurd (none c.0.command c.0.is_command)
 refused_usage (refusal.AddressFault pc why) status words old new sink mid e c none = absurd (none c.0.command c.0.is_command)
+refused_usage (refusal.Certificate fault) status words old new sink mid e c none = absurd (none c.0.command c.0.is_command)
+refused_usage refusal.BadChoice status words old new sink mid e c none = absurd (none c.0.command c.0.is_command)
+refused_usage (refusal.WrongTree side node) status words old new sink mid e c none = absurd (none c.0.command c.0.is_command)
 refused_usage (refusal.Hex fault) status words old new sink mid e c none = absurd (none c.0.command c.0.is_command)
 refused_usage (refusal.Differs at) status words old new sink mid e c none = absurd (none c.0.command c.0.is_command)
 refused_usage (refusal.SourceFault pc why) status words old new sink mid e c none = absurd (none c.0.command c.0.is_command)
@@ -155,6 +163,12 @@ refused_command (refusal.Analyse fault) status words old new sink mid sink' e c 
     inl (input_answers (refusal.Analyse fault) status words old new e c.0 command inputs is told)
 refused_command (refusal.AddressFault pc why) status words old new sink mid sink' e c line command inputs is told nothing =
     inl (input_answers (refusal.AddressFault pc why) status words old new e c.0 command inputs is told)
+refused_command (refusal.Certificate fault) status words old new sink mid sink' e c line command inputs is told nothing =
+    inl (input_answers (refusal.Certificate fault) status words old new e c.0 command inputs is told)
+refused_command refusal.BadChoice status words old new sink mid sink' e c line command inputs is told nothing =
+    inl (input_answers refusal.BadChoice status words old new e c.0 command inputs is told)
+refused_command (refusal.WrongTree side node) status words old new sink mid sink' e c line command inputs is told nothing =
+    inl (input_answers (refusal.WrongTree side node) status words old new e c.0 command inputs is told)
 refused_command (refusal.Hex fault) status words old new sink mid sink' e c line command inputs is told nothing =
     inl (input_answers (refusal.Hex fault) status words old new e c.0 command inputs is told)
 refused_command (refusal.Differs at) status words old new sink mid sink' e c line command inputs is told nothing =

@@ -11,6 +11,7 @@ pub mod Lines
 pub mod Profiling
 pub mod Stating
 pub mod ComparingFiles
+pub mod Certificates
 pub mod Refusals
 pub mod Readings
 pub mod Writings

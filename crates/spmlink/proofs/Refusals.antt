@@ -1,11 +1,12 @@
 -- The results of the commands, put together.
 use Rattle.std.proofs.Common.{inl, inr, ℕ, List, [], ◌∷◌, Some, refl, sym, subst}
-use Rattle.spmlink.specs.Command.{run_command, relink_command, profile_command, compare_command, hex_command, hex_check_command}
+use Rattle.spmlink.specs.Command.{run_command, relink_command, profile_command, compare_command, check_command, hex_command, hex_check_command}
 use Rattle.spmlink.specs.FaultLine.{parts_of}
 use Rattle.spmlink.specs.RunFile.{IsFirstRefusal}
 use Rattle.spmlink.specs.ProgramRun.{RefusesProfiled}
 use Rattle.spmlink.specs.CompareFiles.{RefusesCompared}
-use Rattle.spmlink.specs.Meaning.{RefusesInputs, RefusesFile, RefusesTexts, memory_wanting, faulty, differing, run_first, relink_first, profile_first, compare_first, hex_first, check_fault, check_difference}
+use Rattle.spmlink.specs.CheckFile.{RefusesChecked}
+use Rattle.spmlink.specs.Meaning.{RefusesInputs, RefusesFile, RefusesTexts, memory_wanting, faulty, differing, run_first, relink_first, profile_first, compare_first, check_first, hex_first, check_fault, check_difference}
 use Rattle.spmlink.specs.declared.faults.Refusal.{Refusal}
 
 pub run_refused : (board file input : List ℕ) (fault : Refusal) → IsFirstRefusal board file fault
@@ -27,6 +28,11 @@ pub compare_refused : (board file relinked input : List ℕ) (fault : Refusal) �
     → (f r b i : List ℕ) → RefusesInputs (compare_command f r b i) (file ∷ relinked ∷ board ∷ input ∷ []) fault
 compare_refused board file relinked input fault (inl e) f r b i = inl e
 compare_refused board file relinked input fault (inr tells) f r b i = inr (compare_first f r b i file relinked board input refl refl tells)
+
+pub certificate_refused : (board file input cert : List ℕ) (fault : Refusal) → RefusesChecked board file input cert fault
+    → (f b i c : List ℕ) → RefusesInputs (check_command f b i c) (file ∷ board ∷ input ∷ cert ∷ []) fault
+certificate_refused board file input cert fault (inl e) f b i c = inl e
+certificate_refused board file input cert fault (inr tells) f b i c = inr (check_first f b i c file board input cert refl refl tells)
 
 pub hex_refused : (file : List ℕ) (fault : Refusal) → RefusesFile file fault
     → (f o : List ℕ) → RefusesInputs (hex_command f o) (file ∷ []) fault

@@ -23,13 +23,16 @@ use Rattle.profile_runner.specs.Move.{Move}
 use Rattle.profile_runner.specs.Running.{Profiles}
 use Rattle.profile_runner.specs.declared.counts.Profile.{Profile}
 use Rattle.profile_runner.proofs.RunLemmas.{moves_steps}
+use Rattle.rv_decode.proofs.Meaning.{same_instruction}
+use Rattle.energy_model.specs.Energy.{Scene}
 use Rattle.energy_model.specs.Selected.{stated}
 use Rattle.energy_model.specs.Stated.{scene_of, layout_of, IsOfOneFile}
+use Rattle.energy_model.proofs.ChoiceLemmas.{is_of_the_run}
 use Rattle.relink_core.specs.Faults.{least_patch}
 use Rattle.spmlink.specs.ProfileFile.{no_regions}
 use Rattle.spmlink.specs.ProgramRun.{RunsProgram}
 use Rattle.spmlink.specs.RelinkFile.{RelinksTo}
-use Rattle.spmlink.specs.StatedRun.{bare_scene, bare_layout}
+use Rattle.spmlink.specs.StatedRun.{bare_scene, bare_layout, EnergiesAreOf}
 
 -- a table in which no block has a region
 pub record HasNone (c : Code) (t : RegionTable) : Type 0 where
@@ -79,6 +82,29 @@ stated_bare g c t board moves p none is =
     (λ k. p ≡ stated (record { blocks = c.blocks.items; graph = g; regions = t.of_block.items; borders = t.border.items; region_count = k; board = board })
     (record { scratchpad = board.spm.size; patch = board.patch.size; fence_i = board.fence_i; blocks = length c.blocks.items; objects = length g.objects.items; regions = k; displaced = []; grain = board.grain }) moves)
     none.count is))
+
+-- a scene by such a table is one without
+bare_of : (g : Graph) (c : Code) (t : RegionTable) (board : Board) → HasNone c t → scene_of g c t board ≡ bare_scene g c board
+bare_of g c t board none =
+    λ i. record {
+      blocks = c.blocks.items;
+      graph = g;
+      regions = none.regions i;
+      borders = none.borders i;
+      region_count = none.count i;
+      board = board;
+    }
+
+-- so the energies are those of the run
+pub energies_bare : (view : ElfView) (board : Board) (g : Graph) (c : Code) (t : RegionTable) (q : Profile) (moves : List Move) (p : PlainProgramme)
+    → HasNone c t → IsOfOneFile view board g c t q moves → p ≡ stated (scene_of g c t board) (layout_of g c t board) moves
+    → EnergiesAreOf (bare_scene g c board) moves p
+energies_bare view board g c t q moves p none one is =
+    let w = scene_of g c t board in
+    let of_stated : EnergiesAreOf w moves (stated w (layout_of g c t board) moves) =
+    λ choice feasible. is_of_the_run same_instruction view board g c t q moves choice one feasible in
+    subst (λ (s : Scene). EnergiesAreOf s moves p) (bare_of g c t board none)
+    (subst (λ (r : PlainProgramme). EnergiesAreOf w moves r) (sym is) of_stated)
 
 -- a program that is relinked was run
 pub relinked_runs : (file board_text input certificate out report : List ℕ) (made : RelinksTo file board_text input certificate out report)

@@ -12,18 +12,24 @@ use Rattle.code_blocks.specs.declared.fault.CodeFault.{CodeFault}
 use Rattle.code_blocks.specs.declared.fault.CodeFault.TheVariants as code
 use Rattle.relink_core.specs.declared.fault.AnalyseFault.{AnalyseFault}
 use Rattle.relink_core.specs.declared.fault.AnalyseFault.TheVariants as analyse
+use Rattle.certificate_checker.specs.Shows.{optimal, best_found, bad_choice, wrong}
+use Rattle.certificate_checker.specs.declared.fault.CertFault.{CertFault}
+use Rattle.certificate_checker.specs.declared.fault.CertFault.TheVariants as cert
+use Rattle.placement_programme.specs.Plain.{PlainProgramme}
 use Rattle.hex_image.specs.Reading.{hex_fault}
 use Rattle.hex_image.specs.declared.fault.HexFault.{HexFault}
 use Rattle.hex_image.specs.declared.fault.HexFault.TheVariants as hex
 use Rattle.spmlink.specs.Command.{PlainCommand}
-use Rattle.spmlink.specs.FaultLine.{Parts, board_parts, elf_parts, graph_parts, code_parts, analyse_parts, address_parts, source_parts, hex_parts, differs_parts, status_of}
+use Rattle.spmlink.specs.FaultLine.{Parts, board_parts, elf_parts, graph_parts, code_parts, analyse_parts, address_parts, source_parts, cert_parts, choice_parts, tree_parts, hex_parts, differs_parts, status_of}
 use Rattle.compare_runner.specs.declared.comparing.Comparison.TheVariants.{Same, Differs, SourceFault}
 use Rattle.spmlink.specs.Analysed.{TellsAnalysed, of_board, of_analysis}
 use Rattle.spmlink.specs.ProgramRun.{TellsProfiled, of_run, of_none}
 use Rattle.spmlink.specs.ProgramRun as program
 use Rattle.spmlink.specs.CompareFiles.{TellsCompared, of_relinked, of_comparison}
 use Rattle.spmlink.specs.CompareFiles as compared
-use Rattle.spmlink.specs.Meaning.{IsFirst, run_first, relink_first, profile_first, compare_first, gen_first, hex_first, check_fault, check_difference}
+use Rattle.spmlink.specs.CheckFile.{TellsText, unspelled, answered, TellsChecked, of_certificate}
+use Rattle.spmlink.specs.CheckFile as checked
+use Rattle.spmlink.specs.Meaning.{IsFirst, run_first, relink_first, profile_first, compare_first, check_first, gen_first, hex_first, check_fault, check_difference}
 use Rattle.spmlink.specs.declared.faults.Refusal.{Refusal}
 use Rattle.spmlink.specs.declared.faults.Refusal.TheVariants as refusal
 
@@ -108,6 +114,31 @@ compared_least board file relinked input told (of_comparison b (SourceFault pc w
     let same : source_parts pc why ≡ told = cc in
     let low : IsOfInputs (source_parts pc why) = omega arith in subst IsOfInputs same low
 
+cert_least : (fault : CertFault) → IsOfInputs (cert_parts fault)
+cert_least (cert.BadHead at) = omega arith
+cert_least (cert.Truncated at) = omega arith
+cert_least (cert.BadNode at) = omega arith
+cert_least (cert.TooDeep at) = omega arith
+cert_least (cert.Trailing at) = omega arith
+cert_least cert.Memory = omega arith
+
+text_least : (p : PlainProgramme) (text : List ℕ) (told : Parts) → TellsText p text (Some told) → IsOfInputs told
+text_least p text told (unspelled fault read e) =
+    let same : cert_parts fault ≡ told = cc in subst IsOfInputs same (cert_least fault)
+text_least p text told (answered c optimal spells answers e) = absurd (cc)
+text_least p text told (answered c best_found spells answers e) = absurd (cc)
+text_least p text told (answered c bad_choice spells answers e) =
+    let same : choice_parts ≡ told = cc in
+    let low : IsOfInputs choice_parts = omega arith in subst IsOfInputs same low
+text_least p text told (answered c (wrong side node depth) spells answers e) =
+    let same : tree_parts side node ≡ told = cc in
+    let low : IsOfInputs (tree_parts side node) = omega arith in subst IsOfInputs same low
+
+checked_least : (board file input text : List ℕ) (told : Parts) → TellsChecked board file input text (Some told) → IsOfInputs told
+checked_least board file input text told (checked.of_run parts tells e) =
+    let same : parts ≡ told = cc in subst IsOfInputs same (profiled_least board file input parts tells)
+checked_least board file input text told (of_certificate b p accepts states tells) = text_least p text told tells
+
 -- so it is with what is told of an optional fault
 told_least : {E : Type 0} (parts : E → Parts) → ((fault : E) → IsOfInputs (parts fault)) → (fault : Option E) (told : Parts)
     → option_map parts fault ≡ Some told → IsOfInputs told
@@ -138,6 +169,8 @@ first_least command inputs told (profile_first f b i file board input is are tel
     profiled_least board file input told tells
 first_least command inputs told (compare_first f r b i file relinked board input is are tells) =
     compared_least board file relinked input told tells
+first_least command inputs told (check_first f b i c file board input text is are tells) =
+    checked_least board file input text told tells
 first_least command inputs told (gen_first s k o is are e) = absurd (cc)
 first_least command inputs told (hex_first f o file is are e) =
     told_least elf_parts elf_least (first_fault file) told (sym e)
@@ -156,6 +189,9 @@ status_positive (refusal.Board fault) e = let low = board_least (plain_fault fau
 status_positive (refusal.Elf fault) e = let low = elf_least fault in omega arith
 status_positive (refusal.Analyse fault) e = let low = analyse_least fault in omega arith
 status_positive (refusal.AddressFault pc why) e = omega arith
+status_positive (refusal.Certificate fault) e = let low = cert_least fault in omega arith
+status_positive refusal.BadChoice e = omega arith
+status_positive (refusal.WrongTree side node) e = omega arith
 status_positive (refusal.Hex fault) e = let low = hex_least fault in omega arith
 status_positive (refusal.Differs at) e = omega arith
 status_positive (refusal.SourceFault pc why) e = omega arith

@@ -94,6 +94,11 @@ Cause (refusal.Analyse fault) words old new sink mid =
     InputFails words (refusal.Analyse fault) old new × (mid ≡ sink)
 Cause (refusal.AddressFault pc why) words old new sink mid =
     InputFails words (refusal.AddressFault pc why) old new × (mid ≡ sink)
+Cause (refusal.Certificate fault) words old new sink mid =
+    InputFails words (refusal.Certificate fault) old new × (mid ≡ sink)
+Cause refusal.BadChoice words old new sink mid = InputFails words refusal.BadChoice old new × (mid ≡ sink)
+Cause (refusal.WrongTree side node) words old new sink mid =
+    InputFails words (refusal.WrongTree side node) old new × (mid ≡ sink)
 Cause (refusal.Hex fault) words old new sink mid =
     InputFails words (refusal.Hex fault) old new × (mid ≡ sink)
 Cause (refusal.Differs at) words old new sink mid =

@@ -16,6 +16,8 @@ use Rattle.profile_runner.specs.declared.fault.ProfileFault.{ProfileFault}
 use Rattle.profile_runner.specs.declared.fault.ProfileFault.TheVariants as profile
 use Rattle.relink_core.specs.declared.fault.AnalyseFault.{AnalyseFault}
 use Rattle.relink_core.specs.declared.fault.AnalyseFault.TheVariants as analyse
+use Rattle.certificate_checker.specs.declared.fault.CertFault.{CertFault}
+use Rattle.certificate_checker.specs.declared.fault.CertFault.TheVariants as cert
 use Rattle.spmlink.specs.declared.faults.Refusal.{Refusal}
 use Rattle.spmlink.specs.declared.faults.Refusal.TheVariants as refusal
 use Rattle.spmlink.specs.declared.faults.LineParts.{LineParts}
@@ -100,6 +102,22 @@ address_parts pc why = parts 8 (codes "address-fault") pc why
 abbrev pub source_parts : ℕ → ℕ → Parts
 source_parts pc why = parts 12 (codes "address-fault") pc why
 
+-- a text that is no certificate breaks the grammar first at a byte
+abbrev pub cert_parts : CertFault → Parts
+cert_parts (cert.BadHead at) = parts 10 (codes "bad-head") at 0
+cert_parts (cert.Truncated at) = parts 10 (codes "truncated") at 0
+cert_parts (cert.BadNode at) = parts 10 (codes "bad-node") at 0
+cert_parts (cert.TooDeep at) = parts 10 (codes "too-deep") at 0
+cert_parts (cert.Trailing at) = parts 10 (codes "trailing") at 0
+cert_parts cert.Memory = parts 9 (codes "memory") 0 0
+
+-- a certificate's choice is not feasible, or gains less than 0; and a tree of it fails first at a node
+abbrev pub choice_parts : Parts
+choice_parts = parts 10 (codes "bad-choice") 0 0
+
+abbrev pub tree_parts : ℕ → ℕ → Parts
+tree_parts side node = parts 10 (codes "wrong") side node
+
 -- a difference at a place
 abbrev pub differs_parts : ℕ → Parts
 differs_parts at = parts 11 (codes "differs") at 0
@@ -112,6 +130,9 @@ parts_of (refusal.Board fault) = board_parts (plain_fault fault)
 parts_of (refusal.Elf fault) = elf_parts fault
 parts_of (refusal.Analyse fault) = analyse_parts fault
 parts_of (refusal.AddressFault pc why) = address_parts pc why
+parts_of (refusal.Certificate fault) = cert_parts fault
+parts_of refusal.BadChoice = choice_parts
+parts_of (refusal.WrongTree side node) = tree_parts side node
 parts_of (refusal.Hex fault) = hex_parts fault
 parts_of (refusal.Differs at) = differs_parts at
 parts_of (refusal.SourceFault pc why) = source_parts pc why
@@ -155,6 +176,10 @@ analyse_refusal fault = refusal.Analyse fault
 abbrev pub profile_refusal : ProfileFault → Refusal
 profile_refusal (profile.AddressFault pc why) = refusal.AddressFault pc why
 profile_refusal profile.Memory = refusal.Memory
+
+abbrev pub cert_refusal : CertFault → Refusal
+cert_refusal cert.Memory = refusal.Memory
+cert_refusal fault = refusal.Certificate fault
 
 abbrev pub hex_refusal : HexFault → Refusal
 hex_refusal hex.Memory = refusal.Memory

@@ -9,8 +9,10 @@ pub mod ProgramRun
 pub mod ProfileLines
 pub mod ProfileFile
 pub mod StatedRun
+pub mod ReportText
 pub mod RelinkFile
 pub mod CompareFiles
+pub mod CheckFile
 pub mod Meaning
 pub mod Performing
 pub mod Answers

@@ -10,13 +10,14 @@ use Rattle.hex_image.specs.Runs.{ByteMap, file_map}
 use Rattle.hex_image.specs.Text.{hex_text, hex_records}
 use Rattle.hex_image.specs.Reading as hex
 use Rattle.hex_image.specs.Difference.{IsDifference}
-use Rattle.spmlink.specs.Command.{PlainCommand, run_command, relink_command, profile_command, compare_command, gen_command, hex_command, hex_check_command}
+use Rattle.spmlink.specs.Command.{PlainCommand, run_command, relink_command, profile_command, compare_command, check_command, gen_command, hex_command, hex_check_command}
 use Rattle.spmlink.specs.FaultLine.{Parts, elf_parts, hex_parts, differs_parts, parts_of}
 use Rattle.spmlink.specs.RunFile.{RunsTo, first_refusal}
 use Rattle.spmlink.specs.ProgramRun.{TellsProfiled}
 use Rattle.spmlink.specs.RelinkFile.{RelinksTo}
 use Rattle.spmlink.specs.ProfileFile.{ProfilesTo}
 use Rattle.spmlink.specs.CompareFiles.{ComparesTo, TellsCompared}
+use Rattle.spmlink.specs.CheckFile.{ChecksTo, TellsChecked}
 use Rattle.spmlink.specs.declared.faults.Refusal.{Refusal}
 use Rattle.spmlink.specs.declared.faults.Refusal.TheVariants as refusal
 
@@ -65,6 +66,10 @@ pub data IsFirst (command : PlainCommand) (inputs : List (List ℕ)) (told : Opt
       → command ≡ compare_command file_name relinked_name board_name input_name
       → inputs ≡ file ∷ relinked ∷ board ∷ input ∷ [] → TellsCompared board file relinked input told
       → IsFirst command inputs told
+  check_first : (file_name board_name input_name cert_name file board input cert : List ℕ)
+      → command ≡ check_command file_name board_name input_name cert_name
+      → inputs ≡ file ∷ board ∷ input ∷ cert ∷ [] → TellsChecked board file input cert told
+      → IsFirst command inputs told
   gen_first : (seed kernels : ℕ) (out_name : List ℕ)
       → command ≡ gen_command seed kernels out_name → inputs ≡ [] → told ≡ None → IsFirst command inputs told
   hex_first : (file_name out_name file : List ℕ)
@@ -94,6 +99,10 @@ pub data Yields (command : PlainCommand) (inputs outputs : List (List ℕ)) (tex
       → command ≡ compare_command file_name relinked_name board_name input_name
       → inputs ≡ file ∷ relinked ∷ board ∷ input ∷ []
       → outputs ≡ [] → ComparesTo file relinked board input text → Yields command inputs outputs text
+  checks : (file_name board_name input_name cert_name file board input cert : List ℕ)
+      → command ≡ check_command file_name board_name input_name cert_name
+      → inputs ≡ file ∷ board ∷ input ∷ cert ∷ []
+      → outputs ≡ [] → ChecksTo file board input cert text → Yields command inputs outputs text
   generates : (seed kernels : ℕ) (out_name : List ℕ)
       → command ≡ gen_command seed kernels out_name → inputs ≡ []
       → outputs ≡ built (workload_plan seed kernels) ∷ [] → text ≡ kernels_text kernels

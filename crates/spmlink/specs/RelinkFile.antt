@@ -1,7 +1,6 @@
 -- What `relink` makes of a file, a board and an input, while nothing is moved: the file itself, a certificate
 -- that takes nothing, and a report on the energy of the program's run.
-use Rattle.std.specs.Prelude.{◌≡◌, ℕ, List, [], ◌∷◌, ◌++◌, codes}
-use Rattle.std.specs.Fmt.{decimal}
+use Rattle.std.specs.Prelude.{◌≡◌, ℕ, false, List, [], ◌∷◌}
 use Rattle.elf_reader.specs.File.{view_in}
 use Rattle.board_config.specs.declared.board.Board.{Board}
 use Rattle.object_graph.specs.Graphs.{IsGraph}
@@ -12,12 +11,7 @@ use Rattle.placement_programme.specs.Plain.{PlainProgramme}
 use Rattle.relink_core.specs.Keeps.{KeepsPaired}
 use Rattle.spmlink.specs.Analysed.{Accepts}
 use Rattle.spmlink.specs.StatedRun.{StatesProgramme}
-
--- the report: how the choice was found, and what the run costs before and after
-abbrev pub report_text : ℕ → ℕ → ℕ → List ℕ
-report_text nodes before after =
-    codes "best found "
-    ++ (decimal nodes ++ (codes "\nbefore " ++ (decimal before ++ (codes "\nafter " ++ (decimal after ++ 10 ∷ [])))))
+use Rattle.spmlink.specs.ReportText.{report_text}
 
 -- the certificate of the choice that takes nothing: the mark `SPC1`, no tree, the side without overlays, and no
 -- variable
@@ -37,5 +31,5 @@ pub record RelinksTo (file board_text input certificate out report : List ℕ) :
   pub states : StatesProgramme (view_in file) board graph code input programme
   pub certificate_is : certificate ≡ bare_certificate
   pub out_is : out ≡ file
-  pub report_is : report ≡ report_text board.nodes programme.base programme.base
+  pub report_is : report ≡ report_text false board.nodes programme.base programme.base
   pub keeps : KeepsPaired file out board

@@ -40,6 +40,8 @@ pub(crate) const PROFILE: [&str; 4] = ["profile", "prog", "board", "input"];
 
 pub(crate) const COMPARE: [&str; 5] = ["compare", "prog", "other", "board", "input"];
 
+pub(crate) const CHECK: [&str; 5] = ["check", "prog", "board", "input", "other"];
+
 pub(crate) const RUN: [&str; 5] = ["run", "prog", "board", "input", "out"];
 
 impl<'a> Call<'a> {
@@ -65,6 +67,16 @@ impl<'a> Call<'a> {
         Call {
             words: &COMPARE,
             other,
+            ..Call::of(file)
+        }
+    }
+
+    /// A `check` of a certificate of a file for a board, in which nothing fails.
+    pub fn check(file: &'a [u8], board: &'a [u8], cert: &'a [u8]) -> Call<'a> {
+        Call {
+            words: &CHECK,
+            board,
+            other: cert,
             ..Call::of(file)
         }
     }

@@ -5,11 +5,12 @@ use std::test::Fail;
 
 /// The same commands as `clap` has them: subcommands with required positional words.
 fn commands<'a>(alloc: Global) -> Result<Command<'a>, Error> {
-    let all: [(&'static str, &'static [&'static str]); 7] = [
+    let all: [(&'static str, &'static [&'static str]); 8] = [
         ("run", &["FILE", "BOARD", "INPUT", "OUT"]),
         ("relink", &["FILE", "BOARD", "INPUT", "OUT", "CERT"]),
         ("profile", &["FILE", "BOARD", "INPUT"]),
         ("compare", &["FILE", "RESULT", "BOARD", "INPUT"]),
+        ("check", &["FILE", "BOARD", "INPUT", "CERT"]),
         ("gen", &["SEED", "KERNELS", "OUT"]),
         ("hex", &["FILE", "OUT"]),
         ("hexcheck", &["FILE", "HEX"]),
@@ -52,19 +53,21 @@ fn accepts(alloc: Global, words: &[&str]) -> Result<bool, AllocError> {
 
 #[test]
 fn clap_accepts_the_same_lines(rt: HostRuntime) -> Result<(), Fail> {
-    let lines: [(&[&str], bool); 18] = [
+    let lines: [(&[&str], bool); 20] = [
         (&["run", "prog", "board", "input", "out"], true),
         (&["run", "same", "same", "same", "out"], true),
         (&["relink", "prog", "board", "input", "out", "cert"], true),
         (&["relink", "same", "same", "same", "out", "cert"], true),
         (&["profile", "prog", "board", "input"], true),
         (&["compare", "prog", "prog", "board", "input"], true),
+        (&["check", "prog", "board", "input", "cert"], true),
         (&["gen", "5", "5", "5"], true),
         (&["hex", "prog", "out"], true),
         (&["hexcheck", "prog", "prog"], true),
         (&["relink", "prog", "board", "input", "out"], false),
         (&["profile", "prog", "board"], false),
         (&["compare", "prog", "board", "input"], false),
+        (&["check", "prog", "board", "input"], false),
         (&["gen", "0", "4"], false),
         (&["hex", "prog"], false),
         (&["run", "a", "b", "c"], false),

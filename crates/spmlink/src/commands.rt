@@ -30,6 +30,12 @@ pub enum Command<'a> {
         board: &'a str,
         input: &'a str,
     },
+    Check {
+        file: &'a str,
+        board: &'a str,
+        input: &'a str,
+        cert: &'a str,
+    },
     Gen {
         seed: u32,
         kernels: u32,
@@ -87,6 +93,17 @@ impl<'a> Command<'a> {
                 named(3, board),
                 named(4, input),
             ]?,
+            Command::Check {
+                file,
+                board,
+                input,
+                cert,
+            } => vec![in alloc;
+                named(1, file),
+                named(2, board),
+                named(3, input),
+                named(4, cert),
+            ]?,
             Command::Gen { .. } => Vec::new(alloc),
             Command::Hex { file, .. } => vec![in alloc; named(1, file)]?,
             Command::HexCheck { file, hex } => vec![in alloc; named(1, file), named(2, hex)]?,
@@ -131,6 +148,9 @@ fn spelled(words: &[String]) -> Option<Command<'_>>
         return Some(command);
     }
     if let Some(command) = spelled_compare(words) {
+        return Some(command);
+    }
+    if let Some(command) = spelled_check(words) {
         return Some(command);
     }
     if let Some(command) = spelled_gen(words) {
@@ -216,6 +236,26 @@ fn spelled_compare(words: &[String]) -> Option<Command<'_>>
             relinked: relinked.as_str(),
             board: board.as_str(),
             input: input.as_str(),
+        })
+    } else {
+        None
+    }
+}
+
+fn spelled_check(words: &[String]) -> Option<Command<'_>>
+    ensures { MatchOption result
+        ((f b i c : List ℕ) → texts words.now ≡ codes "check" ∷ f ∷ b ∷ i ∷ c ∷ [] → ⊥)
+        (λ command. Spells (texts words.now) (plain_command command)) }
+{
+    let [name, file, board, input, cert] = words else {
+        return None;
+    };
+    if is_the_word(name.as_str(), "check") {
+        Some(Command::Check {
+            file: file.as_str(),
+            board: board.as_str(),
+            input: input.as_str(),
+            cert: cert.as_str(),
         })
     } else {
         None
@@ -330,6 +370,7 @@ fn is_apart(command: &Command<'_>) -> bool
         } => is_new(cert, file, board, input) && out != cert && is_new(out, file, board, input),
         Command::Profile { .. } => true,
         Command::Compare { .. } => true,
+        Command::Check { .. } => true,
         Command::Gen { .. } => true,
         Command::Hex { file, out } => file != out,
         Command::HexCheck { .. } => true,

@@ -1,4 +1,5 @@
 use board_config::BoardFault;
+use certificate_checker::CertFault;
 use code_blocks::CodeFault;
 use elf_reader::ElfFault;
 use hex_image::HexFault;
@@ -26,6 +27,12 @@ pub enum Refusal {
     /// The unit at `pc` of the program, run to measure it, can't be performed where objects have no addresses,
     /// for the reason `why` of `object_machine::Outcome`.
     AddressFault { pc: u32, why: u32 },
+    /// The text is that of no certificate.
+    Certificate(CertFault),
+    /// The certificate's choice is not feasible, or gains less than 0.
+    BadChoice,
+    /// The tree of this side of the certificate (0 without overlay, 1 with overlay) fails first at this node.
+    WrongTree { side: u32, node: u32 },
     /// The text is not one in Intel HEX.
     Hex(HexFault),
     /// What was compared differs first at this place.
@@ -67,6 +74,9 @@ impl Refusal {
             Refusal::Elf(fault) => LineParts::of_elf(fault),
             Refusal::Analyse(fault) => LineParts::of_analysis(fault),
             Refusal::AddressFault { pc, why } => LineParts::new(8, "address-fault", *pc, *why),
+            Refusal::Certificate(fault) => LineParts::of_certificate(fault),
+            Refusal::BadChoice => LineParts::new(10, "bad-choice", 0, 0),
+            Refusal::WrongTree { side, node } => LineParts::new(10, "wrong", *side, *node),
             Refusal::Hex(fault) => LineParts::of_hex(fault),
             Refusal::Differs { at } => LineParts::of_difference(*at),
             Refusal::SourceFault { pc, why } => LineParts::new(12, "address-fault", *pc, *why),
@@ -153,6 +163,20 @@ impl From<ProfileFault> for Refusal {
     }
 }
 
+impl From<CertFault> for Refusal {
+    ghost use Rattle.std.specs.Prelude.{◌≡◌};
+    ghost use Rattle.spmlink.specs.FaultLine.{cert_refusal};
+
+    ghost from_gives = { λ fault refusal. refusal ≡ cert_refusal fault };
+
+    fn from(fault: CertFault) -> Refusal {
+        match fault {
+            CertFault::Memory => Refusal::Memory,
+            fault => Refusal::Certificate(fault),
+        }
+    }
+}
+
 impl From<HexFault> for Refusal {
     ghost use Rattle.std.specs.Prelude.{◌≡◌};
     ghost use Rattle.spmlink.specs.FaultLine.{hex_refusal};
@@ -180,7 +204,7 @@ struct LineParts<'a> {
 impl<'a> LineParts<'a> {
     ghost use Rattle.std.specs.Prelude.{◌≡◌};
     ghost use Rattle.board_config.specs.Faults.{plain_fault};
-    ghost use Rattle.spmlink.specs.FaultLine.{parts, named_parts, plain_parts, board_parts, elf_parts, graph_parts, code_parts, analyse_parts, hex_parts, differs_parts};
+    ghost use Rattle.spmlink.specs.FaultLine.{parts, named_parts, plain_parts, board_parts, elf_parts, graph_parts, code_parts, analyse_parts, cert_parts, hex_parts, differs_parts};
 
     fn new(status: u8, word: &'static str, first: u32, second: u32) -> LineParts<'a>
         ensures { plain_parts result ≡ parts status word.entry.now first second }
@@ -304,6 +328,19 @@ impl<'a> LineParts<'a> {
             CodeFault::EntryNotLeader => LineParts::new(5, "entry-not-leader", 0, 0),
             CodeFault::TooManyBlocks { count } => LineParts::new(5, "too-many-blocks", *count, 0),
             CodeFault::Memory => LineParts::new(9, "memory", 0, 0),
+        }
+    }
+
+    fn of_certificate(fault: &CertFault) -> LineParts<'a>
+        ensures { plain_parts result ≡ cert_parts fault.now }
+    {
+        match fault {
+            CertFault::BadHead { at } => LineParts::new(10, "bad-head", *at, 0),
+            CertFault::Truncated { at } => LineParts::new(10, "truncated", *at, 0),
+            CertFault::BadNode { at } => LineParts::new(10, "bad-node", *at, 0),
+            CertFault::TooDeep { at } => LineParts::new(10, "too-deep", *at, 0),
+            CertFault::Trailing { at } => LineParts::new(10, "trailing", *at, 0),
+            CertFault::Memory => LineParts::new(9, "memory", 0, 0),
         }
     }
 

@@ -1,9 +1,12 @@
-//! Runs RV32IM programs on a model of a board with a scratchpad memory, measures them, relinks them for it, and
-//! compares them with what that made; generates workloads, and writes and checks Intel HEX.
+//! Runs RV32IM programs on a model of a board with a scratchpad memory, measures them, relinks them for it, compares
+//! them with what that made, and checks its certificates; generates workloads, and writes and checks Intel HEX.
 #![tactic(auto)]
 
 #[cfg(test)]
 mod calls;
+mod check_file;
+#[cfg(test)]
+mod check_tests;
 #[cfg(test)]
 mod clap_agrees;
 mod commands;
@@ -27,6 +30,7 @@ mod refused;
 mod relink_file;
 #[cfg(test)]
 mod relink_tests;
+mod report_lines;
 mod results;
 mod run_file;
 mod stated_run;
@@ -45,6 +49,7 @@ const USAGE: &str = "usage: spmlink run FILE BOARD INPUT OUT
        spmlink relink FILE BOARD INPUT OUT CERT
        spmlink profile FILE BOARD INPUT
        spmlink compare FILE RESULT BOARD INPUT
+       spmlink check FILE BOARD INPUT CERT
        spmlink gen SEED KERNELS OUT
        spmlink hex FILE OUT
        spmlink hexcheck FILE HEX

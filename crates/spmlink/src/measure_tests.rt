@@ -51,7 +51,7 @@ fn exit_file(alloc: Global, exit: &Exit) -> Result<Vec<u8>, AllocError> {
 }
 
 /// Whether a call prints this, and answers the status that a fault line begins with, or else 0.
-fn answers(alloc: Global, call: &Call<'_>, printed: &str) -> Result<bool, AllocError> {
+pub(crate) fn answers(alloc: Global, call: &Call<'_>, printed: &str) -> Result<bool, AllocError> {
     let answer = call.answer(alloc)?;
     let status = match printed.strip_prefix("error ") {
         Some(line) => line.split(' ').next().and_then(|word| word.parse().ok()),

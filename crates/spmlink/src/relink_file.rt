@@ -1,8 +1,10 @@
-ghost use Rattle.std.specs.Prelude.{◌≡◌, IfOk, IfErr, string_bytes};
+ghost use Rattle.std.specs.Prelude.{◌≡◌, false, IfOk, IfErr, string_bytes};
 ghost use Rattle.spmlink.specs.ProgramRun.{RefusesProfiled};
-ghost use Rattle.spmlink.specs.RelinkFile.{RelinksTo, bare_certificate, report_text};
+ghost use Rattle.spmlink.specs.RelinkFile.{RelinksTo, bare_certificate};
+ghost use Rattle.spmlink.specs.ReportText.{report_text};
 
 use crate::faults::Refusal;
+use crate::report_lines::report_lines;
 use crate::stated_run::stated_run;
 use board_config::read_board;
 use relink_core::{analyse, unmoved_file_keeps};
@@ -48,9 +50,9 @@ pub fn relink_file(
 fn unmoved(alloc: Global, file: &[u8], nodes: u64, energy: u128) -> Result<Relinked, AllocError>
     ensures certificate { IfOk result (λ r. r.certificate.items ≡ bare_certificate) }
     ensures file { IfOk result (λ r. r.file.items ≡ file.now) }
-    ensures report { IfOk result (λ r. string_bytes r.report ≡ report_text nodes energy energy) }
+    ensures report { IfOk result (λ r. string_bytes r.report ≡ report_text false nodes energy energy) }
 {
-    let report = report(alloc, nodes, energy, energy)?;
+    let report = report_lines(alloc, false, nodes, energy, energy)?;
     let certificate = Vec::from_slice(alloc, &BARE_CERTIFICATE)?;
     let file = file.to_vec(alloc)?;
     Ok(Relinked {
@@ -58,12 +60,4 @@ fn unmoved(alloc: Global, file: &[u8], nodes: u64, energy: u128) -> Result<Relin
         file,
         report,
     })
-}
-
-/// The lines of a report: the choice is the best that was found while visiting at most `nodes` nodes; and the
-/// energy of the program's run before and after, in units of the board's prices.
-fn report(alloc: Global, nodes: u64, before: u128, after: u128) -> Result<String, AllocError>
-    ensures { IfOk result (λ text. string_bytes text ≡ report_text nodes before after) }
-{
-    format!(in alloc; "best found {nodes}\nbefore {before}\nafter {after}\n")
 }

@@ -1,9 +1,10 @@
 ghost use Rattle.std.specs.Prelude.{◌≡◌, ◌∷◌, [], ◌≤◌, ℕ, List, IfOk, IfErr, length, string_bytes};
-ghost use Rattle.spmlink.specs.Command.{HasNumbers, plain_command, reads, run_command, relink_command, profile_command, compare_command, gen_command, hex_command, hex_check_command};
+ghost use Rattle.spmlink.specs.Command.{HasNumbers, plain_command, reads, run_command, relink_command, profile_command, compare_command, check_command, gen_command, hex_command, hex_check_command};
 ghost use Rattle.spmlink.specs.Reading.{contents};
 ghost use Rattle.spmlink.specs.Meaning.{RefusesInputs, kernels_text};
 ghost use Rattle.spmlink.specs.Performing.{IsReadyFor};
 
+use crate::check_file::check_file;
 use crate::commands::Command;
 use crate::compare_files::compare_files;
 use crate::delivery::{Output, Ready};
@@ -45,6 +46,12 @@ pub fn make_ready<'a>(
         },
         Command::Compare { .. } => {
             match ready_compare(alloc, &texts[0], &texts[1], &texts[2], &texts[3]) {
+                Ok(ready) => Ok(ready),
+                Err(fault) => Err(fault),
+            }
+        }
+        Command::Check { .. } => {
+            match ready_check(alloc, &texts[0], &texts[1], &texts[2], &texts[3]) {
                 Ok(ready) => Ok(ready),
                 Err(fault) => Err(fault),
             }
@@ -132,6 +139,24 @@ fn ready_compare<'a>(
         → RefusesInputs (compare_command f r b i) (file.now ∷ relinked.now ∷ board.now ∷ input.now ∷ []) fault) }
 {
     match compare_files(alloc, file, relinked, board, input) {
+        Ok(text) => Ok(Ready::printed(alloc, text)?),
+        Err(fault) => Err(fault),
+    }
+}
+
+fn ready_check<'a>(
+    alloc: Global,
+    file: &[u8],
+    board: &[u8],
+    input: &[u8],
+    cert: &[u8],
+) -> Result<Ready<'a>, Refusal>
+    ensures ok { IfOk result (λ ready. (f b i c : List ℕ)
+        → IsReadyFor (check_command f b i c) (file.now ∷ board.now ∷ input.now ∷ cert.now ∷ []) ready) }
+    ensures err { IfErr result (λ fault. (f b i c : List ℕ)
+        → RefusesInputs (check_command f b i c) (file.now ∷ board.now ∷ input.now ∷ cert.now ∷ []) fault) }
+{
+    match check_file(alloc, file, board, input, cert) {
         Ok(text) => Ok(Ready::printed(alloc, text)?),
         Err(fault) => Err(fault),
     }

@@ -1,5 +1,5 @@
 use Rattle.std.proofs.Common.{List, ℕ, subst}
-use Rattle.spmlink.specs.Command.{run_command, relink_command, profile_command, compare_command, hex_command, hex_check_command}
+use Rattle.spmlink.specs.Command.{run_command, relink_command, profile_command, compare_command, check_command, hex_command, hex_check_command}
 use Rattle.spmlink.specs.Meaning.{RefusesInputs}
 use Rattle.spmlink.specs.Performing.{IsReadyFor}
 use Rattle.spmlink.proofs.Readings.{contents_of_one, contents_of_two, contents_of_three, contents_of_four}
@@ -50,6 +50,26 @@ returns-in-Ok-ready_compare-clause-ok c =
     let w = c.in-Compare in
     let command = compare_command w.file.now w.relinked.now w.board.now w.input.now in
     rw w.is (subst (λ (ts : List (List ℕ)). IsReadyFor command ts c.in-Ok-ready_compare.ready) are (c.in-Ok-ready_compare.ensures.ok w.file.now w.relinked.now w.board.now w.input.now))
+
+pub returns-in-Err-ready_check-clause-err : goal.returns-in-Err-ready_check-clause-err
+returns-in-Err-ready_check-clause-err c =
+    let count = rw c.in-Check.is at c.requires.texts in
+    let are = contents_of_four c.args.texts.now c.index-texts-0-in-Check.result c.index-texts-1-in-Check.result c.index-texts-2-in-Check.result c.index-texts-3-in-Check.result _ _ _ _ count
+    c.index-texts-0-in-Check.is c.index-texts-1-in-Check.is c.index-texts-2-in-Check.is c.index-texts-3-in-Check.is
+    c.deref-in-Check.ensures.value c.deref-in-Check-2.ensures.value c.deref-in-Check-3.ensures.value c.deref-in-Check-4.ensures.value in
+    let w = c.in-Check in
+    let command = check_command w.file.now w.board.now w.input.now w.cert.now in
+    rw w.is (subst (λ (ts : List (List ℕ)). RefusesInputs command ts c.in-Err-ready_check.fault) are (c.in-Err-ready_check.ensures.err w.file.now w.board.now w.input.now w.cert.now))
+
+pub returns-in-Ok-ready_check-clause-ok : goal.returns-in-Ok-ready_check-clause-ok
+returns-in-Ok-ready_check-clause-ok c =
+    let count = rw c.in-Check.is at c.requires.texts in
+    let are = contents_of_four c.args.texts.now c.index-texts-0-in-Check.result c.index-texts-1-in-Check.result c.index-texts-2-in-Check.result c.index-texts-3-in-Check.result _ _ _ _ count
+    c.index-texts-0-in-Check.is c.index-texts-1-in-Check.is c.index-texts-2-in-Check.is c.index-texts-3-in-Check.is
+    c.deref-in-Check.ensures.value c.deref-in-Check-2.ensures.value c.deref-in-Check-3.ensures.value c.deref-in-Check-4.ensures.value in
+    let w = c.in-Check in
+    let command = check_command w.file.now w.board.now w.input.now w.cert.now in
+    rw w.is (subst (λ (ts : List (List ℕ)). IsReadyFor command ts c.in-Ok-ready_check.ready) are (c.in-Ok-ready_check.ensures.ok w.file.now w.board.now w.input.now w.cert.now))
 
 pub returns-in-Err-ready_hex-clause-err : goal.returns-in-Err-ready_hex-clause-err
 returns-in-Err-ready_hex-clause-err c =

@@ -2,7 +2,7 @@ use Rattle.std.proofs.lemmas.Result.{err_from_is_err_and}
 use Rattle.elf_reader.specs.File.{plain_view}
 use Rattle.placement_programme.specs.Views.{plain_programme}
 use Rattle.spmlink.proofs.Profiling.{no_memory, unfaulted}
-use Rattle.spmlink.proofs.Stating.{HasNone, of_one_file, stated_bare}
+use Rattle.spmlink.proofs.Stating.{HasNone, of_one_file, stated_bare, energies_bare}
 use Rattle.spmlink.proofs.stated_run.stated_run.Goals as goal
 
 pub returns-in_err-regions : goal.returns-in_err-regions
@@ -37,5 +37,6 @@ returns-in-Ok c =
       last = last;
       run = made.run;
       no_address_fault = unfaulted last.outcome made.no_fault;
+      energies = energies_bare analysis.view c.args.board.now analysis.graph analysis.code t c.in_ok-counts.counts made.moves (plain_programme c.in-Ok.programme) none one (c.in-Ok.ensures analysis.view made.moves one);
       programme_is = stated_bare analysis.graph analysis.code t c.args.board.now made.moves (plain_programme c.in-Ok.programme) none (c.in-Ok.ensures analysis.view made.moves one);
     }

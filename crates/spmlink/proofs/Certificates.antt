@@ -1,0 +1,140 @@
+-- A certificate for the programme that a run states: what is told of it.
+use Rattle.std.proofs.Common.{◌≡◌, ◌⊎◌, inl, inr, ℕ, pos, ◌-ℤ◌, ◌≤ℤ◌, ℤ, Bool, true, false, List, Option, Some, None, Result, Ok, Err, refl, sym, subst, arith}
+use Rattle.std.proofs.lemmas.Int.{ints}
+use Rattle.placement_programme.specs.Plain.{PlainProgramme, PlainChoice}
+use Rattle.placement_programme.specs.Programme.{IsFeasible, gain}
+use Rattle.profile_runner.specs.Move.{Move}
+use Rattle.energy_model.specs.Energy.{Scene, energy}
+use Rattle.energy_model.specs.Adding.{taken_by}
+use Rattle.elf_reader.specs.File.{PlainView, view_in}
+use Rattle.board_config.specs.declared.board.Board.{Board}
+use Rattle.object_graph.specs.Graphs.{IsGraph}
+use Rattle.object_graph.specs.declared.parts.Graph.{Graph}
+use Rattle.code_blocks.specs.Blocks.{IsCode}
+use Rattle.code_blocks.specs.declared.parts.Code.{Code}
+use Rattle.certificate_checker.specs.Nodes.{PlainCertificate}
+use Rattle.certificate_checker.specs.Reading.{certificate_of}
+use Rattle.certificate_checker.specs.Spelling.{AreBytes}
+use Rattle.certificate_checker.specs.Shows.{PlainVerdict, optimal, best_found, bad_choice, wrong, Answers}
+use Rattle.certificate_checker.specs.Rooms.{KeepsChoice, BodyAnswers}
+use Rattle.certificate_checker.specs.Views.{plain_verdict}
+use Rattle.certificate_checker.specs.declared.verdict.Verdict.{Verdict}
+use Rattle.certificate_checker.specs.declared.fault.CertFault.{CertFault}
+use Rattle.certificate_checker.specs.declared.fault.CertFault.TheVariants as cert
+use Rattle.certificate_checker.proofs.Least.{shown_is_least}
+use Rattle.certificate_checker.proofs.TextLaws.{certificate_takes}
+use Rattle.spmlink.specs.FaultLine.{parts_of, cert_refusal}
+use Rattle.spmlink.specs.Analysed.{Accepts}
+use Rattle.spmlink.specs.ProgramRun.{RefusesProfiled}
+use Rattle.spmlink.specs.StatedRun.{StatesProgramme, EnergiesAreOf}
+use Rattle.spmlink.specs.ReportText.{IsReport}
+use Rattle.spmlink.specs.CheckFile.{StatesOf, IsLeast, answer_of, ReportsText, ChecksTo, told_of, TellsText, unspelled, answered, TellsChecked, of_run, of_certificate, RefusesChecked, RefusesText, MayReport, ReportsAnswer, RefusesAnswer}
+use Rattle.spmlink.specs.declared.faults.Refusal.{Refusal}
+use Rattle.spmlink.specs.declared.faults.Refusal.TheVariants as refusal
+
+-- ---- energies
+
+at_most_base : (base : ℕ) (saved : ℤ) (n : ℕ) → pos base -ℤ saved ≡ pos n → saved ≤ℤ pos base
+at_most_base base saved n is = omega (arith, ints, is)
+
+-- a choice whose energy is that of a run saves no more than the base
+pub within_base : (w : Scene) (moves : List Move) (p : PlainProgramme) → EnergiesAreOf w moves p
+    → (c : PlainChoice) → IsFeasible p c → gain p c ≤ℤ pos p.base
+within_base w moves p energies c feasible = at_most_base p.base (gain p c) (energy w (taken_by p c) moves) (energies c feasible)
+
+-- ---- an answer
+
+pub may_report : (p : PlainProgramme) (kept : PlainChoice) (v : PlainVerdict) (c : PlainCertificate)
+    → Answers p c v → KeepsChoice c.choice kept v → MayReport p kept v
+may_report p kept optimal c answers same = subst (IsFeasible p) (sym same) answers.1.accepted.feasible
+may_report p kept best_found c answers same = subst (IsFeasible p) (sym same) answers.0.1.feasible
+may_report p kept bad_choice c answers same = tt
+may_report p kept (wrong side node depth) c answers same = tt
+
+module _ (p : PlainProgramme) (nodes : ℕ) (text : List ℕ) (kept : PlainChoice) (all : AreBytes text) where
+  reports : (v : PlainVerdict) (c : PlainCertificate) (report : List ℕ) → certificate_of text ≡ Ok c → Answers p c v
+      → KeepsChoice c.choice kept v → ReportsAnswer p nodes kept v report → ReportsText p nodes text report
+  reports optimal c report read answers same made =
+      record {
+        certificate = c;
+        spells = certificate_takes text c all read;
+        says_optimal = true;
+        answers = answers;
+        least = λ e other feasible. (shown_is_least p c other answers feasible).1;
+        is_report = subst (λ (x : PlainChoice). IsReport p nodes x true report) same made;
+      }
+  reports best_found c report read answers same made =
+      record {
+        certificate = c;
+        spells = certificate_takes text c all read;
+        says_optimal = false;
+        answers = answers;
+        least = λ e. absurd (cc);
+        is_report = subst (λ (x : PlainChoice). IsReport p nodes x false report) same made;
+      }
+  reports bad_choice c report read answers same made = absurd made
+  reports (wrong side node depth) c report read answers same made = absurd made
+
+  -- a text that is answered has its report
+  pub text_reported : (v : Verdict) (report : List ℕ) → BodyAnswers p kept (Ok v) (certificate_of text)
+      → ReportsAnswer p nodes kept (plain_verdict v) report → ReportsText p nodes text report
+  text_reported v report body made =
+      let (c, (read, answers, same)) = body in reports (plain_verdict v) c report read answers same made
+
+  -- and one that is refused for its answer tells that
+  pub text_refused : (v : Verdict) (fault : Refusal) → BodyAnswers p kept (Ok v) (certificate_of text)
+      → RefusesAnswer (plain_verdict v) fault → RefusesText p text fault
+  text_refused v fault body (inl memory) = inl memory
+  text_refused v fault body (inr told) =
+      let (c, (read, answers, same)) = body in inr (answered c (plain_verdict v) (certificate_takes text c all read) answers (sym told))
+
+pub may_report_read : (p : PlainProgramme) (text : List ℕ) (kept : PlainChoice) (v : Verdict) → BodyAnswers p kept (Ok v) (certificate_of text)
+    → MayReport p kept (plain_verdict v)
+may_report_read p text kept v body =
+    let (c, (read, answers, same)) = body in may_report p kept (plain_verdict v) c answers same
+
+-- a text that spells no certificate
+pub unspelled_refused : (p : PlainProgramme) (text : List ℕ) (fault : CertFault) → certificate_of text ≡ Err fault
+    → RefusesText p text (cert_refusal fault)
+unspelled_refused p text (cert.BadHead at) read = inr (unspelled (cert.BadHead at) read refl)
+unspelled_refused p text (cert.Truncated at) read = inr (unspelled (cert.Truncated at) read refl)
+unspelled_refused p text (cert.BadNode at) read = inr (unspelled (cert.BadNode at) read refl)
+unspelled_refused p text (cert.TooDeep at) read = inr (unspelled (cert.TooDeep at) read refl)
+unspelled_refused p text (cert.Trailing at) read = inr (unspelled (cert.Trailing at) read refl)
+unspelled_refused p text cert.Memory read = inl refl
+
+-- ---- the command
+
+none_told : (says : Bool) → None ≡ told_of (answer_of says)
+none_told true = refl
+none_told false = refl
+
+-- of a text that has a report nothing is told
+pub nothing_told : (p : PlainProgramme) (nodes : ℕ) (text report : List ℕ) → ReportsText p nodes text report → TellsText p text None
+nothing_told p nodes text report made =
+    answered made.certificate (answer_of made.says_optimal) made.spells made.answers (none_told made.says_optimal)
+
+-- a fault before the text
+pub run_refused_first : (board_text file input text : List ℕ) (fault : Refusal) → RefusesProfiled board_text file input fault
+    → RefusesChecked board_text file input text fault
+run_refused_first board_text file input text fault (inl memory) = inl memory
+run_refused_first board_text file input text fault (inr told) = inr (of_run (parts_of fault) told refl)
+
+-- a fault of the text
+pub certificate_told : (board_text file input text : List ℕ) (board : Board) (p : PlainProgramme) (fault : Refusal)
+    → Accepts board_text file board → StatesOf file board input p → RefusesText p text fault → RefusesChecked board_text file input text fault
+certificate_told board_text file input text board p fault accepts states (inl memory) = inl memory
+certificate_told board_text file input text board p fault accepts states (inr told) = inr (of_certificate board p accepts states told)
+
+-- what a view states, its file states
+pub states_of : (file : List ℕ) (board : Board) (input : List ℕ) (p : PlainProgramme) (v : PlainView) (g : Graph) (c : Code)
+    → v ≡ view_in file → IsGraph (view_in file) board g → IsCode (view_in file) c → StatesProgramme v board g c input p
+    → StatesOf file board input p
+states_of file board input p v g c same is_graph is_code states =
+    record {
+      graph = g;
+      is_graph = is_graph;
+      code = c;
+      is_code = is_code;
+      states = subst (λ (u : PlainView). StatesProgramme u board g c input p) same states;
+    }
