@@ -1,5 +1,5 @@
 -- A certificate for the programme that a run states: what is told of it.
-use Rattle.std.proofs.Common.{◌≡◌, ◌⊎◌, inl, inr, ℕ, pos, ◌-ℤ◌, ◌≤ℤ◌, ℤ, Bool, true, false, List, Option, Some, None, Result, Ok, Err, refl, sym, subst, arith}
+use Rattle.std.proofs.Common.{◌≡◌, inl, inr, ℕ, pos, ◌-ℤ◌, ◌≤ℤ◌, ℤ, Bool, true, false, List, None, Ok, Err, refl, sym, subst, arith}
 use Rattle.std.proofs.lemmas.Int.{ints}
 use Rattle.placement_programme.specs.Plain.{PlainProgramme, PlainChoice}
 use Rattle.placement_programme.specs.Programme.{IsFeasible, gain}
@@ -28,9 +28,8 @@ use Rattle.spmlink.specs.Analysed.{Accepts}
 use Rattle.spmlink.specs.ProgramRun.{RefusesProfiled}
 use Rattle.spmlink.specs.StatedRun.{StatesProgramme, EnergiesAreOf}
 use Rattle.spmlink.specs.ReportText.{IsReport}
-use Rattle.spmlink.specs.CheckFile.{StatesOf, IsLeast, answer_of, ReportsText, ChecksTo, told_of, TellsText, unspelled, answered, TellsChecked, of_run, of_certificate, RefusesChecked, RefusesText, MayReport, ReportsAnswer, RefusesAnswer}
+use Rattle.spmlink.specs.CheckFile.{StatesOf, answer_of, ReportsText, told_of, TellsText, unspelled, answered, of_run, of_certificate, RefusesChecked, RefusesText, MayReport, ReportsAnswer, RefusesAnswer}
 use Rattle.spmlink.specs.declared.faults.Refusal.{Refusal}
-use Rattle.spmlink.specs.declared.faults.Refusal.TheVariants as refusal
 
 -- ---- energies
 

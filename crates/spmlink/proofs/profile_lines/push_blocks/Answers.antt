@@ -1,4 +1,4 @@
-use Rattle.std.proofs.Common.{◌≡◌, ◌++◌, ◌<◌, length, ap, arith, ◌∙◌}
+use Rattle.std.proofs.Common.{◌++◌, ◌<◌, length, ap, arith, ◌∙◌}
 use Rattle.code_blocks.specs.Numbers.{starts_of}
 use Rattle.spmlink.specs.ProfileLines.{block_line}
 use Rattle.spmlink.proofs.Lines.{lines_more, block_line_is}

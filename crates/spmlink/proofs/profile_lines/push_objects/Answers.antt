@@ -1,4 +1,4 @@
-use Rattle.std.proofs.Common.{◌≡◌, ◌++◌, ◌<◌, length, sum, ap, arith, ◌∙◌}
+use Rattle.std.proofs.Common.{◌++◌, ◌<◌, length, sum, ap, arith, ◌∙◌}
 use Rattle.elf_reader.specs.File.{plain_view}
 use Rattle.profile_runner.specs.Counts.{plain_rows}
 use Rattle.spmlink.specs.ProfileLines.{object_line}
