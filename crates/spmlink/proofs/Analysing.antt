@@ -23,7 +23,7 @@ use Rattle.code_blocks.specs.Blocks.{IsCode, is_any, code_fault}
 use Rattle.code_blocks.specs.declared.parts.Code.{Code}
 use Rattle.code_blocks.specs.declared.fault.CodeFault.TheVariants.{NoText, EntryNotLeader}
 use Rattle.object_graph.specs.LayoutFaults.{layout_fault}
-use Rattle.relink_core.specs.Faults.{file_fault, least_patch, patch_fault, places_fault, view_fault, analyse_fault}
+use Rattle.relink_core.specs.Faults.{file_fault, least_patch, patch_fault, places_fault, view_fault, analyse_fault, IsFaultless, IsFirst}
 use Rattle.relink_core.proofs.KeepsLemmas.{passes}
 use Rattle.relink_core.specs.declared.fault.AnalyseFault.{AnalyseFault}
 use Rattle.relink_core.specs.declared.fault.AnalyseFault.TheVariants as analyse
@@ -102,17 +102,18 @@ board_refused board_text file (board.UnknownKey name) told = board_told board_te
 board_refused board_text file board.Memory told = inl refl
 
 module _ (board_text file : List ℕ) (b : Board) (is : IsBoard board_text b) (sound : first_key board_text ≡ None) where
-  analysis_told : (fault : AnalyseFault) → (fault ≡ analyse.Memory) ⊎ (analyse_fault file b ≡ Some fault)
+  analysis_told : (fault : AnalyseFault) → (fault ≡ analyse.Memory) ⊎ IsFirst file b fault
       → (fault ≡ analyse.Memory → ⊥) → RefusesAnalysed board_text file (refusal.Analyse fault)
   analysis_told fault (inl memory) other = absurd (other memory)
   analysis_told fault (inr first) other = inr (of_analysis b fault is sound first refl)
 
-  pub analysis_refused : (fault : AnalyseFault) → (fault ≡ analyse.Memory) ⊎ (analyse_fault file b ≡ Some fault)
+  pub analysis_refused : (fault : AnalyseFault) → (fault ≡ analyse.Memory) ⊎ IsFirst file b fault
       → RefusesAnalysed board_text file (analyse_refusal fault)
   analysis_refused (analyse.Elf fault) told = analysis_told (analyse.Elf fault) told (λ e. cc)
   analysis_refused (analyse.Graph fault) told = analysis_told (analyse.Graph fault) told (λ e. cc)
   analysis_refused (analyse.PatchTooSmall need have) told = analysis_told (analyse.PatchTooSmall need have) told (λ e. cc)
   analysis_refused (analyse.Code fault) told = analysis_told (analyse.Code fault) told (λ e. cc)
+  analysis_refused (analyse.Region fault) told = analysis_told (analyse.Region fault) told (λ e. cc)
   analysis_refused analyse.Memory told = inl refl
 
 -- it refuses a command that runs the program, and one that compares it

@@ -26,6 +26,8 @@ use Rattle.certificate_checker.proofs.TextLaws.{certificate_takes}
 use Rattle.spmlink.specs.FaultLine.{parts_of, cert_refusal}
 use Rattle.spmlink.specs.Analysed.{Accepts}
 use Rattle.spmlink.specs.ProgramRun.{RefusesProfiled}
+use Rattle.region_former.specs.declared.table.RegionTable.{RegionTable}
+use Rattle.relink_core.specs.Regions.{AreRegions}
 use Rattle.spmlink.specs.StatedRun.{StatesProgramme, EnergiesAreOf}
 use Rattle.spmlink.specs.ReportText.{IsReport}
 use Rattle.spmlink.specs.CheckFile.{StatesOf, answer_of, ReportsText, told_of, TellsText, unspelled, answered, of_run, of_certificate, RefusesChecked, RefusesText, MayReport, ReportsAnswer, RefusesAnswer}
@@ -126,14 +128,17 @@ certificate_told board_text file input text board p fault accepts states (inl me
 certificate_told board_text file input text board p fault accepts states (inr told) = inr (of_certificate board p accepts states told)
 
 -- what a view states, its file states
-pub states_of : (file : List ℕ) (board : Board) (input : List ℕ) (p : PlainProgramme) (v : PlainView) (g : Graph) (c : Code)
-    → v ≡ view_in file → IsGraph (view_in file) board g → IsCode (view_in file) c → StatesProgramme v board g c input p
+pub states_of : (file : List ℕ) (board : Board) (input : List ℕ) (p : PlainProgramme) (v : PlainView) (g : Graph) (c : Code) (t : RegionTable)
+    → v ≡ view_in file → IsGraph (view_in file) board g → IsCode (view_in file) c → AreRegions (view_in file) c board t
+    → StatesProgramme v board g c t input p
     → StatesOf file board input p
-states_of file board input p v g c same is_graph is_code states =
+states_of file board input p v g c t same is_graph is_code are_regions states =
     record {
       graph = g;
       is_graph = is_graph;
       code = c;
       is_code = is_code;
-      states = subst (λ (u : PlainView). StatesProgramme u board g c input p) same states;
+      regions = t;
+      are_regions = are_regions;
+      states = subst (λ (u : PlainView). StatesProgramme u board g c t input p) same states;
     }

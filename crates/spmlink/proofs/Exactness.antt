@@ -13,9 +13,10 @@ use Rattle.spmlink.specs.Refused.{PutsLine, refused_status, refused_line}
 use Rattle.spmlink.specs.Reading.{HoldsAll}
 use Rattle.compare_runner.specs.declared.comparing.Comparison.TheVariants.{Same}
 use Rattle.spmlink.specs.ProgramRun.{of_none}
+use Rattle.spmlink.specs.ShowFile as show
 use Rattle.spmlink.specs.CompareFiles.{of_comparison}
 use Rattle.spmlink.specs.CheckFile.{of_certificate}
-use Rattle.spmlink.specs.Meaning.{Compares, IsFirst, run_first, relink_first, profile_first, compare_first, check_first, gen_first, hex_first, check_difference, Yields, runs, relinks, profiles, compares, checks, generates, writes_hex, agrees}
+use Rattle.spmlink.specs.Meaning.{Compares, IsFirst, run_first, relink_first, profile_first, compare_first, check_first, gen_first, hex_first, check_difference, Yields, runs, relinks, profiles, compares, checks, generates, writes_hex, agrees, show_first, shows}
 use Rattle.spmlink.specs.Answers.{IsDone, Cause, HasCause, EndsRefused, InputFails, AnswersInputs, AnswersUsage, AnswersCommand, TellsAll}
 use Rattle.spmlink.specs.declared.refused.Refused.{Refused}
 use Rattle.spmlink.specs.declared.faults.Refusal.{Refusal}
@@ -50,6 +51,8 @@ yields_first command inputs outputs text (compares f r b i file relinked board i
 yields_first command inputs outputs text (checks f b i c file board input cert is are outs made) =
     check_first f b i c file board input cert is are
     (of_certificate made.board made.programme made.accepts made.states (nothing_told made.programme made.board.nodes cert text made.reports))
+yields_first command inputs outputs text (shows f b file board is are outs made) =
+    show_first f b file board is are (show.of_none made.board made.accepts refl)
 yields_first command inputs outputs text (generates s k o is are outs printed) = gen_first s k o is are refl
 yields_first command inputs outputs text (writes_hex f o file is are none outs printed) = hex_first f o file is are (sym none)
 yields_first command inputs outputs text (agrees f h file hex_text is are none spelled outs printed) =

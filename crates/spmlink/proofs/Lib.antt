@@ -10,6 +10,7 @@ pub mod Hexadecimal
 pub mod Lines
 pub mod Profiling
 pub mod Stating
+pub mod ShowingLines
 pub mod ComparingFiles
 pub mod Certificates
 pub mod Refusals

@@ -1,7 +1,7 @@
 -- Words spell one command, and a shelf tells one text for each name.
 use Rattle.std.proofs.Common.{◌≡◌, ℕ, List, [], ◌∷◌, codes, Option, Some, None, IfSome, if◌then◌else◌, bytes_eq, refl, sym, ◌∙◌}
 use Rattle.shelf_io.specs.Shelf.{ShelfView}
-use Rattle.spmlink.specs.Command.{PlainCommand, run_command, relink_command, profile_command, compare_command, check_command, gen_command, hex_command, hex_check_command, Spells, IsCommand, Named, value_of}
+use Rattle.spmlink.specs.Command.{PlainCommand, run_command, relink_command, profile_command, compare_command, check_command, gen_command, hex_command, hex_check_command, Spells, IsCommand, Named, value_of, show_command}
 use Rattle.spmlink.specs.Reading.{HoldsAll}
 use Rattle.spmlink.specs.Answers.{TellsAll}
 
@@ -25,6 +25,10 @@ abbrev check_words : List (List ℕ) → Option PlainCommand
 check_words (file ∷ board ∷ input ∷ cert ∷ []) = Some (check_command file board input cert)
 check_words words = None
 
+abbrev show_words : List (List ℕ) → Option PlainCommand
+show_words (file ∷ board ∷ []) = Some (show_command file board)
+show_words words = None
+
 abbrev gen_words : List (List ℕ) → Option PlainCommand
 gen_words (seed ∷ kernels ∷ out ∷ []) = Some (gen_command (value_of seed) (value_of kernels) out)
 gen_words words = None
@@ -46,6 +50,7 @@ command_in (name ∷ words) =
     else if bytes_eq name (codes "profile") then profile_words words
     else if bytes_eq name (codes "compare") then compare_words words
     else if bytes_eq name (codes "check") then check_words words
+    else if bytes_eq name (codes "show") then show_words words
     else if bytes_eq name (codes "gen") then gen_words words
     else if bytes_eq name (codes "hex") then hex_words words
     else if bytes_eq name (codes "hexcheck") then hex_check_words words
@@ -57,6 +62,7 @@ spelled_is words (relink_command file board input out cert) e = rw e refl
 spelled_is words (profile_command file board input) e = rw e refl
 spelled_is words (compare_command file relinked board input) e = rw e refl
 spelled_is words (check_command file board input cert) e = rw e refl
+spelled_is words (show_command file board) e = rw e refl
 spelled_is words (gen_command seed kernels out) s = rw (s.spelled, s.is_seed.value, s.is_kernels.value) refl
 spelled_is words (hex_command file out) e = rw e refl
 spelled_is words (hex_check_command file hex) e = rw e refl

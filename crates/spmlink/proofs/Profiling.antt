@@ -14,16 +14,18 @@ use Rattle.file_at_home.specs.Laws.{program_in, source_start}
 use Rattle.object_machine.specs.Program.{program_of}
 use Rattle.object_machine.specs.State.{SourceState}
 use Rattle.object_machine.specs.Start as start
+use Rattle.region_former.specs.declared.table.RegionTable.{RegionTable}
 use Rattle.profile_runner.specs.Running.{fault_of, TellsOfRun}
 use Rattle.profile_runner.proofs.RunLemmas.{moves_steps}
 use Rattle.profile_runner.specs.declared.counts.Profile.{Profile}
 use Rattle.profile_runner.specs.declared.fault.ProfileFault.{ProfileFault}
 use Rattle.profile_runner.specs.declared.fault.ProfileFault.TheVariants.{AddressFault as FaultAt, Memory}
+use Rattle.relink_core.specs.Regions.{AreRegions}
 use Rattle.spmlink.specs.FaultLine.{profile_refusal}
 use Rattle.spmlink.specs.Analysed.{Accepts}
 use Rattle.spmlink.specs.ProgramRun.{RunsProgram, IsAddressFault, RefusesProfiled, of_run}
 use Rattle.spmlink.specs.ProfileLines.{profile_text}
-use Rattle.spmlink.specs.ProfileFile.{no_regions, TellsCounts, ProfilesTo}
+use Rattle.spmlink.specs.ProfileFile.{TellsCounts, ProfilesTo}
 
 faulted : (o : Outcome) (pc why : ℕ) → fault_of o ≡ Some (FaultAt pc why) → o ≡ AddressFault pc why
 faulted GoesOn pc why e = absurd (cc)
@@ -38,11 +40,11 @@ unfaulted (Trapped a) e f = f
 unfaulted (AddressFault a b) e f = absurd (cc)
 
 -- an address fault refuses the command
-pub counts_refused : (board_text file input : List ℕ) (board : Board) (v : PlainView) (g : Graph) (c : Code) (fault : ProfileFault)
-    → v ≡ view_in file → Accepts board_text file board → IsGraph (view_in file) board g → TellsCounts v board g c input (Err fault)
+pub counts_refused : (board_text file input : List ℕ) (board : Board) (v : PlainView) (g : Graph) (c : Code) (t : RegionTable) (fault : ProfileFault)
+    → v ≡ view_in file → Accepts board_text file board → IsGraph (view_in file) board g → TellsCounts v board g c t input (Err fault)
     → RefusesProfiled board_text file input (profile_refusal fault)
-counts_refused board_text file input board v g c (FaultAt pc why) same accepts is_graph told =
-    let (last, meets) = subst (λ (u : PlainView). TellsCounts u board g c input (Err (FaultAt pc why))) same told in
+counts_refused board_text file input board v g c t (FaultAt pc why) same accepts is_graph told =
+    let (last, meets) = subst (λ (u : PlainView). TellsCounts u board g c t input (Err (FaultAt pc why))) same told in
     inr (of_run board pc why accepts
     (record {
       graph = g;
@@ -52,24 +54,21 @@ counts_refused board_text file input board v g c (FaultAt pc why) same accepts i
       outcome_is = sym (faulted last.outcome pc why meets.fault);
     })
     refl)
-counts_refused board_text file input board v g c Memory same accepts is_graph told = inl refl
+counts_refused board_text file input board v g c t Memory same accepts is_graph told = inl refl
 
--- what is told of a run from the start, by a table in which no block has a region
-pub told_counts : (v : PlainView) (board : Board) (g : Graph) (c : Code) (input regions : List ℕ) (count : ℕ) (first last : SourceState) (result : Result Profile ProfileFault)
-    → regions ≡ no_regions c → count ≡ 0 → first ≡ start.start_of v (program_of v board g) g input
-    → TellsOfRun (starts_of c) regions count (length g.objects.items) (program_of v board g) board.steps first last result
-    → TellsCounts v board g c input result
-told_counts v board g c input regions count first last result none count_is same told =
-    let p = program_of v board g in
-    let size = length g.objects.items in (
+-- what is told of a run from the start
+pub told_counts : (v : PlainView) (board : Board) (g : Graph) (c : Code) (t : RegionTable) (input : List ℕ) (first last : SourceState) (result : Result Profile ProfileFault)
+    → first ≡ start.start_of v (program_of v board g) g input
+    → TellsOfRun (starts_of c) t.of_block.items t.count (length g.objects.items) (program_of v board g) board.steps first last result
+    → TellsCounts v board g c t input result
+told_counts v board g c t input first last result same told =
+    let p = program_of v board g in (
       last,
-      subst (λ (s : SourceState). TellsOfRun (starts_of c) (no_regions c) 0 size p board.steps s last result) same
-          (subst (λ (k : ℕ). TellsOfRun (starts_of c) (no_regions c) k size p board.steps first last result) count_is
-          (subst (λ (rs : List ℕ). TellsOfRun (starts_of c) rs count size p board.steps first last result) none told)),
+      subst (λ (s : SourceState). TellsOfRun (starts_of c) t.of_block.items t.count (length g.objects.items) p board.steps s last result) same told,
     )
 
-pub no_memory : (v : PlainView) (board : Board) (g : Graph) (c : Code) (input : List ℕ) → TellsCounts v board g c input (Err Memory)
-no_memory v board g c input = (start.start_of v (program_of v board g) g input, tt)
+pub no_memory : (v : PlainView) (board : Board) (g : Graph) (c : Code) (t : RegionTable) (input : List ℕ) → TellsCounts v board g c t input (Err Memory)
+no_memory v board g c t input = (start.start_of v (program_of v board g) g input, tt)
 
 -- what printing a profile asks of it
 pub record HasLines (g : Graph) (c : Code) (q : Profile) : Type 0 where
@@ -78,8 +77,8 @@ pub record HasLines (g : Graph) (c : Code) (q : Profile) : Type 0 where
   pub reads : length q.reads.items ≡ length g.objects.items
   pub writes : length q.writes.items ≡ length g.objects.items
 
-pub has_lines : (v : PlainView) (board : Board) (g : Graph) (c : Code) (input : List ℕ) (q : Profile) → TellsCounts v board g c input (Ok q) → HasLines g c q
-has_lines v board g c input q told =
+pub has_lines : (v : PlainView) (board : Board) (g : Graph) (c : Code) (t : RegionTable) (input : List ℕ) (q : Profile) → TellsCounts v board g c t input (Ok q) → HasLines g c q
+has_lines v board g c t input q told =
     let (last, made) = told in
     let is = made.profile in
     record {
@@ -90,11 +89,11 @@ has_lines v board g c input q told =
     }
 
 -- the lines of a profile of the program of a view tell what the program of its file does
-pub profiles_to : (file board_text input text : List ℕ) (board : Board) (v : PlainView) (g : Graph) (c : Code) (q : Profile)
-    → v ≡ view_in file → Accepts board_text file board → IsGraph (view_in file) board g → IsCode (view_in file) c
-    → TellsCounts v board g c input (Ok q) → text ≡ profile_text v g.objects.items (starts_of c) q → ProfilesTo file board_text input text
-profiles_to file board_text input text board v g c q same accepts is_graph is_code told text_is =
-    let (last, made) = subst (λ (u : PlainView). TellsCounts u board g c input (Ok q)) same told in
+pub profiles_to : (file board_text input text : List ℕ) (board : Board) (v : PlainView) (g : Graph) (c : Code) (t : RegionTable) (q : Profile)
+    → v ≡ view_in file → Accepts board_text file board → IsGraph (view_in file) board g → IsCode (view_in file) c → AreRegions (view_in file) c board t
+    → TellsCounts v board g c t input (Ok q) → text ≡ profile_text v g.objects.items (starts_of c) q → ProfilesTo file board_text input text
+profiles_to file board_text input text board v g c t q same accepts is_graph is_code are_regions told text_is =
+    let (last, made) = subst (λ (u : PlainView). TellsCounts u board g c t input (Ok q)) same told in
     record {
       board = board;
       accepts = accepts;
@@ -102,6 +101,8 @@ profiles_to file board_text input text board v g c q same accepts is_graph is_co
       is_graph = is_graph;
       code = c;
       is_code = is_code;
+      regions = t;
+      are_regions = are_regions;
       moves = made.moves;
       last = last;
       run = made.run;

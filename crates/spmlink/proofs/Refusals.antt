@@ -1,12 +1,14 @@
 -- The results of the commands, put together.
 use Rattle.std.proofs.Common.{inl, inr, ℕ, List, [], ◌∷◌, Some, refl, sym, subst}
-use Rattle.spmlink.specs.Command.{run_command, relink_command, profile_command, compare_command, check_command, hex_command, hex_check_command}
+use Rattle.spmlink.specs.Command.{run_command, relink_command, profile_command, compare_command, check_command, hex_command, hex_check_command, show_command}
 use Rattle.spmlink.specs.FaultLine.{parts_of}
 use Rattle.spmlink.specs.RunFile.{IsFirstRefusal}
 use Rattle.spmlink.specs.ProgramRun.{RefusesProfiled}
+use Rattle.spmlink.specs.Analysed.{RefusesAnalysed}
 use Rattle.spmlink.specs.CompareFiles.{RefusesCompared}
 use Rattle.spmlink.specs.CheckFile.{RefusesChecked}
-use Rattle.spmlink.specs.Meaning.{RefusesInputs, RefusesFile, RefusesTexts, memory_wanting, faulty, differing, run_first, relink_first, profile_first, compare_first, check_first, hex_first, check_fault, check_difference}
+use Rattle.spmlink.specs.Meaning.{RefusesInputs, RefusesFile, RefusesTexts, memory_wanting, faulty, differing, run_first, relink_first, profile_first, compare_first, check_first, hex_first, check_fault, check_difference, show_first}
+use Rattle.spmlink.specs.ShowFile as show
 use Rattle.spmlink.specs.declared.faults.Refusal.{Refusal}
 
 pub run_refused : (board file input : List ℕ) (fault : Refusal) → IsFirstRefusal board file fault
@@ -33,6 +35,12 @@ pub certificate_refused : (board file input cert : List ℕ) (fault : Refusal) �
     → (f b i c : List ℕ) → RefusesInputs (check_command f b i c) (file ∷ board ∷ input ∷ cert ∷ []) fault
 certificate_refused board file input cert fault (inl e) f b i c = inl e
 certificate_refused board file input cert fault (inr tells) f b i c = inr (check_first f b i c file board input cert refl refl tells)
+
+pub show_refused : (board file : List ℕ) (fault : Refusal) → RefusesAnalysed board file fault
+    → (f b : List ℕ) → RefusesInputs (show_command f b) (file ∷ board ∷ []) fault
+show_refused board file fault (inl e) f b = inl e
+show_refused board file fault (inr tells) f b =
+    inr (show_first f b file board refl refl (show.of_files (parts_of fault) tells refl))
 
 pub hex_refused : (file : List ℕ) (fault : Refusal) → RefusesFile file fault
     → (f o : List ℕ) → RefusesInputs (hex_command f o) (file ∷ []) fault

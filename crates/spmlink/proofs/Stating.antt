@@ -29,35 +29,28 @@ use Rattle.energy_model.specs.Selected.{stated}
 use Rattle.energy_model.specs.Stated.{scene_of, layout_of, IsOfOneFile}
 use Rattle.energy_model.proofs.ChoiceLemmas.{is_of_the_run}
 use Rattle.relink_core.specs.Faults.{least_patch}
-use Rattle.spmlink.specs.ProfileFile.{no_regions}
 use Rattle.spmlink.specs.ProgramRun.{RunsProgram}
 use Rattle.spmlink.specs.RelinkFile.{RelinksTo}
-use Rattle.spmlink.specs.StatedRun.{bare_scene, bare_layout, EnergiesAreOf}
-
--- a table in which no block has a region
-pub record HasNone (c : Code) (t : RegionTable) : Type 0 where
-  pub count : t.count ≡ 0
-  pub regions : t.of_block.items ≡ no_regions c
-  pub borders : t.border.items ≡ replicate (length c.blocks.items) false
+use Rattle.spmlink.specs.StatedRun.{EnergiesAreOf}
 
 start_fits : (fence : Bool) (size : ℕ) → least_patch fence ≤ size → 84 + (if fence then 4 else 0) ≤ size
 start_fits true size room = omega (arith, room)
 start_fits false size room = omega (arith, room)
 
--- a run from the start, by such a table, and what it is a run of
+-- a run from the start, and what it is a run of
 pub of_one_file : (view : ElfView) (board : Board) (g : Graph) (c : Code) (t : RegionTable) (input : List ℕ) (q : Profile) (last : SourceState)
     → IsRead view → IsLawful board → IsGraph (plain_view view) board g → IsCode (plain_view view) c
     → code_fault (plain_view view) ≡ None → least_patch board.fence_i ≤ board.patch.size → is_leader (plain_view view) view.entry ≡ true
-    → HasNone c t
-    → (made : Profiles (starts_of c) (no_regions c) 0 (length g.objects.items) (program_of (plain_view view) board g) board.steps (start_of (plain_view view) (program_of (plain_view view) board g) g input) last q)
+    → length t.of_block.items ≡ length c.blocks.items
+    → (made : Profiles (starts_of c) t.of_block.items t.count (length g.objects.items) (program_of (plain_view view) board g) board.steps (start_of (plain_view view) (program_of (plain_view view) board g) g input) last q)
     → IsOfOneFile view board g c t q made.moves
-of_one_file view board g c t input q last read lawful is_graph is_code no_fault room entry none made =
+of_one_file view board g c t input q last read lawful is_graph is_code no_fault room entry one_each made =
     record {
       read = read;
       lawful = lawful;
       graph = is_graph;
       code = is_code;
-      regions = ap length none.regions ∙ length-replicate (length c.blocks.items) 0;
+      regions = one_each;
       patch = start_fits board.fence_i board.patch.size room;
       no_code_fault = no_fault;
       run = record {
@@ -66,45 +59,19 @@ of_one_file view board g c t input q last read lawful is_graph is_code no_fault 
         going = refl;
         begins = entry;
         run = made.run;
-        profile = subst (λ k. IsProfile (starts_of c) t.of_block.items k (length g.objects.items) made.moves last.outcome q) (sym none.count)
-            (subst (λ rs. IsProfile (starts_of c) rs 0 (length g.objects.items) made.moves last.outcome q) (sym none.regions) made.profile);
+        profile = made.profile;
       };
     }
 
--- what such a table states is stated without one
-pub stated_bare : (g : Graph) (c : Code) (t : RegionTable) (board : Board) (moves : List Move) (p : PlainProgramme) → HasNone c t
-    → p ≡ stated (scene_of g c t board) (layout_of g c t board) moves
-    → p ≡ stated (bare_scene g c board) (bare_layout g c board) moves
-stated_bare g c t board moves p none is =
-    subst (λ bs. p ≡ stated (record { blocks = c.blocks.items; graph = g; regions = no_regions c; borders = bs; region_count = 0; board = board }) (bare_layout g c board) moves) none.borders
-    (subst (λ rs. p ≡ stated (record { blocks = c.blocks.items; graph = g; regions = rs; borders = t.border.items; region_count = 0; board = board }) (bare_layout g c board) moves) none.regions
-    (subst
-    (λ k. p ≡ stated (record { blocks = c.blocks.items; graph = g; regions = t.of_block.items; borders = t.border.items; region_count = k; board = board })
-    (record { scratchpad = board.spm.size; patch = board.patch.size; fence_i = board.fence_i; blocks = length c.blocks.items; objects = length g.objects.items; regions = k; displaced = []; grain = board.grain }) moves)
-    none.count is))
-
--- a scene by such a table is one without
-bare_of : (g : Graph) (c : Code) (t : RegionTable) (board : Board) → HasNone c t → scene_of g c t board ≡ bare_scene g c board
-bare_of g c t board none =
-    λ i. record {
-      blocks = c.blocks.items;
-      graph = g;
-      regions = none.regions i;
-      borders = none.borders i;
-      region_count = none.count i;
-      board = board;
-    }
-
--- so the energies are those of the run
-pub energies_bare : (view : ElfView) (board : Board) (g : Graph) (c : Code) (t : RegionTable) (q : Profile) (moves : List Move) (p : PlainProgramme)
-    → HasNone c t → IsOfOneFile view board g c t q moves → p ≡ stated (scene_of g c t board) (layout_of g c t board) moves
-    → EnergiesAreOf (bare_scene g c board) moves p
-energies_bare view board g c t q moves p none one is =
+-- the energies of what the run states are those of the run
+pub energies_of : (view : ElfView) (board : Board) (g : Graph) (c : Code) (t : RegionTable) (q : Profile) (moves : List Move) (p : PlainProgramme)
+    → IsOfOneFile view board g c t q moves → p ≡ stated (scene_of g c t board) (layout_of g c t board) moves
+    → EnergiesAreOf (scene_of g c t board) moves p
+energies_of view board g c t q moves p one is =
     let w = scene_of g c t board in
     let of_stated : EnergiesAreOf w moves (stated w (layout_of g c t board) moves) =
     λ choice feasible. is_of_the_run same_instruction view board g c t q moves choice one feasible in
-    subst (λ (s : Scene). EnergiesAreOf s moves p) (bare_of g c t board none)
-    (subst (λ (r : PlainProgramme). EnergiesAreOf w moves r) (sym is) of_stated)
+    subst (λ (r : PlainProgramme). EnergiesAreOf w moves r) (sym is) of_stated
 
 -- a program that is relinked was run
 pub relinked_runs : (file board_text input certificate out report : List ℕ) (made : RelinksTo file board_text input certificate out report)

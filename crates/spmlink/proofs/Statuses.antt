@@ -10,6 +10,7 @@ use Rattle.object_graph.specs.declared.fault.GraphFault.{GraphFault}
 use Rattle.object_graph.specs.declared.fault.GraphFault.TheVariants as graph
 use Rattle.code_blocks.specs.declared.fault.CodeFault.{CodeFault}
 use Rattle.code_blocks.specs.declared.fault.CodeFault.TheVariants as code
+use Rattle.region_former.specs.Faults as region
 use Rattle.relink_core.specs.declared.fault.AnalyseFault.{AnalyseFault}
 use Rattle.relink_core.specs.declared.fault.AnalyseFault.TheVariants as analyse
 use Rattle.certificate_checker.specs.Shows.{optimal, best_found, bad_choice, wrong}
@@ -20,7 +21,7 @@ use Rattle.hex_image.specs.Reading.{hex_fault}
 use Rattle.hex_image.specs.declared.fault.HexFault.{HexFault}
 use Rattle.hex_image.specs.declared.fault.HexFault.TheVariants as hex
 use Rattle.spmlink.specs.Command.{PlainCommand}
-use Rattle.spmlink.specs.FaultLine.{Parts, board_parts, elf_parts, graph_parts, code_parts, analyse_parts, address_parts, source_parts, cert_parts, choice_parts, tree_parts, hex_parts, differs_parts, status_of}
+use Rattle.spmlink.specs.FaultLine.{Parts, board_parts, elf_parts, graph_parts, code_parts, analyse_parts, address_parts, source_parts, cert_parts, choice_parts, tree_parts, hex_parts, differs_parts, status_of, region_parts}
 use Rattle.compare_runner.specs.declared.comparing.Comparison.TheVariants.{Same, Differs, SourceFault}
 use Rattle.spmlink.specs.Analysed.{TellsAnalysed, of_board, of_analysis}
 use Rattle.spmlink.specs.ProgramRun.{TellsProfiled, of_run, of_none}
@@ -29,7 +30,9 @@ use Rattle.spmlink.specs.CompareFiles.{TellsCompared, of_relinked, of_comparison
 use Rattle.spmlink.specs.CompareFiles as compared
 use Rattle.spmlink.specs.CheckFile.{TellsText, unspelled, answered, TellsChecked, of_certificate}
 use Rattle.spmlink.specs.CheckFile as checked
-use Rattle.spmlink.specs.Meaning.{IsFirst, run_first, relink_first, profile_first, compare_first, check_first, gen_first, hex_first, check_fault, check_difference}
+use Rattle.spmlink.specs.Meaning.{IsFirst, run_first, relink_first, profile_first, compare_first, check_first, gen_first, hex_first, check_fault, check_difference, show_first}
+use Rattle.spmlink.specs.ShowFile.{TellsShown}
+use Rattle.spmlink.specs.ShowFile as show
 use Rattle.spmlink.specs.declared.faults.Refusal.{Refusal}
 use Rattle.spmlink.specs.declared.faults.Refusal.TheVariants as refusal
 
@@ -82,11 +85,17 @@ code_least code.EntryNotLeader = omega arith
 code_least (code.TooManyBlocks count) = omega arith
 code_least code.Memory = omega arith
 
+region_least : (fault : region.Fault) → IsOfInputs (region_parts fault)
+region_least (region.unknown_function name) = omega arith
+region_least (region.two_regions name) = omega arith
+region_least region.memory = omega arith
+
 analyse_least : (fault : AnalyseFault) → IsOfInputs (analyse_parts fault)
 analyse_least (analyse.Elf fault) = elf_least fault
 analyse_least (analyse.Graph fault) = graph_least fault
 analyse_least (analyse.PatchTooSmall need have) = omega arith
 analyse_least (analyse.Code fault) = code_least fault
+analyse_least (analyse.Region fault) = region_least (region.plain_fault fault)
 analyse_least analyse.Memory = omega arith
 
 analysed_least : (board file : List ℕ) (told : Parts) → TellsAnalysed board file told → IsOfInputs told
@@ -139,6 +148,11 @@ checked_least board file input text told (checked.of_run parts tells e) =
     let same : parts ≡ told = cc in subst IsOfInputs same (profiled_least board file input parts tells)
 checked_least board file input text told (of_certificate b p accepts states tells) = text_least p text told tells
 
+shown_least : (board file : List ℕ) (told : Parts) → TellsShown board file (Some told) → IsOfInputs told
+shown_least board file told (show.of_files parts tells e) =
+    let same : parts ≡ told = cc in subst IsOfInputs same (analysed_least board file parts tells)
+shown_least board file told (show.of_none b accepts e) = absurd (cc)
+
 -- so it is with what is told of an optional fault
 told_least : {E : Type 0} (parts : E → Parts) → ((fault : E) → IsOfInputs (parts fault)) → (fault : Option E) (told : Parts)
     → option_map parts fault ≡ Some told → IsOfInputs told
@@ -171,6 +185,7 @@ first_least command inputs told (compare_first f r b i file relinked board input
     compared_least board file relinked input told tells
 first_least command inputs told (check_first f b i c file board input text is are tells) =
     checked_least board file input text told tells
+first_least command inputs told (show_first f b file board is are tells) = shown_least board file told tells
 first_least command inputs told (gen_first s k o is are e) = absurd (cc)
 first_least command inputs told (hex_first f o file is are e) =
     told_least elf_parts elf_least (first_fault file) told (sym e)

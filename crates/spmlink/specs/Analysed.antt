@@ -4,7 +4,7 @@ use Rattle.board_config.specs.Board.{IsBoard}
 use Rattle.board_config.specs.Faults.{Fault}
 use Rattle.board_config.specs.Keys.{first_key}
 use Rattle.board_config.specs.declared.board.Board.{Board}
-use Rattle.relink_core.specs.Faults.{analyse_fault}
+use Rattle.relink_core.specs.Faults.{IsFaultless, IsFirst}
 use Rattle.relink_core.specs.declared.fault.AnalyseFault.{AnalyseFault}
 use Rattle.spmlink.specs.FaultLine.{Parts, board_parts, analyse_parts, parts_of}
 use Rattle.spmlink.specs.declared.faults.Refusal.{Refusal}
@@ -14,14 +14,14 @@ use Rattle.spmlink.specs.declared.faults.Refusal.TheVariants as refusal
 pub record Accepts (board_text file : List ℕ) (board : Board) : Type 0 where
   pub is_board : IsBoard board_text board
   pub sound : first_key board_text ≡ None
-  pub no_fault : analyse_fault file board ≡ None
+  pub no_fault : IsFaultless file board
 
 -- this is told of the first fault: the board comes before the file
 pub data TellsAnalysed (board_text file : List ℕ) (told : Parts) : Type 0 where
   of_board : (fault : Fault) → first_key board_text ≡ Some fault → told ≡ board_parts fault
       → TellsAnalysed board_text file told
   of_analysis : (board : Board) (fault : AnalyseFault) → IsBoard board_text board → first_key board_text ≡ None
-      → analyse_fault file board ≡ Some fault → told ≡ analyse_parts fault
+      → IsFirst file board fault → told ≡ analyse_parts fault
       → TellsAnalysed board_text file told
 
 -- a computation on both was refused: for want of memory, or by the first fault

@@ -6,6 +6,8 @@ use Rattle.object_graph.specs.Graphs.{IsGraph}
 use Rattle.object_graph.specs.declared.parts.Graph.{Graph}
 use Rattle.code_blocks.specs.Blocks.{IsCode}
 use Rattle.code_blocks.specs.declared.parts.Code.{Code}
+use Rattle.region_former.specs.declared.table.RegionTable.{RegionTable}
+use Rattle.relink_core.specs.Regions.{AreRegions}
 use Rattle.placement_programme.specs.Plain.{PlainProgramme, PlainChoice}
 use Rattle.placement_programme.specs.Programme.{IsFeasible, energy}
 use Rattle.certificate_checker.specs.Nodes.{PlainCertificate}
@@ -27,7 +29,9 @@ pub record StatesOf (file : List ℕ) (board : Board) (input : List ℕ) (p : Pl
   pub is_graph : IsGraph (view_in file) board graph
   pub code : Code
   pub is_code : IsCode (view_in file) code
-  pub states : StatesProgramme (view_in file) board graph code input p
+  pub regions : RegionTable
+  pub are_regions : AreRegions (view_in file) code board regions
+  pub states : StatesProgramme (view_in file) board graph code regions input p
 
 -- no feasible choice has less energy
 abbrev pub IsLeast : PlainProgramme → PlainChoice → Type 0

@@ -48,6 +48,7 @@ pub data PlainCommand : Type 0 where
   profile_command : (file board input : List ℕ) → PlainCommand
   compare_command : (file relinked board input : List ℕ) → PlainCommand
   check_command : (file board input cert : List ℕ) → PlainCommand
+  show_command : (file board : List ℕ) → PlainCommand
   gen_command : (seed kernels : ℕ) (out : List ℕ) → PlainCommand
   hex_command : (file out : List ℕ) → PlainCommand
   hex_check_command : (file hex : List ℕ) → PlainCommand
@@ -61,7 +62,7 @@ pub record SpellsGen (words : List (List ℕ)) (seed kernels : ℕ) (out : List 
   pub is_kernels : IsNumber 1 64 kernels_word kernels
 
 -- the words of a command: `run FILE BOARD INPUT OUT`, `relink FILE BOARD INPUT OUT CERT`,
--- `profile FILE BOARD INPUT`, `compare FILE RESULT BOARD INPUT`, `check FILE BOARD INPUT CERT`,
+-- `profile FILE BOARD INPUT`, `compare FILE RESULT BOARD INPUT`, `check FILE BOARD INPUT CERT`, `show FILE BOARD`,
 -- `gen SEED KERNELS OUT`, `hex FILE OUT`, `hexcheck FILE HEX`
 abbrev pub Spells : List (List ℕ) → PlainCommand → Type 0
 Spells words (run_command file board input out) = words ≡ codes "run" ∷ file ∷ board ∷ input ∷ out ∷ []
@@ -72,6 +73,7 @@ Spells words (compare_command file relinked board input) =
     words ≡ codes "compare" ∷ file ∷ relinked ∷ board ∷ input ∷ []
 Spells words (check_command file board input cert) =
     words ≡ codes "check" ∷ file ∷ board ∷ input ∷ cert ∷ []
+Spells words (show_command file board) = words ≡ codes "show" ∷ file ∷ board ∷ []
 Spells words (gen_command seed kernels out) = SpellsGen words seed kernels out
 Spells words (hex_command file out) = words ≡ codes "hex" ∷ file ∷ out ∷ []
 Spells words (hex_check_command file hex) = words ≡ codes "hexcheck" ∷ file ∷ hex ∷ []
@@ -93,6 +95,7 @@ reads (compare_command file relinked board input) =
     named 1 file ∷ named 2 relinked ∷ named 3 board ∷ named 4 input ∷ []
 reads (check_command file board input cert) =
     named 1 file ∷ named 2 board ∷ named 3 input ∷ named 4 cert ∷ []
+reads (show_command file board) = named 1 file ∷ named 2 board ∷ []
 reads (gen_command seed kernels out) = []
 reads (hex_command file out) = named 1 file ∷ []
 reads (hex_check_command file hex) = named 1 file ∷ named 2 hex ∷ []
@@ -104,6 +107,7 @@ writes (relink_command file board input out cert) = named 5 cert ∷ named 4 out
 writes (profile_command file board input) = []
 writes (compare_command file relinked board input) = []
 writes (check_command file board input cert) = []
+writes (show_command file board) = []
 writes (gen_command seed kernels out) = named 3 out ∷ []
 writes (hex_command file out) = named 2 out ∷ []
 writes (hex_check_command file hex) = []
@@ -135,6 +139,7 @@ HasNumbers (relink_command file board input out cert) = Unit
 HasNumbers (profile_command file board input) = Unit
 HasNumbers (compare_command file relinked board input) = Unit
 HasNumbers (check_command file board input cert) = Unit
+HasNumbers (show_command file board) = Unit
 HasNumbers (gen_command seed kernels out) = (1 ≤ kernels) × (kernels ≤ 64)
 HasNumbers (hex_command file out) = Unit
 HasNumbers (hex_check_command file hex) = Unit
@@ -148,6 +153,7 @@ plain_command (code.Profile file board input) = profile_command file.now board.n
 plain_command (code.Compare file relinked board input) =
     compare_command file.now relinked.now board.now input.now
 plain_command (code.Check file board input cert) = check_command file.now board.now input.now cert.now
+plain_command (code.Show file board) = show_command file.now board.now
 plain_command (code.Gen seed kernels out) = gen_command seed kernels out.now
 plain_command (code.Hex file out) = hex_command file.now out.now
 plain_command (code.HexCheck file hex) = hex_check_command file.now hex.now

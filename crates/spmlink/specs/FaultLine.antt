@@ -12,6 +12,7 @@ use Rattle.object_graph.specs.declared.fault.GraphFault.{GraphFault}
 use Rattle.object_graph.specs.declared.fault.GraphFault.TheVariants as graph
 use Rattle.code_blocks.specs.declared.fault.CodeFault.{CodeFault}
 use Rattle.code_blocks.specs.declared.fault.CodeFault.TheVariants as code
+use Rattle.region_former.specs.Faults as region
 use Rattle.profile_runner.specs.declared.fault.ProfileFault.{ProfileFault}
 use Rattle.profile_runner.specs.declared.fault.ProfileFault.TheVariants as profile
 use Rattle.relink_core.specs.declared.fault.AnalyseFault.{AnalyseFault}
@@ -87,11 +88,17 @@ code_parts code.EntryNotLeader = parts 5 (codes "entry-not-leader") 0 0
 code_parts (code.TooManyBlocks count) = parts 5 (codes "too-many-blocks") count 0
 code_parts code.Memory = parts 9 (codes "memory") 0 0
 
+abbrev pub region_parts : region.Fault → Parts
+region_parts (region.unknown_function name) = named_parts 5 (codes "unknown-function") name
+region_parts (region.two_regions name) = named_parts 5 (codes "two-regions") name
+region_parts region.memory = parts 9 (codes "memory") 0 0
+
 abbrev pub analyse_parts : AnalyseFault → Parts
 analyse_parts (analyse.Elf fault) = elf_parts fault
 analyse_parts (analyse.Graph fault) = graph_parts fault
 analyse_parts (analyse.PatchTooSmall need have) = parts 7 (codes "patch-too-small") need have
 analyse_parts (analyse.Code fault) = code_parts fault
+analyse_parts (analyse.Region fault) = region_parts (region.plain_fault fault)
 analyse_parts analyse.Memory = parts 9 (codes "memory") 0 0
 
 -- the unit at `pc` of the program can't be performed where objects have no addresses, for the reason `why`

@@ -13,6 +13,8 @@ pub mod ReportText
 pub mod RelinkFile
 pub mod CompareFiles
 pub mod CheckFile
+pub mod ShowLines
+pub mod ShowFile
 pub mod Meaning
 pub mod Performing
 pub mod Answers

@@ -10,7 +10,7 @@ use Rattle.hex_image.specs.Runs.{ByteMap, file_map}
 use Rattle.hex_image.specs.Text.{hex_text, hex_records}
 use Rattle.hex_image.specs.Reading as hex
 use Rattle.hex_image.specs.Difference.{IsDifference}
-use Rattle.spmlink.specs.Command.{PlainCommand, run_command, relink_command, profile_command, compare_command, check_command, gen_command, hex_command, hex_check_command}
+use Rattle.spmlink.specs.Command.{PlainCommand, run_command, relink_command, profile_command, compare_command, check_command, gen_command, hex_command, hex_check_command, show_command}
 use Rattle.spmlink.specs.FaultLine.{Parts, elf_parts, hex_parts, differs_parts, parts_of}
 use Rattle.spmlink.specs.RunFile.{RunsTo, first_refusal}
 use Rattle.spmlink.specs.ProgramRun.{TellsProfiled}
@@ -18,6 +18,7 @@ use Rattle.spmlink.specs.RelinkFile.{RelinksTo}
 use Rattle.spmlink.specs.ProfileFile.{ProfilesTo}
 use Rattle.spmlink.specs.CompareFiles.{ComparesTo, TellsCompared}
 use Rattle.spmlink.specs.CheckFile.{ChecksTo, TellsChecked}
+use Rattle.spmlink.specs.ShowFile.{ShowsTo, TellsShown}
 use Rattle.spmlink.specs.declared.faults.Refusal.{Refusal}
 use Rattle.spmlink.specs.declared.faults.Refusal.TheVariants as refusal
 
@@ -69,6 +70,8 @@ pub data IsFirst (command : PlainCommand) (inputs : List (List ℕ)) (told : Opt
   check_first : (file_name board_name input_name cert_name file board input cert : List ℕ)
       → command ≡ check_command file_name board_name input_name cert_name
       → inputs ≡ file ∷ board ∷ input ∷ cert ∷ [] → TellsChecked board file input cert told
+  show_first : (file_name board_name file board : List ℕ)
+      → command ≡ show_command file_name board_name → inputs ≡ file ∷ board ∷ [] → TellsShown board file told
       → IsFirst command inputs told
   gen_first : (seed kernels : ℕ) (out_name : List ℕ)
       → command ≡ gen_command seed kernels out_name → inputs ≡ [] → told ≡ None → IsFirst command inputs told
@@ -103,6 +106,9 @@ pub data Yields (command : PlainCommand) (inputs outputs : List (List ℕ)) (tex
       → command ≡ check_command file_name board_name input_name cert_name
       → inputs ≡ file ∷ board ∷ input ∷ cert ∷ []
       → outputs ≡ [] → ChecksTo file board input cert text → Yields command inputs outputs text
+  shows : (file_name board_name file board : List ℕ)
+      → command ≡ show_command file_name board_name → inputs ≡ file ∷ board ∷ [] → outputs ≡ []
+      → ShowsTo file board text → Yields command inputs outputs text
   generates : (seed kernels : ℕ) (out_name : List ℕ)
       → command ≡ gen_command seed kernels out_name → inputs ≡ []
       → outputs ≡ built (workload_plan seed kernels) ∷ [] → text ≡ kernels_text kernels

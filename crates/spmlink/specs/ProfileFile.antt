@@ -1,5 +1,5 @@
 -- What `profile` tells of a file, a board and an input.
-use Rattle.std.specs.Prelude.{◌≡◌, ℕ, List, length, replicate, Result}
+use Rattle.std.specs.Prelude.{◌≡◌, ℕ, List, length, Result}
 use Rattle.elf_reader.specs.File.{PlainView, view_in}
 use Rattle.board_config.specs.declared.board.Board.{Board}
 use Rattle.object_graph.specs.Graphs.{IsGraph}
@@ -11,29 +11,27 @@ use Rattle.object_machine.specs.Program.{program_of}
 use Rattle.object_machine.specs.State.{SourceState}
 use Rattle.object_machine.specs.Start.{start_of}
 use Rattle.file_at_home.specs.Laws.{program_in, source_start}
+use Rattle.region_former.specs.declared.table.RegionTable.{RegionTable}
 use Rattle.profile_runner.specs.Move.{Move}
 use Rattle.profile_runner.specs.Moves.{Moves}
 use Rattle.profile_runner.specs.Counts.{IsProfile}
 use Rattle.profile_runner.specs.Running.{TellsOfRun}
 use Rattle.profile_runner.specs.declared.counts.Profile.{Profile}
 use Rattle.profile_runner.specs.declared.fault.ProfileFault.{ProfileFault}
+use Rattle.relink_core.specs.Regions.{AreRegions}
 use Rattle.spmlink.specs.Analysed.{Accepts}
 use Rattle.spmlink.specs.ProgramRun.{IsAddressFault}
 use Rattle.spmlink.specs.ProfileLines.{profile_text}
 
--- no block has a region, which is region 0
-abbrev pub no_regions : Code → List ℕ
-no_regions c = replicate (length c.blocks.items) 0
-
--- a profile of the program's run, or its address fault, or that no memory was left
-abbrev pub TellsCounts : PlainView → Board → Graph → Code → List ℕ → Result Profile ProfileFault → Type 0
-TellsCounts v board g c input result =
+-- a profile of the program's run, by a table of regions, or its address fault, or that no memory was left
+abbrev pub TellsCounts : PlainView → Board → Graph → Code → RegionTable → List ℕ → Result Profile ProfileFault → Type 0
+TellsCounts v board g c t input result =
     (last : SourceState)
-    × TellsOfRun (starts_of c) (no_regions c) 0 (length g.objects.items) (program_of v board g) board.steps
+    × TellsOfRun (starts_of c) t.of_block.items t.count (length g.objects.items) (program_of v board g) board.steps
     (start_of v (program_of v board g) g input) last result
 
 -- The program, started on the input, takes the board's steps, or fewer where it ends. These are its moves, which meet
--- no address fault, and the lines tell their profile, where no block has a region.
+-- no address fault, and the lines tell their profile, by the regions of the program.
 pub record ProfilesTo (file board_text input text : List ℕ) : Type 0 where
   pub board : Board
   pub accepts : Accepts board_text file board
@@ -41,10 +39,12 @@ pub record ProfilesTo (file board_text input text : List ℕ) : Type 0 where
   pub is_graph : IsGraph (view_in file) board graph
   pub code : Code
   pub is_code : IsCode (view_in file) code
+  pub regions : RegionTable
+  pub are_regions : AreRegions (view_in file) code board regions
   pub moves : List Move
   pub last : SourceState
   pub run : Moves (program_in file board graph) board.steps (source_start file board graph input) moves last
   pub no_address_fault : IsAddressFault last.outcome → ⊥
   pub profile : Profile
-  pub is_profile : IsProfile (starts_of code) (no_regions code) 0 (length graph.objects.items) moves last.outcome profile
+  pub is_profile : IsProfile (starts_of code) regions.of_block.items regions.count (length graph.objects.items) moves last.outcome profile
   pub text_is : text ≡ profile_text (view_in file) graph.objects.items (starts_of code) profile

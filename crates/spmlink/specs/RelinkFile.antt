@@ -7,8 +7,10 @@ use Rattle.object_graph.specs.Graphs.{IsGraph}
 use Rattle.object_graph.specs.declared.parts.Graph.{Graph}
 use Rattle.code_blocks.specs.Blocks.{IsCode}
 use Rattle.code_blocks.specs.declared.parts.Code.{Code}
+use Rattle.region_former.specs.declared.table.RegionTable.{RegionTable}
 use Rattle.placement_programme.specs.Plain.{PlainProgramme}
 use Rattle.relink_core.specs.Keeps.{KeepsPaired}
+use Rattle.relink_core.specs.Regions.{AreRegions}
 use Rattle.spmlink.specs.Analysed.{Accepts}
 use Rattle.spmlink.specs.StatedRun.{StatesProgramme}
 use Rattle.spmlink.specs.ReportText.{report_text}
@@ -27,8 +29,10 @@ pub record RelinksTo (file board_text input certificate out report : List ℕ) :
   pub is_graph : IsGraph (view_in file) board graph
   pub code : Code
   pub is_code : IsCode (view_in file) code
+  pub regions : RegionTable
+  pub are_regions : AreRegions (view_in file) code board regions
   pub programme : PlainProgramme
-  pub states : StatesProgramme (view_in file) board graph code input programme
+  pub states : StatesProgramme (view_in file) board graph code regions input programme
   pub certificate_is : certificate ≡ bare_certificate
   pub out_is : out ≡ file
   pub report_is : report ≡ report_text false board.nodes programme.base programme.base

@@ -42,6 +42,8 @@ pub(crate) const COMPARE: [&str; 5] = ["compare", "prog", "other", "board", "inp
 
 pub(crate) const CHECK: [&str; 5] = ["check", "prog", "board", "input", "other"];
 
+pub(crate) const SHOW: [&str; 3] = ["show", "prog", "board"];
+
 pub(crate) const RUN: [&str; 5] = ["run", "prog", "board", "input", "out"];
 
 impl<'a> Call<'a> {
@@ -77,6 +79,15 @@ impl<'a> Call<'a> {
             words: &CHECK,
             board,
             other: cert,
+            ..Call::of(file)
+        }
+    }
+
+    /// A `show` of a file on a board, in which nothing fails.
+    pub fn show(file: &'a [u8], board: &'a [u8]) -> Call<'a> {
+        Call {
+            words: &SHOW,
+            board,
             ..Call::of(file)
         }
     }

@@ -36,6 +36,10 @@ pub enum Command<'a> {
         input: &'a str,
         cert: &'a str,
     },
+    Show {
+        file: &'a str,
+        board: &'a str,
+    },
     Gen {
         seed: u32,
         kernels: u32,
@@ -104,6 +108,8 @@ impl<'a> Command<'a> {
                 named(3, input),
                 named(4, cert),
             ]?,
+
+            Command::Show { file, board } => vec![in alloc; named(1, file), named(2, board)]?,
             Command::Gen { .. } => Vec::new(alloc),
             Command::Hex { file, .. } => vec![in alloc; named(1, file)]?,
             Command::HexCheck { file, hex } => vec![in alloc; named(1, file), named(2, hex)]?,
@@ -151,6 +157,9 @@ fn spelled(words: &[String]) -> Option<Command<'_>>
         return Some(command);
     }
     if let Some(command) = spelled_check(words) {
+        return Some(command);
+    }
+    if let Some(command) = spelled_show(words) {
         return Some(command);
     }
     if let Some(command) = spelled_gen(words) {
@@ -256,6 +265,24 @@ fn spelled_check(words: &[String]) -> Option<Command<'_>>
             board: board.as_str(),
             input: input.as_str(),
             cert: cert.as_str(),
+        })
+    } else {
+        None
+    }
+}
+
+fn spelled_show(words: &[String]) -> Option<Command<'_>>
+    ensures { MatchOption result
+        ((f b : List ℕ) → texts words.now ≡ codes "show" ∷ f ∷ b ∷ [] → ⊥)
+        (λ command. Spells (texts words.now) (plain_command command)) }
+{
+    let [name, file, board] = words else {
+        return None;
+    };
+    if is_the_word(name.as_str(), "show") {
+        Some(Command::Show {
+            file: file.as_str(),
+            board: board.as_str(),
         })
     } else {
         None
@@ -371,6 +398,7 @@ fn is_apart(command: &Command<'_>) -> bool
         Command::Profile { .. } => true,
         Command::Compare { .. } => true,
         Command::Check { .. } => true,
+        Command::Show { .. } => true,
         Command::Gen { .. } => true,
         Command::Hex { file, out } => file != out,
         Command::HexCheck { .. } => true,

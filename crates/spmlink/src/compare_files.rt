@@ -13,7 +13,7 @@ use std::alloc::{AllocError, Global};
 /// Runs the program of a file and a file that it was relinked to, each on its machine, on one input. Where they do the
 /// same, it tells so in lines.
 ///
-/// The error is the first fault of the board's text, of the file, of where it lies, of its code, of the relinked file,
+/// The error is the first fault of the board's text, of the file, of where it lies, of its code, of its regions, of the relinked file,
 /// the address fault of the program's run, or a difference. `Memory` comes only where no memory was left.
 pub fn compare_files(
     alloc: Global,

@@ -5,6 +5,7 @@ use elf_reader::ElfFault;
 use hex_image::HexFault;
 use object_graph::GraphFault;
 use profile_runner::ProfileFault;
+use region_former::RegionFault;
 use relink_core::AnalyseFault;
 use std::alloc::{AllocError, AllocFailed, Global};
 use std::fmt;
@@ -204,7 +205,8 @@ struct LineParts<'a> {
 impl<'a> LineParts<'a> {
     ghost use Rattle.std.specs.Prelude.{◌≡◌};
     ghost use Rattle.board_config.specs.Faults.{plain_fault};
-    ghost use Rattle.spmlink.specs.FaultLine.{parts, named_parts, plain_parts, board_parts, elf_parts, graph_parts, code_parts, analyse_parts, cert_parts, hex_parts, differs_parts};
+    ghost use Rattle.spmlink.specs.FaultLine.{parts, named_parts, plain_parts, board_parts, elf_parts, graph_parts, code_parts, analyse_parts, cert_parts, hex_parts, differs_parts, region_parts};
+    ghost use Rattle.region_former.specs.Faults as region;
 
     fn new(status: u8, word: &'static str, first: u32, second: u32) -> LineParts<'a>
         ensures { plain_parts result ≡ parts status word.entry.now first second }
@@ -283,7 +285,7 @@ impl<'a> LineParts<'a> {
         }
     }
 
-    fn of_analysis(fault: &AnalyseFault) -> LineParts<'a>
+    fn of_analysis(fault: &'a AnalyseFault) -> LineParts<'a>
         ensures { plain_parts result ≡ analyse_parts fault.now }
     {
         match fault {
@@ -296,6 +298,7 @@ impl<'a> LineParts<'a> {
                 *have,
             ),
             AnalyseFault::Code(fault) => LineParts::of_code(fault),
+            AnalyseFault::Region(fault) => LineParts::of_regions(fault),
             AnalyseFault::Memory => LineParts::new(9, "memory", 0, 0),
         }
     }
@@ -341,6 +344,20 @@ impl<'a> LineParts<'a> {
             CertFault::TooDeep { at } => LineParts::new(10, "too-deep", *at, 0),
             CertFault::Trailing { at } => LineParts::new(10, "trailing", *at, 0),
             CertFault::Memory => LineParts::new(9, "memory", 0, 0),
+        }
+    }
+
+    fn of_regions(fault: &'a RegionFault) -> LineParts<'a>
+        ensures { plain_parts result ≡ region_parts (region.plain_fault fault.now) }
+    {
+        match fault {
+            RegionFault::UnknownFunction { name } => LineParts::named(
+                5,
+                "unknown-function",
+                name.as_str(),
+            ),
+            RegionFault::TwoRegions { name } => LineParts::named(5, "two-regions", name.as_str()),
+            RegionFault::Memory => LineParts::new(9, "memory", 0, 0),
         }
     }
 

@@ -1,5 +1,6 @@
-//! Runs RV32IM programs on a model of a board with a scratchpad memory, measures them, relinks them for it, compares
-//! them with what that made, and checks its certificates; generates workloads, and writes and checks Intel HEX.
+//! Runs RV32IM programs on a model of a board with a scratchpad memory, shows what of them may move, measures them,
+//! relinks them for it, compares them with what that made, and checks its certificates; generates workloads, and
+//! writes and checks Intel HEX.
 #![tactic(auto)]
 
 #[cfg(test)]
@@ -33,6 +34,10 @@ mod relink_tests;
 mod report_lines;
 mod results;
 mod run_file;
+mod show_file;
+mod show_lines;
+#[cfg(test)]
+mod show_tests;
 mod stated_run;
 #[cfg(test)]
 mod tests;
@@ -50,6 +55,7 @@ const USAGE: &str = "usage: spmlink run FILE BOARD INPUT OUT
        spmlink profile FILE BOARD INPUT
        spmlink compare FILE RESULT BOARD INPUT
        spmlink check FILE BOARD INPUT CERT
+       spmlink show FILE BOARD
        spmlink gen SEED KERNELS OUT
        spmlink hex FILE OUT
        spmlink hexcheck FILE HEX

@@ -6,13 +6,12 @@ use crate::faults::Refusal;
 use crate::profile_lines::profile_lines;
 use crate::stated_run::counted;
 use board_config::read_board;
-use region_former::RegionTable;
 use relink_core::analyse;
 use std::alloc::Global;
 
 /// Runs the program of a file for the board's steps, and tells what happened in lines.
 ///
-/// The error is the first fault of the board's text, of the file, of where it lies, of its code, or the address fault
+/// The error is the first fault of the board's text, of the file, of where it lies, of its code, of its regions, or the address fault
 /// of the run. `Memory` comes only where no memory was left.
 pub fn profile_file(
     alloc: Global,
@@ -25,7 +24,6 @@ pub fn profile_file(
 {
     let board = read_board(alloc, board)?;
     let analysis = analyse(alloc, file, &board)?;
-    let regions = RegionTable::none(alloc, &analysis.code)?;
-    let counts = counted(alloc, &analysis, &regions, &board, input)?;
+    let counts = counted(alloc, &analysis, &board, input)?;
     Ok(profile_lines(alloc, &analysis, &counts)?)
 }

@@ -87,7 +87,7 @@ fn started_line(alloc: Global, start: u32, arrivals: u64) -> Result<String, Allo
 
 /// An address as it is printed: `0x` and eight hexadecimal digits.
 #[tactic(auto, using(crate::proofs::Hexadecimal::eight_digits))]
-fn address_text(alloc: Global, address: u32) -> Result<String, AllocError>
+pub(crate) fn address_text(alloc: Global, address: u32) -> Result<String, AllocError>
     ensures { IfOk result (λ text. string_bytes text ≡ address_text address) }
 {
     format!(in alloc; "0x{address:08x}")
@@ -132,7 +132,7 @@ fn push_object(
 }
 
 /// The name of a symbol by its number.
-fn symbol_name<'a>(view: &ElfView<'a>, number: u32) -> &'a [u8]
+pub(crate) fn symbol_name<'a>(view: &ElfView<'a>, number: u32) -> &'a [u8]
     ensures { result.now ≡ (symbol_at (plain_view view.now) number).name }
 {
     match view.symbols.get(number as usize) {

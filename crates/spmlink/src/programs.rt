@@ -110,3 +110,111 @@ pub(crate) fn with_table(
     };
     build(alloc, &spec)
 }
+
+/// Clears the 16 bytes between the markers `__bss_start` and `_end`, in 19 steps and 4 stores.
+const CLEARS: [u32; 11] = [
+    0x0001_2537,
+    0x0005_0513,
+    0x0001_25b7,
+    0x0105_8593,
+    0x0005_2023,
+    0x0045_0513,
+    0xfeb5_1ce3,
+    0x0000_0513,
+    0x05d0_0893,
+    0x0000_0073,
+    0x0000_006f,
+];
+
+/// A relocation that goes by a symbol.
+fn reloc(at: u32, kind: u32, symbol: u32) -> Reloc {
+    Reloc {
+        at,
+        kind,
+        symbol,
+        addend: 0,
+        section: 0,
+    }
+}
+
+/// The file of that program.
+pub(crate) fn clearing_file(alloc: Global) -> Result<Vec<u8>, AllocError> {
+    let mut text = section(alloc, ".text", 0x1_0000, 6, &CLEARS)?;
+    text.relocs = vec![in alloc;
+        reloc(0x1_0000, 26, 3),
+        reloc(0x1_0004, 27, 3),
+        reloc(0x1_0008, 26, 4),
+        reloc(0x1_000c, 27, 4),
+    ]?;
+    let bss = SectionSpec {
+        empty: 16,
+        ..section(alloc, ".bss", 0x1_2000, 3, &[])?
+    };
+    let spec = FileSpec {
+        entry: 0x1_0000,
+        sections: vec![in alloc; text, bss]?,
+        symbols: vec![in alloc;
+            symbol(alloc, "main", 0x1_0000, 44, 2, 1)?,
+            symbol(alloc, "buf", 0x1_2000, 16, 1, 2)?,
+            symbol(alloc, "__bss_start", 0x1_2000, 0, 0, 2)?,
+            symbol(alloc, "_end", 0x1_2010, 0, 0, 2)?,
+        ]?,
+    };
+    build(alloc, &spec)
+}
+
+/// A `main` that calls `f` and `g` in turn, ten times each; they read the tables `ta` and `tb` in loops of their own.
+const TWO_PHASES: [u32; 29] = [
+    0x00a0_0413,
+    0x0200_00ef,
+    0x0440_00ef,
+    0xfff4_0413,
+    0xfe04_1ae3,
+    0x0000_0513,
+    0x05d0_0893,
+    0x0000_0073,
+    0x0000_006f,
+    0x0140_0713,
+    0x0001_1537,
+    0x0005_0513,
+    0x4005_0593,
+    0x0005_2683,
+    0x0045_0513,
+    0xfeb5_1ce3,
+    0xfff7_0713,
+    0xfe07_12e3,
+    0x0000_8067,
+    0x0140_0713,
+    0x0001_1537,
+    0x4005_0513,
+    0x4005_0593,
+    0x0005_2683,
+    0x0045_0513,
+    0xfeb5_1ce3,
+    0xfff7_0713,
+    0xfe07_12e3,
+    0x0000_8067,
+];
+
+/// The file of that program.
+pub(crate) fn two_phases(alloc: Global) -> Result<Vec<u8>, AllocError> {
+    let mut text = section(alloc, ".text", 0x1_0000, 6, &TWO_PHASES)?;
+    text.relocs = vec![in alloc;
+        reloc(0x1_0028, 26, 4),
+        reloc(0x1_002c, 27, 4),
+        reloc(0x1_0050, 26, 5),
+        reloc(0x1_0054, 27, 5),
+    ]?;
+    let spec = FileSpec {
+        entry: 0x1_0000,
+        sections: vec![in alloc; text, section(alloc, ".rodata", 0x1_1000, 2, &[0; 512])?]?,
+        symbols: vec![in alloc;
+            symbol(alloc, "main", 0x1_0000, 36, 2, 1)?,
+            symbol(alloc, "f", 0x1_0024, 40, 2, 1)?,
+            symbol(alloc, "g", 0x1_004c, 40, 2, 1)?,
+            symbol(alloc, "ta", 0x1_1000, 1024, 1, 2)?,
+            symbol(alloc, "tb", 0x1_1400, 1024, 1, 2)?,
+        ]?,
+    };
+    build(alloc, &spec)
+}

@@ -28,7 +28,7 @@ pub struct Relinked {
 /// Relinks a file for a board, with nothing moved. The program is run on the input to measure it, for the board's
 /// steps.
 ///
-/// The error is the first fault of the board's text, of the file, of where it lies, of its code, or the address fault
+/// The error is the first fault of the board's text, of the file, of where it lies, of its code, of its regions, or the address fault
 /// of the run. `Memory` comes only where no memory was left.
 pub fn relink_file(
     alloc: Global,

@@ -1,9 +1,8 @@
 use crate::calls::{Call, OK_FILE};
-use crate::programs::{ADDRESS, SUMS, section, symbol, table_reloc, with_table};
-use elf_reader::Reloc;
+use crate::programs::{ADDRESS, SUMS, clearing_file, section, symbol, table_reloc, with_table};
 use std::alloc::{AllocError, Global};
 use std::test::Fail;
-use workload_gen::{FileSpec, SectionSpec, build};
+use workload_gen::{FileSpec, build};
 
 /// The certificate of the choice that takes nothing.
 const CERTIFICATE: [u8; 7] = [0x53, 0x50, 0x43, 0x31, 0, 0, 0];
@@ -21,58 +20,6 @@ fn plain_file(alloc: Global, words: &[u32]) -> Result<Vec<u8>, AllocError> {
         entry: 0x1_0000,
         sections: vec![in alloc; text]?,
         symbols: vec![in alloc; symbol(alloc, "main", 0x1_0000, size, 2, 1)?]?,
-    };
-    build(alloc, &spec)
-}
-
-/// Clears the 16 bytes between the markers `__bss_start` and `_end`, in 19 steps and 4 stores.
-const CLEARS: [u32; 11] = [
-    0x0001_2537,
-    0x0005_0513,
-    0x0001_25b7,
-    0x0105_8593,
-    0x0005_2023,
-    0x0045_0513,
-    0xfeb5_1ce3,
-    0x0000_0513,
-    0x05d0_0893,
-    0x0000_0073,
-    0x0000_006f,
-];
-
-/// A relocation that goes by a symbol.
-fn reloc(at: u32, kind: u32, symbol: u32) -> Reloc {
-    Reloc {
-        at,
-        kind,
-        symbol,
-        addend: 0,
-        section: 0,
-    }
-}
-
-/// The file of that program.
-fn clearing_file(alloc: Global) -> Result<Vec<u8>, AllocError> {
-    let mut text = section(alloc, ".text", 0x1_0000, 6, &CLEARS)?;
-    text.relocs = vec![in alloc;
-        reloc(0x1_0000, 26, 3),
-        reloc(0x1_0004, 27, 3),
-        reloc(0x1_0008, 26, 4),
-        reloc(0x1_000c, 27, 4),
-    ]?;
-    let bss = SectionSpec {
-        empty: 16,
-        ..section(alloc, ".bss", 0x1_2000, 3, &[])?
-    };
-    let spec = FileSpec {
-        entry: 0x1_0000,
-        sections: vec![in alloc; text, bss]?,
-        symbols: vec![in alloc;
-            symbol(alloc, "main", 0x1_0000, 44, 2, 1)?,
-            symbol(alloc, "buf", 0x1_2000, 16, 1, 2)?,
-            symbol(alloc, "__bss_start", 0x1_2000, 0, 0, 2)?,
-            symbol(alloc, "_end", 0x1_2010, 0, 0, 2)?,
-        ]?,
     };
     build(alloc, &spec)
 }

@@ -1,5 +1,5 @@
 ghost use Rattle.std.specs.Prelude.{◌≡◌, ◌∷◌, [], ◌≤◌, ℕ, List, IfOk, IfErr, length, string_bytes};
-ghost use Rattle.spmlink.specs.Command.{HasNumbers, plain_command, reads, run_command, relink_command, profile_command, compare_command, check_command, gen_command, hex_command, hex_check_command};
+ghost use Rattle.spmlink.specs.Command.{HasNumbers, plain_command, reads, run_command, relink_command, profile_command, compare_command, check_command, gen_command, hex_command, hex_check_command, show_command};
 ghost use Rattle.spmlink.specs.Reading.{contents};
 ghost use Rattle.spmlink.specs.Meaning.{RefusesInputs, kernels_text};
 ghost use Rattle.spmlink.specs.Performing.{IsReadyFor};
@@ -13,6 +13,7 @@ use crate::hex_files::{check_hex, hex_file};
 use crate::profile_file::profile_file;
 use crate::relink_file::relink_file;
 use crate::run_file::run_file;
+use crate::show_file::show_file;
 use std::alloc::{AllocError, Global};
 use workload_gen::workload;
 
@@ -56,6 +57,11 @@ pub fn make_ready<'a>(
                 Err(fault) => Err(fault),
             }
         }
+
+        Command::Show { .. } => match ready_show(alloc, &texts[0], &texts[1]) {
+            Ok(ready) => Ok(ready),
+            Err(fault) => Err(fault),
+        },
         Command::Gen { seed, kernels, out } => ready_gen(alloc, seed, kernels, out),
         Command::Hex { out, .. } => match ready_hex(alloc, out, &texts[0]) {
             Ok(ready) => Ok(ready),
@@ -157,6 +163,18 @@ fn ready_check<'a>(
         → RefusesInputs (check_command f b i c) (file.now ∷ board.now ∷ input.now ∷ cert.now ∷ []) fault) }
 {
     match check_file(alloc, file, board, input, cert) {
+        Ok(text) => Ok(Ready::printed(alloc, text)?),
+        Err(fault) => Err(fault),
+    }
+}
+
+fn ready_show<'a>(alloc: Global, file: &[u8], board: &[u8]) -> Result<Ready<'a>, Refusal>
+    ensures ok { IfOk result (λ ready. (f b : List ℕ)
+        → IsReadyFor (show_command f b) (file.now ∷ board.now ∷ []) ready) }
+    ensures err { IfErr result (λ fault. (f b : List ℕ)
+        → RefusesInputs (show_command f b) (file.now ∷ board.now ∷ []) fault) }
+{
+    match show_file(alloc, file, board) {
         Ok(text) => Ok(Ready::printed(alloc, text)?),
         Err(fault) => Err(fault),
     }

@@ -1,4 +1,4 @@
-ghost use Rattle.std.specs.Prelude.{◌≡◌, ◌≤◌, true, None};
+ghost use Rattle.std.specs.Prelude.{◌≡◌, ◌≤◌, true, None, length};
 ghost use Rattle.elf_reader.specs.File.{plain_view};
 ghost use Rattle.board_config.specs.Board.{IsLawful};
 ghost use Rattle.loaded_code.specs.Read.{IsRead};
@@ -6,7 +6,7 @@ ghost use Rattle.object_graph.specs.Graphs.{IsGraph};
 ghost use Rattle.code_leaders.specs.Leaders.{is_leader};
 ghost use Rattle.code_blocks.specs.Blocks.{IsCode, code_fault};
 ghost use Rattle.relink_core.specs.Faults.{least_patch};
-ghost use Rattle.spmlink.specs.ProfileFile.{TellsCounts, no_regions};
+ghost use Rattle.spmlink.specs.ProfileFile.{TellsCounts};
 ghost use Rattle.spmlink.specs.StatedRun.{TellsProgramme};
 
 use board_config::Board;
@@ -14,17 +14,15 @@ use energy_model::programme;
 use object_machine::Source;
 use placement_programme::Programme;
 use profile_runner::{Profile, ProfileFault, profile};
-use region_former::RegionTable;
 use relink_core::Analysis;
 use std::alloc::Global;
 
-/// Runs an analysed program for the board's steps, and counts what happens. No block has a region.
+/// Runs an analysed program for the board's steps, and counts what happens.
 ///
 /// The error is the address fault of the run. `Memory` comes only where no memory was left.
 pub(crate) fn counted(
     alloc: Global,
     analysis: &Analysis<'_>,
-    regions: &RegionTable,
     board: &Board,
     input: &[u8],
 ) -> Result<Profile, ProfileFault>
@@ -33,9 +31,8 @@ pub(crate) fn counted(
     requires code { IsCode (plain_view analysis.now.view) analysis.now.code }
     requires lawful { IsLawful board.now }
     requires entry { is_leader (plain_view analysis.now.view) analysis.now.view.entry ≡ true }
-    requires regions { regions.now.of_block.items ≡ no_regions analysis.now.code }
-    requires none { regions.now.count ≡ 0 }
-    ensures { TellsCounts (plain_view analysis.now.view) board.now analysis.now.graph analysis.now.code input.now result }
+    requires regions { length analysis.now.regions.of_block.items ≡ length analysis.now.code.blocks.items }
+    ensures { TellsCounts (plain_view analysis.now.view) board.now analysis.now.graph analysis.now.code analysis.now.regions input.now result }
 {
     let mut source = Source::new(
         alloc,
@@ -50,7 +47,7 @@ pub(crate) fn counted(
         &mut source,
         &analysis.code,
         &analysis.graph,
-        regions,
+        &analysis.regions,
         board.steps,
     ) {
         Ok(profile) => Ok(profile),
@@ -74,16 +71,16 @@ pub(crate) fn stated_run(
     requires lawful { IsLawful board.now }
     requires room { least_patch board.now.fence_i ≤ board.now.patch.size }
     requires entry { is_leader (plain_view analysis.now.view) analysis.now.view.entry ≡ true }
-    ensures { TellsProgramme (plain_view analysis.now.view) board.now analysis.now.graph analysis.now.code input.now result }
+    requires regions { length analysis.now.regions.of_block.items ≡ length analysis.now.code.blocks.items }
+    ensures { TellsProgramme (plain_view analysis.now.view) board.now analysis.now.graph analysis.now.code analysis.now.regions input.now result }
 {
-    let regions = RegionTable::none(alloc, &analysis.code)?;
-    let counts = counted(alloc, analysis, &regions, board, input)?;
+    let counts = counted(alloc, analysis, board, input)?;
     match programme(
         alloc,
         &counts,
         &analysis.graph,
         &analysis.code,
-        &regions,
+        &analysis.regions,
         board,
     ) {
         Ok(programme) => Ok(programme),

@@ -2,7 +2,7 @@ use Rattle.std.proofs.lemmas.Result.{err_from_is_err_and}
 use Rattle.elf_reader.specs.File.{plain_view}
 use Rattle.placement_programme.specs.Views.{plain_programme}
 use Rattle.loaded_code.proofs.WordLemmas.{same_view}
-use Rattle.spmlink.specs.StatedRun.{bare_scene}
+use Rattle.energy_model.specs.Stated.{scene_of}
 use Rattle.spmlink.proofs.Analysing.{may_run, board_refused, analysis_refused, profiled_refused}
 use Rattle.spmlink.proofs.Profiling.{counts_refused}
 use Rattle.spmlink.proofs.Certificates.{within_base, run_refused_first, certificate_told, states_of}
@@ -26,32 +26,35 @@ returns-in_err-analysis-clause-err c =
 pub stated_run-requires-clause-read : goal.stated_run-requires-clause-read
 stated_run-requires-clause-read c =
     let found = c.in_ok-analysis.ensures in
-    (may_run c.args.file.now c.in_ok-analysis.analysis.view c.in_ok-board.board c.in_ok-analysis.analysis.graph c.in_ok-analysis.analysis.code found.file found.fault found.graph found.code).read
+    (may_run c.args.file.now c.in_ok-analysis.analysis.view c.in_ok-board.board c.in_ok-analysis.analysis.graph c.in_ok-analysis.analysis.code found.file found.fault.before found.graph found.code).read
 
 pub stated_run-requires-clause-graph : goal.stated_run-requires-clause-graph
 stated_run-requires-clause-graph c =
     let found = c.in_ok-analysis.ensures in
-    (may_run c.args.file.now c.in_ok-analysis.analysis.view c.in_ok-board.board c.in_ok-analysis.analysis.graph c.in_ok-analysis.analysis.code found.file found.fault found.graph found.code).graph
+    (may_run c.args.file.now c.in_ok-analysis.analysis.view c.in_ok-board.board c.in_ok-analysis.analysis.graph c.in_ok-analysis.analysis.code found.file found.fault.before found.graph found.code).graph
 
 pub stated_run-requires-clause-code : goal.stated_run-requires-clause-code
 stated_run-requires-clause-code c =
     let found = c.in_ok-analysis.ensures in
-    (may_run c.args.file.now c.in_ok-analysis.analysis.view c.in_ok-board.board c.in_ok-analysis.analysis.graph c.in_ok-analysis.analysis.code found.file found.fault found.graph found.code).code
+    (may_run c.args.file.now c.in_ok-analysis.analysis.view c.in_ok-board.board c.in_ok-analysis.analysis.graph c.in_ok-analysis.analysis.code found.file found.fault.before found.graph found.code).code
 
 pub stated_run-requires-clause-no_fault : goal.stated_run-requires-clause-no_fault
 stated_run-requires-clause-no_fault c =
     let found = c.in_ok-analysis.ensures in
-    (may_run c.args.file.now c.in_ok-analysis.analysis.view c.in_ok-board.board c.in_ok-analysis.analysis.graph c.in_ok-analysis.analysis.code found.file found.fault found.graph found.code).no_fault
+    (may_run c.args.file.now c.in_ok-analysis.analysis.view c.in_ok-board.board c.in_ok-analysis.analysis.graph c.in_ok-analysis.analysis.code found.file found.fault.before found.graph found.code).no_fault
 
 pub stated_run-requires-clause-room : goal.stated_run-requires-clause-room
 stated_run-requires-clause-room c =
     let found = c.in_ok-analysis.ensures in
-    (may_run c.args.file.now c.in_ok-analysis.analysis.view c.in_ok-board.board c.in_ok-analysis.analysis.graph c.in_ok-analysis.analysis.code found.file found.fault found.graph found.code).room
+    (may_run c.args.file.now c.in_ok-analysis.analysis.view c.in_ok-board.board c.in_ok-analysis.analysis.graph c.in_ok-analysis.analysis.code found.file found.fault.before found.graph found.code).room
+
+pub stated_run-requires-clause-regions : goal.stated_run-requires-clause-regions
+stated_run-requires-clause-regions c = c.in_ok-analysis.ensures.regions.is_formed.one_each
 
 pub stated_run-requires-clause-entry : goal.stated_run-requires-clause-entry
 stated_run-requires-clause-entry c =
     let found = c.in_ok-analysis.ensures in
-    (may_run c.args.file.now c.in_ok-analysis.analysis.view c.in_ok-board.board c.in_ok-analysis.analysis.graph c.in_ok-analysis.analysis.code found.file found.fault found.graph found.code).entry
+    (may_run c.args.file.now c.in_ok-analysis.analysis.view c.in_ok-board.board c.in_ok-analysis.analysis.graph c.in_ok-analysis.analysis.code found.file found.fault.before found.graph found.code).entry
 
 pub returns-in_err-programme-clause-err : goal.returns-in_err-programme-clause-err
 returns-in_err-programme-clause-err c =
@@ -60,7 +63,7 @@ returns-in_err-programme-clause-err c =
     let analysis = c.in_ok-analysis.analysis in
     rw (p.1, p.2)
     (run_refused_first c.args.board.now c.args.file.now c.args.input.now c.args.cert.now _
-    (counts_refused c.args.board.now c.args.file.now c.args.input.now c.in_ok-board.board (plain_view analysis.view) analysis.graph analysis.code _
+    (counts_refused c.args.board.now c.args.file.now c.args.input.now c.in_ok-board.board (plain_view analysis.view) analysis.graph analysis.code analysis.regions _
     (same_view c.args.file.now analysis.view found.file)
     (record { is_board = c.in_ok-board.ensures.board; sound = c.in_ok-board.ensures.fault; no_fault = found.fault })
     found.graph c.in_err-programme.ensures))
@@ -69,7 +72,7 @@ pub checked-requires : goal.checked-requires
 checked-requires c =
     let analysis = c.in_ok-analysis.analysis in
     let states = c.in_ok-programme.ensures in
-    record { within = within_base (bare_scene analysis.graph analysis.code c.in_ok-board.board) states.moves (plain_programme c.in_ok-programme.programme) states.energies }
+    record { within = within_base (scene_of analysis.graph analysis.code analysis.regions c.in_ok-board.board) states.moves (plain_programme c.in_ok-programme.programme) states.energies }
 
 pub returns-in-Ok-clause-ok : goal.returns-in-Ok-clause-ok
 returns-in-Ok-clause-ok c =
@@ -82,8 +85,8 @@ returns-in-Ok-clause-ok c =
       board = board;
       accepts = record { is_board = c.in_ok-board.ensures.board; sound = c.in_ok-board.ensures.fault; no_fault = found.fault };
       programme = programme;
-      states = states_of file board c.args.input.now programme (plain_view analysis.view) analysis.graph analysis.code
-          (same_view file analysis.view found.file) found.graph found.code c.in_ok-programme.ensures;
+      states = states_of file board c.args.input.now programme (plain_view analysis.view) analysis.graph analysis.code analysis.regions
+          (same_view file analysis.view found.file) found.graph found.code found.regions c.in_ok-programme.ensures;
       reports = rw c.into_bytes.ensures.value c.in-Ok.ensures.ok;
     }
 
@@ -96,6 +99,6 @@ returns-clause-err c =
     let programme = plain_programme c.in_ok-programme.programme in
     certificate_told c.args.board.now file c.args.input.now c.args.cert.now board programme _
     (record { is_board = c.in_ok-board.ensures.board; sound = c.in_ok-board.ensures.fault; no_fault = found.fault })
-    (states_of file board c.args.input.now programme (plain_view analysis.view) analysis.graph analysis.code
-    (same_view file analysis.view found.file) found.graph found.code c.in_ok-programme.ensures)
+    (states_of file board c.args.input.now programme (plain_view analysis.view) analysis.graph analysis.code analysis.regions
+    (same_view file analysis.view found.file) found.graph found.code found.regions c.in_ok-programme.ensures)
     c.in-Err.ensures.err

@@ -21,22 +21,25 @@ returns-in_err-analysis-clause-err c =
 pub counted-requires-clause-read : goal.counted-requires-clause-read
 counted-requires-clause-read c =
     let found = c.in_ok-analysis.ensures in
-    (may_run c.args.file.now c.in_ok-analysis.analysis.view c.in_ok-board.board c.in_ok-analysis.analysis.graph c.in_ok-analysis.analysis.code found.file found.fault found.graph found.code).read
+    (may_run c.args.file.now c.in_ok-analysis.analysis.view c.in_ok-board.board c.in_ok-analysis.analysis.graph c.in_ok-analysis.analysis.code found.file found.fault.before found.graph found.code).read
 
 pub counted-requires-clause-graph : goal.counted-requires-clause-graph
 counted-requires-clause-graph c =
     let found = c.in_ok-analysis.ensures in
-    (may_run c.args.file.now c.in_ok-analysis.analysis.view c.in_ok-board.board c.in_ok-analysis.analysis.graph c.in_ok-analysis.analysis.code found.file found.fault found.graph found.code).graph
+    (may_run c.args.file.now c.in_ok-analysis.analysis.view c.in_ok-board.board c.in_ok-analysis.analysis.graph c.in_ok-analysis.analysis.code found.file found.fault.before found.graph found.code).graph
 
 pub counted-requires-clause-code : goal.counted-requires-clause-code
 counted-requires-clause-code c =
     let found = c.in_ok-analysis.ensures in
-    (may_run c.args.file.now c.in_ok-analysis.analysis.view c.in_ok-board.board c.in_ok-analysis.analysis.graph c.in_ok-analysis.analysis.code found.file found.fault found.graph found.code).code
+    (may_run c.args.file.now c.in_ok-analysis.analysis.view c.in_ok-board.board c.in_ok-analysis.analysis.graph c.in_ok-analysis.analysis.code found.file found.fault.before found.graph found.code).code
+
+pub counted-requires-clause-regions : goal.counted-requires-clause-regions
+counted-requires-clause-regions c = c.in_ok-analysis.ensures.regions.is_formed.one_each
 
 pub counted-requires-clause-entry : goal.counted-requires-clause-entry
 counted-requires-clause-entry c =
     let found = c.in_ok-analysis.ensures in
-    (may_run c.args.file.now c.in_ok-analysis.analysis.view c.in_ok-board.board c.in_ok-analysis.analysis.graph c.in_ok-analysis.analysis.code found.file found.fault found.graph found.code).entry
+    (may_run c.args.file.now c.in_ok-analysis.analysis.view c.in_ok-board.board c.in_ok-analysis.analysis.graph c.in_ok-analysis.analysis.code found.file found.fault.before found.graph found.code).entry
 
 pub returns-in_err-counts-clause-err : goal.returns-in_err-counts-clause-err
 returns-in_err-counts-clause-err c =
@@ -44,7 +47,7 @@ returns-in_err-counts-clause-err c =
     let found = c.in_ok-analysis.ensures in
     let analysis = c.in_ok-analysis.analysis in
     rw (p.1, p.2)
-    (counts_refused c.args.board.now c.args.file.now c.args.input.now c.in_ok-board.board (plain_view analysis.view) analysis.graph analysis.code _
+    (counts_refused c.args.board.now c.args.file.now c.args.input.now c.in_ok-board.board (plain_view analysis.view) analysis.graph analysis.code analysis.regions _
     (same_view c.args.file.now analysis.view found.file)
     (record { is_board = c.in_ok-board.ensures.board; sound = c.in_ok-board.ensures.fault; no_fault = found.fault })
     found.graph c.in_err-counts.ensures)
@@ -52,28 +55,28 @@ returns-in_err-counts-clause-err c =
 pub profile_lines-requires-clause-ending : goal.profile_lines-requires-clause-ending
 profile_lines-requires-clause-ending c =
     let analysis = c.in_ok-analysis.analysis in
-    (has_lines (plain_view analysis.view) c.in_ok-board.board analysis.graph analysis.code c.args.input.now c.in_ok-counts.counts c.in_ok-counts.ensures).ending
+    (has_lines (plain_view analysis.view) c.in_ok-board.board analysis.graph analysis.code analysis.regions c.args.input.now c.in_ok-counts.counts c.in_ok-counts.ensures).ending
 
 pub profile_lines-requires-clause-blocks : goal.profile_lines-requires-clause-blocks
 profile_lines-requires-clause-blocks c =
     let analysis = c.in_ok-analysis.analysis in
-    (has_lines (plain_view analysis.view) c.in_ok-board.board analysis.graph analysis.code c.args.input.now c.in_ok-counts.counts c.in_ok-counts.ensures).blocks
+    (has_lines (plain_view analysis.view) c.in_ok-board.board analysis.graph analysis.code analysis.regions c.args.input.now c.in_ok-counts.counts c.in_ok-counts.ensures).blocks
 
 pub profile_lines-requires-clause-reads : goal.profile_lines-requires-clause-reads
 profile_lines-requires-clause-reads c =
     let analysis = c.in_ok-analysis.analysis in
-    (has_lines (plain_view analysis.view) c.in_ok-board.board analysis.graph analysis.code c.args.input.now c.in_ok-counts.counts c.in_ok-counts.ensures).reads
+    (has_lines (plain_view analysis.view) c.in_ok-board.board analysis.graph analysis.code analysis.regions c.args.input.now c.in_ok-counts.counts c.in_ok-counts.ensures).reads
 
 pub profile_lines-requires-clause-writes : goal.profile_lines-requires-clause-writes
 profile_lines-requires-clause-writes c =
     let analysis = c.in_ok-analysis.analysis in
-    (has_lines (plain_view analysis.view) c.in_ok-board.board analysis.graph analysis.code c.args.input.now c.in_ok-counts.counts c.in_ok-counts.ensures).writes
+    (has_lines (plain_view analysis.view) c.in_ok-board.board analysis.graph analysis.code analysis.regions c.args.input.now c.in_ok-counts.counts c.in_ok-counts.ensures).writes
 
 pub returns-clause-ok : goal.returns-clause-ok
 returns-clause-ok c =
     let found = c.in_ok-analysis.ensures in
     let analysis = c.in_ok-analysis.analysis in
-    profiles_to c.args.file.now c.args.board.now c.args.input.now _ c.in_ok-board.board (plain_view analysis.view) analysis.graph analysis.code c.in_ok-counts.counts
+    profiles_to c.args.file.now c.args.board.now c.args.input.now _ c.in_ok-board.board (plain_view analysis.view) analysis.graph analysis.code analysis.regions c.in_ok-counts.counts
     (same_view c.args.file.now analysis.view found.file)
     (record { is_board = c.in_ok-board.ensures.board; sound = c.in_ok-board.ensures.fault; no_fault = found.fault })
-    found.graph found.code c.in_ok-counts.ensures c.in_ok-profile_lines.ensures
+    found.graph found.code found.regions c.in_ok-counts.ensures c.in_ok-profile_lines.ensures

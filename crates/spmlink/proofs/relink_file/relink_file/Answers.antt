@@ -27,32 +27,35 @@ returns-in_err-analysis-clause-err c =
 pub stated_run-requires-clause-read : goal.stated_run-requires-clause-read
 stated_run-requires-clause-read c =
     let found = c.in_ok-analysis.ensures in
-    (may_run c.args.file.now c.in_ok-analysis.analysis.view c.in_ok-board.board c.in_ok-analysis.analysis.graph c.in_ok-analysis.analysis.code found.file found.fault found.graph found.code).read
+    (may_run c.args.file.now c.in_ok-analysis.analysis.view c.in_ok-board.board c.in_ok-analysis.analysis.graph c.in_ok-analysis.analysis.code found.file found.fault.before found.graph found.code).read
 
 pub stated_run-requires-clause-graph : goal.stated_run-requires-clause-graph
 stated_run-requires-clause-graph c =
     let found = c.in_ok-analysis.ensures in
-    (may_run c.args.file.now c.in_ok-analysis.analysis.view c.in_ok-board.board c.in_ok-analysis.analysis.graph c.in_ok-analysis.analysis.code found.file found.fault found.graph found.code).graph
+    (may_run c.args.file.now c.in_ok-analysis.analysis.view c.in_ok-board.board c.in_ok-analysis.analysis.graph c.in_ok-analysis.analysis.code found.file found.fault.before found.graph found.code).graph
 
 pub stated_run-requires-clause-code : goal.stated_run-requires-clause-code
 stated_run-requires-clause-code c =
     let found = c.in_ok-analysis.ensures in
-    (may_run c.args.file.now c.in_ok-analysis.analysis.view c.in_ok-board.board c.in_ok-analysis.analysis.graph c.in_ok-analysis.analysis.code found.file found.fault found.graph found.code).code
+    (may_run c.args.file.now c.in_ok-analysis.analysis.view c.in_ok-board.board c.in_ok-analysis.analysis.graph c.in_ok-analysis.analysis.code found.file found.fault.before found.graph found.code).code
 
 pub stated_run-requires-clause-no_fault : goal.stated_run-requires-clause-no_fault
 stated_run-requires-clause-no_fault c =
     let found = c.in_ok-analysis.ensures in
-    (may_run c.args.file.now c.in_ok-analysis.analysis.view c.in_ok-board.board c.in_ok-analysis.analysis.graph c.in_ok-analysis.analysis.code found.file found.fault found.graph found.code).no_fault
+    (may_run c.args.file.now c.in_ok-analysis.analysis.view c.in_ok-board.board c.in_ok-analysis.analysis.graph c.in_ok-analysis.analysis.code found.file found.fault.before found.graph found.code).no_fault
 
 pub stated_run-requires-clause-room : goal.stated_run-requires-clause-room
 stated_run-requires-clause-room c =
     let found = c.in_ok-analysis.ensures in
-    (may_run c.args.file.now c.in_ok-analysis.analysis.view c.in_ok-board.board c.in_ok-analysis.analysis.graph c.in_ok-analysis.analysis.code found.file found.fault found.graph found.code).room
+    (may_run c.args.file.now c.in_ok-analysis.analysis.view c.in_ok-board.board c.in_ok-analysis.analysis.graph c.in_ok-analysis.analysis.code found.file found.fault.before found.graph found.code).room
+
+pub stated_run-requires-clause-regions : goal.stated_run-requires-clause-regions
+stated_run-requires-clause-regions c = c.in_ok-analysis.ensures.regions.is_formed.one_each
 
 pub stated_run-requires-clause-entry : goal.stated_run-requires-clause-entry
 stated_run-requires-clause-entry c =
     let found = c.in_ok-analysis.ensures in
-    (may_run c.args.file.now c.in_ok-analysis.analysis.view c.in_ok-board.board c.in_ok-analysis.analysis.graph c.in_ok-analysis.analysis.code found.file found.fault found.graph found.code).entry
+    (may_run c.args.file.now c.in_ok-analysis.analysis.view c.in_ok-board.board c.in_ok-analysis.analysis.graph c.in_ok-analysis.analysis.code found.file found.fault.before found.graph found.code).entry
 
 pub returns-in_err-programme-clause-err : goal.returns-in_err-programme-clause-err
 returns-in_err-programme-clause-err c =
@@ -60,7 +63,7 @@ returns-in_err-programme-clause-err c =
     let found = c.in_ok-analysis.ensures in
     let analysis = c.in_ok-analysis.analysis in
     rw (p.1, p.2)
-    (counts_refused c.args.board.now c.args.file.now c.args.input.now c.in_ok-board.board (plain_view analysis.view) analysis.graph analysis.code _
+    (counts_refused c.args.board.now c.args.file.now c.args.input.now c.in_ok-board.board (plain_view analysis.view) analysis.graph analysis.code analysis.regions _
     (same_view c.args.file.now analysis.view found.file)
     (record { is_board = c.in_ok-board.ensures.board; sound = c.in_ok-board.ensures.fault; no_fault = found.fault })
     found.graph c.in_err-programme.ensures)
@@ -81,10 +84,12 @@ returns-clause-ok c =
       is_graph = found.graph;
       code = analysis.code;
       is_code = found.code;
+      regions = analysis.regions;
+      are_regions = found.regions;
       programme = programme;
-      states = subst (λ (v : PlainView). StatesProgramme v board analysis.graph analysis.code c.args.input.now programme) (same_view file analysis.view found.file) c.in_ok-programme.ensures;
+      states = subst (λ (v : PlainView). StatesProgramme v board analysis.graph analysis.code analysis.regions c.args.input.now programme) (same_view file analysis.view found.file) c.in_ok-programme.ensures;
       certificate_is = made.certificate;
       out_is = made.file;
       report_is = made.report;
-      keeps = subst (λ out. KeepsPaired file out board) (sym made.file) (c.unmoved_file_keeps.ensures file board bytes c.in_ok-board.ensures.lawful found.fault);
+      keeps = subst (λ out. KeepsPaired file out board) (sym made.file) (c.unmoved_file_keeps.ensures file board bytes c.in_ok-board.ensures.lawful found.fault.before);
     }

@@ -1,5 +1,5 @@
 use Rattle.std.proofs.Common.{List, ℕ, subst}
-use Rattle.spmlink.specs.Command.{run_command, relink_command, profile_command, compare_command, check_command, hex_command, hex_check_command}
+use Rattle.spmlink.specs.Command.{run_command, relink_command, profile_command, compare_command, check_command, hex_command, hex_check_command, show_command}
 use Rattle.spmlink.specs.Meaning.{RefusesInputs}
 use Rattle.spmlink.specs.Performing.{IsReadyFor}
 use Rattle.spmlink.proofs.Readings.{contents_of_one, contents_of_two, contents_of_three, contents_of_four}
@@ -70,6 +70,13 @@ returns-in-Ok-ready_check-clause-ok c =
     let w = c.in-Check in
     let command = check_command w.file.now w.board.now w.input.now w.cert.now in
     rw w.is (subst (λ (ts : List (List ℕ)). IsReadyFor command ts c.in-Ok-ready_check.ready) are (c.in-Ok-ready_check.ensures.ok w.file.now w.board.now w.input.now w.cert.now))
+
+pub returns-in-Err-ready_show-clause-err : goal.returns-in-Err-ready_show-clause-err
+returns-in-Err-ready_show-clause-err c =
+    let count = rw c.in-Show.is at c.requires.texts in
+    let are = contents_of_two c.args.texts.now c.index-texts-0-in-Show.result c.index-texts-1-in-Show.result _ _ count
+    c.index-texts-0-in-Show.is c.index-texts-1-in-Show.is c.deref-in-Show.ensures.value c.deref-in-Show-2.ensures.value in
+    rw c.in-Show.is (subst (λ (ts : List (List ℕ)). RefusesInputs (show_command c.in-Show.file.now c.in-Show.board.now) ts c.in-Err-ready_show.fault) are (c.in-Err-ready_show.ensures.err c.in-Show.file.now c.in-Show.board.now))
 
 pub returns-in-Err-ready_hex-clause-err : goal.returns-in-Err-ready_hex-clause-err
 returns-in-Err-ready_hex-clause-err c =

@@ -1,5 +1,4 @@
 use Rattle.std.proofs.Common.{◌≡◌, true, length, Ok, Err, sym, ap, subst, ◌∙◌}
-use Rattle.std.proofs.lemmas.List.{length-replicate}
 use Rattle.std.proofs.lemmas.Result.{err_from_is_err_and}
 use Rattle.elf_reader.specs.File.{plain_view}
 use Rattle.cell_values.specs.Objects.{IsGrain}
@@ -29,29 +28,24 @@ profile-requires-clause-started c =
       ),
     )
 
-pub profile-requires-clause-regions : goal.profile-requires-clause-regions
-profile-requires-clause-regions c = ap length c.requires.regions ∙ length-replicate (length c.args.analysis.now.code.blocks.items) 0
-
 pub profile-requires-clause-some : goal.profile-requires-clause-some
 profile-requires-clause-some c = c.requires.lawful.least_steps
 
 pub returns-in_err-source : goal.returns-in_err-source
 returns-in_err-source c =
     let q = err_from_is_err_and c.from_residual.result c.from_residual.ensures.1 in
-    rw (q.1, q.2) (no_memory (plain_view c.args.analysis.now.view) c.args.board.now c.args.analysis.now.graph c.args.analysis.now.code c.args.input.now)
+    rw (q.1, q.2) (no_memory (plain_view c.args.analysis.now.view) c.args.board.now c.args.analysis.now.graph c.args.analysis.now.code c.args.analysis.now.regions c.args.input.now)
 
 pub returns-in-Ok : goal.returns-in-Ok
 returns-in-Ok c =
     let analysis = c.args.analysis.now in
     let p = program_of (plain_view analysis.view) c.args.board.now analysis.graph in
-    let regions = c.args.regions.now in
-    told_counts (plain_view analysis.view) c.args.board.now analysis.graph analysis.code c.args.input.now regions.of_block.items regions.count (state_of p c.in_ok-source.source) (state_of p c.profile.new.source) (Ok c.in-Ok.profile)
-    c.requires.regions c.requires.none c.in_ok-source.ensures.start (c.in-Ok.ensures.run p c.in_ok-source.ensures.program)
+    told_counts (plain_view analysis.view) c.args.board.now analysis.graph analysis.code analysis.regions c.args.input.now (state_of p c.in_ok-source.source) (state_of p c.profile.new.source) (Ok c.in-Ok.profile)
+    c.in_ok-source.ensures.start (c.in-Ok.ensures.run p c.in_ok-source.ensures.program)
 
 pub returns : goal.returns
 returns c =
     let analysis = c.args.analysis.now in
     let p = program_of (plain_view analysis.view) c.args.board.now analysis.graph in
-    let regions = c.args.regions.now in
-    told_counts (plain_view analysis.view) c.args.board.now analysis.graph analysis.code c.args.input.now regions.of_block.items regions.count (state_of p c.in_ok-source.source) (state_of p c.profile.new.source) (Err c.in-Err.fault)
-    c.requires.regions c.requires.none c.in_ok-source.ensures.start (c.in-Err.ensures.run p c.in_ok-source.ensures.program)
+    told_counts (plain_view analysis.view) c.args.board.now analysis.graph analysis.code analysis.regions c.args.input.now (state_of p c.in_ok-source.source) (state_of p c.profile.new.source) (Err c.in-Err.fault)
+    c.in_ok-source.ensures.start (c.in-Err.ensures.run p c.in_ok-source.ensures.program)
