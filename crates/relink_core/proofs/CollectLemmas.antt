@@ -1,5 +1,5 @@
 -- Lists that are collected.
-use Rattle.std.proofs.Common.{◌≡◌, ◌∙◌, ℕ, ◌+◌, ◌<◌, List, ◌∷◌, [], ◌++◌, map, take, length, get_or, replicate, sym, ap, subst, refl, zero, suc}
+use Rattle.std.proofs.Common.{◌≡◌, ◌∙◌, ℕ, ◌+◌, ◌<◌, List, ◌∷◌, [], ◌++◌, map, take, length, get_or, sym, ap}
 use Rattle.std.proofs.lemmas.List.{map-append, take_more}
 
 -- one element more

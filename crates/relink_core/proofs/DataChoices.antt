@@ -1,6 +1,6 @@
 -- A feasible choice of static data: the objects that it takes.
-use Rattle.std.proofs.Common.{◌≡◌, ◌≢◌, ◌∙◌, ◌⊎◌, inl, inr, ℕ, zero, suc, ◌+◌, ◌*◌, ◌-◌, ◌%◌, ◌<◌, ◌≤◌, ◌==◌, Bool, true, false, if◌then◌else◌, List, [], ◌∷◌, ◌++◌, map, length, get_or, slice_index, Option, Some, None, IsSomeAnd, refl, sym, ap, subst, arith}
-use Rattle.std.specs.List.{All, AllPairs, sum_by}
+use Rattle.std.proofs.Common.{◌≡◌, ◌∙◌, ℕ, zero, suc, ◌+◌, ◌*◌, ◌-◌, ◌<◌, ◌≤◌, Bool, true, false, if◌then◌else◌, List, [], ◌∷◌, map, length, get_or, slice_index, IsSomeAnd, refl, sym, ap, subst, arith}
+use Rattle.std.specs.List.{All, AllPairs}
 use Rattle.std.proofs.lemmas.List.{get_or-map, length-map}
 use Rattle.std.proofs.lemmas.List.Sums.{sum_by-cons}
 use Rattle.board_config.specs.declared.board.Board.{Board}
@@ -10,17 +10,16 @@ use Rattle.placement_programme.specs.declared.variables.VarName.{VarName}
 use Rattle.placement_programme.specs.declared.variables.VarName.TheVariants.{StaticData, StaticCode, OverlayData, OverlayCode}
 use Rattle.placement_programme.specs.Plain.{PlainVar, PlainSide, PlainProgramme, PlainChoice}
 use Rattle.placement_programme.specs.Bounds.{AscendWithin}
-use Rattle.placement_programme.specs.Programme.{weight_in, weights_at, weight_at, load_in, FitsIn, Fits, side_for, IsFeasible}
-use Rattle.placement_programme.specs.Rows.{Layout, Candidate, static_data, name_of, data_span, off_weights, off_capacities, weights}
-use Rattle.relocator.specs.declared.items.Item.{Item}
-use Rattle.relocator.specs.Slots.{region_of, no_var, name_at, item_at, items_in, vars_for, items_of, slots_of}
+use Rattle.placement_programme.specs.Programme.{weight_in, weights_at, weight_at, load_in, Fits, side_for, IsFeasible}
+use Rattle.placement_programme.specs.Rows.{Layout, Candidate, static_data, data_span, off_weights, off_capacities}
+use Rattle.relocator.specs.Slots.{region_of, no_var, name_at, item_at, items_in, vars_for, slots_of}
 use Rattle.relocator.specs.Placing.{chosen_slots}
-use Rattle.relocator.specs.Space.{datum_of, IsSpaceRow, IsVariableOf, IsVariable, IsLayoutOf, HoldsIn, HasSpace, IsSpaceOf}
+use Rattle.relocator.specs.Space.{datum_of, IsVariable, HoldsIn, HasSpace, IsSpaceOf}
 use Rattle.relocator.specs.Laws.{CanLayOut}
-use Rattle.moved_data.specs.Placing.{span, spans, IsInGraph, AreTwo}
+use Rattle.moved_data.specs.Placing.{spans, AreTwo}
 use Rattle.relink_core.specs.Faults.{least_patch}
 use Rattle.relink_core.specs.Realises.{data_item, data_slots}
-use Rattle.relink_core.specs.Choices.{data_layout, IsDataVar, StandsBefore, IsDataSide, IsDataChoice, taken_names}
+use Rattle.relink_core.specs.Choices.{data_layout, IsDataVar, StandsBefore, IsDataChoice, taken_names}
 use Rattle.relink_core.specs.Making.{object_named, taken_object, taken_objects, AreOfGraph}
 
 -- ---- one variable

@@ -1,29 +1,28 @@
 -- Where the objects that are taken stand.
-use Rattle.std.proofs.Common.{◌≡◌, ◌≢◌, ◌∙◌, ◌⊎◌, inl, inr, ℕ, zero, suc, ◌+◌, ◌*◌, ◌-◌, ◌%◌, ◌<◌, ◌≤◌, ◌==◌, Bool, true, false, ◌||◌, if◌then◌else◌, List, [], ◌∷◌, map, length, get_or, refl, sym, ap, subst, arith}
-use Rattle.std.specs.List.{All, AllPairs, list_any}
+use Rattle.std.proofs.Common.{◌≡◌, ◌∙◌, inl, inr, ℕ, ◌+◌, ◌%◌, ◌<◌, ◌≤◌, ◌==◌, Bool, true, false, ◌||◌, if◌then◌else◌, List, [], ◌∷◌, map, length, get_or, refl, sym, ap, subst, arith}
+use Rattle.std.specs.List.{All, list_any}
 use Rattle.std.proofs.lemmas.Bool.{cases_eq}
 use Rattle.std.proofs.lemmas.Bool.Decides.{nat_tests}
 use Rattle.std.proofs.lemmas.List.{length-map}
 use Rattle.std.proofs.lemmas.List.Folds.{list_any_at}
-use Rattle.index_tests.proofs.TestLemmas.{either, neither}
+use Rattle.index_tests.proofs.TestLemmas.{neither}
 use Rattle.elf_reader.specs.File.{PlainView}
 use Rattle.board_config.specs.declared.board.Board.{Board}
 use Rattle.object_graph.specs.declared.parts.Graph.{Graph}
 use Rattle.cell_values.specs.Objects.{IsGrain, object_of, objects_of}
 use Rattle.value_words.specs.Stands.{Fit}
 use Rattle.placement_programme.specs.Plain.{PlainProgramme, PlainChoice}
-use Rattle.placement_programme.specs.Rows.{rounded_up, data_span}
+use Rattle.placement_programme.specs.Rows.{rounded_up}
 use Rattle.relocator.specs.declared.items.Item.{Item}
 use Rattle.relocator.specs.declared.slots.Slot.{Slot}
 use Rattle.relocator.specs.declared.places.Places.{Places}
-use Rattle.relocator.specs.Slots.{moved_on, first_slots, slots_from, slots_of}
+use Rattle.relocator.specs.Slots.{moved_on, first_slots, slots_from}
 use Rattle.relocator.specs.Placing.{place_in, placed, chosen_slots, rows_of, ArePlaces}
-use Rattle.relocator.specs.Space.{datum_of}
 use Rattle.relocator.specs.Laws.{CanLayOut, IsLaidOut, PlacesFit}
-use Rattle.moved_data.specs.Placing.{span, spans, LiesIn, is_taken, IsPlacing}
+use Rattle.moved_data.specs.Placing.{span, spans, LiesIn, IsPlacing}
 use Rattle.relink_core.specs.Faults.{least_patch}
 use Rattle.relink_core.specs.Realises.{data_item, data_slots, data_placing}
-use Rattle.relink_core.specs.Making.{start_place, HasStarts, ArePlacesOf, CanMove}
+use Rattle.relink_core.specs.Making.{ArePlacesOf, CanMove}
 use Rattle.relink_core.proofs.DataChoices.{Takes}
 
 -- ---- slots

@@ -1,8 +1,8 @@
 -- The segments of what is written can be loaded.
-use Rattle.std.proofs.Common.{◌≡◌, ℕ, zero, suc, ◌+◌, ◌<◌, ◌≤◌, nat_lt, Bool, true, false, if◌then◌else◌, List, [], ◌∷◌, ◌++◌, map, length, get_or, slice_index, ◌-◌, Some, refl, sym, ap, subst, arith}
+use Rattle.std.proofs.Common.{ℕ, zero, suc, ◌+◌, ◌<◌, nat_lt, List, [], ◌∷◌, map, get_or, slice_index, ◌-◌, Some, arith}
 use Rattle.std.specs.List.{All}
 use Rattle.std.proofs.lemmas.Bool.{cond_both}
-use Rattle.std.proofs.lemmas.List.Elements.{All-nil, All-cons, All-head, All-tail, All-append, All-map, All-weaker}
+use Rattle.std.proofs.lemmas.List.Elements.{All-nil, All-cons, All-head, All-tail, All-append, All-map}
 use Rattle.word_bits.specs.Words.{byte_of}
 use Rattle.elf_reader.specs.File.{PlainSegment, PlainView}
 use Rattle.elf_reader.specs.Loadable.{IsByte, AreBytes, IsLoadable, AreLoadable}

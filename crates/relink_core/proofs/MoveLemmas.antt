@@ -1,25 +1,25 @@
 -- The moved symbols are just those of the objects that are taken.
-use Rattle.std.proofs.Common.{◌≡◌, ◌≢◌, ◌∙◌, ◌⊎◌, inl, inr, ℕ, zero, suc, ◌+◌, ◌*◌, ◌<◌, ◌≤◌, ◌==◌, nat_lt, nat_le, Bool, true, false, not, ◌&&◌, ◌||◌, if◌then◌else◌, List, [], ◌∷◌, ◌++◌, map, length, get_or, append-nil, Option, Some, None, refl, sym, ap, subst, arith}
+use Rattle.std.proofs.Common.{◌≡◌, ◌∙◌, inl, inr, ℕ, zero, suc, ◌+◌, ◌<◌, ◌==◌, nat_lt, nat_le, Bool, true, false, ◌&&◌, ◌||◌, if◌then◌else◌, List, [], ◌∷◌, ◌++◌, length, get_or, append-nil, Option, Some, None, refl, sym, ap, arith}
 use Rattle.std.specs.List.{All, AllPairs, list_any}
-use Rattle.std.proofs.lemmas.Bool.{cases_eq, cases_lt, cases_order, cases_Bool, eqb-true, eq-eqb, ltb-true}
+use Rattle.std.proofs.lemmas.Bool.{cases_eq, cases_order, cases_Bool, eqb-true, eq-eqb, ltb-true}
 use Rattle.std.proofs.lemmas.Bool.Decides.{nat_tests}
 use Rattle.std.proofs.lemmas.List.Folds.{list_any_at, list_any-append}
-use Rattle.std.proofs.lemmas.List.Elements.{All-nil, All-cons, All-head, All-tail, All-append, All-weaker, All-get_or}
+use Rattle.std.proofs.lemmas.List.Elements.{All-nil, All-cons, All-append, All-weaker}
 use Rattle.std.proofs.lemmas.List.Quantifiers.{all_pairs_push}
 use Rattle.index_tests.proofs.TestLemmas.{both, same_tests}
 use Rattle.elf_reader.specs.File.{PlainSymbol, PlainView}
 use Rattle.loaded_code.specs.Records.{symbol_at}
 use Rattle.elf_writer.specs.declared.parts.SymbolMove.{SymbolMove}
-use Rattle.elf_writer.specs.Conditions.{HasSymbol, AreOfTwoSymbols}
+use Rattle.elf_writer.specs.Conditions.{AreOfTwoSymbols}
 use Rattle.board_config.specs.declared.board.Board.{Board}
 use Rattle.object_ranges.specs.Ranges.{has_extent, has_owner, has_range, is_symbol_of}
 use Rattle.object_graph.specs.Graphs.{IsGraph}
 use Rattle.object_graph.specs.declared.parts.Graph.{Graph}
-use Rattle.cell_values.specs.Objects.{object_of, objects_of}
+use Rattle.cell_values.specs.Objects.{object_of}
 use Rattle.file_at_home.proofs.Lists.{element_found}
 use Rattle.file_at_home.proofs.Objects.{objects_differ}
 use Rattle.relocator.specs.declared.places.Places.{Places}
-use Rattle.relink_core.specs.Realises.{same_move, moves_with, is_symbol_move, AreSymbolMoves, data_placing}
+use Rattle.relink_core.specs.Realises.{same_move, moves_with, AreSymbolMoves, data_placing}
 use Rattle.relink_core.specs.Making.{start_place, AreOfGraph, ArePlacesOf, range_value, symbol_value, move_to, moves_below}
 
 -- ---- one symbol

@@ -1,38 +1,28 @@
 -- What the memory of a result holds.
-use Rattle.std.proofs.Common.{◌≡◌, ◌≢◌, ◌∙◌, ◌⊎◌, inl, inr, ℕ, zero, suc, ◌+◌, ◌*◌, ◌-◌, ◌/◌, ◌%◌, ◌<◌, ◌≤◌, ◌==◌, nat_lt, nat_le, Bool, true, false, not, ◌&&◌, ◌||◌, if◌then◌else◌, List, [], ◌∷◌, ◌++◌, map, replicate, length, get_or, slice_index, mod-eq_of_lt, Option, Some, None, refl, sym, ap, subst, arith}
-use Rattle.std.specs.List.{All, AllPairs, list_any}
-use Rattle.std.proofs.lemmas.Bool.{cases_lt, cases_Bool, eqb-true, eq-eqb, leb-true}
+use Rattle.std.proofs.Common.{◌≡◌, ◌∙◌, inl, inr, ℕ, zero, suc, ◌+◌, ◌*◌, ◌<◌, ◌≤◌, ◌==◌, true, false, List, [], ◌∷◌, ◌++◌, replicate, length, get_or, slice_index, mod-eq_of_lt, Some, refl, sym, ap, subst, arith}
+use Rattle.std.specs.List.{All}
+use Rattle.std.proofs.lemmas.Bool.{eqb-true}
 use Rattle.std.proofs.lemmas.Bool.Decides.{nat_tests}
-use Rattle.std.proofs.lemmas.List.{length-map, length-append, get_or-map, get_or_default}
-use Rattle.std.proofs.lemmas.List.Elements.{All-map}
+use Rattle.std.proofs.lemmas.List.{length-map, get_or-map}
 use Rattle.std.proofs.lemmas.List.Folds.{list_any_at}
-use Rattle.word_bits.specs.Words.{plus, word_of, byte_of, BytesRebuild}
+use Rattle.word_bits.specs.Words.{plus, word_of, byte_of}
 use Rattle.word_bits.specs.Memory.{Memory, word_at}
-use Rattle.index_tests.specs.Tests.{any_below}
 use Rattle.index_tests.proofs.TestLemmas.{both}
 use Rattle.elf_reader.specs.File.{PlainView, view_in}
-use Rattle.elf_reader.specs.Faults.{first_fault}
 use Rattle.elf_reader.specs.Image.{image_of}
-use Rattle.elf_reader.specs.Loadable.{AreLoadable}
 use Rattle.workload_gen.specs.Pieces.{word_bytes, words_bytes}
 use Rattle.elf_writer.specs.declared.parts.Patch.{Patch}
 use Rattle.elf_writer.specs.declared.parts.SymbolMove.{SymbolMove}
 use Rattle.elf_writer.specs.Parts.{NewSegment}
-use Rattle.elf_writer.specs.Written.{written}
-use Rattle.elf_writer.specs.View.{written_segments, written_view}
+use Rattle.elf_writer.specs.View.{written_segments}
 use Rattle.elf_writer.specs.Changes.{within}
-use Rattle.elf_writer.specs.Images.{written_image, StandsAt, IsOutside, IsOffPatches, NewBytesLoaded, WordsLoaded, OthersLoaded}
+use Rattle.elf_writer.specs.Images.{StandsAt, IsOutside, IsOffPatches}
 use Rattle.elf_writer.specs.Conditions.{IsWritable}
 use Rattle.elf_writer.proofs.ImageLemmas.{new_bytes_loaded}
 use Rattle.elf_writer.proofs.PatchLemmas.{words_loaded, others_loaded}
 use Rattle.board_config.specs.declared.board.Board.{Board}
 use Rattle.loaded_code.specs.Code.{image_word}
 use Rattle.object_graph.specs.Sites.{in_range}
-use Rattle.object_graph.specs.Graphs.{IsGraph}
-use Rattle.object_graph.specs.declared.parts.SiteKind.{SiteKind}
-use Rattle.object_graph.specs.declared.parts.SiteKind.TheVariants.{Hi, LowI, LowS}
-use Rattle.object_graph.specs.declared.parts.Site.{Site}
-use Rattle.object_graph.specs.declared.parts.DataWord.{DataWord}
 use Rattle.object_graph.specs.declared.parts.Graph.{Graph}
 use Rattle.value_words.specs.Stands.{address_word}
 use Rattle.file_at_home.specs.Laws.{IsAccepted}
@@ -41,10 +31,10 @@ use Rattle.relocator.specs.declared.places.Places.{Places}
 use Rattle.relocator.specs.Placing.{place_at}
 use Rattle.relocator.specs.SiteWords as new
 use Rattle.relocator.specs.SiteWords.{no_site, site_at, no_word, data_word_at, is_entry, has_entry, AreSiteWords, IsNewWord}
-use Rattle.moved_data.specs.Moved.{IsOffWord, IsElsewhere, IsMovedSite, IsMovedWord}
+use Rattle.moved_data.specs.Moved.{IsOffWord, IsElsewhere}
 use Rattle.relink_core.specs.Realises.{data_placing}
 use Rattle.relink_core.specs.Making.{start_place, patch_of, AreOfGraph, ArePlacesOf, ArePatchesFor}
-use Rattle.relink_core.proofs.PatchPlaces.{HoldsWord, patch_stands}
+use Rattle.relink_core.proofs.PatchPlaces.{patch_stands}
 use Rattle.relink_core.proofs.WritableLemmas.{SitesAreCode, entry_itself, entry_held, length_bytes}
 
 -- ---- words as bytes

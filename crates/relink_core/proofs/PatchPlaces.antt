@@ -1,9 +1,7 @@
 -- Patches put words where they stand in the file.
-use Rattle.std.proofs.Common.{◌≡◌, ◌≢◌, ◌∙◌, ◌⊎◌, inl, inr, ℕ, zero, suc, ◌+◌, ◌*◌, ◌-◌, ◌%◌, ◌<◌, ◌≤◌, ◌==◌, nat_lt, nat_le, Bool, true, false, not, ◌&&◌, ◌||◌, if◌then◌else◌, List, [], ◌∷◌, map, length, get_or, None, mod-eq_of_lt, refl, sym, ap, subst, arith}
-use Rattle.std.specs.List.{All, AllPairs, list_any}
-use Rattle.std.proofs.lemmas.Bool.{cases_eq, cases_lt, eqb-true, eq-eqb, ltb-true, leb-true}
+use Rattle.std.proofs.Common.{◌≡◌, ◌∙◌, inl, inr, ℕ, zero, suc, ◌+◌, ◌-◌, ◌%◌, ◌<◌, ◌≤◌, ◌==◌, nat_lt, nat_le, Bool, true, false, not, ◌&&◌, List, [], ◌∷◌, length, None, mod-eq_of_lt, refl, sym, ap, subst, arith}
+use Rattle.std.proofs.lemmas.Bool.{cases_eq, eqb-true, eq-eqb, ltb-true, leb-true}
 use Rattle.std.proofs.lemmas.Bool.Decides.{nat_tests}
-use Rattle.std.proofs.lemmas.List.{length-map, get_or-map}
 use Rattle.std.proofs.lemmas.List.Folds.{list_any_at}
 use Rattle.word_bits.specs.Words.{plus}
 use Rattle.index_tests.specs.Tests.{any_below, lies_in, meets}
@@ -16,20 +14,19 @@ use Rattle.elf_reader.specs.Faults.{first_fault}
 use Rattle.elf_reader.specs.Image.{has_byte}
 use Rattle.elf_reader.specs.Loaded.{section_at, segment_at, is_loaded, meets_section}
 use Rattle.elf_reader.proofs.SegmentLemmas.{none_of_headers, load_segments_apart}
-use Rattle.elf_reader.proofs.LoadedLemmas.{nth_segment, HasAddress, only_segment, load_segments_placed, Loads, IsFilled, loaded_found, loaded_below, section_is}
+use Rattle.elf_reader.proofs.LoadedLemmas.{nth_segment, HasAddress, only_segment, load_segments_placed, loaded_found, loaded_below, section_is}
 use Rattle.loaded_code.specs.Code.{is_code_word}
 use Rattle.loaded_code.specs.Records.{reloc_at}
 use Rattle.loaded_code.proofs.WordLemmas.{lies_from, lies_to}
 use Rattle.elf_writer.specs.declared.parts.Patch.{Patch}
-use Rattle.elf_writer.specs.Conditions.{has_word, is_loaded_word, PatchesLoadedWord, ArePatchesApart}
+use Rattle.elf_writer.specs.Conditions.{has_word, PatchesLoadedWord, ArePatchesApart}
 use Rattle.elf_writer.specs.Images.{StandsAt}
 use Rattle.elf_writer.proofs.FitLemmas.{contents_held}
 use Rattle.board_config.specs.declared.board.Board.{Board}
 use Rattle.sound_relocations.specs.Sound.{displacement, is_sound_word}
 use Rattle.movable_ranges.specs.Fixed.{leads_to}
-use Rattle.object_graph.specs.Graphs.{object_at, gives_word, same_word, IsGraph}
+use Rattle.object_graph.specs.Graphs.{gives_word, same_word, IsGraph}
 use Rattle.object_graph.specs.declared.parts.Object.{Object}
-use Rattle.object_graph.specs.declared.parts.DataWord.{DataWord}
 use Rattle.object_graph.specs.declared.parts.Graph.{Graph}
 use Rattle.object_graph.proofs.SoundLemmas.{HoldsData, sound_word}
 use Rattle.cell_values.specs.Objects.{object_of}
@@ -37,8 +34,7 @@ use Rattle.file_at_home.proofs.Objects.{object_moves}
 use Rattle.file_at_home.proofs.Sites.{object_same, leads_means}
 use Rattle.file_at_home.proofs.Start.{word_itself}
 use Rattle.file_at_home.proofs.Words.{code_range}
-use Rattle.relocator.specs.declared.places.Places.{Places}
-use Rattle.relocator.specs.SiteWords.{no_word, site_at, data_word_at, IsNewWord, has_entry, AreSiteWords}
+use Rattle.relocator.specs.SiteWords.{no_word, data_word_at}
 use Rattle.relink_core.specs.Making.{place_in, patch_of}
 use Rattle.relink_core.proofs.StubLemmas.{ranges_apart}
 

@@ -1,6 +1,5 @@
 -- What an analysis and a choice give, and what is made of them.
-use Rattle.std.proofs.Common.{◌≡◌, ◌∙◌, ℕ, zero, suc, ◌+◌, ◌*◌, ◌<◌, ◌≤◌, ◌==◌, Bool, true, false, nat_le, List, [], ◌∷◌, map, length, get_or, Option, Some, None, option_map, refl, sym, ap, subst, arith}
-use Rattle.std.specs.List.{All, AllPairs}
+use Rattle.std.proofs.Common.{◌≡◌, ◌∙◌, ℕ, ◌<◌, ◌≤◌, ◌==◌, Bool, true, false, nat_le, List, [], ◌∷◌, map, length, Some, None, option_map, refl, sym, ap, subst, arith}
 use Rattle.std.proofs.lemmas.Bool.{eqb-true, leb-true}
 use Rattle.std.proofs.lemmas.Bool.Decides.{nat_tests}
 use Rattle.std.specs.Prelude.{Vec}
@@ -17,7 +16,7 @@ use Rattle.elf_writer.specs.declared.parts.SymbolMove.{SymbolMove}
 use Rattle.elf_writer.specs.Parts.{NewSegment}
 use Rattle.elf_writer.specs.Written.{written}
 use Rattle.elf_writer.specs.View.{written_view}
-use Rattle.elf_writer.specs.Conditions.{IsWritable, IsAddable}
+use Rattle.elf_writer.specs.Conditions.{IsWritable}
 use Rattle.board_config.specs.declared.board.Board.{Board}
 use Rattle.loaded_code.specs.Read.{IsRead}
 use Rattle.loaded_code.proofs.WordLemmas.{same_view}
@@ -36,9 +35,8 @@ use Rattle.placement_programme.specs.Plain.{PlainProgramme, PlainChoice, plain_v
 use Rattle.placement_programme.specs.Views.{plain_programme}
 use Rattle.file_at_home.specs.Laws.{IsAccepted}
 use Rattle.relocator.specs.declared.places.Places.{Places}
-use Rattle.relocator.specs.SiteWords.{site_at, data_word_at}
-use Rattle.relocator.specs.Placing.{chosen_slots, ArePlaces}
-use Rattle.relocator.specs.Laws.{CanLayOut, IsLaidOut, AreObjectsOff}
+use Rattle.relocator.specs.SiteWords.{site_at}
+use Rattle.relocator.specs.Laws.{IsLaidOut, AreObjectsOff}
 use Rattle.relocator.proofs.FitLemmas.{places_fit}
 use Rattle.relocator.proofs.ObjectLemmas.{home_off_scratchpad}
 use Rattle.relocator.proofs.WordLemmas.{site_listed, code_of, word_here}
@@ -50,10 +48,10 @@ use Rattle.relink_core.specs.Faults.{headers_fault, file_fault, least_patch, pat
 use Rattle.relink_core.specs.Keeps.{KeepsPaired}
 use Rattle.relink_core.specs.Realises.{data_placing, MovesData, Realises, takes_nothing, takes_data}
 use Rattle.relink_core.specs.Choices.{IsAnalysisOf, IsDataChoice, taken_names, KeepsMeaning}
-use Rattle.relink_core.specs.Making.{taken_object, taken_objects, AreOfGraph, ArePlacesOf, CanMove, ArePatchesFor, start_plan_of, IsStartSegment, moves_below}
+use Rattle.relink_core.specs.Making.{taken_object, taken_objects, ArePlacesOf, CanMove, ArePatchesFor, start_plan_of, IsStartSegment, moves_below}
 use Rattle.relink_core.proofs.KeepsLemmas.{passes, unmoved_file_keeps}
-use Rattle.relink_core.proofs.DataChoices.{Takes, choice_takes, can_lay_out}
-use Rattle.relink_core.proofs.DataPlaces.{can_move, places_are}
+use Rattle.relink_core.proofs.DataChoices.{choice_takes, can_lay_out}
+use Rattle.relink_core.proofs.DataPlaces.{can_move}
 use Rattle.relink_core.proofs.StubLemmas.{can_start, stub_fits, plan_same}
 use Rattle.relink_core.proofs.WritableLemmas.{SitesAreCode, segment_size, is_addable, is_writable}
 use Rattle.relink_core.proofs.ResultLemmas.{AreGraphs, is_moved}

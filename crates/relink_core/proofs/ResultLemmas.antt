@@ -1,9 +1,9 @@
 -- What is put together is a result in which objects are moved.
-use Rattle.std.proofs.Common.{◌≡◌, ◌∙◌, ℕ, zero, suc, ◌+◌, ◌*◌, ◌<◌, ◌≤◌, List, [], ◌∷◌, map, length, get_or, Option, Some, None, refl, sym, ap, subst, arith}
-use Rattle.std.specs.List.{All, AllPairs}
+use Rattle.std.proofs.Common.{◌≡◌, ◌∙◌, ℕ, ◌+◌, ◌*◌, ◌<◌, List, length, get_or, Some, sym, ap, subst, arith}
+use Rattle.std.specs.List.{All}
 use Rattle.std.proofs.lemmas.List.{get_or_default}
 use Rattle.word_bits.specs.Memory.{Memory, word_at}
-use Rattle.elf_reader.specs.File.{PlainSegment, PlainView, view_in}
+use Rattle.elf_reader.specs.File.{PlainView, view_in}
 use Rattle.elf_reader.specs.Image.{image_of}
 use Rattle.elf_reader.specs.Loadable.{AreBytes, AreLoadable}
 use Rattle.elf_reader.proofs.SegmentLemmas.{none_of_headers, load_segments_loadable}
@@ -13,22 +13,20 @@ use Rattle.elf_writer.specs.declared.parts.SymbolMove.{SymbolMove}
 use Rattle.elf_writer.specs.Parts.{NewSegment}
 use Rattle.elf_writer.specs.Written.{written}
 use Rattle.elf_writer.specs.View.{written_segments, written_view}
-use Rattle.elf_writer.specs.Conditions.{IsAddable, IsWritable}
+use Rattle.elf_writer.specs.Conditions.{IsAddable}
 use Rattle.board_config.specs.declared.board.Board.{Board}
 use Rattle.loaded_code.specs.Code.{image_word}
-use Rattle.object_graph.specs.declared.parts.Site.{Site}
-use Rattle.object_graph.specs.declared.parts.DataWord.{DataWord}
 use Rattle.object_graph.specs.declared.parts.Graph.{Graph}
-use Rattle.overlay_stubs.specs.Start.{StartPlan, CanStart, start_at, start_bytes}
+use Rattle.overlay_stubs.specs.Start.{StartPlan, CanStart, start_at}
 use Rattle.overlay_stubs.specs.Plans.{AreStartWords}
 use Rattle.file_at_home.specs.Laws.{IsAccepted}
 use Rattle.file_at_home.proofs.Words.{code_below}
 use Rattle.relocator.specs.declared.places.Places.{Places}
 use Rattle.relocator.specs.SiteWords.{IsSiteWord, no_site, site_at, no_word, data_word_at}
 use Rattle.value_words.specs.Stands.{address_word}
-use Rattle.moved_data.specs.Moved.{start_plan, IsMovedSite, IsMovedWord, HoldsStart, IsMovedView}
+use Rattle.moved_data.specs.Moved.{start_plan, IsMovedSite, IsMovedWord, HoldsStart}
 use Rattle.relink_core.specs.Realises.{data_placing, start_segment, IsWrittenOver, MovesData}
-use Rattle.relink_core.specs.Making.{AreOfGraph, ArePlacesOf, CanMove, ArePatchesFor, start_plan_of, IsStartSegment, moves_below}
+use Rattle.relink_core.specs.Making.{CanMove, start_plan_of, IsStartSegment, moves_below}
 use Rattle.relink_core.proofs.StubLemmas.{is_near, plan_same, stub_fits}
 use Rattle.relink_core.proofs.MoveLemmas.{moves_are}
 use Rattle.relink_core.proofs.MovedLemmas.{IsPut, rest_stays, site_moved, word_moved, start_loaded}

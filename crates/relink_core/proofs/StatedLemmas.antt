@@ -1,5 +1,5 @@
 -- The programme that a run states is one whose choices of static data can be realised.
-use Rattle.std.proofs.Common.{◌≡◌, ◌∙◌, inl, inr, ℕ, zero, suc, ◌+◌, ◌-◌, ◌<◌, ◌≤◌, nat_lt, Bool, true, false, if◌then◌else◌, List, [], ◌∷◌, ◌++◌, length, get_or, append-nil, refl, sym, ap, subst, arith}
+use Rattle.std.proofs.Common.{◌≡◌, ◌∙◌, inl, inr, ℕ, zero, suc, ◌-◌, ◌<◌, ◌≤◌, List, [], ◌∷◌, ◌++◌, length, get_or, append-nil, refl, sym, ap, subst, arith}
 use Rattle.std.specs.List.{All, AllPairs}
 use Rattle.std.proofs.lemmas.Bool.{cond_both, cases_lt}
 use Rattle.std.proofs.lemmas.List.Elements.{All-nil, All-push, All-weaker}
@@ -16,9 +16,9 @@ use Rattle.placement_programme.specs.Plain.{PlainVar, PlainFullVar}
 use Rattle.placement_programme.specs.Rows.{Layout, static_data, off_weights}
 use Rattle.energy_model.specs.Energy.{Scene}
 use Rattle.energy_model.specs.Stated.{scene_of, layout_of, data_var, data_vars}
-use Rattle.energy_model.specs.Selected.{no_var, var_in, is_kept, plain_kept, kept_at, kept_below, stated}
+use Rattle.energy_model.specs.Selected.{no_var, var_in, is_kept, plain_kept, kept_below, stated}
 use Rattle.relocator.specs.Space.{datum_of}
-use Rattle.relink_core.specs.Choices.{IsDataVar, StandsBefore, AreInOrder, IsDataSide}
+use Rattle.relink_core.specs.Choices.{StandsBefore, AreInOrder, IsDataSide}
 
 module _ (board : Board) (g : Graph) (c : Code) (t : RegionTable) (moves : List Move) where
   abbrev scene : Scene
@@ -109,9 +109,9 @@ module _ (board : Board) (g : Graph) (c : Code) (t : RegionTable) (moves : List 
       let before = All-weaker (IsBelow n) (IsBelow (suc n)) (later n) vars earlier.each in
       cond_both (is_kept (all count) n) (v ∷ []) [] (λ more. IsKept (suc n) (vars ++ more))
       (λ yes. record {
-          each = All-push (IsBelow (suc n)) vars v before here;
-          ordered = all_pairs_push AreInOrder vars v earlier.ordered (All-weaker (IsBelow n) (λ w. AreInOrder w v) (λ w is. stands_before n w v named is) vars earlier.each);
-        })
+        each = All-push (IsBelow (suc n)) vars v before here;
+        ordered = all_pairs_push AreInOrder vars v earlier.ordered (All-weaker (IsBelow n) (λ w. AreInOrder w v) (λ w is. stands_before n w v named is) vars earlier.each);
+      })
       (λ no. more_none n vars (record { each = before; ordered = earlier.ordered }))
 
   pub stated_side : IsDataSide board g blocks (stated scene layout moves).off
@@ -123,7 +123,7 @@ module _ (board : Board) (g : Graph) (c : Code) (t : RegionTable) (moves : List 
       record {
         rows = refl;
         vars = λ k d below.
-          let v = is.each k d below in
-          record { object = v.object; below = v.below; name = v.name; weights = v.weights };
+            let v = is.each k d below in
+            record { object = v.object; below = v.below; name = v.name; weights = v.weights };
         ordered = is.ordered;
       }

@@ -1,45 +1,42 @@
 -- The start stub of a result can stand at the beginning of the patch range.
-use Rattle.std.proofs.Common.{◌≡◌, ◌≢◌, ◌∙◌, ◌⊎◌, inl, inr, ℕ, zero, suc, ◌+◌, ◌*◌, ◌-◌, ◌%◌, ◌<◌, ◌≤◌, ◌==◌, min, max, nat_lt, nat_le, Bool, true, false, not, ◌&&◌, if◌then◌else◌, List, [], ◌∷◌, ◌++◌, map, length, get_or, Option, Some, None, ℤ, pos, negsuc, refl, sym, ap, subst, arith}
-use Rattle.std.specs.List.{All, AllPairs}
+use Rattle.std.proofs.Common.{◌≡◌, ◌⊎◌, inl, inr, ℕ, zero, suc, ◌+◌, ◌*◌, ◌-◌, ◌%◌, ◌<◌, ◌≤◌, min, max, nat_le, Bool, true, false, if◌then◌else◌, List, [], ◌∷◌, map, length, get_or, None, ℤ, pos, negsuc, refl, sym, ap, subst, arith}
+use Rattle.std.specs.List.{All}
 use Rattle.std.specs.Int.{cast_unsigned, cast_signed, w32}
 use Rattle.std.proofs.lemmas.Bool.{cases_eq, cases_lt, leb-true}
 use Rattle.std.proofs.lemmas.Bool.Decides.{nat_tests}
 use Rattle.std.proofs.lemmas.Int.{of_z-to_z}
-use Rattle.std.proofs.lemmas.List.{length-map, length-append, get_or-map}
+use Rattle.std.proofs.lemmas.List.{length-map, length-append}
 use Rattle.std.proofs.lemmas.List.Elements.{All-map}
 use Rattle.std.proofs.Math.Nat.{min-le_left, min-le_right, le-max_left, le-max_right}
 use Rattle.word_bits.specs.Words.{minus}
 use Rattle.fault_order.specs.First.{unless, first_below}
 use Rattle.fault_order.proofs.FirstLemmas.{both_none, holds}
 use Rattle.index_tests.specs.Tests.{meets}
-use Rattle.index_tests.proofs.TestLemmas.{both, not_true}
+use Rattle.index_tests.proofs.TestLemmas.{not_true}
 use Rattle.rv_decode.specs.Table.{IsWithin, IsEvenWithin}
-use Rattle.rv_decode.specs.declared.instructions.Instr.{Instr}
 use Rattle.rv_decode.specs.declared.instructions.Instr.TheVariants.{Jal}
 use Rattle.elf_reader.specs.File.{PlainView, view_in}
 use Rattle.elf_reader.specs.Loaded.{section_at}
 use Rattle.elf_reader.proofs.SegmentLemmas.{none_of_headers, load_segments_loadable}
-use Rattle.board_config.specs.Board.{IsLawful}
 use Rattle.board_config.specs.declared.board.Board.{Board}
-use Rattle.loaded_code.specs.Code.{is_code_word, is_code_range}
+use Rattle.loaded_code.specs.Code.{is_code_word}
 use Rattle.code_leaders.specs.Words.{any_code_word}
 use Rattle.code_blocks.specs.Blocks.{is_any, code_fault}
 use Rattle.code_blocks.specs.declared.fault.CodeFault.TheVariants.{NoText, EntryNotLeader}
 use Rattle.object_graph.specs.LayoutFaults.{has_code, least_below, greatest_below, span_of, patch_far_fault, spm_meets_patch_fault, places_fault, layout_fault, spm_overlap_fault, patch_overlap_fault}
-use Rattle.object_graph.specs.declared.fault.GraphFault.TheVariants.{PatchFar, SpmMeetsPatch}
+use Rattle.object_graph.specs.declared.fault.GraphFault.TheVariants.{SpmMeetsPatch}
 use Rattle.object_graph.specs.declared.parts.Graph.{Graph}
 use Rattle.object_graph.proofs.LookupLemmas.{laid_out}
 use Rattle.cell_values.specs.Objects.{absent_object, object_of, objects_of}
-use Rattle.overlay_stubs.specs.declared.plan.CopyJob.{CopyJob}
 use Rattle.overlay_stubs.specs.Jobs.{AreApart, IsJob}
-use Rattle.overlay_stubs.specs.Start.{StartPlan, before_jump, start_at, jump_at, start_stub, start_bytes, distance, fences, Spares, CanStart}
+use Rattle.overlay_stubs.specs.Start.{StartPlan, before_jump, start_at, jump_at, start_bytes, distance, fences, Spares, CanStart}
 use Rattle.overlay_stubs.proofs.WordLemmas.{bytes_are}
 use Rattle.file_at_home.specs.Laws.{IsAccepted}
 use Rattle.file_at_home.proofs.Objects.{object_extends}
-use Rattle.file_at_home.proofs.Words.{InRange, code_range, code_even, code_below}
+use Rattle.file_at_home.proofs.Words.{code_range, code_even, code_below}
 use Rattle.relocator.specs.declared.places.Places.{Places}
 use Rattle.relocator.specs.Laws.{AreObjectsOff}
-use Rattle.moved_data.specs.Placing.{Placing, LiesIn, IsPlacing}
+use Rattle.moved_data.specs.Placing.{LiesIn, IsPlacing}
 use Rattle.moved_data.specs.Moved.{start_job, start_plan}
 use Rattle.relink_core.specs.Faults.{least_patch}
 use Rattle.relink_core.specs.Realises.{data_placing}

@@ -1,28 +1,25 @@
 -- What a result changes in its file may be written.
-use Rattle.std.proofs.Common.{◌≡◌, ◌≢◌, ◌∙◌, ◌⊎◌, inl, inr, ℕ, zero, suc, ◌+◌, ◌*◌, ◌-◌, ◌%◌, ◌<◌, ◌≤◌, ◌==◌, nat_lt, nat_le, Bool, true, false, not, ◌&&◌, ◌||◌, if◌then◌else◌, List, [], ◌∷◌, ◌++◌, map, replicate, length, get_or, Option, Some, None, refl, sym, ap, subst, arith}
-use Rattle.std.specs.List.{All, AllPairs, list_any}
-use Rattle.std.proofs.lemmas.Bool.{cases_lt, cases_Bool, eqb-true, eq-eqb, leb-true}
+use Rattle.std.proofs.Common.{◌≡◌, ◌∙◌, inl, inr, ℕ, zero, suc, ◌+◌, ◌*◌, ◌<◌, ◌≤◌, ◌==◌, nat_le, Bool, true, false, not, List, [], ◌∷◌, map, replicate, length, get_or, Some, None, refl, sym, ap, subst, arith}
+use Rattle.std.specs.List.{All, AllPairs}
+use Rattle.std.proofs.lemmas.Bool.{cases_lt, eq-eqb, leb-true}
 use Rattle.std.proofs.lemmas.Bool.Decides.{nat_tests}
 use Rattle.std.proofs.lemmas.List.{length-map, length-append, length-replicate, get_or-map, get_or_default}
 use Rattle.std.proofs.lemmas.List.Elements.{All-map}
 use Rattle.std.proofs.lemmas.List.Folds.{list_any_at}
-use Rattle.fault_order.specs.First.{first_below, unless}
+use Rattle.fault_order.specs.First.{unless}
 use Rattle.fault_order.proofs.FirstLemmas.{none_at, both_none, holds}
 use Rattle.index_tests.specs.Tests.{meets}
 use Rattle.index_tests.proofs.TestLemmas.{not_true}
-use Rattle.rv_decode.specs.declared.instructions.Instr.{Instr}
 use Rattle.elf_reader.specs.Layout.{file_header, program_header_count, program_header}
-use Rattle.elf_reader.specs.File.{is_load, segments_at, segments_below, load_segments, PlainView, view_in}
-use Rattle.elf_reader.specs.HeaderChecks.{size_fault, magic_fault, identification_fault, machine_fault, flags_fault, sizes_fault, counts_fault, fields_fault, header_fault}
+use Rattle.elf_reader.specs.File.{is_load, segments_at, segments_below, PlainView, view_in}
+use Rattle.elf_reader.specs.HeaderChecks.{size_fault, magic_fault, identification_fault, machine_fault, flags_fault, sizes_fault, header_fault}
 use Rattle.elf_reader.specs.Faults.{first_fault}
 use Rattle.elf_reader.specs.Loaded.{no_segment, segment_at}
 use Rattle.elf_reader.specs.declared.fault.ElfFault.TheVariants as elf
 use Rattle.elf_reader.proofs.LoadedLemmas.{loaded_found}
 use Rattle.workload_gen.specs.Pieces.{words_bytes, padding}
 use Rattle.elf_writer.specs.declared.parts.Patch.{Patch}
-use Rattle.elf_writer.specs.declared.parts.SymbolMove.{SymbolMove}
-use Rattle.elf_writer.specs.Parts.{NewSegment, content_place}
-use Rattle.elf_writer.specs.Written.{written}
+use Rattle.elf_writer.specs.Parts.{NewSegment}
 use Rattle.elf_writer.specs.Conditions.{PatchesLoadedWord, ArePatchesApart, IsClearOf, IsAddable, IsWritable}
 use Rattle.elf_writer.proofs.FitLemmas.{length_written, number_within, table_inside}
 use Rattle.board_config.specs.declared.board.Board.{Board}
@@ -31,12 +28,11 @@ use Rattle.object_graph.specs.LayoutFaults.{segment_meets, patch_overlap_fault}
 use Rattle.object_graph.specs.Graphs.{IsGraph}
 use Rattle.object_graph.specs.declared.parts.Graph.{Graph}
 use Rattle.overlay_stubs.specs.Start.{StartPlan, start_stub, start_bytes}
-use Rattle.overlay_stubs.specs.Plans.{MeanAll, AreStartWords}
 use Rattle.overlay_stubs.proofs.WordLemmas.{mean_count}
 use Rattle.file_at_home.specs.Laws.{IsAccepted}
 use Rattle.file_at_home.proofs.Words.{code_range}
 use Rattle.relocator.specs.declared.places.Places.{Places}
-use Rattle.relocator.specs.SiteWords.{site_at, data_word_at, IsNewWord, is_entry, has_entry, AreSiteWords}
+use Rattle.relocator.specs.SiteWords.{site_at, is_entry, AreSiteWords}
 use Rattle.relink_core.specs.Faults.{headers_fault}
 use Rattle.relink_core.specs.Making.{patch_of, AreOfGraph, ArePlacesOf, ArePatchesFor, IsStartSegment, moves_below}
 use Rattle.relink_core.proofs.StubLemmas.{entry_is_code, is_laid, is_near}

@@ -1,5 +1,5 @@
 -- A result realises what is taken of a programme: which file it is, and where all stands.
-use Rattle.std.specs.Prelude.{◌≡◌, ℕ, ◌==◌, ◌<◌, nat_lt, Bool, true, ◌&&◌, List, [], ◌∷◌, map, length, Some, All}
+use Rattle.std.specs.Prelude.{◌≡◌, ℕ, ◌==◌, ◌<◌, nat_lt, Bool, ◌&&◌, List, [], map, length, Some, All}
 use Rattle.std.specs.List.{AllPairs, list_any}
 use Rattle.elf_reader.specs.File.{PlainView, view_in}
 use Rattle.workload_gen.specs.Pieces.{words_bytes}

@@ -1,4 +1,4 @@
-use Rattle.std.proofs.Common.{◌∙◌, arith}
+use Rattle.std.proofs.Common.{◌∙◌}
 use Rattle.placement_programme.specs.Views.{plain_programme, plain_choice}
 use Rattle.relink_core.proofs.RealiseLemmas.{ready, none_taken, some_taken, file_realises, file_keeps_meaning, data_realises, data_keeps_meaning}
 use Rattle.relink_core.proofs.realising.realise.Goals as goal
