@@ -1,7 +1,7 @@
 -- The programme that a run states is one whose choices of static data can be realised.
-use Rattle.std.proofs.Common.{◌≡◌, ◌∙◌, inl, inr, ℕ, zero, suc, ◌-◌, ◌<◌, ◌≤◌, List, [], ◌∷◌, ◌++◌, length, get_or, append-nil, refl, sym, ap, subst, arith}
+use Rattle.std.proofs.Common.{◌≡◌, ◌∙◌, inl, inr, ℕ, zero, suc, ◌-◌, ◌<◌, ◌≤◌, List, [], ◌∷◌, ◌++◌, length, get_or, append-nil, refl, sym, ap, subst, arith, Bool, false, IsSomeAnd}
 use Rattle.std.specs.List.{All, AllPairs}
-use Rattle.std.proofs.lemmas.Bool.{cond_both, cases_lt}
+use Rattle.std.proofs.lemmas.Bool.{cond_both, cases_Bool, cases_lt}
 use Rattle.std.proofs.lemmas.List.Elements.{All-nil, All-push, All-weaker}
 use Rattle.std.proofs.lemmas.List.Quantifiers.{all_pairs_push}
 use Rattle.std.proofs.lemmas.List.{length-append, get_or_append_left, get_or-append_right}
@@ -12,13 +12,14 @@ use Rattle.region_former.specs.declared.table.RegionTable.{RegionTable}
 use Rattle.profile_runner.specs.Move.{Move}
 use Rattle.placement_programme.specs.declared.variables.VarName.{VarName}
 use Rattle.placement_programme.specs.declared.variables.VarName.TheVariants.{StaticData}
-use Rattle.placement_programme.specs.Plain.{PlainVar, PlainFullVar}
+use Rattle.placement_programme.specs.Plain.{PlainVar, PlainChoice, PlainFullVar}
+use Rattle.placement_programme.specs.Programme.{Fits, side_for, IsFeasible}
 use Rattle.placement_programme.specs.Rows.{Layout, static_data, off_weights}
 use Rattle.energy_model.specs.Energy.{Scene}
 use Rattle.energy_model.specs.Stated.{scene_of, layout_of, data_var, data_vars}
 use Rattle.energy_model.specs.Selected.{no_var, var_in, is_kept, plain_kept, kept_below, stated}
 use Rattle.relocator.specs.Space.{datum_of}
-use Rattle.relink_core.specs.Choices.{StandsBefore, AreInOrder, IsDataSide}
+use Rattle.relink_core.specs.Choices.{StandsBefore, AreInOrder, IsDataSide, IsDataChoice}
 
 module _ (board : Board) (g : Graph) (c : Code) (t : RegionTable) (moves : List Move) where
   abbrev scene : Scene
@@ -127,3 +128,17 @@ module _ (board : Board) (g : Graph) (c : Code) (t : RegionTable) (moves : List 
             record { object = v.object; below = v.below; name = v.name; weights = v.weights };
         ordered = is.ordered;
       }
+
+  -- ---- its choices
+
+  pub stated_choice : (choice : PlainChoice) → IsFeasible (stated scene layout moves) choice → IsDataChoice board g (stated scene layout moves) choice
+  stated_choice choice feasible =
+      record { blocks = blocks; side = stated_side; off = off_alone choice feasible; feasible = feasible }
+    where
+      off_alone : (choice : PlainChoice) → IsFeasible (stated scene layout moves) choice → choice.on ≡ false
+      off_alone choice feasible =
+          elim (cases_Bool choice.on) [
+            | inl on ↦
+                absurd (subst (λ (b : Bool). IsSomeAnd (side_for (stated scene layout moves) b) (λ side. Fits side choice.take)) on feasible)
+            | inr off ↦ off
+          ]

@@ -1,17 +1,20 @@
 -- What a run states can be realised.
-use Rattle.std.specs.Prelude.{List, length}
+use Rattle.std.specs.Prelude.{List}
 use Rattle.board_config.specs.declared.board.Board.{Board}
 use Rattle.object_graph.specs.declared.parts.Graph.{Graph}
 use Rattle.code_blocks.specs.declared.parts.Code.{Code}
 use Rattle.region_former.specs.declared.table.RegionTable.{RegionTable}
 use Rattle.profile_runner.specs.Move.{Move}
+use Rattle.placement_programme.specs.Plain.{PlainChoice}
+use Rattle.placement_programme.specs.Programme.{IsFeasible}
 use Rattle.energy_model.specs.Stated.{scene_of, layout_of}
 use Rattle.energy_model.specs.Selected.{stated}
-use Rattle.relink_core.specs.Choices.{IsDataSide}
+use Rattle.relink_core.specs.Choices.{IsDataChoice}
 
--- the variables of the programme that the moves of a run state for static data are what is asked of one whose choices
--- are realised, with its rows and weights
+-- a feasible choice of the programme that the moves of a run state for static data can be realised: its side is the
+-- off side, which has the rows for the graph and the board, and its variables are those of different objects, in order
 abbrev pub StatedIsRealisable : Type 0
 StatedIsRealisable =
-    (board : Board) (g : Graph) (c : Code) (t : RegionTable) (moves : List Move)
-    → IsDataSide board g (length c.blocks.items) (stated (scene_of g c t board) (layout_of g c t board) moves).off
+    (board : Board) (g : Graph) (code : Code) (t : RegionTable) (moves : List Move) (c : PlainChoice)
+    → IsFeasible (stated (scene_of g code t board) (layout_of g code t board) moves) c
+    → IsDataChoice board g (stated (scene_of g code t board) (layout_of g code t board) moves) c

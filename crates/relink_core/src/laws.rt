@@ -7,8 +7,8 @@ pub fn unmoved_file_keeps()
     ensures { UnmovedFileKeeps }
 {}
 
-/// The variables of the programme that a run states for static data are those of different objects of the graph, in
-/// their order, with their weights.
+/// A feasible choice of the programme that a run states for static data can be realised: its variables are those of
+/// different objects of the graph, in their order, with their weights.
 pub fn stated_is_realisable()
     ensures { StatedIsRealisable }
 {}

@@ -1,5 +1,5 @@
-use Rattle.relink_core.proofs.StatedLemmas.{stated_side}
+use Rattle.relink_core.proofs.StatedLemmas.{stated_choice}
 use Rattle.relink_core.proofs.laws.stated_is_realisable.Goals as goal
 
 pub returns : goal.returns
-returns c = λ board g code t moves. stated_side board g code t moves
+returns c = λ board g code t moves choice feasible. stated_choice board g code t moves choice feasible
