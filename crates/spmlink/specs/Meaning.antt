@@ -70,6 +70,7 @@ pub data IsFirst (command : PlainCommand) (inputs : List (List ℕ)) (told : Opt
   check_first : (file_name board_name input_name cert_name file board input cert : List ℕ)
       → command ≡ check_command file_name board_name input_name cert_name
       → inputs ≡ file ∷ board ∷ input ∷ cert ∷ [] → TellsChecked board file input cert told
+      → IsFirst command inputs told
   show_first : (file_name board_name file board : List ℕ)
       → command ≡ show_command file_name board_name → inputs ≡ file ∷ board ∷ [] → TellsShown board file told
       → IsFirst command inputs told
