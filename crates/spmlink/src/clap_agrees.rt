@@ -5,7 +5,7 @@ use std::test::Fail;
 
 /// The same commands as `clap` has them: subcommands with required positional words.
 fn commands<'a>(alloc: Global) -> Result<Command<'a>, Error> {
-    let all: [(&'static str, &'static [&'static str]); 8] = [
+    let all: [(&'static str, &'static [&'static str]); 9] = [
         ("run", &["FILE", "BOARD", "INPUT", "OUT"]),
         ("relink", &["FILE", "BOARD", "INPUT", "OUT", "CERT"]),
         ("profile", &["FILE", "BOARD", "INPUT"]),
@@ -54,7 +54,7 @@ fn accepts(alloc: Global, words: &[&str]) -> Result<bool, AllocError> {
 
 #[test]
 fn clap_accepts_the_same_lines(rt: HostRuntime) -> Result<(), Fail> {
-    let lines: [(&[&str], bool); 20] = [
+    let lines: [(&[&str], bool); 22] = [
         (&["run", "prog", "board", "input", "out"], true),
         (&["run", "same", "same", "same", "out"], true),
         (&["relink", "prog", "board", "input", "out", "cert"], true),
