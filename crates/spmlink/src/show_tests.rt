@@ -1,8 +1,9 @@
 use crate::calls::Call;
+use crate::faults::Refusal;
 use crate::programs::{clearing_file, two_phases};
+use crate::stated_run::counted;
 use board_config::read_board;
-use object_machine::Source;
-use profile_runner::profile;
+use profile_runner::Profile;
 use relink_core::analyse;
 use std::alloc::{AllocError, Global};
 use std::test::Fail;
@@ -67,29 +68,24 @@ fn refuses_lists_of_functions(rt: HostRuntime) -> Result<(), Fail> {
     Ok(())
 }
 
+/// What happens in the run of a file's program on the default board, without input.
+fn counts_of(alloc: Global, file: &[u8]) -> Result<Profile, Refusal> {
+    let board = read_board(alloc, b"")?;
+    let analysis = analyse(alloc, file, &board)?;
+    let counts = counted(alloc, &analysis, &board, &[])?;
+    Ok(counts)
+}
+
 #[test]
 fn counts_changes_of_the_region(rt: HostRuntime) -> Result<(), Fail> {
     let alloc = rt.alloc();
     let file = two_phases(alloc)?;
-    let board = read_board(alloc, b"")?;
-    let analysis = analyse(alloc, &file, &board)?;
-    let mut source = Source::new(
-        alloc,
-        &analysis.view,
-        &analysis.graph,
-        &analysis.code,
-        &board,
-        &[],
-    )?;
-    let counts = profile(
-        alloc,
-        &mut source,
-        &analysis.code,
-        &analysis.graph,
-        &analysis.regions,
-        board.steps,
-    )?;
-    assert_eq!(rt; counts.enters.as_slice(), [0, 10, 10].as_slice());
-    assert_eq!(rt; counts.leaves.as_slice(), [1, 10, 9].as_slice());
+    match counts_of(alloc, &file) {
+        Ok(counts) => {
+            assert_eq!(rt; counts.enters.as_slice(), [0, 10, 10].as_slice());
+            assert_eq!(rt; counts.leaves.as_slice(), [1, 10, 9].as_slice());
+        }
+        Err(_) => assert!(rt; false),
+    }
     Ok(())
 }
