@@ -29,7 +29,7 @@ entry_leads v none =
 pub compare-requires-clause-read : goal.compare-requires-clause-read
 compare-requires-clause-read c =
     let found = c.in_ok-analysis.ensures in
-    (c.deref.result.now, found.file, (passes c.deref.result.now c.in_ok-board.board found.fault).first)
+    (c.deref.result.now, found.file, (passes c.deref.result.now c.in_ok-board.board found.fault.before).first)
 
 pub compare-requires-clause-graph : goal.compare-requires-clause-graph
 compare-requires-clause-graph c =
@@ -45,5 +45,5 @@ pub compare-requires-clause-entry : goal.compare-requires-clause-entry
 compare-requires-clause-entry c =
     let found = c.in_ok-analysis.ensures in
     let view = c.in_ok-analysis.analysis.view in
-    let none = (passes c.deref.result.now c.in_ok-board.board found.fault).code in
+    let none = (passes c.deref.result.now c.in_ok-board.board found.fault.before).code in
     entry_leads (plain_view view) (subst (λ (v : PlainView). code_fault v ≡ None) (sym (same_view c.deref.result.now view found.file)) none)
