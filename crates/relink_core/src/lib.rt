@@ -13,7 +13,8 @@ mod taking;
 pub use analysis::{Analysis, analyse};
 pub use fault::AnalyseFault;
 pub use laws::{stated_is_realisable, unmoved_file_keeps};
-pub use realising::realise;
+pub use realising::{realise, start_places};
+pub use taking::taken_objects;
 
 #[cfg(test)]
 mod tests;

@@ -80,8 +80,9 @@ fn moved(
     }
 }
 
-/// The places of all objects.
-fn start_places(
+/// Where objects stand with a choice of static data: those that it takes in the scratchpad, and any other one at home.
+/// It fails only where no memory was left.
+pub fn start_places(
     alloc: Global,
     graph: &Graph,
     board: &Board,

@@ -5,7 +5,8 @@ use crate::numbers::{copy_of, is_set, number_at, numbered, put, set, unset};
 use crate::relaxing::Relaxation;
 use std::alloc::{AllocError, Global};
 
-/// A choice below a node: what a relaxation takes, and then each other free variable that has room, the greatest gain first.
+/// A choice below a node: what a relaxation takes, and then each other free variable that has room, the greatest gain first and the
+/// lowest number on a tie.
 #[derive(Drop)]
 pub(crate) struct Filled {
     /// What is left of each row.
@@ -56,7 +57,7 @@ impl Filled {
     }
 
     fn fill(&mut self, layout: &Layout, node: &Node) {
-        for (_, number) in layout.by_gain.iter().rev() {
+        for (_, number) in &layout.by_gain {
             let place = *number as usize;
             if place >= layout.columns.len() || is_set(&self.taken, place) {
                 continue;

@@ -18,7 +18,8 @@ pub(crate) struct Layout {
     pub ending: Vec<Vec<u32>>,
     /// The variables without such rows.
     pub loose: Vec<u32>,
-    /// The variables with their scaled gains, the least gain first.
+    /// The variables, the greatest gain first and the lowest number on a tie, each behind what its scaled gain lacks of the
+    /// greatest 64-bit number.
     pub by_gain: Vec<(u64, u32)>,
 }
 
@@ -53,8 +54,8 @@ fn sort_in(layout: &mut Layout, number: u32) -> Result<(), AllocError> {
     if place >= layout.columns.len() {
         return Ok(());
     }
-    let gain = layout.columns[place].gain;
-    layout.by_gain.push((gain, number))?;
+    let lacking = u64::MAX - layout.columns[place].gain;
+    layout.by_gain.push((lacking, number))?;
     match layout.columns[place].span() {
         Some(span) => push_at(&mut layout.ending, span.last, number)?,
         None => layout.loose.push(number)?,

@@ -1,11 +1,7 @@
 -- A certificate for the programme that a run states: what is told of it.
-use Rattle.std.proofs.Common.{◌≡◌, inl, inr, ℕ, pos, ◌-ℤ◌, ◌≤ℤ◌, ℤ, Bool, true, false, List, None, Ok, Err, refl, sym, subst, arith}
-use Rattle.std.proofs.lemmas.Int.{ints}
+use Rattle.std.proofs.Common.{◌≡◌, inl, inr, ℕ, Bool, true, false, List, None, Ok, Err, refl, sym, subst}
 use Rattle.placement_programme.specs.Plain.{PlainProgramme, PlainChoice}
-use Rattle.placement_programme.specs.Programme.{IsFeasible, gain}
-use Rattle.profile_runner.specs.Move.{Move}
-use Rattle.energy_model.specs.Energy.{Scene, energy}
-use Rattle.energy_model.specs.Adding.{taken_by}
+use Rattle.placement_programme.specs.Programme.{IsFeasible}
 use Rattle.elf_reader.specs.File.{PlainView, view_in}
 use Rattle.board_config.specs.declared.board.Board.{Board}
 use Rattle.object_graph.specs.Graphs.{IsGraph}
@@ -28,20 +24,10 @@ use Rattle.spmlink.specs.Analysed.{Accepts}
 use Rattle.spmlink.specs.ProgramRun.{RefusesProfiled}
 use Rattle.region_former.specs.declared.table.RegionTable.{RegionTable}
 use Rattle.relink_core.specs.Regions.{AreRegions}
-use Rattle.spmlink.specs.StatedRun.{StatesProgramme, EnergiesAreOf}
-use Rattle.spmlink.specs.ReportText.{IsReport}
+use Rattle.relinking.specs.StatedRun.{StatesProgramme}
+use Rattle.printed_lines.specs.ReportText.{IsReport}
 use Rattle.spmlink.specs.CheckFile.{StatesOf, answer_of, ReportsText, told_of, TellsText, unspelled, answered, of_run, of_certificate, RefusesChecked, RefusesText, MayReport, ReportsAnswer, RefusesAnswer}
 use Rattle.spmlink.specs.declared.faults.Refusal.{Refusal}
-
--- ---- energies
-
-at_most_base : (base : ℕ) (saved : ℤ) (n : ℕ) → pos base -ℤ saved ≡ pos n → saved ≤ℤ pos base
-at_most_base base saved n is = omega (arith, ints, is)
-
--- a choice whose energy is that of a run saves no more than the base
-pub within_base : (w : Scene) (moves : List Move) (p : PlainProgramme) → EnergiesAreOf w moves p
-    → (c : PlainChoice) → IsFeasible p c → gain p c ≤ℤ pos p.base
-within_base w moves p energies c feasible = at_most_base p.base (gain p c) (energy w (taken_by p c) moves) (energies c feasible)
 
 -- ---- an answer
 

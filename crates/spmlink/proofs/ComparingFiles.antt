@@ -22,7 +22,7 @@ use Rattle.compare_runner.specs.declared.comparing.Comparison.{Comparison}
 use Rattle.compare_runner.specs.declared.comparing.Comparison.TheVariants.{Same, Differs, SourceFault}
 use Rattle.spmlink.specs.FaultLine.{elf_refusal}
 use Rattle.spmlink.specs.Analysed.{Accepts}
-use Rattle.spmlink.specs.ProgramRun.{IsAddressFault}
+use Rattle.printed_lines.specs.Endings.{IsAddressFault}
 use Rattle.spmlink.specs.CompareFiles.{Compared, ComparesTo, HasEnding, AnswersComparison, RefusesComparison, RefusesCompared, of_relinked, of_comparison}
 use Rattle.spmlink.specs.declared.faults.Refusal.{Refusal}
 use Rattle.spmlink.specs.declared.faults.Refusal.TheVariants as refusal

@@ -6,11 +6,8 @@ pub mod OneCommand
 pub mod Exactness
 pub mod Running
 pub mod Analysing
-pub mod Hexadecimal
-pub mod Lines
 pub mod Profiling
 pub mod Stating
-pub mod ShowingLines
 pub mod ComparingFiles
 pub mod Certificates
 pub mod Refusals

@@ -1,5 +1,5 @@
 -- A profile of the program of a file, and its address fault.
-use Rattle.std.proofs.Common.{◌≡◌, inl, inr, ℕ, List, length, Some, None, Result, Ok, Err, refl, sym, subst, ◌∙◌}
+use Rattle.std.proofs.Common.{◌≡◌, inl, inr, ℕ, List, length, Ok, Err, refl, sym, subst, ◌∙◌}
 use Rattle.std.proofs.lemmas.List.{length-map}
 use Rattle.elf_reader.specs.File.{PlainView, view_in}
 use Rattle.board_config.specs.declared.board.Board.{Board}
@@ -8,36 +8,22 @@ use Rattle.object_graph.specs.declared.parts.Graph.{Graph}
 use Rattle.code_blocks.specs.Blocks.{IsCode, start_of}
 use Rattle.code_blocks.specs.Numbers.{starts_of}
 use Rattle.code_blocks.specs.declared.parts.Code.{Code}
-use Rattle.object_machine.specs.declared.events.Outcome.{Outcome}
-use Rattle.object_machine.specs.declared.events.Outcome.TheVariants.{GoesOn, Exited, Trapped, AddressFault}
 use Rattle.file_at_home.specs.Laws.{program_in, source_start}
-use Rattle.object_machine.specs.Program.{program_of}
-use Rattle.object_machine.specs.State.{SourceState}
-use Rattle.object_machine.specs.Start as start
 use Rattle.region_former.specs.declared.table.RegionTable.{RegionTable}
-use Rattle.profile_runner.specs.Running.{fault_of, TellsOfRun}
 use Rattle.profile_runner.proofs.RunLemmas.{moves_steps}
 use Rattle.profile_runner.specs.declared.counts.Profile.{Profile}
 use Rattle.profile_runner.specs.declared.fault.ProfileFault.{ProfileFault}
 use Rattle.profile_runner.specs.declared.fault.ProfileFault.TheVariants.{AddressFault as FaultAt, Memory}
 use Rattle.relink_core.specs.Regions.{AreRegions}
+use Rattle.relinking.proofs.Counting.{faulted, unfaulted}
 use Rattle.spmlink.specs.FaultLine.{profile_refusal}
 use Rattle.spmlink.specs.Analysed.{Accepts}
-use Rattle.spmlink.specs.ProgramRun.{RunsProgram, IsAddressFault, RefusesProfiled, of_run}
-use Rattle.spmlink.specs.ProfileLines.{profile_text}
-use Rattle.spmlink.specs.ProfileFile.{TellsCounts, ProfilesTo}
-
-faulted : (o : Outcome) (pc why : ℕ) → fault_of o ≡ Some (FaultAt pc why) → o ≡ AddressFault pc why
-faulted GoesOn pc why e = absurd (cc)
-faulted (Exited code) pc why e = absurd (cc)
-faulted (Trapped a) pc why e = absurd (cc)
-faulted (AddressFault a b) pc why e = cc
-
-pub unfaulted : (o : Outcome) → fault_of o ≡ None → IsAddressFault o → ⊥
-unfaulted GoesOn e f = f
-unfaulted (Exited code) e f = f
-unfaulted (Trapped a) e f = f
-unfaulted (AddressFault a b) e f = absurd (cc)
+use Rattle.relinking.specs.Runs.{RunsProgram}
+use Rattle.printed_lines.specs.Endings.{IsAddressFault}
+use Rattle.spmlink.specs.ProgramRun.{RefusesProfiled, of_run}
+use Rattle.printed_lines.specs.ProfileLines.{profile_text}
+use Rattle.relinking.specs.Runs.{TellsCounts}
+use Rattle.spmlink.specs.ProfileFile.{ProfilesTo}
 
 -- an address fault refuses the command
 pub counts_refused : (board_text file input : List ℕ) (board : Board) (v : PlainView) (g : Graph) (c : Code) (t : RegionTable) (fault : ProfileFault)
@@ -55,20 +41,6 @@ counts_refused board_text file input board v g c t (FaultAt pc why) same accepts
     })
     refl)
 counts_refused board_text file input board v g c t Memory same accepts is_graph told = inl refl
-
--- what is told of a run from the start
-pub told_counts : (v : PlainView) (board : Board) (g : Graph) (c : Code) (t : RegionTable) (input : List ℕ) (first last : SourceState) (result : Result Profile ProfileFault)
-    → first ≡ start.start_of v (program_of v board g) g input
-    → TellsOfRun (starts_of c) t.of_block.items t.count (length g.objects.items) (program_of v board g) board.steps first last result
-    → TellsCounts v board g c t input result
-told_counts v board g c t input first last result same told =
-    let p = program_of v board g in (
-      last,
-      subst (λ (s : SourceState). TellsOfRun (starts_of c) t.of_block.items t.count (length g.objects.items) p board.steps s last result) same told,
-    )
-
-pub no_memory : (v : PlainView) (board : Board) (g : Graph) (c : Code) (t : RegionTable) (input : List ℕ) → TellsCounts v board g c t input (Err Memory)
-no_memory v board g c t input = (start.start_of v (program_of v board g) g input, tt)
 
 -- what printing a profile asks of it
 pub record HasLines (g : Graph) (c : Code) (q : Profile) : Type 0 where

@@ -1,79 +1,10 @@
--- The programme that the run of a file's program states, and what it is stated from.
-use Rattle.std.proofs.Common.{◌≡◌, ◌∙◌, ℕ, ◌+◌, ◌≤◌, Bool, true, false, if◌then◌else◌, List, [], length, replicate, None, refl, sym, ap, subst, arith}
-use Rattle.std.proofs.lemmas.List.{length-replicate}
-use Rattle.elf_reader.specs.File.{plain_view}
-use Rattle.elf_reader.specs.declared.view.ElfView.{ElfView}
-use Rattle.board_config.specs.Board.{IsLawful}
-use Rattle.board_config.specs.declared.board.Board.{Board}
-use Rattle.loaded_code.specs.Read.{IsRead}
-use Rattle.object_graph.specs.Graphs.{IsGraph}
-use Rattle.object_graph.specs.declared.parts.Graph.{Graph}
-use Rattle.code_leaders.specs.Leaders.{is_leader}
-use Rattle.code_blocks.specs.Blocks.{IsCode, code_fault}
-use Rattle.code_blocks.specs.Numbers.{starts_of}
-use Rattle.code_blocks.specs.declared.parts.Code.{Code}
-use Rattle.object_machine.specs.Program.{program_of}
-use Rattle.object_machine.specs.State.{SourceState}
-use Rattle.object_machine.specs.Start.{start_of}
+-- A program that is relinked was run.
+use Rattle.std.proofs.Common.{ℕ, List, refl}
 use Rattle.file_at_home.specs.Laws.{program_in, source_start}
-use Rattle.region_former.specs.declared.table.RegionTable.{RegionTable}
-use Rattle.placement_programme.specs.Plain.{PlainProgramme}
-use Rattle.profile_runner.specs.Counts.{IsProfile}
-use Rattle.profile_runner.specs.Move.{Move}
-use Rattle.profile_runner.specs.Running.{Profiles}
-use Rattle.profile_runner.specs.declared.counts.Profile.{Profile}
 use Rattle.profile_runner.proofs.RunLemmas.{moves_steps}
-use Rattle.rv_decode.proofs.Meaning.{same_instruction}
-use Rattle.energy_model.specs.Energy.{Scene}
-use Rattle.energy_model.specs.Selected.{stated}
-use Rattle.energy_model.specs.Stated.{scene_of, layout_of, IsOfOneFile}
-use Rattle.energy_model.proofs.ChoiceLemmas.{is_of_the_run}
-use Rattle.relink_core.specs.Faults.{least_patch}
-use Rattle.spmlink.specs.ProgramRun.{RunsProgram}
+use Rattle.relinking.specs.Runs.{RunsProgram}
 use Rattle.spmlink.specs.RelinkFile.{RelinksTo}
-use Rattle.spmlink.specs.StatedRun.{EnergiesAreOf}
 
-start_fits : (fence : Bool) (size : ℕ) → least_patch fence ≤ size → 84 + (if fence then 4 else 0) ≤ size
-start_fits true size room = omega (arith, room)
-start_fits false size room = omega (arith, room)
-
--- a run from the start, and what it is a run of
-pub of_one_file : (view : ElfView) (board : Board) (g : Graph) (c : Code) (t : RegionTable) (input : List ℕ) (q : Profile) (last : SourceState)
-    → IsRead view → IsLawful board → IsGraph (plain_view view) board g → IsCode (plain_view view) c
-    → code_fault (plain_view view) ≡ None → least_patch board.fence_i ≤ board.patch.size → is_leader (plain_view view) view.entry ≡ true
-    → length t.of_block.items ≡ length c.blocks.items
-    → (made : Profiles (starts_of c) t.of_block.items t.count (length g.objects.items) (program_of (plain_view view) board g) board.steps (start_of (plain_view view) (program_of (plain_view view) board g) g input) last q)
-    → IsOfOneFile view board g c t q made.moves
-of_one_file view board g c t input q last read lawful is_graph is_code no_fault room entry one_each made =
-    record {
-      read = read;
-      lawful = lawful;
-      graph = is_graph;
-      code = is_code;
-      regions = one_each;
-      patch = start_fits board.fence_i board.patch.size room;
-      no_code_fault = no_fault;
-      run = record {
-        from = start_of (plain_view view) (program_of (plain_view view) board g) g input;
-        to = last;
-        going = refl;
-        begins = entry;
-        run = made.run;
-        profile = made.profile;
-      };
-    }
-
--- the energies of what the run states are those of the run
-pub energies_of : (view : ElfView) (board : Board) (g : Graph) (c : Code) (t : RegionTable) (q : Profile) (moves : List Move) (p : PlainProgramme)
-    → IsOfOneFile view board g c t q moves → p ≡ stated (scene_of g c t board) (layout_of g c t board) moves
-    → EnergiesAreOf (scene_of g c t board) moves p
-energies_of view board g c t q moves p one is =
-    let w = scene_of g c t board in
-    let of_stated : EnergiesAreOf w moves (stated w (layout_of g c t board) moves) =
-    λ choice feasible. is_of_the_run same_instruction view board g c t q moves choice one feasible in
-    subst (λ (r : PlainProgramme). EnergiesAreOf w moves r) (sym is) of_stated
-
--- a program that is relinked was run
 pub relinked_runs : (file board_text input certificate out report : List ℕ) (made : RelinksTo file board_text input certificate out report)
     → RunsProgram file made.board input made.states.last.outcome
 relinked_runs file board_text input certificate out report made =

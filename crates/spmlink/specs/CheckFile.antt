@@ -1,5 +1,5 @@
 -- What `check` tells of a file, a board, an input and a certificate.
-use Rattle.std.specs.Prelude.{◌≡◌, ◌⊎◌, ℕ, ◌≤ℤ◌, Bool, true, false, List, Option, Some, None, Err}
+use Rattle.std.specs.Prelude.{◌≡◌, ◌⊎◌, ℕ, Bool, true, false, List, Option, Some, None, Err}
 use Rattle.elf_reader.specs.File.{view_in}
 use Rattle.board_config.specs.declared.board.Board.{Board}
 use Rattle.object_graph.specs.Graphs.{IsGraph}
@@ -9,7 +9,7 @@ use Rattle.code_blocks.specs.declared.parts.Code.{Code}
 use Rattle.region_former.specs.declared.table.RegionTable.{RegionTable}
 use Rattle.relink_core.specs.Regions.{AreRegions}
 use Rattle.placement_programme.specs.Plain.{PlainProgramme, PlainChoice}
-use Rattle.placement_programme.specs.Programme.{IsFeasible, energy}
+use Rattle.placement_programme.specs.Programme.{IsFeasible}
 use Rattle.certificate_checker.specs.Nodes.{PlainCertificate}
 use Rattle.certificate_checker.specs.Reading.{certificate_of}
 use Rattle.certificate_checker.specs.Spelling.{Spells}
@@ -18,8 +18,9 @@ use Rattle.certificate_checker.specs.declared.fault.CertFault.{CertFault}
 use Rattle.spmlink.specs.FaultLine.{Parts, cert_parts, choice_parts, tree_parts, parts_of}
 use Rattle.spmlink.specs.Analysed.{Accepts}
 use Rattle.spmlink.specs.ProgramRun.{TellsProfiled}
-use Rattle.spmlink.specs.StatedRun.{StatesProgramme}
-use Rattle.spmlink.specs.ReportText.{IsReport}
+use Rattle.relinking.specs.StatedRun.{StatesProgramme}
+use Rattle.printed_lines.specs.ReportText.{IsReport}
+use Rattle.relinking.specs.FoundChoice.{IsLeast}
 use Rattle.spmlink.specs.declared.faults.Refusal.{Refusal}
 use Rattle.spmlink.specs.declared.faults.Refusal.TheVariants as refusal
 
@@ -32,10 +33,6 @@ pub record StatesOf (file : List ℕ) (board : Board) (input : List ℕ) (p : Pl
   pub regions : RegionTable
   pub are_regions : AreRegions (view_in file) code board regions
   pub states : StatesProgramme (view_in file) board graph code regions input p
-
--- no feasible choice has less energy
-abbrev pub IsLeast : PlainProgramme → PlainChoice → Type 0
-IsLeast p choice = (other : PlainChoice) → IsFeasible p other → energy p choice ≤ℤ energy p other
 
 -- the answers of which a report is made: that the choice is best, and that no tree says so
 abbrev pub answer_of : Bool → PlainVerdict

@@ -12,7 +12,7 @@ use Rattle.compare_runner.specs.declared.comparing.Comparison.{Comparison}
 use Rattle.compare_runner.specs.declared.comparing.Comparison.TheVariants.{Same, Differs, SourceFault}
 use Rattle.spmlink.specs.FaultLine.{Parts, elf_parts, differs_parts, source_parts, parts_of}
 use Rattle.spmlink.specs.Analysed.{Accepts, TellsAnalysed}
-use Rattle.spmlink.specs.ProgramRun.{IsAddressFault, ending_text}
+use Rattle.printed_lines.specs.Endings.{IsAddressFault, ending_text}
 use Rattle.spmlink.specs.declared.faults.Refusal.{Refusal}
 use Rattle.spmlink.specs.declared.faults.Refusal.TheVariants as refusal
 

@@ -6,15 +6,11 @@ pub mod Delivery
 pub mod RunFile
 pub mod Analysed
 pub mod ProgramRun
-pub mod ProfileLines
 pub mod ProfileFile
-pub mod StatedRun
-pub mod ReportText
-pub mod RelinkFile
 pub mod CompareFiles
 pub mod CheckFile
-pub mod ShowLines
 pub mod ShowFile
+pub mod RelinkFile
 pub mod Meaning
 pub mod Performing
 pub mod Answers

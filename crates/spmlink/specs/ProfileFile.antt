@@ -1,34 +1,23 @@
 -- What `profile` tells of a file, a board and an input.
-use Rattle.std.specs.Prelude.{◌≡◌, ℕ, List, length, Result}
-use Rattle.elf_reader.specs.File.{PlainView, view_in}
+use Rattle.std.specs.Prelude.{◌≡◌, ℕ, List, length}
+use Rattle.elf_reader.specs.File.{view_in}
 use Rattle.board_config.specs.declared.board.Board.{Board}
 use Rattle.object_graph.specs.Graphs.{IsGraph}
 use Rattle.object_graph.specs.declared.parts.Graph.{Graph}
 use Rattle.code_blocks.specs.Blocks.{IsCode}
 use Rattle.code_blocks.specs.Numbers.{starts_of}
 use Rattle.code_blocks.specs.declared.parts.Code.{Code}
-use Rattle.object_machine.specs.Program.{program_of}
 use Rattle.object_machine.specs.State.{SourceState}
-use Rattle.object_machine.specs.Start.{start_of}
 use Rattle.file_at_home.specs.Laws.{program_in, source_start}
 use Rattle.region_former.specs.declared.table.RegionTable.{RegionTable}
 use Rattle.profile_runner.specs.Move.{Move}
 use Rattle.profile_runner.specs.Moves.{Moves}
 use Rattle.profile_runner.specs.Counts.{IsProfile}
-use Rattle.profile_runner.specs.Running.{TellsOfRun}
 use Rattle.profile_runner.specs.declared.counts.Profile.{Profile}
-use Rattle.profile_runner.specs.declared.fault.ProfileFault.{ProfileFault}
 use Rattle.relink_core.specs.Regions.{AreRegions}
 use Rattle.spmlink.specs.Analysed.{Accepts}
-use Rattle.spmlink.specs.ProgramRun.{IsAddressFault}
-use Rattle.spmlink.specs.ProfileLines.{profile_text}
-
--- a profile of the program's run, by a table of regions, or its address fault, or that no memory was left
-abbrev pub TellsCounts : PlainView → Board → Graph → Code → RegionTable → List ℕ → Result Profile ProfileFault → Type 0
-TellsCounts v board g c t input result =
-    (last : SourceState)
-    × TellsOfRun (starts_of c) t.of_block.items t.count (length g.objects.items) (program_of v board g) board.steps
-    (start_of v (program_of v board g) g input) last result
+use Rattle.printed_lines.specs.Endings.{IsAddressFault}
+use Rattle.printed_lines.specs.ProfileLines.{profile_text}
 
 -- The program, started on the input, takes the board's steps, or fewer where it ends. These are its moves, which meet
 -- no address fault, and the lines tell their profile, by the regions of the program.

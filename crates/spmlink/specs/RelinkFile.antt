@@ -1,6 +1,6 @@
--- What `relink` makes of a file, a board and an input, while nothing is moved: the file itself, a certificate
--- that takes nothing, and a report on the energy of the program's run.
-use Rattle.std.specs.Prelude.{◌≡◌, ℕ, false, List, [], ◌∷◌}
+-- What `relink` makes of a file, a board and an input: a choice of the programme that the run states, the file that
+-- realises it, the choice's certificate, and a report.
+use Rattle.std.specs.Prelude.{ℕ, Bool, List}
 use Rattle.elf_reader.specs.File.{view_in}
 use Rattle.board_config.specs.declared.board.Board.{Board}
 use Rattle.object_graph.specs.Graphs.{IsGraph}
@@ -8,20 +8,16 @@ use Rattle.object_graph.specs.declared.parts.Graph.{Graph}
 use Rattle.code_blocks.specs.Blocks.{IsCode}
 use Rattle.code_blocks.specs.declared.parts.Code.{Code}
 use Rattle.region_former.specs.declared.table.RegionTable.{RegionTable}
-use Rattle.placement_programme.specs.Plain.{PlainProgramme}
-use Rattle.relink_core.specs.Keeps.{KeepsPaired}
+use Rattle.placement_programme.specs.Plain.{PlainProgramme, PlainChoice}
 use Rattle.relink_core.specs.Regions.{AreRegions}
 use Rattle.spmlink.specs.Analysed.{Accepts}
-use Rattle.spmlink.specs.StatedRun.{StatesProgramme}
-use Rattle.spmlink.specs.ReportText.{report_text}
+use Rattle.relinking.specs.StatedRun.{StatesProgramme}
+use Rattle.relinking.specs.Relink.{IsResult}
+use Rattle.relinking.specs.Report.{IsRelinkReport}
 
--- the certificate of the choice that takes nothing: the mark `SPC1`, no tree, the side without overlays, and no
--- variable
-abbrev pub bare_certificate : List ℕ
-bare_certificate = 83 ∷ 80 ∷ 67 ∷ 49 ∷ 0 ∷ 0 ∷ 0 ∷ []
-
--- The file is handed on as it is, which keeps its meaning in every paired run, on any input. The report has the
--- base of the programme that the run states twice, since nothing is moved.
+-- The choice is one of the programme that the run states, and the certificate says whether it is a best one. The
+-- result realises it and keeps the file's meaning, on any input; where nothing is taken it is the file, and paired runs
+-- are spoken of.
 pub record RelinksTo (file board_text input certificate out report : List ℕ) : Type 0 where
   pub board : Board
   pub accepts : Accepts board_text file board
@@ -33,7 +29,7 @@ pub record RelinksTo (file board_text input certificate out report : List ℕ) :
   pub are_regions : AreRegions (view_in file) code board regions
   pub programme : PlainProgramme
   pub states : StatesProgramme (view_in file) board graph code regions input programme
-  pub certificate_is : certificate ≡ bare_certificate
-  pub out_is : out ≡ file
-  pub report_is : report ≡ report_text false board.nodes programme.base programme.base
-  pub keeps : KeepsPaired file out board
+  pub choice : PlainChoice
+  pub says_optimal : Bool
+  pub result : IsResult file board graph programme choice says_optimal certificate out
+  pub is_report : IsRelinkReport (view_in file) board graph programme choice says_optimal report

@@ -11,7 +11,7 @@ use Rattle.region_former.specs.declared.table.RegionTable.{RegionTable}
 use Rattle.relink_core.specs.Regions.{AreRegions}
 use Rattle.spmlink.specs.FaultLine.{Parts}
 use Rattle.spmlink.specs.Analysed.{Accepts, TellsAnalysed}
-use Rattle.spmlink.specs.ShowLines.{show_text}
+use Rattle.printed_lines.specs.ShowLines.{show_text}
 
 -- the lines tell the objects of the program that may move on the board, and its functions with their regions
 pub record ShowsTo (file board_text text : List ℕ) : Type 0 where

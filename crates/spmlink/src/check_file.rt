@@ -6,12 +6,12 @@ ghost use Rattle.certificate_checker.specs.Views.{plain_verdict};
 ghost use Rattle.spmlink.specs.CheckFile.{ChecksTo, RefusesChecked, ReportsText, RefusesText, MayReport, ReportsAnswer, RefusesAnswer};
 
 use crate::faults::Refusal;
-use crate::report_lines::choice_report;
-use crate::stated_run::stated_run;
 use board_config::read_board;
 use certificate_checker::{Room, Verdict, check_text};
 use placement_programme::{Choice, Programme};
+use printed_lines::choice_report;
 use relink_core::analyse;
+use relinking::stated_run;
 use std::alloc::Global;
 
 /// Checks a certificate for the programme that the run of a file's program states, with nothing but the files, and tells

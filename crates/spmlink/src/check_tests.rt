@@ -16,17 +16,20 @@ price = { main_fetch = 10, main_read = 10, main_write = 10, spm_fetch = 10, spm_
 /// A best found certificate that takes the table.
 const TAKES: [u8; 8] = [0x53, 0x50, 0x43, 0x31, 0, 0, 1, 0];
 
+/// One that takes nothing.
+const TAKES_NOTHING: [u8; 7] = [0x53, 0x50, 0x43, 0x31, 0, 0, 0];
+
 #[test]
 fn reports_on_certificates(rt: HostRuntime) -> Result<(), Fail> {
     let alloc = rt.alloc();
     let sums = with_table(alloc, &SUMS, &ADDRESS, 3)?;
-    let relinked = Call::relink(&sums, FITS).answer(alloc)?;
-    let written = relinked.cert.ok_or("no certificate")?;
-    let found = "best found 100000\nbefore 326040\nafter 326040\n";
-    assert!(rt; answers(alloc, &Call::check(&sums, FITS, &written), found)?);
     // Where the table is fixed to zero nothing is gained, and where it is fixed to one no more than by the choice.
     let optimal = [0x53, 0x50, 0x43, 0x31, 1, 0, 1, 0, 1, 0, 0, 3, 3];
-    let cases: [(&[u8], &str); 2] = [
+    let cases: [(&[u8], &str); 3] = [
+        (
+            &TAKES_NOTHING,
+            "best found 100000\nbefore 326040\nafter 326040\n",
+        ),
         (&TAKES, "best found 100000\nbefore 326040\nafter 278918\n"),
         (&optimal, "optimal\nbefore 326040\nafter 278918\n"),
     ];
@@ -40,7 +43,7 @@ fn reports_on_certificates(rt: HostRuntime) -> Result<(), Fail> {
 fn refuses_certificates(rt: HostRuntime) -> Result<(), Fail> {
     let alloc = rt.alloc();
     let sums = with_table(alloc, &SUMS, &ADDRESS, 3)?;
-    let cases: [(&[u8], &str); 10] = [
+    let cases: [(&[u8], &str); 11] = [
         (&[], "error 10 truncated 0 0\n"),
         (&TAKES[..7], "error 10 truncated 7 0\n"),
         (
@@ -68,6 +71,11 @@ fn refuses_certificates(rt: HostRuntime) -> Result<(), Fail> {
         (
             &[0x53, 0x50, 0x43, 0x31, 1, 0, 0, 1, 0, 0, 3, 3],
             "error 10 wrong 0 2\n",
+        ),
+        // Nor do all gains together bound it: without multipliers that is all that a dual node says.
+        (
+            &[0x53, 0x50, 0x43, 0x31, 1, 0, 0, 1, 2, 1, 0],
+            "error 10 wrong 0 0\n",
         ),
         // A leaf in which a variable is free, and a second tree where there is no second side.
         (

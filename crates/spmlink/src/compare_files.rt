@@ -1,12 +1,12 @@
 ghost use Rattle.std.specs.Prelude.{◌≡◌, IfOk, IfErr};
-ghost use Rattle.spmlink.specs.ProgramRun.{IsAddressFault};
+ghost use Rattle.printed_lines.specs.Endings.{IsAddressFault};
 ghost use Rattle.spmlink.specs.CompareFiles.{ComparesTo, RefusesCompared, HasEnding, AnswersComparison, RefusesComparison, same_text};
 
 use crate::faults::Refusal;
-use crate::outcomes::ending_line;
 use board_config::read_board;
 use compare_runner::{Comparison, compare};
 use object_machine::Outcome;
+use printed_lines::ending_line;
 use relink_core::analyse;
 use std::alloc::{AllocError, Global};
 

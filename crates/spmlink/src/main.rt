@@ -23,7 +23,6 @@ mod outcomes;
 mod performing;
 mod printing;
 mod profile_file;
-mod profile_lines;
 #[cfg(test)]
 mod programs;
 mod reading;
@@ -31,14 +30,11 @@ mod refused;
 mod relink_file;
 #[cfg(test)]
 mod relink_tests;
-mod report_lines;
 mod results;
 mod run_file;
 mod show_file;
-mod show_lines;
 #[cfg(test)]
 mod show_tests;
-mod stated_run;
 #[cfg(test)]
 mod tests;
 mod top;

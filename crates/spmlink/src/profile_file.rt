@@ -3,10 +3,10 @@ ghost use Rattle.spmlink.specs.ProgramRun.{RefusesProfiled};
 ghost use Rattle.spmlink.specs.ProfileFile.{ProfilesTo};
 
 use crate::faults::Refusal;
-use crate::profile_lines::profile_lines;
-use crate::stated_run::counted;
 use board_config::read_board;
+use printed_lines::profile_lines;
 use relink_core::analyse;
+use relinking::counted;
 use std::alloc::Global;
 
 /// Runs the program of a file for the board's steps, and tells what happened in lines.
@@ -25,5 +25,11 @@ pub fn profile_file(
     let board = read_board(alloc, board)?;
     let analysis = analyse(alloc, file, &board)?;
     let counts = counted(alloc, &analysis, &board, input)?;
-    Ok(profile_lines(alloc, &analysis, &counts)?)
+    Ok(profile_lines(
+        alloc,
+        &analysis.view,
+        &analysis.graph,
+        &analysis.code,
+        &counts,
+    )?)
 }

@@ -196,8 +196,8 @@ const TWO_PHASES: [u32; 29] = [
     0x0000_8067,
 ];
 
-/// The file of that program.
-pub(crate) fn two_phases(alloc: Global) -> Result<Vec<u8>, AllocError> {
+/// The parts of the file of that program.
+fn phases_spec(alloc: Global) -> Result<FileSpec, AllocError> {
     let mut text = section(alloc, ".text", 0x1_0000, 6, &TWO_PHASES)?;
     text.relocs = vec![in alloc;
         reloc(0x1_0028, 26, 4),
@@ -205,7 +205,7 @@ pub(crate) fn two_phases(alloc: Global) -> Result<Vec<u8>, AllocError> {
         reloc(0x1_0050, 26, 5),
         reloc(0x1_0054, 27, 5),
     ]?;
-    let spec = FileSpec {
+    Ok(FileSpec {
         entry: 0x1_0000,
         sections: vec![in alloc; text, section(alloc, ".rodata", 0x1_1000, 2, &[0; 512])?]?,
         symbols: vec![in alloc;
@@ -214,6 +214,69 @@ pub(crate) fn two_phases(alloc: Global) -> Result<Vec<u8>, AllocError> {
             symbol(alloc, "g", 0x1_004c, 40, 2, 1)?,
             symbol(alloc, "ta", 0x1_1000, 1024, 1, 2)?,
             symbol(alloc, "tb", 0x1_1400, 1024, 1, 2)?,
+        ]?,
+    })
+}
+
+/// The file of that program.
+pub(crate) fn two_phases(alloc: Global) -> Result<Vec<u8>, AllocError> {
+    build(alloc, &phases_spec(alloc)?)
+}
+
+/// The same with an object of two words that hold the addresses of both tables.
+pub(crate) fn two_phases_held(alloc: Global) -> Result<Vec<u8>, AllocError> {
+    let mut spec = phases_spec(alloc)?;
+    let mut data = section(alloc, ".data", 0x1_2000, 3, &[0x1_1000, 0x1_1400])?;
+    data.relocs = vec![in alloc; reloc(0x1_2000, 1, 4), reloc(0x1_2004, 1, 5)]?;
+    spec.sections.push(data)?;
+    spec.symbols.push(symbol(alloc, "pa", 0x1_2000, 8, 1, 3)?)?;
+    build(alloc, &spec)
+}
+
+/// Reads the first word of `t0` 600 times, and those of `t1` and `t2` 500 times each.
+const THREE_TABLES: [u32; 21] = [
+    0x0001_1537,
+    0x0005_0513,
+    0x2580_0713,
+    0x0005_2683,
+    0xfff7_0713,
+    0xfe07_1ce3,
+    0x0001_1537,
+    0x0605_0513,
+    0x1f40_0713,
+    0x0005_2683,
+    0xfff7_0713,
+    0xfe07_1ce3,
+    0x0001_1537,
+    0x0b05_0513,
+    0x1f40_0713,
+    0x0005_2683,
+    0xfff7_0713,
+    0xfe07_1ce3,
+    0x0000_0513,
+    0x05d0_0893,
+    0x0000_0073,
+];
+
+/// The file of that program, whose tables have 96, 80 and 80 bytes.
+pub(crate) fn three_tables(alloc: Global) -> Result<Vec<u8>, AllocError> {
+    let mut text = section(alloc, ".text", 0x1_0000, 6, &THREE_TABLES)?;
+    text.relocs = vec![in alloc;
+        reloc(0x1_0000, 26, 2),
+        reloc(0x1_0004, 27, 2),
+        reloc(0x1_0018, 26, 3),
+        reloc(0x1_001c, 27, 3),
+        reloc(0x1_0030, 26, 4),
+        reloc(0x1_0034, 27, 4),
+    ]?;
+    let spec = FileSpec {
+        entry: 0x1_0000,
+        sections: vec![in alloc; text, section(alloc, ".rodata", 0x1_1000, 2, &[7; 64])?]?,
+        symbols: vec![in alloc;
+            symbol(alloc, "main", 0x1_0000, 84, 2, 1)?,
+            symbol(alloc, "t0", 0x1_1000, 96, 1, 2)?,
+            symbol(alloc, "t1", 0x1_1060, 80, 1, 2)?,
+            symbol(alloc, "t2", 0x1_10b0, 80, 1, 2)?,
         ]?,
     };
     build(alloc, &spec)

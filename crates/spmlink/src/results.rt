@@ -109,7 +109,7 @@ fn ready_relink<'a>(
         Ok(relinked) => {
             let first = Output::new(alloc, 5, cert, relinked.certificate)?;
             let second = Output::new(alloc, 4, out, relinked.file)?;
-            Ok(Ready::written_twice(alloc, first, second, relinked.report.into_bytes())?)
+            Ok(Ready::written_twice(alloc, first, second, relinked.report)?)
         }
         Err(fault) => Err(fault),
     }

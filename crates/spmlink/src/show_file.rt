@@ -3,8 +3,8 @@ ghost use Rattle.spmlink.specs.Analysed.{RefusesAnalysed};
 ghost use Rattle.spmlink.specs.ShowFile.{ShowsTo};
 
 use crate::faults::Refusal;
-use crate::show_lines::show_lines;
 use board_config::read_board;
+use printed_lines::show_lines;
 use relink_core::analyse;
 use std::alloc::Global;
 
@@ -18,5 +18,11 @@ pub fn show_file(alloc: Global, file: &[u8], board: &[u8]) -> Result<Vec<u8>, Re
 {
     let board = read_board(alloc, board)?;
     let analysis = analyse(alloc, file, &board)?;
-    Ok(show_lines(alloc, &analysis)?)
+    Ok(show_lines(
+        alloc,
+        &analysis.view,
+        &analysis.graph,
+        &analysis.code,
+        &analysis.regions,
+    )?)
 }

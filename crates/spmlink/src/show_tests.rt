@@ -1,10 +1,10 @@
 use crate::calls::Call;
 use crate::faults::Refusal;
 use crate::programs::{clearing_file, two_phases};
-use crate::stated_run::counted;
 use board_config::read_board;
 use profile_runner::Profile;
 use relink_core::analyse;
+use relinking::counted;
 use std::alloc::{AllocError, Global};
 use std::test::Fail;
 

@@ -1,11 +1,16 @@
+use Rattle.std.proofs.Common.{arith}
+use Rattle.std.proofs.lemmas.List.Elements.{All-from_get_or}
+use Rattle.elf_reader.specs.Loadable.{IsByte, AreBytes}
 use Rattle.std.proofs.lemmas.Result.{err_from_is_err_and}
 use Rattle.elf_reader.specs.File.{plain_view}
 use Rattle.placement_programme.specs.Views.{plain_programme}
 use Rattle.loaded_code.proofs.WordLemmas.{same_view}
 use Rattle.energy_model.specs.Stated.{scene_of}
-use Rattle.spmlink.proofs.Analysing.{may_run, board_refused, analysis_refused, profiled_refused}
+use Rattle.relinking.proofs.Analysed.{analysed}
+use Rattle.spmlink.proofs.Analysing.{board_refused, analysis_refused, profiled_refused}
 use Rattle.spmlink.proofs.Profiling.{counts_refused}
-use Rattle.spmlink.proofs.Certificates.{within_base, run_refused_first, certificate_told, states_of}
+use Rattle.relinking.proofs.Energies.{within_base}
+use Rattle.spmlink.proofs.Certificates.{run_refused_first, certificate_told, states_of}
 use Rattle.spmlink.proofs.check_file.check_file.Goals as goal
 
 pub returns-in_err-board-clause-err : goal.returns-in_err-board-clause-err
@@ -23,38 +28,15 @@ returns-in_err-analysis-clause-err c =
     (profiled_refused c.args.board.now c.args.file.now c.args.input.now _
     (analysis_refused c.args.board.now c.args.file.now c.in_ok-board.board c.in_ok-board.ensures.board c.in_ok-board.ensures.fault _ c.in_err-analysis.ensures.fault)))
 
-pub stated_run-requires-clause-read : goal.stated_run-requires-clause-read
-stated_run-requires-clause-read c =
+pub stated_run-requires : goal.stated_run-requires
+stated_run-requires c =
+    let file = c.args.file.now in
+    let board = c.in_ok-board.board in
     let found = c.in_ok-analysis.ensures in
-    (may_run c.args.file.now c.in_ok-analysis.analysis.view c.in_ok-board.board c.in_ok-analysis.analysis.graph c.in_ok-analysis.analysis.code found.file found.fault.before found.graph found.code).read
-
-pub stated_run-requires-clause-graph : goal.stated_run-requires-clause-graph
-stated_run-requires-clause-graph c =
-    let found = c.in_ok-analysis.ensures in
-    (may_run c.args.file.now c.in_ok-analysis.analysis.view c.in_ok-board.board c.in_ok-analysis.analysis.graph c.in_ok-analysis.analysis.code found.file found.fault.before found.graph found.code).graph
-
-pub stated_run-requires-clause-code : goal.stated_run-requires-clause-code
-stated_run-requires-clause-code c =
-    let found = c.in_ok-analysis.ensures in
-    (may_run c.args.file.now c.in_ok-analysis.analysis.view c.in_ok-board.board c.in_ok-analysis.analysis.graph c.in_ok-analysis.analysis.code found.file found.fault.before found.graph found.code).code
-
-pub stated_run-requires-clause-no_fault : goal.stated_run-requires-clause-no_fault
-stated_run-requires-clause-no_fault c =
-    let found = c.in_ok-analysis.ensures in
-    (may_run c.args.file.now c.in_ok-analysis.analysis.view c.in_ok-board.board c.in_ok-analysis.analysis.graph c.in_ok-analysis.analysis.code found.file found.fault.before found.graph found.code).no_fault
-
-pub stated_run-requires-clause-room : goal.stated_run-requires-clause-room
-stated_run-requires-clause-room c =
-    let found = c.in_ok-analysis.ensures in
-    (may_run c.args.file.now c.in_ok-analysis.analysis.view c.in_ok-board.board c.in_ok-analysis.analysis.graph c.in_ok-analysis.analysis.code found.file found.fault.before found.graph found.code).room
-
-pub stated_run-requires-clause-regions : goal.stated_run-requires-clause-regions
-stated_run-requires-clause-regions c = c.in_ok-analysis.ensures.regions.is_formed.one_each
-
-pub stated_run-requires-clause-entry : goal.stated_run-requires-clause-entry
-stated_run-requires-clause-entry c =
-    let found = c.in_ok-analysis.ensures in
-    (may_run c.args.file.now c.in_ok-analysis.analysis.view c.in_ok-board.board c.in_ok-analysis.analysis.graph c.in_ok-analysis.analysis.code found.file found.fault.before found.graph found.code).entry
+    let analysis = c.in_ok-analysis.analysis in
+    let bytes : AreBytes file = All-from_get_or IsByte file 0 (λ k below. let fits = c.type_inv.file k in omega (arith, fits)) in
+    let is = analysed file board analysis bytes c.in_ok-board.ensures.lawful found.file found.fault found.graph found.code found.regions in
+    (file, is)
 
 pub returns-in_err-programme-clause-err : goal.returns-in_err-programme-clause-err
 returns-in_err-programme-clause-err c =

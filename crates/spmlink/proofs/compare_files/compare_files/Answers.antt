@@ -5,7 +5,8 @@ use Rattle.flat_machine.specs.Start as flat_start
 use Rattle.object_machine.specs.Program.{program_of}
 use Rattle.object_machine.specs.Start.{start_of}
 use Rattle.loaded_code.proofs.WordLemmas.{same_view}
-use Rattle.spmlink.proofs.Analysing.{may_run, board_refused, analysis_refused, compared_refused}
+use Rattle.relinking.proofs.Analysed.{may_run}
+use Rattle.spmlink.proofs.Analysing.{board_refused, analysis_refused, compared_refused}
 use Rattle.spmlink.proofs.ComparingFiles.{compared_files, has_ending, relinked_refused, comparison_refused, comparison_answered}
 use Rattle.spmlink.proofs.compare_files.compare_files.Goals as goal
 

@@ -8,7 +8,7 @@ returns-in_ok-written_twice-in-Ok-clause-ok c f b i =
     let made = c.in_ok-written_twice-in-Ok.ensures in
     record {
       outputs = c.in-Ok.relinked.certificate.items ∷ c.in-Ok.relinked.file.items ∷ [];
-      yields = rw (made.text, c.into_bytes.ensures.value) (relinks f b i _ _ _ _ _ _ _ refl refl refl c.in-Ok.ensures.ok);
+      yields = rw made.text (relinks f b i _ _ _ _ _ _ _ refl refl refl c.in-Ok.ensures.ok);
       ready_outputs = rw made.outputs (c.in_ok-first-in-Ok.ensures, (c.in_ok-second-in-Ok.ensures, tt));
       print_fault = made.print_fault;
     }

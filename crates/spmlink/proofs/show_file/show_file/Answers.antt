@@ -1,9 +1,9 @@
 use Rattle.std.proofs.Common.{◌≡◌, subst}
 use Rattle.std.proofs.lemmas.Result.{err_from_is_err_and}
-use Rattle.elf_reader.specs.File.{PlainView, plain_view}
+use Rattle.elf_reader.specs.File.{PlainView}
 use Rattle.loaded_code.proofs.WordLemmas.{same_view}
 use Rattle.code_blocks.specs.Numbers.{starts_of}
-use Rattle.spmlink.specs.ShowLines.{show_text}
+use Rattle.printed_lines.specs.ShowLines.{show_text}
 use Rattle.spmlink.proofs.Analysing.{board_refused, analysis_refused}
 use Rattle.spmlink.proofs.show_file.show_file.Goals as goal
 

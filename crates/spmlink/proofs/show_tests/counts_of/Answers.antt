@@ -1,25 +1,15 @@
-use Rattle.spmlink.proofs.Analysing.{may_run}
+use Rattle.std.proofs.Common.{arith}
+use Rattle.std.proofs.lemmas.List.Elements.{All-from_get_or}
+use Rattle.elf_reader.specs.Loadable.{IsByte, AreBytes}
+use Rattle.relinking.proofs.Analysed.{analysed}
 use Rattle.spmlink.proofs.show_tests.counts_of.Goals as goal
 
-pub counted-requires-clause-read : goal.counted-requires-clause-read
-counted-requires-clause-read c =
+pub counted-requires : goal.counted-requires
+counted-requires c =
+    let file = c.args.file.now in
+    let board = c.in_ok-board.board in
     let found = c.in_ok-analysis.ensures in
-    (may_run c.args.file.now c.in_ok-analysis.analysis.view c.in_ok-board.board c.in_ok-analysis.analysis.graph c.in_ok-analysis.analysis.code found.file found.fault.before found.graph found.code).read
-
-pub counted-requires-clause-graph : goal.counted-requires-clause-graph
-counted-requires-clause-graph c =
-    let found = c.in_ok-analysis.ensures in
-    (may_run c.args.file.now c.in_ok-analysis.analysis.view c.in_ok-board.board c.in_ok-analysis.analysis.graph c.in_ok-analysis.analysis.code found.file found.fault.before found.graph found.code).graph
-
-pub counted-requires-clause-code : goal.counted-requires-clause-code
-counted-requires-clause-code c =
-    let found = c.in_ok-analysis.ensures in
-    (may_run c.args.file.now c.in_ok-analysis.analysis.view c.in_ok-board.board c.in_ok-analysis.analysis.graph c.in_ok-analysis.analysis.code found.file found.fault.before found.graph found.code).code
-
-pub counted-requires-clause-entry : goal.counted-requires-clause-entry
-counted-requires-clause-entry c =
-    let found = c.in_ok-analysis.ensures in
-    (may_run c.args.file.now c.in_ok-analysis.analysis.view c.in_ok-board.board c.in_ok-analysis.analysis.graph c.in_ok-analysis.analysis.code found.file found.fault.before found.graph found.code).entry
-
-pub counted-requires-clause-regions : goal.counted-requires-clause-regions
-counted-requires-clause-regions c = c.in_ok-analysis.ensures.regions.is_formed.one_each
+    let analysis = c.in_ok-analysis.analysis in
+    let bytes : AreBytes file = All-from_get_or IsByte file 0 (λ k below. let fits = c.type_inv.file k in omega (arith, fits)) in
+    let is = analysed file board analysis bytes c.in_ok-board.ensures.lawful found.file found.fault found.graph found.code found.regions in
+    (file, is)

@@ -1,0 +1,10 @@
+use Rattle.std.proofs.Common.{◌≡◌, ◌++◌}
+use Rattle.elf_reader.specs.File.{plain_view}
+use Rattle.code_blocks.specs.Numbers.{starts_of}
+use Rattle.printed_lines.specs.ProfileLines.{lines_below}
+use Rattle.printed_lines.specs.ShowLines.{function_line}
+use Rattle.printed_lines.proofs.shown.push_functions.Given as goal
+
+abbrev pub invariant-loop-k : goal.invariant-loop-k
+invariant-loop-k l =
+    l.text.items ≡ l.initial.text.items ++ lines_below (function_line (plain_view l.view) l.code.functions.items (starts_of l.code) l.regions.of_block.items) l.k

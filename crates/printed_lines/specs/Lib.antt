@@ -1,0 +1,5 @@
+pub mod Endings
+pub mod ProfileLines
+pub mod ShowLines
+pub mod MovedLines
+pub mod ReportText

@@ -1,0 +1,17 @@
+//! The lines that tell what was found of a program: the counts of its run, what of it may move, what a choice saves,
+//! and where stands what has moved. Addresses are `0x` and eight hexadecimal digits, other numbers are decimal, and
+//! names are the bytes that the file holds.
+#![tactic(auto)]
+
+mod endings;
+mod moved;
+mod parts;
+mod profiles;
+mod reports;
+mod shown;
+
+pub use endings::ending_line;
+pub use moved::push_moved_lines;
+pub use profiles::profile_lines;
+pub use reports::choice_report;
+pub use shown::show_lines;

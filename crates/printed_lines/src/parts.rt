@@ -1,0 +1,25 @@
+ghost use Rattle.std.specs.Prelude.{◌≡◌, IfOk, string_bytes};
+ghost use Rattle.elf_reader.specs.File.{plain_view};
+ghost use Rattle.loaded_code.specs.Records.{symbol_at};
+ghost use Rattle.printed_lines.specs.ProfileLines.{address_text};
+
+use elf_reader::ElfView;
+use std::alloc::{AllocError, Global};
+
+/// An address as it is printed: `0x` and eight hexadecimal digits.
+#[tactic(auto, using(crate::proofs::Hexadecimal::eight_digits))]
+pub(crate) fn address_text(alloc: Global, address: u32) -> Result<String, AllocError>
+    ensures { IfOk result (λ text. string_bytes text ≡ address_text address) }
+{
+    format!(in alloc; "0x{address:08x}")
+}
+
+/// The name of a symbol by its number.
+pub(crate) fn symbol_name<'a>(view: &ElfView<'a>, number: u32) -> &'a [u8]
+    ensures { result.now ≡ (symbol_at (plain_view view.now) number).name }
+{
+    match view.symbols.get(number as usize) {
+        Some(symbol) => symbol.name,
+        None => &[],
+    }
+}

@@ -1,0 +1,95 @@
+-- A file that is analysed for a board: what its analysis is, and what a run of its program asks.
+use Rattle.std.proofs.Common.{◌≡◌, ℕ, ◌≤◌, ◌==◌, nat_le, option_map, List, length, Bool, true, ◌&&◌, ◌||◌, None, refl, sym, subst, arith}
+use Rattle.std.proofs.lemmas.Bool.Decides.{nat_tests}
+use Rattle.fault_order.specs.First.{unless}
+use Rattle.fault_order.proofs.FirstLemmas.{both_none, holds}
+use Rattle.index_tests.specs.Tests.{any_below}
+use Rattle.elf_reader.specs.File.{PlainView, plain_view, view_in, IsFile}
+use Rattle.elf_reader.specs.Loadable.{AreBytes}
+use Rattle.elf_reader.specs.declared.view.ElfView.{ElfView}
+use Rattle.board_config.specs.Board.{IsLawful}
+use Rattle.board_config.specs.declared.board.Board.{Board}
+use Rattle.loaded_code.specs.Code.{is_code_word}
+use Rattle.loaded_code.specs.Read.{IsRead}
+use Rattle.loaded_code.proofs.WordLemmas.{same_view}
+use Rattle.object_graph.specs.Graphs.{IsGraph}
+use Rattle.object_graph.specs.LayoutFaults.{layout_fault}
+use Rattle.object_graph.specs.declared.parts.Graph.{Graph}
+use Rattle.code_leaders.specs.Words.{any_code_word}
+use Rattle.code_leaders.specs.Leaders.{is_function_at, makes_address, goes_to, comes_back, pair_goes_to, pair_comes_back, is_leader}
+use Rattle.code_blocks.specs.Blocks.{IsCode, is_any, code_fault}
+use Rattle.code_blocks.specs.declared.parts.Code.{Code}
+use Rattle.code_blocks.specs.declared.fault.CodeFault.TheVariants.{NoText, EntryNotLeader}
+use Rattle.relink_core.specs.Faults.{IsFaultless, file_fault, least_patch, patch_fault, places_fault, view_fault, analyse_fault}
+use Rattle.relink_core.specs.Regions.{AreRegions}
+use Rattle.relink_core.specs.declared.analysis.Analysis.{Analysis}
+use Rattle.relink_core.specs.declared.fault.AnalyseFault.TheVariants as analyse
+use Rattle.relink_core.proofs.KeepsLemmas.{passes}
+use Rattle.relinking.specs.Runs.{IsAnalysed}
+
+-- ---- what a run asks
+
+named_code : (code same b c d e f g : Bool) → code ≡ true → same ≡ true → code && (same || b || c || d || e) || code && (f || g) ≡ true
+named_code code same b c d e f g is_code is_same = rw (is_code, is_same) refl
+
+-- the entry of a program whose code has no fault is a leader
+entry_leads : (v : PlainView) → code_fault v ≡ None → is_leader v v.entry ≡ true
+entry_leads v none =
+    let behind = both_none (unless (any_code_word v is_any) NoText) _ none in
+    let entry = both_none (unless (is_code_word v v.entry) EntryNotLeader) _ behind.1 in
+    let code = holds (is_code_word v v.entry) EntryNotLeader entry.0 in
+    let same : (v.entry == v.entry) ≡ true = grind (arith, nat_tests) in
+    named_code (is_code_word v v.entry) (v.entry == v.entry) (any_below (is_function_at v v.entry) (length v.symbols)) (any_below (makes_address v v.entry) (length v.relocs)) (any_code_word v (goes_to v v.entry)) (any_code_word v (comes_back v v.entry)) (any_code_word v (pair_goes_to v v.entry)) (any_code_word v (pair_comes_back v v.entry)) code same
+
+pub record MayRun (view : ElfView) (board : Board) (g : Graph) (c : Code) : Type 0 where
+  pub read : IsRead view
+  pub graph : IsGraph (plain_view view) board g
+  pub code : IsCode (plain_view view) c
+  pub entry : is_leader (plain_view view) view.entry ≡ true
+  pub no_fault : code_fault (plain_view view) ≡ None
+  pub room : least_patch board.fence_i ≤ board.patch.size
+
+fitting : (least size : ℕ) → nat_le least size ≡ true → least ≤ size
+fitting least size fits = grind (arith, nat_tests, fits)
+
+-- the patch range has room for the start stub
+has_room : (file : List ℕ) (board : Board) → analyse_fault file board ≡ None → least_patch board.fence_i ≤ board.patch.size
+has_room file board none =
+    let v = view_in file in
+    let all = both_none (file_fault file) (view_fault v board) none in
+    let viewed = both_none (places_fault v board) (option_map analyse.Code (code_fault v)) all.1 in
+    let placed = both_none (option_map analyse.Graph (layout_fault v board)) (patch_fault board) viewed.0 in
+    let fits = holds (nat_le (least_patch board.fence_i) board.patch.size) (analyse.PatchTooSmall (least_patch board.fence_i) board.patch.size) placed.1 in
+    fitting (least_patch board.fence_i) board.patch.size fits
+
+pub may_run : (file : List ℕ) (view : ElfView) (board : Board) (g : Graph) (c : Code) → IsFile file view → analyse_fault file board ≡ None
+    → IsGraph (view_in file) board g → IsCode (view_in file) c → MayRun view board g c
+may_run file view board g c is none is_graph is_code =
+    let found = passes file board none in
+    let same = sym (same_view file view is) in
+    record {
+      read = (file, is, found.first);
+      graph = subst (λ (v : PlainView). IsGraph v board g) same is_graph;
+      code = subst (λ (v : PlainView). IsCode v c) same is_code;
+      entry = entry_leads (plain_view view) (subst (λ (v : PlainView). code_fault v ≡ None) same found.code);
+      no_fault = subst (λ (v : PlainView). code_fault v ≡ None) same found.code;
+      room = has_room file board none;
+    }
+
+-- ---- the analysis
+
+-- what a run asks of it
+pub may_state : (file : List ℕ) (board : Board) (a : Analysis) → IsAnalysed file board a → MayRun a.view board a.graph a.code
+may_state file board a is =
+    may_run file a.view board a.graph a.code is.analysis.is_file is.analysis.passes is.analysis.graph is.code
+
+-- what `analyse` tells
+pub analysed : (file : List ℕ) (board : Board) (a : Analysis) → AreBytes file → IsLawful board → IsFile file a.view → IsFaultless file board
+    → IsGraph (view_in file) board a.graph → IsCode (view_in file) a.code → AreRegions (view_in file) a.code board a.regions
+    → IsAnalysed file board a
+analysed file board a bytes lawful is_file no_fault is_graph is_code are_regions =
+    record {
+      analysis = record { bytes = bytes; is_file = is_file; passes = no_fault.before; lawful = lawful; graph = is_graph };
+      code = is_code;
+      regions = are_regions;
+    }

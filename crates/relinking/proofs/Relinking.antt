@@ -1,0 +1,79 @@
+-- A file that is analysed, relinked: what its steps ask of the analysis, and what is told of it.
+use Rattle.std.proofs.Common.{◌≡◌, ◌⊎◌, inl, inr, ℕ, List, Err, sym, subst}
+use Rattle.elf_reader.specs.File.{PlainView, view_in}
+use Rattle.board_config.specs.declared.board.Board.{Board}
+use Rattle.object_graph.specs.Graphs.{IsGraph}
+use Rattle.object_graph.specs.declared.parts.Graph.{Graph}
+use Rattle.code_blocks.specs.declared.parts.Code.{Code}
+use Rattle.region_former.specs.declared.table.RegionTable.{RegionTable}
+use Rattle.placement_programme.specs.Plain.{PlainProgramme, PlainChoice}
+use Rattle.placement_programme.specs.Programme.{IsFeasible}
+use Rattle.profile_runner.specs.declared.fault.ProfileFault.{ProfileFault}
+use Rattle.profile_runner.specs.declared.fault.ProfileFault.TheVariants as profile
+use Rattle.relocator.specs.declared.places.Places.{Places}
+use Rattle.relink_core.specs.Choices.{IsDataChoice}
+use Rattle.relink_core.specs.Faults.{IsFaultless, IsFirst}
+use Rattle.relink_core.specs.Making.{AreOfGraph, ArePlacesOf}
+use Rattle.relink_core.specs.Realises.{data_placing}
+use Rattle.relink_core.specs.declared.fault.AnalyseFault.{AnalyseFault}
+use Rattle.relink_core.specs.declared.fault.AnalyseFault.TheVariants as analyse
+use Rattle.relink_core.proofs.StatedLemmas.{stated_choice}
+use Rattle.profile_runner.specs.Counts.{plain_rows}
+use Rattle.profile_runner.proofs.RunLemmas.{moves_steps}
+use Rattle.file_at_home.specs.Laws.{program_in, source_start}
+use Rattle.relinking.specs.Runs.{TellsCounts}
+use Rattle.relinking.specs.StatedRun.{StatesProgramme}
+use Rattle.printed_lines.specs.MovedLines.{moved_lines, start_in}
+use Rattle.relinking.specs.Relink.{TellsRelink, analyse_relink, profile_relink}
+use Rattle.printed_lines.proofs.MovedPlaces.{moved_same}
+use Rattle.relinking.proofs.Counting.{faulted}
+
+-- ---- what is told
+
+pub analysis_tells : (file : List ℕ) (board : Board) (input : List ℕ) (fault : AnalyseFault) → (fault ≡ analyse.Memory) ⊎ IsFirst file board fault
+    → TellsRelink file board input (analyse_relink fault)
+analysis_tells file board input (analyse.Elf part) (inl memory) = absurd (cc)
+analysis_tells file board input (analyse.Elf part) (inr first) = first
+analysis_tells file board input (analyse.Graph part) (inl memory) = absurd (cc)
+analysis_tells file board input (analyse.Graph part) (inr first) = first
+analysis_tells file board input (analyse.PatchTooSmall need have) (inl memory) = absurd (cc)
+analysis_tells file board input (analyse.PatchTooSmall need have) (inr first) = first
+analysis_tells file board input (analyse.Code part) (inl memory) = absurd (cc)
+analysis_tells file board input (analyse.Code part) (inr first) = first
+analysis_tells file board input (analyse.Region part) (inl memory) = absurd (cc)
+analysis_tells file board input (analyse.Region part) (inr first) = first
+analysis_tells file board input analyse.Memory told = tt
+
+-- ---- the run
+
+pub run_tells : (file : List ℕ) (board : Board) (v : PlainView) (g : Graph) (c : Code) (t : RegionTable) (input : List ℕ) (fault : ProfileFault)
+    → v ≡ view_in file → IsFaultless file board → IsGraph (view_in file) board g → TellsCounts v board g c t input (Err fault)
+    → TellsRelink file board input (profile_relink fault)
+run_tells file board v g c t input (profile.AddressFault pc why) same no_fault is_graph told =
+    let (last, meets) = subst (λ (u : PlainView). TellsCounts u board g c t input (Err (profile.AddressFault pc why))) same told in (
+      no_fault,
+      record {
+        graph = g;
+        is_graph = is_graph;
+        last = last;
+        taken = moves_steps (program_in file board g) board.steps (source_start file board g input) last meets.moves meets.run;
+        outcome_is = sym (faulted last.outcome pc why meets.fault);
+      },
+    )
+run_tells file board v g c t input profile.Memory same no_fault is_graph told = tt
+
+-- a feasible choice of the programme that a run states is one of static data
+pub states_data : (v : PlainView) (board : Board) (g : Graph) (c : Code) (t : RegionTable) (input : List ℕ) (p : PlainProgramme) (choice : PlainChoice)
+    → StatesProgramme v board g c t input p → IsFeasible p choice → IsDataChoice board g p choice
+states_data v board g c t input p choice states feasible =
+    subst (λ (q : PlainProgramme). IsDataChoice board g q choice) (sym states.programme_is)
+    (stated_choice board g c t states.moves choice (subst (λ (q : PlainProgramme). IsFeasible q choice) states.programme_is feasible))
+
+-- ---- the lines
+
+-- by a table of places that are those of the objects
+pub lines_of_places : (v : PlainView) (board : Board) (g : Graph) (taken : List ℕ) (places : Places) → AreOfGraph g taken → ArePlacesOf board g taken places
+    → moved_lines v g.objects.items (start_in (plain_rows places.of.items)) taken ≡ moved_lines v g.objects.items (data_placing board g taken).place taken
+lines_of_places v board g taken places listed are =
+    moved_same v g.objects.items (start_in (plain_rows places.of.items)) (data_placing board g taken).place taken
+    (λ k d below. are.exact _ (listed k d below))

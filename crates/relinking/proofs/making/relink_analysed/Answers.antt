@@ -1,0 +1,45 @@
+use Rattle.std.proofs.Common.{subst}
+use Rattle.std.proofs.lemmas.Result.{err_from_is_err_and}
+use Rattle.elf_reader.specs.File.{PlainView, plain_view}
+use Rattle.loaded_code.proofs.WordLemmas.{same_view}
+use Rattle.placement_programme.specs.Views.{plain_programme, plain_choice}
+use Rattle.relinking.specs.StatedRun.{StatesProgramme}
+use Rattle.relinking.proofs.Counting.{no_memory}
+use Rattle.relinking.proofs.Relinking.{states_data}
+use Rattle.relinking.proofs.making.relink_analysed.Goals as goal
+
+pub find_choice-requires : goal.find_choice-requires
+find_choice-requires c = c.requires.1.analysis.lawful.least_nodes
+
+pub returns-in_err-solution-clause-err : goal.returns-in_err-solution-clause-err
+returns-in_err-solution-clause-err c =
+    let q = err_from_is_err_and c.from_residual-in_err-solution.result c.from_residual-in_err-solution.ensures.1 in
+    rw (q.1, q.2) (no_memory (plain_view c.args.analysis.now.view) c.args.board.now c.args.analysis.now.graph c.args.analysis.now.code c.args.analysis.now.regions c.args.input.now)
+
+pub realise-requires-clause-analysis : goal.realise-requires-clause-analysis
+realise-requires-clause-analysis c = (c.requires.0, c.requires.1.analysis)
+
+pub realise-requires-clause-choice : goal.realise-requires-clause-choice
+realise-requires-clause-choice c =
+    let a = c.args.analysis.now in
+    states_data (plain_view a.view) c.args.board.now a.graph a.code a.regions c.args.input.now (plain_programme c.in_ok-programme.programme)
+    (plain_choice c.in_ok-solution.solution.found.choice) c.in_ok-programme.ensures c.in_ok-solution.ensures.feasible
+
+pub returns-in_err-bytes-clause-err : goal.returns-in_err-bytes-clause-err
+returns-in_err-bytes-clause-err c =
+    let q = err_from_is_err_and c.from_residual-in_err-bytes.result c.from_residual-in_err-bytes.ensures.1 in
+    rw (q.1, q.2) (no_memory (plain_view c.args.analysis.now.view) c.args.board.now c.args.analysis.now.graph c.args.analysis.now.code c.args.analysis.now.regions c.args.input.now)
+
+pub returns-clause-ok : goal.returns-clause-ok
+returns-clause-ok c = λ file is.
+    let a = c.args.analysis.now in
+    let board = c.args.board.now in
+    record {
+      states = subst (λ (v : PlainView). StatesProgramme v board a.graph a.code a.regions c.args.input.now (plain_programme c.in_ok-programme.programme))
+          (same_view file a.view is.analysis.is_file) c.in_ok-programme.ensures;
+      result = record {
+        found = c.in_ok-solution.ensures;
+        realises = c.in_ok-bytes.ensures.realises file is.analysis;
+        keeps = c.in_ok-bytes.ensures.keeps file is.analysis;
+      };
+    }

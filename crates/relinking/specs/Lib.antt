@@ -1,0 +1,5 @@
+pub mod Runs
+pub mod StatedRun
+pub mod FoundChoice
+pub mod Relink
+pub mod Report

@@ -1,0 +1,67 @@
+-- What relinking makes of a file that was analysed: a choice of the programme that the file's run states, the file that
+-- realises it, and the choice's certificate.
+use Rattle.std.specs.Prelude.{ℕ, Bool, List}
+use Rattle.elf_reader.specs.File.{view_in}
+use Rattle.board_config.specs.declared.board.Board.{Board}
+use Rattle.object_graph.specs.Graphs.{IsGraph}
+use Rattle.object_graph.specs.declared.parts.Graph.{Graph}
+use Rattle.code_blocks.specs.Blocks.{IsCode}
+use Rattle.code_blocks.specs.declared.parts.Code.{Code}
+use Rattle.object_machine.specs.declared.events.Outcome.TheVariants.{AddressFault}
+use Rattle.region_former.specs.declared.table.RegionTable.{RegionTable}
+use Rattle.placement_programme.specs.Plain.{PlainProgramme, PlainChoice}
+use Rattle.placement_programme.specs.Views.{plain_programme, plain_choice}
+use Rattle.profile_runner.specs.declared.fault.ProfileFault.{ProfileFault}
+use Rattle.profile_runner.specs.declared.fault.ProfileFault.TheVariants as profile
+use Rattle.relink_core.specs.Choices.{taken_names, KeepsMeaning}
+use Rattle.relink_core.specs.Faults.{IsFaultless, IsFirst}
+use Rattle.relink_core.specs.Realises.{Realises}
+use Rattle.relink_core.specs.Regions.{AreRegions}
+use Rattle.relink_core.specs.declared.fault.AnalyseFault.{AnalyseFault}
+use Rattle.relink_core.specs.declared.fault.AnalyseFault.TheVariants as analyse
+use Rattle.relinking.specs.FoundChoice.{is_optimal, IsFound}
+use Rattle.relinking.specs.Runs.{RunsProgram}
+use Rattle.relinking.specs.StatedRun.{StatesProgramme}
+use Rattle.relinking.specs.declared.making.Relinked.{Relinked}
+use Rattle.relinking.specs.declared.making.RelinkFault.{RelinkFault}
+use Rattle.relinking.specs.declared.making.RelinkFault.TheVariants as relink
+
+-- A choice that is found of a programme, with its certificate. The result realises the choice and keeps the file's
+-- meaning, on any input; where nothing is taken it is the file, and only paired runs are spoken of.
+pub record IsResult (file : List ℕ) (board : Board) (g : Graph) (p : PlainProgramme) (choice : PlainChoice) (says_optimal : Bool) (certificate out : List ℕ) : Type 0 where
+  pub found : IsFound p board.nodes choice certificate says_optimal
+  pub realises : Realises file board g (taken_names p choice) out
+  pub keeps : KeepsMeaning (taken_names p choice) file out board
+
+-- the file's run on the input states the programme, by this graph, code and table of regions, and the result is one for it
+pub record RelinksBy (file : List ℕ) (board : Board) (g : Graph) (c : Code) (t : RegionTable) (input : List ℕ) (r : Relinked) : Type 0 where
+  pub states : StatesProgramme (view_in file) board g c t input (plain_programme r.programme)
+  pub result : IsResult file board g (plain_programme r.programme) (plain_choice r.found.choice) (is_optimal r.found.status) r.certificate.items r.bytes.items
+
+-- a file that has no fault is relinked by its own graph, code and regions
+pub record Relinks (file : List ℕ) (board : Board) (input : List ℕ) (r : Relinked) : Type 0 where
+  pub no_fault : IsFaultless file board
+  pub graph : Graph
+  pub is_graph : IsGraph (view_in file) board graph
+  pub code : Code
+  pub is_code : IsCode (view_in file) code
+  pub regions : RegionTable
+  pub are_regions : AreRegions (view_in file) code board regions
+  pub relinks : RelinksBy file board graph code regions input r
+
+-- why a file is not relinked: the first fault of its analysis, or, where that has none, the address fault of its run
+abbrev pub TellsRelink : List ℕ → Board → List ℕ → RelinkFault → Type 0
+TellsRelink file board input (relink.Analyse fault) = IsFirst file board fault
+TellsRelink file board input (relink.Profile (profile.AddressFault pc why)) =
+    IsFaultless file board × RunsProgram file board input (AddressFault pc why)
+TellsRelink file board input (relink.Profile profile.Memory) = ⊥
+TellsRelink file board input relink.Memory = Unit {0}
+
+-- a part's want of memory is that of relinking
+abbrev pub analyse_relink : AnalyseFault → RelinkFault
+analyse_relink analyse.Memory = relink.Memory
+analyse_relink fault = relink.Analyse fault
+
+abbrev pub profile_relink : ProfileFault → RelinkFault
+profile_relink profile.Memory = relink.Memory
+profile_relink fault = relink.Profile fault

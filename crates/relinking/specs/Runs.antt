@@ -1,0 +1,43 @@
+-- The run by which the program of a file is measured, on the machine whose objects have no addresses.
+use Rattle.std.specs.Prelude.{◌≡◌, ℕ, List, length, Result}
+use Rattle.elf_reader.specs.File.{PlainView, view_in}
+use Rattle.board_config.specs.declared.board.Board.{Board}
+use Rattle.object_graph.specs.Graphs.{IsGraph}
+use Rattle.object_graph.specs.declared.parts.Graph.{Graph}
+use Rattle.code_blocks.specs.Blocks.{IsCode}
+use Rattle.code_blocks.specs.Numbers.{starts_of}
+use Rattle.code_blocks.specs.declared.parts.Code.{Code}
+use Rattle.object_machine.specs.Program.{program_of}
+use Rattle.object_machine.specs.State.{SourceState}
+use Rattle.object_machine.specs.Start.{start_of}
+use Rattle.object_machine.specs.Runs.{Steps}
+use Rattle.object_machine.specs.declared.events.Outcome.{Outcome}
+use Rattle.file_at_home.specs.Laws.{program_in, source_start}
+use Rattle.region_former.specs.declared.table.RegionTable.{RegionTable}
+use Rattle.profile_runner.specs.Running.{TellsOfRun}
+use Rattle.profile_runner.specs.declared.counts.Profile.{Profile}
+use Rattle.profile_runner.specs.declared.fault.ProfileFault.{ProfileFault}
+use Rattle.relink_core.specs.Choices.{IsAnalysisOf}
+use Rattle.relink_core.specs.Regions.{AreRegions}
+use Rattle.relink_core.specs.declared.analysis.Analysis.{Analysis}
+
+-- the analysis is that of the file for the board, and has its code and regions
+pub record IsAnalysed (file : List ℕ) (board : Board) (a : Analysis) : Type 0 where
+  pub analysis : IsAnalysisOf file board a
+  pub code : IsCode (view_in file) a.code
+  pub regions : AreRegions (view_in file) a.code board a.regions
+
+-- the program, started on an input, takes the board's steps, or fewer where it ends, and comes to this outcome
+pub record RunsProgram (file : List ℕ) (board : Board) (input : List ℕ) (outcome : Outcome) : Type 0 where
+  pub graph : Graph
+  pub is_graph : IsGraph (view_in file) board graph
+  pub last : SourceState
+  pub taken : Steps (program_in file board graph) board.steps (source_start file board graph input) last
+  pub outcome_is : outcome ≡ last.outcome
+
+-- a profile of the program's run, by a table of regions, or its address fault, or that no memory was left
+abbrev pub TellsCounts : PlainView → Board → Graph → Code → RegionTable → List ℕ → Result Profile ProfileFault → Type 0
+TellsCounts v board g c t input result =
+    (last : SourceState)
+    × TellsOfRun (starts_of c) t.of_block.items t.count (length g.objects.items) (program_of v board g) board.steps
+    (start_of v (program_of v board g) g input) last result

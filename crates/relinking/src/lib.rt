@@ -1,0 +1,13 @@
+//! The whole way from a file to what it is relinked to: the run of its program states a placement programme, the best
+//! choice that is found of it is realised, and a report tells what that saves.
+#![tactic(auto)]
+
+mod finding;
+mod making;
+mod reporting;
+mod stating;
+
+pub use finding::{Solution, find_choice};
+pub use making::{RelinkFault, Relinked, relink, relink_analysed};
+pub use reporting::relink_report;
+pub use stating::{counted, stated_run};

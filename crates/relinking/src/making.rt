@@ -1,0 +1,117 @@
+ghost use Rattle.std.specs.Prelude.{◌≡◌, ℕ, List, Err, IfOk, IfErr};
+ghost use Rattle.elf_reader.specs.File.{plain_view};
+ghost use Rattle.board_config.specs.Board.{IsLawful};
+ghost use Rattle.relinking.specs.Runs.{TellsCounts};
+ghost use Rattle.relinking.specs.Relink.{RelinksBy, Relinks, TellsRelink};
+ghost use Rattle.relinking.specs.Runs.{IsAnalysed};
+
+use crate::finding::find_choice;
+use crate::stating::stated_run;
+use board_config::Board;
+use branch_bound::Found;
+use placement_programme::Programme;
+use profile_runner::ProfileFault;
+use relink_core::{AnalyseFault, Analysis, analyse, realise};
+use std::alloc::Global;
+use thiserror::Error;
+
+/// A file that was relinked.
+#[derive(Drop)]
+pub struct Relinked {
+    /// The result, an ELF file.
+    pub bytes: Vec<u8>,
+    /// What the run of the program states.
+    pub programme: Programme,
+    /// The choice that was found of it.
+    pub found: Found,
+    /// The text of the choice's certificate.
+    pub certificate: Vec<u8>,
+}
+
+/// Why a file is not relinked.
+#[derive(Debug, Drop, Error)]
+pub enum RelinkFault {
+    /// It can't be relinked for the board.
+    #[error("{0}")]
+    Analyse(AnalyseFault),
+    /// Its run meets an address fault.
+    #[error("{0}")]
+    Profile(ProfileFault),
+    /// No memory was left.
+    #[error("out of memory")]
+    Memory,
+}
+
+impl From<AnalyseFault> for RelinkFault {
+    ghost use Rattle.std.specs.Prelude.{◌≡◌};
+    ghost use Rattle.relinking.specs.Relink.{analyse_relink};
+
+    ghost from_gives = { λ fault told. told ≡ analyse_relink fault };
+
+    fn from(fault: AnalyseFault) -> RelinkFault {
+        match fault {
+            AnalyseFault::Memory => RelinkFault::Memory,
+            fault => RelinkFault::Analyse(fault),
+        }
+    }
+}
+
+impl From<ProfileFault> for RelinkFault {
+    ghost use Rattle.std.specs.Prelude.{◌≡◌};
+    ghost use Rattle.relinking.specs.Relink.{profile_relink};
+
+    ghost from_gives = { λ fault told. told ≡ profile_relink fault };
+
+    fn from(fault: ProfileFault) -> RelinkFault {
+        match fault {
+            ProfileFault::Memory => RelinkFault::Memory,
+            fault => RelinkFault::Profile(fault),
+        }
+    }
+}
+
+/// Relinks a file for a board: what its run on the input makes worth while, found with the board's budget of nodes,
+/// stands in the scratchpad. The program is run for the board's steps.
+///
+/// The error is the first fault of the analysis (`Analyse`), or the address fault of the run (`Profile`). `Memory` comes
+/// only where no memory was left.
+pub fn relink(
+    alloc: Global,
+    elf: &[u8],
+    board: &Board,
+    input: &[u8],
+) -> Result<Relinked, RelinkFault>
+    requires lawful { IsLawful board.now }
+    ensures ok { IfOk result (Relinks elf.now board.now input.now) }
+    ensures err { IfErr result (TellsRelink elf.now board.now input.now) }
+{
+    let analysis = analyse(alloc, elf, board)?;
+    match relink_analysed(alloc, &analysis, board, input) {
+        Ok(relinked) => Ok(relinked),
+        Err(fault) => Err(RelinkFault::from(fault)),
+    }
+}
+
+/// The same of a file that is analysed.
+///
+/// The error is the address fault of the run. `Memory` comes only where no memory was left.
+pub fn relink_analysed(
+    alloc: Global,
+    analysis: &Analysis<'_>,
+    board: &Board,
+    input: &[u8],
+) -> Result<Relinked, ProfileFault>
+    requires { (file : List ℕ) × IsAnalysed file board.now analysis.now }
+    ensures ok { IfOk result (λ r. (file : List ℕ) → IsAnalysed file board.now analysis.now → RelinksBy file board.now analysis.now.graph analysis.now.code analysis.now.regions input.now r) }
+    ensures err { IfErr result (λ fault. TellsCounts (plain_view analysis.now.view) board.now analysis.now.graph analysis.now.code analysis.now.regions input.now (Err fault)) }
+{
+    let programme = stated_run(alloc, analysis, board, input)?;
+    let solution = find_choice(alloc, &programme, board.nodes)?;
+    let bytes = realise(alloc, analysis, board, &programme, &solution.found.choice)?;
+    Ok(Relinked {
+        bytes,
+        programme,
+        found: solution.found,
+        certificate: solution.certificate,
+    })
+}

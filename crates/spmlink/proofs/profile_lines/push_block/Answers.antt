@@ -1,6 +1,0 @@
-use Rattle.std.proofs.Common.{rules}
-use Rattle.spmlink.proofs.Lines.{line_started}
-use Rattle.spmlink.proofs.profile_lines.push_block.Goals as goal
-
-pub returns : goal.returns
-returns c = rw (line_started c.args.start c.args.arrivals c.if-arrivals-eq0.false) (search rules)

@@ -1,7 +1,0 @@
-use Rattle.std.proofs.Common.{◌≡◌, ◌++◌}
-use Rattle.code_blocks.specs.Numbers.{starts_of}
-use Rattle.spmlink.specs.ProfileLines.{lines_below, block_line}
-use Rattle.spmlink.proofs.profile_lines.push_blocks.Given as goal
-
-abbrev pub invariant-loop-k : goal.invariant-loop-k
-invariant-loop-k l = l.text.items ≡ l.initial.text.items ++ lines_below (block_line (starts_of l.code) l.profile.arrivals.items) l.k

@@ -1,5 +1,0 @@
-use Rattle.placement_programme.specs.Views.{plain_choice}
-use Rattle.spmlink.proofs.report_lines.choice_report.Goals as goal
-
-pub energy-after-requires-clause-gain : goal.energy-after-requires-clause-gain
-energy-after-requires-clause-gain c = c.requires.within (plain_choice c.args.choice.now) c.requires.feasible
