@@ -39,30 +39,29 @@ fn plain_file(alloc: Global, words: &[u32]) -> Result<Vec<u8>, AllocError> {
     build(alloc, &spec)
 }
 
+/// Whether a file is handed on as it is, with this report of three lines and a certificate for it.
+fn hands_on(alloc: Global, file: &[u8], board: &[u8], report: &str) -> Result<bool, Fail> {
+    let answer = Call::relink(file, board).answer(alloc)?;
+    let out = answer.out.ok_or("no file")?;
+    let cert = answer.cert.ok_or("no certificate")?;
+    let checked = Call::check(file, board, &cert).answer(alloc)?;
+    Ok(
+        answer.printed.as_slice() == report.as_bytes()
+            && out.as_slice() == file
+            && checked.printed.as_slice() == report.as_bytes(),
+    )
+}
+
 // A program that traps, the second, is relinked as any other.
 #[test]
 fn hands_a_file_of_code_on(rt: HostRuntime) -> Result<(), Fail> {
     let alloc = rt.alloc();
     let exits = plain_file(alloc, &[0x0070_0513, 0x05d0_0893, 0x0000_0073])?;
     let traps = plain_file(alloc, &[0x0010_0073])?;
-    let cases: [(&[u8], &[u8], &str); 3] = [
-        (&exits, b"", "optimal\nbefore 30\nafter 30\n"),
-        (&traps, b"", "optimal\nbefore 10\nafter 10\n"),
-        (
-            &exits,
-            b"nodes = 7\nsteps = 2",
-            "optimal\nbefore 20\nafter 20\n",
-        ),
-    ];
-    for (file, board, report) in cases {
-        let answer = Call::relink(file, board).answer(alloc)?;
-        assert_eq!(rt; answer.printed.as_slice(), report.as_bytes());
-        assert_eq!(rt; answer.status, 0);
-        assert_eq!(rt; answer.out.ok_or("no file")?.as_slice(), file);
-        let cert = answer.cert.ok_or("no certificate")?;
-        let checked = Call::check(file, board, &cert).answer(alloc)?;
-        assert_eq!(rt; checked.printed.as_slice(), report.as_bytes());
-    }
+    let few_steps = b"nodes = 7\nsteps = 2";
+    assert!(rt; hands_on(alloc, &exits, b"", "optimal\nbefore 30\nafter 30\n")?);
+    assert!(rt; hands_on(alloc, &traps, b"", "optimal\nbefore 10\nafter 10\n")?);
+    assert!(rt; hands_on(alloc, &exits, few_steps, "optimal\nbefore 20\nafter 20\n")?);
     Ok(())
 }
 
@@ -133,6 +132,14 @@ fn three_bytes(alloc: Global) -> Result<Vec<u8>, AllocError> {
 fn place_of(file: &[u8], word: u32) -> Option<usize> {
     file.windows(4)
         .position(|bytes| bytes == word.to_le_bytes().as_slice())
+}
+
+/// Whether a word stands at a place of a file.
+fn has_word(file: &[u8], at: usize, word: u32) -> bool {
+    match file.get(at..) {
+        Some(rest) => rest.starts_with(word.to_le_bytes().as_slice()),
+        None => false,
+    }
 }
 
 /// Whether a file is relinked for a scratchpad with this report, of three lines and one for each object; the result does
@@ -266,7 +273,7 @@ fn patches_the_words_of_addresses(rt: HostRuntime) -> Result<(), Fail> {
             .ok_or("no file")?;
         for (word, new) in before.iter().zip(after.iter()) {
             let at = place_of(file, *word).ok_or("no such word")?;
-            assert_eq!(rt; &out[at..at + 4], new.to_le_bytes().as_slice());
+            assert!(rt; has_word(&out, at, *new));
         }
     }
     Ok(())
@@ -278,24 +285,12 @@ fn hands_on_what_cannot_move(rt: HostRuntime) -> Result<(), Fail> {
     let alloc = rt.alloc();
     let sums = with_table(alloc, &SUMS, &ADDRESS, 3)?;
     let clears = clearing_file(alloc)?;
-    let cases: [(&[u8], &str, &str); 2] = [
-        (
-            &sums,
-            "0x01000000, 240",
-            "optimal\nbefore 326040\nafter 326040\n",
-        ),
-        (
-            &clears,
-            "0x01000000, 256",
-            "optimal\nbefore 230\nafter 230\n",
-        ),
-    ];
-    for (file, spm, report) in cases {
-        let board = board_text(alloc, spm)?;
-        let answer = Call::relink(file, board.as_bytes()).answer(alloc)?;
-        assert_eq!(rt; answer.printed.as_slice(), report.as_bytes());
-        assert_eq!(rt; answer.out.ok_or("no file")?.as_slice(), file);
-    }
+    let small = board_text(alloc, "0x01000000, 240")?;
+    let fits = board_text(alloc, "0x01000000, 256")?;
+    let whole = "optimal\nbefore 326040\nafter 326040\n";
+    let cleared = "optimal\nbefore 230\nafter 230\n";
+    assert!(rt; hands_on(alloc, &sums, small.as_bytes(), whole)?);
+    assert!(rt; hands_on(alloc, &clears, fits.as_bytes(), cleared)?);
     Ok(())
 }
 
