@@ -3,42 +3,7 @@
 //! writes and checks Intel HEX.
 #![tactic(auto)]
 
-#[cfg(test)]
-mod calls;
-mod check_file;
-#[cfg(test)]
-mod check_tests;
-#[cfg(test)]
-mod clap_agrees;
-mod commands;
-mod compare_files;
-mod delivery;
-mod faults;
-#[cfg(test)]
-mod file_tests;
-mod hex_files;
-#[cfg(test)]
-mod measure_tests;
-mod outcomes;
-mod performing;
-mod printing;
-mod profile_file;
-#[cfg(test)]
-mod programs;
-mod reading;
-mod refused;
-mod relink_file;
-#[cfg(test)]
-mod relink_tests;
-mod results;
-mod run_file;
-mod show_file;
-#[cfg(test)]
-mod show_tests;
-#[cfg(test)]
-mod tests;
-mod top;
-
+use command_line::run;
 use shelf_io::{DirShelf, OutSink};
 use std::env;
 use std::io::{self, ErrorKind};
@@ -80,7 +45,7 @@ fn main(rt: HostRuntime) -> ExitCode {
     };
     let mut shelf = DirShelf::new(&rt, rt.alloc());
     let mut out = OutSink::new(rt.stdout());
-    let status = top::run(rt.alloc(), &words, &mut shelf, &mut out);
+    let status = run(rt.alloc(), &words, &mut shelf, &mut out);
     if status == 1 {
         let _ = rt.eprint(USAGE);
     }

@@ -1,0 +1,130 @@
+-- A certificate for the programme that a run states: what is told of it.
+use Rattle.std.proofs.Common.{◌≡◌, inl, inr, ℕ, Bool, true, false, List, None, Ok, Err, refl, sym, subst}
+use Rattle.placement_programme.specs.Plain.{PlainProgramme, PlainChoice}
+use Rattle.placement_programme.specs.Programme.{IsFeasible}
+use Rattle.elf_reader.specs.File.{PlainView, view_in}
+use Rattle.board_config.specs.declared.board.Board.{Board}
+use Rattle.object_graph.specs.Graphs.{IsGraph}
+use Rattle.object_graph.specs.declared.parts.Graph.{Graph}
+use Rattle.code_blocks.specs.Blocks.{IsCode}
+use Rattle.code_blocks.specs.declared.parts.Code.{Code}
+use Rattle.certificate_checker.specs.Nodes.{PlainCertificate}
+use Rattle.certificate_checker.specs.Reading.{certificate_of}
+use Rattle.certificate_checker.specs.Spelling.{AreBytes}
+use Rattle.certificate_checker.specs.Shows.{PlainVerdict, optimal, best_found, bad_choice, wrong, Answers}
+use Rattle.certificate_checker.specs.Rooms.{KeepsChoice, BodyAnswers}
+use Rattle.certificate_checker.specs.Views.{plain_verdict}
+use Rattle.certificate_checker.specs.declared.verdict.Verdict.{Verdict}
+use Rattle.certificate_checker.specs.declared.fault.CertFault.{CertFault}
+use Rattle.certificate_checker.specs.declared.fault.CertFault.TheVariants as cert
+use Rattle.certificate_checker.proofs.Least.{shown_is_least}
+use Rattle.certificate_checker.proofs.TextLaws.{certificate_takes}
+use Rattle.command_line.specs.FaultLine.{parts_of, cert_refusal}
+use Rattle.command_line.specs.Analysed.{Accepts}
+use Rattle.command_line.specs.ProgramRun.{RefusesProfiled}
+use Rattle.region_former.specs.declared.table.RegionTable.{RegionTable}
+use Rattle.relink_core.specs.Regions.{AreRegions}
+use Rattle.relinking.specs.StatedRun.{StatesProgramme}
+use Rattle.printed_lines.specs.ReportText.{IsReport}
+use Rattle.command_line.specs.CheckFile.{StatesOf, answer_of, ReportsText, told_of, TellsText, unspelled, answered, of_run, of_certificate, RefusesChecked, RefusesText, MayReport, ReportsAnswer, RefusesAnswer}
+use Rattle.command_line.specs.declared.faults.Refusal.{Refusal}
+
+-- ---- an answer
+
+pub may_report : (p : PlainProgramme) (kept : PlainChoice) (v : PlainVerdict) (c : PlainCertificate)
+    → Answers p c v → KeepsChoice c.choice kept v → MayReport p kept v
+may_report p kept optimal c answers same = subst (IsFeasible p) (sym same) answers.1.accepted.feasible
+may_report p kept best_found c answers same = subst (IsFeasible p) (sym same) answers.0.1.feasible
+may_report p kept bad_choice c answers same = tt
+may_report p kept (wrong side node depth) c answers same = tt
+
+module _ (p : PlainProgramme) (nodes : ℕ) (text : List ℕ) (kept : PlainChoice) (all : AreBytes text) where
+  reports : (v : PlainVerdict) (c : PlainCertificate) (report : List ℕ) → certificate_of text ≡ Ok c → Answers p c v
+      → KeepsChoice c.choice kept v → ReportsAnswer p nodes kept v report → ReportsText p nodes text report
+  reports optimal c report read answers same made =
+      record {
+        certificate = c;
+        spells = certificate_takes text c all read;
+        says_optimal = true;
+        answers = answers;
+        least = λ e other feasible. (shown_is_least p c other answers feasible).1;
+        is_report = subst (λ (x : PlainChoice). IsReport p nodes x true report) same made;
+      }
+  reports best_found c report read answers same made =
+      record {
+        certificate = c;
+        spells = certificate_takes text c all read;
+        says_optimal = false;
+        answers = answers;
+        least = λ e. absurd (cc);
+        is_report = subst (λ (x : PlainChoice). IsReport p nodes x false report) same made;
+      }
+  reports bad_choice c report read answers same made = absurd made
+  reports (wrong side node depth) c report read answers same made = absurd made
+
+  -- a text that is answered has its report
+  pub text_reported : (v : Verdict) (report : List ℕ) → BodyAnswers p kept (Ok v) (certificate_of text)
+      → ReportsAnswer p nodes kept (plain_verdict v) report → ReportsText p nodes text report
+  text_reported v report body made =
+      let (c, (read, answers, same)) = body in reports (plain_verdict v) c report read answers same made
+
+  -- and one that is refused for its answer tells that
+  pub text_refused : (v : Verdict) (fault : Refusal) → BodyAnswers p kept (Ok v) (certificate_of text)
+      → RefusesAnswer (plain_verdict v) fault → RefusesText p text fault
+  text_refused v fault body (inl memory) = inl memory
+  text_refused v fault body (inr told) =
+      let (c, (read, answers, same)) = body in inr (answered c (plain_verdict v) (certificate_takes text c all read) answers (sym told))
+
+pub may_report_read : (p : PlainProgramme) (text : List ℕ) (kept : PlainChoice) (v : Verdict) → BodyAnswers p kept (Ok v) (certificate_of text)
+    → MayReport p kept (plain_verdict v)
+may_report_read p text kept v body =
+    let (c, (read, answers, same)) = body in may_report p kept (plain_verdict v) c answers same
+
+-- a text that spells no certificate
+pub unspelled_refused : (p : PlainProgramme) (text : List ℕ) (fault : CertFault) → certificate_of text ≡ Err fault
+    → RefusesText p text (cert_refusal fault)
+unspelled_refused p text (cert.BadHead at) read = inr (unspelled (cert.BadHead at) read refl)
+unspelled_refused p text (cert.Truncated at) read = inr (unspelled (cert.Truncated at) read refl)
+unspelled_refused p text (cert.BadNode at) read = inr (unspelled (cert.BadNode at) read refl)
+unspelled_refused p text (cert.TooDeep at) read = inr (unspelled (cert.TooDeep at) read refl)
+unspelled_refused p text (cert.Trailing at) read = inr (unspelled (cert.Trailing at) read refl)
+unspelled_refused p text cert.Memory read = inl refl
+
+-- ---- the command
+
+none_told : (says : Bool) → None ≡ told_of (answer_of says)
+none_told true = refl
+none_told false = refl
+
+-- of a text that has a report nothing is told
+pub nothing_told : (p : PlainProgramme) (nodes : ℕ) (text report : List ℕ) → ReportsText p nodes text report → TellsText p text None
+nothing_told p nodes text report made =
+    answered made.certificate (answer_of made.says_optimal) made.spells made.answers (none_told made.says_optimal)
+
+-- a fault before the text
+pub run_refused_first : (board_text file input text : List ℕ) (fault : Refusal) → RefusesProfiled board_text file input fault
+    → RefusesChecked board_text file input text fault
+run_refused_first board_text file input text fault (inl memory) = inl memory
+run_refused_first board_text file input text fault (inr told) = inr (of_run (parts_of fault) told refl)
+
+-- a fault of the text
+pub certificate_told : (board_text file input text : List ℕ) (board : Board) (p : PlainProgramme) (fault : Refusal)
+    → Accepts board_text file board → StatesOf file board input p → RefusesText p text fault → RefusesChecked board_text file input text fault
+certificate_told board_text file input text board p fault accepts states (inl memory) = inl memory
+certificate_told board_text file input text board p fault accepts states (inr told) = inr (of_certificate board p accepts states told)
+
+-- what a view states, its file states
+pub states_of : (file : List ℕ) (board : Board) (input : List ℕ) (p : PlainProgramme) (v : PlainView) (g : Graph) (c : Code) (t : RegionTable)
+    → v ≡ view_in file → IsGraph (view_in file) board g → IsCode (view_in file) c → AreRegions (view_in file) c board t
+    → StatesProgramme v board g c t input p
+    → StatesOf file board input p
+states_of file board input p v g c t same is_graph is_code are_regions states =
+    record {
+      graph = g;
+      is_graph = is_graph;
+      code = c;
+      is_code = is_code;
+      regions = t;
+      are_regions = are_regions;
+      states = subst (λ (u : PlainView). StatesProgramme u board g c t input p) same states;
+    }

@@ -1,0 +1,99 @@
+-- A file and the file that it was relinked to, compared.
+use Rattle.std.proofs.Common.{◌≡◌, ◌⊎◌, inl, inr, ℕ, List, Some, None, refl, sym, subst}
+use Rattle.elf_reader.specs.File.{PlainView, view_in}
+use Rattle.elf_reader.specs.Faults.{first_fault}
+use Rattle.elf_reader.specs.declared.fault.ElfFault.{ElfFault}
+use Rattle.elf_reader.specs.declared.fault.ElfFault.TheVariants as elf
+use Rattle.board_config.specs.Board.{mapped_ranges}
+use Rattle.board_config.specs.declared.board.Board.{Board}
+use Rattle.flat_machine.specs.State.{State}
+use Rattle.flat_machine.specs.Start as flat_start
+use Rattle.flat_machine.specs.declared.events.FlatOutcome.{FlatOutcome}
+use Rattle.object_graph.specs.Graphs.{IsGraph}
+use Rattle.object_graph.specs.declared.parts.Graph.{Graph}
+use Rattle.object_machine.specs.declared.events.Outcome.{Outcome}
+use Rattle.object_machine.specs.declared.events.Outcome.TheVariants.{GoesOn, Exited, Trapped, AddressFault}
+use Rattle.object_machine.specs.Program.{Program, program_of}
+use Rattle.object_machine.specs.State.{SourceState}
+use Rattle.object_machine.specs.Start.{start_of}
+use Rattle.file_at_home.specs.Laws.{program_in, source_start}
+use Rattle.compare_runner.specs.Comparing.{Judges, Tells, JudgesRun, Compares}
+use Rattle.compare_runner.specs.declared.comparing.Comparison.{Comparison}
+use Rattle.compare_runner.specs.declared.comparing.Comparison.TheVariants.{Same, Differs, SourceFault}
+use Rattle.command_line.specs.FaultLine.{elf_refusal}
+use Rattle.command_line.specs.Analysed.{Accepts}
+use Rattle.printed_lines.specs.Endings.{IsAddressFault}
+use Rattle.command_line.specs.CompareFiles.{Compared, ComparesTo, HasEnding, AnswersComparison, RefusesComparison, RefusesCompared, of_relinked, of_comparison}
+use Rattle.command_line.specs.declared.faults.Refusal.{Refusal}
+use Rattle.command_line.specs.declared.faults.Refusal.TheVariants as refusal
+
+-- the comparison of two views is that of their files
+pub compared_files : (file relinked : List ℕ) (board : Board) (g : Graph) (input : List ℕ) (c : Comparison) (v w : PlainView)
+    → v ≡ view_in file → w ≡ view_in relinked → IsGraph (view_in file) board g
+    → Compares (program_of v board g) board board.steps (start_of v (program_of v board g) g input) (flat_start.start_of w.entry w.segments (mapped_ranges board) input) c
+    → Compared file relinked board input c
+compared_files file relinked board g input c v w same_file same_relinked is_graph compares =
+    record {
+      graph = g;
+      is_graph = is_graph;
+      compares =
+          subst (λ (u : PlainView). Compares (program_in file board g) board board.steps (source_start file board g input) (flat_start.start_of u.entry u.segments (mapped_ranges board) input) c) same_relinked
+          (subst (λ (u : PlainView). Compares (program_of u board g) board board.steps (start_of u (program_of u board g) g input) (flat_start.start_of w.entry w.segments (mapped_ranges board) input) c) same_file compares);
+    }
+
+-- ---- where both do the same, it is no address fault that they do
+
+judged_ending : (o : Outcome) (xs ys : List ℕ) (other : FlatOutcome) (told : Outcome) → Judges o xs other ys (Same told) → IsAddressFault told → ⊥
+judged_ending GoesOn xs ys other told j fault = subst IsAddressFault j.0 fault
+judged_ending (Exited code) xs ys other told j fault = subst IsAddressFault j.0 fault
+judged_ending (Trapped pc) xs ys other told j fault = subst IsAddressFault j.0 fault
+judged_ending (AddressFault pc why) xs ys other told j fault = j.1
+
+run_ending : (board : Board) (k : ℕ) (s : SourceState) (start : State) (told : Outcome) → JudgesRun board k s start (Same told) → IsAddressFault told → ⊥
+run_ending board k s start told run fault =
+    let (m, (t, (ends, judges))) = run in judged_ending s.outcome s.output t.output t.outcome told judges fault
+
+told_ending : (o : Outcome) (board : Board) (k : ℕ) (s : SourceState) (start : State) (told : Outcome) → Tells o (JudgesRun board k s start) (Same told) → IsAddressFault told → ⊥
+told_ending GoesOn board k s start told run fault = run_ending board k s start told run fault
+told_ending (Exited code) board k s start told run fault = run_ending board k s start told run fault
+told_ending (Trapped pc) board k s start told run fault = run_ending board k s start told run fault
+told_ending (AddressFault pc why) board k s start told run fault = absurd (cc)
+
+pub has_ending : (p : Program) (board : Board) (n : ℕ) (start : SourceState) (other : State) (c : Comparison) → Compares p board n start other c → HasEnding c
+has_ending p board n start other (Same told) compares =
+    let (k, (s, (ends, tells))) = compares in λ fault. told_ending s.outcome board k s other told tells fault
+has_ending p board n start other (Differs at) compares = tt
+has_ending p board n start other (SourceFault pc why) compares = tt
+
+-- ---- what is told
+
+module _ (board_text file relinked input : List ℕ) (board : Board) (accepts : Accepts board_text file board) where
+  relinked_told : (fault : ElfFault) → (fault ≡ elf.Memory) ⊎ (first_fault relinked ≡ Some fault)
+      → (fault ≡ elf.Memory → ⊥) → RefusesCompared board_text file relinked input (refusal.Elf fault)
+  relinked_told fault (inl memory) other = absurd (other memory)
+  relinked_told fault (inr first) other = inr (of_relinked board fault accepts first refl)
+
+  pub relinked_refused : (fault : ElfFault) → (fault ≡ elf.Memory) ⊎ (first_fault relinked ≡ Some fault)
+      → RefusesCompared board_text file relinked input (elf_refusal fault)
+  relinked_refused (elf.TooShort need have) told = relinked_told (elf.TooShort need have) told (λ e. cc)
+  relinked_refused (elf.NotElf at) told = relinked_told (elf.NotElf at) told (λ e. cc)
+  relinked_refused (elf.WrongKind field value) told = relinked_told (elf.WrongKind field value) told (λ e. cc)
+  relinked_refused (elf.OutOfFile table index) told = relinked_told (elf.OutOfFile table index) told (λ e. cc)
+  relinked_refused (elf.BadIndex table index) told = relinked_told (elf.BadIndex table index) told (λ e. cc)
+  relinked_refused (elf.Unsupported index kind) told = relinked_told (elf.Unsupported index kind) told (λ e. cc)
+  relinked_refused (elf.OverLimit what count) told = relinked_told (elf.OverLimit what count) told (λ e. cc)
+  relinked_refused (elf.Compressed section) told = relinked_told (elf.Compressed section) told (λ e. cc)
+  relinked_refused (elf.Overlap first second) told = relinked_told (elf.Overlap first second) told (λ e. cc)
+  relinked_refused elf.Memory told = inl refl
+
+  pub comparison_refused : (c : Comparison) (fault : Refusal) → first_fault relinked ≡ None → Compared file relinked board input c
+      → RefusesComparison c fault → RefusesCompared board_text file relinked input fault
+  comparison_refused c fault sound compared (inl memory) = inl memory
+  comparison_refused c fault sound compared (inr told) = inr (of_comparison board c accepts sound compared (sym told))
+
+  pub comparison_answered : (c : Comparison) (text : List ℕ) → first_fault relinked ≡ None → Compared file relinked board input c
+      → AnswersComparison c text → ComparesTo file relinked board_text input text
+  comparison_answered (Same outcome) text sound compared answers =
+      record { board = board; accepts = accepts; sound = sound; outcome = outcome; compared = compared; text_is = answers }
+  comparison_answered (Differs at) text sound compared answers = absurd answers
+  comparison_answered (SourceFault pc why) text sound compared answers = absurd answers

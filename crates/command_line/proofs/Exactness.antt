@@ -1,0 +1,206 @@
+-- Each status comes exactly where the inputs call for it.
+use Rattle.std.proofs.Common.{◌≡◌, inl, inr, ℕ, List, [], ◌∷◌, ◌++◌, length, Option, Some, None, refl, subst, sym, ap, ◌∙◌, arith, length-append}
+use Rattle.shelf_io.specs.Counts.{Rose}
+use Rattle.shelf_io.specs.Shelf.{ShelfView}
+use Rattle.shelf_io.specs.Sink.{SinkView}
+use Rattle.elf_reader.specs.File.{entry_of, load_segments}
+use Rattle.hex_image.specs.Runs.{file_map}
+use Rattle.hex_image.specs.Reading as hex
+use Rattle.command_line.specs.Command.{PlainCommand, IsCommand, Named, reads}
+use Rattle.command_line.specs.FaultLine.{Parts, status_of, fault_line, parts_of}
+use Rattle.command_line.specs.Delivery.{LosesOne}
+use Rattle.command_line.specs.Refused.{PutsLine, refused_status, refused_line}
+use Rattle.command_line.specs.Reading.{HoldsAll}
+use Rattle.compare_runner.specs.declared.comparing.Comparison.TheVariants.{Same}
+use Rattle.command_line.specs.ProgramRun.{of_none}
+use Rattle.command_line.specs.ShowFile as show
+use Rattle.command_line.specs.CompareFiles.{of_comparison}
+use Rattle.command_line.specs.CheckFile.{of_certificate}
+use Rattle.command_line.specs.Meaning.{Compares, IsFirst, run_first, relink_first, profile_first, compare_first, check_first, gen_first, hex_first, check_difference, Yields, runs, relinks, profiles, compares, checks, generates, writes_hex, agrees, show_first, shows}
+use Rattle.command_line.specs.Answers.{IsDone, Cause, HasCause, EndsRefused, InputFails, AnswersInputs, AnswersUsage, AnswersCommand, TellsAll}
+use Rattle.command_line.specs.declared.refused.Refused.{Refused}
+use Rattle.command_line.specs.declared.faults.Refusal.{Refusal}
+use Rattle.command_line.specs.declared.faults.Refusal.TheVariants as refusal
+use Rattle.command_line.proofs.OneCommand.{one_command, one_reading}
+use Rattle.command_line.proofs.Statuses.{status_positive}
+use Rattle.command_line.proofs.Profiling.{profile_runs}
+use Rattle.command_line.proofs.Stating.{relinked_runs}
+use Rattle.command_line.proofs.Certificates.{nothing_told}
+
+-- ---- what the inputs are
+
+compares_same : (file text : List ℕ)
+    → hex.Spells text (file_map (load_segments file)) (Some (entry_of file)) → Compares file text None
+compares_same file text spelled =
+    record { given = file_map (load_segments file); start = Some (entry_of file); spelled = spelled; first = (λ address. refl, refl) }
+
+-- inputs of which a command yields something have no fault
+yields_first : (command : PlainCommand) (inputs outputs : List (List ℕ)) (text : List ℕ)
+    → Yields command inputs outputs text → IsFirst command inputs None
+yields_first command inputs outputs text (runs f b i o file board input output is are outs ran) =
+    run_first f b i o file board input is are (sym ran.sound)
+yields_first command inputs outputs text (relinks f b i o c file board input certificate out is are outs made) =
+    relink_first f b i o c file board input is are
+    (of_none made.board made.states.last.outcome made.accepts (relinked_runs file board input certificate out text made) made.states.no_address_fault refl)
+yields_first command inputs outputs text (profiles f b i file board input is are outs made) =
+    profile_first f b i file board input is are
+    (of_none made.board made.last.outcome made.accepts (profile_runs file board input text made) made.no_address_fault refl)
+yields_first command inputs outputs text (compares f r b i file relinked board input is are outs made) =
+    compare_first f r b i file relinked board input is are
+    (of_comparison made.board (Same made.outcome) made.accepts made.sound made.compared refl)
+yields_first command inputs outputs text (checks f b i c file board input cert is are outs made) =
+    check_first f b i c file board input cert is are
+    (of_certificate made.board made.programme made.accepts made.states (nothing_told made.programme made.board.nodes cert text made.reports))
+yields_first command inputs outputs text (shows f b file board is are outs made) =
+    show_first f b file board is are (show.of_none made.board made.accepts refl)
+yields_first command inputs outputs text (generates s k o is are outs printed) = gen_first s k o is are refl
+yields_first command inputs outputs text (writes_hex f o file is are none outs printed) = hex_first f o file is are (sym none)
+yields_first command inputs outputs text (agrees f h file hex_text is are none spelled outs printed) =
+    check_difference f h file hex_text None is are none (compares_same file hex_text spelled) refl
+
+-- a first fault of what a command read is that of what the shelf tells
+first_told : (words : List (List ℕ)) (shelf : ShelfView) (one other : PlainCommand) (read told : List (List ℕ)) (first : Option Parts)
+    → IsCommand words one → IsCommand words other → HoldsAll shelf (reads one) read → TellsAll shelf (reads other) told
+    → IsFirst one read first → IsFirst other told first
+first_told words shelf one other read told first is is' h t f =
+    let same = one_command words one other is is' in
+    let h' = subst (λ (c : PlainCommand). HoldsAll shelf (reads c) read) same h in
+    let same_read = one_reading shelf (reads other) read told h' t in
+    subst (λ (c : PlainCommand). IsFirst c told first) same (subst (λ (r : List (List ℕ)). IsFirst one r first) same_read f)
+
+-- ---- nothing failed
+
+longer : {A : Type 0} (xs : List A) (x : A) → xs ++ x ∷ [] ≡ xs → ⊥
+longer xs x e = let lengths = ap length e in omega (arith, length-append xs (x ∷ []), lengths)
+
+-- a write that failed is in the list of failed calls
+lost_logs : (names : List Named) (outputs : List (List ℕ)) (place : ℕ) (old new : ShelfView)
+    → LosesOne names outputs place old new → new.failed ≡ old.failed → ⊥
+lost_logs [] outputs place old new l same = l
+lost_logs (w ∷ names) [] place old new l same = l
+lost_logs (w ∷ names) (x ∷ outputs) place old new (inl l) same =
+    longer old.failed _ (sym (ap (λ (s : ShelfView). s.failed) l.1.logged) ∙ same)
+lost_logs (w ∷ names) (x ∷ outputs) place old new (inr l) same =
+    let (mid, set, later) = l in
+    let kept = ap (λ (s : ShelfView). s.failed) set.others in
+    lost_logs names outputs place mid new later (same ∙ sym kept)
+
+rose_more : (a b c : ℕ) → Rose a b → Rose b c → Rose a c
+rose_more a b c (inl less) (inl more) = inl (omega arith)
+rose_more a b c (inl less) (inr last) = inl (omega arith)
+rose_more a b c (inr last) (inl more) = inl (omega arith)
+rose_more a b c (inr first) (inr last) = inr (first.0, last.1)
+
+rose_on : (fault : Refusal) (sink mid sink' : SinkView)
+    → Rose sink.faults mid.faults → PutsLine (fault_line fault) mid sink' → Rose sink.faults sink'.faults
+rose_on fault sink mid sink' rose (inl all) = subst (Rose sink.faults) (sym all.faults) rose
+rose_on fault sink mid sink' rose (inr some) = rose_more _ _ _ rose some.rose
+
+-- ---- a command that was done
+
+pub done_usage : (words : List (List ℕ)) (old new : ShelfView) (sink sink' : SinkView)
+    → IsDone words old new sink sink' → AnswersUsage 0 words
+done_usage words old new sink sink' d none =
+    absurd (none d.delivers.produces.command d.delivers.produces.is_command)
+
+pub done_command : (words : List (List ℕ)) (old new : ShelfView) (sink sink' : SinkView)
+    → IsDone words old new sink sink' → AnswersCommand 0 words old new sink sink'
+done_command words old new sink sink' d command inputs is told nothing =
+    let p = d.delivers.produces in
+    let first = yields_first p.command p.of_shelf.inputs d.delivers.outputs d.text p.of_shelf.yields in
+    inl (record {
+      told = None;
+      first = first_told words old p.command command p.of_shelf.inputs inputs None p.is_command is p.of_shelf.holds told first;
+      status_is = refl;
+    })
+
+-- ---- a command that was refused
+
+refused_usage : (fault : Refusal) (status : ℕ) (words : List (List ℕ)) (old new : ShelfView) (sink mid : SinkView)
+    → status ≡ status_of fault → Cause fault words old new sink mid → AnswersUsage status words
+refused_usage refusal.Usage status words old new sink mid e c none = inl e
+refused_usage (refusal.Read place) status words old new sink mid e c none = absurd (none c.0.command c.0.is_command)
+refused_usage (refusal.Write place) status words old new sink mid e (inl x) none =
+    absurd (none x.0.produces.command x.0.produces.is_command)
+refused_usage (refusal.Write place) status words old new sink mid e (inr x) none =
+    absurd (none x.delivers.produces.command x.delivers.produces.is_command)
+refused_usage (refusal.Board fault) status words old new sink mid e c none = absurd (none c.0.command c.0.is_command)
+refused_usage (refusal.Elf fault) status words old new sink mid e c none = absurd (none c.0.command c.0.is_command)
+refused_usage (refusal.Analyse fault) status words old new sink mid e c none = absurd (none c.0.command c.0.is_command)
+refused_usage (refusal.AddressFault pc why) status words old new sink mid e c none = absurd (none c.0.command c.0.is_command)
+refused_usage (refusal.Certificate fault) status words old new sink mid e c none = absurd (none c.0.command c.0.is_command)
+refused_usage refusal.BadChoice status words old new sink mid e c none = absurd (none c.0.command c.0.is_command)
+refused_usage (refusal.WrongTree side node) status words old new sink mid e c none = absurd (none c.0.command c.0.is_command)
+refused_usage (refusal.Hex fault) status words old new sink mid e c none = absurd (none c.0.command c.0.is_command)
+refused_usage (refusal.Differs at) status words old new sink mid e c none = absurd (none c.0.command c.0.is_command)
+refused_usage (refusal.SourceFault pc why) status words old new sink mid e c none = absurd (none c.0.command c.0.is_command)
+refused_usage refusal.Memory status words old new sink mid e c none = inr e
+
+input_answers : (fault : Refusal) (status : ℕ) (words : List (List ℕ)) (old new : ShelfView)
+    → status ≡ status_of fault → InputFails words fault old new
+    → (command : PlainCommand) (inputs : List (List ℕ)) → IsCommand words command → TellsAll old (reads command) inputs
+    → AnswersInputs status command inputs
+input_answers fault status words old new e f command inputs is told =
+    record {
+      told = Some (parts_of fault);
+      first = first_told words old f.command command f.inputs inputs (Some (parts_of fault)) f.is_command is f.holds told f.first;
+      status_is = e;
+    }
+
+refused_command : (fault : Refusal) (status : ℕ) (words : List (List ℕ)) (old new : ShelfView) (sink mid sink' : SinkView)
+    → status ≡ status_of fault → Cause fault words old new sink mid → PutsLine (fault_line fault) mid sink'
+    → AnswersCommand status words old new sink sink'
+refused_command refusal.Usage status words old new sink mid sink' e c line command inputs is told nothing =
+    absurd (c.0 command is)
+refused_command (refusal.Read place) status words old new sink mid sink' e c line command inputs is told nothing =
+    absurd (longer old.failed _ (sym (ap (λ (s : ShelfView). s.failed) c.0.logged) ∙ nothing.no_call))
+refused_command (refusal.Write place) status words old new sink mid sink' e (inl x) line command inputs is told nothing =
+    absurd (lost_logs _ _ place old new x.0.lost nothing.no_call)
+refused_command (refusal.Write place) status words old new sink mid sink' e (inr x) line command inputs is told nothing =
+    absurd (nothing.no_put (rose_on (refusal.Write place) sink mid sink' x.printed.rose line))
+refused_command (refusal.Board fault) status words old new sink mid sink' e c line command inputs is told nothing =
+    inl (input_answers (refusal.Board fault) status words old new e c.0 command inputs is told)
+refused_command (refusal.Elf fault) status words old new sink mid sink' e c line command inputs is told nothing =
+    inl (input_answers (refusal.Elf fault) status words old new e c.0 command inputs is told)
+refused_command (refusal.Analyse fault) status words old new sink mid sink' e c line command inputs is told nothing =
+    inl (input_answers (refusal.Analyse fault) status words old new e c.0 command inputs is told)
+refused_command (refusal.AddressFault pc why) status words old new sink mid sink' e c line command inputs is told nothing =
+    inl (input_answers (refusal.AddressFault pc why) status words old new e c.0 command inputs is told)
+refused_command (refusal.Certificate fault) status words old new sink mid sink' e c line command inputs is told nothing =
+    inl (input_answers (refusal.Certificate fault) status words old new e c.0 command inputs is told)
+refused_command refusal.BadChoice status words old new sink mid sink' e c line command inputs is told nothing =
+    inl (input_answers refusal.BadChoice status words old new e c.0 command inputs is told)
+refused_command (refusal.WrongTree side node) status words old new sink mid sink' e c line command inputs is told nothing =
+    inl (input_answers (refusal.WrongTree side node) status words old new e c.0 command inputs is told)
+refused_command (refusal.Hex fault) status words old new sink mid sink' e c line command inputs is told nothing =
+    inl (input_answers (refusal.Hex fault) status words old new e c.0 command inputs is told)
+refused_command (refusal.Differs at) status words old new sink mid sink' e c line command inputs is told nothing =
+    inl (input_answers (refusal.Differs at) status words old new e c.0 command inputs is told)
+refused_command (refusal.SourceFault pc why) status words old new sink mid sink' e c line command inputs is told nothing =
+    inl (input_answers (refusal.SourceFault pc why) status words old new e c.0 command inputs is told)
+refused_command refusal.Memory status words old new sink mid sink' e c line command inputs is told nothing = inr e
+
+-- a refusal whose line was put
+pub ends_refused : (words : List (List ℕ)) (old new : ShelfView) (sink mid sink' : SinkView) (r : Refused) (status : ℕ)
+    → HasCause words old new sink mid r → status ≡ refused_status r → PutsLine (refused_line r) mid sink'
+    → EndsRefused status words old new sink sink'
+ends_refused words old new sink mid sink' r status h e line =
+    record {
+      fault = h.fault;
+      status_is = e ∙ h.ready.status;
+      refused = record { mid = mid; cause = h.cause; line = subst (λ (l : List ℕ). PutsLine l mid sink') h.ready.line line };
+    }
+
+pub ends_usage : (words : List (List ℕ)) (old new : ShelfView) (sink sink' : SinkView) (status : ℕ)
+    → EndsRefused status words old new sink sink' → AnswersUsage status words
+ends_usage words old new sink sink' status r =
+    refused_usage r.fault status words old new sink r.refused.mid r.status_is r.refused.cause
+
+pub ends_command : (words : List (List ℕ)) (old new : ShelfView) (sink sink' : SinkView) (status : ℕ)
+    → EndsRefused status words old new sink sink' → AnswersCommand status words old new sink sink'
+ends_command words old new sink sink' status r =
+    refused_command r.fault status words old new sink r.refused.mid sink' r.status_is r.refused.cause r.refused.line
+
+pub ends_positive : (words : List (List ℕ)) (old new : ShelfView) (sink sink' : SinkView) (status : ℕ)
+    → EndsRefused status words old new sink sink' → status ≡ 0 → ⊥
+ends_positive words old new sink sink' status r e = status_positive r.fault (sym r.status_is ∙ e)

@@ -1,0 +1,73 @@
+-- Reading names one by one.
+use Rattle.std.proofs.Common.{◌≡◌, inl, inr, ℕ, List, [], ◌∷◌, ◌++◌, map, ap, get_or, length, ◌<◌, refl, subst, arith}
+use Rattle.std.specs.List.{Contains}
+use Rattle.shelf_io.specs.Shelf.{ShelfView, Holds}
+use Rattle.std.proofs.lemmas.List.Elements.{Contains-get_or}
+use Rattle.std.proofs.lemmas.List.{get_or-map, length-map}
+use Rattle.std.specs.Global.{Global}
+use Rattle.std.proofs.Common.{Vec}
+use Rattle.command_line.specs.Command.{Named, plain_named}
+use Rattle.command_line.specs.declared.commands.NamedWord.{NamedWord}
+use Rattle.command_line.specs.Reading.{contents, HoldsAll, RefusesRead, RefusesReads, one_fails, memory_wanting}
+use Rattle.command_line.specs.declared.faults.Refusal.{Refusal}
+
+-- one more name
+pub holds_more : (shelf : ShelfView) (names : List Named) (texts : List (List ℕ)) (n : Named) (text : List ℕ)
+    → HoldsAll shelf names texts → Holds shelf n.name text → HoldsAll shelf (names ++ n ∷ []) (texts ++ text ∷ [])
+holds_more shelf [] [] n text h one = (one, tt)
+holds_more shelf [] (x ∷ texts) n text h one = absurd h
+holds_more shelf (m ∷ names) [] n text h one = absurd h
+holds_more shelf (m ∷ names) (x ∷ texts) n text h one = (h.0, holds_more shelf names texts n text h.1 one)
+
+-- the refusal of one read
+pub one_refused : (names : List Named) (n : Named) (old mid new : ShelfView) (fault : Refusal)
+    → Contains names n → mid ≡ old → RefusesRead n mid new fault → RefusesReads names old new fault
+one_refused names n old mid new fault is_read same r =
+    elim (subst (λ (s : ShelfView). RefusesRead n s new fault) same r) [
+      | inl failed ↦ one_fails n is_read failed.0 failed.1
+      | inr memory ↦ memory_wanting memory.0 memory.1
+    ]
+
+-- the bytes of one more text
+pub contents_more : (texts : List (Vec ℕ Global)) (text : Vec ℕ Global) → contents (texts ++ text ∷ []) ≡ contents texts ++ text.items ∷ []
+contents_more [] text = refl
+contents_more (x ∷ texts) text = ap (λ more. x.items ∷ more) (contents_more texts text)
+
+-- a word is one of the names
+pub is_named : (words : List NamedWord) (i : ℕ) (d : NamedWord) → i < length words → Contains (map plain_named words) (plain_named (get_or words i d))
+is_named words i d below =
+    let held = Contains-get_or (map plain_named words) i (plain_named d) (rw (length-map words plain_named) below) in
+    subst (Contains (map plain_named words)) (get_or-map plain_named words i d (plain_named d) below) held
+
+-- the bytes of one, two, three and four texts, one by one
+pub contents_of_one : (texts : List (Vec ℕ Global)) (a : Vec ℕ Global) (x : List ℕ) → length texts ≡ 1
+    → a ≡ get_or texts 0 a → x ≡ a.items → x ∷ [] ≡ contents texts
+contents_of_one [] a x e is same = absurd (omega arith)
+contents_of_one (p ∷ []) a x e is same = cc
+contents_of_one (p ∷ q ∷ texts) a x e is same = absurd (omega arith)
+
+pub contents_of_two : (texts : List (Vec ℕ Global)) (a b : Vec ℕ Global) (x y : List ℕ) → length texts ≡ 2
+    → a ≡ get_or texts 0 a → b ≡ get_or texts 1 b → x ≡ a.items → y ≡ b.items → x ∷ y ∷ [] ≡ contents texts
+contents_of_two [] a b x y e is_a is_b same_x same_y = absurd (omega arith)
+contents_of_two (p ∷ []) a b x y e is_a is_b same_x same_y = absurd (omega arith)
+contents_of_two (p ∷ q ∷ []) a b x y e is_a is_b same_x same_y = cc
+contents_of_two (p ∷ q ∷ r ∷ texts) a b x y e is_a is_b same_x same_y = absurd (omega arith)
+
+pub contents_of_three : (texts : List (Vec ℕ Global)) (a b c : Vec ℕ Global) (x y z : List ℕ) → length texts ≡ 3
+    → a ≡ get_or texts 0 a → b ≡ get_or texts 1 b → c ≡ get_or texts 2 c → x ≡ a.items → y ≡ b.items → z ≡ c.items
+    → x ∷ y ∷ z ∷ [] ≡ contents texts
+contents_of_three [] a b c x y z e is_a is_b is_c same_x same_y same_z = absurd (omega arith)
+contents_of_three (p ∷ []) a b c x y z e is_a is_b is_c same_x same_y same_z = absurd (omega arith)
+contents_of_three (p ∷ q ∷ []) a b c x y z e is_a is_b is_c same_x same_y same_z = absurd (omega arith)
+contents_of_three (p ∷ q ∷ r ∷ []) a b c x y z e is_a is_b is_c same_x same_y same_z = cc
+contents_of_three (p ∷ q ∷ r ∷ s ∷ texts) a b c x y z e is_a is_b is_c same_x same_y same_z = absurd (omega arith)
+
+pub contents_of_four : (texts : List (Vec ℕ Global)) (a b c d : Vec ℕ Global) (x y z w : List ℕ) → length texts ≡ 4
+    → a ≡ get_or texts 0 a → b ≡ get_or texts 1 b → c ≡ get_or texts 2 c → d ≡ get_or texts 3 d
+    → x ≡ a.items → y ≡ b.items → z ≡ c.items → w ≡ d.items → x ∷ y ∷ z ∷ w ∷ [] ≡ contents texts
+contents_of_four [] a b c d x y z w e is_a is_b is_c is_d same_x same_y same_z same_w = absurd (omega arith)
+contents_of_four (p ∷ []) a b c d x y z w e is_a is_b is_c is_d same_x same_y same_z same_w = absurd (omega arith)
+contents_of_four (p ∷ q ∷ []) a b c d x y z w e is_a is_b is_c is_d same_x same_y same_z same_w = absurd (omega arith)
+contents_of_four (p ∷ q ∷ r ∷ []) a b c d x y z w e is_a is_b is_c is_d same_x same_y same_z same_w = absurd (omega arith)
+contents_of_four (p ∷ q ∷ r ∷ s ∷ []) a b c d x y z w e is_a is_b is_c is_d same_x same_y same_z same_w = cc
+contents_of_four (p ∷ q ∷ r ∷ s ∷ t ∷ texts) a b c d x y z w e is_a is_b is_c is_d same_x same_y same_z same_w = absurd (omega arith)

@@ -1,0 +1,17 @@
+-- A program that is relinked was run.
+use Rattle.std.proofs.Common.{ℕ, List, refl}
+use Rattle.file_at_home.specs.Laws.{program_in, source_start}
+use Rattle.profile_runner.proofs.RunLemmas.{moves_steps}
+use Rattle.relinking.specs.Runs.{RunsProgram}
+use Rattle.command_line.specs.RelinkFile.{RelinksTo}
+
+pub relinked_runs : (file board_text input certificate out report : List ℕ) (made : RelinksTo file board_text input certificate out report)
+    → RunsProgram file made.board input made.states.last.outcome
+relinked_runs file board_text input certificate out report made =
+    record {
+      graph = made.graph;
+      is_graph = made.is_graph;
+      last = made.states.last;
+      taken = moves_steps (program_in file made.board made.graph) made.board.steps (source_start file made.board made.graph input) made.states.last made.states.moves made.states.run;
+      outcome_is = refl;
+    }

@@ -1,0 +1,30 @@
+-- A board and a file that is analysed for it, and what is told of their first fault.
+use Rattle.std.specs.Prelude.{◌≡◌, ◌⊎◌, ℕ, List, Some, None}
+use Rattle.board_config.specs.Board.{IsBoard}
+use Rattle.board_config.specs.Faults.{Fault}
+use Rattle.board_config.specs.Keys.{first_key}
+use Rattle.board_config.specs.declared.board.Board.{Board}
+use Rattle.relink_core.specs.Faults.{IsFaultless, IsFirst}
+use Rattle.relink_core.specs.declared.fault.AnalyseFault.{AnalyseFault}
+use Rattle.command_line.specs.FaultLine.{Parts, board_parts, analyse_parts, parts_of}
+use Rattle.command_line.specs.declared.faults.Refusal.{Refusal}
+use Rattle.command_line.specs.declared.faults.Refusal.TheVariants as refusal
+
+-- the text is that of a board for which no check of the file fails
+pub record Accepts (board_text file : List ℕ) (board : Board) : Type 0 where
+  pub is_board : IsBoard board_text board
+  pub sound : first_key board_text ≡ None
+  pub no_fault : IsFaultless file board
+
+-- this is told of the first fault: the board comes before the file
+pub data TellsAnalysed (board_text file : List ℕ) (told : Parts) : Type 0 where
+  of_board : (fault : Fault) → first_key board_text ≡ Some fault → told ≡ board_parts fault
+      → TellsAnalysed board_text file told
+  of_analysis : (board : Board) (fault : AnalyseFault) → IsBoard board_text board → first_key board_text ≡ None
+      → IsFirst file board fault → told ≡ analyse_parts fault
+      → TellsAnalysed board_text file told
+
+-- a computation on both was refused: for want of memory, or by the first fault
+abbrev pub RefusesAnalysed : List ℕ → List ℕ → Refusal → Type 0
+RefusesAnalysed board_text file fault =
+    (fault ≡ refusal.Memory) ⊎ TellsAnalysed board_text file (parts_of fault)

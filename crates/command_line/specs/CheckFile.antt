@@ -1,0 +1,107 @@
+-- What `check` tells of a file, a board, an input and a certificate.
+use Rattle.std.specs.Prelude.{◌≡◌, ◌⊎◌, ℕ, Bool, true, false, List, Option, Some, None, Err}
+use Rattle.elf_reader.specs.File.{view_in}
+use Rattle.board_config.specs.declared.board.Board.{Board}
+use Rattle.object_graph.specs.Graphs.{IsGraph}
+use Rattle.object_graph.specs.declared.parts.Graph.{Graph}
+use Rattle.code_blocks.specs.Blocks.{IsCode}
+use Rattle.code_blocks.specs.declared.parts.Code.{Code}
+use Rattle.region_former.specs.declared.table.RegionTable.{RegionTable}
+use Rattle.relink_core.specs.Regions.{AreRegions}
+use Rattle.placement_programme.specs.Plain.{PlainProgramme, PlainChoice}
+use Rattle.placement_programme.specs.Programme.{IsFeasible}
+use Rattle.certificate_checker.specs.Nodes.{PlainCertificate}
+use Rattle.certificate_checker.specs.Reading.{certificate_of}
+use Rattle.certificate_checker.specs.Spelling.{Spells}
+use Rattle.certificate_checker.specs.Shows.{PlainVerdict, optimal, best_found, bad_choice, wrong, Answers}
+use Rattle.certificate_checker.specs.declared.fault.CertFault.{CertFault}
+use Rattle.command_line.specs.FaultLine.{Parts, cert_parts, choice_parts, tree_parts, parts_of}
+use Rattle.command_line.specs.Analysed.{Accepts}
+use Rattle.command_line.specs.ProgramRun.{TellsProfiled}
+use Rattle.relinking.specs.StatedRun.{StatesProgramme}
+use Rattle.printed_lines.specs.ReportText.{IsReport}
+use Rattle.relinking.specs.FoundChoice.{IsLeast}
+use Rattle.command_line.specs.declared.faults.Refusal.{Refusal}
+use Rattle.command_line.specs.declared.faults.Refusal.TheVariants as refusal
+
+-- the run of a file's program on an input states this programme
+pub record StatesOf (file : List ℕ) (board : Board) (input : List ℕ) (p : PlainProgramme) : Type 0 where
+  pub graph : Graph
+  pub is_graph : IsGraph (view_in file) board graph
+  pub code : Code
+  pub is_code : IsCode (view_in file) code
+  pub regions : RegionTable
+  pub are_regions : AreRegions (view_in file) code board regions
+  pub states : StatesProgramme (view_in file) board graph code regions input p
+
+-- the answers of which a report is made: that the choice is best, and that no tree says so
+abbrev pub answer_of : Bool → PlainVerdict
+answer_of true = optimal
+answer_of false = best_found
+
+-- The text spells a certificate whose choice is feasible and gains no less than 0. The report says `optimal` where its
+-- trees show that no feasible choice has less energy, and `best found` where it has none.
+pub record ReportsText (p : PlainProgramme) (nodes : ℕ) (text report : List ℕ) : Type 0 where
+  pub certificate : PlainCertificate
+  pub spells : Spells text certificate
+  pub says_optimal : Bool
+  pub answers : Answers p certificate (answer_of says_optimal)
+  pub least : says_optimal ≡ true → IsLeast p certificate.choice
+  pub is_report : IsReport p nodes certificate.choice says_optimal report
+
+-- the text's certificate is one for the programme that the run states, and the report is on its choice
+pub record ChecksTo (file board_text input text report : List ℕ) : Type 0 where
+  pub board : Board
+  pub accepts : Accepts board_text file board
+  pub programme : PlainProgramme
+  pub states : StatesOf file board input programme
+  pub reports : ReportsText programme board.nodes text report
+
+-- what is told of a certificate that is answered so
+abbrev pub told_of : PlainVerdict → Option Parts
+told_of optimal = None
+told_of best_found = None
+told_of bad_choice = Some choice_parts
+told_of (wrong side node depth) = Some (tree_parts side node)
+
+-- what is told of a text, if it is refused: where it breaks the grammar, or how its certificate fails
+pub data TellsText (p : PlainProgramme) (text : List ℕ) (told : Option Parts) : Type 0 where
+  unspelled : (fault : CertFault) → certificate_of text ≡ Err fault → told ≡ Some (cert_parts fault)
+      → TellsText p text told
+  answered : (certificate : PlainCertificate) (verdict : PlainVerdict) → Spells text certificate
+      → Answers p certificate verdict → told ≡ told_of verdict → TellsText p text told
+
+-- what is told of the first fault, if there is one: those of the board, the file and the run come before the text
+pub data TellsChecked (board_text file input text : List ℕ) (told : Option Parts) : Type 0 where
+  of_run : (parts : Parts) → TellsProfiled board_text file input (Some parts) → told ≡ Some parts
+      → TellsChecked board_text file input text told
+  of_certificate : (board : Board) (programme : PlainProgramme) → Accepts board_text file board
+      → StatesOf file board input programme → TellsText programme text told
+      → TellsChecked board_text file input text told
+
+-- a computation on the inputs was refused: for want of memory, or by the first fault
+abbrev pub RefusesChecked : List ℕ → List ℕ → List ℕ → List ℕ → Refusal → Type 0
+RefusesChecked board_text file input text fault =
+    (fault ≡ refusal.Memory) ⊎ TellsChecked board_text file input text (Some (parts_of fault))
+
+-- the same of a computation on a programme and a text
+abbrev pub RefusesText : PlainProgramme → List ℕ → Refusal → Type 0
+RefusesText p text fault = (fault ≡ refusal.Memory) ⊎ TellsText p text (Some (parts_of fault))
+
+-- ---- an answer alone
+
+-- a choice of which a report is made is feasible
+abbrev pub MayReport : PlainProgramme → PlainChoice → PlainVerdict → Type 0
+MayReport p choice optimal = IsFeasible p choice
+MayReport p choice best_found = IsFeasible p choice
+MayReport p choice bad_choice = Unit {0}
+MayReport p choice (wrong side node depth) = Unit {0}
+
+abbrev pub ReportsAnswer : PlainProgramme → ℕ → PlainChoice → PlainVerdict → List ℕ → Type 0
+ReportsAnswer p nodes choice optimal report = IsReport p nodes choice true report
+ReportsAnswer p nodes choice best_found report = IsReport p nodes choice false report
+ReportsAnswer p nodes choice bad_choice report = ⊥
+ReportsAnswer p nodes choice (wrong side node depth) report = ⊥
+
+abbrev pub RefusesAnswer : PlainVerdict → Refusal → Type 0
+RefusesAnswer verdict fault = (fault ≡ refusal.Memory) ⊎ (told_of verdict ≡ Some (parts_of fault))

@@ -1,0 +1,79 @@
+-- What is left to do once the result of a command stands ready, and what it leaves.
+use Rattle.std.specs.Prelude.{◌≡◌, ◌⊎◌, ℕ, List, [], ◌∷◌}
+use Rattle.shelf_io.specs.Shelf.{ShelfView, SetsName, LosesName}
+use Rattle.shelf_io.specs.Sink.{SinkView, PutAll, PutSome}
+use Rattle.command_line.specs.Command.{Named}
+use Rattle.command_line.specs.Refused.{IsReady}
+use Rattle.command_line.specs.declared.delivery.Output.{Output}
+use Rattle.command_line.specs.declared.delivery.Ready.{Ready}
+use Rattle.command_line.specs.declared.refused.Refused.{Refused}
+use Rattle.command_line.specs.declared.refused.Refused.TheVariants as refused
+use Rattle.command_line.specs.declared.faults.Refusal.TheVariants as refusal
+
+-- the outputs were written, one after the other
+abbrev pub SetsAll : List Named → List (List ℕ) → ShelfView → ShelfView → Type 0
+SetsAll [] [] old new = new ≡ old
+SetsAll [] (output ∷ outputs) old new = ⊥
+SetsAll (w ∷ names) [] old new = ⊥
+SetsAll (w ∷ names) (output ∷ outputs) old new =
+    (mid : ShelfView) × SetsName w.name output old mid × SetsAll names outputs mid new
+
+-- the write at a place failed; those before it stand, and none behind it was made
+abbrev pub LosesOne : List Named → List (List ℕ) → ℕ → ShelfView → ShelfView → Type 0
+LosesOne [] outputs place old new = ⊥
+LosesOne (w ∷ names) [] place old new = ⊥
+LosesOne (w ∷ names) (output ∷ outputs) place old new =
+    ((place ≡ w.place) × LosesName w.name old new)
+    ⊎ ((mid : ShelfView) × SetsName w.name output old mid × LosesOne names outputs place mid new)
+
+-- a write wanted memory and changed nothing; those before it stand
+abbrev pub WantsInOne : List Named → List (List ℕ) → ShelfView → ShelfView → Type 0
+WantsInOne [] outputs old new = ⊥
+WantsInOne (w ∷ names) [] old new = ⊥
+WantsInOne (w ∷ names) (output ∷ outputs) old new =
+    (new.content ≡ old.content)
+    ⊎ ((mid : ShelfView) × SetsName w.name output old mid × WantsInOne names outputs mid new)
+
+-- an output that stands ready under a name, with the refusal of its write
+pub record IsOutput (w : Named) (output : List ℕ) (o : Output) : Type 0 where
+  pub name : o.name.now ≡ w.name
+  pub bytes : o.bytes.items ≡ output
+  pub fault : IsReady (refusal.Write w.place) o.fault
+
+-- outputs that stand ready, each under its name
+abbrev pub AreReady : List Named → List (List ℕ) → List Output → Type 0
+AreReady [] [] [] = Unit
+AreReady [] [] (o ∷ ready) = ⊥
+AreReady [] (output ∷ outputs) ready = ⊥
+AreReady (w ∷ names) [] ready = ⊥
+AreReady (w ∷ names) (output ∷ outputs) [] = ⊥
+AreReady (w ∷ names) (output ∷ outputs) (o ∷ ready) =
+    IsOutput w output o × AreReady names outputs ready
+
+-- the same, from the outputs that stand ready
+abbrev pub SetsReady : List Output → ShelfView → ShelfView → Type 0
+SetsReady [] old new = new ≡ old
+SetsReady (o ∷ ready) old new =
+    (mid : ShelfView) × SetsName o.name.now o.bytes.items old mid × SetsReady ready mid new
+
+-- a write failed, and `r` is its refusal; or it wanted memory
+pub data FailsOnce (o : Output) (old new : ShelfView) (r : Refused) : Type 0 where
+  write_fails : r ≡ o.fault → LosesName o.name.now old new → FailsOnce o old new r
+  wants_memory : r ≡ refused.Memory → new.content ≡ old.content → FailsOnce o old new r
+
+abbrev pub FailsToWrite : List Output → ShelfView → ShelfView → Refused → Type 0
+FailsToWrite [] old new r = ⊥
+FailsToWrite (o ∷ ready) old new r =
+    FailsOnce o old new r
+    ⊎ ((mid : ShelfView) × SetsName o.name.now o.bytes.items old mid × FailsToWrite ready mid new r)
+
+-- the outputs were written and the text printed
+pub record DeliversAll (ready : Ready) (old new : ShelfView) (sink sink' : SinkView) : Type 0 where
+  pub set : SetsReady ready.outputs.items old new
+  pub printed : PutAll (ready.text.items) sink sink'
+
+-- a step failed: a write, the memory for one, or the print
+pub data FailsToDeliver (ready : Ready) (old new : ShelfView) (sink mid : SinkView) (r : Refused) : Type 0 where
+  writing_fails : FailsToWrite ready.outputs.items old new r → mid ≡ sink → FailsToDeliver ready old new sink mid r
+  print_fails : r ≡ ready.print_fault → SetsReady ready.outputs.items old new
+      → PutSome (ready.text.items) sink mid → FailsToDeliver ready old new sink mid r

@@ -1,0 +1,31 @@
+-- What reading the names of a command gives.
+use Rattle.std.specs.Prelude.{◌≡◌, ◌⊎◌, ℕ, List, [], ◌∷◌, map, Vec}
+use Rattle.std.specs.List.{Contains}
+use Rattle.std.specs.Global.{Global}
+use Rattle.shelf_io.specs.declared.shelves.CallKind.TheVariants.{Read}
+use Rattle.shelf_io.specs.Shelf.{ShelfView, Holds, LogsFailed}
+use Rattle.command_line.specs.Command.{Named}
+use Rattle.command_line.specs.declared.faults.Refusal.{Refusal}
+use Rattle.command_line.specs.declared.faults.Refusal.TheVariants as refusal
+
+-- the bytes of each text
+abbrev pub contents : List (Vec ℕ Global) → List (List ℕ)
+contents texts = map (λ text. text.items) texts
+
+-- the shelf holds these texts under these names, one for each, as far as it tells
+abbrev pub HoldsAll : ShelfView → List Named → List (List ℕ) → Type 0
+HoldsAll shelf [] [] = Unit
+HoldsAll shelf [] (text ∷ texts) = ⊥
+HoldsAll shelf (n ∷ names) [] = ⊥
+HoldsAll shelf (n ∷ names) (text ∷ texts) = Holds shelf n.name text × HoldsAll shelf names texts
+
+-- reading a name was refused: the read failed, or memory was wanting
+abbrev pub RefusesRead : Named → ShelfView → ShelfView → Refusal → Type 0
+RefusesRead n old new fault =
+    ((fault ≡ refusal.Read n.place) × LogsFailed Read n.name old new) ⊎ ((fault ≡ refusal.Memory) × (new ≡ old))
+
+-- so was reading several names
+pub data RefusesReads (names : List Named) (old new : ShelfView) (fault : Refusal) : Type 0 where
+  one_fails : (n : Named) → Contains names n → fault ≡ refusal.Read n.place → LogsFailed Read n.name old new
+      → RefusesReads names old new fault
+  memory_wanting : fault ≡ refusal.Memory → new ≡ old → RefusesReads names old new fault

@@ -1,0 +1,75 @@
+ghost use Rattle.std.specs.Prelude.{◌≡◌, ℤ, pos, ◌≤ℤ◌, IfOk, IfErr, string_bytes};
+ghost use Rattle.placement_programme.specs.Plain.{PlainChoice};
+ghost use Rattle.placement_programme.specs.Programme.{IsFeasible, gain};
+ghost use Rattle.placement_programme.specs.Views.{plain_programme, plain_choice};
+ghost use Rattle.certificate_checker.specs.Views.{plain_verdict};
+ghost use Rattle.command_line.specs.CheckFile.{ChecksTo, RefusesChecked, ReportsText, RefusesText, MayReport, ReportsAnswer, RefusesAnswer};
+
+use crate::faults::Refusal;
+use board_config::read_board;
+use certificate_checker::{Room, Verdict, check_text};
+use placement_programme::{Choice, Programme};
+use printed_lines::choice_report;
+use relink_core::analyse;
+use relinking::stated_run;
+use std::alloc::Global;
+
+/// Checks a certificate for the programme that the run of a file's program states, with nothing but the files, and tells
+/// in lines how the certificate's choice was found and what the run costs with it.
+///
+/// The error is the first fault of the board's text, of the file, of where it lies, of its code, the address fault of the
+/// run, the first byte at which the text breaks the grammar, or how its certificate fails. `Memory` comes only where no
+/// memory was left.
+pub fn check_file(
+    alloc: Global,
+    file: &[u8],
+    board: &[u8],
+    input: &[u8],
+    cert: &[u8],
+) -> Result<Vec<u8>, Refusal>
+    ensures ok { IfOk result (λ text. ChecksTo file.now board.now input.now cert.now text.items) }
+    ensures err { IfErr result (RefusesChecked board.now file.now input.now cert.now) }
+{
+    let board = read_board(alloc, board)?;
+    let analysis = analyse(alloc, file, &board)?;
+    let programme = stated_run(alloc, &analysis, &board, input)?;
+    match checked(alloc, &programme, board.nodes, cert) {
+        Ok(report) => Ok(report.into_bytes()),
+        Err(fault) => Err(fault),
+    }
+}
+
+/// Checks a certificate for a programme, and makes the report on its choice.
+fn checked(alloc: Global, programme: &Programme, nodes: u64, cert: &[u8]) -> Result<String, Refusal>
+    requires within { (c : PlainChoice) → IsFeasible (plain_programme programme.now) c → gain (plain_programme programme.now) c ≤ℤ pos programme.now.base }
+    ensures ok { IfOk result (λ report. ReportsText (plain_programme programme.now) nodes cert.now (string_bytes report)) }
+    ensures err { IfErr result (RefusesText (plain_programme programme.now) cert.now) }
+{
+    let mut room = Room::new(alloc, programme)?;
+    let verdict = check_text(programme, cert, &mut room)?;
+    match answer(alloc, programme, &room.choice, verdict, nodes) {
+        Ok(report) => Ok(report),
+        Err(fault) => Err(fault),
+    }
+}
+
+/// The report on a choice that is answered so, or why there is none.
+fn answer(
+    alloc: Global,
+    programme: &Programme,
+    choice: &Choice,
+    verdict: Verdict,
+    nodes: u64,
+) -> Result<String, Refusal>
+    requires within { (c : PlainChoice) → IsFeasible (plain_programme programme.now) c → gain (plain_programme programme.now) c ≤ℤ pos programme.now.base }
+    requires feasible { MayReport (plain_programme programme.now) (plain_choice choice.now) (plain_verdict verdict) }
+    ensures ok { IfOk result (λ report. ReportsAnswer (plain_programme programme.now) nodes (plain_choice choice.now) (plain_verdict verdict) (string_bytes report)) }
+    ensures err { IfErr result (RefusesAnswer (plain_verdict verdict)) }
+{
+    match verdict {
+        Verdict::Optimal => Ok(choice_report(alloc, programme, choice, true, nodes)?),
+        Verdict::BestFound => Ok(choice_report(alloc, programme, choice, false, nodes)?),
+        Verdict::BadChoice => Err(Refusal::BadChoice),
+        Verdict::Wrong { side, node, .. } => Err(Refusal::WrongTree { side, node }),
+    }
+}

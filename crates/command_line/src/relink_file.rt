@@ -1,0 +1,44 @@
+ghost use Rattle.std.specs.Prelude.{IfOk, IfErr};
+ghost use Rattle.command_line.specs.ProgramRun.{RefusesProfiled};
+ghost use Rattle.command_line.specs.RelinkFile.{RelinksTo};
+
+use crate::faults::Refusal;
+use board_config::read_board;
+use relink_core::analyse;
+use relinking::{relink_analysed, relink_report};
+use std::alloc::Global;
+
+/// The result of a `relink` command, before any of it is written.
+#[derive(Drop)]
+pub struct RelinkedFile {
+    /// Which choice was made, and why it is one of the best where that was shown.
+    pub certificate: Vec<u8>,
+    /// The file in which what was chosen has moved.
+    pub file: Vec<u8>,
+    /// How the choice was found, what it saves, and where stands what has moved, in lines.
+    pub report: Vec<u8>,
+}
+
+/// Relinks a file for a board. The program is run on the input to measure it, for the board's steps.
+///
+/// The error is the first fault of the board's text, of the file, of where it lies, of its code, of its regions, or the address fault
+/// of the run. `Memory` comes only where no memory was left.
+pub fn relink_file(
+    alloc: Global,
+    file: &[u8],
+    board: &[u8],
+    input: &[u8],
+) -> Result<RelinkedFile, Refusal>
+    ensures ok { IfOk result (λ r. RelinksTo file.now board.now input.now r.certificate.items r.file.items r.report.items) }
+    ensures err { IfErr result (RefusesProfiled board.now file.now input.now) }
+{
+    let board = read_board(alloc, board)?;
+    let analysis = analyse(alloc, file, &board)?;
+    let relinked = relink_analysed(alloc, &analysis, &board, input)?;
+    let report = relink_report(alloc, &analysis, &board, &relinked)?;
+    Ok(RelinkedFile {
+        certificate: relinked.certificate,
+        file: relinked.bytes,
+        report,
+    })
+}

@@ -1,0 +1,226 @@
+ghost use Rattle.std.specs.Prelude.{◌≡◌, ◌∷◌, [], ◌≤◌, ℕ, List, IfOk, IfErr, length, string_bytes};
+ghost use Rattle.command_line.specs.Command.{HasNumbers, plain_command, reads, run_command, relink_command, profile_command, compare_command, check_command, gen_command, hex_command, hex_check_command, show_command};
+ghost use Rattle.command_line.specs.Reading.{contents};
+ghost use Rattle.command_line.specs.Meaning.{RefusesInputs, kernels_text};
+ghost use Rattle.command_line.specs.Performing.{IsReadyFor};
+
+use crate::check_file::check_file;
+use crate::commands::Command;
+use crate::compare_files::compare_files;
+use crate::delivery::{Output, Ready};
+use crate::faults::Refusal;
+use crate::hex_files::{check_hex, hex_file};
+use crate::profile_file::profile_file;
+use crate::relink_file::relink_file;
+use crate::run_file::run_file;
+use crate::show_file::show_file;
+use std::alloc::{AllocError, Global};
+use workload_gen::workload;
+
+/// Makes the result of a command of what it read, one text for each name.
+pub fn make_ready<'a>(
+    alloc: Global,
+    command: &Command<'a>,
+    texts: &[Vec<u8>],
+) -> Result<Ready<'a>, Refusal>
+    requires numbers { HasNumbers (plain_command command.now) }
+    requires texts { length texts.now ≡ length (reads (plain_command command.now)) }
+    ensures ok { IfOk result (IsReadyFor (plain_command command.now) (contents texts.now)) }
+    ensures err { IfErr result (RefusesInputs (plain_command command.now) (contents texts.now)) }
+{
+    match *command {
+        Command::Run { out, .. } => {
+            match ready_run(alloc, out, &texts[0], &texts[1], &texts[2]) {
+                Ok(ready) => Ok(ready),
+                Err(fault) => Err(fault),
+            }
+        }
+        Command::Relink { out, cert, .. } => {
+            match ready_relink(alloc, out, cert, &texts[0], &texts[1], &texts[2]) {
+                Ok(ready) => Ok(ready),
+                Err(fault) => Err(fault),
+            }
+        }
+        Command::Profile { .. } => match ready_profile(alloc, &texts[0], &texts[1], &texts[2]) {
+            Ok(ready) => Ok(ready),
+            Err(fault) => Err(fault),
+        },
+        Command::Compare { .. } => {
+            match ready_compare(alloc, &texts[0], &texts[1], &texts[2], &texts[3]) {
+                Ok(ready) => Ok(ready),
+                Err(fault) => Err(fault),
+            }
+        }
+        Command::Check { .. } => {
+            match ready_check(alloc, &texts[0], &texts[1], &texts[2], &texts[3]) {
+                Ok(ready) => Ok(ready),
+                Err(fault) => Err(fault),
+            }
+        }
+
+        Command::Show { .. } => match ready_show(alloc, &texts[0], &texts[1]) {
+            Ok(ready) => Ok(ready),
+            Err(fault) => Err(fault),
+        },
+        Command::Gen { seed, kernels, out } => ready_gen(alloc, seed, kernels, out),
+        Command::Hex { out, .. } => match ready_hex(alloc, out, &texts[0]) {
+            Ok(ready) => Ok(ready),
+            Err(fault) => Err(fault),
+        },
+        Command::HexCheck { .. } => match ready_hex_check(alloc, &texts[0], &texts[1]) {
+            Ok(ready) => Ok(ready),
+            Err(fault) => Err(fault),
+        },
+    }
+}
+
+fn ready_run<'a>(
+    alloc: Global,
+    out: &'a str,
+    file: &[u8],
+    board: &[u8],
+    input: &[u8],
+) -> Result<Ready<'a>, Refusal>
+    ensures ok { IfOk result (λ ready. (f b i : List ℕ)
+        → IsReadyFor (run_command f b i out.now) (file.now ∷ board.now ∷ input.now ∷ []) ready) }
+    ensures err { IfErr result (λ fault. (f b i : List ℕ)
+        → RefusesInputs (run_command f b i out.now) (file.now ∷ board.now ∷ input.now ∷ []) fault) }
+{
+    match run_file(alloc, file, board, input) {
+        Ok(run) => Ok(Ready::written(alloc, 4, out, run.output, run.line.into_bytes())?),
+        Err(fault) => Err(fault),
+    }
+}
+
+fn ready_relink<'a>(
+    alloc: Global,
+    out: &'a str,
+    cert: &'a str,
+    file: &[u8],
+    board: &[u8],
+    input: &[u8],
+) -> Result<Ready<'a>, Refusal>
+    ensures ok { IfOk result (λ ready. (f b i : List ℕ)
+        → IsReadyFor (relink_command f b i out.now cert.now) (file.now ∷ board.now ∷ input.now ∷ []) ready) }
+    ensures err { IfErr result (λ fault. (f b i : List ℕ)
+        → RefusesInputs (relink_command f b i out.now cert.now) (file.now ∷ board.now ∷ input.now ∷ []) fault) }
+{
+    match relink_file(alloc, file, board, input) {
+        Ok(relinked) => {
+            let first = Output::new(alloc, 5, cert, relinked.certificate)?;
+            let second = Output::new(alloc, 4, out, relinked.file)?;
+            Ok(Ready::written_twice(alloc, first, second, relinked.report)?)
+        }
+        Err(fault) => Err(fault),
+    }
+}
+
+fn ready_profile<'a>(
+    alloc: Global,
+    file: &[u8],
+    board: &[u8],
+    input: &[u8],
+) -> Result<Ready<'a>, Refusal>
+    ensures ok { IfOk result (λ ready. (f b i : List ℕ)
+        → IsReadyFor (profile_command f b i) (file.now ∷ board.now ∷ input.now ∷ []) ready) }
+    ensures err { IfErr result (λ fault. (f b i : List ℕ)
+        → RefusesInputs (profile_command f b i) (file.now ∷ board.now ∷ input.now ∷ []) fault) }
+{
+    match profile_file(alloc, file, board, input) {
+        Ok(text) => Ok(Ready::printed(alloc, text)?),
+        Err(fault) => Err(fault),
+    }
+}
+
+fn ready_compare<'a>(
+    alloc: Global,
+    file: &[u8],
+    relinked: &[u8],
+    board: &[u8],
+    input: &[u8],
+) -> Result<Ready<'a>, Refusal>
+    ensures ok { IfOk result (λ ready. (f r b i : List ℕ)
+        → IsReadyFor (compare_command f r b i) (file.now ∷ relinked.now ∷ board.now ∷ input.now ∷ []) ready) }
+    ensures err { IfErr result (λ fault. (f r b i : List ℕ)
+        → RefusesInputs (compare_command f r b i) (file.now ∷ relinked.now ∷ board.now ∷ input.now ∷ []) fault) }
+{
+    match compare_files(alloc, file, relinked, board, input) {
+        Ok(text) => Ok(Ready::printed(alloc, text)?),
+        Err(fault) => Err(fault),
+    }
+}
+
+fn ready_check<'a>(
+    alloc: Global,
+    file: &[u8],
+    board: &[u8],
+    input: &[u8],
+    cert: &[u8],
+) -> Result<Ready<'a>, Refusal>
+    ensures ok { IfOk result (λ ready. (f b i c : List ℕ)
+        → IsReadyFor (check_command f b i c) (file.now ∷ board.now ∷ input.now ∷ cert.now ∷ []) ready) }
+    ensures err { IfErr result (λ fault. (f b i c : List ℕ)
+        → RefusesInputs (check_command f b i c) (file.now ∷ board.now ∷ input.now ∷ cert.now ∷ []) fault) }
+{
+    match check_file(alloc, file, board, input, cert) {
+        Ok(text) => Ok(Ready::printed(alloc, text)?),
+        Err(fault) => Err(fault),
+    }
+}
+
+fn ready_show<'a>(alloc: Global, file: &[u8], board: &[u8]) -> Result<Ready<'a>, Refusal>
+    ensures ok { IfOk result (λ ready. (f b : List ℕ)
+        → IsReadyFor (show_command f b) (file.now ∷ board.now ∷ []) ready) }
+    ensures err { IfErr result (λ fault. (f b : List ℕ)
+        → RefusesInputs (show_command f b) (file.now ∷ board.now ∷ []) fault) }
+{
+    match show_file(alloc, file, board) {
+        Ok(text) => Ok(Ready::printed(alloc, text)?),
+        Err(fault) => Err(fault),
+    }
+}
+
+fn ready_gen<'a>(alloc: Global, seed: u32, kernels: u32, out: &'a str) -> Result<Ready<'a>, Refusal>
+    requires some { 1 ≤ kernels }
+    requires few { kernels ≤ 64 }
+    ensures ok { IfOk result (IsReadyFor (gen_command seed kernels out.now) []) }
+    ensures err { IfErr result (RefusesInputs (gen_command seed kernels out.now) []) }
+{
+    let file = workload(alloc, seed, kernels)?;
+    let text = kernels_line(alloc, kernels)?;
+    Ok(Ready::written(alloc, 3, out, file, text.into_bytes())?)
+}
+
+/// The line that tells how many kernels a generated file has.
+fn kernels_line(alloc: Global, kernels: u32) -> Result<String, AllocError>
+    ensures { IfOk result (λ line. string_bytes line ≡ kernels_text kernels) }
+{
+    format!(in alloc; "kernels {kernels}\n")
+}
+
+fn ready_hex<'a>(alloc: Global, out: &'a str, file: &[u8]) -> Result<Ready<'a>, Refusal>
+    ensures ok { IfOk result (λ ready. (f : List ℕ)
+        → IsReadyFor (hex_command f out.now) (file.now ∷ []) ready) }
+    ensures err { IfErr result (λ fault. (f : List ℕ)
+        → RefusesInputs (hex_command f out.now) (file.now ∷ []) fault) }
+{
+    match hex_file(alloc, file) {
+        Ok(hex) => Ok(Ready::written(alloc, 2, out, hex.text, hex.line.into_bytes())?),
+        Err(fault) => Err(fault),
+    }
+}
+
+fn ready_hex_check<'a>(alloc: Global, file: &[u8], hex: &[u8]) -> Result<Ready<'a>, Refusal>
+    ensures ok { IfOk result (λ ready. (f h : List ℕ)
+        → IsReadyFor (hex_check_command f h) (file.now ∷ hex.now ∷ []) ready) }
+    ensures err { IfErr result (λ fault. (f h : List ℕ)
+        → RefusesInputs (hex_check_command f h) (file.now ∷ hex.now ∷ []) fault) }
+{
+    match check_hex(alloc, file, hex) {
+        Ok(()) => {
+            let text = String::from_str(alloc, "same\n")?;
+            Ok(Ready::printed(alloc, text.into_bytes())?)
+        }
+        Err(fault) => Err(fault),
+    }
+}

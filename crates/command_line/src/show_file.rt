@@ -1,0 +1,28 @@
+ghost use Rattle.std.specs.Prelude.{IfOk, IfErr};
+ghost use Rattle.command_line.specs.Analysed.{RefusesAnalysed};
+ghost use Rattle.command_line.specs.ShowFile.{ShowsTo};
+
+use crate::faults::Refusal;
+use board_config::read_board;
+use printed_lines::show_lines;
+use relink_core::analyse;
+use std::alloc::Global;
+
+/// Tells in lines what of the program of a file may move on a board, and the regions of its functions.
+///
+/// The error is the first fault of the board's text, of the file, of where it lies, of its code, or of its regions.
+/// `Memory` comes only where no memory was left.
+pub fn show_file(alloc: Global, file: &[u8], board: &[u8]) -> Result<Vec<u8>, Refusal>
+    ensures ok { IfOk result (λ text. ShowsTo file.now board.now text.items) }
+    ensures err { IfErr result (RefusesAnalysed board.now file.now) }
+{
+    let board = read_board(alloc, board)?;
+    let analysis = analyse(alloc, file, &board)?;
+    Ok(show_lines(
+        alloc,
+        &analysis.view,
+        &analysis.graph,
+        &analysis.code,
+        &analysis.regions,
+    )?)
+}

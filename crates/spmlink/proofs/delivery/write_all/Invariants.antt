@@ -1,5 +1,0 @@
-use Rattle.spmlink.specs.Delivery.{SetsReady}
-use Rattle.spmlink.proofs.delivery.write_all.Given as goal
-
-abbrev pub invariant-loop-output : goal.invariant-loop-output
-invariant-loop-output g l = SetsReady l.yielded (g.S.Shelf.view l.initial.shelf) (g.S.Shelf.view l.shelf)
