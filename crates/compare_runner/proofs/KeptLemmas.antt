@@ -1,30 +1,29 @@
 -- A result that keeps the meaning of a program is like it where it is looked at.
-use Rattle.std.proofs.Common.{◌≡◌, ℕ, ◌+◌, ◌-◌, ◌*◌, ◌≤◌, ◌⊎◌, inl, inr, List, [], ◌++◌, length, sym, ◌∙◌, ap, subst, arith, length-append}
+use Rattle.std.proofs.Common.{◌≡◌, ℕ, ◌+◌, ◌-◌, ◌*◌, ◌≤◌, ◌⊎◌, inl, inr, List, [], ◌++◌, length, refl, sym, ◌∙◌, ap, subst, arith, length-append}
 use Rattle.std.proofs.lemmas.List.{append-nil, nil_from_length}
 use Rattle.rv_decode.specs.Table.{OneInstruction}
-use Rattle.elf_reader.specs.File.{view_in}
-use Rattle.elf_reader.specs.Loadable.{AreBytes}
 use Rattle.board_config.specs.declared.board.Board.{Board}
 use Rattle.flat_machine.specs.State.{State}
 use Rattle.flat_machine.specs.Runs as flat_runs
+use Rattle.flat_machine.specs.declared.events.FlatOutcome.{FlatOutcome}
 use Rattle.flat_machine.specs.declared.events.FlatOutcome.TheVariants as flat
 use Rattle.flat_machine.proofs.Runs as flat_lemmas
 use Rattle.flat_machine.proofs.Outputs.{steps_extend}
-use Rattle.object_graph.specs.Graphs.{IsGraph}
 use Rattle.object_graph.specs.declared.parts.Graph.{Graph}
 use Rattle.object_machine.specs.declared.events.Outcome.{Outcome}
 use Rattle.object_machine.specs.declared.events.Outcome.TheVariants.{GoesOn, Exited, Trapped, AddressFault}
 use Rattle.object_machine.specs.State.{SourceState}
+use Rattle.object_machine.specs.Runs.{Steps}
 use Rattle.object_machine.specs.Paired.{at_start}
-use Rattle.simulation.specs.Laws.{EndsAlike}
+use Rattle.simulation.specs.Laws.{EndsAlike, Keeps}
+use Rattle.simulation.proofs.PairedRuns.{paired_first}
 use Rattle.file_at_home.specs.Laws.{program_in, source_start, file_start}
-use Rattle.relink_core.specs.Keeps.{most_steps, KeepsPaired}
+use Rattle.moved_data.specs.Laws.{most_steps}
 use Rattle.compare_runner.specs.declared.comparing.Comparison.{Comparison}
 use Rattle.compare_runner.specs.declared.comparing.Comparison.TheVariants.{Differs}
 use Rattle.compare_runner.specs.Comparing.{RunsUntil, IsFar, AreAlike, Tells, JudgesRun}
-use Rattle.compare_runner.specs.Laws.{IsPairedRun, ComparesFiles}
+use Rattle.compare_runner.specs.Laws.{ComparesFiles, KeptNeverDiffers, KeptRunsNeverDiffer, GoesOnFor, KeptGoesOn, KeptRunsGoOn}
 use Rattle.compare_runner.proofs.UntilLemmas.{not_past, holds_at}
-use Rattle.compare_runner.proofs.PairedLemmas.{paired_first}
 
 abbrev IsNoFault : Outcome → Type 0
 IsNoFault (AddressFault pc why) = ⊥
@@ -83,7 +82,7 @@ module _ (one : OneInstruction) (most : ℕ) (start t u : State) (m j : ℕ) (wi
       subst (λ (x : State). ((a : ℕ) × (x.outcome ≡ flat.Trapped a)) × (x.output ≡ s.output)) (stays (j - m) there.1 there.0) ends
   alike_by (AddressFault pc why) s no_fault ends until = absurd no_fault
 
--- ---- the law
+-- ---- the laws
 
 judged_by : (o : Outcome) (judges : Comparison → Type 0) (at : ℕ) → Tells o judges (Differs at) → IsNoFault o × judges (Differs at)
 judged_by GoesOn judges at told = (tt, told)
@@ -91,15 +90,53 @@ judged_by (Exited code) judges at told = (tt, told)
 judged_by (Trapped pc) judges at told = (tt, told)
 judged_by (AddressFault pc why) judges at told = absurd (cc)
 
-pub never_differs : OneInstruction → (file out : List ℕ) (board : Board) (g : Graph) (input : List ℕ) (n at : ℕ) → KeepsPaired file out board → IsGraph (view_in file) board g → AreBytes input → IsPairedRun file board g input n → ComparesFiles file out board g input n (Differs at) → ⊥
-never_differs one file out board g input n at keeps graph bytes paired compares =
+-- what is kept of each number of steps within `n` is no difference
+never_by : OneInstruction → (file out : List ℕ) (board : Board) (g : Graph) (input : List ℕ) (n at : ℕ) → ((k : ℕ) (s : SourceState) → k ≤ n → Steps (program_in file board g) k (source_start file board g input) s → Keeps k ((k + 1) * most_steps board) s (file_start out board input)) → ComparesFiles file out board g input n (Differs at) → ⊥
+never_by one file out board g input n at keeps compares =
     let k = compares.0 in
     let s = compares.1.0 in
     let ends = compares.1.1.0 in
     let start = file_start out board input in
     let most = (k + 1) * most_steps board in
-    let first = paired_first one (program_in file board g) n k (source_start file board g input) paired.0 s at_start ends.within paired.1 ends.ran in
-    let kept = keeps g input k s graph bytes first in
+    let kept = keeps k s ends.within ends.ran in
     let told = judged_by s.outcome (JudgesRun board k s start) at compares.1.1.1 in
     let run = told.1 in
-    run.1.1.1.0 (alike_by one most start run.1.0 kept.1.0 run.0 kept.0 kept.1.1.0 kept.1.1.1.0 s.outcome s told.0 kept.1.1.1.1 run.1.1.0)
+    run.1.1.1.0 (alike_by one most start run.1.0 kept.1.0 run.0 kept.0 kept.1.1.0.most kept.1.1.1.0 s.outcome s told.0 kept.1.1.1.1 run.1.1.0)
+
+pub never_differs : OneInstruction → KeptNeverDiffers
+never_differs one file out board g input n at keeps graph bytes paired compares =
+    never_by one file out board g input n at
+    (λ k s within ran.
+    keeps g input k s graph bytes
+    (paired_first one (program_in file board g) n k (source_start file board g input) paired.0 s at_start within paired.1 ran))
+    compares
+
+pub runs_never_differ : OneInstruction → KeptRunsNeverDiffer
+runs_never_differ one file out board g input n at keeps graph bytes compares =
+    never_by one file out board g input n at (λ k s within ran. keeps g input k s graph bytes ran) compares
+
+-- ---- where the program goes on
+
+goes_at : (o : FlatOutcome) (k : ℕ) (t u : State) → t.outcome ≡ o → flat_runs.Steps k t u → u.outcome ≡ flat.GoesOn → t.outcome ≡ flat.GoesOn
+goes_at flat.GoesOn k t u is rest going = is
+goes_at (flat.Exited code) k t u is rest going =
+    ap (λ (x : State). x.outcome) (sym (flat_lemmas.ended_steps k t u (subst flat_runs.HasEnded (sym is) tt) rest)) ∙ going
+goes_at (flat.Trapped pc) k t u is rest going =
+    ap (λ (x : State). x.outcome) (sym (flat_lemmas.ended_steps k t u (subst flat_runs.HasEnded (sym is) tt) rest)) ∙ going
+
+goes_for : OneInstruction → (out : List ℕ) (board : Board) (input : List ℕ) (n bound : ℕ) (s : SourceState) → s.outcome ≡ GoesOn → Keeps n bound s (file_start out board input) → GoesOnFor out board input n
+goes_for one out board input n bound s going keeps j t few steps =
+    let k = keeps.0 in
+    let u = keeps.1.0 in
+    let long = keeps.1.1.0.least going in
+    let ends : EndsAlike GoesOn s u = subst (λ (o : Outcome). EndsAlike o s u) going keeps.1.1.1.1 in
+    let rest = steps_between one j k (file_start out board input) t u (omega (arith, few, long)) steps keeps.1.1.1.0 in
+    goes_at t.outcome (k - j) t u refl rest ends.0
+
+pub kept_goes_on : OneInstruction → KeptGoesOn
+kept_goes_on one file out board g input n s keeps graph bytes steps going =
+    goes_for one out board input n ((n + 1) * most_steps board) s going (keeps g input n s graph bytes steps)
+
+pub kept_runs_go_on : OneInstruction → KeptRunsGoOn
+kept_runs_go_on one file out board g input n s keeps graph bytes steps going =
+    goes_for one out board input n ((n + 1) * most_steps board) s going (keeps g input n s graph bytes steps)

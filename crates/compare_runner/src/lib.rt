@@ -7,7 +7,10 @@ mod laws;
 mod running;
 
 pub use comparing::{Comparison, compare};
-pub use laws::{kept_never_differs, one_comparison, unmoved_never_differs};
+pub use laws::{
+    kept_goes_on, kept_never_differs, kept_runs_go_on, kept_runs_never_differ, one_comparison,
+    unmoved_never_differs,
+};
 
 #[cfg(test)]
 mod tests;

@@ -12,3 +12,4 @@ pub mod Units
 pub mod Orders
 pub mod Parts
 pub mod Single
+pub mod Absolute

@@ -71,7 +71,7 @@ FileKeeps =
     (file : List ℕ) (board : Board) (g : Graph) (input : List ℕ) (n : ℕ) (s : SourceState)
     → IsAccepted file board g → AreBytes input
     → PairedSteps (program_in file board g) n (source_start file board g input) at_start s
-    → Keeps (n * 2) s (file_start file board input)
+    → Keeps n (n * 2) s (file_start file board input)
 
 -- ---- one graph
 

@@ -1,4 +1,5 @@
 // Laws of the definitions: functions that do nothing, whose contracts are what is proved.
+ghost use Rattle.file_at_home.specs.Absolute.{AbsoluteRunsArePaired};
 ghost use Rattle.file_at_home.specs.Laws.{HomeIsSound, UnitsAreHome, StartIsAlike, FileKeeps, OneGraph, OneRun};
 
 /// In an accepted file that is loaded as it is, fixed memory, objects and code are mapped and share no byte, and
@@ -17,10 +18,15 @@ pub fn start_is_alike()
     ensures { StartIsAlike }
 {}
 
-/// A run of paired steps from the start is kept whole by the flat machine on the file's own image, in at most two
+/// A run of paired steps from the start is kept whole by the flat machine on the file's own image, in one or two
 /// of its steps for each.
 pub fn file_keeps()
     ensures { FileKeeps }
+{}
+
+/// Where a file's code makes no address relative to the pc, every run of it is paired.
+pub fn absolute_runs_are_paired()
+    ensures { AbsoluteRunsArePaired }
 {}
 
 /// A file has one graph on a board: two graphs of its view have the same objects, sites, words of data and code

@@ -4,4 +4,7 @@
 
 mod laws;
 
-pub use laws::{file_keeps, home_is_sound, one_graph, one_run, start_is_alike, units_are_home};
+pub use laws::{
+    absolute_runs_are_paired, file_keeps, home_is_sound, one_graph, one_run, start_is_alike,
+    units_are_home,
+};

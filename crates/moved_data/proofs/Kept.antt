@@ -13,6 +13,7 @@ use Rattle.object_machine.specs.Program.{Program}
 use Rattle.object_machine.specs.State.{SourceState}
 use Rattle.object_machine.specs.Runs.{Steps}
 use Rattle.simulation.specs.Laws.{IsUnit, OfBlock, ReachedBy, Behind}
+use Rattle.simulation.proofs.Runs.{keeps_behind}
 use Rattle.file_at_home.specs.Laws.{IsAccepted, program_in, source_start, file_start}
 use Rattle.file_at_home.proofs.Objects.{object_moves}
 use Rattle.file_at_home.proofs.Single.{one_run}
@@ -21,7 +22,7 @@ use Rattle.moved_data.specs.Placing.{Placing, IsPlacing}
 use Rattle.moved_data.specs.Moved.{start_jobs, start_plan, unnamed}
 use Rattle.moved_data.specs.Laws.{IsMoved, setup_of, most_steps, MovedFileKeeps}
 use Rattle.moved_data.proofs.Bounds.{HasBytes, jobs_short, start_short}
-use Rattle.moved_data.proofs.Runs.{behind_steps, within, keeps_steps}
+use Rattle.moved_data.proofs.Runs.{keeps_steps}
 use Rattle.moved_data.proofs.Sound.{sound_moved}
 use Rattle.moved_data.proofs.Start.{start_leads}
 use Rattle.moved_data.proofs.Units.{units_moved}
@@ -63,6 +64,5 @@ moved_file_keeps file out board g pl accepted placing view h input n s graph byt
     keeps_steps p (setup_of file out board pl) (sound_moved file out board g pl moved) (units_moved file out board g pl moved) refl
     n (source_start file board g input) s lead.0
     (record { alike = lead.1.1.0; at = lead.1.1.1; unit = unnamed_unit p (view_in file).entry (entry_unit file board g accepted) }) own in
-    within (start_run plan + n * 2) ((n + 1) * most_steps board) s (file_start out board input)
-    (start_short plan board n (stub_short file board g pl accepted placing))
-    (behind_steps (start_run plan) (n * 2) s (file_start out board input) lead.0 lead.1.0 keeps)
+    keeps_behind n n ((n + 1) * most_steps board) (n * 2) (start_run plan) s (file_start out board input) lead.0 lead.1.0
+    (λ going. omega arith) (start_short plan board n (stub_short file board g pl accepted placing)) keeps

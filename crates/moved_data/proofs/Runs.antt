@@ -1,10 +1,9 @@
 -- Whole runs of a result: where each upper part is made by a LUI, all makers may be taken for LUIs, so each step of a
 -- run is kept, paired or not.
-use Rattle.std.proofs.Common.{◌≡◌, ◌∙◌, ℕ, zero, suc, ◌+◌, ◌*◌, ◌≤◌, true, false, length, Option, refl, sym, subst, arith}
+use Rattle.std.proofs.Common.{◌≡◌, ◌∙◌, ℕ, zero, suc, ◌*◌, true, false, length, Option, refl, sym, subst, arith}
 use Rattle.rv_decode.specs.declared.instructions.Instr.{Instr}
 use Rattle.flat_machine.specs.State.{State}
-use Rattle.flat_machine.specs.Runs as flat
-use Rattle.flat_machine.proofs.Runs.{steps_joined, steps_of_events}
+use Rattle.flat_machine.proofs.Runs.{steps_of_events}
 use Rattle.cell_values.specs.Objects.{Objects}
 use Rattle.cell_values.specs.declared.values.Val.{Val}
 use Rattle.cell_values.specs.declared.values.Val.TheVariants.{Int, Addr, Hi, Low, Piece, Unknown}
@@ -17,9 +16,8 @@ use Rattle.object_machine.specs.declared.events.Outcome.TheVariants.{GoesOn, Exi
 use Rattle.object_machine.specs.Program.{Program}
 use Rattle.object_machine.specs.State.{SourceState, value}
 use Rattle.object_machine.specs.Step.{next_state, StepFrom}
-use Rattle.object_machine.specs.Runs.{Steps, HasEnded}
+use Rattle.object_machine.specs.Runs.{Steps}
 use Rattle.object_machine.specs.Paired.{Makers, at_start, makers_after}
-use Rattle.object_machine.proofs.RunLemmas.{ended_steps}
 use Rattle.simulation.specs.Setups.{Setup, Sound}
 use Rattle.simulation.specs.Made.{IsMade, CellIsMade, AreMade}
 use Rattle.simulation.specs.Relation.{Alike, After}
@@ -27,6 +25,7 @@ use Rattle.simulation.specs.Rules.{all_live}
 use Rattle.simulation.specs.Laws.{at_home, IsUnit, AllAtHome, EndsAlike, Keeps}
 use Rattle.simulation.proofs.AtHome.{units_at_home}
 use Rattle.simulation.proofs.Next.{next_lands}
+use Rattle.simulation.proofs.Runs.{keeps_here, keeps_ended, keeps_next}
 use Rattle.moved_data.specs.Moved.{unnamed}
 use Rattle.moved_data.proofs.Unnamed.{next_same, paired}
 
@@ -63,23 +62,6 @@ all_made p s =
       fixed = λ a. cell_made p (s.fixed a);
       cells = λ o i. cell_made p (s.cells o i);
     }
-
--- ---- bounds
-
--- more steps of the flat machine before
-pub behind_steps : (j rest : ℕ) (s : SourceState) (t t' : State) → flat.Steps j t t' → Keeps rest s t' → Keeps (j + rest) s t
-behind_steps j rest s t t' steps keeps =
-    let few = keeps.1.1.0 in
-    (j + keeps.0, (keeps.1.0, (omega (arith, few), (steps_joined j keeps.0 t t' keeps.1.0 steps keeps.1.1.1.0, keeps.1.1.1.1))))
-
-pub within : (bound more : ℕ) (s : SourceState) (t : State) → bound ≤ more → Keeps bound s t → Keeps more s t
-within bound more s t le keeps =
-    let few = keeps.1.1.0 in
-    (keeps.0, (keeps.1.0, (omega (arith, few, le), keeps.1.1.1)))
-
-here_ends : (rest : ℕ) (s s' : SourceState) (t : State) → s' ≡ s → EndsAlike s.outcome s t → Keeps rest s' t
-here_ends rest s s' t stays alike =
-    (0, (t, (omega arith, (refl, subst (λ n. EndsAlike n.outcome n t) (sym stays) alike))))
 
 -- ---- runs
 
@@ -122,19 +104,19 @@ module _ (p : Program) (l : Setup) (sound : Sound (unnamed p) l 0) (units : AllA
       }
 
   -- what follows a step, by its outcome
-  rest_keeps : (n : ℕ) (s s' : SourceState) (m : Makers) (t : State) → ((t : State) → AtUnit s t → Keeps (n * 2) s' t) → (s.outcome ≡ GoesOn → IsUnit q s.pc) → (o : Outcome) → s.outcome ≡ o → After o q l all_live at_home 0 s m t → Steps p n s s' → Keeps (n * 2) s' t
+  rest_keeps : (n : ℕ) (s s' : SourceState) (m : Makers) (t : State) → ((t : State) → AtUnit s t → Keeps n (n * 2) s' t) → (s.outcome ≡ GoesOn → IsUnit q s.pc) → (o : Outcome) → s.outcome ≡ o → After o q l all_live at_home 0 s m t → Steps p n s s' → Keeps n (n * 2) s' t
   rest_keeps n s s' m t more lands GoesOn is after steps =
       more t (record { alike = reset s.pc s m t after.0; at = after.1; unit = lands is })
   rest_keeps n s s' m t more lands (Exited code) is after steps =
-      here_ends (n * 2) s s' t (ended_steps p n s s' (subst HasEnded (sym is) tt) steps) (subst (λ o. EndsAlike o s t) (sym is) after)
+      keeps_ended p n (n * 2) (Exited code) s s' t is tt after steps
   rest_keeps n s s' m t more lands (Trapped pc) is after steps =
-      here_ends (n * 2) s s' t (ended_steps p n s s' (subst HasEnded (sym is) tt) steps) (subst (λ o. EndsAlike o s t) (sym is) after)
+      keeps_ended p n (n * 2) (Trapped pc) s s' t is tt after steps
   rest_keeps n s s' m t more lands (AddressFault pc why) is after steps =
-      here_ends (n * 2) s s' t (ended_steps p n s s' (subst HasEnded (sym is) tt) steps) (subst (λ o. EndsAlike o s t) (sym is) tt)
+      keeps_ended p n (n * 2) (AddressFault pc why) s s' t is tt after steps
 
-  pub keeps_steps : (n : ℕ) (s s' : SourceState) (t : State) → AtUnit s t → Steps p n s s' → Keeps (n * 2) s' t
+  pub keeps_steps : (n : ℕ) (s s' : SourceState) (t : State) → AtUnit s t → Steps p n s s' → Keeps n (n * 2) s' t
   keeps_steps zero s s' t here steps =
-      here_ends (0 * 2) s s' t steps
+      keeps_here 0 (0 * 2) s s' t steps (λ going. omega arith)
       (subst (λ o. EndsAlike o s t) (sym here.alike.source_going) (here.alike.going, here.alike.output))
   keeps_steps (suc n) s s' t here steps =
       let going : StepFrom GoesOn p s steps.1.0.0 steps.0 =
@@ -146,9 +128,7 @@ module _ (p : Program) (l : Setup) (sound : Sound (unnamed p) l 0) (units : AllA
       let one =
       units_at_home q l 0 s at_start t read sound (units s.pc here.unit) here.alike (all_made q s) here.at going.1.meant (paired p s read) in
       let t' : State = one.1.0 in
-      let short = one.1.1.1.0 in
       let later =
       rest_keeps n next s' (makers_after q s at_start read) t' (λ t at. keeps_steps n next s' t at rest)
       (next_lands q s read here.unit) next.outcome refl one.1.1.1.1 rest in
-      let all = behind_steps (length one.0) (n * 2) s' t t' (steps_of_events one.0 t t' one.1.1.0) later in
-      within (length one.0 + n * 2) (suc n * 2) s' t (omega (arith, short)) all
+      keeps_next p n 2 (length one.0) next s' t t' (steps_of_events one.0 t t' one.1.1.0) one.1.1.1.0 rest later

@@ -64,15 +64,15 @@ StartLeads =
 abbrev pub most_steps : Board → ℕ
 most_steps board = 12 * board.spm.size + 256
 
--- What a program does on an input in `n` steps, its result does in at most `n + 1` times `most_steps` steps: it
--- writes the same bytes, and exits with the same code, traps or goes on as the program does. Nothing is said of
--- a run that ends in an address fault.
+-- What a program does on an input in `n` steps, its result does in at most `n + 1` times `most_steps` steps, and in no
+-- fewer than `n` where the program goes on: it writes the same bytes, and exits with the same code, traps or goes on as
+-- the program does. Nothing is said of a run that ends in an address fault.
 abbrev pub KeepsRuns : List ℕ → List ℕ → Board → Type 0
 KeepsRuns file out board =
     (g : Graph) (input : List ℕ) (n : ℕ) (s : SourceState)
     → IsGraph (view_in file) board g → AreBytes input
     → Steps (program_in file board g) n (source_start file board g input) s
-    → Keeps ((n + 1) * most_steps board) s (file_start out board input)
+    → Keeps n ((n + 1) * most_steps board) s (file_start out board input)
 
 -- a result in which objects are moved keeps the meaning of its program
 abbrev pub MovedFileKeeps : Type 0

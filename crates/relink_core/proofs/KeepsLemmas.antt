@@ -6,24 +6,18 @@ use Rattle.elf_reader.specs.Layout.{program_header_count}
 use Rattle.elf_reader.specs.File.{view_in}
 use Rattle.elf_reader.specs.Faults.{first_fault}
 use Rattle.board_config.specs.declared.board.Board.{Board}
-use Rattle.flat_machine.specs.State.{State}
 use Rattle.object_graph.specs.LayoutFaults.{layout_fault}
 use Rattle.code_blocks.specs.Blocks.{code_fault}
-use Rattle.object_machine.specs.State.{SourceState}
-use Rattle.simulation.specs.Laws.{Keeps}
+use Rattle.simulation.proofs.Runs.{keeps_within}
 use Rattle.file_at_home.specs.Laws.{file_start}
+use Rattle.file_at_home.proofs.Absolute.{absolute_runs_are_paired}
 use Rattle.file_at_home.proofs.Units.{file_keeps}
+use Rattle.moved_data.specs.Laws.{most_steps}
 use Rattle.relink_core.specs.declared.fault.AnalyseFault.TheVariants as analyse
 use Rattle.relink_core.specs.Faults.{headers_fault, file_fault, patch_fault, places_fault, view_fault, analyse_fault}
-use Rattle.relink_core.specs.Keeps.{most_steps, UnmovedFileKeeps}
+use Rattle.relink_core.specs.Keeps.{UnmovedFileKeeps, AbsoluteKeepsRuns}
 
 -- ---- bounds
-
--- what is kept within a bound is kept within a greater one
-pub keeps_more : (few many : ℕ) (s : SourceState) (t : State) → few ≤ many → Keeps few s t → Keeps many s t
-keeps_more few many s t more keeps =
-    let short = keeps.1.1.0 in
-    (keeps.0, (keeps.1.0, (omega (arith, short, more), keeps.1.1.1)))
 
 -- two steps for each are within the bound of a result
 two_each : (n size : ℕ) → n * 2 ≤ (n + 1) * (12 * size + 256)
@@ -54,12 +48,16 @@ passes file board none =
       code = unwrapped analyse.Code (code_fault v) viewed.1;
     }
 
--- ---- the law
+-- ---- the laws
 
 pub unmoved_file_keeps : UnmovedFileKeeps
 unmoved_file_keeps file board bytes lawful none g input n s graph input_bytes steps =
     let sound = passes file board none in
-    keeps_more (n * 2) ((n + 1) * most_steps board) s (file_start file board input) (two_each n board.spm.size)
+    keeps_within n (n * 2) ((n + 1) * most_steps board) s (file_start file board input) (two_each n board.spm.size)
     (file_keeps file board g input n s
     (record { bytes = bytes; none = sound.first; lawful = lawful; layout = sound.layout; graph = graph; code = sound.code })
     input_bytes steps)
+
+pub absolute_keeps_runs : AbsoluteKeepsRuns
+absolute_keeps_runs file out board absolute keeps g input n s graph bytes steps =
+    keeps g input n s graph bytes (absolute_runs_are_paired (view_in file) board g input n s graph absolute steps)

@@ -49,7 +49,7 @@ use Rattle.relink_core.specs.Keeps.{KeepsPaired}
 use Rattle.relink_core.specs.Realises.{data_placing, MovesData, Realises, takes_nothing, takes_data}
 use Rattle.relink_core.specs.Choices.{IsAnalysisOf, IsDataChoice, taken_names, KeepsMeaning}
 use Rattle.relink_core.specs.Making.{taken_object, taken_objects, ArePlacesOf, CanMove, ArePatchesFor, start_plan_of, IsStartSegment, moves_below}
-use Rattle.relink_core.proofs.KeepsLemmas.{passes, unmoved_file_keeps}
+use Rattle.relink_core.proofs.KeepsLemmas.{passes, unmoved_file_keeps, absolute_keeps_runs}
 use Rattle.relink_core.proofs.DataChoices.{choice_takes, can_lay_out}
 use Rattle.relink_core.proofs.DataPlaces.{can_move}
 use Rattle.relink_core.proofs.StubLemmas.{can_start, stub_fits, plan_same}
@@ -220,7 +220,9 @@ file_realises file board g p c out none same = takes_nothing (no_names p c none)
 pub file_keeps_meaning : (file : List ℕ) (board : Board) (a : Analysis) (p : PlainProgramme) (c : PlainChoice) (out : List ℕ) → IsAnalysisOf file board a → c.take ≡ [] → out ≡ file → KeepsMeaning (taken_names p c) file out board
 file_keeps_meaning file board a p c out is none same =
     subst (λ (names : List VarName). KeepsMeaning names file out board) (sym (no_names p c none))
-    (subst (λ (x : List ℕ). KeepsPaired file x board) (sym same) (unmoved_file_keeps file board is.bytes is.lawful is.passes))
+    (let keeps : KeepsPaired file out board =
+    subst (λ (x : List ℕ). KeepsPaired file x board) (sym same) (unmoved_file_keeps file board is.bytes is.lawful is.passes) in
+    (keeps, λ absolute. absolute_keeps_runs file out board absolute keeps))
 
 pub data_realises : (file : List ℕ) (board : Board) (g : Graph) (p : PlainProgramme) (c : PlainChoice) (out : List ℕ) → g.grain ≡ board.grain → IsDataChoice board g p c → 0 < length c.take → MovesData file board g (taken_objects p.off.vars c.take) out → Realises file board g (taken_names p c) out
 data_realises file board g p c out grain is some moves =

@@ -14,6 +14,7 @@ use Rattle.placement_programme.specs.Programme.{IsFeasible}
 use Rattle.placement_programme.specs.Rows.{Layout, static_data, off_capacities, off_weights}
 use Rattle.relocator.specs.Slots.{name_at}
 use Rattle.relocator.specs.Space.{datum_of}
+use Rattle.file_at_home.specs.Absolute.{IsAbsolute}
 use Rattle.moved_data.specs.Laws.{KeepsRuns}
 use Rattle.relink_core.specs.declared.analysis.Analysis.{Analysis}
 use Rattle.relink_core.specs.Faults.{analyse_fault}
@@ -83,7 +84,8 @@ taken_names p c = map (name_at p.off.vars) c.take
 -- ---- the meaning
 
 -- a result keeps the meaning of its file. Where nothing is taken the words of code that add to their own address stay,
--- and only paired runs are spoken of
+-- and only paired runs are spoken of: every run, if the code makes addresses by absolute relocations alone
 abbrev pub KeepsMeaning : List VarName → List ℕ → List ℕ → Board → Type 0
-KeepsMeaning [] file out board = KeepsPaired file out board
+KeepsMeaning [] file out board =
+    KeepsPaired file out board × (IsAbsolute (view_in file) → KeepsRuns file out board)
 KeepsMeaning (name ∷ names) file out board = KeepsRuns file out board

@@ -11,22 +11,24 @@ use Rattle.object_machine.specs.State.{SourceState}
 use Rattle.object_machine.specs.Paired.{at_start, PairedSteps}
 use Rattle.simulation.specs.Laws.{Keeps}
 use Rattle.file_at_home.specs.Laws.{program_in, source_start, file_start}
+use Rattle.file_at_home.specs.Absolute.{IsAbsolute}
+use Rattle.moved_data.specs.Laws.{most_steps, KeepsRuns}
 use Rattle.relink_core.specs.Faults.{analyse_fault}
 
--- How many steps of a result are enough for one of its program: those of the unit itself, of the pads and stubs
--- that lead to it, and of copying what moves out of the scratchpad and into it, where the region changes
-abbrev pub most_steps : Board → ℕ
-most_steps board = 12 * board.spm.size + 256
-
--- What a program does on an input in `n` paired steps, its result does in at most `n + 1` times `most_steps`
--- steps: it writes the same bytes, and exits with the same code, traps or goes on as the program does. Nothing
--- is said of a run that ends in an address fault.
+-- What a program does on an input in `n` paired steps, its result does in at most `n + 1` times `most_steps` steps, and
+-- in no fewer than `n` where the program goes on: it writes the same bytes, and exits with the same code, traps or goes
+-- on as the program does. Nothing is said of a run that ends in an address fault.
 abbrev pub KeepsPaired : List ℕ → List ℕ → Board → Type 0
 KeepsPaired file out board =
     (g : Graph) (input : List ℕ) (n : ℕ) (s : SourceState)
     → IsGraph (view_in file) board g → AreBytes input
     → PairedSteps (program_in file board g) n (source_start file board g input) at_start s
-    → Keeps ((n + 1) * most_steps board) s (file_start out board input)
+    → Keeps n ((n + 1) * most_steps board) s (file_start out board input)
+
+-- where the code makes addresses by absolute relocations alone, that is every run
+abbrev pub AbsoluteKeepsRuns : Type 0
+AbsoluteKeepsRuns =
+    (file out : List ℕ) (board : Board) → IsAbsolute (view_in file) → KeepsPaired file out board → KeepsRuns file out board
 
 -- where no check of the analysis fails, a file that is handed on as it is keeps its own meaning
 abbrev pub UnmovedFileKeeps : Type 0

@@ -12,7 +12,7 @@ mod taking;
 
 pub use analysis::{Analysis, analyse};
 pub use fault::AnalyseFault;
-pub use laws::{stated_is_realisable, unmoved_file_keeps};
+pub use laws::{absolute_keeps_runs, stated_is_realisable, unmoved_file_keeps};
 pub use realising::{realise, start_places};
 pub use taking::taken_objects;
 

@@ -291,7 +291,7 @@ start_alike =
     bytes a = cond_both (nat_le 4096 a && nat_lt a 4120) (code_byte a) 0 (λ b. b < 256) (λ code. omega arith) (λ other. omega arith)
 
 -- so what any run of it does is kept
-kept : (n : ℕ) (s : SourceState) → PairedSteps program n source_start at_start s → Keeps (n * 2) s flat_start
+kept : (n : ℕ) (s : SourceState) → PairedSteps program n source_start at_start s → Keeps n (n * 2) s flat_start
 kept n s steps =
     runs_at_home program setup 0 n source_start s at_start flat_start sound all_at_home (OfBlock 4096 refl) start_alike
     (record { regs = start_value program; fixed = λ a. tt; cells = λ o i. tt }) refl steps

@@ -283,7 +283,7 @@ exits : after_call.outcome ≡ Exited 7
 unfolding put_at
 exits = refl
 
-kept : Keeps (4 * 2) after_call state
+kept : Keeps 4 (4 * 2) after_call state
 kept =
     runs_at_home program setup 0 4 source after_call at_start state setup_sound all_at_home (OfBlock 1024 refl)
     states_alike source_made refl run

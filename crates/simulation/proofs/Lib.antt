@@ -14,9 +14,10 @@ pub mod Jumps
 pub mod Pairs
 pub mod Dispatch
 pub mod Next
-pub mod Runs
 pub mod MadeValues
 pub mod MadeSteps
+pub mod PairedRuns
+pub mod Runs
 pub mod AtHome
 pub mod Completes
 pub mod ExampleRun

@@ -89,7 +89,8 @@ module _ (p : Program) where
   load_made Lhu s m w made = half_made p same_number (maker_at m w 0) (cell_at s w 0) (cell_at s w 1)
   load_made Lw s m w made =
       join_made p (maker_at m w 0) (maker_at m w 1) (maker_at m w 2) (maker_at m w 3) (cell_at s w 0) (cell_at s w 1)
-      (cell_at s w 2) (cell_at s w 3) (cell_made s m w 0 made)
+      (cell_at s w 2) (cell_at s w 3) (cell_made s m w 0 made) (cell_made s m w 1 made) (cell_made s m w 2 made)
+      (cell_made s m w 3 made)
 
   module _ (kind : StoreKind) (x : Val) (maker : Maker) (is : IsMade p maker x) where
     table_made : (table : Cells) (makers : ℕ → Maker) (k : ℕ) → ((a : ℕ) → CellIsMade p (makers a) (table a)) → (a : ℕ) → CellIsMade p (put_makers makers k maker (store_width kind) a) (put_cells table k (stored_cells kind x) a)

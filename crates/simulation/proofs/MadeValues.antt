@@ -1,7 +1,8 @@
 -- The AUIPC beside an upper part made it: values that operations leave and loads take, and cells that stores put.
-use Rattle.std.proofs.Common.{◌≡◌, inl, inr, ℕ, ◌+◌, ◌-◌, ◌<◌, ◌≤◌, ◌==◌, nat_lt, nat_le, Bool, true, false, ◌&&◌, if◌then◌else◌, slice_index_or, Option, Some, None, ℤ, subst, arith}
+use Rattle.std.proofs.Common.{◌≡◌, inl, inr, ℕ, ◌+◌, ◌-◌, ◌<◌, ◌≤◌, ◌==◌, nat_lt, nat_le, Bool, true, false, ◌&&◌, if◌then◌else◌, slice_index_or, Option, Some, None, ℤ, refl, sym, subst, arith}
 use Rattle.std.specs.Int.{cast_unsigned, w32}
-use Rattle.std.proofs.lemmas.Bool.{cases_lt, cond_both}
+use Rattle.std.proofs.lemmas.Bool.{cases_lt, cond_both, eqb-true}
+use Rattle.index_tests.proofs.TestLemmas.{both}
 use Rattle.rv_decode.specs.declared.instructions.BranchKind.TheVariants.{Bltu}
 use Rattle.rv_decode.specs.declared.instructions.ImmKind.{ImmKind}
 use Rattle.rv_decode.specs.declared.instructions.RegKind.{RegKind}
@@ -14,7 +15,7 @@ use Rattle.cell_values.specs.declared.values.Val.{Val}
 use Rattle.cell_values.specs.declared.values.Val.TheVariants.{Int, Addr, Hi, Low, Piece, Unknown}
 use Rattle.cell_values.specs.declared.values.Cell.{Cell}
 use Rattle.cell_values.specs.declared.values.Cell.TheVariants.{Byte, Part, Mist}
-use Rattle.value_words.specs.Makers.{Maker, Mixed, same_maker, joined_maker}
+use Rattle.value_words.specs.Makers.{Maker, ByLui, ByAuipc, Mixed, same_maker, joined_maker}
 use Rattle.value_words.proofs.Stores.{first_cells}
 use Rattle.object_machine.specs.Program.{Program}
 use Rattle.object_machine.specs.State.{Cells}
@@ -128,20 +129,51 @@ module _ (p : Program) where
   half_made extend maker (Byte a) (Byte b) = tt
   half_made extend maker c d = tt
 
-  joined_made : (a b c e : Maker) (o d : ℕ) → MakesPart p a o d → IsMade p (joined_maker a b c e) (Hi o d)
-  joined_made a b c e o d made =
-      cond_both (same_maker a b && same_maker a c && same_maker a e) a Mixed (λ maker. MakesPart p maker o d)
-      (λ same. made) (λ other. tt)
+  -- of parts of one word that have two makers, an AUIPC made one
+  two_makers : (a b : Maker) (o d : ℕ) → same_maker a b ≡ false → MakesPart p a o d → MakesPart p b o d → MakesPart p Mixed o d
+  two_makers ByLui ByLui o d other first second = absurd (cc)
+  two_makers (ByAuipc a) b o d other first second = (a, first)
+  two_makers Mixed b o d other first second = first
+  two_makers ByLui (ByAuipc b) o d other first second = (b, second)
+  two_makers ByLui Mixed o d other first second = second
 
-  pub join_made : (a b c e : Maker) (first second third fourth : Cell) → CellIsMade p a first → IsMade p (joined_maker a b c e) (join first second third fourth)
-  join_made a b c e (Byte i) (Byte j) (Byte k) (Byte n) made = tt
-  join_made a b c e (Part true o d k) second third fourth made =
+  joined_made : (a b c e : Maker) (o d : ℕ) → MakesPart p a o d → MakesPart p b o d → MakesPart p c o d → MakesPart p e o d → IsMade p (joined_maker a b c e) (Hi o d)
+  joined_made a b c e o d first second third fourth =
+      by_tests (same_maker a b) (same_maker a c) (same_maker a e) refl refl refl
+    where
+      by_tests : (x y z : Bool) → same_maker a b ≡ x → same_maker a c ≡ y → same_maker a e ≡ z → MakesPart p (if x && y && z then a else Mixed) o d
+      by_tests true true true ab ac ae = first
+      by_tests true true false ab ac ae = two_makers a e o d ae first fourth
+      by_tests true false z ab ac ae = two_makers a c o d ac first third
+      by_tests false y z ab ac ae = two_makers a b o d ab first second
+
+  part_made : (maker : Maker) (o d j : ℕ) (c : Cell) → is_part true o d j c ≡ true → CellIsMade p maker c → MakesPart p maker o d
+  part_made maker o d j (Part true q e k) is made =
+      let two = both ((o == q) && (d == e)) (j == k) is in
+      let one = both (o == q) (d == e) two.0 in
+      let object : q ≡ o = sym (eqb-true o q one.0) in
+      let offset : e ≡ d = sym (eqb-true d e one.1) in
+      subst (λ (x : ℕ). MakesPart p maker o x) offset (subst (λ (x : ℕ). MakesPart p maker x e) object made)
+  part_made maker o d j (Part false q e k) is made = absurd (cc)
+  part_made maker o d j (Byte b) is made = absurd (cc)
+  part_made maker o d j Mist is made = absurd (cc)
+
+  pub join_made : (a b c e : Maker) (first second third fourth : Cell) → CellIsMade p a first → CellIsMade p b second → CellIsMade p c third → CellIsMade p e fourth → IsMade p (joined_maker a b c e) (join first second third fourth)
+  join_made a b c e (Byte i) (Byte j) (Byte k) (Byte n) made made2 made3 made4 = tt
+  join_made a b c e (Part true o d k) second third fourth made made2 made3 made4 =
       cond_both ((k == 0) && is_part true o d 1 second && is_part true o d 2 third && is_part true o d 3 fourth)
-      (whole_word true o d) Unknown (IsMade p (joined_maker a b c e)) (λ parts. joined_made a b c e o d made) (λ other. tt)
-  join_made a b c e (Part false o d k) second third fourth made =
+      (whole_word true o d) Unknown (IsMade p (joined_maker a b c e))
+      (λ parts.
+      let three = both ((k == 0) && is_part true o d 1 second && is_part true o d 2 third) (is_part true o d 3 fourth) parts in
+      let two = both ((k == 0) && is_part true o d 1 second) (is_part true o d 2 third) three.0 in
+      let one = both (k == 0) (is_part true o d 1 second) two.0 in
+      joined_made a b c e o d made (part_made b o d 1 second one.1 made2) (part_made c o d 2 third two.1 made3)
+      (part_made e o d 3 fourth three.1 made4))
+      (λ other. tt)
+  join_made a b c e (Part false o d k) second third fourth made made2 made3 made4 =
       cond_both ((k == 0) && is_part false o d 1 second && is_part false o d 2 third && is_part false o d 3 fourth)
       (whole_word false o d) Unknown (IsMade p (joined_maker a b c e)) (λ parts. tt) (λ other. tt)
-  join_made a b c e first second third fourth made = tt
+  join_made a b c e first second third fourth made made2 made3 made4 = tt
 
   -- ---- stores
 

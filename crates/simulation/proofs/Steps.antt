@@ -35,7 +35,7 @@ use Rattle.object_machine.specs.Step.{Reads, acts, next_state}
 use Rattle.object_machine.specs.Paired.{Makers, makers_by, makers_after, is_paired_by, is_paired_step}
 use Rattle.simulation.specs.Setups.{Setup}
 use Rattle.simulation.specs.Units.{StandsAt}
-use Rattle.simulation.specs.Relation.{Alike, After, Leads}
+use Rattle.simulation.specs.Relation.{Alike, After, KeepsPace, Leads}
 use Rattle.simulation.proofs.OneUnit.{Ready}
 
 -- ---- what is fetched
@@ -104,16 +104,17 @@ ready_fetches p l live arrive r s m t ready =
 module _ (p : Program) (l : Setup) (live arrive : ℕ → ℕ → Type 0) (r : ℕ) (t : State) where
   -- by one event and by two
   pub leads_one : (n : SourceState) (m : Makers) (e : FlatEvent) (t' : State) → Step t e t' → After n.outcome p l live arrive r n m t' → Leads 2 p l live arrive r n m t
-  leads_one n m e t' step after = (e ∷ [], (t', ((t', (step, refl)), (omega arith, after))))
+  leads_one n m e t' step after = (e ∷ [], (t', ((t', (step, refl)), (record { least = λ going. omega arith; most = omega arith }, after))))
 
   pub leads_two : (n : SourceState) (m : Makers) (e f : FlatEvent) (t' t'' : State) → Step t e t' → Step t' f t'' → After n.outcome p l live arrive r n m t'' → Leads 2 p l live arrive r n m t
   leads_two n m e f t' t'' step more after =
-      (e ∷ f ∷ [], (t'', ((t', (step, (t'', (more, refl)))), (omega arith, after))))
+      (e ∷ f ∷ [], (t'', ((t', (step, (t'', (more, refl)))), (record { least = λ going. omega arith; most = omega arith }, after))))
 
   -- a fault promises nothing
   pub fault_leads : (n : SourceState) (m : Makers) (pc why : ℕ) → n.outcome ≡ AddressFault pc why → Leads 2 p l live arrive r n m t
   fault_leads n m pc why fault =
-      ([], (t, (refl, (omega arith, subst (λ o. After o p l live arrive r n m t) (sym fault) tt))))
+      let none : KeepsPace 1 2 n.outcome 0 = record { least = λ going. absurd (cc); most = omega arith } in
+      ([], (t, (refl, (none, subst (λ o. After o p l live arrive r n m t) (sym fault) tt))))
 
   -- to the next word, to a block, or into a fault
   pub falls_leads : (s s' : SourceState) (m : Makers) → (falls_on p s s' ≡ record s' { pc = s.pc + 4 } → Leads 2 p l live arrive r (record s' { pc = s.pc + 4 }) m t) → Leads 2 p l live arrive r (falls_on p s s') m t

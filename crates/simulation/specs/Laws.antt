@@ -1,5 +1,5 @@
 -- The laws of steps and runs.
-use Rattle.std.specs.Prelude.{◌≡◌, ℕ, ◌+◌, ◌*◌, ◌≤◌, true, false, List, Option}
+use Rattle.std.specs.Prelude.{◌≡◌, ℕ, ◌+◌, ◌*◌, true, false, List, Option}
 use Rattle.elf_reader.specs.File.{PlainView}
 use Rattle.rv_decode.specs.declared.instructions.Instr.{Instr}
 use Rattle.flat_machine.specs.State.{State}
@@ -15,14 +15,14 @@ use Rattle.object_machine.specs.Paired.{Makers, at_start, makers_after, is_paire
 use Rattle.flat_machine.specs.declared.events.FlatOutcome as flat
 use Rattle.simulation.specs.Setups.{Setup, Sound}
 use Rattle.simulation.specs.Made.{AreMade}
-use Rattle.simulation.specs.Relation.{Alike, Leads}
+use Rattle.simulation.specs.Relation.{Alike, KeepsPace, Leads}
 use Rattle.simulation.specs.Rules.{all_live, UnitAt}
 
 -- the flat pc is at the unit itself
 abbrev pub at_home : ℕ → ℕ → Type 0
 at_home u a = a ≡ u
 
--- a unit at its home: one step of a paired run, and at most two of the flat machine
+-- a unit at its home: one step of a paired run, and one or two of the flat machine
 abbrev pub UnitsAtHome : Type 0
 UnitsAtHome =
     (p : Program) (l : Setup) (r : ℕ) (s : SourceState) (m : Makers) (t : State) (read : Option Instr)
@@ -49,8 +49,10 @@ EndsAlike (Exited code) s t = (t.outcome ≡ flat.TheVariants.Exited code) × (t
 EndsAlike (Trapped pc) s t = ((a : ℕ) × (t.outcome ≡ flat.TheVariants.Trapped a)) × (t.output ≡ s.output)
 EndsAlike (AddressFault pc why) s t = Unit {0}
 
-abbrev pub Keeps : ℕ → SourceState → State → Type 0
-Keeps bound s t = (k : ℕ) × ((t' : State) × ((k ≤ bound) × (Steps k t t' × EndsAlike s.outcome s t')))
+-- so does it where `n` steps of the other machine led to `s`, by steps that keep pace with them
+abbrev pub Keeps : ℕ → ℕ → SourceState → State → Type 0
+Keeps n bound s t =
+    (k : ℕ) × ((t' : State) × (KeepsPace n bound s.outcome k × (Steps k t t' × EndsAlike s.outcome s t')))
 
 -- the addresses at which a program may find a unit: of blocks, and behind units in them
 pub data IsUnit (p : Program) : ℕ → Type 0 where
@@ -62,11 +64,11 @@ pub data IsUnit (p : Program) : ℕ → Type 0 where
 abbrev pub AllAtHome : Program → Setup → ℕ → Type 0
 AllAtHome p l r = (u : ℕ) → IsUnit p u → UnitAt p l r u
 
--- all units of a run of `n` paired steps whose code stands at home: the flat machine keeps what it does, in at
--- most two steps each
+-- all units of a run of `n` paired steps whose code stands at home: the flat machine keeps what it does, in one or
+-- two steps each
 abbrev pub RunsAtHome : Type 0
 RunsAtHome =
     (p : Program) (l : Setup) (r n : ℕ) (s s' : SourceState) (m : Makers) (t : State)
     → Sound p l r → AllAtHome p l r → IsUnit p s.pc → Alike p l all_live r s.pc s m t → AreMade p s m
     → at_home s.pc t.hart.pc
-    → PairedSteps p n s m s' → Keeps (n * 2) s' t
+    → PairedSteps p n s m s' → Keeps n (n * 2) s' t

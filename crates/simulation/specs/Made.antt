@@ -6,7 +6,7 @@ use Rattle.cell_values.specs.declared.values.Val.{Val}
 use Rattle.cell_values.specs.declared.values.Val.TheVariants.{Hi, Piece}
 use Rattle.cell_values.specs.declared.values.Cell.{Cell}
 use Rattle.cell_values.specs.declared.values.Cell.TheVariants.{Part}
-use Rattle.value_words.specs.Makers.{Maker, ByAuipc}
+use Rattle.value_words.specs.Makers.{Maker, ByLui, ByAuipc, Mixed}
 use Rattle.object_machine.specs.Program.{Program}
 use Rattle.object_machine.specs.State.{SourceState, value}
 use Rattle.object_machine.specs.Paired.{Makers}
@@ -15,10 +15,15 @@ use Rattle.object_machine.specs.Paired.{Makers}
 abbrev pub IsAuipcAt : Program → ℕ → Type 0
 IsAuipcAt p a = (rd : ℕ) × ((n : ℕ) × Means (p.word a) (Auipc rd n))
 
--- the AUIPC is there, and is a site of the address
+-- the AUIPC there is a site of the address
+abbrev pub IsAuipcOf : Program → ℕ → ℕ → ℕ → Type 0
+IsAuipcOf p o d a = (p.site a ≡ Some (record { object = o; offset = d })) × IsAuipcAt p a
+
+-- it made the part, or one of several that were put together
 abbrev pub MakesPart : Program → Maker → ℕ → ℕ → Type 0
-MakesPart p (ByAuipc a) o d = (p.site a ≡ Some (record { object = o; offset = d })) × IsAuipcAt p a
-MakesPart p maker o d = Unit {0}
+MakesPart p ByLui o d = Unit {0}
+MakesPart p (ByAuipc a) o d = IsAuipcOf p o d a
+MakesPart p Mixed o d = (a : ℕ) × IsAuipcOf p o d a
 
 abbrev pub IsMade : Program → Maker → Val → Type 0
 IsMade p maker (Hi o d) = MakesPart p maker o d

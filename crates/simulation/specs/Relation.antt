@@ -43,7 +43,13 @@ After (Trapped pc) p l live arrive r s m t =
     ((a : ℕ) × (t.outcome ≡ flat.TheVariants.Trapped a)) × (t.output ≡ s.output)
 After (AddressFault pc why) p l live arrive r s m t = Unit {0}
 
--- at most `bound` steps of the flat machine lead from `t` to such a state
+-- So many steps of the flat machine keep pace with `n` of the other, which came to an outcome: they are at most
+-- `bound`, and where that goes on, no fewer than `n`. So a machine that goes on forever is kept by one that does.
+pub record KeepsPace (n bound : ℕ) (outcome : Outcome) (steps : ℕ) : Type 0 where
+  pub least : outcome ≡ GoesOn → n ≤ steps
+  pub most : steps ≤ bound
+
+-- steps of the flat machine that keep pace with one lead from `t` to such a state
 abbrev pub Leads : ℕ → Program → Setup → (ℕ → ℕ → Type 0) → (ℕ → ℕ → Type 0) → ℕ → SourceState → Makers → State → Type 0
 Leads bound p l live arrive r s m t =
-    (es : List FlatEvent) × ((t' : State) × (Does es t t' × ((length es ≤ bound) × After s.outcome p l live arrive r s m t')))
+    (es : List FlatEvent) × ((t' : State) × (Does es t t' × (KeepsPace 1 bound s.outcome (length es) × After s.outcome p l live arrive r s m t')))
