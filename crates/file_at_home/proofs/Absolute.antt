@@ -1,5 +1,5 @@
 -- Where no relocation makes an address relative to the pc, each upper part of one is a LUI's, so every run is paired.
-use Rattle.std.proofs.Common.{◌≡◌, ◌⊎◌, inl, inr, ℕ, ◌<◌, true, List, length, Option, Some, None, refl, sym, ◌∙◌, subst}
+use Rattle.std.proofs.Common.{◌≡◌, ◌⊎◌, inl, inr, ℕ, true, length, Option, Some, None, refl, sym, ◌∙◌, subst}
 use Rattle.fault_order.specs.First.{first_below}
 use Rattle.word_bits.specs.Words.{upper_half}
 use Rattle.rv_decode.specs.Fields.{rd_of}
@@ -7,8 +7,6 @@ use Rattle.rv_decode.proofs.Meaning.{same_instruction}
 use Rattle.elf_reader.specs.File.{PlainView}
 use Rattle.board_config.specs.declared.board.Board.{Board}
 use Rattle.loaded_code.specs.Code.{image_word}
-use Rattle.loaded_code.specs.Records.{reloc_at, counts}
-use Rattle.sound_relocations.specs.Sound.{is_pair_low}
 use Rattle.movable_ranges.specs.Fixed.{is_movable}
 use Rattle.object_graph.specs.Graphs.{IsGraph}
 use Rattle.object_graph.specs.Laws.{MeansBy, LoadsUpper, lead}

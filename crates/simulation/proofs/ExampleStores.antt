@@ -291,4 +291,4 @@ kept =
 -- the flat machine exits with 7 too
 flat_exits : (k : ℕ) × ((t : State) × ((k ≤ 8) × (Steps k state t × ((t.outcome ≡ flat.TheVariants.Exited 7) × (t.output ≡ [])))))
 unfolding put_at
-flat_exits = kept
+flat_exits = (kept.0, (kept.1.0, (kept.1.1.0.most, kept.1.1.1)))

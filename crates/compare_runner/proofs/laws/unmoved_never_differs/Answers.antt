@@ -1,5 +1,4 @@
-use Rattle.std.proofs.Common.{◌⊎◌, inl, inr, List}
-use Rattle.board_config.specs.declared.board.Board.{Board}
+use Rattle.std.proofs.Common.{inl, inr}
 use Rattle.compare_runner.proofs.laws.unmoved_never_differs.Goals as goal
 
 pub returns : goal.returns
