@@ -164,12 +164,31 @@ fn push_site(
     requires below { j < length view.now.relocs.items }
     ensures { IfOk result (λ _. (test : ℕ → Bool) → count_by test sites.new.items ≡ count_by test sites.old.items + (if gives_by (plain_view view.now) test j then 1 else 0)) }
 {
-    if is_direct(view, sound, j) && leads_some(view, loaded, cover, j)
-        || is_low_of_some(view, loaded, pairs, j)
-    {
+    if gives_some(view, loaded, sound, cover, pairs, j) {
         sites.push(u64::from(view.relocs[j].at))?;
     }
     Ok(())
+}
+
+/// Relocation `j` gives a site of some object.
+fn gives_some(
+    view: &ElfView,
+    loaded: &[bool],
+    sound: &[bool],
+    cover: &Cover,
+    pairs: &[u64],
+    j: usize,
+) -> bool
+    requires marks { loaded.now ≡ all_loaded (plain_view view.now) }
+    requires sound { sound.now ≡ all_sound (plain_view view.now) }
+    requires cover { IsCover (plain_view view.now) cover.now }
+    requires sorted { IsSorted pairs.now }
+    requires pairs { (test : ℕ → Bool) → list_any test pairs.now ≡ any_below (is_high_by (plain_view view.now) test) (length (plain_view view.now).relocs) }
+    requires below { j < length view.now.relocs.items }
+    ensures { result ≡ gives_some (plain_view view.now) j }
+{
+    is_direct(view, sound, j) && leads_some(view, loaded, cover, j)
+        || is_low_of_some(view, loaded, pairs, j)
 }
 
 /// Relocation `j` is of the low part of an AUIPC of some object.
