@@ -5,7 +5,7 @@ ghost use Rattle.rv_decode.specs.Fields.{opcode_of, funct3_of};
 ghost use Rattle.sound_relocations.specs.Sound.{is_addi, is_load_word, is_store_word, i_low, s_low, u_high, takes_low_i, takes_low_s};
 ghost use Rattle.sound_relocations.specs.Lists.{form_part};
 
-use crate::kinds::{R_RISCV_LO12_I, R_RISCV_LO12_S, R_RISCV_PCREL_LO12_I, R_RISCV_PCREL_LO12_S};
+use elf_reader::{R_RISCV_LO12_I, R_RISCV_LO12_S, R_RISCV_PCREL_LO12_I, R_RISCV_PCREL_LO12_S};
 use rv_decode::{funct3, opcode};
 
 const LUI: u32 = 0x37;

@@ -88,7 +88,9 @@ fn count_of(view: &ElfView, listed: Listed) -> usize
 {
     match listed {
         Listed::RangeStart | Listed::RangeEnd => view.symbols.len(),
-        Listed::ChangeStart | Listed::ChangeEnd | Listed::Call | Listed::LowKey => view.relocs.len(),
+        Listed::ChangeStart | Listed::ChangeEnd | Listed::Call | Listed::LowKey => view
+            .relocs
+            .len(),
     }
 }
 
