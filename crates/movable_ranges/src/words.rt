@@ -5,18 +5,17 @@ ghost use Rattle.elf_reader.specs.File.{plain_symbol, plain_view};
 ghost use Rattle.loaded_code.specs.Marks.{all_loaded};
 ghost use Rattle.loaded_code.specs.Records.{reloc_at, symbol_of};
 ghost use Rattle.sound_relocations.specs.Marks.{all_sound};
-ghost use Rattle.sound_relocations.specs.Sound.{is_pair_low};
 ghost use Rattle.sorted_numbers.specs.Sorted.{IsSorted, count_below};
 ghost use Rattle.movable_ranges.specs.Shares.{IsCover, leads_some, leads_by, is_high_by, is_low_of_some, gives_some, gives_by, repeats_at, is_low_shared, is_shared_low, AreSharedWords};
 
 use crate::cover::{Cover, is_covered, object_cover};
-use crate::meaning::STT_SECTION;
 use crate::soundness::{is_direct, is_pair};
 use crate::straying::symbol_value;
-use elf_reader::{ElfView, Reloc, Symbol};
+use elf_reader::{ElfView, Reloc, STT_SECTION, Symbol};
 use loaded_code::{counts, target};
 use object_ranges::has_range;
 use sorted_numbers::{arrange, has, repeats};
+use sound_relocations::is_pair_low;
 use std::alloc::{AllocError, Global};
 
 /// Where the sites of a program are, those of all its objects.
@@ -208,13 +207,6 @@ fn high_address(view: &ElfView, reloc: &Reloc) -> u64
     ensures { result ≡ (symbol_of (plain_view view.now) reloc.now).value }
 {
     u64::from(symbol_value(view, reloc.symbol as usize))
-}
-
-/// PCREL_LO12_I and PCREL_LO12_S (RISC-V psABI, "Relocations").
-fn is_pair_low(kind: u32) -> bool
-    ensures { result ≡ is_pair_low kind }
-{
-    matches!(kind, 24 | 25)
 }
 
 /// The addresses of the AUIPCs of which a low part shares its word.
