@@ -8,14 +8,10 @@ ghost use Rattle.object_ranges.specs.Ranges.{is_executable, has_extent, has_owne
 ghost use Rattle.object_ranges.specs.Extents.{key_of, extent_of, is_key_of, has_extent_in, IsAscending, IsFilled};
 
 use crate::extents::Extent;
-use elf_reader::{ElfView, Section, Symbol};
+use elf_reader::{EXECUTABLE_BIT, ElfView, STT_OBJECT, Section, Symbol};
 use sorted_numbers::arrange_once;
 use std::alloc::{AllocError, Global};
 
-/// The type of symbols of objects (`STT_OBJECT`).
-const STT_OBJECT: u8 = 1;
-/// The flag of executable sections (`SHF_EXECINSTR`).
-const EXECUTABLE_BIT: u32 = 2;
 /// How many addresses there are.
 const ADDRESSES: u64 = 0x1_0000_0000;
 
