@@ -7,23 +7,8 @@ ghost use Rattle.workload_gen.specs.Planned.{plain_planned, names_section_of};
 
 use crate::spec::{FileSpec, SectionSpec, SymbolSpec};
 use crate::writing::{padded_size, push_half, push_words, push_zeros};
-use elf_reader::Reloc;
+use elf_reader::{Reloc, SHT_NOBITS, SHT_PROGBITS, SHT_RELA, SHT_STRTAB, SHT_SYMTAB};
 use std::alloc::{AllocError, Global};
-
-/// The type of a section whose bytes stand in the file.
-const SHT_PROGBITS: u32 = 1;
-
-/// The type of a symbol table.
-const SHT_SYMTAB: u32 = 2;
-
-/// The type of a string table.
-const SHT_STRTAB: u32 = 3;
-
-/// The type of relocations with addends.
-const SHT_RELA: u32 = 4;
-
-/// The type of a section that has no bytes in the file.
-const SHT_NOBITS: u32 = 8;
 
 /// The bytes of an entry of a symbol table.
 const SYMBOL_SIZE: u32 = 16;
