@@ -159,7 +159,3 @@ fn jalr_end(address: u32, word: u32) -> End
     let back = if links(word) { Some(address + 4) } else { None };
     End::Indirect { back }
 }
-
-{
-    ((word >> 7) & 0x1f) as u8
-}
