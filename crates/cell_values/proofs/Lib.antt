@@ -1,3 +1,4 @@
 pub mod Reloads
 pub mod Immediates
 pub mod Words
+pub mod GraphObjects

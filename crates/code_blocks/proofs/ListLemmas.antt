@@ -1,11 +1,9 @@
 -- Tests over lists of numbers.
 use Rattle.std.proofs.Common.{◌≡◌, ◌∙◌, inl, inr, ℕ, ◌<◌, ◌==◌, Bool, true, false, ◌||◌, List, [], ◌∷◌, map, length, slice_index_or, refl, sym, ap}
-use Rattle.std.specs.List.{list_any, dedup, Contains}
-use Rattle.std.proofs.Math.Dec.{eqb}
-use Rattle.std.proofs.lemmas.List.Kept.{Contains-from_dedup, Contains-dedup_nat}
+use Rattle.std.specs.List.{list_any}
 use Rattle.std.proofs.lemmas.Bool.{eqb-true, eq-eqb}
-use Rattle.std.proofs.lemmas.List.Folds.{list_any_at, Any-from_list_any}
-use Rattle.index_tests.proofs.TestLemmas.{either, same_tests}
+use Rattle.std.proofs.lemmas.List.Folds.{list_any_at}
+use Rattle.index_tests.proofs.TestLemmas.{either}
 use Rattle.code_leaders.specs.Early.{has}
 
 -- a list passes a test where the list that it is made from passes the test of what is made
@@ -48,21 +46,3 @@ any_in test (y ∷ xs) x found passes =
 pub has_at : (xs : List ℕ) (k d : ℕ) → k < length xs → has xs (slice_index_or xs k d) ≡ true
 has_at xs k d below =
     list_any_at (λ x. slice_index_or xs k d == x) xs k d below (eq-eqb (slice_index_or xs k d) (slice_index_or xs k d) refl)
-
--- ---- a list sorted, and with each number once
-
-contained : (test : ℕ → Bool) (xs : List ℕ) (x : ℕ) → Contains xs x → test x ≡ true → list_any test xs ≡ true
-contained test xs x (k, below, here) passes = list_any_at test xs k x below (ap test here ∙ passes)
-
-from_dedup : (test : ℕ → Bool) (xs : List ℕ) → list_any test (dedup eqb xs) ≡ true → list_any test xs ≡ true
-from_dedup test xs found =
-    let (k, x, below, here, passes) = Any-from_list_any test (dedup eqb xs) found in
-    contained test xs x (Contains-from_dedup eqb xs x (k, below, here)) passes
-
-into_dedup : (test : ℕ → Bool) (xs : List ℕ) → list_any test xs ≡ true → list_any test (dedup eqb xs) ≡ true
-into_dedup test xs found =
-    let (k, x, below, here, passes) = Any-from_list_any test xs found in
-    contained test (dedup eqb xs) x (Contains-dedup_nat xs x (k, below, here)) passes
-
-pub any_dedup : (test : ℕ → Bool) (xs : List ℕ) → list_any test (dedup eqb xs) ≡ list_any test xs
-any_dedup test xs = same_tests (list_any test (dedup eqb xs)) (list_any test xs) (from_dedup test xs) (into_dedup test xs)

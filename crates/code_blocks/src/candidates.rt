@@ -8,12 +8,9 @@ ghost use Rattle.loaded_code.specs.Read.{IsRead};
 ghost use Rattle.code_blocks.specs.Functions.{lies_in_range, is_function};
 ghost use Rattle.code_blocks.specs.Kept.{key_at, key_of, passes_key, AreKeys};
 
-use elf_reader::ElfView;
+use elf_reader::{ElfView, STT_FUNC};
 use loaded_code::is_code_range;
 use std::alloc::{AllocError, Global};
-
-/// `STT_FUNC`: a symbol of a function.
-const STT_FUNC: u8 = 2;
 
 /// How many numbers a word has.
 const WORDS: u128 = 0x1_0000_0000;

@@ -22,7 +22,7 @@ use code_leaders::{
     pair_target,
 };
 use elf_reader::ElfView;
-use rv_decode::decode;
+use rv_decode::{decode, rd};
 
 /// The unit that `word` begins, which stands at `address`.
 pub(crate) fn unit_at(leaders: &Leaders, address: u32, word: u32) -> Unit
@@ -158,11 +158,4 @@ fn jalr_end(address: u32, word: u32) -> End
 {
     let back = if links(word) { Some(address + 4) } else { None };
     End::Indirect { back }
-}
-
-/// The register that a word writes (RISC-V Unprivileged ISA, "Base Instruction Formats").
-fn rd(word: u32) -> u8
-    ensures { result ≡ rd_of word }
-{
-    ((word >> 7) & 0x1f) as u8
 }

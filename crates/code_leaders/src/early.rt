@@ -11,12 +11,9 @@ ghost use Rattle.code_leaders.specs.Early.{has};
 
 use crate::flow::{FlowRule, add_flow};
 use crate::search::arrange;
-use elf_reader::ElfView;
+use elf_reader::{ElfView, STT_FUNC};
 use loaded_code::{counts, is_code_word, target};
 use std::alloc::{AllocError, Global};
-
-/// `STT_FUNC`: a symbol of a function.
-const STT_FUNC: u8 = 2;
 
 /// The addresses at which basic blocks begin by the rules that rest on no call pair, in ascending order and
 /// each once. `loaded` are the marks of the loaded sections. It fails only where no memory was left.

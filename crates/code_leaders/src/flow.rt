@@ -1,4 +1,4 @@
-ghost use Rattle.std.specs.Prelude.{◌≡◌, ℕ, ◌+◌, ◌^◌, ◌/◌, ◌<◌, ◌≤◌, true, false, ◌&&◌, ◌||◌, length, MatchOption, OnOk};
+ghost use Rattle.std.specs.Prelude.{◌≡◌, ℕ, IsTrue, ◌+◌, ◌*◌, ◌^◌, ◌/◌, ◌<◌, ◌≤◌, true, false, ◌&&◌, ◌||◌, length, MatchOption, OnOk};
 ghost use Rattle.index_tests.specs.Tests.{any_below, lies_in};
 ghost use Rattle.elf_reader.specs.File.{plain_view};
 ghost use Rattle.elf_reader.specs.Loaded.{section_at};
@@ -13,7 +13,7 @@ ghost use Rattle.code_leaders.specs.Flow.{leads_by};
 use crate::early::add_leader;
 use crate::meanings::{is_branch, is_jal, is_jalr, links};
 use crate::targets::{branch_target, jal_target};
-use elf_reader::ElfView;
+use elf_reader::{ElfView, Section};
 use loaded_code::{is_code_range, word_in};
 use std::alloc::AllocError;
 
@@ -119,13 +119,30 @@ fn code_word(view: &ElfView, k: usize, i: u32) -> Option<u32>
     ensures { MatchOption result (lies_in (section_at (plain_view view.now) k).addr (section_at (plain_view view.now) k).size (code_word (plain_view view.now) k i) 4 ≡ false) (λ address. (address ≡ code_word (plain_view view.now) k i) × (holds_code (plain_view view.now) address k ≡ true)) }
 {
     let section = &view.sections[k];
-    let start = u64::from(section.addr);
-    let address = (start + 3) / 4 * 4 + 4 * u64::from(i);
-    if start <= address && address + 4 <= start + u64::from(section.size) {
+    let address = word_place(section.addr, i);
+    if holds_word(section, address) {
         Some(address as u32)
     } else {
         None
     }
+}
+
+/// Where word `i` stands, counted from the first multiple of 4 that isn't below `start`.
+fn word_place(start: u32, i: u32) -> u64
+    ensures place { result ≡ (start + 3) / 4 * 4 + 4 * i }
+    ensures bound { result < 2 ^ 36 }
+{
+    (u64::from(start) + 3) / 4 * 4 + 4 * u64::from(i)
+}
+
+/// The four bytes at an address lie in a section.
+fn holds_word(section: &Section, address: u64) -> bool
+    requires { address < 2 ^ 36 }
+    ensures lies { result ≡ lies_in section.now.addr section.now.size address 4 }
+    ensures end { IsTrue result → address + 4 ≤ section.now.addr + section.now.size }
+{
+    let start = u64::from(section.addr);
+    start <= address && address + 4 <= start + u64::from(section.size)
 }
 
 /// Adds the leaders that the word at `address` of code range `k` makes.

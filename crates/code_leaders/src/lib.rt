@@ -2,7 +2,6 @@
 #![tactic(auto)]
 
 mod early;
-mod fields;
 mod flow;
 mod laws;
 mod lists;

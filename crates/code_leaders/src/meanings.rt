@@ -2,8 +2,7 @@ ghost use Rattle.std.specs.Prelude.{◌≡◌};
 ghost use Rattle.code_leaders.specs.Words.{is_branch, is_jal, is_jalr, is_auipc, links};
 ghost use Rattle.code_leaders.specs.Meanings.{is_ebreak, has_meaning};
 
-use crate::fields::{funct3, opcode, rd};
-use rv_decode::decode;
+use rv_decode::{decode, funct3, opcode, rd};
 
 /// Whether a word means an instruction of RV32IM with Zifencei (RISC-V Unprivileged ISA, "RV32/64G
 /// Instruction Set Listings").

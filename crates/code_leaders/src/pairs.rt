@@ -11,12 +11,12 @@ ghost use Rattle.code_leaders.specs.Leaders.{is_early, calls, is_call_by, is_cal
 ghost use Rattle.code_leaders.specs.Pairs.{AreThose, is_barred, fits_pair, are_code_words, may_be_pair, makes_pair};
 ghost use Rattle.code_leaders.specs.Early.{has};
 
-use crate::fields::{rd, rs1};
 use crate::meanings::{is_auipc, is_jalr, links};
 use crate::search::{arrange, has_address};
 use crate::targets::pair_target;
 use elf_reader::{ElfView, Reloc};
 use loaded_code::{counts, holds_code, is_code_word, target, word_in};
+use rv_decode::{rd, rs1};
 use std::alloc::{AllocError, Global};
 
 /// Where the call pairs begin, in ascending order and each once. `early` are the leaders by the rules that

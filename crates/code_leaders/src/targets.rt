@@ -2,7 +2,7 @@ ghost use Rattle.std.specs.Prelude.{◌≡◌, ◌*◌};
 ghost use Rattle.word_bits.specs.Words.{plus, offset};
 ghost use Rattle.rv_decode.specs.Fields.{u_immediate, i_immediate, b_immediate, j_immediate};
 
-use crate::fields::{b_imm, i_imm, j_imm, u_imm};
+use rv_decode::{b_imm, i_imm, j_imm, u_imm};
 
 /// Where a branch that stands at `address` goes when it is taken (RISC-V Unprivileged ISA, "Conditional
 /// Branches").

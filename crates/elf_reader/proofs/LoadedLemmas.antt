@@ -1,14 +1,14 @@
 -- The memory that segments make, and what it holds of a loaded section.
-use Rattle.std.proofs.Common.{◌≡◌, ◌∙◌, ◌⊎◌, inl, inr, ℕ, zero, suc, ◌+◌, ◌-◌, ◌<◌, ◌≤◌, ◌==◌, nat_le, Bool, true, false, not, ◌&&◌, ◌||◌, List, [], ◌∷◌, ◌++◌, length, slice_index, slice_index_or, drop, None, refl, sym, ap, subst, arith, append-nil, length-append, length-take, length-drop}
+use Rattle.std.proofs.Common.{◌≡◌, ◌∙◌, ◌⊎◌, inl, inr, ℕ, zero, suc, ◌+◌, ◌-◌, ◌<◌, ◌≤◌, ◌==◌, nat_le, Bool, true, false, not, ◌&&◌, ◌||◌, List, [], ◌∷◌, ◌++◌, length, slice_index, slice_index_or, drop, None, refl, sym, ap, subst, arith, append-nil, length-take, length-drop}
 use Rattle.std.specs.List.{All, slice_range}
-use Rattle.std.proofs.Math.ListN.{get_or-append, get_or-eq_default}
-use Rattle.std.proofs.Math.Seq.{get_or-append_seam}
+use Rattle.std.proofs.Math.ListN.{get_or-eq_default}
 use Rattle.std.proofs.lemmas.Bool.{leb-true, eqb-true, cond_both, cases_Bool, cases_order, cases_lt, both_ways}
 use Rattle.std.proofs.lemmas.Bool.Decides.{nat_tests}
 use Rattle.std.proofs.lemmas.List.{get_or-take, get_or-drop}
 use Rattle.std.proofs.lemmas.List.Elements.{All-nil, All-push}
 use Rattle.index_tests.specs.Tests.{any_below, lies_in, meets}
 use Rattle.index_tests.proofs.TestLemmas.{either, both, not_true, any_found, none_at}
+use Rattle.index_tests.proofs.StepLemmas.{length_built, built_at}
 use Rattle.elf_reader.specs.Layout.{program_header_count, program_header, section_count, section_header}
 use Rattle.elf_reader.specs.Sections.{bit_of, stands_in_file}
 use Rattle.elf_reader.specs.File.{PlainSegment, PlainSection, PlainView, view_in, is_load, segment_of, segments_below, load_segments, section_of, sections_below}
@@ -118,27 +118,11 @@ only_segment file ss apart placed g a below has_address h below_h has =
 
 -- the sections of the first n section headers
 pub length_sections : (file : List ℕ) (n : ℕ) → length (sections_below file n) ≡ n
-length_sections file zero = refl
-length_sections file (suc n) =
-    let earlier = length_sections file n in
-    let more = length-append (sections_below file n) (section_of file n ∷ []) in
-    omega (arith, earlier, more)
+length_sections file n = length_built (sections_below file) (section_of file) refl (λ m. refl) n
 
 pub section_below : (file : List ℕ) (n k : ℕ) → k < n → slice_index_or (sections_below file n) k no_section ≡ section_of file k
-section_below file zero k below = absurd (omega arith)
-section_below file (suc n) k below =
-    let count = length_sections file n in
-    elim (cases_lt k n) [
-      | inl earlier ↦
-          let inside : k < length (sections_below file n) = omega (arith, count, earlier) in
-          rw (get_or-append (sections_below file n) (section_of file n ∷ []) no_section k inside) (section_below file n k earlier)
-      | inr behind ↦
-          let here : k ≡ length (sections_below file n) = omega (arith, count, behind, below) in
-          let same : k ≡ n = omega (arith, behind, below) in
-          ap (λ j. slice_index_or (sections_below file (suc n)) j no_section) here
-          ∙ get_or-append_seam (sections_below file n) (section_of file n) [] no_section
-          ∙ ap (section_of file) (sym same)
-    ]
+section_below file n k below =
+    built_at (sections_below file) (section_of file) no_section refl (λ m. refl) n k below
 
 -- section `k` of a file is that of section header `k`
 pub section_is : (file : List ℕ) (k : ℕ) → k < section_count file → section_at (view_in file) k ≡ section_of file k

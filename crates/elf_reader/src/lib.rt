@@ -3,6 +3,7 @@
 
 mod fault;
 mod header;
+mod kinds;
 mod laws;
 mod numbers;
 mod program_headers;
@@ -20,6 +21,11 @@ mod symbols;
 mod view;
 
 pub use fault::ElfFault;
+pub use kinds::{
+    EXECUTABLE_BIT, PT_LOAD, R_RISCV_32, R_RISCV_HI20, R_RISCV_LO12_I, R_RISCV_LO12_S,
+    R_RISCV_PCREL_HI20, R_RISCV_PCREL_LO12_I, R_RISCV_PCREL_LO12_S, SHT_NOBITS, SHT_NULL,
+    SHT_PROGBITS, SHT_REL, SHT_RELA, SHT_STRTAB, SHT_SYMTAB, STT_FUNC, STT_OBJECT, STT_SECTION,
+};
 pub use laws::{loaded_bytes, segments_are_apart, segments_are_loadable};
 pub use reading::read;
 pub use view::{ElfView, Reloc, Section, Segment, Symbol};

@@ -5,9 +5,10 @@ ghost use Rattle.elf_reader.specs.ProgramHeaderChecks.{place_fault, table_fault,
 ghost use Rattle.elf_reader.specs.Loadable.{HasProgramHeaders, HasSegments};
 
 use crate::fault::ElfFault;
+use crate::kinds::PT_LOAD;
 use crate::numbers::{field, limit, table};
 use crate::ranges::meet;
-use crate::records::{FileHeader, PROGRAM_HEADER_SIZE, PT_LOAD, ProgramHeader};
+use crate::records::{FileHeader, PROGRAM_HEADER_SIZE, ProgramHeader};
 
 /// The greatest memory of all segments together, in bytes.
 const MAX_MEMORY: u64 = 16 * 1024 * 1024;

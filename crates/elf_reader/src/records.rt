@@ -18,22 +18,6 @@ pub(crate) const SYMBOL_SIZE: usize = 16;
 /// The bytes of a relocation with an addend.
 pub(crate) const RELOCATION_SIZE: usize = 12;
 
-/// The type of a program header whose segment is to be loaded.
-pub(crate) const PT_LOAD: u32 = 1;
-
-// Types of sections (ELF, "Sections": `sh_type`).
-pub(crate) const SHT_NULL: u32 = 0;
-
-pub(crate) const SHT_SYMTAB: u32 = 2;
-
-pub(crate) const SHT_STRTAB: u32 = 3;
-
-pub(crate) const SHT_RELA: u32 = 4;
-
-pub(crate) const SHT_NOBITS: u32 = 8;
-
-pub(crate) const SHT_REL: u32 = 9;
-
 /// The fields of the ELF header that are read (ELF, "ELF Header": `Elf32_Ehdr`).
 #[derive(Clone, Copy)]
 pub(crate) struct FileHeader {

@@ -6,8 +6,9 @@ ghost use Rattle.elf_reader.specs.RelocationChecks.{rel_fault, rels_fault, is_ta
 ghost use Rattle.elf_reader.specs.Placed.{HasSectionHeaders, HasContents};
 
 use crate::fault::ElfFault;
+use crate::kinds::SHT_REL;
 use crate::numbers::{field, limit, table};
-use crate::records::{FileHeader, RELOCATION_SIZE, RelocationRecord, SHT_REL, SectionHeader};
+use crate::records::{FileHeader, RELOCATION_SIZE, RelocationRecord, SectionHeader};
 use crate::relocations::{
     is_allocated_section, is_relocation_section, relocation_count_at, relocation_record,
 };

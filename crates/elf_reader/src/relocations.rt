@@ -4,7 +4,8 @@ ghost use Rattle.elf_reader.specs.Sections.{is_allocated, is_relocation_section,
 ghost use Rattle.elf_reader.specs.File.{relocation_of, relocations_within, all_relocations};
 ghost use Rattle.elf_reader.specs.Placed.{HasSectionHeaders, HasContents};
 
-use crate::records::{FileHeader, RELOCATION_SIZE, RelocationRecord, SHT_RELA, SectionHeader};
+use crate::kinds::SHT_RELA;
+use crate::records::{FileHeader, RELOCATION_SIZE, RelocationRecord, SectionHeader};
 use crate::sections::{is_allocated, section_header};
 use crate::view::Reloc;
 use std::alloc::{AllocError, Global};

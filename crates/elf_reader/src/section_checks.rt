@@ -7,10 +7,9 @@ ghost use Rattle.elf_reader.specs.Placed.{HasSectionHeaders, HasContents, HasNam
 
 use crate::fault::ElfFault;
 use crate::header::has_bit;
+use crate::kinds::{SHT_REL, SHT_RELA};
 use crate::numbers::{field, table};
-use crate::records::{
-    FILE_HEADER_SIZE, FileHeader, SECTION_HEADER_SIZE, SHT_REL, SHT_RELA, SectionHeader,
-};
+use crate::records::{FILE_HEADER_SIZE, FileHeader, SECTION_HEADER_SIZE, SectionHeader};
 use crate::sections::{is_allocated, is_in_file, is_string_table, section_header, section_names};
 use crate::string_table::names_end;
 

@@ -5,9 +5,8 @@ ghost use Rattle.elf_reader.specs.File.{plain_section, section_of, all_sections}
 ghost use Rattle.elf_reader.specs.Placed.{HasSectionHeaders, HasContent, HasContents, HasNamesTable, HasSectionNames};
 
 use crate::header::has_bit;
-use crate::records::{
-    FileHeader, SECTION_HEADER_SIZE, SHT_NOBITS, SHT_NULL, SHT_STRTAB, SectionHeader,
-};
+use crate::kinds::{SHT_NOBITS, SHT_NULL, SHT_STRTAB};
+use crate::records::{FileHeader, SECTION_HEADER_SIZE, SectionHeader};
 use crate::string_table::StringTable;
 use crate::view::Section;
 use std::alloc::{AllocError, Global};

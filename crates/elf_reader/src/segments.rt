@@ -3,8 +3,9 @@ ghost use Rattle.elf_reader.specs.Layout.{file_header};
 ghost use Rattle.elf_reader.specs.File.{plain_segment, segments_at, load_segments};
 ghost use Rattle.elf_reader.specs.Loadable.{HasProgramHeaders, HasSegments};
 
+use crate::kinds::PT_LOAD;
 use crate::program_headers::program_header;
-use crate::records::{FileHeader, PT_LOAD};
+use crate::records::FileHeader;
 use crate::view::Segment;
 use std::alloc::{AllocError, Global};
 

@@ -8,11 +8,10 @@ ghost use Rattle.elf_reader.specs.Placed.{HasSectionHeaders, HasContents, HasSym
 ghost use Rattle.elf_reader.specs.SymbolTables.{HasReadable};
 
 use crate::fault::ElfFault;
+use crate::kinds::SHT_SYMTAB;
 use crate::numbers::{field, limit, table};
 use crate::ranges::meet;
-use crate::records::{
-    FileHeader, SECTION_HEADER_SIZE, SHT_SYMTAB, SYMBOL_SIZE, SectionHeader, SymbolRecord,
-};
+use crate::records::{FileHeader, SECTION_HEADER_SIZE, SYMBOL_SIZE, SectionHeader, SymbolRecord};
 use crate::sections::{is_in_file, is_string_table, section_header};
 use crate::string_table::names_end;
 use crate::symbols::{symbol_count_of, symbol_names, symbol_record};

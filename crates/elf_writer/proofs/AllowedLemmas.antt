@@ -22,7 +22,8 @@ use Rattle.elf_writer.specs.Parts.{NewSegment}
 use Rattle.elf_writer.specs.Written.{all_changes, written}
 use Rattle.elf_writer.specs.Conditions.{has_word, is_loaded_word, PatchesLoadedWord, ArePatchesApart, HasSymbol, AreOfTwoSymbols, IsClearOf, IsAddable, IsWritable}
 use Rattle.elf_writer.proofs.ChangeLemmas.{length-changed}
-use Rattle.elf_writer.proofs.FitLemmas.{same_view, table_inside, number_within, length_written}
+use Rattle.elf_writer.proofs.FitLemmas.{table_inside, number_within, length_written}
+use Rattle.loaded_code.proofs.WordLemmas.{same_view}
 
 all_three : (a b c : Bool) → a ≡ true → b ≡ true → c ≡ true → a && b && c ≡ true
 all_three a b c x y z = rw (x, y, z) refl

@@ -37,26 +37,11 @@ use Rattle.elf_writer.specs.Changes.{changed}
 use Rattle.elf_writer.proofs.ChangeLemmas.{length-changed}
 use Rattle.elf_writer.specs.Fits.{PatchFits, MoveFits, SegmentFits, WriteFits}
 use Rattle.elf_writer.specs.Conditions.{has_word, is_loaded_word, HasSymbol, IsAddable, IsWritable}
+use Rattle.loaded_code.proofs.WordLemmas.{same_view}
 
 -- a symbol of a view without its borrow
 pub symbol_in : (symbols : List Symbol) (k : ℕ) (d : Symbol) → k < length (map plain_symbol symbols) → nth_symbol (map plain_symbol symbols) k ≡ plain_symbol (get_or symbols k d)
 symbol_in symbols k d below = get_or-map plain_symbol symbols k d no_symbol (rw (length-map) at below)
-
--- a view of a file says what the file says
-pub same_view : (file : List ℕ) (view : ElfView) → IsFile file view → plain_view view ≡ view_in file
-same_view file view is =
-    λ i.
-    record {
-      bytes = is.bytes i;
-      entry = is.entry i;
-      flags = is.flags i;
-      ph_at = is.ph_at i;
-      ph_count = is.ph_count i;
-      segments = is.segments i;
-      sections = is.sections i;
-      symbols = is.symbols i;
-      relocs = is.relocs i;
-    }
 
 -- in a file in which no check fails, sections, symbols and program headers lie inside it
 pub contents_held : (file : List ℕ) → first_fault file ≡ None → HasContents file

@@ -1,7 +1,7 @@
-ghost use Rattle.std.specs.Prelude.{◌≡◌, ℕ, ◌+◌, ◌*◌, ◌%◌, ◌-◌, ◌<◌, ◌≤◌, ◌++◌, ◌∷◌, [], List, Option, Some, None, map, length, option_map, OnOk, IfOk, All};
+ghost use Rattle.std.specs.Prelude.{◌≡◌, ℕ, ◌+◌, ◌*◌, ◌<◌, ◌≤◌, ◌++◌, ◌∷◌, [], List, Option, Some, None, map, length, option_map, OnOk, IfOk, All};
 ghost use Rattle.elf_reader.specs.File.{IsFile, plain_symbol, plain_view, view_in};
 ghost use Rattle.elf_reader.specs.Faults.{first_fault};
-ghost use Rattle.workload_gen.specs.Pieces.{half_bytes, word_bytes, zero_bytes, padding};
+ghost use Rattle.workload_gen.specs.Pieces.{half_bytes, word_bytes};
 ghost use Rattle.elf_writer.specs.Changes.{Change, changed};
 ghost use Rattle.elf_writer.specs.Parts.{new_segment, patch_change, moves_changes, content_changes, table_place, header_changes};
 ghost use Rattle.elf_writer.specs.Written.{appended, written};
@@ -14,6 +14,7 @@ use crate::parts::{Patch, SegmentBytes, SymbolMove};
 use crate::program_headers::{PROGRAM_HEADER_SIZE, push_table};
 use elf_reader::{ElfView, Symbol};
 use std::alloc::{AllocError, Global};
+use workload_gen::push_zeros;
 
 // Where fields stand in the ELF header (ELF, "ELF Header": `Elf32_Ehdr`).
 const E_ENTRY: usize = 24;
@@ -43,17 +44,6 @@ fn put_header(out: &mut [u8], entry: u32, table: u32, count: u16)
     put_word(out, E_ENTRY, entry);
     put_word(out, E_PHOFF, table);
     put_half(out, E_PHNUM, count);
-}
-
-/// Appends zero bytes.
-#[tactic(auto, using(workload_gen::proofs::ByteLemmas::zero_pushed))]
-fn push_zeros(out: &mut Vec<u8>, n: usize) -> Result<(), AllocError>
-    ensures { OnOk result (out.new.items ≡ out.old.items ++ zero_bytes n) }
-{
-    for _ in 0..n {
-        out.push(0)?;
-    }
-    Ok(())
 }
 
 /// Appends what stands behind the input's bytes: zeros to a multiple of 4, the program headers, whose place

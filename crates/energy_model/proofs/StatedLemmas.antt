@@ -33,7 +33,8 @@ use Rattle.energy_model.specs.Energy.{Scene, block_in, block_at, unit_number, st
 use Rattle.energy_model.specs.Stated.{scene_of, layout_of, datum_of, IsOfOneFile, nothing_taken, taken_alone, gain_alone, data_var, data_vars, data_side, IsDataFull}
 use Rattle.energy_model.specs.Priced.{price_at, unit_price, units_price, touches_price}
 use Rattle.energy_model.specs.Counted.{body_in, body_price, arrived_price, part_price, CountsEnergy, IsCounted, total, reads_of, writes_of, home_price, moved_price, counted_gain, counted_var, counted_vars, CountsAccesses, stub_price, start_size, counted_rows, counted_side, CanCount}
-use Rattle.energy_model.proofs.StepLemmas.{end_of_run, moves_few, some_moves}
+use Rattle.profile_runner.proofs.RunLemmas.{moves_few, some_moves}
+use Rattle.energy_model.proofs.StepLemmas.{end_of_run}
 use Rattle.energy_model.proofs.SceneLemmas.{unit_of_move, follows}
 use Rattle.energy_model.proofs.SumLemmas.{sum_same, arrived, block_sum, blocks_sum}
 use Rattle.energy_model.proofs.EnergyLemmas.{home_step, last_price, base_is, more_taken, touched, touches_are, by_regions}

@@ -1,5 +1,5 @@
 -- The steps of the moves of a run, one by one.
-use Rattle.std.proofs.Common.{◌≡◌, ◌∙◌, ℕ, zero, suc, ◌<◌, ◌≤◌, Bool, true, false, if◌then◌else◌, List, [], ◌∷◌, length, Option, Some, None, refl, sym, ap, subst, arith}
+use Rattle.std.proofs.Common.{◌≡◌, ◌∙◌, ℕ, zero, suc, ◌<◌, Bool, true, false, if◌then◌else◌, List, [], ◌∷◌, length, Option, Some, None, refl, sym, ap, subst, arith}
 use Rattle.board_config.specs.declared.board.Prices.{Prices}
 use Rattle.rv_decode.specs.declared.instructions.Instr.{Instr}
 use Rattle.rv_decode.specs.declared.instructions.Instr.TheVariants.{Lui, Auipc, Jal, Jalr, Branch, Load, Store, OpImm, OpReg, Fence, FenceI, Ecall, Ebreak}
@@ -138,37 +138,6 @@ end_from (AddressFault pc why) p n s t ms all run = no_end ms t run.0
 pub end_of_run : (p : Program) (n : ℕ) (s t : SourceState) (ms : List Move) → Moves p n s ms t → EndsAt ms t
 end_of_run p zero s t ms run = no_end ms t run.0
 end_of_run p (suc n) s t ms run = end_from s.outcome p n s t ms (λ u others rest. end_of_run p n u t others rest) run
-
--- a run has no more moves than steps
-few_from : (o : Outcome) (n : ℕ) (R : Between) (p : Program) (s t : SourceState) (ms : List Move) → ((u : SourceState) (others : List Move) → R u others t → length others ≤ n) → MovesFrom o R p s ms t → length ms ≤ suc n
-few_from GoesOn n R p s t ms few run =
-    let (read, (meant, (others, (same, rest)))) = run in
-    let count = ap (λ (l : List Move). length l) same in
-    let less = few (next_state p s read) others rest in
-    omega (arith, count, less)
-few_from (Exited code) n R p s t ms few run = let count = ap (λ (l : List Move). length l) run.0 in omega (arith, count)
-few_from (Trapped pc) n R p s t ms few run = let count = ap (λ (l : List Move). length l) run.0 in omega (arith, count)
-few_from (AddressFault pc why) n R p s t ms few run =
-    let count = ap (λ (l : List Move). length l) run.0 in omega (arith, count)
-
-pub moves_few : (p : Program) (n : ℕ) (s t : SourceState) (ms : List Move) → Moves p n s ms t → length ms ≤ n
-moves_few p zero s t ms run = let count = ap (λ (l : List Move). length l) run.0 in omega (arith, count)
-moves_few p (suc n) s t ms run =
-    few_from s.outcome n (Moves p n) p s t ms (λ u others rest. moves_few p n u t others rest) run
-
--- and one at least, where the machine goes on
-some_from : (o : Outcome) (R : Between) (p : Program) (s t : SourceState) (ms : List Move) → o ≡ GoesOn → MovesFrom o R p s ms t → 0 < length ms
-some_from GoesOn R p s t ms going run =
-    let (read, (meant, (others, (same, rest)))) = run in
-    let count = ap (λ (l : List Move). length l) same in
-    omega (arith, count)
-some_from (Exited code) R p s t ms going run = cc
-some_from (Trapped pc) R p s t ms going run = cc
-some_from (AddressFault pc why) R p s t ms going run = cc
-
-pub some_moves : (p : Program) (n : ℕ) (s t : SourceState) (ms : List Move) → 0 < n → s.outcome ≡ GoesOn → Moves p n s ms t → 0 < length ms
-some_moves p zero s t ms some going run = absurd (omega arith)
-some_moves p (suc n) s t ms some going run = some_from s.outcome (Moves p n) p s t ms going run
 
 -- ---- the access of a step is that of its instruction, a load or a store
 

@@ -32,7 +32,7 @@ use Rattle.simulation.specs.Units.{Completes, StandsForSite}
 use Rattle.simulation.proofs.Completes.{by_uppers, kept_completes, pair_completes}
 use Rattle.file_at_home.specs.Laws.{IsAccepted, program_in, setup_in}
 use Rattle.file_at_home.proofs.Numbers.{plain_sum}
-use Rattle.file_at_home.proofs.Objects.{object_moves, object_extends}
+use Rattle.cell_values.proofs.GraphObjects.{object_moves, object_extends}
 use Rattle.file_at_home.proofs.Words.{code_below}
 use Rattle.file_at_home.proofs.Sites.{Makes, MakesLow, SiteBy, by_high, by_wide, by_store, by_pair, by_low, site_of, high_target}
 use Rattle.file_at_home.proofs.Named.{Names, named_found, names_some, named_gives, one_at}

@@ -125,8 +125,11 @@ section_ends v k loadable loaded =
 
 pub record IsFixedMemory (v : PlainView) (board : Board) (a : ℕ) : Type 0 where
   pub memory : in_range board.main a || any_below (in_area board a) (length board.areas.items) ≡ true
+  pub spm : in_range board.spm a ≡ false
+  pub patch : in_range board.patch a ≡ false
   pub no_code : any_below (in_code_range v a) (length v.sections) ≡ false
   pub no_object : any_below (in_object v board a) (length v.symbols) ≡ false
+  pub unchanged : any_below (holds_changed_byte v a) (length v.segments) ≡ false
 
 pub fixed_parts : (v : PlainView) (board : Board) (a : ℕ) → is_fixed_memory v board a ≡ true → IsFixedMemory v board a
 fixed_parts v board a fixed =
@@ -141,7 +144,14 @@ fixed_parts v board a fixed =
     let three = both (memory && not spm && not patch) (not code) four.0 in
     let two = both (memory && not spm) (not patch) three.0 in
     let one = both memory (not spm) two.0 in
-    record { memory = one.0; no_code = not_true code three.1; no_object = not_true object four.1 }
+    record {
+      memory = one.0;
+      spm = not_true spm one.1;
+      patch = not_true patch two.1;
+      no_code = not_true code three.1;
+      no_object = not_true object four.1;
+      unchanged = not_true changed five.1;
+    }
 
 in_by_symbol : (v : PlainView) (board : Board) (a home n : ℕ) (s : PlainSymbol) → IsOf v home n s → is_movable v board home n && inside home n a ≡ true → has_range v s && is_movable v board s.value s.size && inside s.value s.size a ≡ true
 in_by_symbol v board a home n s of passes = rw (of.test, of.value, of.size) passes

@@ -21,7 +21,7 @@ use Rattle.code_leaders.proofs.LeaderLemmas.{both_pass}
 use Rattle.cell_values.specs.Objects.{object_of}
 use Rattle.object_machine.specs.Program.{Target, target_at, named_by}
 use Rattle.file_at_home.proofs.Lists.{first_at}
-use Rattle.file_at_home.proofs.Objects.{object_moves}
+use Rattle.cell_values.proofs.GraphObjects.{object_moves}
 use Rattle.file_at_home.proofs.Sites.{MakesHigh, MakesLow, SiteBy, by_high, by_wide, by_store, by_pair, by_low, low_gives, site_of}
 
 -- ---- relocations that name an AUIPC

@@ -23,7 +23,8 @@ use Rattle.object_machine.specs.Program.{Target, target_at}
 use Rattle.simulation.specs.Setups.{Sound}
 use Rattle.file_at_home.specs.Home.{is_code_byte}
 use Rattle.file_at_home.specs.Laws.{IsAccepted, program_in, setup_in, HomeIsSound}
-use Rattle.file_at_home.proofs.Objects.{object_below, object_moves, homes_fit}
+use Rattle.file_at_home.proofs.Objects.{homes_fit}
+use Rattle.cell_values.proofs.GraphObjects.{object_below, object_moves}
 use Rattle.file_at_home.proofs.Memory.{memory_mapped, memory_below, section_mapped, fixed_parts, object_not_fixed, code_not_fixed}
 use Rattle.file_at_home.proofs.Words.{byte_in_range}
 use Rattle.file_at_home.proofs.Sites.{SiteBy, by_high, by_wide, by_store, by_pair, by_low, site_of}

@@ -43,7 +43,6 @@ use Rattle.cell_values.specs.declared.values.Cell.{Cell}
 use Rattle.cell_values.specs.declared.values.Cell.TheVariants.{Part}
 use Rattle.value_words.specs.Makers.{ByLui}
 use Rattle.value_words.specs.Stands.{Places, Stands, CellStands, CellHoldsWord, address_word, kept_uppers}
-use Rattle.value_words.proofs.Stores.{first_cells as each_of_four}
 use Rattle.object_machine.specs.State.{value}
 use Rattle.object_machine.specs.Start.{in_word, first_cell, where_memory}
 use Rattle.object_machine.specs.Paired.{at_start}
@@ -52,7 +51,7 @@ use Rattle.simulation.specs.Rules.{all_live}
 use Rattle.simulation.specs.Laws.{IsUnit, OfBlock}
 use Rattle.file_at_home.specs.Laws.{IsAccepted, program_in, setup_in, source_start, file_start, StartIsAlike}
 use Rattle.file_at_home.proofs.Numbers.{same_number, plain_sum}
-use Rattle.file_at_home.proofs.Objects.{object_moves, object_extends}
+use Rattle.cell_values.proofs.GraphObjects.{object_moves, object_extends}
 use Rattle.file_at_home.proofs.Memory.{section_ends}
 use Rattle.file_at_home.proofs.Words.{code_below}
 use Rattle.file_at_home.proofs.Sites.{leads_means, object_same}

@@ -1,16 +1,15 @@
 -- Each unit stands at its home, with its own word.
 use Rattle.std.proofs.Common.{◌≡◌, ◌⊎◌, inl, inr, ℕ, ◌+◌, ◌*◌, ◌<◌, ◌==◌, true, not, ◌&&◌, ◌||◌, List, length, Option, Some, None, refl, sym, ap, subst, arith}
 use Rattle.std.proofs.lemmas.Bool.{eqb-true, ltb-true}
-use Rattle.std.proofs.lemmas.Bool.Decides.{nat_tests}
-use Rattle.std.proofs.lemmas.Int.{ints}
 use Rattle.word_bits.specs.Words.{plus, offset}
 use Rattle.index_tests.specs.Tests.{any_below}
 use Rattle.index_tests.proofs.TestLemmas.{either, both}
 use Rattle.rv_decode.specs.Fields.{opcode_of, rd_of, funct3_of, rs1_of, u_immediate, i_immediate}
-use Rattle.rv_decode.specs.Table.{Means, IsInRange}
+use Rattle.rv_decode.specs.Table.{Means}
 use Rattle.rv_decode.specs.declared.instructions.Instr.{Instr}
-use Rattle.rv_decode.specs.declared.instructions.Instr.TheVariants.{Lui, Auipc, Jal, Jalr, Branch, Load, Store, OpImm, OpReg, Fence, FenceI, Ecall, Ebreak}
+use Rattle.rv_decode.specs.declared.instructions.Instr.TheVariants.{Auipc, Jalr}
 use Rattle.rv_decode.proofs.Meaning.{same_instruction}
+use Rattle.rv_decode.proofs.Meaning.{in_range}
 use Rattle.elf_reader.specs.File.{PlainView, view_in}
 use Rattle.board_config.specs.declared.board.Board.{Board}
 use Rattle.loaded_code.specs.Code.{is_code_word, image_word}
@@ -30,22 +29,6 @@ use Rattle.file_at_home.proofs.Words.{code_even, code_below, stands_home, unit_i
 use Rattle.file_at_home.proofs.Sound.{loadable, sound_home}
 use Rattle.file_at_home.proofs.Start.{alike_at_start, entry_unit}
 use Rattle.file_at_home.proofs.Making.{site_made}
-
--- the fields of a word are in their ranges
-in_range : (w : ℕ) (i : Instr) → Means w i → IsInRange i
-in_range w (Lui rd imm) m = grind (arith, ints, nat_tests)
-in_range w (Auipc rd imm) m = grind (arith, ints, nat_tests)
-in_range w (Jal rd off) m = grind (arith, ints, nat_tests)
-in_range w (Jalr rd rs1 imm) m = grind (arith, ints, nat_tests)
-in_range w (Branch kind rs1 rs2 off) m = grind (arith, ints, nat_tests)
-in_range w (Load kind rd rs1 imm) m = grind (arith, ints, nat_tests)
-in_range w (Store kind rs1 rs2 imm) m = grind (arith, ints, nat_tests)
-in_range w (OpImm kind rd rs1 imm) m = grind (arith, ints, nat_tests)
-in_range w (OpReg kind rd rs1 rs2) m = grind (arith, ints, nat_tests)
-in_range w (Fence bits) m = grind (arith, ints, nat_tests)
-in_range w (FenceI bits) m = grind (arith, ints, nat_tests)
-in_range w Ecall m = tt
-in_range w Ebreak m = tt
 
 -- the two words of a call
 record IsCall (first second : ℕ) : Type 0 where

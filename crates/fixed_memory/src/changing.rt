@@ -9,15 +9,12 @@ ghost use Rattle.fixed_memory.specs.Kinds.{is_changing, in_object_of_list, is_pu
 
 use crate::spans::{Span, push_ranges, push_span, span_of};
 use board_config::{Board, Range};
-use elf_reader::{ElfView, Section, Segment};
+use elf_reader::{ElfView, SHT_SYMTAB, Section, Segment};
 use object_graph::{Graph, Object};
 use std::alloc::{AllocError, Global};
 
 /// The bytes of the ELF header (ELF, "ELF Header": `e_ehsize` of a 32-bit file).
 const HEADER_SIZE: u32 = 52;
-
-/// `SHT_SYMTAB`: the section of the symbol table.
-const SHT_SYMTAB: u32 = 2;
 
 /// The scratchpad, the patch range, code, the objects that may move, and bytes of the file that a new file
 /// changes.

@@ -4,13 +4,13 @@ use Rattle.std.specs.Prelude.{Bool, true, false, Option, Some, None}
 use Rattle.std.specs.Bool.{MatchBool}
 use Rattle.std.proofs.lemmas.Grind.{common_steps}
 use Rattle.std.proofs.lemmas.Bool.Decides.{nat_tests}
-use Rattle.std.proofs.lemmas.Int.{ints}
 use Rattle.std.proofs.lemmas.List.Elements.{All-take, All-drop, All-head, All-tail}
 use Rattle.word_bits.specs.Memory.{Memory, put, put_bytes}
 use Rattle.rv_decode.specs.declared.instructions.Instr.{Instr}
-use Rattle.rv_decode.specs.declared.instructions.Instr.TheVariants.{Lui, Auipc, Jal, Jalr, Branch, Load, Store, OpImm, OpReg, Fence, FenceI, Ecall, Ebreak}
-use Rattle.rv_decode.specs.Table.{Means, IsInRange}
+use Rattle.rv_decode.specs.declared.instructions.Instr.TheVariants.{Ecall, Ebreak}
+use Rattle.rv_decode.specs.Table.{IsInRange}
 use Rattle.rv_decode.specs.Acts.{HoldsWords, ActsKeepsWords, acts, access_of}
+use Rattle.rv_decode.proofs.Meaning.{in_range}
 use Rattle.elf_reader.specs.File.{PlainSegment}
 use Rattle.elf_reader.specs.Image.{has_byte, image_of}
 use Rattle.elf_reader.specs.Loadable.{IsByte, AreBytes, IsLoadable, AreLoadable}
@@ -25,22 +25,6 @@ use Rattle.flat_machine.specs.Step.{Reads, may_access, performed, next_state, Pe
 use Rattle.flat_machine.specs.Runs.{Steps}
 use Rattle.flat_machine.specs.Start.{start_of}
 use Rattle.flat_machine.specs.Sizes.{HasWords}
-
--- the fields of a word are in their ranges
-in_range : (w : ℕ) (i : Instr) → Means w i → IsInRange i
-in_range w (Lui rd imm) m = grind (arith, ints, nat_tests)
-in_range w (Auipc rd imm) m = grind (arith, ints, nat_tests)
-in_range w (Jal rd off) m = grind (arith, ints, nat_tests)
-in_range w (Jalr rd rs1 imm) m = grind (arith, ints, nat_tests)
-in_range w (Branch kind rs1 rs2 off) m = grind (arith, ints, nat_tests)
-in_range w (Load kind rd rs1 imm) m = grind (arith, ints, nat_tests)
-in_range w (Store kind rs1 rs2 imm) m = grind (arith, ints, nat_tests)
-in_range w (OpImm kind rd rs1 imm) m = grind (arith, ints, nat_tests)
-in_range w (OpReg kind rd rs1 rs2) m = grind (arith, ints, nat_tests)
-in_range w (Fence bits) m = grind (arith, ints, nat_tests)
-in_range w (FenceI bits) m = grind (arith, ints, nat_tests)
-in_range w Ecall m = tt
-in_range w Ebreak m = tt
 
 -- ---- the start
 

@@ -4,9 +4,11 @@ ghost use Rattle.rv_decode.specs.Acts.{load_width, store_width, loaded, stored};
 use paged_store::ByteStore;
 use rv_decode::{LoadKind, StoreKind};
 use std::alloc::AllocError;
-use word_bits::sext;
+
+// These are inlined, since each load and store goes through them, and its kind is known there.
 
 /// How many bytes a load takes.
+#[inline(always)]
 pub fn load_bytes(kind: LoadKind) -> u32
     ensures { result ≡ load_width kind }
 {
@@ -18,6 +20,7 @@ pub fn load_bytes(kind: LoadKind) -> u32
 }
 
 /// How many bytes a store puts.
+#[inline(always)]
 pub fn store_bytes(kind: StoreKind) -> u32
     ensures { result ≡ store_width kind }
 {
@@ -29,12 +32,13 @@ pub fn store_bytes(kind: StoreKind) -> u32
 }
 
 /// The word that a load takes from an address.
+#[inline(always)]
 pub fn loaded_value<S: ByteStore>(store: &S, kind: LoadKind, at: u32) -> u32
     ensures { result ≡ loaded kind (S.byte_at store.now) at }
 {
     match kind {
-        LoadKind::Lb => sext(u32::from(store.get(at)), 8),
-        LoadKind::Lh => sext(u32::from(store.get_half(at)), 16),
+        LoadKind::Lb => i32::from(store.get(at).cast_signed()).cast_unsigned(),
+        LoadKind::Lh => i32::from(store.get_half(at).cast_signed()).cast_unsigned(),
         LoadKind::Lw => store.get_word(at),
         LoadKind::Lbu => u32::from(store.get(at)),
         LoadKind::Lhu => u32::from(store.get_half(at)),
@@ -42,6 +46,7 @@ pub fn loaded_value<S: ByteStore>(store: &S, kind: LoadKind, at: u32) -> u32
 }
 
 /// Puts the low bytes of a word at an address.
+#[inline(always)]
 pub fn set_value<S: ByteStore>(
     store: &mut S,
     kind: StoreKind,

@@ -85,6 +85,8 @@ impl<S: ByteStore> Flat<S> {
     /// Takes one step. A machine that has ended stays as it is, and tells the same outcome again.
     ///
     /// On an error the step was not taken.
+    // Inlined, so that `run` makes no event.
+    #[inline(always)]
     pub fn step(&mut self) -> Result<FlatEvent, AllocError>
         ensures step { IfOk result (λ event. Step (state_of S.byte_at self.old) event
             (state_of S.byte_at self.new)) }

@@ -45,15 +45,14 @@ fn has_span_in_one(map: &[Range], at: u32, n: u32) -> bool
     })
 }
 
-/// Whether the `n` addresses from `at` are mapped. Most accesses lie in one range, which is asked
-/// first.
-#[tactic(auto, using(crate::proofs::Spans::mapped_inside_one, crate::proofs::Spans::unmapped_at))]
-fn has_span(map: &[Range], at: u32, n: u32) -> bool
+/// Whether each of the `n` addresses from `at` is mapped, one by one.
+// Rare: most accesses lie in one range.
+#[cold]
+#[inline(never)]
+#[tactic(auto, using(crate::proofs::Spans::unmapped_at))]
+fn has_each(map: &[Range], at: u32, n: u32) -> bool
     ensures { result ≡ all_mapped map.now at n }
 {
-    if has_span_in_one(map, at, n) {
-        return true;
-    }
     for i in 0..n {
         if !has_byte(map, u64::from(at) + u64::from(i)) {
             return false;
@@ -62,7 +61,19 @@ fn has_span(map: &[Range], at: u32, n: u32) -> bool
     true
 }
 
+/// Whether the `n` addresses from `at` are mapped. Most accesses lie in one range, which is asked
+/// first.
+#[inline(always)]
+#[tactic(auto, using(crate::proofs::Spans::mapped_inside_one))]
+fn has_span(map: &[Range], at: u32, n: u32) -> bool
+    ensures { result ≡ all_mapped map.now at n }
+{
+    has_span_in_one(map, at, n) || has_each(map, at, n)
+}
+
 /// Whether a fetch, load or store of `width` bytes at `at` is aligned and mapped.
+// Inlined, so that the width is known.
+#[inline(always)]
 pub fn has_access(map: &[Range], at: u32, width: u32) -> bool
     requires { 1 ≤ width }
     ensures { result ≡ can_access map.now at width }

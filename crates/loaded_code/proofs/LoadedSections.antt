@@ -1,11 +1,9 @@
 -- Tests over the sections and segments of a view, and the list of those that are loaded.
-use Rattle.std.proofs.Common.{◌≡◌, ◌∙◌, inl, inr, ℕ, zero, suc, ◌+◌, ◌<◌, Bool, true, false, List, [], ◌∷◌, map, length, slice_index_or, refl, sym, ap, arith, add-one, length-append}
-use Rattle.std.proofs.Math.ListN.{get_or-append}
-use Rattle.std.proofs.Math.Seq.{get_or-append_seam}
-use Rattle.std.proofs.lemmas.Bool.{cases_lt}
+use Rattle.std.proofs.Common.{◌≡◌, ◌∙◌, ℕ, ◌+◌, ◌<◌, Bool, true, false, List, map, length, slice_index_or, refl, ap, arith, add-one}
 use Rattle.std.proofs.lemmas.List.{length-map}
 use Rattle.index_tests.specs.Tests.{any_below}
 use Rattle.index_tests.proofs.TestLemmas.{any_at}
+use Rattle.index_tests.proofs.StepLemmas.{length_built, built_at}
 use Rattle.elf_reader.specs.File.{PlainView, plain_section, plain_view}
 use Rattle.elf_reader.specs.declared.view.ElfView.{ElfView}
 use Rattle.elf_reader.specs.Loaded.{is_loaded}
@@ -21,27 +19,10 @@ none_after test n none fails = rw (add-one, none) fails
 
 -- there is a mark for each section
 pub length_loaded : (v : PlainView) (n : ℕ) → length (loaded_below v n) ≡ n
-length_loaded v zero = refl
-length_loaded v (suc n) =
-    let earlier = length_loaded v n in
-    let more = length-append (loaded_below v n) (is_loaded v n ∷ []) in
-    omega (arith, earlier, more)
+length_loaded v n = length_built (loaded_below v) (is_loaded v) refl (λ m. refl) n
 
 pub mark_below : (v : PlainView) (n k : ℕ) → k < n → slice_index_or (loaded_below v n) k false ≡ is_loaded v k
-mark_below v zero k below = absurd (omega arith)
-mark_below v (suc n) k below =
-    let count = length_loaded v n in
-    elim (cases_lt k n) [
-      | inl earlier ↦
-          let inside : k < length (loaded_below v n) = omega (arith, count, earlier) in
-          rw (get_or-append (loaded_below v n) (is_loaded v n ∷ []) false k inside) (mark_below v n k earlier)
-      | inr behind ↦
-          let here : k ≡ length (loaded_below v n) = omega (arith, count, behind, below) in
-          let same : k ≡ n = omega (arith, behind, below) in
-          ap (λ j. slice_index_or (loaded_below v (suc n)) j false) here
-          ∙ get_or-append_seam (loaded_below v n) (is_loaded v n) [] false
-          ∙ ap (is_loaded v) (sym same)
-    ]
+mark_below v n k below = built_at (loaded_below v) (is_loaded v) false refl (λ m. refl) n k below
 
 -- the mark of section `k`
 pub mark_at : (v : PlainView) (k : ℕ) → k < length v.sections → slice_index_or (all_loaded v) k false ≡ is_loaded v k

@@ -5,13 +5,7 @@ ghost use Rattle.elf_reader.specs.Loaded.{is_loaded};
 ghost use Rattle.loaded_code.specs.Marks.{all_loaded};
 ghost use Rattle.loaded_code.specs.Code.{is_code_range, holds_code, is_code_word};
 
-use elf_reader::ElfView;
-
-/// `SHT_PROGBITS`: a section with content.
-const SHT_PROGBITS: u32 = 1;
-
-/// `SHF_EXECINSTR`, the bit of `sh_flags` for executable content.
-const EXECUTABLE_BIT: u32 = 2;
+use elf_reader::{EXECUTABLE_BIT, ElfView, SHT_PROGBITS};
 
 /// Whether section `k` is a code range: it is loaded, has content, and is executable. `loaded` are the marks
 /// of the loaded sections.

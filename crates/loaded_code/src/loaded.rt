@@ -7,20 +7,13 @@ ghost use Rattle.loaded_code.specs.Marks.{all_loaded};
 ghost use Rattle.elf_reader.specs.Sections.{bit_of, stands_in_file};
 ghost use Rattle.index_tests.specs.Tests.{meets};
 
-use elf_reader::{ElfView, Section, Segment};
+use elf_reader::{ElfView, SHT_NOBITS, SHT_NULL, SHT_PROGBITS, Section, Segment};
 use std::alloc::{AllocError, Global};
 
 /// The bytes of a program header and of a section header.
 const PROGRAM_HEADER_SIZE: u128 = 32;
 
 const SECTION_HEADER_SIZE: u128 = 40;
-
-// Types of sections (ELF, "Sections": `sh_type`).
-const SHT_NULL: u32 = 0;
-
-const SHT_PROGBITS: u32 = 1;
-
-const SHT_NOBITS: u32 = 8;
 
 /// `SHF_ALLOC` in `sh_flags`.
 const ALLOC: u32 = 2;

@@ -143,3 +143,14 @@ is_last xs a m begun last apart filled is here = found_at xs (λ home n. (a == h
 
 pub last_is_not : (xs : List Extent) (a m begun last : ℕ) → IsApart xs → IsFilled xs → IsLast xs a begun last → ((a == (extent_at xs last).home) && (m == (extent_at xs last).size)) ≡ false → Finds (λ home n. (a == home) && (m == n)) xs None
 last_is_not xs a m begun last apart filled is here = found_nowhere xs (λ home n. (a == home) && (m == n)) last here (λ k below other. other_is_not xs a m begun last k apart filled is below other)
+
+-- a rule behind a gate finds what it finds where the gate is open, and nothing where it is shut
+pub behind_open : (a b gate : Bool) (rule : ℕ → ℕ → Bool) (ranges : List Extent) (answer : Option ℕ) → gate ≡ (a && b) → gate ≡ true → Finds rule ranges answer → Finds (λ home n. a && b && rule home n) ranges answer
+behind_open true true gate rule ranges answer is opened found = found
+behind_open true false gate rule ranges answer is opened found = cc
+behind_open false b gate rule ranges answer is opened found = cc
+
+pub behind_shut : (a b gate : Bool) (rule : ℕ → ℕ → Bool) (ranges : List Extent) → gate ≡ (a && b) → gate ≡ false → Finds (λ home n. a && b && rule home n) ranges None
+behind_shut true true gate rule ranges is shut k below = cc
+behind_shut true false gate rule ranges is shut k below = λ i. false
+behind_shut false b gate rule ranges is shut k below = λ i. false

@@ -9,12 +9,9 @@ ghost use Rattle.movable_ranges.specs.Apart.{IsApart, IsBelow, Finds};
 ghost use Rattle.movable_ranges.specs.Meant.{means_by};
 
 use crate::apart::{place_holding, place_of};
-use elf_reader::{ElfView, Reloc, Symbol};
+use elf_reader::{ElfView, Reloc, STT_SECTION, Symbol};
 use loaded_code::target;
 use object_ranges::{Extent, has_range};
-
-/// The type of the symbols of sections (`STT_SECTION`).
-pub(crate) const STT_SECTION: u8 = 3;
 
 /// The range of a list that relocation `i` means, if it means one of them: the range of its symbol, or that
 /// in which its target lies if its symbol is that of a section. `loaded` are the marks of the loaded sections;

@@ -10,11 +10,8 @@ ghost use Rattle.movable_ranges.specs.Apart.{IsApart, IsBelow, Finds, AddsRule};
 use crate::marks::mark;
 use crate::meaning::place_of_symbol;
 use board_config::Board;
-use elf_reader::{ElfView, Symbol};
+use elf_reader::{ElfView, SHT_NOBITS, Symbol};
 use object_ranges::Extent;
-
-/// The type of sections without content (`SHT_NOBITS`).
-const SHT_NOBITS: u32 = 8;
 
 /// Marks the ranges in sections without content, if the board doesn't let these move.
 pub(crate) fn mark_zeros(

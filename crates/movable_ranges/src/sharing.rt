@@ -1,6 +1,7 @@
-ghost use Rattle.std.specs.Prelude.{◌≡◌, ℕ, ◌<◌, length};
+ghost use Rattle.std.specs.Prelude.{◌≡◌, ℕ, ◌<◌, ◌&&◌, length};
 ghost use Rattle.elf_reader.specs.File.{plain_view};
 ghost use Rattle.loaded_code.specs.Marks.{all_loaded};
+ghost use Rattle.loaded_code.specs.Records.{reloc_at, counts};
 ghost use Rattle.object_ranges.specs.Extents.{IsFilled};
 ghost use Rattle.sound_relocations.specs.Marks.{all_sound};
 ghost use Rattle.movable_ranges.specs.Apart.{IsApart, IsBelow, Finds, AddsRule};
@@ -56,12 +57,28 @@ fn shared_place(
     ensures found { Finds (λ home n. is_shared_from (plain_view view.now) home n i) ranges.now result }
     ensures below { IsBelow (length ranges.now) result }
 {
-    let reloc = &view.relocs[i];
-    if counts(view, loaded, reloc) && shares_from(view, sound, words, i) {
-        leading_place(view, loaded, ranges, reloc)
+    if is_sharing(view, loaded, sound, words, i) {
+        leading_place(view, loaded, ranges, &view.relocs[i])
     } else {
         None
     }
+}
+
+/// Relocation `i` counts, and gives such a site, if it leads to an object.
+fn is_sharing(
+    view: &ElfView,
+    loaded: &[bool],
+    sound: &[bool],
+    words: &SharedWords,
+    i: usize,
+) -> bool
+    requires marks { loaded.now ≡ all_loaded (plain_view view.now) }
+    requires sound { sound.now ≡ all_sound (plain_view view.now) }
+    requires words { AreSharedWords (plain_view view.now) words.now }
+    requires below { i < length view.now.relocs.items }
+    ensures { result ≡ counts (plain_view view.now) (reloc_at (plain_view view.now) i) && shares_from (plain_view view.now) i }
+{
+    counts(view, loaded, &view.relocs[i]) && shares_from(view, sound, words, i)
 }
 
 /// Relocation `i` gives a site that shares its word, or one of which a low part does, if it leads to an

@@ -1,7 +1,7 @@
 ghost use Rattle.std.specs.Prelude.{◌≡◌, ℕ, ◌<◌, ◌&&◌, not, nat_le, length};
 ghost use Rattle.elf_reader.specs.File.{plain_view};
 ghost use Rattle.loaded_code.specs.Marks.{all_loaded};
-ghost use Rattle.loaded_code.specs.Records.{reloc_at, is_mute};
+ghost use Rattle.loaded_code.specs.Records.{reloc_at};
 ghost use Rattle.object_ranges.specs.Extents.{extent_at, IsFilled};
 ghost use Rattle.sound_relocations.specs.Marks.{all_sound};
 ghost use Rattle.sound_relocations.specs.Sound.{displacement, is_meant, is_sound_kind, is_sound_pair};
@@ -11,12 +11,10 @@ ghost use Rattle.movable_ranges.specs.Meant.{is_direct, is_site_kind, leads_insi
 
 use crate::marks::mark;
 use crate::meaning::place_meant;
-use elf_reader::{ElfView, Reloc};
+use elf_reader::{ElfView, R_RISCV_PCREL_HI20, Reloc};
 use loaded_code::{counts, target};
 use object_ranges::Extent;
-
-/// The kind of relocations of AUIPCs (`R_RISCV_PCREL_HI20`).
-const PCREL_HI20: u32 = 23;
+use sound_relocations::is_mute;
 
 /// Marks the ranges that a relocation means that isn't sound.
 pub(crate) fn mark_unsound(
@@ -109,13 +107,6 @@ fn leads_into(view: &ElfView, range: &Extent, reloc: &Reloc) -> bool
     target(view, reloc).wrapping_sub(range.home) <= range.size
 }
 
-/// Kinds that change nothing: NONE, ALIGN and RELAX (RISC-V psABI, "Relocations").
-fn is_mute(kind: u32) -> bool
-    ensures { result ≡ is_mute kind }
-{
-    matches!(kind, 0 | 43 | 51)
-}
-
 /// The kind of relocation `i` is sound.
 fn is_sound(view: &ElfView, sound: &[bool], i: usize) -> bool
     requires sound { sound.now ≡ all_sound (plain_view view.now) }
@@ -138,7 +129,7 @@ pub(crate) fn is_direct(view: &ElfView, sound: &[bool], i: usize) -> bool
 fn is_site_kind(kind: u32) -> bool
     ensures { result ≡ is_site_kind kind }
 {
-    matches!(kind, PCREL_HI20 | 26..=28)
+    matches!(kind, R_RISCV_PCREL_HI20 | 26..=28)
 }
 
 /// It is, and it changes an AUIPC.
@@ -147,5 +138,5 @@ pub(crate) fn is_pair(view: &ElfView, sound: &[bool], i: usize) -> bool
     requires below { i < length view.now.relocs.items }
     ensures { result ≡ is_sound_pair (plain_view view.now) (reloc_at (plain_view view.now) i) }
 {
-    is_sound(view, sound, i) && view.relocs[i].kind == PCREL_HI20
+    is_sound(view, sound, i) && view.relocs[i].kind == R_RISCV_PCREL_HI20
 }

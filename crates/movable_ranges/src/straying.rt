@@ -12,8 +12,8 @@ ghost use Rattle.movable_ranges.specs.Apart.{IsApart, IsBelow, Finds, is_place, 
 ghost use Rattle.movable_ranges.specs.Strays.{strays_by, is_hit, is_hit_in};
 
 use crate::marks::{is_marked, mark, no_marks};
-use crate::meaning::{STT_SECTION, place_of_symbol};
-use elf_reader::{ElfView, Symbol};
+use crate::meaning::place_of_symbol;
+use elf_reader::{ElfView, STT_SECTION, Symbol};
 use loaded_code::{counts, target};
 use object_ranges::{Extent, has_range};
 use sorted_numbers::{arrange, has_inside};

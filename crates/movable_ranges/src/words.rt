@@ -5,18 +5,17 @@ ghost use Rattle.elf_reader.specs.File.{plain_symbol, plain_view};
 ghost use Rattle.loaded_code.specs.Marks.{all_loaded};
 ghost use Rattle.loaded_code.specs.Records.{reloc_at, symbol_of};
 ghost use Rattle.sound_relocations.specs.Marks.{all_sound};
-ghost use Rattle.sound_relocations.specs.Sound.{is_pair_low};
 ghost use Rattle.sorted_numbers.specs.Sorted.{IsSorted, count_below};
 ghost use Rattle.movable_ranges.specs.Shares.{IsCover, leads_some, leads_by, is_high_by, is_low_of_some, gives_some, gives_by, repeats_at, is_low_shared, is_shared_low, AreSharedWords};
 
 use crate::cover::{Cover, is_covered, object_cover};
-use crate::meaning::STT_SECTION;
 use crate::soundness::{is_direct, is_pair};
 use crate::straying::symbol_value;
-use elf_reader::{ElfView, Reloc, Symbol};
+use elf_reader::{ElfView, Reloc, STT_SECTION, Symbol};
 use loaded_code::{counts, target};
 use object_ranges::has_range;
 use sorted_numbers::{arrange, has, repeats};
+use sound_relocations::is_pair_low;
 use std::alloc::{AllocError, Global};
 
 /// Where the sites of a program are, those of all its objects.
@@ -164,12 +163,31 @@ fn push_site(
     requires below { j < length view.now.relocs.items }
     ensures { IfOk result (λ _. (test : ℕ → Bool) → count_by test sites.new.items ≡ count_by test sites.old.items + (if gives_by (plain_view view.now) test j then 1 else 0)) }
 {
-    if is_direct(view, sound, j) && leads_some(view, loaded, cover, j)
-        || is_low_of_some(view, loaded, pairs, j)
-    {
+    if gives_some(view, loaded, sound, cover, pairs, j) {
         sites.push(u64::from(view.relocs[j].at))?;
     }
     Ok(())
+}
+
+/// Relocation `j` gives a site of some object.
+fn gives_some(
+    view: &ElfView,
+    loaded: &[bool],
+    sound: &[bool],
+    cover: &Cover,
+    pairs: &[u64],
+    j: usize,
+) -> bool
+    requires marks { loaded.now ≡ all_loaded (plain_view view.now) }
+    requires sound { sound.now ≡ all_sound (plain_view view.now) }
+    requires cover { IsCover (plain_view view.now) cover.now }
+    requires sorted { IsSorted pairs.now }
+    requires pairs { (test : ℕ → Bool) → list_any test pairs.now ≡ any_below (is_high_by (plain_view view.now) test) (length (plain_view view.now).relocs) }
+    requires below { j < length view.now.relocs.items }
+    ensures { result ≡ gives_some (plain_view view.now) j }
+{
+    is_direct(view, sound, j) && leads_some(view, loaded, cover, j)
+        || is_low_of_some(view, loaded, pairs, j)
 }
 
 /// Relocation `j` is of the low part of an AUIPC of some object.
@@ -189,13 +207,6 @@ fn high_address(view: &ElfView, reloc: &Reloc) -> u64
     ensures { result ≡ (symbol_of (plain_view view.now) reloc.now).value }
 {
     u64::from(symbol_value(view, reloc.symbol as usize))
-}
-
-/// PCREL_LO12_I and PCREL_LO12_S (RISC-V psABI, "Relocations").
-fn is_pair_low(kind: u32) -> bool
-    ensures { result ≡ is_pair_low kind }
-{
-    matches!(kind, 24 | 25)
 }
 
 /// The addresses of the AUIPCs of which a low part shares its word.

@@ -24,7 +24,7 @@ use Rattle.value_words.specs.Stands.{Places, address_word}
 use Rattle.object_machine.specs.Program.{Target, target_at}
 use Rattle.file_at_home.specs.Home.{is_code_byte}
 use Rattle.file_at_home.specs.Laws.{IsAccepted}
-use Rattle.file_at_home.proofs.Objects.{object_moves}
+use Rattle.cell_values.proofs.GraphObjects.{object_moves}
 use Rattle.file_at_home.proofs.Sites.{SiteBy, by_high, by_wide, by_store, by_pair, by_low, itself, target_found, site_of}
 use Rattle.file_at_home.proofs.Sound.{loadable}
 use Rattle.file_at_home.proofs.Start.{word_given}

@@ -15,7 +15,7 @@ use Rattle.object_machine.specs.Runs.{Steps}
 use Rattle.simulation.specs.Laws.{IsUnit, OfBlock, ReachedBy, Behind}
 use Rattle.simulation.proofs.Runs.{keeps_behind}
 use Rattle.file_at_home.specs.Laws.{IsAccepted, program_in, source_start, file_start}
-use Rattle.file_at_home.proofs.Objects.{object_moves}
+use Rattle.cell_values.proofs.GraphObjects.{object_moves}
 use Rattle.file_at_home.proofs.Single.{one_run}
 use Rattle.file_at_home.proofs.Start.{entry_unit}
 use Rattle.moved_data.specs.Placing.{Placing, IsPlacing}

@@ -1,12 +1,11 @@
 -- The places of a result meet what the simulation asks.
-use Rattle.std.proofs.Common.{◌≡◌, inl, inr, ℕ, ◌+◌, ◌-◌, ◌*◌, ◌/◌, ◌<◌, ◌≤◌, ◌==◌, true, false, not, ◌&&◌, ◌||◌, List, [], ◌∷◌, length, sym, subst, arith}
+use Rattle.std.proofs.Common.{◌≡◌, inl, inr, ℕ, ◌+◌, ◌-◌, ◌*◌, ◌/◌, ◌<◌, ◌≤◌, ◌==◌, true, false, List, [], ◌∷◌, sym, subst, arith}
 use Rattle.std.specs.Prelude.{All}
 use Rattle.std.specs.List.{list_any}
 use Rattle.std.proofs.lemmas.Bool.{cases_Bool, both_ways, eqb-true}
 use Rattle.std.proofs.lemmas.Bool.Decides.{nat_tests}
 use Rattle.std.proofs.lemmas.List.Elements.{All-head, All-tail}
-use Rattle.index_tests.specs.Tests.{any_below}
-use Rattle.index_tests.proofs.TestLemmas.{either, both, not_true}
+use Rattle.index_tests.proofs.TestLemmas.{either}
 use Rattle.elf_reader.specs.File.{PlainView, view_in}
 use Rattle.board_config.specs.Board.{mapped_ranges}
 use Rattle.board_config.specs.declared.board.Board.{Board}
@@ -15,7 +14,7 @@ use Rattle.flat_machine.specs.Mapping as mapping
 use Rattle.loaded_code.specs.Records.{symbol_at}
 use Rattle.loaded_code.proofs.WordLemmas.{lies_from, lies_to}
 use Rattle.object_ranges.specs.Ranges.{owner_of}
-use Rattle.object_graph.specs.Sites.{in_range, in_area, in_code_range, in_object, holds_changed_byte, is_fixed_memory}
+use Rattle.object_graph.specs.Sites.{in_range, is_fixed_memory}
 use Rattle.object_graph.specs.declared.parts.Graph.{Graph}
 use Rattle.object_graph.proofs.MovableLemmas.{movable_parts}
 use Rattle.code_leaders.proofs.LeaderLemmas.{left_passes, right_passes}
@@ -24,7 +23,8 @@ use Rattle.value_words.specs.Stands.{Places}
 use Rattle.value_words.proofs.Makes.{moved_uppers_make}
 use Rattle.file_at_home.specs.Home.{is_code_byte}
 use Rattle.file_at_home.specs.Laws.{IsAccepted}
-use Rattle.file_at_home.proofs.Objects.{object_below, object_moves}
+use Rattle.file_at_home.proofs.Memory.{fixed_parts}
+use Rattle.cell_values.proofs.GraphObjects.{object_below, object_moves}
 use Rattle.file_at_home.proofs.Sound.{sound_home}
 use Rattle.moved_data.specs.Placing.{Placing, is_taken, LiesIn, IsPlacing}
 use Rattle.moved_data.specs.Laws.{unnamed_in, MovedIsSound}
@@ -51,18 +51,8 @@ spm_mapped board a is =
 -- fixed memory lies off it, off the patch range, and off the bytes that a new file changes
 pub fixed_kept : (v : PlainView) (board : Board) (a : ℕ) → is_fixed_memory v board a ≡ true → IsKept v board a
 fixed_kept v board a fixed =
-    let memory = in_range board.main a || any_below (in_area board a) (length board.areas.items) in
-    let spm = in_range board.spm a in
-    let patch = in_range board.patch a in
-    let code = any_below (in_code_range v a) (length v.sections) in
-    let object = any_below (in_object v board a) (length v.symbols) in
-    let changed = any_below (holds_changed_byte v a) (length v.segments) in
-    let five = both (memory && not spm && not patch && not code && not object) (not changed) fixed in
-    let four = both (memory && not spm && not patch && not code) (not object) five.0 in
-    let three = both (memory && not spm && not patch) (not code) four.0 in
-    let two = both (memory && not spm) (not patch) three.0 in
-    let one = both memory (not spm) two.0 in
-    record { spm = not_true spm one.1; patch = not_true patch two.1; unchanged = not_true changed five.1 }
+    let parts = fixed_parts v board a fixed in
+    record { spm = parts.spm; patch = parts.patch; unchanged = parts.unchanged }
 
 module _ (file : List ℕ) (board : Board) (g : Graph) (accepted : IsAccepted file board g) where
   abbrev v : PlainView

@@ -33,7 +33,7 @@ use Rattle.simulation.specs.Laws.{IsUnit, OfBlock, ReachedBy, Behind}
 use Rattle.simulation.proofs.Completes.{moved_completes}
 use Rattle.file_at_home.specs.Laws.{program_in}
 use Rattle.file_at_home.proofs.Named.{auipc_by}
-use Rattle.file_at_home.proofs.Objects.{object_moves}
+use Rattle.cell_values.proofs.GraphObjects.{object_moves}
 use Rattle.file_at_home.proofs.Sites.{site_of}
 use Rattle.file_at_home.proofs.Sound.{loadable}
 use Rattle.file_at_home.proofs.Units.{unit_home}

@@ -13,13 +13,11 @@ ghost use Rattle.object_graph.specs.Gathered.{listed, gives, GivesJust, AreSepar
 use crate::leads::lead_of;
 use crate::lookups::find_site;
 use crate::parts::{Site, SiteKind};
-use elf_reader::ElfView;
+use elf_reader::{ElfView, R_RISCV_PCREL_HI20};
 use loaded_code::counts;
 use object_ranges::Extent;
+use sound_relocations::is_pair_low;
 use std::alloc::{AllocError, Global};
-
-/// `R_RISCV_PCREL_HI20` (RISC-V psABI, "Relocations").
-const PCREL_HI20: u32 = 23;
 
 /// The sites of the objects of these ranges, by address. `loaded` and `sound` are the marks of the loaded
 /// sections and of the relocations of a sound kind. It fails only where no memory was left.
@@ -129,7 +127,7 @@ fn high_site(
     requires below { i < length view.now.relocs.items }
     ensures { GivesJust same_site (gives_high (plain_view view.now) ranges.now) result i }
 {
-    if view.relocs[i].kind == PCREL_HI20 {
+    if view.relocs[i].kind == R_RISCV_PCREL_HI20 {
         direct_site(view, loaded, ranges, sound, i)
     } else {
         None
@@ -254,11 +252,4 @@ fn is_stored(kind: u32) -> bool
     ensures { result ≡ (kind == 28) || (kind == 25) }
 {
     matches!(kind, 25 | 28)
-}
-
-/// The lower part of a pair: PCREL_LO12_I and PCREL_LO12_S.
-fn is_pair_low(kind: u32) -> bool
-    ensures { result ≡ is_pair_low kind }
-{
-    matches!(kind, 24 | 25)
 }

@@ -10,12 +10,9 @@ ghost use Rattle.object_graph.specs.Gathered.{listed, GivesJust, AreSeparate, Ar
 use crate::leads::lead_of;
 use crate::parts::DataWord;
 use crate::sites::is_sound;
-use elf_reader::ElfView;
+use elf_reader::{ElfView, R_RISCV_32};
 use object_ranges::Extent;
 use std::alloc::{AllocError, Global};
-
-/// `R_RISCV_32` (RISC-V psABI, "Relocations").
-const WORD: u32 = 1;
 
 /// The words of data that lead to the objects of these ranges, by address. `loaded` and `sound` are the marks
 /// of the loaded sections and of the relocations of a sound kind. It fails only where no memory was left.
@@ -78,7 +75,7 @@ fn word_of(
     ensures { GivesJust same_word (is_word_in (plain_view view.now) ranges.now) result i }
 {
     let reloc = &view.relocs[i];
-    if reloc.kind != WORD {
+    if reloc.kind != R_RISCV_32 {
         return None;
     }
     if !is_sound(view, sound, i) {

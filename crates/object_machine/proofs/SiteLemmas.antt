@@ -1,17 +1,16 @@
 -- The site at an address.
-use Rattle.std.proofs.Common.{◌≡◌, ◌⊎◌, inl, inr, ℕ, zero, suc, ◌+◌, ◌<◌, ◌≤◌, ◌==◌, nat_lt, Bool, true, false, ◌&&◌, ◌||◌, if◌then◌else◌, List, [], ◌∷◌, length, slice_index_or, Option, Some, None, MatchOption, refl, sym, ◌∙◌, ap, subst, arith}
+use Rattle.std.proofs.Common.{◌≡◌, inl, inr, ℕ, suc, ◌+◌, ◌≤◌, ◌==◌, nat_lt, true, false, ◌&&◌, List, [], ◌∷◌, length, slice_index_or, Option, Some, None, MatchOption, refl, sym, ◌∙◌, arith}
 use Rattle.std.specs.List.{AllPairs, list_any}
 use Rattle.std.proofs.lemmas.Bool.{eqb-true, cases_eq}
 use Rattle.std.proofs.lemmas.Bool.Decides.{nat_tests}
 use Rattle.index_tests.proofs.TestLemmas.{either, both, neither}
 use Rattle.index_tests.specs.Tests.{any_below}
-use Rattle.elf_reader.specs.File.{PlainView}
-use Rattle.board_config.specs.declared.board.Board.{Board}
+use Rattle.index_tests.proofs.StepLemmas.{any_place}
 use Rattle.object_graph.specs.declared.parts.Site.{Site}
 use Rattle.object_graph.specs.declared.parts.Graph.{Graph}
-use Rattle.object_graph.specs.Graphs.{same_part, same_site, is_site_of_list, gives_site, IsGraph}
+use Rattle.object_graph.specs.Graphs.{same_part, same_site, is_site_of_list, gives_site}
 use Rattle.object_graph.specs.Lookups.{IsSomeGraph, stands_at}
-use Rattle.object_machine.specs.Program.{Target, target_at}
+use Rattle.object_machine.specs.Program.{target_at}
 use Rattle.object_machine.specs.Units.{target_of, FitsSite}
 
 -- none stands there
@@ -33,15 +32,6 @@ some_target : (s t : Site) → same_site s t ≡ true → target_of (Some t) ≡
 some_target s t same =
     let parts = same_target s t same in
     λ z. Some (record { object = sym parts.0 z; offset = sym parts.1.0 z })
-
--- a place at which a test passes
-any_place : {X : Type 0} (test : X → Bool) (xs : List X) (d : X) → list_any test xs ≡ true → (k : ℕ) × ((k < length xs) × (test (slice_index_or xs k d) ≡ true))
-any_place test [] d found = cc
-any_place test (x ∷ xs) d found =
-    elim (either (test x) (list_any test xs) found) [
-      | inl here ↦ (0, (omega arith, here))
-      | inr rest ↦ let (k, at) = any_place test xs d rest in let below = at.0 in (suc k, (omega (arith, below), at.1))
-    ]
 
 -- later sites stand elsewhere
 later : (s t : Site) (sites : List Site) → AllPairs (λ x y. x.at + 4 ≤ y.at) (s ∷ sites) → list_any (same_site t) sites ≡ true → t.at ≡ s.at → ⊥

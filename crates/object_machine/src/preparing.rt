@@ -8,7 +8,6 @@ ghost use Rattle.loaded_code.specs.Read.{IsRead};
 ghost use Rattle.object_graph.specs.Lookups.{IsSomeGraph};
 ghost use Rattle.code_blocks.specs.Blocks.{IsUnit};
 ghost use Rattle.board_config.specs.declared.board.Board.{Board};
-ghost use Rattle.rv_decode.specs.Fields.{rd_of};
 ghost use Rattle.code_blocks.specs.Blocks.{IsCode};
 ghost use Rattle.object_machine.specs.Preparing.{IsPairOf, IsPreparedOf, ArePrepared, IsLaid, HasObjects};
 
@@ -18,6 +17,7 @@ use code_leaders::{links, pair_target};
 use elf_reader::ElfView;
 use loaded_code::{holds_code, word_in};
 use object_graph::Graph;
+use rv_decode::rd;
 use std::alloc::{AllocError, Global};
 
 /// The units of blocks one behind the other, and where each block begins.
@@ -43,13 +43,6 @@ fn code_word(view: &ElfView, loaded: &[bool], address: u32) -> u32
         }
     }
     0
-}
-
-/// The register that a word writes (RISC-V Unprivileged ISA, "Base Instruction Formats").
-fn rd(word: u32) -> u8
-    ensures { result ≡ rd_of word }
-{
-    ((word >> 7) & 0x1f) as u8
 }
 
 /// The call of two words that a unit is.

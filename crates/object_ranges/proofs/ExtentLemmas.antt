@@ -1,39 +1,20 @@
 -- Extents as numbers, their tests in lists, and the symbols that they come from.
 use Rattle.std.proofs.Common.{Result, Ok, Err, IfOk, ◌≡◌, ◌∙◌, inl, inr, ℕ, ◌+◌, ◌*◌, ◌/◌, ◌%◌, ◌<◌, ◌==◌, Bool, true, false, ◌&&◌, ◌||◌, List, [], ◌∷◌, map, length, slice_index_or, refl, sym, ap, arith, add-one}
-use Rattle.std.specs.List.{list_any, dedup, Contains}
+use Rattle.std.specs.List.{list_any}
 use Rattle.std.specs.List.Sorted.{IsStrictlyIncreasing}
-use Rattle.std.proofs.Math.Dec.{eqb}
 use Rattle.std.proofs.lemmas.Bool.{cases_lt, eq-eqb}
 use Rattle.std.proofs.lemmas.Bool.Decides.{nat_tests}
 use Rattle.std.proofs.lemmas.List.{get_or-map, length-map}
-use Rattle.std.proofs.lemmas.List.Folds.{Any-from_list_any, list_any_at}
-use Rattle.std.proofs.lemmas.List.Kept.{Contains-from_dedup, Contains-dedup_nat, AllPairs-from_increasing}
+use Rattle.std.proofs.lemmas.List.Folds.{list_any_at}
+use Rattle.std.proofs.lemmas.List.Kept.{AllPairs-from_increasing}
 use Rattle.index_tests.specs.Tests.{any_below}
-use Rattle.index_tests.proofs.TestLemmas.{same_tests, any_found}
+use Rattle.index_tests.proofs.TestLemmas.{any_found}
 use Rattle.elf_reader.specs.File.{PlainSymbol, PlainView}
 use Rattle.loaded_code.specs.Records.{symbol_at}
 use Rattle.object_ranges.specs.declared.extents.Extent.{Extent}
 use Rattle.object_ranges.specs.Ranges.{has_range, is_of, is_symbol_of, is_range}
 use Rattle.object_ranges.specs.Extents.{is_extent, has_extent_in, precedes, IsAscending, IsFilled, key_of, extent_of, is_key_of}
 use Rattle.object_ranges.proofs.RangeLemmas.{range_parts, HasRange, of_parts}
-
--- a list passes a test where one of its numbers does
-contained : (test : ℕ → Bool) (xs : List ℕ) (x : ℕ) → Contains xs x → test x ≡ true → list_any test xs ≡ true
-contained test xs x (k, below, here) passes = list_any_at test xs k x below (ap test here ∙ passes)
-
--- each kept once, the same tests pass
-from_dedup : (test : ℕ → Bool) (xs : List ℕ) → list_any test (dedup eqb xs) ≡ true → list_any test xs ≡ true
-from_dedup test xs found =
-    let (k, x, below, here, passes) = Any-from_list_any test (dedup eqb xs) found in
-    contained test xs x (Contains-from_dedup eqb xs x (k, below, here)) passes
-
-into_dedup : (test : ℕ → Bool) (xs : List ℕ) → list_any test xs ≡ true → list_any test (dedup eqb xs) ≡ true
-into_dedup test xs found =
-    let (k, x, below, here, passes) = Any-from_list_any test xs found in
-    contained test (dedup eqb xs) x (Contains-dedup_nat xs x (k, below, here)) passes
-
-pub any_dedup : (test : ℕ → Bool) (xs : List ℕ) → list_any test (dedup eqb xs) ≡ list_any test xs
-any_dedup test xs = same_tests (list_any test (dedup eqb xs)) (list_any test xs) (from_dedup test xs) (into_dedup test xs)
 
 gated : (a b c : Bool) → (a ≡ true → b ≡ c) → (a && b) ≡ (a && c)
 gated true b c same = same refl

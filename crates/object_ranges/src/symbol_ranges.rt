@@ -1,6 +1,5 @@
 ghost use Rattle.std.specs.Prelude.{◌≡◌, ℕ, ◌+◌, ◌*◌, ◌<◌, Bool, ◌&&◌, ◌||◌, length, map, IfOk};
 ghost use Rattle.std.specs.List.{list_any};
-ghost use Rattle.std.specs.List.Sorted.{IsStrictlyIncreasing};
 ghost use Rattle.index_tests.specs.Tests.{lies_in};
 ghost use Rattle.elf_reader.specs.File.{plain_section, plain_symbol, plain_view};
 ghost use Rattle.elf_reader.specs.Loaded.{is_loaded};
@@ -9,13 +8,10 @@ ghost use Rattle.object_ranges.specs.Ranges.{is_executable, has_extent, has_owne
 ghost use Rattle.object_ranges.specs.Extents.{key_of, extent_of, is_key_of, has_extent_in, IsAscending, IsFilled};
 
 use crate::extents::Extent;
-use elf_reader::{ElfView, Section, Symbol};
+use elf_reader::{EXECUTABLE_BIT, ElfView, STT_OBJECT, Section, Symbol};
+use sorted_numbers::arrange_once;
 use std::alloc::{AllocError, Global};
 
-/// The type of symbols of objects (`STT_OBJECT`).
-const STT_OBJECT: u8 = 1;
-/// The flag of executable sections (`SHF_EXECINSTR`).
-const EXECUTABLE_BIT: u32 = 2;
 /// How many addresses there are.
 const ADDRESSES: u64 = 0x1_0000_0000;
 
@@ -34,7 +30,7 @@ pub fn object_ranges(
     ensures filled { IfOk result (λ ranges. IsFilled ranges.items) }
 {
     let mut keys = range_keys(alloc, view, loaded)?;
-    arrange(&mut keys);
+    arrange_once(&mut keys);
     extents_of(alloc, &keys)
 }
 
@@ -71,15 +67,6 @@ fn key_of(home: u32, size: u32) -> u64
     ensures { result ≡ key_of home size }
 {
     u64::from(home) * ADDRESSES + u64::from(size)
-}
-
-/// Sorts the keys, and keeps each once.
-fn arrange(keys: &mut Vec<u64>)
-    ensures increasing { IsStrictlyIncreasing keys.new.items }
-    ensures same { (test : ℕ → Bool) → list_any test keys.new.items ≡ list_any test keys.old.items }
-{
-    keys.sort_unstable();
-    keys.dedup();
 }
 
 /// The range of each key.

@@ -128,18 +128,34 @@ fn push_ends(code: &mut Vec<Instr>, fence_i: bool) -> Result<(), AllocError>
     code.extend_from_slice(&[addi(5, 0, 0), addi(7, 0, 0), addi(28, 0, 0), addi(31, 0, 0)])
 }
 
+// All instructions before the jump.
+fn before_jump(alloc: Global, plan: &StubPlan) -> Result<Vec<Instr>, AllocError>
+    requires { All IsJob plan.now.start.items }
+    ensures { IfOk result (λ code. code.items ≡ before_jump (start_of plan.now)) }
+{
+    let mut code = Vec::new(alloc);
+    push_jobs(&mut code, &plan.start)?;
+    push_ends(&mut code, plan.fence_i)?;
+    Ok(code)
+}
+
+// The jump from an address to another.
+fn jump(at: u32, to: u32) -> Instr
+    ensures { result ≡ Instr.Jal 0 (distance at to) }
+{
+    Instr::Jal {
+        rd: 0,
+        off: to.wrapping_sub(at).cast_signed(),
+    }
+}
+
 /// The instructions of the start stub.
 pub fn start_stub(alloc: Global, plan: &StubPlan) -> Result<Vec<Instr>, AllocError>
     requires { CanStart (start_of plan.now) }
     ensures { IfOk result (λ code. code.items ≡ start_stub (start_of plan.now)) }
 {
-    let mut code = Vec::new(alloc);
-    push_jobs(&mut code, &plan.start)?;
-    push_ends(&mut code, plan.fence_i)?;
+    let mut code = before_jump(alloc, plan)?;
     let at = plan.base + 64 + 4 * (code.len() as u32);
-    code.push(Instr::Jal {
-        rd: 0,
-        off: plan.entry.wrapping_sub(at).cast_signed(),
-    })?;
+    code.push(jump(at, plan.entry))?;
     Ok(code)
 }

@@ -229,6 +229,8 @@ impl ByteStore for PageStore {
 
     ghost has_room = { λ s. has_page s.directory.items };
 
+    // What a machine reads and writes in each step is inlined; what is rare is left to cold functions.
+    #[inline(always)]
     fn get(&self, at: u32) -> u8 {
         if self.directory.is_empty() {
             return 0;
@@ -244,6 +246,7 @@ impl ByteStore for PageStore {
         self.make_pages(at, n)
     }
 
+    #[inline(always)]
     fn set(&mut self, at: u32, byte: u8) -> Result<(), AllocError> {
         self.room(at, 1)?;
         self.set_piece(at, &[byte]);

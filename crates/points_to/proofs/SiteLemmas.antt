@@ -7,6 +7,7 @@ use Rattle.std.proofs.lemmas.Bool.Decides.{nat_tests}
 use Rattle.std.proofs.lemmas.List.Folds.{list_any_at}
 use Rattle.index_tests.proofs.TestLemmas.{either, both, neither}
 use Rattle.index_tests.specs.Tests.{any_below}
+use Rattle.index_tests.proofs.StepLemmas.{any_place}
 use Rattle.object_graph.specs.declared.parts.Site.{Site}
 use Rattle.object_graph.specs.declared.parts.SiteKind.{SiteKind}
 use Rattle.object_graph.specs.declared.parts.SiteKind.TheVariants.{Hi, LowI, LowS}
@@ -49,15 +50,6 @@ alike s t same =
 
 some_site : (s t : Site) → Alike s t → Some t ≡ Some s
 some_site s t are = λ z. Some (record { at = sym are.at z; kind = sym are.kind z; object = sym are.object z; offset = sym are.offset z })
-
--- a place at which a test passes
-any_place : {X : Type 0} (test : X → Bool) (xs : List X) (d : X) → list_any test xs ≡ true → (k : ℕ) × ((k < length xs) × (test (slice_index_or xs k d) ≡ true))
-any_place test [] d found = cc
-any_place test (x ∷ xs) d found =
-    elim (either (test x) (list_any test xs) found) [
-      | inl here ↦ (0, (omega arith, here))
-      | inr rest ↦ let (k, at) = any_place test xs d rest in let below = at.0 in (suc k, (omega (arith, below), at.1))
-    ]
 
 -- later sites stand elsewhere
 later : (s t : Site) (sites : List Site) → AllPairs (λ x y. x.at + 4 ≤ y.at) (s ∷ sites) → list_any (same_site t) sites ≡ true → t.at ≡ s.at → ⊥

@@ -10,5 +10,4 @@ pub mod MovedLemmas
 pub mod LoadableLemmas
 pub mod ResultLemmas
 pub mod RealiseLemmas
-pub mod CollectLemmas
 pub mod StatedLemmas

@@ -17,7 +17,7 @@ use Rattle.object_graph.specs.Graphs.{IsGraph}
 use Rattle.object_graph.specs.declared.parts.Graph.{Graph}
 use Rattle.cell_values.specs.Objects.{object_of}
 use Rattle.file_at_home.proofs.Lists.{element_found}
-use Rattle.file_at_home.proofs.Objects.{objects_differ}
+use Rattle.cell_values.proofs.GraphObjects.{objects_differ}
 use Rattle.relocator.specs.declared.places.Places.{Places}
 use Rattle.relink_core.specs.Realises.{same_move, moves_with, AreSymbolMoves, data_placing}
 use Rattle.relink_core.specs.Making.{start_place, AreOfGraph, ArePlacesOf, range_value, symbol_value, move_to, moves_below}

@@ -8,7 +8,7 @@ use Rattle.index_tests.specs.Tests.{any_below, lies_in, meets}
 use Rattle.index_tests.proofs.TestLemmas.{both, any_at, any_found}
 use Rattle.elf_reader.specs.Sections.{bit_of, stands_in_file}
 use Rattle.elf_reader.specs.File.{PlainSegment, PlainSection, PlainView, section_of, view_in}
-use Rattle.fault_order.proofs.FirstLemmas.{both_none, holds as holds_test}
+use Rattle.fault_order.proofs.FirstLemmas.{both_none}
 use Rattle.elf_reader.specs.HeaderChecks.{size_fault, header_fault}
 use Rattle.elf_reader.specs.Faults.{first_fault}
 use Rattle.elf_reader.specs.Image.{has_byte}
@@ -30,7 +30,7 @@ use Rattle.object_graph.specs.declared.parts.Object.{Object}
 use Rattle.object_graph.specs.declared.parts.Graph.{Graph}
 use Rattle.object_graph.proofs.SoundLemmas.{HoldsData, sound_word}
 use Rattle.cell_values.specs.Objects.{object_of}
-use Rattle.file_at_home.proofs.Objects.{object_moves}
+use Rattle.cell_values.proofs.GraphObjects.{object_moves}
 use Rattle.file_at_home.proofs.Sites.{object_same, leads_means}
 use Rattle.file_at_home.proofs.Start.{word_itself}
 use Rattle.file_at_home.proofs.Words.{code_range}

@@ -32,7 +32,7 @@ use Rattle.overlay_stubs.specs.Jobs.{AreApart, IsJob}
 use Rattle.overlay_stubs.specs.Start.{StartPlan, before_jump, start_at, jump_at, start_bytes, distance, fences, Spares, CanStart}
 use Rattle.overlay_stubs.proofs.WordLemmas.{bytes_are}
 use Rattle.file_at_home.specs.Laws.{IsAccepted}
-use Rattle.file_at_home.proofs.Objects.{object_extends}
+use Rattle.cell_values.proofs.GraphObjects.{object_extends}
 use Rattle.file_at_home.proofs.Words.{code_range, code_even, code_below}
 use Rattle.relocator.specs.declared.places.Places.{Places}
 use Rattle.relocator.specs.Laws.{AreObjectsOff}

@@ -20,7 +20,8 @@ use Rattle.relocator.proofs.SlotLemmas.{slot_keeps, slots_apart}
 use Rattle.relocator.proofs.WeightLemmas.{IsSized}
 use Rattle.relocator.proofs.PlaceLemmas.{choice_fits, slots_within}
 use Rattle.relocator.proofs.StandLemmas.{puts_one, puts_present, puts_data, stands}
-use Rattle.relocator.proofs.ObjectLemmas.{object_extends, objects_differ, scratchpad_placed, home_off_scratchpad}
+use Rattle.cell_values.proofs.GraphObjects.{object_extends, objects_differ}
+use Rattle.relocator.proofs.ObjectLemmas.{scratchpad_placed, home_off_scratchpad}
 use Rattle.relocator.proofs.GrainLemmas.{IsTimes, base_times, same_low, slots_times}
 
 -- what holds of the slots of a choice

@@ -1,3 +1,4 @@
+pub mod Quotients
 pub mod Sets
 pub mod Effects
 pub mod Meaning

@@ -136,7 +136,7 @@ within (negsuc n) small = record { sfits = omega arith }
 places : (imm : ℤ) → (pos 0 ≤ℤ imm) × (imm <ℤ pos 32) → FitsSigned w32 imm
 places imm small = omega (arith, ints)
 
-imm_fits : (kind : ImmKind) (imm : ℤ) → IsImmInRange kind imm → FitsSigned w32 imm
+pub imm_fits : (kind : ImmKind) (imm : ℤ) → IsImmInRange kind imm → FitsSigned w32 imm
 imm_fits Addi imm range = within imm range
 imm_fits Slti imm range = within imm range
 imm_fits Sltiu imm range = within imm range

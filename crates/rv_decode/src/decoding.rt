@@ -9,6 +9,8 @@ use crate::instructions::{BranchKind, ImmKind, Instr, LoadKind, RegKind, StoreKi
 
 /// The instruction that a word means, None exactly where no row of the table has the word
 /// (RISC-V Unprivileged ISA, "RV32/64G Instruction Set Listings", RV32I with M and Zifencei).
+// Inlined, since a machine decodes in each step, and acts at once on what it finds.
+#[inline(always)]
 #[tactic(auto, using(crate::proofs::Meaning::same_instruction))]
 pub fn decode(w: u32) -> Option<Instr>
     ensures means { MatchOption result (MeansNothing w) (Means w) }

@@ -5,25 +5,29 @@ ghost use Rattle.rv_decode.specs.Fields.{opcode_of, rd_of, funct3_of, rs1_of, rs
 
 use word_bits::sext;
 
-pub(crate) fn opcode(w: u32) -> u32
+/// The opcode of a word.
+pub fn opcode(w: u32) -> u32
     ensures { result ≡ opcode_of w }
 {
     w & 0x7f
 }
 
-pub(crate) fn rd(w: u32) -> u8
+/// The register that a word writes.
+pub fn rd(w: u32) -> u8
     ensures { result ≡ rd_of w }
 {
     ((w >> 7) & 0x1f) as u8
 }
 
-pub(crate) fn funct3(w: u32) -> u32
+/// funct3 of a word.
+pub fn funct3(w: u32) -> u32
     ensures { result ≡ funct3_of w }
 {
     (w >> 12) & 7
 }
 
-pub(crate) fn rs1(w: u32) -> u8
+/// The first register that a word reads.
+pub fn rs1(w: u32) -> u8
     ensures { result ≡ rs1_of w }
 {
     ((w >> 15) & 0x1f) as u8
@@ -41,13 +45,15 @@ pub(crate) fn funct7(w: u32) -> u32
     w >> 25
 }
 
-pub(crate) fn u_imm(w: u32) -> u32
+/// The immediate of format U, as 20 bits.
+pub fn u_imm(w: u32) -> u32
     ensures { result ≡ u_immediate w }
 {
     w >> 12
 }
 
-pub(crate) fn i_imm(w: u32) -> i32
+/// The immediate of format I.
+pub fn i_imm(w: u32) -> i32
     ensures { result ≡ i_immediate w }
 {
     w.cast_signed() >> 20
@@ -59,7 +65,8 @@ pub(crate) fn s_imm(w: u32) -> i32
     sext((w >> 25 << 5) | ((w >> 7) & 0x1f), 12).cast_signed()
 }
 
-pub(crate) fn b_imm(w: u32) -> i32
+/// The immediate of format B.
+pub fn b_imm(w: u32) -> i32
     ensures { result ≡ b_immediate w }
 {
     let top = ((w >> 31) << 1) | ((w >> 7) & 1);
@@ -67,7 +74,8 @@ pub(crate) fn b_imm(w: u32) -> i32
     sext(((top << 10) | low) << 1, 13).cast_signed()
 }
 
-pub(crate) fn j_imm(w: u32) -> i32
+/// The immediate of format J.
+pub fn j_imm(w: u32) -> i32
     ensures { result ≡ j_immediate w }
 {
     let top = ((w >> 31) << 8) | ((w >> 12) & 0xff);

@@ -13,6 +13,7 @@ mod tests;
 
 pub use decoding::decode;
 pub use encoding::encode;
+pub use fields::{b_imm, funct3, i_imm, j_imm, opcode, rd, rs1, u_imm};
 pub use instructions::{BranchKind, ImmKind, Instr, LoadKind, RegKind, RegSet, StoreKind};
 pub use laws::{acts_defines_only, acts_keeps_words, acts_uses_only, one_instruction, one_word};
 pub use operations::{imm_result, reg_result, takes};

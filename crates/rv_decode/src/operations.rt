@@ -3,9 +3,12 @@ ghost use Rattle.rv_decode.specs.Acts.{imm_value, reg_value, is_taken, upper_wor
 
 use crate::instructions::{BranchKind, ImmKind, RegKind};
 
+// What the machines do in each step is inlined.
+
 /// What an operation of this kind leaves of the word `a` of `rs1` and an immediate; for a shift
 /// the low five bits of the immediate are its places
 /// (RISC-V Unprivileged ISA, "Integer Register-Immediate Instructions").
+#[inline(always)]
 pub fn imm_result(kind: ImmKind, a: u32, imm: i32) -> u32
     ensures { result ≡ imm_value kind a imm }
 {
@@ -25,6 +28,7 @@ pub fn imm_result(kind: ImmKind, a: u32, imm: i32) -> u32
 
 /// What an operation of this kind leaves of the words `a` of `rs1` and `b` of `rs2`
 /// (RISC-V Unprivileged ISA, "Integer Register-Register Operations" and the M extension).
+#[inline(always)]
 pub fn reg_result(kind: RegKind, a: u32, b: u32) -> u32
     ensures { result ≡ reg_value kind a b }
 {
@@ -52,6 +56,7 @@ pub fn reg_result(kind: RegKind, a: u32, b: u32) -> u32
 
 /// Whether a branch of this kind is taken on the words `a` of `rs1` and `b` of `rs2`
 /// (RISC-V Unprivileged ISA, "Conditional Branches").
+#[inline(always)]
 pub fn takes(kind: BranchKind, a: u32, b: u32) -> bool
     ensures { result ≡ is_taken kind a b }
 {

@@ -1,17 +1,16 @@
 -- Operations on registers and immediates, and fences.
-use Rattle.std.proofs.Common.{◌≡◌, ℕ, true, false, not, ◌&&◌, Option, Some, None, ℤ, pos, negsuc, w32, FitsSigned, refl, ap, subst, arith}
-use Rattle.std.specs.Prelude.{◌≤ℤ◌, ◌<ℤ◌}
-use Rattle.std.proofs.lemmas.Int.{ints}
+use Rattle.std.proofs.Common.{◌≡◌, ℕ, true, false, not, ◌&&◌, Option, Some, None, ℤ, refl, ap, subst, arith}
 use Rattle.index_tests.proofs.TestLemmas.{both, not_true}
 use Rattle.word_bits.specs.Words.{offset}
-use Rattle.rv_decode.specs.Table.{Means, IsWithin, IsImmInRange}
+use Rattle.rv_decode.specs.Table.{Means, IsImmInRange}
 use Rattle.rv_decode.specs.Acts.{register, with_register, imm_value, reg_value}
 use Rattle.rv_decode.specs.declared.instructions.Instr.{Instr}
 use Rattle.rv_decode.specs.declared.instructions.Instr.TheVariants.{OpImm, OpReg, Fence, FenceI}
 use Rattle.rv_decode.specs.declared.instructions.ImmKind.{ImmKind}
-use Rattle.rv_decode.specs.declared.instructions.ImmKind.TheVariants.{Addi, Slti, Sltiu, Xori, Ori, Andi, Slli, Srli, Srai}
+use Rattle.rv_decode.specs.declared.instructions.ImmKind.TheVariants.{Addi}
 use Rattle.rv_decode.specs.declared.instructions.RegKind.{RegKind}
 use Rattle.rv_decode.proofs.Words.{keeps_words}
+use Rattle.rv_decode.proofs.Words.{imm_fits}
 use Rattle.flat_machine.specs.State.{State}
 use Rattle.cell_values.specs.Operations.{operation_of, op_imm, op_reg, low_site}
 use Rattle.cell_values.specs.declared.values.Val.TheVariants.{Int}
@@ -31,25 +30,6 @@ use Rattle.simulation.proofs.OneUnit.{Ready, StepsAs}
 use Rattle.simulation.proofs.Steps.{Operand, reads_on, one_read, first_read, second_read, one_written, none_written, paired_by, with_writes}
 use Rattle.simulation.proofs.Effects.{itself, no_writes, falls_both}
 
--- an immediate in range is a signed word
-within : (imm : ℤ) → IsWithin 2048 imm → FitsSigned w32 imm
-within (pos n) small = record { sfits = omega arith }
-within (negsuc n) small = record { sfits = omega arith }
-
-places : (imm : ℤ) → (pos 0 ≤ℤ imm) × (imm <ℤ pos 32) → FitsSigned w32 imm
-places imm small = omega (arith, ints)
-
-immediate_fits : (kind : ImmKind) (imm : ℤ) → IsImmInRange kind imm → FitsSigned w32 imm
-immediate_fits Slli imm range = places imm range
-immediate_fits Srli imm range = places imm range
-immediate_fits Srai imm range = places imm range
-immediate_fits Addi imm range = within imm range
-immediate_fits Slti imm range = within imm range
-immediate_fits Sltiu imm range = within imm range
-immediate_fits Xori imm range = within imm range
-immediate_fits Ori imm range = within imm range
-immediate_fits Andi imm range = within imm range
-
 module _ (p : Program) (l : Setup) (live arrive : ℕ → ℕ → Type 0) (r : ℕ) (s : SourceState) (m : Makers) (t : State) where
   imm_at : (kind : ImmKind) (rd rs1 : ℕ) (imm : ℤ) → Ready p l live arrive r s m t → p.is_pair s.pc ≡ false → Reads (p.word s.pc) (Some (OpImm kind rd rs1 imm)) → Operand p l r rs1 s m t → IsImmInRange kind imm → (site : Option Target) → p.site s.pc ≡ site → (code : ℕ) (j : Instr) → StandsAt l r s.pc code → Means code j → StandsFor p l r s.pc site (OpImm kind rd rs1 imm) j → is_paired_site p s m rs1 site && not (uses_base p s m (operation_of kind) rs1 site) ≡ true → Leads 2 p l live arrive r (next_state p s (Some (OpImm kind rd rs1 imm))) (makers_after p s m (Some (OpImm kind rd rs1 imm))) t
   imm_at kind rd rs1 imm ready single reads operand range None at code j stands means for paired =
@@ -62,7 +42,7 @@ module _ (p : Program) (l : Setup) (live arrive : ℕ → ℕ → Type 0) (r : �
       (value s.regs rs1) imm (register t.hart.regs rs1) operand.word range apart operand.stands in
       let holds =
       (operations_keep keeps_words).1 p.objects kind (value s.regs rs1) imm ready.sound.fit.grain operand.holds
-      (immediate_fits kind imm range) in
+      (imm_fits kind imm range) in
       falls_both p l live arrive r s m t (OpImm kind rd rs1 imm) ready single reads rd w
       (op_imm p.objects kind (value s.regs rs1) imm) m.regs code (OpImm kind rd rs1 imm) (with_register t.hart.regs rd w)
       (one_written rd) (λ k other. refl) refl stands here (with_writes t.hart.regs rd w) is holds

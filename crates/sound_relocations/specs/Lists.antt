@@ -13,6 +13,8 @@ use Rattle.object_ranges.specs.Ranges.{has_range}
 use Rattle.sorted_numbers.specs.Sorted.{IsSorted, count_below}
 use Rattle.sound_relocations.specs.Sound.{is_addi, is_load_word, is_store_word, i_low, s_low, u_high, distance, is_pair_low}
 use Rattle.sound_relocations.specs.declared.lists.RelocationLists.{RelocationLists}
+use Rattle.sound_relocations.specs.declared.lists.Listed.{Listed}
+use Rattle.sound_relocations.specs.declared.lists.Listed.TheVariants.{RangeStart, RangeEnd, ChangeStart, ChangeEnd, Call, LowKey}
 
 -- place `k` passes a test, and its value another one
 abbrev pub passes_with : (ℕ → Bool) → (ℕ → ℕ) → (ℕ → Bool) → ℕ → Bool
@@ -76,6 +78,31 @@ is_upper_pair v r =
     && is_code_word v r.at
     && (opcode_of (image_word v r.at) == 23)
     && (u_high (image_word v r.at) == upper_half (distance v r))
+
+-- how many symbols or relocations a list is of, which of them it has, and their numbers
+abbrev pub count_of : Listed → PlainView → ℕ
+count_of RangeStart v = length v.symbols
+count_of RangeEnd v = length v.symbols
+count_of ChangeStart v = length v.relocs
+count_of ChangeEnd v = length v.relocs
+count_of Call v = length v.relocs
+count_of LowKey v = length v.relocs
+
+abbrev pub is_listed : Listed → PlainView → ℕ → Bool
+is_listed RangeStart v = is_ranged v
+is_listed RangeEnd v = is_ranged v
+is_listed ChangeStart v = is_changing v
+is_listed ChangeEnd v = is_changing v
+is_listed Call v = is_calling v
+is_listed LowKey v = is_lower v
+
+abbrev pub number_of : Listed → PlainView → ℕ → ℕ
+number_of RangeStart v = range_start v
+number_of RangeEnd v = range_end v
+number_of ChangeStart v = change_start v
+number_of ChangeEnd v = change_end v
+number_of Call v = change_start v
+number_of LowKey v = low_key v
 
 -- the lists are those of a view
 pub record AreListsOf (v : PlainView) (lists : RelocationLists) : Type 0 where

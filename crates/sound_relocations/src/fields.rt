@@ -5,7 +5,8 @@ ghost use Rattle.rv_decode.specs.Fields.{opcode_of, funct3_of};
 ghost use Rattle.sound_relocations.specs.Sound.{is_addi, is_load_word, is_store_word, i_low, s_low, u_high, takes_low_i, takes_low_s};
 ghost use Rattle.sound_relocations.specs.Lists.{form_part};
 
-use crate::kinds::{R_RISCV_LO12_I, R_RISCV_LO12_S, R_RISCV_PCREL_LO12_I, R_RISCV_PCREL_LO12_S};
+use elf_reader::{R_RISCV_LO12_I, R_RISCV_LO12_S, R_RISCV_PCREL_LO12_I, R_RISCV_PCREL_LO12_S};
+use rv_decode::{funct3, opcode};
 
 const LUI: u32 = 0x37;
 
@@ -19,18 +20,6 @@ const STORE: u32 = 0x23;
 
 /// In place of twelve bits, where an instruction takes none.
 pub(crate) const NO_PART: u32 = 4096;
-
-fn opcode(word: u32) -> u32
-    ensures { result ≡ opcode_of word }
-{
-    word & 0x7f
-}
-
-fn funct3(word: u32) -> u32
-    ensures { result ≡ funct3_of word }
-{
-    (word >> 12) & 7
-}
 
 /// The immediate of a U-type instruction, as 20 bits.
 fn u_high(word: u32) -> u32

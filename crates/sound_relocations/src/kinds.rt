@@ -3,22 +3,10 @@ ghost use Rattle.std.specs.Prelude.{◌≡◌};
 ghost use Rattle.loaded_code.specs.Records.{is_mute, is_call_kind, is_half_kind, is_byte_kind, width_of};
 ghost use Rattle.sound_relocations.specs.Sound.{is_pair_low};
 
-pub(crate) const R_RISCV_32: u32 = 1;
+use elf_reader::{R_RISCV_PCREL_LO12_I, R_RISCV_PCREL_LO12_S};
 
-pub(crate) const R_RISCV_PCREL_HI20: u32 = 23;
-
-pub(crate) const R_RISCV_PCREL_LO12_I: u32 = 24;
-
-pub(crate) const R_RISCV_PCREL_LO12_S: u32 = 25;
-
-pub(crate) const R_RISCV_HI20: u32 = 26;
-
-pub(crate) const R_RISCV_LO12_I: u32 = 27;
-
-pub(crate) const R_RISCV_LO12_S: u32 = 28;
-
-/// NONE, ALIGN and RELAX, which change nothing.
-pub(crate) fn is_mute(kind: u32) -> bool
+/// Whether relocations of a kind change nothing: NONE, ALIGN and RELAX.
+pub fn is_mute(kind: u32) -> bool
     ensures { result ≡ is_mute kind }
 {
     matches!(kind, 0 | 43 | 51)
@@ -45,8 +33,8 @@ fn is_byte_kind(kind: u32) -> bool
     matches!(kind, 33 | 37 | 52 | 53 | 54 | 60 | 61)
 }
 
-/// PCREL_LO12_I and PCREL_LO12_S.
-pub(crate) fn is_pair_low(kind: u32) -> bool
+/// Whether relocations of a kind are of the low part of a pair: PCREL_LO12_I and PCREL_LO12_S.
+pub fn is_pair_low(kind: u32) -> bool
     ensures { result ≡ is_pair_low kind }
 {
     kind == R_RISCV_PCREL_LO12_I || kind == R_RISCV_PCREL_LO12_S

@@ -10,6 +10,7 @@ mod pairs;
 mod standing;
 mod words;
 
+pub use kinds::{is_mute, is_pair_low};
 pub use marks::sound_kinds;
 
 #[cfg(test)]

@@ -3,11 +3,11 @@ ghost use Rattle.elf_reader.specs.File.{plain_view};
 ghost use Rattle.loaded_code.specs.Marks.{all_loaded};
 ghost use Rattle.loaded_code.specs.Records.{symbol_at};
 ghost use Rattle.loaded_code.specs.Read.{IsRead};
-ghost use Rattle.sound_relocations.specs.Lists.{IsListOf, AreListsOf, is_ranged, range_start, range_end, is_changing, change_start, change_end, is_calling, is_lower, low_part, low_key};
+ghost use Rattle.sound_relocations.specs.Lists.{IsListOf, AreListsOf, count_of, is_listed, number_of, is_ranged, range_start, range_end, is_changing, change_start, change_end, is_calling, is_lower, low_part, low_key};
 
 use crate::fields::{NO_PART, form_part};
 use crate::kinds::{is_call_kind, is_mute, is_pair_low, width_of};
-use crate::lists::RelocationLists;
+use crate::lists::{Listed, RelocationLists};
 use crate::standing::code_word;
 use elf_reader::{ElfView, Reloc};
 use loaded_code::counts;
@@ -28,12 +28,12 @@ pub(crate) fn relocation_lists(
     requires marks { loaded.now ≡ all_loaded (plain_view view.now) }
     ensures { IfOk result (λ lists. AreListsOf (plain_view view.now) lists) }
 {
-    let range_starts = range_starts(alloc, view, loaded)?;
-    let range_ends = range_ends(alloc, view, loaded)?;
-    let starts = change_starts(alloc, view, loaded)?;
-    let ends = change_ends(alloc, view, loaded)?;
-    let calls = calls(alloc, view, loaded)?;
-    let low_keys = low_keys(alloc, view, loaded)?;
+    let range_starts = number_list(alloc, view, loaded, Listed::RangeStart)?;
+    let range_ends = number_list(alloc, view, loaded, Listed::RangeEnd)?;
+    let starts = number_list(alloc, view, loaded, Listed::ChangeStart)?;
+    let ends = number_list(alloc, view, loaded, Listed::ChangeEnd)?;
+    let calls = number_list(alloc, view, loaded, Listed::Call)?;
+    let low_keys = number_list(alloc, view, loaded, Listed::LowKey)?;
     Ok(RelocationLists {
         range_starts,
         range_ends,
@@ -44,119 +44,84 @@ pub(crate) fn relocation_lists(
     })
 }
 
-/// The first addresses of objects.
-fn range_starts(alloc: Global, view: &ElfView, loaded: &[bool]) -> Result<Vec<u64>, AllocError>
-    requires { loaded.now ≡ all_loaded (plain_view view.now) }
-    ensures { IfOk result (λ list. IsListOf (is_ranged (plain_view view.now)) (range_start (plain_view view.now)) (length (plain_view view.now).symbols) list.items) }
-{
-    let mut list = Vec::new(alloc);
-    for k in 0..view.symbols.len() {
-        push_if(&mut list, is_ranged(view, loaded, k), range_start(view, k))?;
-    }
-    arrange(&mut list);
-    Ok(list)
-}
-
-/// The addresses behind objects.
-fn range_ends(alloc: Global, view: &ElfView, loaded: &[bool]) -> Result<Vec<u64>, AllocError>
-    requires { loaded.now ≡ all_loaded (plain_view view.now) }
-    ensures { IfOk result (λ list. IsListOf (is_ranged (plain_view view.now)) (range_end (plain_view view.now)) (length (plain_view view.now).symbols) list.items) }
-{
-    let mut list = Vec::new(alloc);
-    for k in 0..view.symbols.len() {
-        push_if(&mut list, is_ranged(view, loaded, k), range_end(view, k))?;
-    }
-    arrange(&mut list);
-    Ok(list)
-}
-
-/// The first addresses that relocations change.
-fn change_starts(alloc: Global, view: &ElfView, loaded: &[bool]) -> Result<Vec<u64>, AllocError>
-    requires { loaded.now ≡ all_loaded (plain_view view.now) }
-    ensures { IfOk result (λ list. IsListOf (is_changing (plain_view view.now)) (change_start (plain_view view.now)) (length (plain_view view.now).relocs) list.items) }
-{
-    let mut list = Vec::new(alloc);
-    for j in 0..view.relocs.len() {
-        push_if(
-            &mut list,
-            is_changing(view, loaded, j),
-            change_start(view, j),
-        )?;
-    }
-    arrange(&mut list);
-    Ok(list)
-}
-
-/// The addresses behind those that relocations change.
-fn change_ends(alloc: Global, view: &ElfView, loaded: &[bool]) -> Result<Vec<u64>, AllocError>
-    requires { loaded.now ≡ all_loaded (plain_view view.now) }
-    ensures { IfOk result (λ list. IsListOf (is_changing (plain_view view.now)) (change_end (plain_view view.now)) (length (plain_view view.now).relocs) list.items) }
-{
-    let mut list = Vec::new(alloc);
-    for j in 0..view.relocs.len() {
-        push_if(&mut list, is_changing(view, loaded, j), change_end(view, j))?;
-    }
-    arrange(&mut list);
-    Ok(list)
-}
-
-/// The addresses of calls.
-fn calls(alloc: Global, view: &ElfView, loaded: &[bool]) -> Result<Vec<u64>, AllocError>
-    requires { loaded.now ≡ all_loaded (plain_view view.now) }
-    ensures { IfOk result (λ list. IsListOf (is_calling (plain_view view.now)) (change_start (plain_view view.now)) (length (plain_view view.now).relocs) list.items) }
-{
-    let mut list = Vec::new(alloc);
-    for j in 0..view.relocs.len() {
-        push_if(
-            &mut list,
-            is_calling(view, loaded, j),
-            change_start(view, j),
-        )?;
-    }
-    arrange(&mut list);
-    Ok(list)
-}
-
-/// The keys of the low parts of pairs.
-fn low_keys(alloc: Global, view: &ElfView, loaded: &[bool]) -> Result<Vec<u64>, AllocError>
+/// One of the lists.
+fn number_list(
+    alloc: Global,
+    view: &ElfView,
+    loaded: &[bool],
+    listed: Listed,
+) -> Result<Vec<u64>, AllocError>
     requires read { IsRead view.now }
     requires marks { loaded.now ≡ all_loaded (plain_view view.now) }
-    ensures { IfOk result (λ list. IsListOf (is_lower (plain_view view.now)) (low_key (plain_view view.now)) (length (plain_view view.now).relocs) list.items) }
+    ensures { IfOk result (λ list. IsListOf (is_listed listed (plain_view view.now)) (number_of listed (plain_view view.now)) (count_of listed (plain_view view.now)) list.items) }
 {
     let mut list = Vec::new(alloc);
-    for j in 0..view.relocs.len() {
-        push_low_key(&mut list, view, loaded, j)?;
+    for k in 0..count_of(view, listed) {
+        push_number(&mut list, view, loaded, listed, k)?;
     }
     arrange(&mut list);
     Ok(list)
 }
 
-/// Adds the key of relocation `j`, if that is of the low part of a pair.
-fn push_low_key(
+/// Adds the number of symbol or relocation `k`, if the list has one of it.
+fn push_number(
     list: &mut Vec<u64>,
     view: &ElfView,
     loaded: &[bool],
-    j: usize,
+    listed: Listed,
+    k: usize,
 ) -> Result<(), AllocError>
     requires read { IsRead view.now }
     requires marks { loaded.now ≡ all_loaded (plain_view view.now) }
-    requires below { j < length view.now.relocs.items }
-    ensures { IfOk result (λ _. list.new.items ≡ list.old.items ++ (if is_lower (plain_view view.now) j then low_key (plain_view view.now) j ∷ [] else [])) }
+    requires below { k < count_of listed (plain_view view.now) }
+    ensures { IfOk result (λ _. list.new.items ≡ list.old.items ++ (if is_listed listed (plain_view view.now) k then number_of listed (plain_view view.now) k ∷ [] else [])) }
 {
-    if is_lower(view, loaded, j) {
-        list.push(low_key(view, loaded, j))?;
+    if is_listed(view, loaded, listed, k) {
+        list.push(number_of(view, loaded, listed, k))?;
     }
     Ok(())
 }
 
-/// Adds a number where it is wanted.
-fn push_if(list: &mut Vec<u64>, wanted: bool, number: u64) -> Result<(), AllocError>
-    ensures { IfOk result (λ _. list.new.items ≡ list.old.items ++ (if wanted then number ∷ [] else [])) }
+/// How many symbols or relocations may be in a list.
+fn count_of(view: &ElfView, listed: Listed) -> usize
+    ensures { result ≡ count_of listed (plain_view view.now) }
 {
-    if wanted {
-        list.push(number)?;
+    match listed {
+        Listed::RangeStart | Listed::RangeEnd => view.symbols.len(),
+        Listed::ChangeStart | Listed::ChangeEnd | Listed::Call | Listed::LowKey => view
+            .relocs
+            .len(),
     }
-    Ok(())
+}
+
+/// The list has a number of symbol or relocation `k`.
+fn is_listed(view: &ElfView, loaded: &[bool], listed: Listed, k: usize) -> bool
+    requires marks { loaded.now ≡ all_loaded (plain_view view.now) }
+    requires below { k < count_of listed (plain_view view.now) }
+    ensures { result ≡ is_listed listed (plain_view view.now) k }
+{
+    match listed {
+        Listed::RangeStart | Listed::RangeEnd => is_ranged(view, loaded, k),
+        Listed::ChangeStart | Listed::ChangeEnd => is_changing(view, loaded, k),
+        Listed::Call => is_calling(view, loaded, k),
+        Listed::LowKey => is_lower(view, loaded, k),
+    }
+}
+
+/// The number of symbol or relocation `k` in the list.
+fn number_of(view: &ElfView, loaded: &[bool], listed: Listed, k: usize) -> u64
+    requires read { IsRead view.now }
+    requires marks { loaded.now ≡ all_loaded (plain_view view.now) }
+    requires below { k < count_of listed (plain_view view.now) }
+    ensures { result ≡ number_of listed (plain_view view.now) k }
+{
+    match listed {
+        Listed::RangeStart => range_start(view, k),
+        Listed::RangeEnd => range_end(view, k),
+        Listed::ChangeStart | Listed::Call => change_start(view, k),
+        Listed::ChangeEnd => change_end(view, k),
+        Listed::LowKey => low_key(view, loaded, k),
+    }
 }
 
 /// Symbol `k` is that of an object.

@@ -14,3 +14,14 @@ pub(crate) struct RelocationLists {
     /// The low parts of pairs, each with the address of the AUIPC that it names.
     pub(crate) low_keys: Vec<u64>,
 }
+
+/// Which of these lists a number is of.
+#[derive(Clone, Copy)]
+pub(crate) enum Listed {
+    RangeStart,
+    RangeEnd,
+    ChangeStart,
+    ChangeEnd,
+    Call,
+    LowKey,
+}

@@ -8,11 +8,12 @@ ghost use Rattle.sound_relocations.specs.Sound.{is_sound_high, is_sound_low, is_
 ghost use Rattle.sound_relocations.specs.Lists.{is_upper_pair, AreListsOf};
 
 use crate::fields::{is_auipc_of, is_lui_of, takes_low};
-use crate::kinds::{R_RISCV_HI20, R_RISCV_LO12_I, R_RISCV_LO12_S, R_RISCV_PCREL_HI20};
 use crate::listing::{KEYS, change_start};
 use crate::lists::RelocationLists;
 use crate::standing::code_word;
-use elf_reader::{ElfView, Reloc};
+use elf_reader::{
+    ElfView, R_RISCV_HI20, R_RISCV_LO12_I, R_RISCV_LO12_S, R_RISCV_PCREL_HI20, Reloc,
+};
 use loaded_code::target;
 use sorted_numbers::{has, has_inside};
 use word_bits::hi20;

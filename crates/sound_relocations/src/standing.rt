@@ -7,14 +7,8 @@ ghost use Rattle.loaded_code.specs.Code.{is_code_word, image_word};
 ghost use Rattle.loaded_code.specs.Read.{IsRead};
 ghost use Rattle.sound_relocations.specs.Sound.{holds_data};
 
-use elf_reader::ElfView;
+use elf_reader::{EXECUTABLE_BIT, ElfView, SHT_PROGBITS};
 use loaded_code::{holds_code, word_in};
-
-/// `SHT_PROGBITS`: a section with content.
-const SHT_PROGBITS: u32 = 1;
-
-/// `SHF_EXECINSTR`, the bit of `sh_flags` for executable content.
-const EXECUTABLE_BIT: u32 = 2;
 
 /// The word of code at `address`, if one stands there.
 pub(crate) fn code_word(view: &ElfView, loaded: &[bool], address: u32) -> Option<u32>

@@ -8,11 +8,10 @@ ghost use Rattle.loaded_code.specs.Read.{IsRead};
 ghost use Rattle.sound_relocations.specs.Sound.{holds_data, cuts_range, changes_word, is_sound_word};
 ghost use Rattle.sound_relocations.specs.Lists.{is_changing, AreListsOf};
 
-use crate::kinds::R_RISCV_32;
 use crate::listing::{change_start, is_changing};
 use crate::lists::RelocationLists;
 use crate::standing::data_word;
-use elf_reader::{ElfView, Reloc};
+use elf_reader::{ElfView, R_RISCV_32, Reloc};
 use loaded_code::target;
 use sorted_numbers::{count_under, has_inside};
 

@@ -1,6 +1,6 @@
-ghost use Rattle.std.specs.Prelude.{◌≡◌, ℕ, ◌+◌, ◌*◌, ◌%◌, ◌^◌, ◌++◌, ◌∷◌, [], map, length, IfOk, OnOk};
+ghost use Rattle.std.specs.Prelude.{◌≡◌, ℕ, ◌+◌, ◌*◌, ◌%◌, ◌^◌, ◌++◌, ◌∷◌, [], map, length, codes, IfOk, OnOk};
 ghost use Rattle.workload_gen.specs.Plan.{section_plan, file_plan};
-ghost use Rattle.workload_gen.specs.Built.{asked, named_sections, planned_sections, relocation_sections, first_place, built};
+ghost use Rattle.workload_gen.specs.Built.{asked, symbol_table_of, names_of, symbol_name, named_sections, planned_sections, relocation_sections, first_place, built};
 ghost use Rattle.workload_gen.specs.Planned.{plain_planned};
 
 use crate::headers::{
@@ -73,10 +73,22 @@ fn sections_with_names(alloc: Global, spec: &FileSpec) -> Result<Vec<PlannedSect
     ensures { IfOk result (λ sections. map plain_planned sections.items ≡ named_sections (file_plan spec.now)) }
 {
     let mut sections = asked_sections(alloc, &spec.sections)?;
-    sections.push(symbol_table(alloc, spec)?)?;
-    sections.push(symbol_names(alloc, &spec.symbols)?)?;
+    push_symbol_sections(alloc, &mut sections, spec)?;
     push_relocation_sections(alloc, &mut sections, &spec.sections)?;
     Ok(sections)
+}
+
+/// Adds the symbol table and the names of the symbols.
+fn push_symbol_sections(
+    alloc: Global,
+    planned: &mut Vec<PlannedSection>,
+    spec: &FileSpec,
+) -> Result<(), AllocError>
+    ensures { OnOk result (map plain_planned planned.new.items ≡ map plain_planned planned.old.items ++ symbol_table_of (file_plan spec.now) ∷ names_of (codes ".strtab") (map symbol_name (file_plan spec.now).symbols) ∷ []) }
+{
+    planned.push(symbol_table(alloc, spec)?)?;
+    planned.push(symbol_names(alloc, &spec.symbols)?)?;
+    Ok(())
 }
 
 /// The sections as they were asked for.

@@ -14,14 +14,8 @@ use crate::main_function::{
     KERNEL_SIZE, OUT_START, TEXT_START, kernel_start, main_size, push_main,
 };
 use crate::spec::{FileSpec, SectionSpec, SymbolSpec};
-use elf_reader::Reloc;
+use elf_reader::{R_RISCV_HI20, R_RISCV_LO12_I, Reloc};
 use std::alloc::{AllocError, Global};
-
-/// The kind of a relocation of a `lui`.
-const R_RISCV_HI20: u32 = 26;
-
-/// The kind of a relocation of an `addi`.
-const R_RISCV_LO12_I: u32 = 27;
 
 /// An executable file of `kernels` kernels, 1 to 64, whose sizes and pass counts are drawn from `seed`.
 ///

@@ -1,29 +1,14 @@
 //! The sections of a file that is to be built, without their places.
 ghost use Rattle.std.specs.Prelude.{◌≡◌, ℕ, ◌+◌, ◌++◌, ◌∷◌, [], length, map, codes, string_bytes, IfOk, OnOk};
 ghost use Rattle.workload_gen.specs.Plan.{section_plan, symbol_plan, file_plan};
-ghost use Rattle.workload_gen.specs.Pieces.{padded, string_table};
+ghost use Rattle.workload_gen.specs.Pieces.{padded, string_table, zero_bytes};
 ghost use Rattle.workload_gen.specs.Built.{kind_of, memory_size, asked, symbol_bytes, symbols_bytes, symbol_name, section_names_name, planned_name, symbol_table_of, names_of, relocation_bytes, relocations_bytes, relocation_name, relocations_of};
 ghost use Rattle.workload_gen.specs.Planned.{plain_planned, names_section_of};
 
 use crate::spec::{FileSpec, SectionSpec, SymbolSpec};
 use crate::writing::{padded_size, push_half, push_words, push_zeros};
-use elf_reader::Reloc;
+use elf_reader::{Reloc, SHT_NOBITS, SHT_PROGBITS, SHT_RELA, SHT_STRTAB, SHT_SYMTAB};
 use std::alloc::{AllocError, Global};
-
-/// The type of a section whose bytes stand in the file.
-const SHT_PROGBITS: u32 = 1;
-
-/// The type of a symbol table.
-const SHT_SYMTAB: u32 = 2;
-
-/// The type of a string table.
-const SHT_STRTAB: u32 = 3;
-
-/// The type of relocations with addends.
-const SHT_RELA: u32 = 4;
-
-/// The type of a section that has no bytes in the file.
-const SHT_NOBITS: u32 = 8;
 
 /// The bytes of an entry of a symbol table.
 const SYMBOL_SIZE: u32 = 16;
@@ -96,9 +81,7 @@ pub(crate) fn size_in_memory(section: &SectionSpec) -> u64
 pub(crate) fn symbol_table(alloc: Global, spec: &FileSpec) -> Result<PlannedSection, AllocError>
     ensures { IfOk result (λ planned. plain_planned planned ≡ symbol_table_of (file_plan spec.now)) }
 {
-    let mut content = Vec::new(alloc);
-    push_zeros(&mut content, SYMBOL_SIZE as usize)?;
-    push_symbols(&mut content, &spec.symbols)?;
+    let content = symbol_records(alloc, &spec.symbols)?;
     Ok(PlannedSection {
         name: String::from_str(alloc, ".symtab")?,
         kind: SHT_SYMTAB,
@@ -111,6 +94,16 @@ pub(crate) fn symbol_table(alloc: Global, spec: &FileSpec) -> Result<PlannedSect
         entsize: SYMBOL_SIZE,
         content,
     })
+}
+
+/// The record of the null symbol, and those of the symbols.
+fn symbol_records(alloc: Global, symbols: &[SymbolSpec]) -> Result<Vec<u8>, AllocError>
+    ensures { IfOk result (λ records. records.items ≡ zero_bytes 16 ++ symbols_bytes 1 (map symbol_plan symbols.now)) }
+{
+    let mut records = Vec::new(alloc);
+    push_zeros(&mut records, SYMBOL_SIZE as usize)?;
+    push_symbols(&mut records, symbols)?;
+    Ok(records)
 }
 
 /// Appends the records of symbols, whose names begin at byte 1 of the string table.
@@ -152,11 +145,19 @@ pub(crate) fn symbol_names(
 ) -> Result<PlannedSection, AllocError>
     ensures { IfOk result (λ planned. plain_planned planned ≡ names_of (codes ".strtab") (map symbol_name (map symbol_plan symbols.now))) }
 {
-    let mut content = vec![in alloc; 0]?;
-    for symbol in symbols {
-        push_name(&mut content, &symbol.name)?;
-    }
+    let content = symbol_name_table(alloc, symbols)?;
     names_section(alloc, ".strtab", content)
+}
+
+/// The names of the symbols, behind a zero byte.
+fn symbol_name_table(alloc: Global, symbols: &[SymbolSpec]) -> Result<Vec<u8>, AllocError>
+    ensures { IfOk result (λ table. table.items ≡ string_table (map symbol_name (map symbol_plan symbols.now))) }
+{
+    let mut table = vec![in alloc; 0]?;
+    for symbol in symbols {
+        push_name(&mut table, &symbol.name)?;
+    }
+    Ok(table)
 }
 
 /// Appends a name and the zero byte that ends it.

@@ -30,7 +30,7 @@ pub(crate) fn push_words(out: &mut Vec<u8>, numbers: &[u64]) -> Result<(), Alloc
 
 /// Appends `n` zero bytes.
 #[tactic(auto, using(crate::proofs::ByteLemmas::zero_pushed))]
-pub(crate) fn push_zeros(out: &mut Vec<u8>, n: usize) -> Result<(), AllocError>
+pub fn push_zeros(out: &mut Vec<u8>, n: usize) -> Result<(), AllocError>
     ensures { OnOk result (out.new.items ≡ out.old.items ++ zero_bytes n) }
 {
     for _ in 0..n {

@@ -28,6 +28,9 @@ impl<S: ByteStore> Flat<S> {
     ghost use Rattle.flat_machine.specs.Machine.{state_of};
 
     /// Does the call that the registers name.
+    // A call of its own, since few steps are calls.
+    #[cold]
+    #[inline(never)]
     pub(super) fn call(&mut self) -> Result<(), AllocError>
         ensures ok { OnOk result (state_of S.byte_at self.new
             ≡ call (state_of S.byte_at self.old)) }

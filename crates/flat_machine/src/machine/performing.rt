@@ -16,6 +16,8 @@ impl<S: ByteStore> Flat<S> {
     ghost use Rattle.flat_machine.specs.Machine.{state_of};
 
     /// Does what a word was read as; one that means nothing is a trap. Tells of the access.
+    // Inlined, as all that a step does: a call would pass the instruction by way of the stack.
+    #[inline(always)]
     pub(super) fn perform_read(
         &mut self,
         read: Option<Instr>,
@@ -37,6 +39,7 @@ impl<S: ByteStore> Flat<S> {
     }
 
     /// Performs an instruction, and tells of its access.
+    #[inline(always)]
     fn perform(&mut self, i: Instr) -> Result<Option<FlatAccess>, AllocError>
         requires { IsInRange i }
         ensures state { OnOk result (state_of S.byte_at self.new
@@ -72,6 +75,7 @@ impl<S: ByteStore> Flat<S> {
     }
 
     /// LUI.
+    #[inline(always)]
     fn lui(&mut self, rd: u8, imm: u32)
         requires rd { rd < 32 }
         requires imm { imm < 1048576 }
@@ -82,6 +86,7 @@ impl<S: ByteStore> Flat<S> {
     }
 
     /// AUIPC.
+    #[inline(always)]
     fn auipc(&mut self, rd: u8, imm: u32)
         requires rd { rd < 32 }
         requires imm { imm < 1048576 }
@@ -92,6 +97,7 @@ impl<S: ByteStore> Flat<S> {
     }
 
     /// JAL.
+    #[inline(always)]
     fn jal(&mut self, rd: u8, off: i32)
         requires { rd < 32 }
         ensures { state_of S.byte_at self.new
@@ -101,6 +107,7 @@ impl<S: ByteStore> Flat<S> {
     }
 
     /// JALR: the target is taken before the return address is written.
+    #[inline(always)]
     fn jalr(&mut self, rd: u8, rs1: u8, imm: i32)
         requires rd { rd < 32 }
         requires rs1 { rs1 < 32 }
@@ -112,6 +119,7 @@ impl<S: ByteStore> Flat<S> {
     }
 
     /// A conditional branch.
+    #[inline(always)]
     fn branch(&mut self, kind: BranchKind, rs1: u8, rs2: u8, off: i32)
         requires rs1 { rs1 < 32 }
         requires rs2 { rs2 < 32 }
@@ -123,6 +131,7 @@ impl<S: ByteStore> Flat<S> {
     }
 
     /// An operation on a register and an immediate.
+    #[inline(always)]
     fn op_imm(&mut self, kind: ImmKind, rd: u8, rs1: u8, imm: i32)
         requires rd { rd < 32 }
         requires rs1 { rs1 < 32 }
@@ -134,6 +143,7 @@ impl<S: ByteStore> Flat<S> {
     }
 
     /// An operation on two registers.
+    #[inline(always)]
     fn op_reg(&mut self, kind: RegKind, rd: u8, rs1: u8, rs2: u8)
         requires rd { rd < 32 }
         requires rs1 { rs1 < 32 }
@@ -146,6 +156,7 @@ impl<S: ByteStore> Flat<S> {
     }
 
     /// A load. Tells of the access.
+    #[inline(always)]
     fn load(&mut self, kind: LoadKind, rd: u8, rs1: u8, imm: i32) -> Option<FlatAccess>
         requires rd { rd < 32 }
         requires rs1 { rs1 < 32 }
@@ -165,6 +176,7 @@ impl<S: ByteStore> Flat<S> {
     }
 
     /// A store. Tells of the access.
+    #[inline(always)]
     fn store_word(
         &mut self,
         kind: StoreKind,

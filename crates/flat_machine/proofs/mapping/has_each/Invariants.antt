@@ -1,6 +1,6 @@
 use Rattle.std.specs.Prelude.{IsTrue}
 use Rattle.flat_machine.specs.Mapping.{all_mapped}
-use Rattle.flat_machine.proofs.mapping.has_span.Given as goal
+use Rattle.flat_machine.proofs.mapping.has_each.Given as goal
 
 -- the addresses so far are mapped
 abbrev pub invariant-loop-i : goal.invariant-loop-i

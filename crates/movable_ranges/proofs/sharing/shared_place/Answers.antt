@@ -1,0 +1,24 @@
+use Rattle.std.proofs.Common.{sym, subst}
+use Rattle.elf_reader.specs.File.{plain_view}
+use Rattle.elf_reader.specs.declared.view.Reloc.{Reloc}
+use Rattle.loaded_code.specs.Records.{reloc_at, counts}
+use Rattle.sound_relocations.proofs.ListLemmas.{reloc_is}
+use Rattle.movable_ranges.specs.Apart.{Finds}
+use Rattle.movable_ranges.specs.Meant.{leads_inside}
+use Rattle.movable_ranges.specs.Shares.{shares_from}
+use Rattle.movable_ranges.proofs.ApartLemmas.{behind_open, behind_shut}
+use Rattle.movable_ranges.proofs.sharing.shared_place.Goals as goal
+
+pub returns-then-is_sharing-clause-found : goal.returns-then-is_sharing-clause-found
+returns-then-is_sharing-clause-found c =
+    let v = plain_view c.args.view.now in
+    let i = c.args.i in
+    let ranges = c.args.ranges.now in
+    let here = reloc_is c.args.view.now i c.index.result.now c.requires.below c.index.ensures in
+    behind_open (counts v (reloc_at v i)) (shares_from v i) c.is_sharing.result (leads_inside v (reloc_at v i)) ranges c.leading_place.result c.is_sharing.ensures c.if-is_sharing.true
+    (subst (λ (r : Reloc). Finds (leads_inside v r) ranges c.leading_place.result) (sym here) c.leading_place.ensures.found)
+
+pub returns-else-is_sharing-clause-found : goal.returns-else-is_sharing-clause-found
+returns-else-is_sharing-clause-found c =
+    let v = plain_view c.args.view.now in
+    behind_shut (counts v (reloc_at v c.args.i)) (shares_from v c.args.i) c.is_sharing.result (leads_inside v (reloc_at v c.args.i)) c.args.ranges.now c.is_sharing.ensures c.if-is_sharing.false
