@@ -44,8 +44,12 @@ TreeWrong p c best side node depth =
     ((side ≡ 0) × SideWrong (Some p.off) best c.off node depth)
     ⊎ ((side ≡ 1) × ShownBy (Some p.off) best c.off × SideWrong p.on best c.on node depth)
 
+-- a certificate without a tree claims no more than that its choice is feasible
+abbrev pub HasNoTree : PlainCertificate → Type 0
+HasNoTree c = (c.off ≡ None) × (c.on ≡ None)
+
 abbrev pub HasTree : PlainCertificate → Type 0
-HasTree c = (c.off ≡ None) × (c.on ≡ None) → ⊥
+HasTree c = HasNoTree c → ⊥
 
 -- numbers of 32 bits stop at their greatest
 unfoldable pub in_32_bits : ℕ → ℕ

@@ -1,6 +1,6 @@
 ghost use Rattle.std.specs.Prelude.{◌≡◌, ℕ, pos, ◌^◌, ◌<◌, ◌≤◌, ◌↔◌, IsTrue, length, Some, None, option_map, MatchOption, IfSome};
 ghost use Rattle.placement_programme.specs.Views.{plain_side, plain_programme, plain_choice};
-ghost use Rattle.certificate_checker.specs.Shows.{IsAccepted, Answers};
+ghost use Rattle.certificate_checker.specs.Shows.{IsAccepted, HasNoTree, HasTree, Answers};
 ghost use Rattle.certificate_checker.specs.Views.{plain_tree, plain_certificate, plain_verdict};
 ghost use Rattle.certificate_checker.specs.Walks.{SideAnswers};
 
@@ -56,8 +56,9 @@ fn check_on(p: &Programme, best: u128, tree: &Option<Tree>, marks: &mut [u8]) ->
     }
 }
 
+/// Whether a certificate only says that its choice is feasible.
 fn has_no_tree(c: &Certificate) -> bool
-    ensures { IsTrue result ↔ (((plain_certificate c.now).off ≡ None) × ((plain_certificate c.now).on ≡ None)) }
+    ensures { IsTrue result ↔ HasNoTree (plain_certificate c.now) }
 {
     c.off.is_none() && c.on.is_none()
 }
@@ -65,7 +66,7 @@ fn has_no_tree(c: &Certificate) -> bool
 /// Checks the trees of a choice that gains `best`.
 fn check_trees(p: &Programme, c: &Certificate, best: u128, marks: &mut [u8]) -> Verdict
     requires accepted { IsAccepted (plain_programme p.now) (plain_choice c.now.choice) best }
-    requires tree { ((plain_certificate c.now).off ≡ None) × ((plain_certificate c.now).on ≡ None) → ⊥ }
+    requires tree { HasTree (plain_certificate c.now) }
     requires best { best ≤ 2 ^ 104 }
     requires off { length (plain_side p.now.off).vars ≤ length marks.old }
     requires on { IfSome p.now.on (λ side. length (plain_side side).vars ≤ length marks.old) }

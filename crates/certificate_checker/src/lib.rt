@@ -33,9 +33,9 @@ pub use fault::CertFault;
 pub use laws::{one_answer, one_certificate, one_text, reads_spelled, shown_is_least};
 pub use reading::read_tree;
 pub use rooms::Room;
-pub use rules::{branch_holds, keeps_rule};
+pub use rules::{branch_holds, free_marks, keeps_rule};
 pub use text_checking::check_text;
-pub use trees::{Certificate, Tree};
+pub use trees::{Certificate, Tree, branch_on};
 pub use verdict::Verdict;
 pub use writing::write_tree;
 

@@ -1,12 +1,21 @@
-ghost use Rattle.std.specs.Prelude.{◌≡◌, ◌^◌, ◌<◌, ◌≤◌, ◌↔◌, IsTrue, length};
+ghost use Rattle.std.specs.Prelude.{◌≡◌, ◌^◌, ◌<◌, ◌≤◌, ◌↔◌, IsTrue, length, IfOk};
 ghost use Rattle.placement_programme.specs.Views.{plain_side};
 ghost use Rattle.certificate_checker.specs.Rules.{OverHolds, LeafHolds, BranchHolds, KeepsRule};
+ghost use Rattle.certificate_checker.specs.Shows.{all_free};
 ghost use Rattle.certificate_checker.specs.Views.{plain_tree};
 
 use crate::columns::{gain_of_var, var_count, weight_in_row};
 use crate::duals::dual_holds;
 use crate::trees::Tree;
 use placement_programme::Side;
+use std::alloc::{AllocError, Global};
+
+/// The marks of a side whose variables are all free.
+pub fn free_marks(alloc: Global, side: &Side) -> Result<Vec<u8>, AllocError>
+    ensures { IfOk result (λ marks. marks.items ≡ all_free (plain_side side.now)) }
+{
+    vec![in alloc; 2u8; var_count(side)]
+}
 
 /// Whether a branch fixes a variable that is free.
 pub fn branch_holds(side: &Side, marks: &[u8], number: u32) -> bool

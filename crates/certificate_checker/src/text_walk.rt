@@ -21,12 +21,13 @@ use crate::steps::{Progress, enter, is_done, leave};
 use crate::walking::{Failing, next_number};
 use placement_programme::Side;
 
-/// What a tree in a text is read for: its side and a choice's gain, in a text of `total` bytes.
+/// What a tree in a text is read for: its side and a choice's gain, in a text of `total` bytes, with at most `levels` levels.
 #[derive(Drop)]
 pub(crate) struct Task<'a> {
     pub side: &'a Side,
     pub best: u128,
     pub total: usize,
+    pub levels: u32,
 }
 
 /// A walk's answer and the bytes behind the tree.
@@ -221,29 +222,28 @@ fn read_single<'a>(
     Ok((behind, rest))
 }
 
-/// Reads the next node of a tree of at most `levels` levels.
+/// Reads the next node of a tree.
 fn read_node<'a>(
     task: &Task,
     marks: &mut [u8],
     path: &mut [u32],
     multipliers: &mut [u64],
-    levels: u32,
     progress: Progress,
     bytes: &'a [u8],
 ) -> Result<(Progress, &'a [u8]), CertFault>
     requires best { task.now.best ≤ 2 ^ 104 }
     requires marked { length (plain_side task.now.side.now).vars ≤ length marks.old }
     requires room { length (plain_side task.now.side.now).rows ≤ length multipliers.old }
-    requires levels { levels < 2 ^ 31 }
-    requires inside { levels ≤ length path.old }
-    requires depth { progress.depth ≤ levels }
-    ensures reads { (all : List ℕ) → IsBefore (text_of (plain_side task.now.side.now) task.now.best task.now.total levels all) path.old marks.old progress.depth progress.so_far bytes.now
-        → Advances (text_of (plain_side task.now.side.now) task.now.best task.now.total levels all) path.new marks.new result }
+    requires levels { task.now.levels < 2 ^ 31 }
+    requires inside { task.now.levels ≤ length path.old }
+    requires depth { progress.depth ≤ task.now.levels }
+    ensures reads { (all : List ℕ) → IsBefore (text_of (plain_side task.now.side.now) task.now.best task.now.total task.now.levels all) path.old marks.old progress.depth progress.so_far bytes.now
+        → Advances (text_of (plain_side task.now.side.now) task.now.best task.now.total task.now.levels all) path.new marks.new result }
     ensures left { progress.ended ≡ false → IfOk result (λ r. left r.0 r.1.now < left progress bytes.now) }
-    ensures depth { IfOk result (λ r. r.0.depth ≤ levels) }
+    ensures depth { IfOk result (λ r. r.0.depth ≤ task.now.levels) }
 {
     let (tag, rest) = first_byte(task.total, bytes)?;
-    if progress.depth == levels {
+    if progress.depth == task.levels {
         return Err(below_all(task.total, bytes, tag));
     }
     if tag == 0 {
@@ -258,43 +258,41 @@ fn advance<'a>(
     marks: &mut [u8],
     path: &mut [u32],
     multipliers: &mut [u64],
-    levels: u32,
     progress: Progress,
     bytes: &'a [u8],
 ) -> Result<(Progress, &'a [u8]), CertFault>
     requires best { task.now.best ≤ 2 ^ 104 }
     requires marked { length (plain_side task.now.side.now).vars ≤ length marks.old }
     requires room { length (plain_side task.now.side.now).rows ≤ length multipliers.old }
-    requires levels { levels < 2 ^ 31 }
-    requires inside { levels ≤ length path.old }
-    requires depth { progress.depth ≤ levels }
+    requires levels { task.now.levels < 2 ^ 31 }
+    requires inside { task.now.levels ≤ length path.old }
+    requires depth { progress.depth ≤ task.now.levels }
     requires step { CanAdvance path.old marks.old progress }
-    ensures reads { (all : List ℕ) → Stands (text_of (plain_side task.now.side.now) task.now.best task.now.total levels all) path.old marks.old progress bytes.now
-        → Advances (text_of (plain_side task.now.side.now) task.now.best task.now.total levels all) path.new marks.new result }
+    ensures reads { (all : List ℕ) → Stands (text_of (plain_side task.now.side.now) task.now.best task.now.total task.now.levels all) path.old marks.old progress bytes.now
+        → Advances (text_of (plain_side task.now.side.now) task.now.best task.now.total task.now.levels all) path.new marks.new result }
     ensures left { IfOk result (λ r. left r.0 r.1.now < left progress bytes.now) }
-    ensures depth { IfOk result (λ r. r.0.depth ≤ levels) }
+    ensures depth { IfOk result (λ r. r.0.depth ≤ task.now.levels) }
 {
     if progress.ended {
         return Ok((leave(marks, path, progress), bytes));
     }
-    read_node(task, marks, path, multipliers, levels, progress, bytes)
+    read_node(task, marks, path, multipliers, progress, bytes)
 }
 
-/// Walks over a tree of at most `levels` levels as it is read, with the steps to the present node in `path`.
+/// Walks over a tree as it is read, with the steps to the present node in `path`.
 pub(crate) fn walk_text<'a>(
     task: &Task,
     marks: &mut [u8],
     path: &mut [u32],
     multipliers: &mut [u64],
-    levels: u32,
     bytes: &'a [u8],
 ) -> Result<Walked<'a>, CertFault>
     requires best { task.now.best ≤ 2 ^ 104 }
     requires free { marks.old ≡ all_free (plain_side task.now.side.now) }
     requires room { length (plain_side task.now.side.now).rows ≤ length multipliers.old }
-    requires levels { levels < 2 ^ 31 }
-    requires inside { levels ≤ length path.old }
-    ensures { WalksRead (plain_side task.now.side.now) task.now.best (all_free (plain_side task.now.side.now)) 0 0 result (tree_at task.now.total levels bytes.now) }
+    requires levels { task.now.levels < 2 ^ 31 }
+    requires inside { task.now.levels ≤ length path.old }
+    ensures { WalksRead (plain_side task.now.side.now) task.now.best (all_free (plain_side task.now.side.now)) 0 0 result (tree_at task.now.total task.now.levels bytes.now) }
 {
     let mut progress = Progress {
         depth: 0,
@@ -303,7 +301,7 @@ pub(crate) fn walk_text<'a>(
     };
     let mut rest = bytes;
     while !is_done(&progress) {
-        let (next, behind) = advance(task, marks, path, multipliers, levels, progress, rest)?;
+        let (next, behind) = advance(task, marks, path, multipliers, progress, rest)?;
         progress = next;
         rest = behind;
     }

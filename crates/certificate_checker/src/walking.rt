@@ -42,27 +42,21 @@ pub(crate) fn walk(
     }
     let next = next_number(node);
     let below = next_number(depth);
-    match tree {
-        Tree::Branch { var, zero, one } => {
-            let place = *var as usize;
-            let old = marks[place];
-            marks[place] = 0;
-            match walk(side, best, marks, zero, next, below) {
-                Err(failing) => Err(failing),
-                Ok(middle) => {
-                    marks[place] = 1;
-                    match walk(side, best, marks, one, middle, below) {
-                        Err(failing) => Err(failing),
-                        Ok(end) => {
-                            marks[place] = old;
-                            Ok(end)
-                        }
-                    }
-                }
-            }
-        }
-        Tree::Over { .. } => Ok(next),
-        Tree::Dual { .. } => Ok(next),
-        Tree::Leaf => Ok(next),
-    }
+    let Tree::Branch { var, zero, one } = tree else {
+        return Ok(next);
+    };
+    let place = *var as usize;
+    let old = marks[place];
+    marks[place] = 0;
+    let middle = match walk(side, best, marks, zero, next, below) {
+        Err(failing) => return Err(failing),
+        Ok(middle) => middle,
+    };
+    marks[place] = 1;
+    let end = match walk(side, best, marks, one, middle, below) {
+        Err(failing) => return Err(failing),
+        Ok(end) => end,
+    };
+    marks[place] = old;
+    Ok(end)
 }
