@@ -5,10 +5,12 @@ use Rattle.placement_programme.specs.Plain.{PlainSide, PlainProgramme, PlainChoi
 use Rattle.placement_programme.specs.Programme.{IsFeasible, gain}
 use Rattle.certificate_checker.specs.Nodes.{PlainTree, PlainCertificate}
 use Rattle.certificate_checker.specs.Rules.{Holds, FirstWrong}
+use Rattle.certificate_checker.specs.declared.fixings.Fixing.{Fixing}
+use Rattle.certificate_checker.specs.declared.fixings.Fixing.TheVariants.{Free}
 
 -- nothing is fixed
-abbrev pub all_free : PlainSide → List ℕ
-all_free s = replicate (length s.vars) 2
+abbrev pub all_free : PlainSide → List Fixing
+all_free s = replicate (length s.vars) Free
 
 -- a choice is feasible and gains `best`, which is no less than 0
 pub record IsAccepted (p : PlainProgramme) (c : PlainChoice) (best : ℕ) : Type 0 where

@@ -7,6 +7,7 @@ ghost use Rattle.certificate_checker.specs.Rooms.{SideRead, TreesRead, RoomFits,
 use crate::columns::var_count;
 use crate::fault::CertFault;
 use crate::fields::{Part, number_in};
+use crate::fixings::Fixing;
 use crate::rooms::Room;
 use crate::text_walk::{Task, walk_text};
 use crate::walking::Failing;
@@ -28,7 +29,7 @@ fn first_node() -> Result<(), Failing>
 /// Walks over the tree of a side, from marks that are all free.
 fn walk_side<'a>(
     task: &Task,
-    marks: &mut [u8],
+    marks: &mut [Fixing],
     path: &mut [u32],
     multipliers: &mut [u64],
     bytes: &'a [u8],
@@ -41,7 +42,7 @@ fn walk_side<'a>(
     ensures { SideRead (Some (plain_side task.now.side.now)) task.now.best result (tree_at task.now.total task.now.levels bytes.now) }
 {
     let free = &mut marks[..var_count(task.side)];
-    free.fill(2);
+    free.fill(Fixing::Free);
     match walk_text(task, free, path, multipliers, bytes) {
         Err(fault) => Err(fault),
         Ok((Ok(_), rest)) => Ok((Ok(()), rest)),

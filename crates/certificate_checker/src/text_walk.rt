@@ -5,6 +5,7 @@ ghost use Rattle.certificate_checker.specs.Nodes.{PlainTree};
 ghost use Rattle.certificate_checker.specs.Rules.{KeepsRule, DualHolds};
 ghost use Rattle.certificate_checker.specs.Shows.{all_free};
 ghost use Rattle.certificate_checker.specs.Walks.{Walks};
+ghost use Rattle.certificate_checker.specs.declared.fixings.Fixing.{Fixing};
 ghost use Rattle.certificate_checker.specs.Reading.{over_at, dual_at, tree_at};
 ghost use Rattle.certificate_checker.specs.Loading.{IsLoaded, IsSingle, SplitsFirst, WalksRead, behind_of, both_of};
 ghost use Rattle.certificate_checker.specs.Ways.{text_of, IsBefore, Stands, Advances, CanAdvance, left};
@@ -13,6 +14,7 @@ use crate::columns::row_count;
 use crate::duals::sums_hold;
 use crate::fault::CertFault;
 use crate::fields::{Part, cut_off, number_in, place, small_number};
+use crate::fixings::Fixing;
 use crate::loading::{Loaded, load_entries};
 use crate::multipliers::Multipliers;
 use crate::reading::below_all;
@@ -35,7 +37,7 @@ type Walked<'a> = (Result<u32, Failing>, &'a [u8]);
 
 /// What a node without children answers.
 fn single(holds: bool, node: u32, depth: u32) -> Result<u32, Failing>
-    ensures { (s : PlainSide) (best : ℕ) (marks : List ℕ) (t : PlainTree) → IsSingle t → (IsTrue holds ↔ KeepsRule s best marks t) → Walks s best marks t node depth result }
+    ensures { (s : PlainSide) (best : ℕ) (marks : List Fixing) (t : PlainTree) → IsSingle t → (IsTrue holds ↔ KeepsRule s best marks t) → Walks s best marks t node depth result }
 {
     if holds {
         Ok(next_number(node))
@@ -47,7 +49,7 @@ fn single(holds: bool, node: u32, depth: u32) -> Result<u32, Failing>
 #[tactic(auto, unfolding(crate::specs::Reading::over_at))]
 fn walk_over<'a>(
     task: &Task,
-    marks: &[u8],
+    marks: &[Fixing],
     node: u32,
     depth: u32,
     bytes: &'a [u8],
@@ -62,7 +64,13 @@ fn walk_over<'a>(
 }
 
 /// Whether a dual node keeps its rule, by its rows in a dense list.
-fn loaded_holds(task: &Task, marks: &[u8], multipliers: &[u64], scale: u32, loaded: &Loaded) -> bool
+fn loaded_holds(
+    task: &Task,
+    marks: &[Fixing],
+    multipliers: &[u64],
+    scale: u32,
+    loaded: &Loaded,
+) -> bool
     requires best { task.now.best ≤ 2 ^ 104 }
     requires marked { length (plain_side task.now.side.now).vars ≤ length marks.now }
     requires room { length (plain_side task.now.side.now).rows ≤ length multipliers.now }
@@ -88,7 +96,7 @@ fn loaded_holds(task: &Task, marks: &[u8], multipliers: &[u64], scale: u32, load
 #[tactic(auto, unfolding(crate::specs::Reading::dual_at))]
 fn walk_dual<'a>(
     task: &Task,
-    marks: &[u8],
+    marks: &[Fixing],
     multipliers: &mut [u64],
     node: u32,
     depth: u32,
@@ -110,7 +118,7 @@ fn walk_dual<'a>(
 #[tactic(auto, unfolding(crate::specs::Reading::tree_at))]
 fn walk_single<'a>(
     task: &Task,
-    marks: &[u8],
+    marks: &[Fixing],
     multipliers: &mut [u64],
     node: u32,
     depth: u32,
@@ -166,7 +174,7 @@ fn first_byte(total: usize, bytes: &[u8]) -> Result<(u8, &[u8]), CertFault>
 /// Reads a branch's variable, and steps to its child for zero.
 fn read_branch<'a>(
     task: &Task,
-    marks: &mut [u8],
+    marks: &mut [Fixing],
     path: &mut [u32],
     progress: Progress,
     bytes: &'a [u8],
@@ -194,7 +202,7 @@ fn read_branch<'a>(
 /// Reads a node that isn't a branch.
 fn read_single<'a>(
     task: &Task,
-    marks: &[u8],
+    marks: &[Fixing],
     path: &[u32],
     multipliers: &mut [u64],
     progress: Progress,
@@ -225,7 +233,7 @@ fn read_single<'a>(
 /// Reads the next node of a tree.
 fn read_node<'a>(
     task: &Task,
-    marks: &mut [u8],
+    marks: &mut [Fixing],
     path: &mut [u32],
     multipliers: &mut [u64],
     progress: Progress,
@@ -255,7 +263,7 @@ fn read_node<'a>(
 /// One step forward: the next node is read, or the tree that was read is left.
 fn advance<'a>(
     task: &Task,
-    marks: &mut [u8],
+    marks: &mut [Fixing],
     path: &mut [u32],
     multipliers: &mut [u64],
     progress: Progress,
@@ -282,7 +290,7 @@ fn advance<'a>(
 /// Walks over a tree as it is read, with the steps to the present node in `path`.
 pub(crate) fn walk_text<'a>(
     task: &Task,
-    marks: &mut [u8],
+    marks: &mut [Fixing],
     path: &mut [u32],
     multipliers: &mut [u64],
     bytes: &'a [u8],

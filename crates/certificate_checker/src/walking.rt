@@ -4,6 +4,7 @@ ghost use Rattle.certificate_checker.specs.Shows.{in_32_bits};
 ghost use Rattle.certificate_checker.specs.Views.{plain_tree};
 ghost use Rattle.certificate_checker.specs.Walks.{Walks};
 
+use crate::fixings::{Fixing, fixing_of};
 use crate::rules::keeps_rule;
 use crate::trees::Tree;
 use placement_programme::Side;
@@ -27,7 +28,7 @@ pub(crate) fn next_number(number: u32) -> u32
 pub(crate) fn walk(
     side: &Side,
     best: u128,
-    marks: &mut [u8],
+    marks: &mut [Fixing],
     tree: &Tree,
     node: u32,
     depth: u32,
@@ -46,13 +47,13 @@ pub(crate) fn walk(
         return Ok(next);
     };
     let place = *var as usize;
-    let old = marks[place];
-    marks[place] = 0;
+    let old = fixing_of(marks, place);
+    marks[place] = Fixing::Zero;
     let middle = match walk(side, best, marks, zero, next, below) {
         Err(failing) => return Err(failing),
         Ok(middle) => middle,
     };
-    marks[place] = 1;
+    marks[place] = Fixing::One;
     let end = match walk(side, best, marks, one, middle, below) {
         Err(failing) => return Err(failing),
         Ok(end) => end,

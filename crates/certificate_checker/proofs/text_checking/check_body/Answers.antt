@@ -26,6 +26,6 @@ returns-then-is_empty-clause-answers c =
         body_read c.args.total c.args.bytes.now c.in_ok-optimal.optimal c.in_ok-optimal.rest.now chosen.0 c.in_ok-best.rest.now read.0 c.in_ok-trees.rest.now c.in_ok-optimal.ensures chosen.1.0 read.1.0 none,
         subst (λ v. Answers p made v) (sym c.verdict_of.ensures) right.0,
         subst (λ choice. KeepsChoice chosen.0 (plain_choice choice) (plain_verdict c.verdict_of.result)) (sym c.in_ok-trees.ensures.kept.choice)
-        (subst (λ v. KeepsChoice chosen.0 kept v) (sym c.verdict_of.ensures) right.1),
+            (subst (λ v. KeepsChoice chosen.0 kept v) (sym c.verdict_of.ensures) right.1),
       ),
     )
