@@ -11,61 +11,63 @@ use Rattle.placement_programme.specs.Bounds.{AscendWithin}
 use Rattle.placement_programme.specs.Programme.{gain_at, weight_at, Fits, taken_gains, side_for, IsFeasible, gain, nothing}
 use Rattle.placement_programme.specs.Sums.{sum_below, picked, takes}
 use Rattle.placement_programme.proofs.TakeLemmas.{below_same, below_at_most, take_sum, takes_first, takes_other}
-use Rattle.certificate_checker.specs.Marks.{Mark, zeroed, one, free, mark, mark_of}
 use Rattle.certificate_checker.specs.Rules.{if_one}
 use Rattle.certificate_checker.specs.Shows.{all_free}
 use Rattle.certificate_checker.proofs.Children.{mark_same, mark_other}
 use Rattle.branch_bound.specs.Assignments.{number_if, ones_below, taken}
 use Rattle.branch_bound.specs.Greedy.{FitsAlone, Tries, Grows, GrowsTo, NothingFitsAlone, IsGreedy, greedy_gain}
 use Rattle.branch_bound.specs.Growing.{Adds, CannotGrow}
+use Rattle.certificate_checker.specs.Fixings.{fixing_of}
+use Rattle.certificate_checker.specs.declared.fixings.Fixing.{Fixing}
+use Rattle.certificate_checker.specs.declared.fixings.Fixing.TheVariants.{Zero, One, Free}
 use Rattle.branch_bound.proofs.OnesLemmas.{ones_sum, ones_ascend, fits_from, gains_are, single_taken}
 
 -- who is fixed to one stays so
-abbrev pub MoreOnes : List ℕ → List ℕ → Type 0
-MoreOnes some more = (k : ℕ) → mark some k ≡ one → mark more k ≡ one
+abbrev pub MoreOnes : List Fixing → List Fixing → Type 0
+MoreOnes some more = (k : ℕ) → fixing_of some k ≡ One → fixing_of more k ≡ One
 
-zeroed_not_one : zeroed ≡ one → ⊥
-zeroed_not_one same = cc
+zero_not_one : Zero ≡ One → ⊥
+zero_not_one same = cc
 
-one_inside : (marks : List ℕ) (j : ℕ) → mark marks j ≡ one → j < length marks
+one_inside : (marks : List Fixing) (j : ℕ) → fixing_of marks j ≡ One → j < length marks
 one_inside marks j is =
     elim (cases_lt j (length marks)) [
       | inl inside ↦ inside
-      | inr past ↦ absurd (zeroed_not_one (subst (λ n. mark_of n ≡ one) (get_or_past marks j 0 past) is))
+      | inr past ↦ absurd (zero_not_one (subst (λ f. f ≡ One) (get_or_past marks j Zero past) is))
     ]
 
-pub set_more : (marks : List ℕ) (k : ℕ) → MoreOnes marks (slice_set marks k 1)
+pub set_more : (marks : List Fixing) (k : ℕ) → MoreOnes marks (slice_set marks k One)
 set_more marks k i is =
     elim (cases_eq i k) [
       | inl same ↦
           let inside = one_inside marks i is in
-          subst (λ j. mark (slice_set marks k 1) j ≡ one) (sym same) (mark_same marks k 1 (omega (arith, inside, same)))
-      | inr other ↦ mark_other marks k 1 i other ∙ is
+          subst (λ j. fixing_of (slice_set marks k One) j ≡ One) (sym same) (mark_same marks k One (omega (arith, inside, same)))
+      | inr other ↦ mark_other marks k One i other ∙ is
     ]
 
-set_both : (some more : List ℕ) (k : ℕ) → MoreOnes some more → k < length more → MoreOnes (slice_set some k 1) (slice_set more k 1)
+set_both : (some more : List Fixing) (k : ℕ) → MoreOnes some more → k < length more → MoreOnes (slice_set some k One) (slice_set more k One)
 set_both some more k grown inside i is =
     elim (cases_eq i k) [
-      | inl same ↦ subst (λ j. mark (slice_set more k 1) j ≡ one) (sym same) (mark_same more k 1 inside)
-      | inr other ↦ mark_other more k 1 i other ∙ grown i (sym (mark_other some k 1 i other) ∙ is)
+      | inl same ↦ subst (λ j. fixing_of (slice_set more k One) j ≡ One) (sym same) (mark_same more k One inside)
+      | inr other ↦ mark_other more k One i other ∙ grown i (sym (mark_other some k One i other) ∙ is)
     ]
 
-one_grown : (some more : Mark) (n : ℕ) → (some ≡ one → more ≡ one) → if_one some n ≤ if_one more n
-one_grown zeroed more n grown = omega arith
-one_grown one more n grown = rw (grown refl) (omega arith)
-one_grown free more n grown = omega arith
+one_grown : (some more : Fixing) (n : ℕ) → (some ≡ One → more ≡ One) → if_one some n ≤ if_one more n
+one_grown Zero more n grown = omega arith
+one_grown One more n grown = rw (grown refl) (omega arith)
+one_grown Free more n grown = omega arith
 
-sums_grown : (f : ℕ → ℕ) (n : ℕ) (some more : List ℕ) → MoreOnes some more → sum_by f (ones_below n some) ≤ sum_by f (ones_below n more)
+sums_grown : (f : ℕ → ℕ) (n : ℕ) (some more : List Fixing) → MoreOnes some more → sum_by f (ones_below n some) ≤ sum_by f (ones_below n more)
 sums_grown f n some more grown =
-    let less = below_at_most (λ j. if_one (mark some j) (f j)) (λ j. if_one (mark more j) (f j)) n (λ j inside. one_grown (mark some j) (mark more j) (f j) (grown j)) in
+    let less = below_at_most (λ j. if_one (fixing_of some j) (f j)) (λ j. if_one (fixing_of more j) (f j)) n (λ j inside. one_grown (fixing_of some j) (fixing_of more j) (f j) (grown j)) in
     let first = ones_sum f n some in
     let second = ones_sum f n more in
     omega (arith, less, first, second)
 
-pub gains_grown : (s : PlainSide) (some more : List ℕ) → MoreOnes some more → taken_gains s (taken s some) ≤ taken_gains s (taken s more)
+pub gains_grown : (s : PlainSide) (some more : List Fixing) → MoreOnes some more → taken_gains s (taken s some) ≤ taken_gains s (taken s more)
 gains_grown s some more grown = sums_grown (gain_at s.vars) (length s.vars) some more grown
 
-fits_fewer : (s : PlainSide) (some more : List ℕ) → MoreOnes some more → Fits s (taken s more) → Fits s (taken s some)
+fits_fewer : (s : PlainSide) (some more : List Fixing) → MoreOnes some more → Fits s (taken s more) → Fits s (taken s some)
 fits_fewer s some more grown fits =
     record {
       numbers = ones_ascend (length s.vars) some;
@@ -75,37 +77,37 @@ fits_fewer s some more grown fits =
           omega (arith, less, held);
     }
 
-tries_more : (s : PlainSide) (before : List ℕ) (k : ℕ) (after : List ℕ) → Tries s before k after → MoreOnes before after
+tries_more : (s : PlainSide) (before : List Fixing) (k : ℕ) (after : List Fixing) → Tries s before k after → MoreOnes before after
 tries_more s before k after (inl more) = subst (λ m. MoreOnes before m) (sym more.1) (set_more before k)
 tries_more s before k after (inr same) = subst (λ m. MoreOnes before m) (sym same.1) (λ i is. is)
 
-tries_length : (s : PlainSide) (before : List ℕ) (k : ℕ) (after : List ℕ) → Tries s before k after → length after ≡ length before
-tries_length s before k after (inl more) = ap length more.1 ∙ length-set before k 1
+tries_length : (s : PlainSide) (before : List Fixing) (k : ℕ) (after : List Fixing) → Tries s before k after → length after ≡ length before
+tries_length s before k after (inl more) = ap length more.1 ∙ length-set before k One
 tries_length s before k after (inr same) = ap length same.1
 
-pub grows_ones : (s : PlainSide) (start : List ℕ) (n : ℕ) (marks : List ℕ) → Grows s start n marks → MoreOnes start marks
+pub grows_ones : (s : PlainSide) (start : List Fixing) (n : ℕ) (marks : List Fixing) → Grows s start n marks → MoreOnes start marks
 grows_ones s start zero marks grows = subst (λ m. MoreOnes start m) (sym grows) (λ i is. is)
 grows_ones s start (suc n) marks grows =
     λ i is. tries_more s grows.0 n marks grows.1.1 i (grows_ones s start n grows.0 grows.1.0 i is)
 
-pub grows_length : (s : PlainSide) (start : List ℕ) (n : ℕ) (marks : List ℕ) → Grows s start n marks → length marks ≡ length start
+pub grows_length : (s : PlainSide) (start : List Fixing) (n : ℕ) (marks : List Fixing) → Grows s start n marks → length marks ≡ length start
 grows_length s start zero marks grows = ap length grows
 grows_length s start (suc n) marks grows = tries_length s grows.0 n marks grows.1.1 ∙ grows_length s start n grows.0 grows.1.0
 
 -- a variable that was tried is taken, or can't be added
-abbrev IsTried : PlainSide → List ℕ → ℕ → Type 0
-IsTried s marks k = (mark marks k ≡ one) ⊎ (Fits s (taken s (slice_set marks k 1)) → ⊥)
+abbrev IsTried : PlainSide → List Fixing → ℕ → Type 0
+IsTried s marks k = (fixing_of marks k ≡ One) ⊎ (Fits s (taken s (slice_set marks k One)) → ⊥)
 
-tried_here : (s : PlainSide) (before : List ℕ) (k : ℕ) (after : List ℕ) → k < length before → Tries s before k after → IsTried s after k
-tried_here s before k after inside (inl more) = inl (subst (λ m. mark m k ≡ one) (sym more.1) (mark_same before k 1 inside))
-tried_here s before k after inside (inr same) = inr (subst (λ m. Fits s (taken s (slice_set m k 1)) → ⊥) (sym same.1) same.0)
+tried_here : (s : PlainSide) (before : List Fixing) (k : ℕ) (after : List Fixing) → k < length before → Tries s before k after → IsTried s after k
+tried_here s before k after inside (inl more) = inl (subst (λ m. fixing_of m k ≡ One) (sym more.1) (mark_same before k One inside))
+tried_here s before k after inside (inr same) = inr (subst (λ m. Fits s (taken s (slice_set m k One)) → ⊥) (sym same.1) same.0)
 
-tried_more : (s : PlainSide) (some more : List ℕ) (k : ℕ) → MoreOnes some more → k < length more → IsTried s some k → IsTried s more k
+tried_more : (s : PlainSide) (some more : List Fixing) (k : ℕ) → MoreOnes some more → k < length more → IsTried s some k → IsTried s more k
 tried_more s some more k grown inside (inl is) = inl (grown k is)
 tried_more s some more k grown inside (inr refused) =
-    inr (λ fits. refused (fits_fewer s (slice_set some k 1) (slice_set more k 1) (set_both some more k grown inside) fits))
+    inr (λ fits. refused (fits_fewer s (slice_set some k One) (slice_set more k One) (set_both some more k grown inside) fits))
 
-grows_tried : (s : PlainSide) (start : List ℕ) (n : ℕ) (marks : List ℕ) (k : ℕ) → n ≤ length start → Grows s start n marks → k < n → IsTried s marks k
+grows_tried : (s : PlainSide) (start : List Fixing) (n : ℕ) (marks : List Fixing) (k : ℕ) → n ≤ length start → Grows s start n marks → k < n → IsTried s marks k
 grows_tried s start zero marks k long grows below = absurd (omega arith)
 grows_tried s start (suc n) marks k long grows below =
     let before = grows_length s start n grows.0 grows.1.0 in
@@ -135,15 +137,15 @@ takes_last (x ∷ xs) ys j is =
       | inr other ↦ takes_other x (xs ++ ys) j other ∙ takes_last xs ys j is
     ]
 
-takes_ones : (n : ℕ) (marks : List ℕ) (j : ℕ) → j < n → mark marks j ≡ one → takes (ones_below n marks) j ≡ true
+takes_ones : (n : ℕ) (marks : List Fixing) (j : ℕ) → j < n → fixing_of marks j ≡ One → takes (ones_below n marks) j ≡ true
 takes_ones zero marks j inside is = absurd (omega arith)
 takes_ones (suc n) marks j inside is =
     elim (cases_eq j n) [
       | inl same ↦
-          let here : mark marks n ≡ one = subst (λ k. mark marks k ≡ one) same is in
-          let last : takes (number_if (mark marks n) n) j ≡ true = rw (here, same) (takes_first n []) in
-          takes_last (ones_below n marks) (number_if (mark marks n) n) j last
-      | inr other ↦ takes_join (ones_below n marks) (number_if (mark marks n) n) j (takes_ones n marks j (omega (arith, inside, other)) is)
+          let here : fixing_of marks n ≡ One = subst (λ k. fixing_of marks k ≡ One) same is in
+          let last : takes (number_if (fixing_of marks n) n) j ≡ true = rw (here, same) (takes_first n []) in
+          takes_last (ones_below n marks) (number_if (fixing_of marks n) n) j last
+      | inr other ↦ takes_join (ones_below n marks) (number_if (fixing_of marks n) n) j (takes_ones n marks j (omega (arith, inside, other)) is)
     ]
 
 takes_below : (low high : ℕ) (ks : List ℕ) (j : ℕ) → AscendWithin low high ks → takes ks j ≡ true → j < high
@@ -154,26 +156,26 @@ takes_below low high (k ∷ ks) j all is =
       | inr other ↦ takes_below (suc k) high ks j all.2 (sym (takes_other k ks j other) ∙ is)
     ]
 
-one_taken : (m : Mark) (b : Bool) (n : ℕ) → (m ≡ one → b ≡ true) → if_one m n ≤ picked b n
-one_taken zeroed b n both = omega arith
-one_taken one b n both = rw (both refl) (omega arith)
-one_taken free b n both = omega arith
+one_taken : (m : Fixing) (b : Bool) (n : ℕ) → (m ≡ One → b ≡ true) → if_one m n ≤ picked b n
+one_taken Zero b n both = omega arith
+one_taken One b n both = rw (both refl) (omega arith)
+one_taken Free b n both = omega arith
 
 -- what takes one variable more takes at least the assignment in which it is fixed to one
-added_takes : (s : PlainSide) (marks : List ℕ) (k : ℕ) (more : List ℕ) → Adds (taken s marks) k more → (j : ℕ) → j < length s.vars → mark (slice_set marks k 1) j ≡ one → takes more j ≡ true
+added_takes : (s : PlainSide) (marks : List Fixing) (k : ℕ) (more : List ℕ) → Adds (taken s marks) k more → (j : ℕ) → j < length s.vars → fixing_of (slice_set marks k One) j ≡ One → takes more j ≡ true
 added_takes s marks k more adds j inside is =
     elim (cases_eq k j) [
       | inl same ↦ subst (λ i. takes more i ≡ true) same (adds.1 k ∙ takes_first k (taken s marks))
       | inr other ↦
-          let there : mark marks j ≡ one = sym (mark_other marks k 1 j (λ same. other (sym same))) ∙ is in
+          let there : fixing_of marks j ≡ One = sym (mark_other marks k One j (λ same. other (sym same))) ∙ is in
           adds.1 j ∙ (takes_other k (taken s marks) j other ∙ takes_ones (length s.vars) marks j inside there)
     ]
 
-added_fits : (s : PlainSide) (marks : List ℕ) (k : ℕ) (more : List ℕ) → Adds (taken s marks) k more → Fits s more → Fits s (taken s (slice_set marks k 1))
+added_fits : (s : PlainSide) (marks : List Fixing) (k : ℕ) (more : List ℕ) → Adds (taken s marks) k more → Fits s more → Fits s (taken s (slice_set marks k One))
 added_fits s marks k more adds fits =
-    fits_from s (slice_set marks k 1)
+    fits_from s (slice_set marks k One)
     (λ row inside.
-    let less = below_at_most (λ j. if_one (mark (slice_set marks k 1) j) (weight_at s.vars row j)) (λ j. picked (takes more j) (weight_at s.vars row j)) (length s.vars) (λ j below. one_taken (mark (slice_set marks k 1) j) (takes more j) (weight_at s.vars row j) (added_takes s marks k more adds j below)) in
+    let less = below_at_most (λ j. if_one (fixing_of (slice_set marks k One) j) (weight_at s.vars row j)) (λ j. picked (takes more j) (weight_at s.vars row j)) (length s.vars) (λ j below. one_taken (fixing_of (slice_set marks k One) j) (takes more j) (weight_at s.vars row j) (added_takes s marks k more adds j below)) in
     let sum = take_sum (weight_at s.vars row) 0 (length s.vars) more fits.numbers in
     let held = fits.rows row inside in
     omega (arith, less, sum, held))
@@ -181,7 +183,7 @@ added_fits s marks k more adds fits =
 true_not_false : true ≡ false → ⊥
 true_not_false e = cc
 
-none_added : (s : PlainSide) (start marks : List ℕ) (k : ℕ) (more : List ℕ) → length s.vars ≤ length start → Grows s start (length s.vars) marks → Adds (taken s marks) k more → Fits s more → ⊥
+none_added : (s : PlainSide) (start marks : List Fixing) (k : ℕ) (more : List ℕ) → length s.vars ≤ length start → Grows s start (length s.vars) marks → Adds (taken s marks) k more → Fits s more → ⊥
 none_added s start marks k more long grows adds fits =
     let is_more : takes more k ≡ true = adds.1 k ∙ takes_first k (taken s marks) in
     let below = takes_below 0 (length s.vars) more k fits.numbers is_more in
@@ -190,15 +192,15 @@ none_added s start marks k more long grows adds fits =
       | inr refused ↦ refused (added_fits s marks k more adds fits)
     ]
 
-pub grown_cannot : (p : PlainProgramme) (on : Bool) (s : PlainSide) (start marks : List ℕ) → side_for p on ≡ Some s → length s.vars ≤ length start → Grows s start (length s.vars) marks → CannotGrow p record { on = on; take = taken s marks }
+pub grown_cannot : (p : PlainProgramme) (on : Bool) (s : PlainSide) (start marks : List Fixing) → side_for p on ≡ Some s → length s.vars ≤ length start → Grows s start (length s.vars) marks → CannotGrow p record { on = on; take = taken s marks }
 grown_cannot p on s start marks is long grows k more adds feasible =
     absurd (none_added s start marks k more long grows adds (subst (λ side. IsSomeAnd side (λ t. Fits t more)) is feasible))
 
 -- where the greedy choice gains nothing, no variable alone does
-greatest_taken : (s : PlainSide) (j : ℕ) (marks : List ℕ) (k : ℕ) → GrowsTo s j marks → k < length s.vars → FitsAlone s k → gain_at s.vars k ≤ taken_gains s (taken s marks)
+greatest_taken : (s : PlainSide) (j : ℕ) (marks : List Fixing) (k : ℕ) → GrowsTo s j marks → k < length s.vars → FitsAlone s k → gain_at s.vars k ≤ taken_gains s (taken s marks)
 greatest_taken s j marks k grows inside alone =
     let most = grows.first.greatest k inside alone in
-    let more = gains_grown s (slice_set (all_free s) j 1) marks (grows_ones s (slice_set (all_free s) j 1) (length s.vars) marks grows.others) in
+    let more = gains_grown s (slice_set (all_free s) j One) marks (grows_ones s (slice_set (all_free s) j One) (length s.vars) marks grows.others) in
     let single = ap (λ take. taken_gains s take) (single_taken s j grows.first.inside) in
     let first = sum_by-cons (gain_at s.vars) j [] in
     omega (arith, most, more, single, first)
@@ -253,8 +255,8 @@ nothing_cannot p choice greedy poor k more adds fits =
 
 pub some_cannot : (p : PlainProgramme) (take : List ℕ) → IsGreedy p.off (Some take) → CannotGrow p record { on = false; take = take }
 some_cannot p take greedy =
-    let start = slice_set (all_free p.off) greedy.0 1 in
-    let same = length-set (all_free p.off) greedy.0 1 in
-    let all = length-replicate {A = ℕ} (length p.off.vars) 2 in
+    let start = slice_set (all_free p.off) greedy.0 One in
+    let same = length-set (all_free p.off) greedy.0 One in
+    let all = length-replicate {A = Fixing} (length p.off.vars) Free in
     let long : length p.off.vars ≤ length start = omega (arith, same, all) in
     subst (λ t. CannotGrow p record { on = false; take = t }) (sym greedy.1.1.2) (grown_cannot p false p.off start greedy.1.0 refl long greedy.1.1.0.others)

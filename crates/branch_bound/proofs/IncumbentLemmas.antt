@@ -8,6 +8,7 @@ use Rattle.branch_bound.specs.Assignments.{taken}
 use Rattle.branch_bound.specs.Entries.{takes_on}
 use Rattle.branch_bound.specs.Searching.{EntryBelow, IsIncumbent, KeepsIncumbent}
 use Rattle.branch_bound.specs.declared.incumbents.Incumbent.{Incumbent}
+use Rattle.certificate_checker.specs.declared.fixings.Fixing.{Fixing}
 
 side_or : Option PlainSide → PlainSide → PlainSide
 side_or None s = s
@@ -52,5 +53,5 @@ keeps_new on s old best same fits sum some long p is holds =
     new_incumbent p s best (subst (λ b. side_for p b ≡ Some s) (sym same) is) fits sum some long
 
 -- an entry that was compared gains no more
-pub entry_compared : (s : PlainSide) (marks : List ℕ) (old new : ℕ) → new ≡ max old (taken_gains s (taken s marks) - s.fixed) → EntryBelow s new marks
+pub entry_compared : (s : PlainSide) (marks : List Fixing) (old new : ℕ) → new ≡ max old (taken_gains s (taken s marks) - s.fixed) → EntryBelow s new marks
 entry_compared s marks old new is fits = omega (arith, is)

@@ -10,15 +10,17 @@ use Rattle.placement_programme.specs.Programme.{gain_at, weight_at}
 use Rattle.placement_programme.specs.Sums.{sum_below}
 use Rattle.certificate_checker.specs.Nodes.{PlainCertificate}
 use Rattle.certificate_checker.specs.Shows.{all_free}
-use Rattle.certificate_checker.specs.Marks.{Mark, zeroed, one, free, mark}
 use Rattle.certificate_checker.specs.Rules.{if_one, bound, kept_at, moved_at, OverHolds, LeafHolds, DualHolds}
-use Rattle.certificate_checker.proofs.Children.{zeroed_not_free, one_not_free}
+use Rattle.certificate_checker.proofs.Children.{zero_not_free}
 use Rattle.branch_bound.specs.Greatest.{Greatest, GainsMore}
 use Rattle.branch_bound.specs.Assignments.{FailsEveryLeafRule, IsGreatestFree}
 use Rattle.branch_bound.specs.Entries.{Splits, StatedFrom, alone, split, StatedOn, IsStated, vars_on, all_vars}
 use Rattle.branch_bound.specs.Solving.{EndsWithin, Certifies}
 use Rattle.branch_bound.specs.declared.outcomes.Status.{Status}
 use Rattle.branch_bound.specs.declared.outcomes.Status.TheVariants.{Optimal, BestFound}
+use Rattle.certificate_checker.specs.Fixings.{fixing_of, is_free}
+use Rattle.certificate_checker.specs.declared.fixings.Fixing.{Fixing}
+use Rattle.certificate_checker.specs.declared.fixings.Fixing.TheVariants.{Zero, One, Free}
 use Rattle.branch_bound.proofs.GreatestLemmas.{new_greatest, old_greatest}
 use Rattle.branch_bound.proofs.MarkLemmas.{fewer_free}
 
@@ -26,15 +28,18 @@ use Rattle.branch_bound.proofs.MarkLemmas.{fewer_free}
 abbrev Decided : Type 0 → Type 0
 Decided P = P ⊎ (P → ⊥)
 
-free_decided : (m : Mark) → Decided (m ≡ free)
-free_decided zeroed = inr zeroed_not_free
-free_decided one = inr one_not_free
-free_decided free = inl refl
+one_not_free : One ≡ Free → ⊥
+one_not_free same = cc
 
-over_decided : (s : PlainSide) (marks : List ℕ) (n : ℕ) → n ≤ length s.rows → ((row : ℕ) × OverHolds s marks row) ⊎ ((row : ℕ) → row < n → OverHolds s marks row → ⊥)
+free_decided : (m : Fixing) → Decided (m ≡ Free)
+free_decided Zero = inr zero_not_free
+free_decided One = inr one_not_free
+free_decided Free = inl refl
+
+over_decided : (s : PlainSide) (marks : List Fixing) (n : ℕ) → n ≤ length s.rows → ((row : ℕ) × OverHolds s marks row) ⊎ ((row : ℕ) → row < n → OverHolds s marks row → ⊥)
 over_decided s marks zero inside = inr (λ row below over. absurd (omega (arith, below)))
 over_decided s marks (suc n) inside =
-    elim (cases_lt (slice_index s.rows n) (sum_below (length s.vars) (λ j. if_one (mark marks j) (weight_at s.vars n j)))) [
+    elim (cases_lt (slice_index s.rows n) (sum_below (length s.vars) (λ j. if_one (fixing_of marks j) (weight_at s.vars n j)))) [
       | inl exceeded ↦ inl (n, record { inside = omega (arith, inside); exceeded = exceeded })
       | inr held ↦
           elim (over_decided s marks n (omega (arith, inside))) [
@@ -51,7 +56,7 @@ over_decided s marks (suc n) inside =
           ]
     ]
 
-dual_decided : (s : PlainSide) (best : ℕ) (marks : List ℕ) → Decided (DualHolds s best marks 1 [])
+dual_decided : (s : PlainSide) (best : ℕ) (marks : List Fixing) → Decided (DualHolds s best marks 1 [])
 dual_decided s best marks =
     elim (cases_lt (1 * (best + s.fixed) + sum_below (length s.vars) (moved_at s marks [])) (bound s [] + sum_below (length s.vars) (kept_at s marks 1 []))) [
       | inl less ↦ inr (λ dual. let sums = dual.sums in omega (arith, less, sums))
@@ -64,21 +69,21 @@ more_decided gain (Some j) n =
     elim (cases_lt (gain j) (gain n)) [ inl less ↦ inl less | inr most ↦ inr (λ less. omega (arith, most, less)) ]
 
 -- the greatest of the free
-greatest_more : (s : PlainSide) (marks : List ℕ) (n : ℕ) (best : Option ℕ) → Greatest (λ k. mark marks k ≡ free) (gain_at s.vars) n best → Decided (GainsMore (gain_at s.vars) best n) → Decided (mark marks n ≡ free) → (more : Option ℕ) × Greatest (λ k. mark marks k ≡ free) (gain_at s.vars) (suc n) more
+greatest_more : (s : PlainSide) (marks : List Fixing) (n : ℕ) (best : Option ℕ) → Greatest (λ k. fixing_of marks k ≡ Free) (gain_at s.vars) n best → Decided (GainsMore (gain_at s.vars) best n) → Decided (fixing_of marks n ≡ Free) → (more : Option ℕ) × Greatest (λ k. fixing_of marks k ≡ Free) (gain_at s.vars) (suc n) more
 greatest_more s marks n best so_far (inl more) (inl here) =
-    (Some n, new_greatest (λ k. mark marks k ≡ free) (gain_at s.vars) n best so_far here more)
+    (Some n, new_greatest (λ k. fixing_of marks k ≡ Free) (gain_at s.vars) n best so_far here more)
 greatest_more s marks n best so_far (inl more) (inr fixed) =
-    (best, old_greatest (λ k. mark marks k ≡ free) (gain_at s.vars) n best so_far (λ both. fixed both.0))
+    (best, old_greatest (λ k. fixing_of marks k ≡ Free) (gain_at s.vars) n best so_far (λ both. fixed both.0))
 greatest_more s marks n best so_far (inr less) here =
-    (best, old_greatest (λ k. mark marks k ≡ free) (gain_at s.vars) n best so_far (λ both. less both.1))
+    (best, old_greatest (λ k. fixing_of marks k ≡ Free) (gain_at s.vars) n best so_far (λ both. less both.1))
 
-greatest_there : (s : PlainSide) (marks : List ℕ) (n : ℕ) → (best : Option ℕ) × Greatest (λ k. mark marks k ≡ free) (gain_at s.vars) n best
+greatest_there : (s : PlainSide) (marks : List Fixing) (n : ℕ) → (best : Option ℕ) × Greatest (λ k. fixing_of marks k ≡ Free) (gain_at s.vars) n best
 greatest_there s marks zero = (None, λ k below holds. absurd (omega (arith, below)))
 greatest_there s marks (suc n) =
     let rest = greatest_there s marks n in
-    greatest_more s marks n rest.0 rest.1 (more_decided (gain_at s.vars) rest.0 n) (free_decided (mark marks n))
+    greatest_more s marks n rest.0 rest.1 (more_decided (gain_at s.vars) rest.0 n) (free_decided (fixing_of marks n))
 
-fails_decided : (s : PlainSide) (best : ℕ) (marks : List ℕ) (j : ℕ) → IsGreatestFree s marks j → Decided (FailsEveryLeafRule s best marks)
+fails_decided : (s : PlainSide) (best : ℕ) (marks : List Fixing) (j : ℕ) → IsGreatestFree s marks j → Decided (FailsEveryLeafRule s best marks)
 fails_decided s best marks j greatest =
     elim (over_decided s marks (length s.rows) (omega arith)) [
       | inl over ↦ inr (λ fails. fails.within over.0 over.1)
@@ -95,21 +100,21 @@ fails_decided s best marks j greatest =
     ]
 
 -- a list from some marks, of fewer than 2 ^ (k + 1) entries where at most k are free
-abbrev HasList : PlainSide → ℕ → List ℕ → ℕ → Type 0
+abbrev HasList : PlainSide → ℕ → List Fixing → ℕ → Type 0
 HasList s start marks k =
-    (es : List (List ℕ)) × (StatedFrom s start marks es × (suc (length es) ≤ 2 ^ suc k))
+    (es : List (List Fixing)) × (StatedFrom s start marks es × (suc (length es) ≤ 2 ^ suc k))
 
 one_power : (k : ℕ) → 1 ≤ 2 ^ k
 one_power zero = omega arith
 one_power (suc k) = let power = pow-succ' 2 k in let rest = one_power k in omega (arith, power, rest)
 
-one_entry : (s : PlainSide) (start : ℕ) (marks : List ℕ) (k : ℕ) → (Splits s start marks → ⊥) → HasList s start marks k
+one_entry : (s : PlainSide) (start : ℕ) (marks : List Fixing) (k : ℕ) → (Splits s start marks → ⊥) → HasList s start marks k
 one_entry s start marks k none =
     let power = pow-succ' 2 k in
     let some = one_power k in
     (marks ∷ [], (alone none, omega (arith, power, some)))
 
-both_lists : (s : PlainSide) (start : ℕ) (marks : List ℕ) (j k : ℕ) → Splits s start marks → IsGreatestFree s marks j → HasList s start (slice_set marks j 1) k → HasList s start (slice_set marks j 0) k → HasList s start marks (suc k)
+both_lists : (s : PlainSide) (start : ℕ) (marks : List Fixing) (j k : ℕ) → Splits s start marks → IsGreatestFree s marks j → HasList s start (slice_set marks j One) k → HasList s start (slice_set marks j Zero) k → HasList s start marks (suc k)
 both_lists s start marks j k splits greatest ones zeroes =
     let power = pow-succ' 2 (suc k) in
     let long = length-append ones.0 zeroes.0 in
@@ -117,10 +122,10 @@ both_lists s start marks j k splits greatest ones zeroes =
     let of_zero = zeroes.1.1 in
     (marks ∷ (ones.0 ++ zeroes.0), (split splits greatest ones.1.0 zeroes.1.0, omega (arith, power, long, of_one, of_zero)))
 
-not_split : (s : PlainSide) (start : ℕ) (marks : List ℕ) → ((j : ℕ) → j < length s.vars → mark marks j ≡ free → ⊥) → Splits s start marks → ⊥
+not_split : (s : PlainSide) (start : ℕ) (marks : List Fixing) → ((j : ℕ) → j < length s.vars → fixing_of marks j ≡ Free → ⊥) → Splits s start marks → ⊥
 not_split s start marks full splits = splits.not_full full
 
-splits_from : (s : PlainSide) (start : ℕ) (marks : List ℕ) (best : Option ℕ) → Greatest (λ k. mark marks k ≡ free) (gain_at s.vars) (length s.vars) best → ((j : ℕ) × (Splits s start marks × IsGreatestFree s marks j)) ⊎ (Splits s start marks → ⊥)
+splits_from : (s : PlainSide) (start : ℕ) (marks : List Fixing) (best : Option ℕ) → Greatest (λ k. fixing_of marks k ≡ Free) (gain_at s.vars) (length s.vars) best → ((j : ℕ) × (Splits s start marks × IsGreatestFree s marks j)) ⊎ (Splits s start marks → ⊥)
 splits_from s start marks None full = inr (not_split s start marks full)
 splits_from s start marks (Some j) found =
     elim (fails_decided s start marks j found) [
@@ -129,36 +134,36 @@ splits_from s start marks (Some j) found =
     ]
 
 -- a node that splits has a free variable
-splits_there : (s : PlainSide) (start : ℕ) (marks : List ℕ) → ((j : ℕ) × (Splits s start marks × IsGreatestFree s marks j)) ⊎ (Splits s start marks → ⊥)
+splits_there : (s : PlainSide) (start : ℕ) (marks : List Fixing) → ((j : ℕ) × (Splits s start marks × IsGreatestFree s marks j)) ⊎ (Splits s start marks → ⊥)
 splits_there s start marks =
     let greatest = greatest_there s marks (length s.vars) in
     splits_from s start marks greatest.0 greatest.1
 
-pub has_list : (s : PlainSide) (start k : ℕ) (marks : List ℕ) → count_by (nat_le 2) marks ≤ k → HasList s start marks k
+pub has_list : (s : PlainSide) (start k : ℕ) (marks : List Fixing) → count_by is_free marks ≤ k → HasList s start marks k
 has_list s start zero marks few =
     elim (splits_there s start marks) [
-      | inl found ↦ let fewer = fewer_free marks found.0 1 found.1.1.holds (omega arith) in absurd (omega (arith, fewer, few))
+      | inl found ↦ let fewer = fewer_free marks found.0 One found.1.1.holds refl in absurd (omega (arith, fewer, few))
       | inr none ↦ one_entry s start marks zero none
     ]
 has_list s start (suc k) marks few =
     elim (splits_there s start marks) [
       | inl found ↦
-          let ones = fewer_free marks found.0 1 found.1.1.holds (omega arith) in
-          let zeroes = fewer_free marks found.0 0 found.1.1.holds (omega arith) in
-          let by_one = has_list s start k (slice_set marks found.0 1) (omega (arith, ones, few)) in
-          let by_zero = has_list s start k (slice_set marks found.0 0) (omega (arith, zeroes, few)) in
+          let ones = fewer_free marks found.0 One found.1.1.holds refl in
+          let zeroes = fewer_free marks found.0 Zero found.1.1.holds refl in
+          let by_one = has_list s start k (slice_set marks found.0 One) (omega (arith, ones, few)) in
+          let by_zero = has_list s start k (slice_set marks found.0 Zero) (omega (arith, zeroes, few)) in
           both_lists s start marks found.0 k found.1.0 found.1.1 by_one by_zero
       | inr none ↦ one_entry s start marks (suc k) none
     ]
 
-all_free_few : (s : PlainSide) → count_by (nat_le 2) (all_free s) ≤ length s.vars
+all_free_few : (s : PlainSide) → count_by is_free (all_free s) ≤ length s.vars
 all_free_few s =
-    let counted = count_by-le-length (nat_le 2) (all_free s) in
-    let all = length-replicate {A = ℕ} (length s.vars) 2 in
+    let counted = count_by-le-length is_free (all_free s) in
+    let all = length-replicate {A = Fixing} (length s.vars) Free in
     omega (arith, counted, all)
 
 -- the list of a side that may be missing
-list_on : (side : Option PlainSide) (start : ℕ) → (es : List (List ℕ)) × (StatedOn side start es × (suc (length es) ≤ 2 ^ suc (vars_on side)))
+list_on : (side : Option PlainSide) (start : ℕ) → (es : List (List Fixing)) × (StatedOn side start es × (suc (length es) ≤ 2 ^ suc (vars_on side)))
 list_on None start = ([], (refl, omega arith))
 list_on (Some s) start = has_list s start (length s.vars) (all_free s) (all_free_few s)
 

@@ -6,9 +6,10 @@ use Rattle.placement_programme.specs.Bounds.{RowsWithin, row_of, value_of}
 use Rattle.placement_programme.specs.Plain.{PlainSide}
 use Rattle.placement_programme.specs.Programme.{weight_in, weight_at, Fits}
 use Rattle.placement_programme.specs.Sums.{sum_below}
-use Rattle.certificate_checker.specs.Marks.{mark}
 use Rattle.certificate_checker.specs.Rules.{if_one, OverHolds}
 use Rattle.branch_bound.specs.Assignments.{taken}
+use Rattle.certificate_checker.specs.Fixings.{fixing_of}
+use Rattle.certificate_checker.specs.declared.fixings.Fixing.{Fixing}
 use Rattle.branch_bound.proofs.OnesLemmas.{fits_from}
 use Rattle.placement_programme.proofs.AscendLemmas.{row_at_least}
 
@@ -64,7 +65,7 @@ added_more high ws old now i next at value d all is_next inside room is_row is_v
     subst (λ m. slice_index (slice_set now at (slice_index now at + value)) row ≡ slice_index old row + weight_in (take m ws) row) (sym is_next) more
 
 -- a row that is exceeded, or none, by the loads
-pub exceeded_is : (s : PlainSide) (marks loads : List ℕ) (found : Option ℕ) → ((row : ℕ) → slice_index loads row ≡ sum_below (length s.vars) (λ j. if_one (mark marks j) (weight_at s.vars row j))) → MatchOption found ((row : ℕ) → row < length s.rows → slice_index loads row ≤ slice_index s.rows row) (λ row. (row < length s.rows) × (slice_index s.rows row < slice_index loads row)) → MatchOption found (Fits s (taken s marks)) (OverHolds s marks)
+pub exceeded_is : (s : PlainSide) (marks : List Fixing) (loads : List ℕ) (found : Option ℕ) → ((row : ℕ) → slice_index loads row ≡ sum_below (length s.vars) (λ j. if_one (fixing_of marks j) (weight_at s.vars row j))) → MatchOption found ((row : ℕ) → row < length s.rows → slice_index loads row ≤ slice_index s.rows row) (λ row. (row < length s.rows) × (slice_index s.rows row < slice_index loads row)) → MatchOption found (Fits s (taken s marks)) (OverHolds s marks)
 exceeded_is s marks loads None are held =
     fits_from s marks (λ row inside. let load = are row in let here = held row inside in omega (arith, load, here))
 exceeded_is s marks loads (Some row) are found =

@@ -8,105 +8,86 @@ use Rattle.placement_programme.specs.Plain.{PlainSide}
 use Rattle.placement_programme.specs.Programme.{gain_at, weight_at, Fits, taken_gains}
 use Rattle.placement_programme.specs.Sums.{sum_below, picked}
 use Rattle.placement_programme.proofs.TakeLemmas.{below_same}
-use Rattle.certificate_checker.specs.Marks.{Mark, zeroed, one, free, mark, mark_of}
 use Rattle.certificate_checker.specs.Rules.{if_one}
 use Rattle.certificate_checker.proofs.Duality.{AgreesAt, Agrees, chosen, FitsRows}
-use Rattle.certificate_checker.proofs.Children.{zeroed_not_free, one_not_free, free_inside, mark_same, mark_other}
+use Rattle.certificate_checker.proofs.Children.{free_inside, mark_same, mark_other}
 use Rattle.branch_bound.specs.Assignments.{taken}
+use Rattle.certificate_checker.specs.Fixings.{fixing_of, is_free}
+use Rattle.certificate_checker.specs.declared.fixings.Fixing.{Fixing}
+use Rattle.certificate_checker.specs.declared.fixings.Fixing.TheVariants.{Zero, One, Free}
 use Rattle.branch_bound.proofs.OnesLemmas.{ones_sum}
 
 -- whether a variable is fixed to one
-abbrev pub is_one : Mark → Bool
-is_one zeroed = false
-is_one one = true
-is_one free = false
+abbrev pub is_one : Fixing → Bool
+is_one Zero = false
+is_one One = true
+is_one Free = false
 
-abbrev pub picks : List ℕ → ℕ → Bool
-picks marks j = is_one (mark marks j)
+abbrev pub picks : List Fixing → ℕ → Bool
+picks marks j = is_one (fixing_of marks j)
 
-pub picked_one : (m : Mark) (n : ℕ) → picked (is_one m) n ≡ if_one m n
-picked_one zeroed n = refl
-picked_one one n = refl
-picked_one free n = refl
+pub picked_one : (m : Fixing) (n : ℕ) → picked (is_one m) n ≡ if_one m n
+picked_one Zero n = refl
+picked_one One n = refl
+picked_one Free n = refl
 
-pub chosen_is : (s : PlainSide) (marks : List ℕ) (f : ℕ → ℕ) → chosen s (picks marks) f ≡ sum_by f (taken s marks)
+pub chosen_is : (s : PlainSide) (marks : List Fixing) (f : ℕ → ℕ) → chosen s (picks marks) f ≡ sum_by f (taken s marks)
 chosen_is s marks f =
-    let same = below_same (λ j. picked (picks marks j) (f j)) (λ j. if_one (mark marks j) (f j)) (length s.vars) (λ j inside. picked_one (mark marks j) (f j)) in
+    let same = below_same (λ j. picked (picks marks j) (f j)) (λ j. if_one (fixing_of marks j) (f j)) (length s.vars) (λ j inside. picked_one (fixing_of marks j) (f j)) in
     let sum = ones_sum f (length s.vars) marks in
     omega (arith, same, sum)
 
-pub picks_fit : (s : PlainSide) (marks : List ℕ) → Fits s (taken s marks) → FitsRows s (picks marks)
+pub picks_fit : (s : PlainSide) (marks : List Fixing) → Fits s (taken s marks) → FitsRows s (picks marks)
 picks_fit s marks fits row inside =
     let sum = chosen_is s marks (weight_at s.vars row) in
     let held = fits.rows row inside in
     omega (arith, sum, held)
 
-agrees_at : (m : Mark) → AgreesAt m (is_one m)
-agrees_at zeroed = refl
-agrees_at one = refl
-agrees_at free = tt
+agrees_at : (m : Fixing) → AgreesAt m (is_one m)
+agrees_at Zero = refl
+agrees_at One = refl
+agrees_at Free = tt
 
-pub agrees_self : (s : PlainSide) (marks : List ℕ) → Agrees s marks (picks marks)
-agrees_self s marks j inside = agrees_at (mark marks j)
+pub agrees_self : (s : PlainSide) (marks : List Fixing) → Agrees s marks (picks marks)
+agrees_self s marks j inside = agrees_at (fixing_of marks j)
 
 -- what agrees with a child agrees with the entry
-pub agrees_back : (s : PlainSide) (marks : List ℕ) (j n : ℕ) (x : ℕ → Bool) → mark marks j ≡ free → Agrees s (slice_set marks j n) x → Agrees s marks x
-agrees_back s marks j n x is_free agrees k below =
+pub agrees_back : (s : PlainSide) (marks : List Fixing) (j : ℕ) (f : Fixing) (x : ℕ → Bool) → fixing_of marks j ≡ Free → Agrees s (slice_set marks j f) x → Agrees s marks x
+agrees_back s marks j f x unfixed agrees k below =
     elim (cases_eq k j) [
       | inl same ↦
-          let there : mark marks k ≡ free = subst (λ i. mark marks i ≡ free) (sym same) is_free in
+          let there : fixing_of marks k ≡ Free = subst (λ i. fixing_of marks i ≡ Free) (sym same) unfixed in
           subst (λ m. AgreesAt m (x k)) (sym there) tt
-      | inr other ↦ subst (λ m. AgreesAt m (x k)) (mark_other marks j n k other) (agrees k below)
+      | inr other ↦ subst (λ m. AgreesAt m (x k)) (mark_other marks j f k other) (agrees k below)
     ]
 
-two_of : (n : ℕ) → mark_of n ≡ free → 2 ≤ n
-two_of zero is = absurd (zeroed_not_free is)
-two_of (suc zero) is = absurd (one_not_free is)
-two_of (suc (suc n)) is = omega arith
-
-pub free_two : (marks : List ℕ) (j : ℕ) → mark marks j ≡ free → 2 ≤ slice_index marks j
-free_two marks j is = two_of (slice_index marks j) is
-
-abbrev counted : ℕ → ℕ
-counted n = cond (nat_le 2 n) 1 0
-
-free_counts : (n : ℕ) → 2 ≤ n → counted n ≡ 1
-free_counts n is_free = grind (arith, nat_tests, is_free)
-
-fixed_counts : (n : ℕ) → n < 2 → counted n ≡ 0
-fixed_counts n fixed = grind (arith, nat_tests, fixed)
+abbrev counted : Fixing → ℕ
+counted f = cond (is_free f) 1 0
 
 -- one free variable fewer
-pub fewer_free : (marks : List ℕ) (j n : ℕ) → mark marks j ≡ free → n < 2 → count_by (nat_le 2) marks ≡ suc (count_by (nat_le 2) (slice_set marks j n))
-fewer_free marks j n is fixed =
-    let two = free_two marks j is in
-    let sums = sum_by-set counted marks j n 0 (free_inside marks j is) in
-    let before = free_counts (slice_index marks j) two in
-    let behind = fixed_counts n fixed in
+pub fewer_free : (marks : List Fixing) (j : ℕ) (f : Fixing) → fixing_of marks j ≡ Free → is_free f ≡ false → count_by is_free marks ≡ suc (count_by is_free (slice_set marks j f))
+fewer_free marks j f unfixed fixed =
+    let sums = sum_by-set counted marks j f Zero (free_inside marks j unfixed) in
+    let before = ap counted unfixed in
+    let behind = ap {B = ℕ} (λ b. cond b 1 0) fixed in
     omega (arith, sums, before, behind)
 
--- the number of a mark that is one
-number_one : (n m : ℕ) → n ≡ 1 → if_one (mark_of n) m ≡ m
-number_one n m is = subst (λ k. if_one (mark_of k) m ≡ m) (sym is) refl
+-- what a variable adds that is fixed to one, and any other
+one_adds : (f : Fixing) (m : ℕ) → f ≡ One → if_one f m ≡ m
+one_adds f m is = subst (λ g. if_one g m ≡ m) (sym is) refl
 
-number_other : (n m : ℕ) → n ≢ 1 → if_one (mark_of n) m ≡ 0
-number_other zero m apart = refl
-number_other (suc zero) m apart = absurd (apart refl)
-number_other (suc (suc n)) m apart = refl
-
-pub one_here : (marks : List ℕ) (j m : ℕ) → slice_index marks j ≡ 1 → if_one (mark marks j) m ≡ m
-one_here marks j m is = number_one (slice_index marks j) m is
-
-pub one_not : (marks : List ℕ) (j m : ℕ) → slice_index marks j ≢ 1 → if_one (mark marks j) m ≡ 0
-one_not marks j m apart = number_other (slice_index marks j) m apart
+other_adds : (f : Fixing) (m : ℕ) → (f ≡ One → ⊥) → if_one f m ≡ 0
+other_adds Zero m other = refl
+other_adds One m other = absurd (other refl)
+other_adds Free m other = refl
 
 -- sums over the variables that are fixed to one, with one variable more
-pub sum_one : (f : ℕ → ℕ) (marks : List ℕ) (n next total now : ℕ) → next ≡ suc n → slice_index marks n ≡ 1 → total ≡ sum_below n (λ j. if_one (mark marks j) (f j)) → now ≡ total + f n → now ≡ sum_below next (λ j. if_one (mark marks j) (f j))
+pub sum_one : (f : ℕ → ℕ) (marks : List Fixing) (n next total now : ℕ) → next ≡ suc n → fixing_of marks n ≡ One → total ≡ sum_below n (λ j. if_one (fixing_of marks j) (f j)) → now ≡ total + f n → now ≡ sum_below next (λ j. if_one (fixing_of marks j) (f j))
 sum_one f marks n next total now is_next is so_far more =
-    let here = one_here marks n (f n) is in
-    subst (λ m. now ≡ sum_below m (λ j. if_one (mark marks j) (f j))) (sym is_next) (omega (arith, here, so_far, more))
+    let here = one_adds (fixing_of marks n) (f n) is in
+    subst (λ m. now ≡ sum_below m (λ j. if_one (fixing_of marks j) (f j))) (sym is_next) (omega (arith, here, so_far, more))
 
-pub sum_other : (f : ℕ → ℕ) (marks : List ℕ) (n next total now : ℕ) → next ≡ suc n → slice_index marks n ≢ 1 → total ≡ sum_below n (λ j. if_one (mark marks j) (f j)) → now ≡ total → now ≡ sum_below next (λ j. if_one (mark marks j) (f j))
+pub sum_other : (f : ℕ → ℕ) (marks : List Fixing) (n next total now : ℕ) → next ≡ suc n → (fixing_of marks n ≡ One → ⊥) → total ≡ sum_below n (λ j. if_one (fixing_of marks j) (f j)) → now ≡ total → now ≡ sum_below next (λ j. if_one (fixing_of marks j) (f j))
 sum_other f marks n next total now is_next apart so_far same =
-    let here = one_not marks n (f n) apart in
-    subst (λ m. now ≡ sum_below m (λ j. if_one (mark marks j) (f j))) (sym is_next) (omega (arith, here, so_far, same))
+    let here = other_adds (fixing_of marks n) (f n) apart in
+    subst (λ m. now ≡ sum_below m (λ j. if_one (fixing_of marks j) (f j))) (sym is_next) (omega (arith, here, so_far, same))

@@ -10,8 +10,9 @@ use Rattle.branch_bound.specs.Entries.{Each, takes_on, GainsAtMost}
 use Rattle.branch_bound.specs.Greedy.{IsStart}
 use Rattle.branch_bound.specs.Growing.{CannotGrow}
 use Rattle.branch_bound.specs.Solving.{ReachesFirst}
+use Rattle.certificate_checker.specs.declared.fixings.Fixing.{Fixing}
 
-each_all : (P : List ℕ → Type 0) (es : List (List ℕ)) → ((e : List ℕ) → P e) → Each P es
+each_all : (P : List Fixing → Type 0) (es : List (List Fixing)) → ((e : List Fixing) → P e) → Each P es
 each_all P [] all = tt
 each_all P (e ∷ es) all = (all e, each_all P es all)
 

@@ -22,15 +22,19 @@ use Rattle.branch_bound.specs.Searching.{EntryBelow, Tells, Closes, HasLevels, I
 use Rattle.branch_bound.specs.Solving.{TellsOn, ClosesSide, ClosesOn, LacksTree, AreTreesOf, FailsSome, Searched, ReachesFirst, EndsWithin}
 use Rattle.branch_bound.specs.declared.outcomes.Trees.{Trees}
 use Rattle.branch_bound.specs.declared.incumbents.Incumbent.{Incumbent}
+use Rattle.certificate_checker.specs.Fixings.{is_free}
+use Rattle.certificate_checker.specs.declared.fixings.Fixing.{Fixing}
+use Rattle.certificate_checker.specs.declared.fixings.Fixing.TheVariants.{Free}
+use Rattle.side_search.proofs.Greater.{holds_more}
 use Rattle.branch_bound.proofs.OnesLemmas.{nothing_taken}
-use Rattle.branch_bound.proofs.EntryLemmas.{holds_more, entry_more, each_more, each_less, each_fewer, finished}
+use Rattle.branch_bound.proofs.EntryLemmas.{entry_more, each_more, each_less, each_fewer, finished}
 use Rattle.branch_bound.proofs.GreedyLemmas.{grows_fit}
 use Rattle.branch_bound.proofs.GrowLemmas.{nothing_cannot, gains_grown, grows_ones, grows_length, grown_cannot}
 use Rattle.branch_bound.proofs.IncumbentLemmas.{same_side, new_incumbent}
 use Rattle.branch_bound.proofs.TellLemmas.{levels_more}
 
 -- the entries that the budget allows
-pub tells_entries : (s : PlainSide) (start best more left after : ℕ) (tree : Option Tree) (es : List (List ℕ)) → best ≤ more → Tells s start (all_free s) best left after tree → StatedFrom s start (all_free s) es → Each (EntryBelow s more) (take left es)
+pub tells_entries : (s : PlainSide) (start best more left after : ℕ) (tree : Option Tree) (es : List (List Fixing)) → best ≤ more → Tells s start (all_free s) best left after tree → StatedFrom s start (all_free s) es → Each (EntryBelow s more) (take left es)
 tells_entries s start best more left after (Some tree) es order tells stated =
     each_less (EntryBelow s more) left es
     (finished s start more (all_free s) (plain_tree tree) es (holds_more s best more (all_free s) (plain_tree tree) order tells.0) stated)
@@ -38,7 +42,7 @@ tells_entries s start best more left after None es order tells stated =
     each_more (EntryBelow s best) (EntryBelow s more) (take left es) (λ e below. entry_more s best more e order below) (tells es stated).0
 
 -- what is left of the budget behind a side's list
-rest_left : (s : PlainSide) (start best left after : ℕ) (tree : Option Tree) (es : List (List ℕ)) → Tells s start (all_free s) best left after tree → StatedFrom s start (all_free s) es → left - length es ≤ after
+rest_left : (s : PlainSide) (start best left after : ℕ) (tree : Option Tree) (es : List (List Fixing)) → Tells s start (all_free s) best left after tree → StatedFrom s start (all_free s) es → left - length es ≤ after
 rest_left s start best left after (Some tree) es tells stated = let used = tells.1 es stated in omega (arith, used)
 rest_left s start best left after None es tells stated = let short = (tells es stated).1 in omega (arith, short)
 
@@ -46,21 +50,21 @@ off_most : (p : PlainProgramme) (take : List ℕ) (best : ℕ) → taken_gains p
 off_most p [] best most = omega (arith, ints)
 off_most p (k ∷ ks) best most = omega (arith, ints, most)
 
-abbrev EntryOn : Option PlainSide → ℕ → List ℕ → Type 0
+abbrev EntryOn : Option PlainSide → ℕ → List Fixing → Type 0
 EntryOn side best marks =
     IsSomeAnd side (λ t. Fits t (takes_on side marks)) → gain_on side (takes_on side marks) ≤ℤ pos best
 
-on_most : (s : PlainSide) (best : ℕ) (marks : List ℕ) → EntryBelow s best marks → EntryOn (Some s) best marks
+on_most : (s : PlainSide) (best : ℕ) (marks : List Fixing) → EntryBelow s best marks → EntryOn (Some s) best marks
 on_most s best marks below fits = let most = below fits in omega (arith, ints, most)
 
-on_entries : (side : Option PlainSide) (start best more n left after : ℕ) (tree : Option Tree) (es : List (List ℕ)) → best ≤ more → n ≤ left → TellsOn side start best left after tree → StatedOn side start es → Each (EntryOn side more) (take n es)
+on_entries : (side : Option PlainSide) (start best more n left after : ℕ) (tree : Option Tree) (es : List (List Fixing)) → best ≤ more → n ≤ left → TellsOn side start best left after tree → StatedOn side start es → Each (EntryOn side more) (take n es)
 on_entries None start best more n left after tree es order few tells stated =
     subst (λ l. Each (EntryOn None more) (take n l)) (sym stated) (each_less (EntryOn None more) n [] tt)
 on_entries (Some s) start best more n left after tree es order few tells stated =
     each_fewer (EntryOn (Some s) more) n left es few
     (each_more (EntryBelow s more) (EntryOn (Some s) more) (take left es) (λ e below. on_most s more e below) (tells_entries s start best more left after tree es order tells stated))
 
-pub reaches : (p : PlainProgramme) (n start first second best left after : ℕ) (off_tree on_tree : Option Tree) (off on : List (List ℕ)) → start ≤ best → first ≤ best → second ≤ best → Tells p.off start (all_free p.off) first n left off_tree → TellsOn p.on start second left after on_tree → IsStated p start off on → Reaches p n best start off on
+pub reaches : (p : PlainProgramme) (n start first second best left after : ℕ) (off_tree on_tree : Option Tree) (off on : List (List Fixing)) → start ≤ best → first ≤ best → second ≤ best → Tells p.off start (all_free p.off) first n left off_tree → TellsOn p.on start second left after on_tree → IsStated p start off on → Reaches p n best start off on
 reaches p n start first second best left after off_tree on_tree off on from order next by_off by_on stated =
     record {
       from_start = from;
@@ -69,16 +73,16 @@ reaches p n start first second best left after off_tree on_tree off on from orde
     }
 
 -- a budget that ended had fewer nodes than the list has entries
-off_lacks : (s : PlainSide) (start best left after : ℕ) (tree : Option Tree) (es : List (List ℕ)) → tree ≡ None → Tells s start (all_free s) best left after tree → StatedFrom s start (all_free s) es → left < length es
+off_lacks : (s : PlainSide) (start best left after : ℕ) (tree : Option Tree) (es : List (List Fixing)) → tree ≡ None → Tells s start (all_free s) best left after tree → StatedFrom s start (all_free s) es → left < length es
 off_lacks s start best left after tree es none tells stated =
     let there = subst (λ o. Tells s start (all_free s) best left after o) none tells in
     (there es stated).1
 
-on_lacks : (side : Option PlainSide) (start best left after : ℕ) (tree : Option Tree) (es : List (List ℕ)) → LacksTree side tree → TellsOn side start best left after tree → StatedOn side start es → left < length es
+on_lacks : (side : Option PlainSide) (start best left after : ℕ) (tree : Option Tree) (es : List (List Fixing)) → LacksTree side tree → TellsOn side start best left after tree → StatedOn side start es → left < length es
 on_lacks None start best left after tree es lacks tells stated = absurd lacks
 on_lacks (Some s) start best left after tree es lacks tells stated = off_lacks s start best left after tree es lacks tells stated
 
-pub more_entries : (p : PlainProgramme) (n start first second left after : ℕ) (off_tree on_tree : Option Tree) (off on : List (List ℕ)) → (off_tree ≡ None) ⊎ LacksTree p.on on_tree → Tells p.off start (all_free p.off) first n left off_tree → TellsOn p.on start second left after on_tree → IsStated p start off on → n < length off + length on
+pub more_entries : (p : PlainProgramme) (n start first second left after : ℕ) (off_tree on_tree : Option Tree) (off on : List (List Fixing)) → (off_tree ≡ None) ⊎ LacksTree p.on on_tree → Tells p.off start (all_free p.off) first n left off_tree → TellsOn p.on start second left after on_tree → IsStated p start off on → n < length off + length on
 more_entries p n start first second left after off_tree on_tree off on (inl none) by_off by_on stated =
     let short = off_lacks p.off start first n left off_tree off none by_off stated.off_list in
     omega (arith, short)
@@ -105,12 +109,12 @@ ends_within p n start first second best left after off_tree on_tree c searched g
     (best, (start, (gains, searched.is_start, λ off on stated. more_entries p n start first second left after off_tree on_tree off on lacks searched.by_off searched.by_on stated, fails)))
 
 -- the empty choice
-pub nothing_from : (p : PlainProgramme) (marks : List ℕ) → marks ≡ all_free p.off → (let c : PlainChoice = record { on = false; take = taken p.off marks } in c ≡ nothing)
+pub nothing_from : (p : PlainProgramme) (marks : List Fixing) → marks ≡ all_free p.off → (let c : PlainChoice = record { on = false; take = taken p.off marks } in c ≡ nothing)
 nothing_from p marks is =
     let c : List ℕ → PlainChoice = λ take. record { on = false; take = take } in
     ap c (ap (taken p.off) is ∙ nothing_taken p.off)
 
-pub nothing_accepted : (p : PlainProgramme) (marks : List ℕ) → marks ≡ all_free p.off → IsAccepted p record { on = false; take = taken p.off marks } 0
+pub nothing_accepted : (p : PlainProgramme) (marks : List Fixing) → marks ≡ all_free p.off → IsAccepted p record { on = false; take = taken p.off marks } 0
 nothing_accepted p marks is =
     subst (λ c. IsAccepted p c 0) (sym (nothing_from p marks is))
     record { feasible = record { numbers = tt; rows = λ row inside. omega arith }; gains = refl }
@@ -145,13 +149,13 @@ pub incumbent_side : (p : PlainProgramme) (best : Incumbent) → side_for p best
 incumbent_side p best is holds = subst (λ side. IsSomeAnd side (λ t. length t.vars ≤ length best.marks.items)) is holds.marked
 
 -- levels of a tree from the root
-pub root_levels : (s : PlainSide) (tree : Option Tree) → length s.vars ≤ 4000 → HasLevels (suc (count_by (nat_le 2) (all_free s))) tree → HasLevels most_levels tree
+pub root_levels : (s : PlainSide) (tree : Option Tree) → length s.vars ≤ 4000 → HasLevels (suc (count_by is_free (all_free s))) tree → HasLevels most_levels tree
 unfolding most_levels
 root_levels s None few levels = tt
 root_levels s (Some tree) few levels =
-    let counted = count_by-le-length (nat_le 2) (all_free s) in
-    let all = length-replicate {A = ℕ} (length s.vars) 2 in
-    levels_more (suc (count_by (nat_le 2) (all_free s))) most_levels (plain_tree tree) (omega (arith, counted, all, few)) levels
+    let counted = count_by-le-length is_free (all_free s) in
+    let all = length-replicate {A = Fixing} (length s.vars) Free in
+    levels_more (suc (count_by is_free (all_free s))) most_levels (plain_tree tree) (omega (arith, counted, all, few)) levels
 
 -- a closed node is within the ranges
 pub one_level : (t : PlainTree) → IsTreeInRange 1 t → IsTreeInRange most_levels t
@@ -170,7 +174,7 @@ match_more P None more holds = more holds
 match_more P (Some x) more holds = holds
 
 -- an incumbent that was grown
-pub grown_gains : (s : PlainSide) (start marks : List ℕ) (gain gains : ℕ) → Grows s start (length s.vars) marks → taken_gains s (taken s start) ≡ gain + s.fixed → gains ≡ taken_gains s (taken s marks) → gain + s.fixed ≤ gains
+pub grown_gains : (s : PlainSide) (start marks : List Fixing) (gain gains : ℕ) → Grows s start (length s.vars) marks → taken_gains s (taken s start) ≡ gain + s.fixed → gains ≡ taken_gains s (taken s marks) → gain + s.fixed ≤ gains
 grown_gains s start marks gain gains grows sum is =
     let more = gains_grown s start marks (grows_ones s start (length s.vars) marks grows) in
     omega (arith, more, sum, is)

@@ -3,7 +3,6 @@ use Rattle.std.proofs.Common.{◌≡◌, ◌∙◌, ℕ, zero, suc, ◌+◌, ◌
 use Rattle.std.specs.List.{count_by}
 use Rattle.placement_programme.specs.Plain.{PlainSide}
 use Rattle.certificate_checker.specs.Nodes.{PlainTree, branch, over, dual, leaf}
-use Rattle.certificate_checker.specs.Marks.{free, mark}
 use Rattle.certificate_checker.specs.Rules.{Holds}
 use Rattle.certificate_checker.specs.Spelling.{IsTreeInRange}
 use Rattle.certificate_checker.specs.Views.{plain_tree}
@@ -11,29 +10,33 @@ use Rattle.certificate_checker.specs.declared.trees.Tree.{Tree}
 use Rattle.branch_bound.specs.Assignments.{FailsEveryLeafRule, IsGreatestFree}
 use Rattle.branch_bound.specs.Entries.{StatedFrom, Each}
 use Rattle.branch_bound.specs.Searching.{EntryBelow, Tells, HasLevels}
+use Rattle.certificate_checker.specs.Fixings.{fixing_of, is_free}
+use Rattle.certificate_checker.specs.declared.fixings.Fixing.{Fixing}
+use Rattle.certificate_checker.specs.declared.fixings.Fixing.TheVariants.{Zero, One, Free}
+use Rattle.side_search.proofs.Greater.{holds_more}
 use Rattle.branch_bound.proofs.MarkLemmas.{fewer_free}
-use Rattle.branch_bound.proofs.EntryLemmas.{holds_more, entry_more, each_more, each_first, each_second, finished, some_entry, TwoLists, two_lists}
+use Rattle.branch_bound.proofs.EntryLemmas.{entry_more, each_more, each_first, each_second, finished, some_entry, TwoLists, two_lists}
 
 -- no budget
-pub tells_out : (s : PlainSide) (start : ℕ) (marks : List ℕ) (best left after : ℕ) → left ≡ 0 → Tells s start marks best left after None
+pub tells_out : (s : PlainSide) (start : ℕ) (marks : List Fixing) (best left after : ℕ) → left ≡ 0 → Tells s start marks best left after None
 tells_out s start marks best left after none entries stated =
     let some = some_entry s start marks entries stated in
     subst (λ n. Each (EntryBelow s best) (take n entries) × (n < length entries)) (sym none) (tt, some)
 
 -- a node that is closed
-pub tells_closed : (s : PlainSide) (start : ℕ) (marks : List ℕ) (best left after : ℕ) (tree : Tree) → left ≤ after + 1 → Holds s best marks (plain_tree tree) → Tells s start marks best left after (Some tree)
+pub tells_closed : (s : PlainSide) (start : ℕ) (marks : List Fixing) (best left after : ℕ) (tree : Tree) → left ≤ after + 1 → Holds s best marks (plain_tree tree) → Tells s start marks best left after (Some tree)
 tells_closed s start marks best left after tree used holds =
     (holds, λ entries stated. let some = some_entry s start marks entries stated in omega (arith, used, some))
 
 -- what is known where a node branches
-pub record Branches (s : PlainSide) (start : ℕ) (marks : List ℕ) (j best : ℕ) : Type 0 where
+pub record Branches (s : PlainSide) (start : ℕ) (marks : List Fixing) (j best : ℕ) : Type 0 where
   pub from_start : start ≤ best
   pub fails : FailsEveryLeafRule s best marks
   pub greatest : IsGreatestFree s marks j
   pub here : EntryBelow s best marks
 
 -- the budget ends under the child that fixes the variable to one
-pub tells_first : (s : PlainSide) (start : ℕ) (marks : List ℕ) (j best more left middle after : ℕ) → Branches s start marks j best → best ≤ more → left ≡ suc middle → Tells s start (slice_set marks j 1) more middle after None → Tells s start marks more left after None
+pub tells_first : (s : PlainSide) (start : ℕ) (marks : List Fixing) (j best more left middle after : ℕ) → Branches s start marks j best → best ≤ more → left ≡ suc middle → Tells s start (slice_set marks j One) more middle after None → Tells s start marks more left after None
 tells_first s start marks j best more left middle after branches order used first entries stated =
     let lists = two_lists s start best marks j entries branches.from_start branches.fails branches.greatest stated in
     let under = first lists.ones lists.by_one in
@@ -46,10 +49,10 @@ tells_first s start marks j best more left middle after branches order used firs
     (subst (λ n. Each (EntryBelow s more) (take n (marks ∷ (lists.ones ++ lists.zeroes))) × (n < length (marks ∷ (lists.ones ++ lists.zeroes)))) (sym used) whole)
 
 -- it ends under the other child
-pub tells_second : (s : PlainSide) (start : ℕ) (marks : List ℕ) (j best between more left middle second after : ℕ) (tree : Tree) → Branches s start marks j best → best ≤ between → between ≤ more → left ≡ suc middle → Tells s start (slice_set marks j 1) between middle second (Some tree) → Tells s start (slice_set marks j 0) more second after None → Tells s start marks more left after None
+pub tells_second : (s : PlainSide) (start : ℕ) (marks : List Fixing) (j best between more left middle second after : ℕ) (tree : Tree) → Branches s start marks j best → best ≤ between → between ≤ more → left ≡ suc middle → Tells s start (slice_set marks j One) between middle second (Some tree) → Tells s start (slice_set marks j Zero) more second after None → Tells s start marks more left after None
 tells_second s start marks j best between more left middle second after tree branches order next used first last entries stated =
     let lists = two_lists s start best marks j entries branches.from_start branches.fails branches.greatest stated in
-    let ones = finished s start more (slice_set marks j 1) (plain_tree tree) lists.ones (holds_more s between more (slice_set marks j 1) (plain_tree tree) next first.0) lists.by_one in
+    let ones = finished s start more (slice_set marks j One) (plain_tree tree) lists.ones (holds_more s between more (slice_set marks j One) (plain_tree tree) next first.0) lists.by_one in
     let budget = first.1 lists.ones lists.by_one in
     let under = last lists.zeroes lists.by_zero in
     let long = length-append lists.ones lists.zeroes in
@@ -61,12 +64,12 @@ tells_second s start marks j best between more left middle second after tree bra
     (subst (λ n. Each (EntryBelow s more) (take n (marks ∷ (lists.ones ++ lists.zeroes))) × (n < length (marks ∷ (lists.ones ++ lists.zeroes)))) (sym used) whole)
 
 -- both children are finished
-pub tells_both : (s : PlainSide) (start : ℕ) (marks : List ℕ) (j best between more left middle second after : ℕ) (one_tree zero_tree tree : Tree) → Branches s start marks j best → between ≤ more → left ≡ suc middle → Tells s start (slice_set marks j 1) between middle second (Some one_tree) → Tells s start (slice_set marks j 0) more second after (Some zero_tree) → plain_tree tree ≡ branch j (plain_tree zero_tree) (plain_tree one_tree) → Tells s start marks more left after (Some tree)
+pub tells_both : (s : PlainSide) (start : ℕ) (marks : List Fixing) (j best between more left middle second after : ℕ) (one_tree zero_tree tree : Tree) → Branches s start marks j best → between ≤ more → left ≡ suc middle → Tells s start (slice_set marks j One) between middle second (Some one_tree) → Tells s start (slice_set marks j Zero) more second after (Some zero_tree) → plain_tree tree ≡ branch j (plain_tree zero_tree) (plain_tree one_tree) → Tells s start marks more left after (Some tree)
 tells_both s start marks j best between more left middle second after one_tree zero_tree tree branches next used first last is =
     let held : Holds s more marks (branch j (plain_tree zero_tree) (plain_tree one_tree)) = (
       record { inside = branches.greatest.inside; free_there = branches.greatest.holds },
       last.0,
-      holds_more s between more (slice_set marks j 1) (plain_tree one_tree) next first.0,
+      holds_more s between more (slice_set marks j One) (plain_tree one_tree) next first.0,
     ) in (
       subst (λ t. Holds s more marks t) (sym is) held,
       λ entries stated.
@@ -88,10 +91,10 @@ levels_more (suc levels) (suc more) (over row) order good = good
 levels_more (suc levels) (suc more) (dual scale ms) order good = good
 levels_more (suc levels) (suc more) leaf order good = tt
 
-pub levels_both : (marks : List ℕ) (j : ℕ) (one_tree zero_tree tree : Tree) → mark marks j ≡ free → j < 2 ^ 32 → HasLevels (suc (count_by (nat_le 2) (slice_set marks j 1))) (Some one_tree) → HasLevels (suc (count_by (nat_le 2) (slice_set marks j 0))) (Some zero_tree) → plain_tree tree ≡ branch j (plain_tree zero_tree) (plain_tree one_tree) → HasLevels (suc (count_by (nat_le 2) marks)) (Some tree)
-levels_both marks j one_tree zero_tree tree is_free small by_one by_zero is =
-    let ones = fewer_free marks j 1 is_free (omega arith) in
-    let zeroes = fewer_free marks j 0 is_free (omega arith) in
-    let of_one : IsTreeInRange (count_by (nat_le 2) marks) (plain_tree one_tree) = subst (λ n. IsTreeInRange n (plain_tree one_tree)) (sym ones) by_one in
-    let of_zero : IsTreeInRange (count_by (nat_le 2) marks) (plain_tree zero_tree) = subst (λ n. IsTreeInRange n (plain_tree zero_tree)) (sym zeroes) by_zero in
-    subst (λ t. IsTreeInRange (suc (count_by (nat_le 2) marks)) t) (sym is) (small, of_zero, of_one)
+pub levels_both : (marks : List Fixing) (j : ℕ) (one_tree zero_tree tree : Tree) → fixing_of marks j ≡ Free → j < 2 ^ 32 → HasLevels (suc (count_by is_free (slice_set marks j One))) (Some one_tree) → HasLevels (suc (count_by is_free (slice_set marks j Zero))) (Some zero_tree) → plain_tree tree ≡ branch j (plain_tree zero_tree) (plain_tree one_tree) → HasLevels (suc (count_by is_free marks)) (Some tree)
+levels_both marks j one_tree zero_tree tree unfixed small by_one by_zero is =
+    let ones = fewer_free marks j One unfixed refl in
+    let zeroes = fewer_free marks j Zero unfixed refl in
+    let of_one : IsTreeInRange (count_by is_free marks) (plain_tree one_tree) = subst (λ n. IsTreeInRange n (plain_tree one_tree)) (sym ones) by_one in
+    let of_zero : IsTreeInRange (count_by is_free marks) (plain_tree zero_tree) = subst (λ n. IsTreeInRange n (plain_tree zero_tree)) (sym zeroes) by_zero in
+    subst (λ t. IsTreeInRange (suc (count_by is_free marks)) t) (sym is) (small, of_zero, of_one)

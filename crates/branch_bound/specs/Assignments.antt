@@ -3,36 +3,38 @@
 use Rattle.std.specs.Prelude.{ℕ, zero, suc, ◌<◌, ◌≤◌, ◌≡◌, List, [], ◌∷◌, ◌++◌, length}
 use Rattle.placement_programme.specs.Plain.{PlainSide}
 use Rattle.placement_programme.specs.Programme.{gain_at}
-use Rattle.certificate_checker.specs.Marks.{Mark, zeroed, one, free, mark}
 use Rattle.branch_bound.specs.Greatest.{IsGreatestOf}
 use Rattle.certificate_checker.specs.Rules.{OverHolds, LeafHolds, DualHolds}
+use Rattle.certificate_checker.specs.Fixings.{fixing_of}
+use Rattle.certificate_checker.specs.declared.fixings.Fixing.{Fixing}
+use Rattle.certificate_checker.specs.declared.fixings.Fixing.TheVariants.{Zero, One, Free}
 
 -- a number where its variable is fixed to one
-abbrev pub number_if : Mark → ℕ → List ℕ
-number_if zeroed n = []
-number_if one n = n ∷ []
-number_if free n = []
+abbrev pub number_if : Fixing → ℕ → List ℕ
+number_if Zero n = []
+number_if One n = n ∷ []
+number_if Free n = []
 
 -- the numbers below n whose variables are fixed to one, ascending
-abbrev pub ones_below : ℕ → List ℕ → List ℕ
+abbrev pub ones_below : ℕ → List Fixing → List ℕ
 ones_below zero marks = []
-ones_below (suc n) marks = ones_below n marks ++ number_if (mark marks n) n
+ones_below (suc n) marks = ones_below n marks ++ number_if (fixing_of marks n) n
 
 -- what an assignment takes
-abbrev pub taken : PlainSide → List ℕ → List ℕ
+abbrev pub taken : PlainSide → List Fixing → List ℕ
 taken s marks = ones_below (length s.vars) marks
 
 -- all variables are fixed
-abbrev pub IsFull : PlainSide → List ℕ → Type 0
-IsFull s marks = (j : ℕ) → j < length s.vars → mark marks j ≡ free → ⊥
+abbrev pub IsFull : PlainSide → List Fixing → Type 0
+IsFull s marks = (j : ℕ) → j < length s.vars → fixing_of marks j ≡ Free → ⊥
 
 -- an assignment fails every leaf rule: it exceeds no row, it isn't full with gains of at most `best`, and the dual rule
 -- with scale 1 and no multipliers doesn't bound it
-pub record FailsEveryLeafRule (s : PlainSide) (best : ℕ) (marks : List ℕ) : Type 0 where
+pub record FailsEveryLeafRule (s : PlainSide) (best : ℕ) (marks : List Fixing) : Type 0 where
   pub within : (row : ℕ) → OverHolds s marks row → ⊥
   pub open_or_better : LeafHolds s best marks → ⊥
   pub unbounded : DualHolds s best marks 1 [] → ⊥
 
 -- the free variable of greatest gain, the lowest number on a tie
-abbrev pub IsGreatestFree : PlainSide → List ℕ → ℕ → Type 0
-IsGreatestFree s marks j = IsGreatestOf (λ k. mark marks k ≡ free) (gain_at s.vars) (length s.vars) j
+abbrev pub IsGreatestFree : PlainSide → List Fixing → ℕ → Type 0
+IsGreatestFree s marks j = IsGreatestOf (λ k. fixing_of marks k ≡ Free) (gain_at s.vars) (length s.vars) j

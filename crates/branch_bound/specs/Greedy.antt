@@ -6,6 +6,8 @@ use Rattle.placement_programme.specs.Programme.{gain_at, taken_gains, Fits, noth
 use Rattle.certificate_checker.specs.Shows.{all_free}
 use Rattle.branch_bound.specs.Assignments.{taken}
 use Rattle.branch_bound.specs.Greatest.{IsGreatestOf}
+use Rattle.certificate_checker.specs.declared.fixings.Fixing.{Fixing}
+use Rattle.certificate_checker.specs.declared.fixings.Fixing.TheVariants.{One}
 
 -- a variable is feasible alone
 abbrev pub FitsAlone : PlainSide → ℕ → Type 0
@@ -16,20 +18,20 @@ abbrev pub IsBestAlone : PlainSide → ℕ → Type 0
 IsBestAlone s j = IsGreatestOf (FitsAlone s) (gain_at s.vars) (length s.vars) j
 
 -- a variable is taken too where the choice stays feasible
-abbrev pub Tries : PlainSide → List ℕ → ℕ → List ℕ → Type 0
+abbrev pub Tries : PlainSide → List Fixing → ℕ → List Fixing → Type 0
 Tries s before k after =
-    (Fits s (taken s (slice_set before k 1)) × (after ≡ slice_set before k 1))
-    ⊎ ((Fits s (taken s (slice_set before k 1)) → ⊥) × (after ≡ before))
+    (Fits s (taken s (slice_set before k One)) × (after ≡ slice_set before k One))
+    ⊎ ((Fits s (taken s (slice_set before k One)) → ⊥) × (after ≡ before))
 
 -- the variables below n were tried in order
-abbrev pub Grows : PlainSide → List ℕ → ℕ → List ℕ → Type 0
+abbrev pub Grows : PlainSide → List Fixing → ℕ → List Fixing → Type 0
 Grows s start zero marks = marks ≡ start
-Grows s start (suc n) marks = (before : List ℕ) × (Grows s start n before × Tries s before n marks)
+Grows s start (suc n) marks = (before : List Fixing) × (Grows s start n before × Tries s before n marks)
 
 -- what is taken where some variable is feasible alone
-pub record GrowsTo (s : PlainSide) (j : ℕ) (marks : List ℕ) : Type 0 where
+pub record GrowsTo (s : PlainSide) (j : ℕ) (marks : List Fixing) : Type 0 where
   pub first : IsBestAlone s j
-  pub others : Grows s (slice_set (all_free s) j 1) (length s.vars) marks
+  pub others : Grows s (slice_set (all_free s) j One) (length s.vars) marks
 
 abbrev pub NothingFitsAlone : PlainSide → Type 0
 NothingFitsAlone s = (j : ℕ) → j < length s.vars → FitsAlone s j → ⊥
@@ -38,10 +40,10 @@ NothingFitsAlone s = (j : ℕ) → j < length s.vars → FitsAlone s j → ⊥
 abbrev pub IsGreedy : PlainSide → Option (List ℕ) → Type 0
 IsGreedy s None =
     NothingFitsAlone s
-    ⊎ ((j : ℕ) × ((marks : List ℕ) × (GrowsTo s j marks × (taken_gains s (taken s marks) < s.fixed))))
+    ⊎ ((j : ℕ) × ((marks : List Fixing) × (GrowsTo s j marks × (taken_gains s (taken s marks) < s.fixed))))
 IsGreedy s (Some take) =
     (j : ℕ)
-    × ((marks : List ℕ)
+    × ((marks : List Fixing)
     × (GrowsTo s j marks × (s.fixed ≤ taken_gains s (taken s marks)) × (take ≡ taken s marks)))
 
 -- the choice itself

@@ -1,4 +1,4 @@
-pub use Rattle.certificate_checker.specs.Marks
+pub use Rattle.certificate_checker.specs.Fixings
 pub use Rattle.certificate_checker.specs.Rules
 pub use Rattle.certificate_checker.specs.Shows
 pub use Rattle.certificate_checker.specs.Spelling

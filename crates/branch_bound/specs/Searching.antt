@@ -14,26 +14,27 @@ use Rattle.branch_bound.specs.Entries.{StatedFrom, Each, takes_on}
 use Rattle.branch_bound.specs.declared.incumbents.Incumbent.{Incumbent}
 use Rattle.branch_bound.specs.declared.visiting.Visit.{Visit}
 use Rattle.branch_bound.specs.declared.visiting.Visit.TheVariants.{Closed, Open}
+use Rattle.certificate_checker.specs.declared.fixings.Fixing.{Fixing}
 
 -- where what an assignment takes fits, it gains at most `best`, the fixed cost taken off
-abbrev pub EntryBelow : PlainSide → ℕ → List ℕ → Type 0
+abbrev pub EntryBelow : PlainSide → ℕ → List Fixing → Type 0
 EntryBelow s best marks = Fits s (taken s marks) → taken_gains s (taken s marks) ≤ best + s.fixed
 
 -- a finished subtree is closed by its tree, and had no more nodes than its stated list has entries; where the budget of
 -- `left` nodes ends within it, none of so many entries of its list gains more than `best`, and there are more of them
-abbrev pub Tells : PlainSide → ℕ → List ℕ → ℕ → ℕ → ℕ → Option Tree → Type 0
+abbrev pub Tells : PlainSide → ℕ → List Fixing → ℕ → ℕ → ℕ → Option Tree → Type 0
 Tells s start marks best left after (Some tree) =
     Holds s best marks (plain_tree tree)
-    × ((entries : List (List ℕ)) → StatedFrom s start marks entries → left ≤ after + length entries)
+    × ((entries : List (List Fixing)) → StatedFrom s start marks entries → left ≤ after + length entries)
 Tells s start marks best left after None =
-    (entries : List (List ℕ)) → StatedFrom s start marks entries → Each (EntryBelow s best) (take left entries) × (left < length entries)
+    (entries : List (List Fixing)) → StatedFrom s start marks entries → Each (EntryBelow s best) (take left entries) × (left < length entries)
 
 -- a tree of one node closes an assignment
-abbrev pub Closes : PlainSide → ℕ → List ℕ → Tree → Type 0
+abbrev pub Closes : PlainSide → ℕ → List Fixing → Tree → Type 0
 Closes s best marks tree = Holds s best marks (plain_tree tree) × IsTreeInRange 1 (plain_tree tree)
 
 -- a node is closed by a tree of one node, or fails every leaf rule and branches on a variable
-abbrev pub Visits : PlainSide → ℕ → List ℕ → Visit → Type 0
+abbrev pub Visits : PlainSide → ℕ → List Fixing → Visit → Type 0
 Visits s best marks (Closed tree) = Closes s best marks tree
 Visits s best marks (Open j) = FailsEveryLeafRule s best marks × IsGreatestFree s marks j
 

@@ -14,6 +14,7 @@ use Rattle.branch_bound.specs.Searching.{Tells, HasLevels}
 use Rattle.branch_bound.specs.declared.outcomes.Trees.{Trees}
 use Rattle.branch_bound.specs.declared.outcomes.Status.{Status}
 use Rattle.branch_bound.specs.declared.outcomes.Status.TheVariants.{Optimal, BestFound}
+use Rattle.certificate_checker.specs.declared.fixings.Fixing.{Fixing}
 
 -- what the search of a side tells; a side that isn't there has no tree
 abbrev pub TellsOn : Option PlainSide → ℕ → ℕ → ℕ → ℕ → Option Tree → Type 0
@@ -60,7 +61,7 @@ ReachesFirst p n c =
     (best : ℕ)
     × ((start : ℕ)
     × ((gain p c ≡ pos best) × IsStart p start
-    × ((off on : List (List ℕ)) → IsStated p start off on → Reaches p n best start off on)))
+    × ((off on : List (List Fixing)) → IsStated p start off on → Reaches p n best start off on)))
 
 -- the stated list has more than n entries, and the first entry of some side still fails every leaf rule with the choice's
 -- gain as best
@@ -69,7 +70,7 @@ EndsWithin p n c =
     (best : ℕ)
     × ((start : ℕ)
     × ((gain p c ≡ pos best) × IsStart p start
-    × ((off on : List (List ℕ)) → IsStated p start off on → n < length off + length on) × FailsSome p best))
+    × ((off on : List (List Fixing)) → IsStated p start off on → n < length off + length on) × FailsSome p best))
 
 -- what a status says of a certificate
 abbrev pub Certifies : PlainProgramme → ℕ → PlainCertificate → Status → Type 0

@@ -7,9 +7,8 @@ ghost use Rattle.branch_bound.specs.Searching.{Closes, HasLevels};
 ghost use Rattle.branch_bound.specs.Solving.{ClosesSide, ClosesOn, LacksTree, AreTreesOf, FailsSome};
 
 use crate::closing::plain_dual;
-use crate::ones::free_marks;
 use crate::outcomes::Trees;
-use certificate_checker::Tree;
+use certificate_checker::{Tree, free_marks};
 use placement_programme::{Programme, Side};
 use std::alloc::{AllocError, Global};
 

@@ -12,6 +12,7 @@ use crate::greedy::grow;
 use crate::incumbents::Incumbent;
 use crate::ones::{ones_gain, ones_of};
 use crate::starting::empty_incumbent;
+use certificate_checker::Fixing;
 use placement_programme::{Choice, Programme, Side};
 use std::alloc::{AllocError, Global};
 
@@ -29,7 +30,7 @@ fn side_of(p: &Programme, on: bool) -> Option<&Side>
 }
 
 /// Marks with each variable taken besides, in order, where the choice stays feasible.
-fn grown_marks(alloc: Global, side: &Side, marks: Vec<u8>) -> Result<Vec<u8>, AllocError>
+fn grown_marks(alloc: Global, side: &Side, marks: Vec<Fixing>) -> Result<Vec<Fixing>, AllocError>
     requires { length (plain_side side.now).vars ≤ length marks.items }
     ensures { IfOk result (λ grown. Grows (plain_side side.now) marks.items (length (plain_side side.now).vars) grown.items) }
 {

@@ -1,7 +1,8 @@
 ghost use Rattle.std.specs.Prelude.{◌≡◌, ℕ, pos, ◌<◌, ◌≤◌, ◌≤ℤ◌, ◌↔◌, IsTrue, false, List, Option, map, length, option_map, slice_set, MatchOption, IfSome, IfOk, OnOk};
 ghost use Rattle.placement_programme.specs.Programme.{gain_at, taken_gains, Fits, IsFeasible, gain};
 ghost use Rattle.placement_programme.specs.Views.{plain_side, plain_programme, plain_choice};
-ghost use Rattle.certificate_checker.specs.Marks.{mark, free};
+ghost use Rattle.certificate_checker.specs.Fixings.{fixing_of};
+ghost use Rattle.certificate_checker.specs.declared.fixings.Fixing.TheVariants.{Free};
 ghost use Rattle.certificate_checker.specs.Shows.{all_free};
 ghost use Rattle.branch_bound.specs.Assignments.{taken};
 ghost use Rattle.branch_bound.specs.Greatest.{Greatest, GainsMore};
@@ -9,8 +10,8 @@ ghost use Rattle.branch_bound.specs.Greedy.{FitsAlone, IsBestAlone, NothingFitsA
 ghost use Rattle.branch_bound.specs.Growing.{CannotGrow};
 
 use crate::loads::exceeded;
-use crate::ones::{free_marks, ones_gain, ones_of};
-use certificate_checker::{gain_of_var, var_count};
+use crate::ones::{ones_gain, ones_of};
+use certificate_checker::{Fixing, fixing_of, free_marks, gain_of_var, is_free, var_count};
 use placement_programme::{Choice, Programme, Side, fits};
 use std::alloc::{AllocError, Global};
 
@@ -49,19 +50,19 @@ fn best_alone(side: &Side) -> Option<u32>
 }
 
 /// Whether a variable is free and gains more than the best so far.
-fn is_better_free(side: &Side, marks: &[u8], best: Option<u32>, number: usize) -> bool
+fn is_better_free(side: &Side, marks: &[Fixing], best: Option<u32>, number: usize) -> bool
     requires number { number < length (plain_side side.now).vars }
     requires marked { number < length marks.now }
     requires best { IfSome best (λ k. k < number) }
-    ensures { IsTrue result ↔ ((mark marks.now number ≡ free) × GainsMore (gain_at (plain_side side.now).vars) best number) }
+    ensures { IsTrue result ↔ ((fixing_of marks.now number ≡ Free) × GainsMore (gain_at (plain_side side.now).vars) best number) }
 {
-    marks[number] > 1 && gains_more(side, best, number)
+    is_free(marks, number) && gains_more(side, best, number)
 }
 
 /// The free variable of greatest gain, the lowest number on a tie.
-pub(crate) fn greatest_free(side: &Side, marks: &[u8]) -> Option<u32>
+pub(crate) fn greatest_free(side: &Side, marks: &[Fixing]) -> Option<u32>
     requires { length (plain_side side.now).vars ≤ length marks.now }
-    ensures { Greatest (λ k. mark marks.now k ≡ free) (gain_at (plain_side side.now).vars) (length (plain_side side.now).vars) result }
+    ensures { Greatest (λ k. fixing_of marks.now k ≡ Free) (gain_at (plain_side side.now).vars) (length (plain_side side.now).vars) result }
 {
     let mut best = None;
     for number in 0..var_count(side) {
@@ -73,13 +74,18 @@ pub(crate) fn greatest_free(side: &Side, marks: &[u8]) -> Option<u32>
 }
 
 /// Takes a variable too where the choice stays feasible.
-fn try_one(alloc: Global, side: &Side, marks: &mut [u8], number: usize) -> Result<(), AllocError>
+fn try_one(
+    alloc: Global,
+    side: &Side,
+    marks: &mut [Fixing],
+    number: usize,
+) -> Result<(), AllocError>
     requires number { number < length (plain_side side.now).vars }
     requires marked { length (plain_side side.now).vars ≤ length marks.old }
     ensures { OnOk result (Tries (plain_side side.now) marks.old number marks.new) }
 {
-    let old = marks[number];
-    marks[number] = 1;
+    let old = fixing_of(marks, number);
+    marks[number] = Fixing::One;
     match exceeded(alloc, side, marks)? {
         None => Ok(()),
         Some(_) => {
@@ -90,7 +96,7 @@ fn try_one(alloc: Global, side: &Side, marks: &mut [u8], number: usize) -> Resul
 }
 
 /// Takes each variable in order where the choice stays feasible.
-pub(crate) fn grow(alloc: Global, side: &Side, marks: &mut [u8]) -> Result<(), AllocError>
+pub(crate) fn grow(alloc: Global, side: &Side, marks: &mut [Fixing]) -> Result<(), AllocError>
     requires { length (plain_side side.now).vars ≤ length marks.old }
     ensures { OnOk result (Grows (plain_side side.now) marks.old (length (plain_side side.now).vars) marks.new) }
 {
@@ -101,20 +107,25 @@ pub(crate) fn grow(alloc: Global, side: &Side, marks: &mut [u8]) -> Result<(), A
 }
 
 /// Takes a variable, and each other in order where the choice stays feasible; whether that gains at least the fixed cost.
-fn grow_from(alloc: Global, side: &Side, marks: &mut [u8], first: u32) -> Result<bool, AllocError>
+fn grow_from(
+    alloc: Global,
+    side: &Side,
+    marks: &mut [Fixing],
+    first: u32,
+) -> Result<bool, AllocError>
     requires first { IsBestAlone (plain_side side.now) first }
     requires free { marks.old ≡ all_free (plain_side side.now) }
     ensures grows { OnOk result (GrowsTo (plain_side side.now) first marks.new) }
     ensures fits { OnOk result (Fits (plain_side side.now) (taken (plain_side side.now) marks.new)) }
     ensures gains { IfOk result (λ pays. IsTrue pays ↔ ((plain_side side.now).fixed ≤ taken_gains (plain_side side.now) (taken (plain_side side.now) marks.new))) }
 {
-    marks[first as usize] = 1;
+    marks[first as usize] = Fixing::One;
     grow(alloc, side, marks)?;
     Ok(side.fixed <= ones_gain(side, marks))
 }
 
 /// The greedy choice of a side, as marks; None where it is the empty choice.
-pub(crate) fn greedy(alloc: Global, side: &Side) -> Result<Option<Vec<u8>>, AllocError>
+pub(crate) fn greedy(alloc: Global, side: &Side) -> Result<Option<Vec<Fixing>>, AllocError>
     ensures greedy { IfOk result (λ marks. IsGreedy (plain_side side.now) (option_map (λ m. taken (plain_side side.now) m.items) marks)) }
     ensures fits { IfOk result (λ marks. IfSome marks (λ m. Fits (plain_side side.now) (taken (plain_side side.now) m.items))) }
     ensures marked { IfOk result (λ marks. IfSome marks (λ m. length m.items ≡ length (plain_side side.now).vars)) }

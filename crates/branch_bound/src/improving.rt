@@ -6,6 +6,7 @@ ghost use Rattle.branch_bound.specs.Searching.{KeepsIncumbent};
 
 use crate::incumbents::Incumbent;
 use crate::ones::ones_gain;
+use certificate_checker::Fixing;
 use placement_programme::Side;
 use std::alloc::{AllocError, Global};
 
@@ -14,7 +15,7 @@ pub(crate) fn improve(
     alloc: Global,
     side: &Side,
     on: bool,
-    marks: &[u8],
+    marks: &[Fixing],
     best: &mut Incumbent,
 ) -> Result<(), AllocError>
     requires marked { length (plain_side side.now).vars ≤ length marks.now }

@@ -3,11 +3,11 @@ ghost use Rattle.placement_programme.specs.Bounds.{AreWeights};
 ghost use Rattle.placement_programme.specs.Programme.{weight_in, weight_at, Fits};
 ghost use Rattle.placement_programme.specs.Sums.{sum_below};
 ghost use Rattle.placement_programme.specs.Views.{plain_side};
-ghost use Rattle.certificate_checker.specs.Marks.{mark};
+ghost use Rattle.certificate_checker.specs.Fixings.{fixing_of};
 ghost use Rattle.certificate_checker.specs.Rules.{if_one, OverHolds};
 ghost use Rattle.branch_bound.specs.Assignments.{taken};
 
-use certificate_checker::{var_count, weights_of_var};
+use certificate_checker::{Fixing, is_one, var_count, weights_of_var};
 use placement_programme::Side;
 use std::alloc::{AllocError, Global};
 
@@ -23,14 +23,14 @@ fn add_weights(loads: &mut [u64], weights: &[(u32, u64)])
 }
 
 /// Sets the loads of the rows to what the variables weigh that are fixed to one.
-fn load_ones(side: &Side, marks: &[u8], loads: &mut [u64])
+fn load_ones(side: &Side, marks: &[Fixing], loads: &mut [u64])
     requires marked { length (plain_side side.now).vars ≤ length marks.now }
     requires room { length loads.old ≡ length (plain_side side.now).rows }
-    ensures { (row : ℕ) → slice_index loads.new row ≡ sum_below (length (plain_side side.now).vars) (λ j. if_one (mark marks.now j) (weight_at (plain_side side.now).vars row j)) }
+    ensures { (row : ℕ) → slice_index loads.new row ≡ sum_below (length (plain_side side.now).vars) (λ j. if_one (fixing_of marks.now j) (weight_at (plain_side side.now).vars row j)) }
 {
     loads.fill(0);
     for number in 0..var_count(side) {
-        if marks[number] == 1 {
+        if is_one(marks, number) {
             add_weights(loads, weights_of_var(side, number));
         }
     }
@@ -50,7 +50,7 @@ fn first_exceeded(rows: &[u64], loads: &[u64]) -> Option<u32>
     None
 }
 
-fn exceeded_in(side: &Side, marks: &[u8], loads: &mut [u64]) -> Option<u32>
+fn exceeded_in(side: &Side, marks: &[Fixing], loads: &mut [u64]) -> Option<u32>
     requires marked { length (plain_side side.now).vars ≤ length marks.now }
     requires room { length loads.old ≡ length (plain_side side.now).rows }
     ensures { MatchOption result (Fits (plain_side side.now) (taken (plain_side side.now) marks.now)) (OverHolds (plain_side side.now) marks.now) }
@@ -60,7 +60,11 @@ fn exceeded_in(side: &Side, marks: &[u8], loads: &mut [u64]) -> Option<u32>
 }
 
 /// A row that the variables exceed that are fixed to one; None where what they take fits.
-pub(crate) fn exceeded(alloc: Global, side: &Side, marks: &[u8]) -> Result<Option<u32>, AllocError>
+pub(crate) fn exceeded(
+    alloc: Global,
+    side: &Side,
+    marks: &[Fixing],
+) -> Result<Option<u32>, AllocError>
     requires { length (plain_side side.now).vars ≤ length marks.now }
     ensures { IfOk result (λ row. MatchOption row (Fits (plain_side side.now) (taken (plain_side side.now) marks.now)) (OverHolds (plain_side side.now) marks.now)) }
 {

@@ -1,9 +1,8 @@
-ghost use Rattle.std.specs.Prelude.{◌≡◌, ℕ, suc, ◌+◌, ◌^◌, ◌<◌, ◌≤◌, nat_le, length, Option, Some, None, IfOk, OnOk};
+ghost use Rattle.std.specs.Prelude.{◌≡◌, ℕ, suc, ◌+◌, ◌^◌, ◌<◌, ◌≤◌, length, Option, Some, None, IfOk, OnOk};
 ghost use Rattle.std.specs.List.{count_by};
 ghost use Rattle.placement_programme.specs.Programme.{Fits};
 ghost use Rattle.placement_programme.specs.Views.{plain_side};
-ghost use Rattle.certificate_checker.specs.Nodes.{branch};
-ghost use Rattle.certificate_checker.specs.Views.{plain_tree};
+ghost use Rattle.certificate_checker.specs.Fixings.{is_free};
 ghost use Rattle.branch_bound.specs.Assignments.{taken, IsGreatestFree};
 ghost use Rattle.branch_bound.specs.Searching.{EntryBelow, Tells, Visits, HasLevels, KeepsIncumbent};
 
@@ -13,12 +12,12 @@ use crate::improving::improve;
 use crate::loads::exceeded;
 use crate::running::Running;
 use crate::visiting::Visit;
-use certificate_checker::Tree;
+use certificate_checker::{Fixing, Tree, branch_on, fixing_of};
 use placement_programme::Side;
 use std::alloc::{AllocError, Global};
 
 /// Closes a node by the dual rule without multipliers, or branches on its free variable of greatest gain.
-fn close_or_open(alloc: Global, side: &Side, marks: &[u8], number: u32, best: u128) -> Visit
+fn close_or_open(alloc: Global, side: &Side, marks: &[Fixing], number: u32, best: u128) -> Visit
     requires marked { length (plain_side side.now).vars ≤ length marks.now }
     requires fits { Fits (plain_side side.now) (taken (plain_side side.now) marks.now) }
     requires greatest { IsGreatestFree (plain_side side.now) marks.now number }
@@ -36,7 +35,7 @@ fn visit_fitting(
     alloc: Global,
     side: &Side,
     on: bool,
-    marks: &[u8],
+    marks: &[Fixing],
     run: &mut Running,
 ) -> Result<Visit, AllocError>
     requires marked { length (plain_side side.now).vars ≤ length marks.now }
@@ -64,7 +63,7 @@ fn visit(
     alloc: Global,
     side: &Side,
     on: bool,
-    marks: &[u8],
+    marks: &[Fixing],
     run: &mut Running,
 ) -> Result<Visit, AllocError>
     requires marked { length (plain_side side.now).vars ≤ length marks.now }
@@ -82,22 +81,13 @@ fn visit(
     }
 }
 
-/// A branch on a variable, with the trees of its two children.
-fn branch_on(alloc: Global, var: u32, zero: Tree, one: Tree) -> Result<Tree, AllocError>
-    ensures { IfOk result (λ tree. plain_tree tree ≡ branch var (plain_tree zero) (plain_tree one)) }
-{
-    let zero = Box::new(alloc, zero)?;
-    let one = Box::new(alloc, one)?;
-    Ok(Tree::Branch { var, zero, one })
-}
-
-/// Searches below some marks, depth first and one before zero, for what gains more than the incumbent; None where the
+/// Searches below some fixings, depth first and one before zero, for what gains more than the incumbent; None where the
 /// budget ends before everything is closed. The depth is at most the number of free variables.
 pub(crate) fn search(
     alloc: Global,
     side: &Side,
     on: bool,
-    marks: &mut [u8],
+    marks: &mut [Fixing],
     run: &mut Running,
 ) -> Result<Option<Tree>, AllocError>
     requires marked { length (plain_side side.now).vars ≤ length marks.old }
@@ -106,7 +96,7 @@ pub(crate) fn search(
     ensures grows { OnOk result (run.old.best.gain ≤ run.new.best.gain) }
     ensures small { run.new.best.gain ≤ 2 ^ 104 }
     ensures keeps { OnOk result (KeepsIncumbent on (plain_side side.now) run.old.best run.new.best) }
-    ensures levels { IfOk result (HasLevels (suc (count_by (nat_le 2) marks.old))) }
+    ensures levels { IfOk result (HasLevels (suc (count_by is_free marks.old))) }
     ensures tells { IfOk result (λ tree. (start : ℕ) → start ≤ run.old.best.gain → Tells (plain_side side.now) start marks.old run.new.best.gain run.old.left run.new.left tree) }
 {
     if run.left == 0 {
@@ -118,8 +108,8 @@ pub(crate) fn search(
         Visit::Open(number) => number,
     };
     let place = number as usize;
-    let old = marks[place];
-    marks[place] = 1;
+    let old = fixing_of(marks, place);
+    marks[place] = Fixing::One;
     let one = match search(alloc, side, on, marks, run)? {
         None => {
             marks[place] = old;
@@ -127,7 +117,7 @@ pub(crate) fn search(
         }
         Some(tree) => tree,
     };
-    marks[place] = 0;
+    marks[place] = Fixing::Zero;
     let zero = match search(alloc, side, on, marks, run)? {
         None => {
             marks[place] = old;

@@ -14,12 +14,11 @@ ghost use Rattle.branch_bound.specs.Solving.{TellsOn, ReachesFirst, EndsWithin, 
 use crate::certifying::trees_of;
 use crate::finishing::{choice_from, finish};
 use crate::incumbents::Incumbent;
-use crate::ones::free_marks;
 use crate::outcomes::{Found, Outcome, Status, Trees};
 use crate::running::Running;
 use crate::searching::search;
 use crate::starting::begin;
-use certificate_checker::Certificate;
+use certificate_checker::{Certificate, free_marks};
 use placement_programme::{Choice, Programme, Side};
 use side_search::certify;
 use std::alloc::{AllocError, Global};

@@ -7,7 +7,7 @@ ghost use Rattle.branch_bound.specs.Searching.{IsIncumbent, KeepsIncumbent, choi
 use crate::greedy::greedy;
 use crate::improving::improve;
 use crate::incumbents::Incumbent;
-use crate::ones::free_marks;
+use certificate_checker::free_marks;
 use placement_programme::{Programme, Side};
 use std::alloc::{AllocError, Global};
 

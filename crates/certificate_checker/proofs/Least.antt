@@ -8,15 +8,16 @@ use Rattle.placement_programme.specs.Programme.{gain_at, weight_at, Fits, IsFeas
 use Rattle.placement_programme.specs.Sums.{takes}
 use Rattle.placement_programme.proofs.TakeLemmas.{take_sum}
 use Rattle.certificate_checker.specs.Nodes.{PlainTree}
-use Rattle.certificate_checker.specs.Marks.{free, mark, mark_of}
 use Rattle.certificate_checker.specs.Rules.{Holds}
 use Rattle.certificate_checker.specs.Shows.{all_free, ShownBy}
 use Rattle.certificate_checker.specs.Laws.{ShownIsLeast}
+use Rattle.certificate_checker.specs.Fixings.{fixing_of}
+use Rattle.certificate_checker.specs.declared.fixings.Fixing.TheVariants.{Zero, Free}
 use Rattle.certificate_checker.proofs.Duality.{AgreesAt, Agrees, FitsRows}
 use Rattle.certificate_checker.proofs.TreeBounds.{tree_bounds}
 
-pub free_at : (s : PlainSide) (j : ℕ) → j < length s.vars → mark (all_free s) j ≡ free
-free_at s j inside = subst (λ n. mark_of n ≡ free) (sym (get_or-replicate (length s.vars) j 2 0 inside)) refl
+pub free_at : (s : PlainSide) (j : ℕ) → j < length s.vars → fixing_of (all_free s) j ≡ Free
+free_at s j inside = get_or-replicate (length s.vars) j Free Zero inside
 
 pub free_agrees : (s : PlainSide) (x : ℕ → Bool) → Agrees s (all_free s) x
 free_agrees s x j inside = subst (λ m. AgreesAt m (x j)) (sym (free_at s j inside)) tt

@@ -11,9 +11,11 @@ use Rattle.placement_programme.specs.Sums.{sum_below}
 use Rattle.placement_programme.proofs.AscendLemmas.{count_within}
 use Rattle.placement_programme.proofs.SumLemmas.{below_grows, gains_below}
 use Rattle.placement_programme.proofs.TakeLemmas.{below_at_most}
-use Rattle.certificate_checker.specs.Marks.{Mark, zeroed, one, free, mark}
 use Rattle.certificate_checker.specs.Rules.{kept, if_one}
 use Rattle.certificate_checker.specs.Parts.{kept_part}
+use Rattle.certificate_checker.specs.Fixings.{fixing_of}
+use Rattle.certificate_checker.specs.declared.fixings.Fixing.{Fixing}
+use Rattle.certificate_checker.specs.declared.fixings.Fixing.TheVariants.{Zero, One, Free}
 use Rattle.certificate_checker.proofs.Selections.{below_scaled}
 
 -- ascending rows are no more than the rows
@@ -31,15 +33,15 @@ gain_small (v ∷ vs) (suc k) inside =
     let rest = gain_small vs k (omega arith) in
     omega (arith, first, rest)
 
-pub kept_at_most : (m : Mark) (gain price : ℕ) → kept m gain price ≤ gain
-kept_at_most zeroed gain price = omega arith
-kept_at_most one gain price = omega arith
-kept_at_most free gain price = omega arith
+pub kept_at_most : (m : Fixing) (gain price : ℕ) → kept m gain price ≤ gain
+kept_at_most Zero gain price = omega arith
+kept_at_most One gain price = omega arith
+kept_at_most Free gain price = omega arith
 
-pub one_at_most : (m : Mark) (n : ℕ) → if_one m n ≤ n
-one_at_most zeroed n = omega arith
-one_at_most one n = omega arith
-one_at_most free n = omega arith
+pub one_at_most : (m : Fixing) (n : ℕ) → if_one m n ≤ n
+one_at_most Zero n = omega arith
+one_at_most One n = omega arith
+one_at_most Free n = omega arith
 
 -- the gains of the variables below a number are no more than all gains
 pub gains_so_far : (vs : List PlainVar) (n : ℕ) → n ≤ length vs → sum_below n (gain_at vs) ≤ sum_by (λ v. v.gain) vs
@@ -51,9 +53,9 @@ gains_so_far vs n inside =
 pub product_small : (a b c d : ℕ) → a ≤ c → b ≤ d → a * b ≤ c * d
 product_small a b c d first second = mul-le-mul first second
 
-pub left_small : (s : PlainSide) (marks : List ℕ) (scale : ℕ) (f : ℕ → ℕ) (n : ℕ) → IsWithinBounds s → scale ≤ 65536 → n < length s.vars → sum_below n (kept_part s marks scale f) + kept_part s marks scale f n ≤ 65536 * 2 ^ 104
+pub left_small : (s : PlainSide) (marks : List Fixing) (scale : ℕ) (f : ℕ → ℕ) (n : ℕ) → IsWithinBounds s → scale ≤ 65536 → n < length s.vars → sum_below n (kept_part s marks scale f) + kept_part s marks scale f n ≤ 65536 * 2 ^ 104
 left_small s marks scale f n bounds few inside =
-    let less = below_at_most (kept_part s marks scale f) (λ j. scale * gain_at s.vars j) (suc n) (λ j below. kept_at_most (mark marks j) (scale * gain_at s.vars j) _) in
+    let less = below_at_most (kept_part s marks scale f) (λ j. scale * gain_at s.vars j) (suc n) (λ j below. kept_at_most (fixing_of marks j) (scale * gain_at s.vars j) _) in
     let out = below_scaled scale (gain_at s.vars) (suc n) in
     let gains = gains_so_far s.vars (suc n) (omega arith) in
     let total = bounds.gains in
@@ -61,8 +63,8 @@ left_small s marks scale f n bounds few inside =
     product_small scale (sum_below (suc n) (gain_at s.vars)) 65536 (2 ^ 104) few (omega (arith, gains, total)) in
     omega (arith, less, out, most)
 
-pub ones_small : (vs : List PlainVar) (marks : List ℕ) (n : ℕ) → n < length vs → sum_below n (λ j. if_one (mark marks j) (gain_at vs j)) + gain_at vs n ≤ sum_by (λ v. v.gain) vs
+pub ones_small : (vs : List PlainVar) (marks : List Fixing) (n : ℕ) → n < length vs → sum_below n (λ j. if_one (fixing_of marks j) (gain_at vs j)) + gain_at vs n ≤ sum_by (λ v. v.gain) vs
 ones_small vs marks n inside =
-    let less = below_at_most (λ j. if_one (mark marks j) (gain_at vs j)) (gain_at vs) n (λ j below. one_at_most (mark marks j) (gain_at vs j)) in
+    let less = below_at_most (λ j. if_one (fixing_of marks j) (gain_at vs j)) (gain_at vs) n (λ j below. one_at_most (fixing_of marks j) (gain_at vs j)) in
     let gains = gains_so_far vs (suc n) (omega arith) in
     omega (arith, less, gains)

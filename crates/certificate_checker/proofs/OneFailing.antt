@@ -5,8 +5,10 @@ use Rattle.certificate_checker.specs.Nodes.{PlainTree, branch, over, dual, leaf,
 use Rattle.certificate_checker.specs.Rules.{Holds, FirstWrong}
 use Rattle.certificate_checker.specs.Shows.{all_free, IsAccepted, ShownBy, SideWrong, TreeWrong, in_32_bits, optimal, best_found, bad_choice, wrong}
 use Rattle.certificate_checker.specs.Laws.{OneAnswer}
+use Rattle.certificate_checker.specs.declared.fixings.Fixing.{Fixing}
+use Rattle.certificate_checker.specs.declared.fixings.Fixing.TheVariants.{Zero, One}
 
-pub not_both : (s : PlainSide) (best : ℕ) (marks : List ℕ) (t : PlainTree) (n d : ℕ) → Holds s best marks t → FirstWrong s best marks t n d → ⊥
+pub not_both : (s : PlainSide) (best : ℕ) (marks : List Fixing) (t : PlainTree) (n d : ℕ) → Holds s best marks t → FirstWrong s best marks t n d → ⊥
 not_both s best marks (over row) n d holds fails = fails.0 holds
 not_both s best marks (dual scale ms) n d holds fails = fails.0 holds
 not_both s best marks leaf n d holds fails = fails.0 holds
@@ -15,15 +17,15 @@ not_both s best marks (branch j l r) n d holds fails =
       | inl here ↦ here.0 holds.0
       | inr below ↦
           elim below [
-            | inl zero ↦ not_both s best (slice_set marks j 0) l zero.1.0 zero.1.1.0 holds.1 zero.1.1.1.0
-            | inr one ↦ not_both s best (slice_set marks j 1) r one.2.0 one.2.1.0 holds.2 one.2.1.1.0
+            | inl zero ↦ not_both s best (slice_set marks j Zero) l zero.1.0 zero.1.1.0 holds.1 zero.1.1.1.0
+            | inr one ↦ not_both s best (slice_set marks j One) r one.2.0 one.2.1.0 holds.2 one.2.1.1.0
           ]
     ]
 
 abbrev pub Same : ℕ → ℕ → ℕ → ℕ → Type 0
 Same n d m e = (n ≡ m) × (d ≡ e)
 
-pub first_same : (s : PlainSide) (best : ℕ) (marks : List ℕ) (t : PlainTree) (n d m e : ℕ) → FirstWrong s best marks t n d → FirstWrong s best marks t m e → Same n d m e
+pub first_same : (s : PlainSide) (best : ℕ) (marks : List Fixing) (t : PlainTree) (n d m e : ℕ) → FirstWrong s best marks t n d → FirstWrong s best marks t m e → Same n d m e
 first_same s best marks (over row) n d m e one other = (omega (arith, one.1, other.1), omega (arith, one.2, other.2))
 first_same s best marks (dual scale ms) n d m e one other = (omega (arith, one.1, other.1), omega (arith, one.2, other.2))
 first_same s best marks leaf n d m e one other = (omega (arith, one.1, other.1), omega (arith, one.2, other.2))
@@ -42,11 +44,11 @@ first_same s best marks (branch j l r) n d m e one other =
                   | inr under ↦
                       elim under [
                         | inl again ↦
-                            let same = first_same s best (slice_set marks j 0) l zero.1.0 zero.1.1.0 again.1.0 again.1.1.0 zero.1.1.1.0 again.1.1.1.0 in
+                            let same = first_same s best (slice_set marks j Zero) l zero.1.0 zero.1.1.0 again.1.0 again.1.1.0 zero.1.1.1.0 again.1.1.1.0 in
                             let a = zero.1.1.1 in
                             let b = again.1.1.1 in
                             (omega (arith, same.0, a.1, b.1), omega (arith, same.1, a.2, b.2))
-                        | inr second ↦ absurd (not_both s best (slice_set marks j 0) l zero.1.0 zero.1.1.0 second.1 zero.1.1.1.0)
+                        | inr second ↦ absurd (not_both s best (slice_set marks j Zero) l zero.1.0 zero.1.1.0 second.1 zero.1.1.1.0)
                       ]
                 ]
             | inr second ↦
@@ -54,9 +56,9 @@ first_same s best marks (branch j l r) n d m e one other =
                   | inl there ↦ absurd (there.0 second.0)
                   | inr under ↦
                       elim under [
-                        | inl again ↦ absurd (not_both s best (slice_set marks j 0) l again.1.0 again.1.1.0 second.1 again.1.1.1.0)
+                        | inl again ↦ absurd (not_both s best (slice_set marks j Zero) l again.1.0 again.1.1.0 second.1 again.1.1.1.0)
                         | inr twice ↦
-                            let same = first_same s best (slice_set marks j 1) r second.2.0 second.2.1.0 twice.2.0 twice.2.1.0 second.2.1.1.0 twice.2.1.1.0 in
+                            let same = first_same s best (slice_set marks j One) r second.2.0 second.2.1.0 twice.2.0 twice.2.1.0 second.2.1.1.0 twice.2.1.1.0 in
                             let a = second.2.1.1 in
                             let b = twice.2.1.1 in
                             (omega (arith, same.0, a.1, b.1), omega (arith, same.1, a.2, b.2))

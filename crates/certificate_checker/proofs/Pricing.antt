@@ -9,10 +9,11 @@ use Rattle.placement_programme.specs.Programme.{gain_at, weight_in, weights_at}
 use Rattle.placement_programme.specs.Sums.{sum_below}
 use Rattle.placement_programme.proofs.TakeLemmas.{below_same, below_none, one_more}
 use Rattle.placement_programme.proofs.WeightLemmas.{weights_are}
-use Rattle.certificate_checker.specs.Marks.{mark}
 use Rattle.certificate_checker.specs.Rules.{price, bound, kept, moved, kept_at, moved_at, DualHolds}
 use Rattle.certificate_checker.specs.Parts.{kept_part, moved_part, SumsHold}
 use Rattle.certificate_checker.specs.Prices.{priced_by}
+use Rattle.certificate_checker.specs.Fixings.{fixing_of}
+use Rattle.certificate_checker.specs.declared.fixings.Fixing.{Fixing}
 
 -- a row before the first named has no value
 pub weight_before : (low high : ℕ) (ws : List (ℕ × ℕ)) (row : ℕ) → RowsWithin low high ws → row < low → weight_in ws row ≡ 0
@@ -62,14 +63,14 @@ price_is s ms j bounds rows inside =
     let weights = weights_are (length s.rows) s.vars j bounds.weights inside in
     price_swap (length s.rows) ms (weights_at s.vars j) rows weights.ascending
 
-pub sums_same : (s : PlainSide) (best : ℕ) (marks : List ℕ) (scale total : ℕ) (ms : List (ℕ × ℕ)) → IsWithinBounds s → RowsWithin 0 (length s.rows) ms → total ≡ bound s ms → SumsHold s best marks scale total (weight_in ms) ↔ (bound s ms + sum_below (length s.vars) (kept_at s marks scale ms) ≤ scale * (best + s.fixed) + sum_below (length s.vars) (moved_at s marks ms))
+pub sums_same : (s : PlainSide) (best : ℕ) (marks : List Fixing) (scale total : ℕ) (ms : List (ℕ × ℕ)) → IsWithinBounds s → RowsWithin 0 (length s.rows) ms → total ≡ bound s ms → SumsHold s best marks scale total (weight_in ms) ↔ (bound s ms + sum_below (length s.vars) (kept_at s marks scale ms) ≤ scale * (best + s.fixed) + sum_below (length s.vars) (moved_at s marks ms))
 sums_same s best marks scale total ms bounds rows is =
-    let left = below_same (kept_part s marks scale (weight_in ms)) (kept_at s marks scale ms) (length s.vars) (λ j inside. ap (λ c. kept (mark marks j) (scale * gain_at s.vars j) c) (price_is s ms j bounds rows inside)) in
-    let right = below_same (moved_part s marks (weight_in ms)) (moved_at s marks ms) (length s.vars) (λ j inside. ap (λ c. moved (mark marks j) c) (price_is s ms j bounds rows inside)) in
+    let left = below_same (kept_part s marks scale (weight_in ms)) (kept_at s marks scale ms) (length s.vars) (λ j inside. ap (λ c. kept (fixing_of marks j) (scale * gain_at s.vars j) c) (price_is s ms j bounds rows inside)) in
+    let right = below_same (moved_part s marks (weight_in ms)) (moved_at s marks ms) (length s.vars) (λ j inside. ap (λ c. moved (fixing_of marks j) c) (price_is s ms j bounds rows inside)) in
     (λ sums. omega (arith, left, right, is, sums), λ sums. omega (arith, left, right, is, sums))
 
 -- a dual node's rule, by its tests
-pub dual_tested : (s : PlainSide) (best : ℕ) (marks : List ℕ) (scale total : ℕ) (ms : List (ℕ × ℕ)) (b : _) → IsWithinBounds s → RowsWithin 0 (length s.rows) ms → 1 ≤ scale → scale ≤ 65536 → total ≡ bound s ms → (IsTrue b ↔ SumsHold s best marks scale total (weight_in ms)) → (IsTrue b ↔ DualHolds s best marks scale ms)
+pub dual_tested : (s : PlainSide) (best : ℕ) (marks : List Fixing) (scale total : ℕ) (ms : List (ℕ × ℕ)) (b : _) → IsWithinBounds s → RowsWithin 0 (length s.rows) ms → 1 ≤ scale → scale ≤ 65536 → total ≡ bound s ms → (IsTrue b ↔ SumsHold s best marks scale total (weight_in ms)) → (IsTrue b ↔ DualHolds s best marks scale ms)
 dual_tested s best marks scale total ms b bounds rows least most is test =
     let same = sums_same s best marks scale total ms bounds rows is in (
       λ found. record { least = least; most = most; rows = rows; sums = same.0 (test.0 found) },

@@ -11,7 +11,6 @@ use Rattle.certificate_checker.specs.declared.fault.CertFault.{CertFault}
 use Rattle.certificate_checker.specs.declared.fields.Part.TheVariants.{Node}
 use Rattle.certificate_checker.specs.declared.walking.Failing.{Failing}
 use Rattle.certificate_checker.specs.Nodes.{PlainTree, branch, over, dual, leaf}
-use Rattle.certificate_checker.specs.Marks.{mark}
 use Rattle.certificate_checker.specs.Rules.{kept, moved, BranchHolds, KeepsRule, DualHolds}
 use Rattle.certificate_checker.specs.Shows.{in_32_bits}
 use Rattle.certificate_checker.specs.Parts.{kept_part, moved_part, SumsHold}
@@ -21,6 +20,9 @@ use Rattle.certificate_checker.specs.declared.fields.Part.{Part}
 use Rattle.certificate_checker.specs.Reading.{number_in, entries_at, over_at, dual_at, tree_at, cut_off, below_all}
 use Rattle.certificate_checker.specs.Walks.{FailsIn, Walks}
 use Rattle.certificate_checker.specs.Loading.{IsLoaded, IsSingle, behind_of, both_of}
+use Rattle.certificate_checker.specs.Fixings.{fixing_of}
+use Rattle.certificate_checker.specs.declared.fixings.Fixing.{Fixing}
+use Rattle.certificate_checker.specs.declared.fixings.Fixing.TheVariants.{Zero, One}
 use Rattle.certificate_checker.proofs.Failures.{zero_fails, one_fails, both_hold, marks_one, marks_back}
 use Rattle.certificate_checker.proofs.FieldLaws.{ranged_take}
 use Rattle.certificate_checker.proofs.Pricing.{dual_tested}
@@ -43,7 +45,7 @@ unfolding tree_at
 branch_read total levels bytes var r0 l r1 r r2 a b c = rw (a, b, c) refl
 
 -- two children's answers make the branch's
-pub joined_walks : (s : PlainSide) (best : ℕ) (marks m1 : List ℕ) (var : ℕ) (l r : PlainTree) (node depth next below : ℕ) (first second : Result ℕ Failing) → BranchHolds s marks var → next ≡ in_32_bits (node + 1) → below ≡ in_32_bits (depth + 1) → Walks s best (slice_set marks var 0) l next below first → OnOk first (m1 ≡ slice_set marks var 0) → Walks s best (slice_set m1 var 1) r (behind_of first) below second → Walks s best marks (branch var l r) node depth (both_of first second)
+pub joined_walks : (s : PlainSide) (best : ℕ) (marks m1 : List Fixing) (var : ℕ) (l r : PlainTree) (node depth next below : ℕ) (first second : Result ℕ Failing) → BranchHolds s marks var → next ≡ in_32_bits (node + 1) → below ≡ in_32_bits (depth + 1) → Walks s best (slice_set marks var Zero) l next below first → OnOk first (m1 ≡ slice_set marks var Zero) → Walks s best (slice_set m1 var One) r (behind_of first) below second → Walks s best marks (branch var l r) node depth (both_of first second)
 joined_walks s best marks m1 var l r node depth next below (Err f) second rule is_next is_below left kept right =
     zero_fails s best marks var l r node depth next below f rule is_next is_below left
 joined_walks s best marks m1 var l r node depth next below (Ok middle) (Ok end) rule is_next is_below left kept right =
@@ -55,13 +57,13 @@ joined_walks s best marks m1 var l r node depth next below (Ok middle) (Err f) r
     one_fails s best marks var l r node depth next below middle f rule left.0 is_next is_below left.1
     (subst (λ m. FailsIn s best m r middle below f) ones right)
 
-pub joined_kept : (marks m1 m2 : List ℕ) (var old : ℕ) (first second : Result ℕ Failing) → OnOk first (m1 ≡ slice_set marks var 0) → OnOk second (m2 ≡ slice_set m1 var 1) → old ≡ get_or marks var 0 → OnOk (both_of first second) (slice_set m2 var old ≡ marks)
+pub joined_kept : (marks m1 m2 : List Fixing) (var : ℕ) (old : Fixing) (first second : Result ℕ Failing) → OnOk first (m1 ≡ slice_set marks var Zero) → OnOk second (m2 ≡ slice_set m1 var One) → old ≡ fixing_of marks var → OnOk (both_of first second) (slice_set m2 var old ≡ marks)
 joined_kept marks m1 m2 var old (Err f) second a b is = tt
 joined_kept marks m1 m2 var old (Ok middle) (Err f) a b is = tt
 joined_kept marks m1 m2 var old (Ok middle) (Ok end) a b is = marks_back marks m1 m2 var old a b is
 
 -- a single node's answer
-pub single_holds : (s : PlainSide) (best : ℕ) (marks : List ℕ) (t : PlainTree) (node depth next : ℕ) → IsSingle t → KeepsRule s best marks t → next ≡ in_32_bits (node + 1) → Walks s best marks t node depth (Ok next)
+pub single_holds : (s : PlainSide) (best : ℕ) (marks : List Fixing) (t : PlainTree) (node depth next : ℕ) → IsSingle t → KeepsRule s best marks t → next ≡ in_32_bits (node + 1) → Walks s best marks t node depth (Ok next)
 single_holds s best marks (branch j l r) node depth next single rule is = absurd single
 single_holds s best marks (over row) node depth next single rule is = (rule, is)
 single_holds s best marks (dual scale ms) node depth next single rule is = (rule, is)
@@ -78,13 +80,13 @@ same_price dense ms low high (w ∷ ws) values rows =
     omega (arith, rest, one, other, here)
 
 -- a dual node's rule, by the dense list and the reach of its rows
-pub dense_tested : (s : PlainSide) (best : ℕ) (marks dense : List ℕ) (scale reach total : ℕ) (ms : List (ℕ × ℕ)) (b : Bool) → IsWithinBounds s → IsLoaded s.rows dense reach total ms → reach ≤ length s.rows → 1 ≤ scale → scale ≤ 65536 → (IsTrue b ↔ SumsHold s best marks scale total (λ row. slice_index dense row)) → (IsTrue b ↔ DualHolds s best marks scale ms)
+pub dense_tested : (s : PlainSide) (best : ℕ) (marks : List Fixing) (dense : List ℕ) (scale reach total : ℕ) (ms : List (ℕ × ℕ)) (b : Bool) → IsWithinBounds s → IsLoaded s.rows dense reach total ms → reach ≤ length s.rows → 1 ≤ scale → scale ≤ 65536 → (IsTrue b ↔ SumsHold s best marks scale total (λ row. slice_index dense row)) → (IsTrue b ↔ DualHolds s best marks scale ms)
 dense_tested s best marks dense scale reach total ms b bounds loaded within least most test =
     let rows = rows_wide 0 reach (length s.rows) ms within loaded.ascending in
     let price : (j : ℕ) → j < length s.vars → priced_by (λ row. slice_index dense row) (weights_at s.vars j) ≡ priced_by (weight_in ms) (weights_at s.vars j) =
     λ j inside. same_price dense ms 0 (length s.rows) (weights_at s.vars j) loaded.values (weights_are (length s.rows) s.vars j bounds.weights inside).ascending in
-    let left = below_same (kept_part s marks scale (λ row. slice_index dense row)) (kept_part s marks scale (weight_in ms)) (length s.vars) (λ j inside. ap (λ c. kept (mark marks j) (scale * gain_at s.vars j) c) (price j inside)) in
-    let right = below_same (moved_part s marks (λ row. slice_index dense row)) (moved_part s marks (weight_in ms)) (length s.vars) (λ j inside. ap (λ c. moved (mark marks j) c) (price j inside)) in
+    let left = below_same (kept_part s marks scale (λ row. slice_index dense row)) (kept_part s marks scale (weight_in ms)) (length s.vars) (λ j inside. ap (λ c. kept (fixing_of marks j) (scale * gain_at s.vars j) c) (price j inside)) in
+    let right = below_same (moved_part s marks (λ row. slice_index dense row)) (moved_part s marks (weight_in ms)) (length s.vars) (λ j inside. ap (λ c. moved (fixing_of marks j) c) (price j inside)) in
     let forth : SumsHold s best marks scale total (λ row. slice_index dense row) → SumsHold s best marks scale total (weight_in ms) = λ sums. omega (arith, left, right, sums) in
     let back : SumsHold s best marks scale total (weight_in ms) → SumsHold s best marks scale total (λ row. slice_index dense row) = λ sums. omega (arith, left, right, sums) in
     dual_tested s best marks scale total ms b bounds rows least most (loaded.bound within) (λ found. forth (test.0 found), λ sums. test.1 (back sums))
@@ -94,7 +96,7 @@ dense_tested s best marks dense scale reach total ms b bounds loaded within leas
     rows_wide low high wide (k ∷ ms) order rows = (rows.0, omega (arith, order, rows.1), rows_wide (suc (row_of k)) high wide ms order rows.2)
 
 -- where rows reach past those of the side, the rule is broken
-pub reach_breaks : (s : PlainSide) (best : ℕ) (marks dense : List ℕ) (scale reach total : ℕ) (ms : List (ℕ × ℕ)) → IsLoaded s.rows dense reach total ms → length s.rows < reach → DualHolds s best marks scale ms → ⊥
+pub reach_breaks : (s : PlainSide) (best : ℕ) (marks : List Fixing) (dense : List ℕ) (scale reach total : ℕ) (ms : List (ℕ × ℕ)) → IsLoaded s.rows dense reach total ms → length s.rows < reach → DualHolds s best marks scale ms → ⊥
 reach_breaks s best marks dense scale reach total ms loaded past holds =
     let within = loaded.tight (length s.rows) holds.rows in
     omega (arith, within, past)

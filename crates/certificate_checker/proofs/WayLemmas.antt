@@ -4,7 +4,6 @@ use Rattle.std.proofs.Common.{replicate}
 use Rattle.std.proofs.lemmas.List.{set-get_or}
 use Rattle.placement_programme.specs.Plain.{PlainSide}
 use Rattle.certificate_checker.specs.Nodes.{PlainTree, branch, over, dual, leaf, size}
-use Rattle.certificate_checker.specs.Marks.{mark, mark_of, free}
 use Rattle.certificate_checker.specs.Rules.{BranchHolds, Holds, FirstWrong}
 use Rattle.certificate_checker.specs.Shows.{all_free, in_32_bits}
 use Rattle.certificate_checker.specs.Walks.{IsAt, FailsIn, Walks}
@@ -17,11 +16,12 @@ use Rattle.certificate_checker.specs.declared.walking.Failing.{Failing}
 use Rattle.certificate_checker.proofs.Failures.{root_fails, set_twice, marks_one}
 use Rattle.certificate_checker.specs.Digits.{number_of}
 use Rattle.certificate_checker.specs.Spelling.{tree_text}
+use Rattle.certificate_checker.specs.declared.fixings.Fixing.{Fixing}
+use Rattle.certificate_checker.specs.declared.fixings.Fixing.TheVariants.{Zero, One, Free}
 use Rattle.certificate_checker.proofs.NumberLaws.{IsBytes}
 use Rattle.certificate_checker.proofs.FieldLaws.{in_takes}
 use Rattle.certificate_checker.proofs.TreeLaws.{tree_takes}
 use Rattle.certificate_checker.proofs.StreamLemmas.{var_broken}
-use Rattle.certificate_checker.proofs.Children.{zeroed_not_free, one_not_free}
 
 -- an entry behind a way may change
 way_kept : (path : List ℕ) (way : List Step) (k n : ℕ) → length way ≤ k → HasWay path way → HasWay (slice_set path k n) way
@@ -52,39 +52,15 @@ children_of : (path : List ℕ) (way : List Step) → HasWay path way → HasChi
 children_of path [] has = tt
 children_of path (step ∷ way) has = (child_is (slice_index path (length way)) step has.0, children_of path way has.1)
 
-behind_children : (s : PlainSide) (best : ℕ) (way : List Step) (t : PlainTree) (path marks : List ℕ) (o : Result ℕ Failing) → Behind s best way t path marks o → HasChildren path way
+behind_children : (s : PlainSide) (best : ℕ) (way : List Step) (t : PlainTree) (path : List ℕ) (marks : List Fixing) (o : Result ℕ Failing) → Behind s best way t path marks o → HasChildren path way
 behind_children s best way t path marks (Ok next) b = children_of path way b.written
 behind_children s best way t path marks (Err f) b = b.0
 
--- marks are 0, 1 and 2
-set_most : (ms : List ℕ) (k n j : ℕ) → n ≤ 2 → ((i : ℕ) → get_or ms i 0 ≤ 2) → get_or (slice_set ms k n) j 0 ≤ 2
-set_most [] k n j small all = omega arith
-set_most (m ∷ ms) zero n zero small all = small
-set_most (m ∷ ms) zero n (suc j) small all = all (suc j)
-set_most (m ∷ ms) (suc k) n zero small all = all 0
-set_most (m ∷ ms) (suc k) n (suc j) small all = set_most ms k n j small (λ i. all (suc i))
-
-twos_most : (n j : ℕ) → get_or (replicate n 2) j 0 ≤ 2
-twos_most zero j = omega arith
-twos_most (suc n) zero = omega arith
-twos_most (suc n) (suc j) = twos_most n j
-
-marks_most : (s : PlainSide) (way : List Step) (j : ℕ) → get_or (marks_at s way) j 0 ≤ 2
-marks_most s [] j = twos_most (length s.vars) j
-marks_most s (to_zero k ∷ way) j = set_most (marks_at s way) k 0 j (omega arith) (λ i. marks_most s way i)
-marks_most s (to_one k l ∷ way) j = set_most (marks_at s way) k 1 j (omega arith) (λ i. marks_most s way i)
-
-free_is : (n : ℕ) → mark_of n ≡ free → n ≤ 2 → n ≡ 2
-free_is zero is small = absurd (zeroed_not_free is)
-free_is (suc zero) is small = absurd (one_not_free is)
-free_is (suc (suc n)) is small = omega (arith, small)
-
 -- a variable that a branch fixed to one is free again
-freed : (s : PlainSide) (way : List Step) (j : ℕ) (marks : List ℕ) → BranchHolds s (marks_at s way) j → marks ≡ slice_set (marks_at s way) j 1 → slice_set marks j 2 ≡ marks_at s way
+freed : (s : PlainSide) (way : List Step) (j : ℕ) (marks : List Fixing) → BranchHolds s (marks_at s way) j → marks ≡ slice_set (marks_at s way) j One → slice_set marks j Free ≡ marks_at s way
 freed s way j marks rule is =
-    let two = free_is (get_or (marks_at s way) j 0) rule.free_there (marks_most s way j) in
-    ap (λ (ms : List ℕ). slice_set ms j 2) is
-    ∙ (set_twice (marks_at s way) j 1 2 ∙ (ap (λ n. slice_set (marks_at s way) j n) (sym two) ∙ set-get_or (marks_at s way) j 0))
+    ap (λ (ms : List Fixing). slice_set ms j Free) is
+    ∙ (set_twice (marks_at s way) j One Free ∙ (ap (λ f. slice_set (marks_at s way) j f) (sym rule.free_there) ∙ set-get_or (marks_at s way) j Zero))
 
 -- a failing node of the tree at the end of a way is the first of each whole tree
 pub fails_up : (s : PlainSide) (best : ℕ) (way : List Step) (t whole : PlainTree) (n d node depth : ℕ) → node ≡ node_at way + n → depth ≡ length way + d → HeldBefore s best way → FirstWrong s best (marks_at s way) t n d → Completes way t whole → FirstWrong s best (all_free s) whole node depth
@@ -106,7 +82,7 @@ read_err total levels [] e = refl
 read_err total levels (to_zero j ∷ way) e = read_err total levels way e
 read_err total levels (to_one j l ∷ way) e = read_err total levels way e
 
-pub read_fault : (x : TreeText) (path marks : List ℕ) (depth : ℕ) (o : Result ℕ Failing) (rest : List ℕ) (e : CertFault) → IsBefore x path marks depth o rest → tree_at x.total (x.levels - depth) rest ≡ Err e → tree_at x.total x.levels x.bytes ≡ Err e
+pub read_fault : (x : TreeText) (path : List ℕ) (marks : List Fixing) (depth : ℕ) (o : Result ℕ Failing) (rest : List ℕ) (e : CertFault) → IsBefore x path marks depth o rest → tree_at x.total (x.levels - depth) rest ≡ Err e → tree_at x.total x.levels x.bytes ≡ Err e
 read_fault x path marks depth o rest e before is =
     sym before.read ∙ (ap (resumed x.total x.levels before.way) is ∙ read_err x.total x.levels before.way e)
 
@@ -118,7 +94,7 @@ branch_read : (total levels : ℕ) (bytes : List ℕ) (var : ℕ) (rest : List �
 unfolding tree_at
 branch_read total levels bytes var rest is = rw is refl
 
-pub entered : (x : TreeText) (path marks newer fixed : List ℕ) (depth next : ℕ) (o p : Result ℕ Failing) (bytes : List ℕ) (var : ℕ) (rest : List ℕ) → depth < x.levels → next ≡ depth + 1 → number_in Node 0 4294967295 x.total bytes ≡ Ok (var, rest) → (before : IsBefore x path marks depth o (0 ∷ bytes)) → SoFar x.side x.best (to_zero var ∷ before.way) newer fixed p → IsBefore x newer fixed next p rest
+pub entered : (x : TreeText) (path : List ℕ) (marks : List Fixing) (newer : List ℕ) (fixed : List Fixing) (depth next : ℕ) (o p : Result ℕ Failing) (bytes : List ℕ) (var : ℕ) (rest : List ℕ) → depth < x.levels → next ≡ depth + 1 → number_in Node 0 4294967295 x.total bytes ≡ Ok (var, rest) → (before : IsBefore x path marks depth o (0 ∷ bytes)) → SoFar x.side x.best (to_zero var ∷ before.way) newer fixed p → IsBefore x newer fixed next p rest
 entered x path marks newer fixed depth next o p bytes var rest deep is_next is before after =
     let way = before.way in
     let long = before.long in
@@ -134,7 +110,7 @@ entered x path marks newer fixed depth next o p bytes var rest deep is_next is b
       so_far = after;
     }
 
-pub enters_failed : (s : PlainSide) (best : ℕ) (way : List Step) (path marks : List ℕ) (depth var : ℕ) (f : Failing) → length way ≡ depth → depth < length path → SoFar s best way path marks (Err f) → SoFar s best (to_zero var ∷ way) (slice_set path depth 0) marks (Err f)
+pub enters_failed : (s : PlainSide) (best : ℕ) (way : List Step) (path : List ℕ) (marks : List Fixing) (depth var : ℕ) (f : Failing) → length way ≡ depth → depth < length path → SoFar s best way path marks (Err f) → SoFar s best (to_zero var ∷ way) (slice_set path depth 0) marks (Err f)
 enters_failed s best way path marks depth var f long inside before =
     (children_pushed path (to_zero var) way depth 0 long inside (omega arith) before.0, λ t whole c. before.1 (branch var t c.0) whole c.1)
 
@@ -149,9 +125,9 @@ number_on a b node next first second = omega arith
 number_zero : (n k : ℕ) → k ≡ in_32_bits n → k ≡ in_32_bits (0 + n)
 number_zero n k is = let same : n ≡ 0 + n = omega arith in is ∙ ap in_32_bits same
 
-pub enters_wrong : (s : PlainSide) (best : ℕ) (way : List Step) (path marks : List ℕ) (depth node var : ℕ) (f : Failing) → length way ≡ depth → depth < length path → depth < 2 ^ 32 → f.node ≡ node → f.depth ≡ depth → (BranchHolds s marks var → ⊥) → SoFar s best way path marks (Ok node) → SoFar s best (to_zero var ∷ way) (slice_set path depth 0) marks (Err f)
+pub enters_wrong : (s : PlainSide) (best : ℕ) (way : List Step) (path : List ℕ) (marks : List Fixing) (depth node var : ℕ) (f : Failing) → length way ≡ depth → depth < length path → depth < 2 ^ 32 → f.node ≡ node → f.depth ≡ depth → (BranchHolds s marks var → ⊥) → SoFar s best way path marks (Ok node) → SoFar s best (to_zero var ∷ way) (slice_set path depth 0) marks (Err f)
 enters_wrong s best way path marks depth node var f long inside small is_node is_depth broken before =
-    let missed : BranchHolds s (marks_at s way) var → ⊥ = subst (λ (ms : List ℕ). BranchHolds s ms var → ⊥) before.fixed broken in (
+    let missed : BranchHolds s (marks_at s way) var → ⊥ = subst (λ (ms : List Fixing). BranchHolds s ms var → ⊥) before.fixed broken in (
       children_pushed path (to_zero var) way depth 0 long inside (omega arith) (children_of path way before.written),
       λ t whole c. (
         node_at way,
@@ -166,30 +142,30 @@ enters_wrong s best way path marks depth node var f long inside small is_node is
       ),
     )
 
-pub enters_held : (s : PlainSide) (best : ℕ) (way : List Step) (path marks : List ℕ) (depth node next step var : ℕ) → length way ≡ depth → depth < length path → step ≡ 2 * var → next ≡ in_32_bits (node + 1) → BranchHolds s marks var → SoFar s best way path marks (Ok node) → SoFar s best (to_zero var ∷ way) (slice_set path depth step) (slice_set marks var 0) (Ok next)
+pub enters_held : (s : PlainSide) (best : ℕ) (way : List Step) (path : List ℕ) (marks : List Fixing) (depth node next step var : ℕ) → length way ≡ depth → depth < length path → step ≡ 2 * var → next ≡ in_32_bits (node + 1) → BranchHolds s marks var → SoFar s best way path marks (Ok node) → SoFar s best (to_zero var ∷ way) (slice_set path depth step) (slice_set marks var Zero) (Ok next)
 enters_held s best way path marks depth node next step var long inside is_step is_next rule before =
     record {
       written = way_pushed path (to_zero var) way depth step long inside is_step before.written;
-      fixed = ap (λ (ms : List ℕ). slice_set ms var 0) before.fixed;
+      fixed = ap (λ (ms : List Fixing). slice_set ms var Zero) before.fixed;
       number = number_on (node_at way) 1 node next before.number is_next;
-      held = (subst (λ (ms : List ℕ). BranchHolds s ms var) before.fixed rule, before.held);
+      held = (subst (λ (ms : List Fixing). BranchHolds s ms var) before.fixed rule, before.held);
     }
 
 -- a tree that is one node is read
-pub joined : (s : PlainSide) (best : ℕ) (way : List Step) (t : PlainTree) (path marks : List ℕ) (node depth : ℕ) (o p : Result ℕ Failing) → length way ≡ depth → node ≡ behind_of o → SoFar s best way path marks o → Walks s best marks t node depth p → Behind s best way t path marks (both_of o p)
+pub joined : (s : PlainSide) (best : ℕ) (way : List Step) (t : PlainTree) (path : List ℕ) (marks : List Fixing) (node depth : ℕ) (o p : Result ℕ Failing) → length way ≡ depth → node ≡ behind_of o → SoFar s best way path marks o → Walks s best marks t node depth p → Behind s best way t path marks (both_of o p)
 joined s best way t path marks node depth (Err f) p long is before walks = (before.0, λ whole c. before.1 t whole c)
 joined s best way t path marks node depth (Ok k) (Ok next) long is before walks =
     record {
       written = before.written;
       fixed = before.fixed;
       number = number_on (node_at way) (size t) node next (is ∙ before.number) walks.1;
-      tree = subst (λ (ms : List ℕ). Holds s best ms t) before.fixed walks.0;
+      tree = subst (λ (ms : List Fixing). Holds s best ms t) before.fixed walks.0;
       held = before.held;
     }
 joined s best way t path marks node depth (Ok k) (Err f) long is before walks =
     let n = walks.0 in
     let d = walks.1.0 in
-    let wrong = subst (λ (ms : List ℕ). FirstWrong s best ms t n d) before.fixed walks.1.1.0 in (
+    let wrong = subst (λ (ms : List Fixing). FirstWrong s best ms t n d) before.fixed walks.1.1.0 in (
       children_of path way before.written,
       λ whole c. (
         node_at way + n,
@@ -203,7 +179,7 @@ joined s best way t path marks node depth (Ok k) (Err f) long is before walks =
       ),
     )
 
-pub single_read : (x : TreeText) (path marks : List ℕ) (node depth : ℕ) (o p : Result ℕ Failing) (bytes rest : List ℕ) (t : PlainTree) → node ≡ behind_of o → tree_at x.total (x.levels - depth) bytes ≡ Ok (t, rest) → Walks x.side x.best marks t node depth p → IsBefore x path marks depth o bytes → IsBehind x path marks depth (both_of o p) rest
+pub single_read : (x : TreeText) (path : List ℕ) (marks : List Fixing) (node depth : ℕ) (o p : Result ℕ Failing) (bytes rest : List ℕ) (t : PlainTree) → node ≡ behind_of o → tree_at x.total (x.levels - depth) bytes ≡ Ok (t, rest) → Walks x.side x.best marks t node depth p → IsBefore x path marks depth o bytes → IsBehind x path marks depth (both_of o p) rest
 single_read x path marks node depth o p bytes rest t is is_read walks before =
     record {
       way = before.way;
@@ -221,21 +197,21 @@ half_odd : (n j : ℕ) → n ≡ 2 * j + 1 → n / 2 ≡ j
 half_odd n j is = omega (arith, is)
 
 -- from the child for one the way goes up to its branch
-rises : (s : PlainSide) (best : ℕ) (j : ℕ) (l : PlainTree) (way : List Step) (t : PlainTree) (path marks : List ℕ) (last : ℕ) (o : Result ℕ Failing) → length way ≡ last → Behind s best (to_one j l ∷ way) t path marks o → Behind s best way (branch j l t) path (marked marks (slice_index path last / 2) 2 o) o
+rises : (s : PlainSide) (best : ℕ) (j : ℕ) (l : PlainTree) (way : List Step) (t : PlainTree) (path : List ℕ) (marks : List Fixing) (last : ℕ) (o : Result ℕ Failing) → length way ≡ last → Behind s best (to_one j l ∷ way) t path marks o → Behind s best way (branch j l t) path (marked marks (slice_index path last / 2) Free o) o
 rises s best j l way t path marks last (Err f) long b = (b.0.1, λ whole c. b.1 whole c)
 rises s best j l way t path marks last (Ok next) long b =
     let var : slice_index path last / 2 ≡ j = half_odd (slice_index path last) j (ap (λ (i : ℕ). slice_index path i) (sym long) ∙ b.written.0) in
     let same : node_at way + (1 + size l) + size t ≡ node_at way + (1 + size l + size t) = omega arith in
     record {
       written = b.written.1;
-      fixed = ap (λ (k : ℕ). slice_set marks k 2) var ∙ freed s way j marks b.held.0 b.fixed;
+      fixed = ap (λ (k : ℕ). slice_set marks k Free) var ∙ freed s way j marks b.held.0 b.fixed;
       number = b.number ∙ ap in_32_bits same;
       tree = (b.held.0, b.held.1, b.tree);
       held = b.held.2;
     }
 
 -- from the child for zero the way turns to that for one
-turns : (s : PlainSide) (best : ℕ) (j : ℕ) (way : List Step) (t : PlainTree) (path marks : List ℕ) (last : ℕ) (o : Result ℕ Failing) → length way ≡ last → last < length path → Behind s best (to_zero j ∷ way) t path marks o → SoFar s best (to_one j t ∷ way) (slice_set path last (slice_index path last + 1)) (marked marks (slice_index path last / 2) 1 o) o
+turns : (s : PlainSide) (best : ℕ) (j : ℕ) (way : List Step) (t : PlainTree) (path : List ℕ) (marks : List Fixing) (last : ℕ) (o : Result ℕ Failing) → length way ≡ last → last < length path → Behind s best (to_zero j ∷ way) t path marks o → SoFar s best (to_one j t ∷ way) (slice_set path last (slice_index path last + 1)) (marked marks (slice_index path last / 2) One o) o
 turns s best j way t path marks last (Err f) long inside b =
     let even : slice_index path last % 2 ≡ 0 = ap (λ (i : ℕ). slice_index path i % 2) (sym long) ∙ b.0.0 in
     (children_pushed path (to_one j t) way last (slice_index path last + 1) long inside (omega (arith, even)) b.0.1, λ r whole c. b.1 whole (r, c))
@@ -245,15 +221,15 @@ turns s best j way t path marks last (Ok next) long inside b =
     let same : node_at way + 1 + size t ≡ node_at way + (1 + size t) = omega arith in
     record {
       written = way_pushed path (to_one j t) way last (slice_index path last + 1) long inside (ap (λ (n : ℕ). n + 1) step) b.written.1;
-      fixed = ap (λ (k : ℕ). slice_set marks k 1) var ∙ marks_one (marks_at s way) marks j b.fixed;
+      fixed = ap (λ (k : ℕ). slice_set marks k One) var ∙ marks_one (marks_at s way) marks j b.fixed;
       number = b.number ∙ ap in_32_bits same;
       held = (b.held.0, b.tree, b.held.1);
     }
 
-pub risen : (x : TreeText) (path marks : List ℕ) (depth last : ℕ) (o : Result ℕ Failing) (rest : List ℕ) → depth ≡ suc last → slice_index path last % 2 ≡ 1 → IsBehind x path marks depth o rest → IsBehind x path (marked marks (slice_index path last / 2) 2 o) last o rest
+pub risen : (x : TreeText) (path : List ℕ) (marks : List Fixing) (depth last : ℕ) (o : Result ℕ Failing) (rest : List ℕ) → depth ≡ suc last → slice_index path last % 2 ≡ 1 → IsBehind x path marks depth o rest → IsBehind x path (marked marks (slice_index path last / 2) Free o) last o rest
 risen x path marks depth last o rest is odd b = at b.way b.tree b.long b.read b.so_far
   where
-    at : (way : List Step) (t : PlainTree) → length way ≡ depth → resumed x.total x.levels way (Ok (t, rest)) ≡ tree_at x.total x.levels x.bytes → Behind x.side x.best way t path marks o → IsBehind x path (marked marks (slice_index path last / 2) 2 o) last o rest
+    at : (way : List Step) (t : PlainTree) → length way ≡ depth → resumed x.total x.levels way (Ok (t, rest)) ≡ tree_at x.total x.levels x.bytes → Behind x.side x.best way t path marks o → IsBehind x path (marked marks (slice_index path last / 2) Free o) last o rest
     at [] t long read b = absurd (omega (arith, long, is))
     at (to_zero j ∷ way) t long read b =
         let even : slice_index path last % 2 ≡ 0 = ap (λ (i : ℕ). slice_index path i % 2) (omega (arith, long, is)) ∙ (behind_children x.side x.best (to_zero j ∷ way) t path marks o b).0 in
@@ -262,10 +238,10 @@ risen x path marks depth last o rest is odd b = at b.way b.tree b.long b.read b.
         let shorter : length way ≡ last = omega (arith, long, is) in
         record { way = way; tree = branch j l t; long = shorter; read = read; so_far = rises x.side x.best j l way t path marks last o shorter b }
 
-pub turned : (x : TreeText) (path marks : List ℕ) (depth last : ℕ) (o : Result ℕ Failing) (rest : List ℕ) → depth ≡ suc last → last < length path → (slice_index path last % 2 ≡ 1 → ⊥) → IsBehind x path marks depth o rest → IsBefore x (slice_set path last (slice_index path last + 1)) (marked marks (slice_index path last / 2) 1 o) depth o rest
+pub turned : (x : TreeText) (path : List ℕ) (marks : List Fixing) (depth last : ℕ) (o : Result ℕ Failing) (rest : List ℕ) → depth ≡ suc last → last < length path → (slice_index path last % 2 ≡ 1 → ⊥) → IsBehind x path marks depth o rest → IsBefore x (slice_set path last (slice_index path last + 1)) (marked marks (slice_index path last / 2) One o) depth o rest
 turned x path marks depth last o rest is inside even b = at b.way b.tree b.long b.read b.so_far
   where
-    at : (way : List Step) (t : PlainTree) → length way ≡ depth → resumed x.total x.levels way (Ok (t, rest)) ≡ tree_at x.total x.levels x.bytes → Behind x.side x.best way t path marks o → IsBefore x (slice_set path last (slice_index path last + 1)) (marked marks (slice_index path last / 2) 1 o) depth o rest
+    at : (way : List Step) (t : PlainTree) → length way ≡ depth → resumed x.total x.levels way (Ok (t, rest)) ≡ tree_at x.total x.levels x.bytes → Behind x.side x.best way t path marks o → IsBefore x (slice_set path last (slice_index path last + 1)) (marked marks (slice_index path last / 2) One o) depth o rest
     at [] t long read b = absurd (omega (arith, long, is))
     at (to_one j l ∷ way) t long read b =
         let odd : slice_index path last % 2 ≡ 1 = ap (λ (i : ℕ). slice_index path i % 2) (omega (arith, long, is)) ∙ (behind_children x.side x.best (to_one j l ∷ way) t path marks o b).0 in
@@ -280,7 +256,7 @@ turned x path marks depth last o rest is inside even b = at b.way b.tree b.long 
         }
 
 -- the variable of the last step is one of the side
-pub last_marked : (x : TreeText) (path marks : List ℕ) (depth : ℕ) (o : Result ℕ Failing) (rest : List ℕ) → 1 ≤ depth → length x.side.vars ≤ length marks → IsBehind x path marks depth o rest → MayMark marks (slice_index path (depth - 1) / 2) o
+pub last_marked : (x : TreeText) (path : List ℕ) (marks : List Fixing) (depth : ℕ) (o : Result ℕ Failing) (rest : List ℕ) → 1 ≤ depth → length x.side.vars ≤ length marks → IsBehind x path marks depth o rest → MayMark marks (slice_index path (depth - 1) / 2) o
 last_marked x path marks depth (Err f) rest some wide b = tt
 last_marked x path marks depth (Ok next) rest some wide b = at b.way b.tree b.long b.so_far
   where
@@ -296,7 +272,7 @@ last_marked x path marks depth (Ok next) rest some wide b = at b.way b.tree b.lo
         omega (arith, half_odd (slice_index path (depth - 1)) j step, below, wide)
 
 -- the walk begins at the root, and ends behind it
-pub at_root : (s : PlainSide) (best total levels : ℕ) (bytes path marks : List ℕ) → marks ≡ all_free s → IsBefore (text_of s best total levels bytes) path marks 0 (Ok 0) bytes
+pub at_root : (s : PlainSide) (best total levels : ℕ) (bytes path : List ℕ) (marks : List Fixing) → marks ≡ all_free s → IsBefore (text_of s best total levels bytes) path marks 0 (Ok 0) bytes
 at_root s best total levels bytes path marks unfixed =
     let all : levels - 0 ≡ levels = omega arith in
     record {
@@ -306,7 +282,7 @@ at_root s best total levels bytes path marks unfixed =
       so_far = record { written = tt; fixed = unfixed; number = number_flat 0 (omega arith); held = tt };
     }
 
-pub whole_read : (x : TreeText) (path marks : List ℕ) (depth : ℕ) (o : Result ℕ Failing) (rest : List ℕ) → depth ≡ 0 → IsBehind x path marks depth o rest → (t : PlainTree) × ((tree_at x.total x.levels x.bytes ≡ Ok (t, rest)) × Walks x.side x.best (all_free x.side) t 0 0 o)
+pub whole_read : (x : TreeText) (path : List ℕ) (marks : List Fixing) (depth : ℕ) (o : Result ℕ Failing) (rest : List ℕ) → depth ≡ 0 → IsBehind x path marks depth o rest → (t : PlainTree) × ((tree_at x.total x.levels x.bytes ≡ Ok (t, rest)) × Walks x.side x.best (all_free x.side) t 0 0 o)
 whole_read x path marks depth o rest none b = at b.way b.tree b.long b.read o b.so_far
   where
     at : (way : List Step) (t : PlainTree) → length way ≡ depth → resumed x.total x.levels way (Ok (t, rest)) ≡ tree_at x.total x.levels x.bytes → (o : Result ℕ Failing) → Behind x.side x.best way t path marks o → (t : PlainTree) × ((tree_at x.total x.levels x.bytes ≡ Ok (t, rest)) × Walks x.side x.best (all_free x.side) t 0 0 o)
@@ -315,7 +291,7 @@ whole_read x path marks depth o rest none b = at b.way b.tree b.long b.read o b.
     at [] t long read (Err f) b = (t, (sym read, b.1 t refl))
 
 -- a step forward can be taken as long as the walk isn't done
-pub can_advance : (x : TreeText) (path marks : List ℕ) (depth : ℕ) (ended : Bool) (o : Result ℕ Failing) (rest : List ℕ) → length x.side.vars ≤ length marks → ((ended ≡ true) × (depth ≡ 0) → ⊥) → StandsAt x path marks depth ended o rest → IfEnded ended (CanRise path marks depth o)
+pub can_advance : (x : TreeText) (path : List ℕ) (marks : List Fixing) (depth : ℕ) (ended : Bool) (o : Result ℕ Failing) (rest : List ℕ) → length x.side.vars ≤ length marks → ((ended ≡ true) × (depth ≡ 0) → ⊥) → StandsAt x path marks depth ended o rest → IfEnded ended (CanRise path marks depth o)
 can_advance x path marks depth false o rest wide going b = tt
 can_advance x path marks depth true o rest wide going b =
     let some : 1 ≤ depth = above_none depth (λ none. going (refl, none)) in
@@ -342,14 +318,14 @@ tree_shorter total levels bytes t rest all is =
     let parts = (tree_takes total levels bytes (t, rest) all is).0.parts in
     omega (arith, ap length parts, length-append (tree_text t) rest, tree_some t)
 
-pub branch_fault : (x : TreeText) (path marks : List ℕ) (depth : ℕ) (o : Result ℕ Failing) (bytes : List ℕ) (e : CertFault) → depth < x.levels → number_in Node 0 4294967295 x.total bytes ≡ Err e → IsBefore x path marks depth o (0 ∷ bytes) → tree_at x.total x.levels x.bytes ≡ Err e
+pub branch_fault : (x : TreeText) (path : List ℕ) (marks : List Fixing) (depth : ℕ) (o : Result ℕ Failing) (bytes : List ℕ) (e : CertFault) → depth < x.levels → number_in Node 0 4294967295 x.total bytes ≡ Err e → IsBefore x path marks depth o (0 ∷ bytes) → tree_at x.total x.levels x.bytes ≡ Err e
 branch_fault x path marks depth o bytes e deep is before =
     read_fault x path marks depth o (0 ∷ bytes) e before
     (ap (λ (n : ℕ). tree_at x.total n (0 ∷ bytes)) (levels_left x.levels depth deep) ∙ var_broken x.total (x.levels - suc depth) bytes e is)
 
-twos_long : (n : ℕ) → length {A = ℕ} (replicate n 2) ≡ n
-twos_long zero = refl
-twos_long (suc n) = ap suc (twos_long n)
+free_long : (n : ℕ) → length {A = Fixing} (replicate n Free) ≡ n
+free_long zero = refl
+free_long (suc n) = ap suc (free_long n)
 
-pub marks_long : (s : PlainSide) (first marks : List ℕ) → first ≡ all_free s → length marks ≡ length first → length s.vars ≤ length marks
-marks_long s first marks unfixed long = omega (arith, ap length unfixed, twos_long (length s.vars), long)
+pub marks_long : (s : PlainSide) (first marks : List Fixing) → first ≡ all_free s → length marks ≡ length first → length s.vars ≤ length marks
+marks_long s first marks unfixed long = omega (arith, ap length unfixed, free_long (length s.vars), long)

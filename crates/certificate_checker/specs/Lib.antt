@@ -3,7 +3,7 @@ pub use Rattle.placement_programme.specs.Bounds
 pub use Rattle.placement_programme.specs.Programme
 pub use Rattle.placement_programme.specs.Sums
 pub mod Nodes
-pub mod Marks
+pub mod Fixings
 pub mod Rules
 pub mod Shows
 pub mod Views

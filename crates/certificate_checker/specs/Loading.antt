@@ -11,6 +11,7 @@ use Rattle.certificate_checker.specs.Walks.{Walks}
 use Rattle.certificate_checker.specs.declared.fault.CertFault.{CertFault}
 use Rattle.certificate_checker.specs.declared.walking.Failing.{Failing}
 use Rattle.certificate_checker.specs.declared.loading.Loaded.{Loaded}
+use Rattle.certificate_checker.specs.declared.fixings.Fixing.{Fixing}
 
 -- `reach` is the least number above all rows; the dense list has the multiplier of each row that there is
 pub record IsLoaded (rows dense : List ℕ) (reach total : ℕ) (ms : List (ℕ × ℕ)) : Type 0 where
@@ -34,7 +35,7 @@ IsSingle (dual scale ms) = Unit {0}
 IsSingle leaf = Unit {0}
 
 -- what a walk over the text of a tree answers: the walk's answer for the tree that is read, or the text's fault
-abbrev pub WalksRead : PlainSide → ℕ → List ℕ → ℕ → ℕ → Result (Result ℕ Failing × Bor (List ℕ)) CertFault → Result (PlainTree × List ℕ) CertFault → Type 0
+abbrev pub WalksRead : PlainSide → ℕ → List Fixing → ℕ → ℕ → Result (Result ℕ Failing × Bor (List ℕ)) CertFault → Result (PlainTree × List ℕ) CertFault → Type 0
 WalksRead s best marks node depth (Ok x) read =
     (t : PlainTree) × ((read ≡ Ok (t, x.1.now)) × Walks s best marks t node depth x.0)
 WalksRead s best marks node depth (Err e) read = read ≡ Err e

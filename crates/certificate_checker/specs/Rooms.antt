@@ -99,6 +99,13 @@ pub record IsRoomOf (p : Programme) (r : Room) : Type 0 where
   pub marks : length r.marks.items ≡ most_of (length p.off.vars.items) (option_map (λ s. length s.vars.items) p.on)
   pub multipliers : length r.multipliers.items ≡ most_of (length p.off.rows.items) (option_map (λ s. length s.rows.items) p.on)
 
+-- the lists of a room are as long as they were, and its choice is the same
+pub record KeepsChoiceAndSizes (old new : Room) : Type 0 where
+  pub path : length new.path.items ≡ length old.path.items
+  pub marks : length new.marks.items ≡ length old.marks.items
+  pub multipliers : length new.multipliers.items ≡ length old.multipliers.items
+  pub choice : new.choice ≡ old.choice
+
 -- the lists of a room are as long as they were, and the choice has no less room
 pub record HasSameRoom (old new : Room) : Type 0 where
   pub path : length new.path.items ≡ length old.path.items

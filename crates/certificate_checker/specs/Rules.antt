@@ -10,7 +10,9 @@ use Rattle.placement_programme.specs.Bounds.{RowsWithin, row_of, value_of}
 use Rattle.placement_programme.specs.Programme.{gain_at, weight_at}
 use Rattle.placement_programme.specs.Sums.{sum_below}
 use Rattle.certificate_checker.specs.Nodes.{PlainTree, branch, over, dual, leaf, size}
-use Rattle.certificate_checker.specs.Marks.{Mark, zeroed, one, free, mark}
+use Rattle.certificate_checker.specs.Fixings.{fixing_of}
+use Rattle.certificate_checker.specs.declared.fixings.Fixing.{Fixing}
+use Rattle.certificate_checker.specs.declared.fixings.Fixing.TheVariants.{Zero, One, Free}
 
 -- a variable's weights, each times the multiplier of its row
 abbrev pub price : PlainSide → List (ℕ × ℕ) → ℕ → ℕ
@@ -21,64 +23,64 @@ abbrev pub bound : PlainSide → List (ℕ × ℕ) → ℕ
 bound s ms = sum_by (λ m. value_of m * slice_index s.rows (row_of m)) ms
 
 -- what a variable adds to the left side, by its scaled gain and its price: a free one what is left of the gain
-abbrev pub kept : Mark → ℕ → ℕ → ℕ
-kept zeroed gain price = 0
-kept one gain price = gain
-kept free gain price = gain - price
+abbrev pub kept : Fixing → ℕ → ℕ → ℕ
+kept Zero gain price = 0
+kept One gain price = gain
+kept Free gain price = gain - price
 
 -- and to the right side
-abbrev pub moved : Mark → ℕ → ℕ
-moved zeroed price = 0
-moved one price = price
-moved free price = 0
+abbrev pub moved : Fixing → ℕ → ℕ
+moved Zero price = 0
+moved One price = price
+moved Free price = 0
 
-abbrev pub kept_at : PlainSide → List ℕ → ℕ → List (ℕ × ℕ) → ℕ → ℕ
-kept_at s marks scale ms j = kept (mark marks j) (scale * gain_at s.vars j) (price s ms j)
+abbrev pub kept_at : PlainSide → List Fixing → ℕ → List (ℕ × ℕ) → ℕ → ℕ
+kept_at s marks scale ms j = kept (fixing_of marks j) (scale * gain_at s.vars j) (price s ms j)
 
-abbrev pub moved_at : PlainSide → List ℕ → List (ℕ × ℕ) → ℕ → ℕ
-moved_at s marks ms j = moved (mark marks j) (price s ms j)
+abbrev pub moved_at : PlainSide → List Fixing → List (ℕ × ℕ) → ℕ → ℕ
+moved_at s marks ms j = moved (fixing_of marks j) (price s ms j)
 
 -- a number where the variable is fixed to one
-abbrev pub if_one : Mark → ℕ → ℕ
-if_one zeroed n = 0
-if_one one n = n
-if_one free n = 0
+abbrev pub if_one : Fixing → ℕ → ℕ
+if_one Zero n = 0
+if_one One n = n
+if_one Free n = 0
 
 -- multipliers show that nothing gains more than `best`
-pub record DualHolds (s : PlainSide) (best : ℕ) (marks : List ℕ) (scale : ℕ) (ms : List (ℕ × ℕ)) : Type 0 where
+pub record DualHolds (s : PlainSide) (best : ℕ) (marks : List Fixing) (scale : ℕ) (ms : List (ℕ × ℕ)) : Type 0 where
   pub least : 1 ≤ scale
   pub most : scale ≤ 65536
   pub rows : RowsWithin 0 (length s.rows) ms
   pub sums : bound s ms + sum_below (length s.vars) (kept_at s marks scale ms) ≤ scale * (best + s.fixed) + sum_below (length s.vars) (moved_at s marks ms)
 
 -- the variables fixed to one exceed the row
-pub record OverHolds (s : PlainSide) (marks : List ℕ) (row : ℕ) : Type 0 where
+pub record OverHolds (s : PlainSide) (marks : List Fixing) (row : ℕ) : Type 0 where
   pub inside : row < length s.rows
-  pub exceeded : slice_index s.rows row < sum_below (length s.vars) (λ j. if_one (mark marks j) (weight_at s.vars row j))
+  pub exceeded : slice_index s.rows row < sum_below (length s.vars) (λ j. if_one (fixing_of marks j) (weight_at s.vars row j))
 
 -- all variables are fixed, and those fixed to one gain at most `best`
-pub record LeafHolds (s : PlainSide) (best : ℕ) (marks : List ℕ) : Type 0 where
-  pub full : (j : ℕ) → j < length s.vars → mark marks j ≡ free → ⊥
-  pub gains : sum_below (length s.vars) (λ j. if_one (mark marks j) (gain_at s.vars j)) ≤ best + s.fixed
+pub record LeafHolds (s : PlainSide) (best : ℕ) (marks : List Fixing) : Type 0 where
+  pub full : (j : ℕ) → j < length s.vars → fixing_of marks j ≡ Free → ⊥
+  pub gains : sum_below (length s.vars) (λ j. if_one (fixing_of marks j) (gain_at s.vars j)) ≤ best + s.fixed
 
 -- a branch fixes a variable that is free
-pub record BranchHolds (s : PlainSide) (marks : List ℕ) (j : ℕ) : Type 0 where
+pub record BranchHolds (s : PlainSide) (marks : List Fixing) (j : ℕ) : Type 0 where
   pub inside : j < length s.vars
-  pub free_there : mark marks j ≡ free
+  pub free_there : fixing_of marks j ≡ Free
 
 -- a node keeps its own rule, with nothing said of those below it
-abbrev pub KeepsRule : PlainSide → ℕ → List ℕ → PlainTree → Type 0
+abbrev pub KeepsRule : PlainSide → ℕ → List Fixing → PlainTree → Type 0
 KeepsRule s best marks (branch j l r) = BranchHolds s marks j
 KeepsRule s best marks (over row) = OverHolds s marks row
 KeepsRule s best marks (dual scale ms) = DualHolds s best marks scale ms
 KeepsRule s best marks leaf = LeafHolds s best marks
 
 -- every node of a tree keeps its rule
-abbrev pub Holds : PlainSide → ℕ → List ℕ → PlainTree → Type 0
+abbrev pub Holds : PlainSide → ℕ → List Fixing → PlainTree → Type 0
 Holds s best marks (branch j l r) =
     BranchHolds s marks j
-    × Holds s best (slice_set marks j 0) l
-    × Holds s best (slice_set marks j 1) r
+    × Holds s best (slice_set marks j Zero) l
+    × Holds s best (slice_set marks j One) r
 Holds s best marks (over row) = OverHolds s marks row
 Holds s best marks (dual scale ms) = DualHolds s best marks scale ms
 Holds s best marks leaf = LeafHolds s best marks
@@ -93,13 +95,13 @@ Below Fails first node depth =
     (n : ℕ) × ((d : ℕ) × (Fails n d × (node ≡ first + n) × (depth ≡ suc d)))
 
 -- the first node that breaks its rule, depth first and zero before one, counted from 0, and its depth
-abbrev pub FirstWrong : PlainSide → ℕ → List ℕ → PlainTree → ℕ → ℕ → Type 0
+abbrev pub FirstWrong : PlainSide → ℕ → List Fixing → PlainTree → ℕ → ℕ → Type 0
 FirstWrong s best marks (branch j l r) node depth =
     AtRoot (BranchHolds s marks j) node depth
-    ⊎ (BranchHolds s marks j × Below (FirstWrong s best (slice_set marks j 0) l) 1 node depth)
+    ⊎ (BranchHolds s marks j × Below (FirstWrong s best (slice_set marks j Zero) l) 1 node depth)
     ⊎ (BranchHolds s marks j
-    × Holds s best (slice_set marks j 0) l
-    × Below (FirstWrong s best (slice_set marks j 1) r) (1 + size l) node depth)
+    × Holds s best (slice_set marks j Zero) l
+    × Below (FirstWrong s best (slice_set marks j One) r) (1 + size l) node depth)
 FirstWrong s best marks (over row) node depth = AtRoot (OverHolds s marks row) node depth
 FirstWrong s best marks (dual scale ms) node depth = AtRoot (DualHolds s best marks scale ms) node depth
 FirstWrong s best marks leaf node depth = AtRoot (LeafHolds s best marks) node depth

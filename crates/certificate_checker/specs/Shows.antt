@@ -5,10 +5,12 @@ use Rattle.placement_programme.specs.Plain.{PlainSide, PlainProgramme, PlainChoi
 use Rattle.placement_programme.specs.Programme.{IsFeasible, gain}
 use Rattle.certificate_checker.specs.Nodes.{PlainTree, PlainCertificate}
 use Rattle.certificate_checker.specs.Rules.{Holds, FirstWrong}
+use Rattle.certificate_checker.specs.declared.fixings.Fixing.{Fixing}
+use Rattle.certificate_checker.specs.declared.fixings.Fixing.TheVariants.{Free}
 
 -- nothing is fixed
-abbrev pub all_free : PlainSide → List ℕ
-all_free s = replicate (length s.vars) 2
+abbrev pub all_free : PlainSide → List Fixing
+all_free s = replicate (length s.vars) Free
 
 -- a choice is feasible and gains `best`, which is no less than 0
 pub record IsAccepted (p : PlainProgramme) (c : PlainChoice) (best : ℕ) : Type 0 where
@@ -44,8 +46,12 @@ TreeWrong p c best side node depth =
     ((side ≡ 0) × SideWrong (Some p.off) best c.off node depth)
     ⊎ ((side ≡ 1) × ShownBy (Some p.off) best c.off × SideWrong p.on best c.on node depth)
 
+-- a certificate without a tree claims no more than that its choice is feasible
+abbrev pub HasNoTree : PlainCertificate → Type 0
+HasNoTree c = (c.off ≡ None) × (c.on ≡ None)
+
 abbrev pub HasTree : PlainCertificate → Type 0
-HasTree c = (c.off ≡ None) × (c.on ≡ None) → ⊥
+HasTree c = HasNoTree c → ⊥
 
 -- numbers of 32 bits stop at their greatest
 unfoldable pub in_32_bits : ℕ → ℕ

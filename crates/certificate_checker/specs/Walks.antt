@@ -5,17 +5,18 @@ use Rattle.certificate_checker.specs.Nodes.{PlainTree, size}
 use Rattle.certificate_checker.specs.Rules.{Holds, FirstWrong}
 use Rattle.certificate_checker.specs.Shows.{ShownBy, SideWrong, in_32_bits}
 use Rattle.certificate_checker.specs.declared.walking.Failing.{Failing}
+use Rattle.certificate_checker.specs.declared.fixings.Fixing.{Fixing}
 
 -- the node and the depth that a walk from `node` and `depth` tells
 abbrev pub IsAt : ℕ → ℕ → Failing → ℕ → ℕ → Type 0
 IsAt node depth f n d = (f.node ≡ in_32_bits (node + n)) × (f.depth ≡ in_32_bits (depth + d))
 
-abbrev pub FailsIn : PlainSide → ℕ → List ℕ → PlainTree → ℕ → ℕ → Failing → Type 0
+abbrev pub FailsIn : PlainSide → ℕ → List Fixing → PlainTree → ℕ → ℕ → Failing → Type 0
 FailsIn s best marks t node depth f =
     (n : ℕ) × ((d : ℕ) × (FirstWrong s best marks t n d × IsAt node depth f n d))
 
 -- the whole tree holds, and the number behind its last node; or its first failing node
-abbrev pub Walks : PlainSide → ℕ → List ℕ → PlainTree → ℕ → ℕ → Result ℕ Failing → Type 0
+abbrev pub Walks : PlainSide → ℕ → List Fixing → PlainTree → ℕ → ℕ → Result ℕ Failing → Type 0
 Walks s best marks t node depth (Ok next) =
     Holds s best marks t × (next ≡ in_32_bits (node + size t))
 Walks s best marks t node depth (Err f) = FailsIn s best marks t node depth f

@@ -10,6 +10,8 @@ use Rattle.certificate_checker.specs.Reading.{◌>>=◌, tree_at}
 use Rattle.certificate_checker.specs.declared.fault.CertFault.{CertFault}
 use Rattle.certificate_checker.specs.declared.walking.Failing.{Failing}
 use Rattle.certificate_checker.specs.declared.steps.Progress.{Progress}
+use Rattle.certificate_checker.specs.declared.fixings.Fixing.{Fixing}
+use Rattle.certificate_checker.specs.declared.fixings.Fixing.TheVariants.{Zero, One}
 
 -- a step from a branch to a child: to that for zero, before that for one is read; or to that for one, behind that for zero.
 -- A way has its last step first
@@ -18,10 +20,10 @@ pub data Step : Type 0 where
   to_one : (var : ℕ) (zero_tree : PlainTree) → Step
 
 -- what is fixed at the end of a way
-abbrev pub marks_at : PlainSide → List Step → List ℕ
+abbrev pub marks_at : PlainSide → List Step → List Fixing
 marks_at s [] = all_free s
-marks_at s (to_zero j ∷ way) = slice_set (marks_at s way) j 0
-marks_at s (to_one j l ∷ way) = slice_set (marks_at s way) j 1
+marks_at s (to_zero j ∷ way) = slice_set (marks_at s way) j Zero
+marks_at s (to_one j l ∷ way) = slice_set (marks_at s way) j One
 
 -- the number of the node at the end of a way, from 0
 abbrev pub node_at : List Step → ℕ
@@ -35,7 +37,7 @@ HeldBefore s best [] = Unit {0}
 HeldBefore s best (to_zero j ∷ way) = BranchHolds s (marks_at s way) j × HeldBefore s best way
 HeldBefore s best (to_one j l ∷ way) =
     BranchHolds s (marks_at s way) j
-    × Holds s best (slice_set (marks_at s way) j 0) l
+    × Holds s best (slice_set (marks_at s way) j Zero) l
     × HeldBefore s best way
 
 -- a whole tree that has the way, and this tree at its end; what is still to be read may be any tree
@@ -73,20 +75,20 @@ HasChildren path [] = Unit {0}
 HasChildren path (step ∷ way) = (slice_index path (length way) % 2 ≡ child_of step) × HasChildren path way
 
 -- all nodes before the end of the way hold
-pub record HoldsSoFar (s : PlainSide) (best : ℕ) (way : List Step) (path marks : List ℕ) (node : ℕ) : Type 0 where
+pub record HoldsSoFar (s : PlainSide) (best : ℕ) (way : List Step) (path : List ℕ) (marks : List Fixing) (node : ℕ) : Type 0 where
   pub written : HasWay path way
   pub fixed : marks ≡ marks_at s way
   pub number : node ≡ in_32_bits (node_at way)
   pub held : HeldBefore s best way
 
 -- what is known before the tree at the end of a way is read: all nodes hold, or the first that fails
-abbrev pub SoFar : PlainSide → ℕ → List Step → List ℕ → List ℕ → Result ℕ Failing → Type 0
+abbrev pub SoFar : PlainSide → ℕ → List Step → List ℕ → List Fixing → Result ℕ Failing → Type 0
 SoFar s best way path marks (Ok node) = HoldsSoFar s best way path marks node
 SoFar s best way path marks (Err f) =
     HasChildren path way × ((t whole : PlainTree) → Completes way t whole → FailsIn s best (all_free s) whole 0 0 f)
 
 -- all nodes of the tree at the end of the way hold too
-pub record HoldsWith (s : PlainSide) (best : ℕ) (way : List Step) (t : PlainTree) (path marks : List ℕ) (next : ℕ) : Type 0 where
+pub record HoldsWith (s : PlainSide) (best : ℕ) (way : List Step) (t : PlainTree) (path : List ℕ) (marks : List Fixing) (next : ℕ) : Type 0 where
   pub written : HasWay path way
   pub fixed : marks ≡ marks_at s way
   pub number : next ≡ in_32_bits (node_at way + size t)
@@ -94,7 +96,7 @@ pub record HoldsWith (s : PlainSide) (best : ℕ) (way : List Step) (t : PlainTr
   pub held : HeldBefore s best way
 
 -- the same behind that tree
-abbrev pub Behind : PlainSide → ℕ → List Step → PlainTree → List ℕ → List ℕ → Result ℕ Failing → Type 0
+abbrev pub Behind : PlainSide → ℕ → List Step → PlainTree → List ℕ → List Fixing → Result ℕ Failing → Type 0
 Behind s best way t path marks (Ok next) = HoldsWith s best way t path marks next
 Behind s best way t path marks (Err f) =
     HasChildren path way × ((whole : PlainTree) → Completes way t whole → FailsIn s best (all_free s) whole 0 0 f)
@@ -111,45 +113,45 @@ abbrev pub text_of : PlainSide → ℕ → ℕ → ℕ → List ℕ → TreeText
 text_of s best total levels bytes = record { side = s; best = best; total = total; levels = levels; bytes = bytes }
 
 -- a tree at this depth is to be read from the rest
-pub record IsBefore (x : TreeText) (path marks : List ℕ) (depth : ℕ) (answer : Result ℕ Failing) (rest : List ℕ) : Type 0 where
+pub record IsBefore (x : TreeText) (path : List ℕ) (marks : List Fixing) (depth : ℕ) (answer : Result ℕ Failing) (rest : List ℕ) : Type 0 where
   pub way : List Step
   pub long : length way ≡ depth
   pub read : resumed x.total x.levels way (tree_at x.total (x.levels - depth) rest) ≡ tree_at x.total x.levels x.bytes
   pub so_far : SoFar x.side x.best way path marks answer
 
 -- a tree at this depth was read, and the rest stands behind it
-pub record IsBehind (x : TreeText) (path marks : List ℕ) (depth : ℕ) (answer : Result ℕ Failing) (rest : List ℕ) : Type 0 where
+pub record IsBehind (x : TreeText) (path : List ℕ) (marks : List Fixing) (depth : ℕ) (answer : Result ℕ Failing) (rest : List ℕ) : Type 0 where
   pub way : List Step
   pub tree : PlainTree
   pub long : length way ≡ depth
   pub read : resumed x.total x.levels way (Ok (tree, rest)) ≡ tree_at x.total x.levels x.bytes
   pub so_far : Behind x.side x.best way tree path marks answer
 
-abbrev pub StandsAt : TreeText → List ℕ → List ℕ → ℕ → Bool → Result ℕ Failing → List ℕ → Type 0
+abbrev pub StandsAt : TreeText → List ℕ → List Fixing → ℕ → Bool → Result ℕ Failing → List ℕ → Type 0
 StandsAt x path marks depth false answer rest = IsBefore x path marks depth answer rest
 StandsAt x path marks depth true answer rest = IsBehind x path marks depth answer rest
 
 -- how far the walk over the text of a tree has come
-abbrev pub Stands : TreeText → List ℕ → List ℕ → Progress → List ℕ → Type 0
+abbrev pub Stands : TreeText → List ℕ → List Fixing → Progress → List ℕ → Type 0
 Stands x path marks progress rest = StandsAt x path marks progress.depth progress.ended progress.so_far rest
 
 -- what one step forward leaves: a place further on, or the text's fault
-abbrev pub Advances : TreeText → List ℕ → List ℕ → Result (Progress × Bor (List ℕ)) CertFault → Type 0
+abbrev pub Advances : TreeText → List ℕ → List Fixing → Result (Progress × Bor (List ℕ)) CertFault → Type 0
 Advances x path marks (Ok r) = Stands x path marks r.0 r.1.now
 Advances x path marks (Err e) = tree_at x.total x.levels x.bytes ≡ Err e
 
 -- a variable that is to be marked, as long as all nodes hold, is one of the side
-abbrev pub MayMark : List ℕ → ℕ → Result ℕ Failing → Type 0
+abbrev pub MayMark : List Fixing → ℕ → Result ℕ Failing → Type 0
 MayMark marks j (Ok node) = j < length marks
 MayMark marks j (Err f) = Unit {0}
 
 -- the marks with another mark, as long as all nodes hold
-abbrev pub marked : List ℕ → ℕ → ℕ → Result ℕ Failing → List ℕ
-marked marks j n (Ok node) = slice_set marks j n
-marked marks j n (Err f) = marks
+abbrev pub marked : List Fixing → ℕ → Fixing → Result ℕ Failing → List Fixing
+marked marks j f (Ok node) = slice_set marks j f
+marked marks j f (Err e) = marks
 
 -- the last step of a path can be taken back
-pub record CanRise (path marks : List ℕ) (depth : ℕ) (answer : Result ℕ Failing) : Type 0 where
+pub record CanRise (path : List ℕ) (marks : List Fixing) (depth : ℕ) (answer : Result ℕ Failing) : Type 0 where
   pub some : 1 ≤ depth
   pub inside : MayMark marks (slice_index path (depth - 1) / 2) answer
 
@@ -158,7 +160,7 @@ IfEnded false P = Unit {0}
 IfEnded true P = P
 
 -- a step forward can be taken
-abbrev pub CanAdvance : List ℕ → List ℕ → Progress → Type 0
+abbrev pub CanAdvance : List ℕ → List Fixing → Progress → Type 0
 CanAdvance path marks progress = IfEnded progress.ended (CanRise path marks progress.depth progress.so_far)
 
 -- what is left to do, in units that each step forward uses up

@@ -1,10 +1,11 @@
 ghost use Rattle.std.specs.Prelude.{◌≡◌, ℕ, pos, ◌^◌, ◌<◌, ◌≤◌, ◌↔◌, IsTrue, length, Some, None, option_map, MatchOption, IfSome};
 ghost use Rattle.placement_programme.specs.Views.{plain_side, plain_programme, plain_choice};
-ghost use Rattle.certificate_checker.specs.Shows.{IsAccepted, Answers};
+ghost use Rattle.certificate_checker.specs.Shows.{IsAccepted, HasNoTree, HasTree, Answers};
 ghost use Rattle.certificate_checker.specs.Views.{plain_tree, plain_certificate, plain_verdict};
 ghost use Rattle.certificate_checker.specs.Walks.{SideAnswers};
 
 use crate::columns::var_count;
+use crate::fixings::Fixing;
 use crate::trees::{Certificate, Tree};
 use crate::verdict::Verdict;
 use crate::walking::{Failing, walk};
@@ -23,7 +24,12 @@ pub fn accepted(p: &Programme, choice: &Choice) -> Option<u128>
 }
 
 /// Checks the tree of a side, which must have one.
-fn check_tree(side: &Side, best: u128, tree: &Option<Tree>, marks: &mut [u8]) -> Result<(), Failing>
+fn check_tree(
+    side: &Side,
+    best: u128,
+    tree: &Option<Tree>,
+    marks: &mut [Fixing],
+) -> Result<(), Failing>
     requires best { best ≤ 2 ^ 104 }
     requires marked { length (plain_side side.now).vars ≤ length marks.old }
     ensures { SideAnswers (Some (plain_side side.now)) best (option_map plain_tree tree.now) result }
@@ -31,7 +37,7 @@ fn check_tree(side: &Side, best: u128, tree: &Option<Tree>, marks: &mut [u8]) ->
     match tree {
         Some(tree) => {
             let free = &mut marks[..var_count(side)];
-            free.fill(2);
+            free.fill(Fixing::Free);
             match walk(side, best, free, tree, 0, 0) {
                 Ok(_) => Ok(()),
                 Err(failing) => Err(failing),
@@ -42,7 +48,12 @@ fn check_tree(side: &Side, best: u128, tree: &Option<Tree>, marks: &mut [u8]) ->
 }
 
 /// Checks the tree of the side with overlay, which must be there where the side is.
-fn check_on(p: &Programme, best: u128, tree: &Option<Tree>, marks: &mut [u8]) -> Result<(), Failing>
+fn check_on(
+    p: &Programme,
+    best: u128,
+    tree: &Option<Tree>,
+    marks: &mut [Fixing],
+) -> Result<(), Failing>
     requires best { best ≤ 2 ^ 104 }
     requires marked { IfSome p.now.on (λ side. length (plain_side side).vars ≤ length marks.old) }
     ensures { SideAnswers (option_map plain_side p.now.on) best (option_map plain_tree tree.now) result }
@@ -56,16 +67,17 @@ fn check_on(p: &Programme, best: u128, tree: &Option<Tree>, marks: &mut [u8]) ->
     }
 }
 
+/// Whether a certificate only says that its choice is feasible.
 fn has_no_tree(c: &Certificate) -> bool
-    ensures { IsTrue result ↔ (((plain_certificate c.now).off ≡ None) × ((plain_certificate c.now).on ≡ None)) }
+    ensures { IsTrue result ↔ HasNoTree (plain_certificate c.now) }
 {
     c.off.is_none() && c.on.is_none()
 }
 
 /// Checks the trees of a choice that gains `best`.
-fn check_trees(p: &Programme, c: &Certificate, best: u128, marks: &mut [u8]) -> Verdict
+fn check_trees(p: &Programme, c: &Certificate, best: u128, marks: &mut [Fixing]) -> Verdict
     requires accepted { IsAccepted (plain_programme p.now) (plain_choice c.now.choice) best }
-    requires tree { ((plain_certificate c.now).off ≡ None) × ((plain_certificate c.now).on ≡ None) → ⊥ }
+    requires tree { HasTree (plain_certificate c.now) }
     requires best { best ≤ 2 ^ 104 }
     requires off { length (plain_side p.now.off).vars ≤ length marks.old }
     requires on { IfSome p.now.on (λ side. length (plain_side side).vars ≤ length marks.old) }
@@ -90,7 +102,7 @@ fn check_trees(p: &Programme, c: &Certificate, best: u128, marks: &mut [u8]) -> 
 
 /// What a certificate shows of a programme. `marks` is room for a mark a variable of the longer side; what it holds
 /// before plays no part.
-pub fn check(p: &Programme, c: &Certificate, marks: &mut [u8]) -> Verdict
+pub fn check(p: &Programme, c: &Certificate, marks: &mut [Fixing]) -> Verdict
     requires off { length p.now.off.vars.items ≤ length marks.old }
     requires on { IfSome p.now.on (λ side. length side.vars.items ≤ length marks.old) }
     ensures { Answers (plain_programme p.now) (plain_certificate c.now) (plain_verdict result) }

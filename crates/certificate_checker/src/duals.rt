@@ -3,12 +3,12 @@ ghost use Rattle.placement_programme.specs.Bounds.{RowsWithin};
 ghost use Rattle.placement_programme.specs.Programme.{gain_at, weights_at};
 ghost use Rattle.placement_programme.specs.Sums.{sum_below};
 ghost use Rattle.placement_programme.specs.Views.{plain_side};
-ghost use Rattle.certificate_checker.specs.Marks.{mark, mark_of};
 ghost use Rattle.certificate_checker.specs.Rules.{kept, moved, DualHolds};
 ghost use Rattle.certificate_checker.specs.Prices.{multiplier_in, AreOfRows, priced_by};
 ghost use Rattle.certificate_checker.specs.Parts.{kept_part, moved_part, SumsHold};
 
 use crate::columns::{gain_of_var, var_count, weights_of_var};
+use crate::fixings::{Fixing, fixing_of};
 use crate::multipliers::{Multipliers, are_rows, bounded, priced};
 use placement_programme::Side;
 
@@ -19,17 +19,17 @@ struct TwoParts {
     moved: u128,
 }
 
-fn parts(mark: u8, gain: u128, price: u128) -> TwoParts
-    ensures kept { result.kept ≡ kept (mark_of mark) gain price }
-    ensures moved { result.moved ≡ moved (mark_of mark) price }
+fn parts(fixing: Fixing, gain: u128, price: u128) -> TwoParts
+    ensures kept { result.kept ≡ kept fixing gain price }
+    ensures moved { result.moved ≡ moved fixing price }
 {
-    match mark {
-        0 => TwoParts { kept: 0, moved: 0 },
-        1 => TwoParts {
+    match fixing {
+        Fixing::Zero => TwoParts { kept: 0, moved: 0 },
+        Fixing::One => TwoParts {
             kept: gain,
             moved: price,
         },
-        _ => TwoParts {
+        Fixing::Free => TwoParts {
             kept: gain.saturating_sub(price),
             moved: 0,
         },
@@ -47,7 +47,7 @@ fn scaled_gain(side: &Side, scale: u32, number: usize) -> u128
 
 fn parts_at(
     side: &Side,
-    marks: &[u8],
+    marks: &[Fixing],
     scale: u32,
     multipliers: &Multipliers,
     number: usize,
@@ -60,12 +60,12 @@ fn parts_at(
     ensures moved { result.moved ≡ moved_part (plain_side side.now) marks.now (multiplier_in multipliers.now) number }
     ensures small { result.moved < 2 ^ 113 }
 {
-    let mark = marks[number];
-    if mark == 0 {
+    let fixing = fixing_of(marks, number);
+    if fixing == Fixing::Zero {
         return TwoParts { kept: 0, moved: 0 };
     }
     let price = priced(multipliers, weights_of_var(side, number));
-    parts(mark, scaled_gain(side, scale, number), price)
+    parts(fixing, scaled_gain(side, scale, number), price)
 }
 
 /// The scaled bound.
@@ -82,7 +82,7 @@ fn scaled_bound(side: &Side, best: u128, scale: u32) -> u128
 pub(crate) fn sums_hold(
     side: &Side,
     best: u128,
-    marks: &[u8],
+    marks: &[Fixing],
     scale: u32,
     bound: u128,
     multipliers: &Multipliers,
@@ -109,7 +109,7 @@ pub(crate) fn sums_hold(
 pub fn dual_holds(
     side: &Side,
     best: u128,
-    marks: &[u8],
+    marks: &[Fixing],
     scale: u32,
     multipliers: &[(u32, u64)],
 ) -> bool

@@ -1,6 +1,7 @@
 ghost use Rattle.std.specs.Prelude.{◌≡◌, ◌≤◌, length, option_map, IfOk};
 ghost use Rattle.certificate_checker.specs.Rooms.{RoomFits, IsRoomOf, most_of};
 
+use crate::fixings::Fixing;
 use placement_programme::{Choice, Programme};
 use std::alloc::{AllocError, Global};
 
@@ -8,7 +9,7 @@ use std::alloc::{AllocError, Global};
 #[derive(Drop)]
 pub struct Room {
     /// A mark for each variable of the longer side.
-    pub marks: Vec<u8>,
+    pub marks: Vec<Fixing>,
     /// A step for each depth, 4,097, with which the way from the root to a node is told.
     pub path: Vec<u32>,
     /// A multiplier for each row of the side with more rows.
@@ -35,12 +36,10 @@ fn most_rows(p: &Programme) -> usize
     }
 }
 
-fn bytes_of(alloc: Global, count: usize) -> Result<Vec<u8>, AllocError>
+fn fixings(alloc: Global, count: usize) -> Result<Vec<Fixing>, AllocError>
     ensures { IfOk result (λ v. length v.items ≡ count) }
 {
-    let mut bytes = Vec::new(alloc);
-    bytes.resize(count, 0)?;
-    Ok(bytes)
+    vec![in alloc; Fixing::Free; count]
 }
 
 fn numbers_of(alloc: Global, count: usize) -> Result<Vec<u64>, AllocError>
@@ -66,7 +65,7 @@ impl Room {
         ensures exact { IfOk result (λ room. IsRoomOf p.now room) }
     {
         let vars = most_vars(p);
-        let marks = bytes_of(alloc, vars)?;
+        let marks = fixings(alloc, vars)?;
         let path = steps_of(alloc, 4097)?;
         let multipliers = numbers_of(alloc, most_rows(p))?;
         let take = Vec::with_capacity(alloc, vars)?;

@@ -5,20 +5,21 @@ ghost use Rattle.certificate_checker.specs.Views.{plain_tree};
 
 use crate::columns::{gain_of_var, var_count, weight_in_row};
 use crate::duals::dual_holds;
+use crate::fixings::{Fixing, fixing_of, is_free, is_one};
 use crate::trees::Tree;
 use placement_programme::Side;
 
 /// Whether a branch fixes a variable that is free.
-pub fn branch_holds(side: &Side, marks: &[u8], number: u32) -> bool
+pub fn branch_holds(side: &Side, marks: &[Fixing], number: u32) -> bool
     requires { length (plain_side side.now).vars ≤ length marks.now }
     ensures { IsTrue result ↔ BranchHolds (plain_side side.now) marks.now number }
 {
     let place = number as usize;
-    place < var_count(side) && marks[place] > 1
+    place < var_count(side) && is_free(marks, place)
 }
 
 /// Whether the variables that are fixed to one exceed a row.
-pub(crate) fn over_holds(side: &Side, marks: &[u8], row: u32) -> bool
+pub(crate) fn over_holds(side: &Side, marks: &[Fixing], row: u32) -> bool
     requires { length (plain_side side.now).vars ≤ length marks.now }
     ensures { IsTrue result ↔ OverHolds (plain_side side.now) marks.now row }
 {
@@ -28,7 +29,7 @@ pub(crate) fn over_holds(side: &Side, marks: &[u8], row: u32) -> bool
     }
     let mut total = 0;
     for number in 0..var_count(side) {
-        if marks[number] == 1 {
+        if is_one(marks, number) {
             total += weight_in_row(side, number, row);
         }
     }
@@ -36,24 +37,24 @@ pub(crate) fn over_holds(side: &Side, marks: &[u8], row: u32) -> bool
 }
 
 /// Whether all variables are fixed, and gain at most `best`.
-pub(crate) fn leaf_holds(side: &Side, best: u128, marks: &[u8]) -> bool
+pub(crate) fn leaf_holds(side: &Side, best: u128, marks: &[Fixing]) -> bool
     requires best { best ≤ 2 ^ 104 }
     requires marked { length (plain_side side.now).vars ≤ length marks.now }
     ensures { IsTrue result ↔ LeafHolds (plain_side side.now) best marks.now }
 {
     let mut total = 0;
     for number in 0..var_count(side) {
-        match marks[number] {
-            0 => {}
-            1 => total += gain_of_var(side, number),
-            _ => return false,
+        match fixing_of(marks, number) {
+            Fixing::Zero => {}
+            Fixing::One => total += gain_of_var(side, number),
+            Fixing::Free => return false,
         }
     }
     total <= best + side.fixed
 }
 
 /// Whether a node keeps its own rule under these marks, with nothing said of those below it; `best` has the fixed cost taken off.
-pub fn keeps_rule(side: &Side, best: u128, marks: &[u8], tree: &Tree) -> bool
+pub fn keeps_rule(side: &Side, best: u128, marks: &[Fixing], tree: &Tree) -> bool
     requires best { best ≤ 2 ^ 104 }
     requires marked { length (plain_side side.now).vars ≤ length marks.now }
     ensures { IsTrue result ↔ KeepsRule (plain_side side.now) best marks.now (plain_tree tree.now) }

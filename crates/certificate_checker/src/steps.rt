@@ -2,6 +2,7 @@ ghost use Rattle.std.specs.Prelude.{◌≡◌, ℕ, ◌+◌, ◌-◌, ◌*◌, �
 ghost use Rattle.placement_programme.specs.Views.{plain_side};
 ghost use Rattle.certificate_checker.specs.Ways.{Step, to_zero, SoFar, TreeText, IsBehind, Stands, MayMark, marked, CanRise, left};
 
+use crate::fixings::Fixing;
 use crate::rules::branch_holds;
 use crate::walking::{Failing, next_number};
 use placement_programme::Side;
@@ -57,7 +58,7 @@ fn var_of_step(step: u32) -> u32
 /// Takes the step to the child for zero. A branch that fixes no free variable fails, and its children are only read.
 pub(crate) fn enter(
     side: &Side,
-    marks: &mut [u8],
+    marks: &mut [Fixing],
     path: &mut [u32],
     depth: u32,
     var: u32,
@@ -79,26 +80,26 @@ pub(crate) fn enter(
                 return Err(Failing { node, depth });
             }
             path[depth as usize] = step_to_zero(var);
-            marks[var as usize] = 0;
+            marks[var as usize] = Fixing::Zero;
             Ok(next_number(node))
         }
     }
 }
 
 /// Marks a variable, as long as all nodes hold: behind one that fails the marks serve no more.
-fn set_mark(marks: &mut [u8], var: u32, mark: u8, so_far: &Result<u32, Failing>)
+fn set_mark(marks: &mut [Fixing], var: u32, fixing: Fixing, so_far: &Result<u32, Failing>)
     requires { MayMark marks.old var so_far.now }
-    ensures { marks.new ≡ marked marks.old var mark so_far.now }
+    ensures { marks.new ≡ marked marks.old var fixing so_far.now }
 {
     match so_far {
-        Ok(_) => marks[var as usize] = mark,
+        Ok(_) => marks[var as usize] = fixing,
         Err(_) => {}
     }
 }
 
 /// Leaves the tree at the end of the path: the child for one comes behind that for zero, and the branch is read behind that
 /// for one, so that its variable is free again.
-pub(crate) fn leave(marks: &mut [u8], path: &mut [u32], progress: Progress) -> Progress
+pub(crate) fn leave(marks: &mut [Fixing], path: &mut [u32], progress: Progress) -> Progress
     requires inside { progress.depth ≤ length path.old }
     requires step { CanRise path.old marks.old progress.depth progress.so_far }
     ensures stands { (x : TreeText) (rest : List ℕ) → IsBehind x path.old marks.old progress.depth progress.so_far rest → Stands x path.new marks.new result rest }
@@ -109,14 +110,14 @@ pub(crate) fn leave(marks: &mut [u8], path: &mut [u32], progress: Progress) -> P
     let step = path[last as usize];
     let var = var_of_step(step);
     if is_to_one(step) {
-        set_mark(marks, var, 2, &progress.so_far);
+        set_mark(marks, var, Fixing::Free, &progress.so_far);
         return Progress {
             depth: last,
             ended: true,
             so_far: progress.so_far,
         };
     }
-    set_mark(marks, var, 1, &progress.so_far);
+    set_mark(marks, var, Fixing::One, &progress.so_far);
     path[last as usize] = step_to_one(step);
     Progress {
         depth: progress.depth,

@@ -1,4 +1,4 @@
-use crate::{CertFault, Certificate, Room, Verdict, check, check_text, read_tree, write_tree};
+use crate::{CertFault, Certificate, Fixing, Room, Verdict, check, check_text, read_tree, write_tree};
 use placement_programme::{Programme, Side, Var, VarName};
 use std::alloc::{AllocError, Global};
 use std::test::Fail;
@@ -30,7 +30,7 @@ fn vars(alloc: Global) -> Result<Vec<Var>, AllocError> {
 
 /// What a check of a certificate says; None where the programme has no place for its marks.
 fn verdict(p: &Programme, c: &Certificate) -> Option<Verdict> {
-    let mut marks = [7; 8];
+    let mut marks = [Fixing::Free; 8];
     if p.off.vars.len() > marks.len() || p.on.is_some() {
         return None;
     }

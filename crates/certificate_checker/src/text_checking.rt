@@ -1,5 +1,5 @@
 ghost use Rattle.std.specs.Prelude.{◌≡◌, ◌^◌, ◌≤◌, length, IfSome, vec_capacity};
-ghost use Rattle.placement_programme.specs.Views.{plain_side, plain_programme, plain_choice};
+ghost use Rattle.placement_programme.specs.Views.{plain_programme, plain_choice};
 ghost use Rattle.placement_programme.specs.Programme.{side_for};
 ghost use Rattle.certificate_checker.specs.Reading.{choice_at, body_at, certificate_of};
 ghost use Rattle.certificate_checker.specs.Rooms.{vars_of, Chooses, BodyAnswers, RoomFits, HasSameRoom, used, verdict_for};
@@ -94,27 +94,18 @@ fn used(best: Option<u128>) -> u128
 #[tactic(auto, unfolding(crate::specs::Reading::body_at))]
 fn check_body(
     p: &Programme,
-    marks: &mut [u8],
-    path: &mut [u32],
-    multipliers: &mut [u64],
-    choice: &mut Choice,
+    room: &mut Room,
     total: usize,
     bytes: &[u8],
 ) -> Result<Verdict, CertFault>
-    requires path { 4097 ≤ length path.old }
-    requires off_marked { length (plain_side p.now.off).vars ≤ length marks.old }
-    requires off_room { length (plain_side p.now.off).rows ≤ length multipliers.old }
-    requires off_take { length p.now.off.vars.items ≤ vec_capacity choice.old.take }
-    requires on_marked { IfSome p.now.on (λ side. length (plain_side side).vars ≤ length marks.old) }
-    requires on_room { IfSome p.now.on (λ side. length (plain_side side).rows ≤ length multipliers.old) }
-    requires on_take { IfSome p.now.on (λ s. length s.vars.items ≤ vec_capacity choice.old.take) }
-    ensures answers { BodyAnswers (plain_programme p.now) (plain_choice choice.new) result (body_at total bytes.now) }
-    ensures capacity { vec_capacity choice.old.take ≤ vec_capacity choice.new.take }
+    requires { RoomFits p.now room.old }
+    ensures answers { BodyAnswers (plain_programme p.now) (plain_choice room.new.choice) result (body_at total bytes.now) }
+    ensures same { HasSameRoom room.old room.new }
 {
     let (optimal, rest) = flag(total, bytes)?;
-    let (best, rest) = take_choice(p, choice, total, rest)?;
+    let (best, rest) = take_choice(p, &mut room.choice, total, rest)?;
     let gain = used(best);
-    let (trees, rest) = text_trees(p, gain, optimal, marks, path, multipliers, total, rest)?;
+    let (trees, rest) = text_trees(p, gain, optimal, room, total, rest)?;
     if rest.is_empty() {
         Ok(verdict_of(best, optimal, trees))
     } else {
@@ -124,47 +115,19 @@ fn check_body(
     }
 }
 
-#[tactic(auto, unfolding(crate::specs::Reading::certificate_of))]
-fn check_whole(
-    p: &Programme,
-    marks: &mut [u8],
-    path: &mut [u32],
-    multipliers: &mut [u64],
-    choice: &mut Choice,
-    bytes: &[u8],
-) -> Result<Verdict, CertFault>
-    requires path { 4097 ≤ length path.old }
-    requires off_marked { length (plain_side p.now.off).vars ≤ length marks.old }
-    requires off_room { length (plain_side p.now.off).rows ≤ length multipliers.old }
-    requires off_take { length p.now.off.vars.items ≤ vec_capacity choice.old.take }
-    requires on_marked { IfSome p.now.on (λ side. length (plain_side side).vars ≤ length marks.old) }
-    requires on_room { IfSome p.now.on (λ side. length (plain_side side).rows ≤ length multipliers.old) }
-    requires on_take { IfSome p.now.on (λ s. length s.vars.items ≤ vec_capacity choice.old.take) }
-    ensures answers { BodyAnswers (plain_programme p.now) (plain_choice choice.new) result (certificate_of bytes.now) }
-    ensures capacity { vec_capacity choice.old.take ≤ vec_capacity choice.new.take }
-{
-    match mark(bytes.len(), bytes) {
-        Err(fault) => Err(fault),
-        Ok(rest) => check_body(p, marks, path, multipliers, choice, bytes.len(), rest),
-    }
-}
-
 /// Checks a certificate as it is read, once and without memory of its own: the verdict of `check` for the certificate that
 /// the bytes spell, or the first byte that breaks the grammar, also where a node before it fails. A number of the choice that
 /// is no variable makes it BadChoice. After Optimal and BestFound the room has the certificate's choice. The room is one
 /// that fits the programme, as `Room::new` makes it, and stays so.
+#[tactic(auto, unfolding(crate::specs::Reading::certificate_of))]
 pub fn check_text(p: &Programme, bytes: &[u8], room: &mut Room) -> Result<Verdict, CertFault>
     requires { RoomFits p.now room.old }
     ensures answers { BodyAnswers (plain_programme p.now) (plain_choice room.new.choice) result (certificate_of bytes.now) }
     ensures fits { RoomFits p.now room.new }
     ensures same { HasSameRoom room.old room.new }
 {
-    check_whole(
-        p,
-        &mut room.marks,
-        &mut room.path,
-        &mut room.multipliers,
-        &mut room.choice,
-        bytes,
-    )
+    match mark(bytes.len(), bytes) {
+        Err(fault) => Err(fault),
+        Ok(rest) => check_body(p, room, bytes.len(), rest),
+    }
 }

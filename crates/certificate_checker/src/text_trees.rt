@@ -1,12 +1,14 @@
-ghost use Rattle.std.specs.Prelude.{◌≡◌, ℕ, ◌^◌, ◌≤◌, length, Some, None, Err, option_map, IfSome};
+ghost use Rattle.std.specs.Prelude.{◌≡◌, ℕ, ◌^◌, ◌<◌, ◌≤◌, length, Some, None, Err, option_map};
 ghost use Rattle.placement_programme.specs.Views.{plain_side, plain_programme};
 ghost use Rattle.certificate_checker.specs.Reading.{tree_at, most_levels, trees_at, trees_for};
 ghost use Rattle.certificate_checker.specs.Walks.{SideAnswers};
-ghost use Rattle.certificate_checker.specs.Rooms.{SideRead, TreesRead};
+ghost use Rattle.certificate_checker.specs.Rooms.{SideRead, TreesRead, RoomFits, KeepsChoiceAndSizes};
 
 use crate::columns::var_count;
 use crate::fault::CertFault;
 use crate::fields::{Part, number_in};
+use crate::fixings::Fixing;
+use crate::rooms::Room;
 use crate::text_walk::{Task, walk_text};
 use crate::walking::Failing;
 use placement_programme::{Programme, Side};
@@ -24,54 +26,77 @@ fn first_node() -> Result<(), Failing>
     Err(Failing { node: 0, depth: 0 })
 }
 
-/// Walks over the tree of a side.
-#[tactic(auto, unfolding(crate::specs::Reading::most_levels))]
-fn side_tree<'a>(
-    side: &Side,
-    best: u128,
-    marks: &mut [u8],
+/// Walks over the tree of a side, from marks that are all free.
+fn walk_side<'a>(
+    task: &Task,
+    marks: &mut [Fixing],
     path: &mut [u32],
     multipliers: &mut [u64],
-    total: usize,
     bytes: &'a [u8],
 ) -> Result<(Result<(), Failing>, &'a [u8]), CertFault>
-    requires best { best ≤ 2 ^ 104 }
-    requires path { 4097 ≤ length path.old }
-    requires marked { length (plain_side side.now).vars ≤ length marks.old }
-    requires room { length (plain_side side.now).rows ≤ length multipliers.old }
-    ensures { SideRead (Some (plain_side side.now)) best result (tree_at total most_levels bytes.now) }
+    requires best { task.now.best ≤ 2 ^ 104 }
+    requires levels { task.now.levels < 2 ^ 31 }
+    requires path { task.now.levels ≤ length path.old }
+    requires marked { length (plain_side task.now.side.now).vars ≤ length marks.old }
+    requires room { length (plain_side task.now.side.now).rows ≤ length multipliers.old }
+    ensures { SideRead (Some (plain_side task.now.side.now)) task.now.best result (tree_at task.now.total task.now.levels bytes.now) }
 {
-    let free = &mut marks[..var_count(side)];
-    free.fill(2);
-    let task = Task { side, best, total };
-    match walk_text(&task, free, path, multipliers, 4097, bytes) {
+    let free = &mut marks[..var_count(task.side)];
+    free.fill(Fixing::Free);
+    match walk_text(task, free, path, multipliers, bytes) {
         Err(fault) => Err(fault),
         Ok((Ok(_), rest)) => Ok((Ok(()), rest)),
         Ok((Err(failing), rest)) => Ok((Err(failing), rest)),
     }
 }
 
-/// Walks over the tree of the side with overlay; one without a side is read, and fails at its node 0.
-fn on_tree<'a>(
-    p: &Programme,
+/// Walks over the tree of a side in a room that is large enough for it.
+#[tactic(auto, unfolding(crate::specs::Reading::most_levels))]
+fn side_tree<'a>(
+    side: &Side,
     best: u128,
-    marks: &mut [u8],
-    path: &mut [u32],
-    multipliers: &mut [u64],
+    room: &mut Room,
     total: usize,
     bytes: &'a [u8],
 ) -> Result<(Result<(), Failing>, &'a [u8]), CertFault>
     requires best { best ≤ 2 ^ 104 }
-    requires path { 4097 ≤ length path.old }
-    requires off_marked { length (plain_side p.now.off).vars ≤ length marks.old }
-    requires off_room { length (plain_side p.now.off).rows ≤ length multipliers.old }
-    requires on_marked { IfSome p.now.on (λ side. length (plain_side side).vars ≤ length marks.old) }
-    requires on_room { IfSome p.now.on (λ side. length (plain_side side).rows ≤ length multipliers.old) }
-    ensures { SideRead (option_map plain_side p.now.on) best result (tree_at total most_levels bytes.now) }
+    requires path { 4097 ≤ length room.old.path.items }
+    requires marked { length (plain_side side.now).vars ≤ length room.old.marks.items }
+    requires room { length (plain_side side.now).rows ≤ length room.old.multipliers.items }
+    ensures read { SideRead (Some (plain_side side.now)) best result (tree_at total most_levels bytes.now) }
+    ensures kept { KeepsChoiceAndSizes room.old room.new }
+{
+    let task = Task {
+        side,
+        best,
+        total,
+        levels: 4097,
+    };
+    walk_side(
+        &task,
+        &mut room.marks,
+        &mut room.path,
+        &mut room.multipliers,
+        bytes,
+    )
+}
+
+/// Walks over the tree of the side with overlay; one without a side is read, and fails at its node 0.
+fn on_tree<'a>(
+    p: &Programme,
+    best: u128,
+    room: &mut Room,
+    total: usize,
+    bytes: &'a [u8],
+) -> Result<(Result<(), Failing>, &'a [u8]), CertFault>
+    requires best { best ≤ 2 ^ 104 }
+    requires room { RoomFits p.now room.old }
+    ensures kept { KeepsChoiceAndSizes room.old room.new }
+    ensures read { SideRead (option_map plain_side p.now.on) best result (tree_at total most_levels bytes.now) }
 {
     match &p.on {
-        Some(side) => side_tree(side, best, marks, path, multipliers, total, bytes),
-        None => match side_tree(&p.off, best, marks, path, multipliers, total, bytes) {
+        Some(side) => side_tree(side, best, room, total, bytes),
+        None => match side_tree(&p.off, best, room, total, bytes) {
             Err(fault) => Err(fault),
             Ok((_, rest)) => Ok((Err(Failing { node: 0, depth: 0 }), rest)),
         },
@@ -93,27 +118,22 @@ fn no_on_tree(p: &Programme) -> Result<(), Failing>
 fn claimed_trees<'a>(
     p: &Programme,
     best: u128,
-    marks: &mut [u8],
-    path: &mut [u32],
-    multipliers: &mut [u64],
+    room: &mut Room,
     total: usize,
     bytes: &'a [u8],
 ) -> Result<(Outcomes, &'a [u8]), CertFault>
     requires best { best ≤ 2 ^ 104 }
-    requires path { 4097 ≤ length path.old }
-    requires off_marked { length (plain_side p.now.off).vars ≤ length marks.old }
-    requires off_room { length (plain_side p.now.off).rows ≤ length multipliers.old }
-    requires on_marked { IfSome p.now.on (λ side. length (plain_side side).vars ≤ length marks.old) }
-    requires on_room { IfSome p.now.on (λ side. length (plain_side side).rows ≤ length multipliers.old) }
-    ensures { TreesRead (plain_programme p.now) best result (trees_at total bytes.now) }
+    requires room { RoomFits p.now room.old }
+    ensures kept { KeepsChoiceAndSizes room.old room.new }
+    ensures read { TreesRead (plain_programme p.now) best result (trees_at total bytes.now) }
 {
     let (count, rest) = number_in(Part::Head, 1, 2, total, bytes)?;
-    let (off, rest) = side_tree(&p.off, best, marks, path, multipliers, total, rest)?;
+    let (off, rest) = side_tree(&p.off, best, room, total, rest)?;
     if count == 1 {
         let on = no_on_tree(p);
         return Ok((Outcomes { off, on }, rest));
     }
-    let (on, rest) = on_tree(p, best, marks, path, multipliers, total, rest)?;
+    let (on, rest) = on_tree(p, best, room, total, rest)?;
     Ok((Outcomes { off, on }, rest))
 }
 
@@ -122,22 +142,17 @@ pub(crate) fn text_trees<'a>(
     p: &Programme,
     best: u128,
     optimal: bool,
-    marks: &mut [u8],
-    path: &mut [u32],
-    multipliers: &mut [u64],
+    room: &mut Room,
     total: usize,
     bytes: &'a [u8],
 ) -> Result<(Outcomes, &'a [u8]), CertFault>
     requires best { best ≤ 2 ^ 104 }
-    requires path { 4097 ≤ length path.old }
-    requires off_marked { length (plain_side p.now.off).vars ≤ length marks.old }
-    requires off_room { length (plain_side p.now.off).rows ≤ length multipliers.old }
-    requires on_marked { IfSome p.now.on (λ side. length (plain_side side).vars ≤ length marks.old) }
-    requires on_room { IfSome p.now.on (λ side. length (plain_side side).rows ≤ length multipliers.old) }
-    ensures { TreesRead (plain_programme p.now) best result (trees_for optimal total bytes.now) }
+    requires room { RoomFits p.now room.old }
+    ensures kept { KeepsChoiceAndSizes room.old room.new }
+    ensures read { TreesRead (plain_programme p.now) best result (trees_for optimal total bytes.now) }
 {
     if optimal {
-        claimed_trees(p, best, marks, path, multipliers, total, bytes)
+        claimed_trees(p, best, room, total, bytes)
     } else {
         let off = first_node();
         let on = no_on_tree(p);

@@ -5,6 +5,7 @@ ghost use Rattle.certificate_checker.specs.Nodes.{PlainTree};
 ghost use Rattle.certificate_checker.specs.Rules.{KeepsRule, DualHolds};
 ghost use Rattle.certificate_checker.specs.Shows.{all_free};
 ghost use Rattle.certificate_checker.specs.Walks.{Walks};
+ghost use Rattle.certificate_checker.specs.declared.fixings.Fixing.{Fixing};
 ghost use Rattle.certificate_checker.specs.Reading.{over_at, dual_at, tree_at};
 ghost use Rattle.certificate_checker.specs.Loading.{IsLoaded, IsSingle, SplitsFirst, WalksRead, behind_of, both_of};
 ghost use Rattle.certificate_checker.specs.Ways.{text_of, IsBefore, Stands, Advances, CanAdvance, left};
@@ -13,6 +14,7 @@ use crate::columns::row_count;
 use crate::duals::sums_hold;
 use crate::fault::CertFault;
 use crate::fields::{Part, cut_off, number_in, place, small_number};
+use crate::fixings::Fixing;
 use crate::loading::{Loaded, load_entries};
 use crate::multipliers::Multipliers;
 use crate::reading::below_all;
@@ -21,12 +23,13 @@ use crate::steps::{Progress, enter, is_done, leave};
 use crate::walking::{Failing, next_number};
 use placement_programme::Side;
 
-/// What a tree in a text is read for: its side and a choice's gain, in a text of `total` bytes.
+/// What a tree in a text is read for: its side and a choice's gain, in a text of `total` bytes, with at most `levels` levels.
 #[derive(Drop)]
 pub(crate) struct Task<'a> {
     pub side: &'a Side,
     pub best: u128,
     pub total: usize,
+    pub levels: u32,
 }
 
 /// A walk's answer and the bytes behind the tree.
@@ -34,7 +37,7 @@ type Walked<'a> = (Result<u32, Failing>, &'a [u8]);
 
 /// What a node without children answers.
 fn single(holds: bool, node: u32, depth: u32) -> Result<u32, Failing>
-    ensures { (s : PlainSide) (best : ℕ) (marks : List ℕ) (t : PlainTree) → IsSingle t → (IsTrue holds ↔ KeepsRule s best marks t) → Walks s best marks t node depth result }
+    ensures { (s : PlainSide) (best : ℕ) (marks : List Fixing) (t : PlainTree) → IsSingle t → (IsTrue holds ↔ KeepsRule s best marks t) → Walks s best marks t node depth result }
 {
     if holds {
         Ok(next_number(node))
@@ -46,7 +49,7 @@ fn single(holds: bool, node: u32, depth: u32) -> Result<u32, Failing>
 #[tactic(auto, unfolding(crate::specs::Reading::over_at))]
 fn walk_over<'a>(
     task: &Task,
-    marks: &[u8],
+    marks: &[Fixing],
     node: u32,
     depth: u32,
     bytes: &'a [u8],
@@ -61,7 +64,13 @@ fn walk_over<'a>(
 }
 
 /// Whether a dual node keeps its rule, by its rows in a dense list.
-fn loaded_holds(task: &Task, marks: &[u8], multipliers: &[u64], scale: u32, loaded: &Loaded) -> bool
+fn loaded_holds(
+    task: &Task,
+    marks: &[Fixing],
+    multipliers: &[u64],
+    scale: u32,
+    loaded: &Loaded,
+) -> bool
     requires best { task.now.best ≤ 2 ^ 104 }
     requires marked { length (plain_side task.now.side.now).vars ≤ length marks.now }
     requires room { length (plain_side task.now.side.now).rows ≤ length multipliers.now }
@@ -87,7 +96,7 @@ fn loaded_holds(task: &Task, marks: &[u8], multipliers: &[u64], scale: u32, load
 #[tactic(auto, unfolding(crate::specs::Reading::dual_at))]
 fn walk_dual<'a>(
     task: &Task,
-    marks: &[u8],
+    marks: &[Fixing],
     multipliers: &mut [u64],
     node: u32,
     depth: u32,
@@ -109,7 +118,7 @@ fn walk_dual<'a>(
 #[tactic(auto, unfolding(crate::specs::Reading::tree_at))]
 fn walk_single<'a>(
     task: &Task,
-    marks: &[u8],
+    marks: &[Fixing],
     multipliers: &mut [u64],
     node: u32,
     depth: u32,
@@ -165,7 +174,7 @@ fn first_byte(total: usize, bytes: &[u8]) -> Result<(u8, &[u8]), CertFault>
 /// Reads a branch's variable, and steps to its child for zero.
 fn read_branch<'a>(
     task: &Task,
-    marks: &mut [u8],
+    marks: &mut [Fixing],
     path: &mut [u32],
     progress: Progress,
     bytes: &'a [u8],
@@ -193,7 +202,7 @@ fn read_branch<'a>(
 /// Reads a node that isn't a branch.
 fn read_single<'a>(
     task: &Task,
-    marks: &[u8],
+    marks: &[Fixing],
     path: &[u32],
     multipliers: &mut [u64],
     progress: Progress,
@@ -221,29 +230,28 @@ fn read_single<'a>(
     Ok((behind, rest))
 }
 
-/// Reads the next node of a tree of at most `levels` levels.
+/// Reads the next node of a tree.
 fn read_node<'a>(
     task: &Task,
-    marks: &mut [u8],
+    marks: &mut [Fixing],
     path: &mut [u32],
     multipliers: &mut [u64],
-    levels: u32,
     progress: Progress,
     bytes: &'a [u8],
 ) -> Result<(Progress, &'a [u8]), CertFault>
     requires best { task.now.best ≤ 2 ^ 104 }
     requires marked { length (plain_side task.now.side.now).vars ≤ length marks.old }
     requires room { length (plain_side task.now.side.now).rows ≤ length multipliers.old }
-    requires levels { levels < 2 ^ 31 }
-    requires inside { levels ≤ length path.old }
-    requires depth { progress.depth ≤ levels }
-    ensures reads { (all : List ℕ) → IsBefore (text_of (plain_side task.now.side.now) task.now.best task.now.total levels all) path.old marks.old progress.depth progress.so_far bytes.now
-        → Advances (text_of (plain_side task.now.side.now) task.now.best task.now.total levels all) path.new marks.new result }
+    requires levels { task.now.levels < 2 ^ 31 }
+    requires inside { task.now.levels ≤ length path.old }
+    requires depth { progress.depth ≤ task.now.levels }
+    ensures reads { (all : List ℕ) → IsBefore (text_of (plain_side task.now.side.now) task.now.best task.now.total task.now.levels all) path.old marks.old progress.depth progress.so_far bytes.now
+        → Advances (text_of (plain_side task.now.side.now) task.now.best task.now.total task.now.levels all) path.new marks.new result }
     ensures left { progress.ended ≡ false → IfOk result (λ r. left r.0 r.1.now < left progress bytes.now) }
-    ensures depth { IfOk result (λ r. r.0.depth ≤ levels) }
+    ensures depth { IfOk result (λ r. r.0.depth ≤ task.now.levels) }
 {
     let (tag, rest) = first_byte(task.total, bytes)?;
-    if progress.depth == levels {
+    if progress.depth == task.levels {
         return Err(below_all(task.total, bytes, tag));
     }
     if tag == 0 {
@@ -255,46 +263,44 @@ fn read_node<'a>(
 /// One step forward: the next node is read, or the tree that was read is left.
 fn advance<'a>(
     task: &Task,
-    marks: &mut [u8],
+    marks: &mut [Fixing],
     path: &mut [u32],
     multipliers: &mut [u64],
-    levels: u32,
     progress: Progress,
     bytes: &'a [u8],
 ) -> Result<(Progress, &'a [u8]), CertFault>
     requires best { task.now.best ≤ 2 ^ 104 }
     requires marked { length (plain_side task.now.side.now).vars ≤ length marks.old }
     requires room { length (plain_side task.now.side.now).rows ≤ length multipliers.old }
-    requires levels { levels < 2 ^ 31 }
-    requires inside { levels ≤ length path.old }
-    requires depth { progress.depth ≤ levels }
+    requires levels { task.now.levels < 2 ^ 31 }
+    requires inside { task.now.levels ≤ length path.old }
+    requires depth { progress.depth ≤ task.now.levels }
     requires step { CanAdvance path.old marks.old progress }
-    ensures reads { (all : List ℕ) → Stands (text_of (plain_side task.now.side.now) task.now.best task.now.total levels all) path.old marks.old progress bytes.now
-        → Advances (text_of (plain_side task.now.side.now) task.now.best task.now.total levels all) path.new marks.new result }
+    ensures reads { (all : List ℕ) → Stands (text_of (plain_side task.now.side.now) task.now.best task.now.total task.now.levels all) path.old marks.old progress bytes.now
+        → Advances (text_of (plain_side task.now.side.now) task.now.best task.now.total task.now.levels all) path.new marks.new result }
     ensures left { IfOk result (λ r. left r.0 r.1.now < left progress bytes.now) }
-    ensures depth { IfOk result (λ r. r.0.depth ≤ levels) }
+    ensures depth { IfOk result (λ r. r.0.depth ≤ task.now.levels) }
 {
     if progress.ended {
         return Ok((leave(marks, path, progress), bytes));
     }
-    read_node(task, marks, path, multipliers, levels, progress, bytes)
+    read_node(task, marks, path, multipliers, progress, bytes)
 }
 
-/// Walks over a tree of at most `levels` levels as it is read, with the steps to the present node in `path`.
+/// Walks over a tree as it is read, with the steps to the present node in `path`.
 pub(crate) fn walk_text<'a>(
     task: &Task,
-    marks: &mut [u8],
+    marks: &mut [Fixing],
     path: &mut [u32],
     multipliers: &mut [u64],
-    levels: u32,
     bytes: &'a [u8],
 ) -> Result<Walked<'a>, CertFault>
     requires best { task.now.best ≤ 2 ^ 104 }
     requires free { marks.old ≡ all_free (plain_side task.now.side.now) }
     requires room { length (plain_side task.now.side.now).rows ≤ length multipliers.old }
-    requires levels { levels < 2 ^ 31 }
-    requires inside { levels ≤ length path.old }
-    ensures { WalksRead (plain_side task.now.side.now) task.now.best (all_free (plain_side task.now.side.now)) 0 0 result (tree_at task.now.total levels bytes.now) }
+    requires levels { task.now.levels < 2 ^ 31 }
+    requires inside { task.now.levels ≤ length path.old }
+    ensures { WalksRead (plain_side task.now.side.now) task.now.best (all_free (plain_side task.now.side.now)) 0 0 result (tree_at task.now.total task.now.levels bytes.now) }
 {
     let mut progress = Progress {
         depth: 0,
@@ -303,7 +309,7 @@ pub(crate) fn walk_text<'a>(
     };
     let mut rest = bytes;
     while !is_done(&progress) {
-        let (next, behind) = advance(task, marks, path, multipliers, levels, progress, rest)?;
+        let (next, behind) = advance(task, marks, path, multipliers, progress, rest)?;
         progress = next;
         rest = behind;
     }

@@ -1,4 +1,9 @@
+ghost use Rattle.std.specs.Prelude.{◌≡◌, IfOk};
+ghost use Rattle.certificate_checker.specs.Nodes.{branch};
+ghost use Rattle.certificate_checker.specs.Views.{plain_tree};
+
 use placement_programme::Choice;
+use std::alloc::{AllocError, Global};
 
 /// A proof that a side's choices gain no more than a bound.
 #[derive(Drop)]
@@ -30,4 +35,13 @@ pub struct Certificate {
     pub off: Option<Tree>,
     /// The tree of the side with overlay, where the programme has one.
     pub on: Option<Tree>,
+}
+
+/// A branch on a variable over the trees of its two children.
+pub fn branch_on(alloc: Global, var: u32, zero: Tree, one: Tree) -> Result<Tree, AllocError>
+    ensures { IfOk result (λ tree. plain_tree tree ≡ branch var (plain_tree zero) (plain_tree one)) }
+{
+    let zero = Box::new(alloc, zero)?;
+    let one = Box::new(alloc, one)?;
+    Ok(Tree::Branch { var, zero, one })
 }

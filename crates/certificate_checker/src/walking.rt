@@ -4,6 +4,7 @@ ghost use Rattle.certificate_checker.specs.Shows.{in_32_bits};
 ghost use Rattle.certificate_checker.specs.Views.{plain_tree};
 ghost use Rattle.certificate_checker.specs.Walks.{Walks};
 
+use crate::fixings::{Fixing, fixing_of};
 use crate::rules::keeps_rule;
 use crate::trees::Tree;
 use placement_programme::Side;
@@ -27,7 +28,7 @@ pub(crate) fn next_number(number: u32) -> u32
 pub(crate) fn walk(
     side: &Side,
     best: u128,
-    marks: &mut [u8],
+    marks: &mut [Fixing],
     tree: &Tree,
     node: u32,
     depth: u32,
@@ -42,27 +43,21 @@ pub(crate) fn walk(
     }
     let next = next_number(node);
     let below = next_number(depth);
-    match tree {
-        Tree::Branch { var, zero, one } => {
-            let place = *var as usize;
-            let old = marks[place];
-            marks[place] = 0;
-            match walk(side, best, marks, zero, next, below) {
-                Err(failing) => Err(failing),
-                Ok(middle) => {
-                    marks[place] = 1;
-                    match walk(side, best, marks, one, middle, below) {
-                        Err(failing) => Err(failing),
-                        Ok(end) => {
-                            marks[place] = old;
-                            Ok(end)
-                        }
-                    }
-                }
-            }
-        }
-        Tree::Over { .. } => Ok(next),
-        Tree::Dual { .. } => Ok(next),
-        Tree::Leaf => Ok(next),
-    }
+    let Tree::Branch { var, zero, one } = tree else {
+        return Ok(next);
+    };
+    let place = *var as usize;
+    let old = fixing_of(marks, place);
+    marks[place] = Fixing::Zero;
+    let middle = match walk(side, best, marks, zero, next, below) {
+        Err(failing) => return Err(failing),
+        Ok(middle) => middle,
+    };
+    marks[place] = Fixing::One;
+    let end = match walk(side, best, marks, one, middle, below) {
+        Err(failing) => return Err(failing),
+        Ok(end) => end,
+    };
+    marks[place] = old;
+    Ok(end)
 }

@@ -5,7 +5,7 @@ use Rattle.placement_programme.specs.Programme.{IsFeasible, gain}
 use Rattle.placement_programme.specs.Views.{plain_choice}
 use Rattle.certificate_checker.specs.Nodes.{PlainCertificate}
 use Rattle.certificate_checker.specs.Spelling.{IsInRange, text_of}
-use Rattle.certificate_checker.specs.Shows.{ShownBy, Shows}
+use Rattle.certificate_checker.specs.Shows.{ShownBy, Shows, HasNoTree}
 use Rattle.certificate_checker.specs.Views.{plain_certificate}
 use Rattle.certificate_checker.proofs.Least.{shown_is_least}
 use Rattle.branch_bound.specs.Entries.{all_vars}
@@ -29,6 +29,10 @@ module _ (p : PlainProgramme) (nodes : ℕ) (c : PlainCertificate) where
   ended_of : (s : Status) → Certifies p nodes c s → is_optimal s ≡ false → EndsWithin p nodes c.choice
   ended_of Optimal certifies e = absurd (cc)
   ended_of (BestFound m) ends e = ends.3
+
+  no_tree_of : (s : Status) → Certifies p nodes c s → is_optimal s ≡ false → HasNoTree c
+  no_tree_of Optimal certifies e = absurd (cc)
+  no_tree_of (BestFound m) ends e = (ends.1, ends.2)
 
 least_of : (p : PlainProgramme) (c : PlainCertificate) (choice : PlainChoice) → c.choice ≡ choice → Shows p c → IsLeast p choice
 least_of p c choice same shows =
@@ -61,5 +65,6 @@ is_found p nodes f text solves text_is =
       only_shown = only_of p nodes c f.status solves.status;
       least = λ e. least_of p c (plain_choice f.choice) solves.same (shown_of p nodes c f.status solves.status e);
       ended = λ e. subst (EndsWithin p nodes) solves.same (ended_of p nodes c f.status solves.status e);
+      without_trees = no_tree_of p nodes c f.status solves.status;
       enough = λ much. ap is_optimal (solves.enough much);
     }

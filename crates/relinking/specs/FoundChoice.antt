@@ -4,7 +4,7 @@ use Rattle.placement_programme.specs.Plain.{PlainProgramme, PlainChoice}
 use Rattle.placement_programme.specs.Programme.{IsFeasible, gain, energy}
 use Rattle.certificate_checker.specs.Nodes.{PlainCertificate}
 use Rattle.certificate_checker.specs.Spelling.{Spells}
-use Rattle.certificate_checker.specs.Shows.{Shows}
+use Rattle.certificate_checker.specs.Shows.{Shows, HasNoTree}
 use Rattle.branch_bound.specs.Entries.{all_vars}
 use Rattle.branch_bound.specs.Growing.{CannotGrow}
 use Rattle.branch_bound.specs.Solving.{ReachesFirst, EndsWithin}
@@ -23,7 +23,7 @@ is_optimal (BestFound nodes) = false
 -- A feasible choice that gains no less than 0, no less than what plain branch and bound with this budget of nodes comes
 -- upon, and no less with any one variable added. The text spells a certificate with this choice. `optimal` is said exactly
 -- where the certificate's trees show that no feasible choice has less energy; and it is not said only where the budget
--- may have ended before.
+-- may have ended before. Then the certificate has no tree.
 pub record IsFound (p : PlainProgramme) (nodes : ℕ) (choice : PlainChoice) (text : List ℕ) (says_optimal : Bool) : Type 0 where
   pub feasible : IsFeasible p choice
   pub gains : pos 0 ≤ℤ gain p choice
@@ -36,4 +36,5 @@ pub record IsFound (p : PlainProgramme) (nodes : ℕ) (choice : PlainChoice) (te
   pub only_shown : Shows p certificate → says_optimal ≡ true
   pub least : says_optimal ≡ true → IsLeast p choice
   pub ended : says_optimal ≡ false → EndsWithin p nodes choice
+  pub without_trees : says_optimal ≡ false → HasNoTree certificate
   pub enough : 2 ^ (all_vars p + 1) ≤ nodes → says_optimal ≡ true

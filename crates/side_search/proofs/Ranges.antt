@@ -10,12 +10,13 @@ use Rattle.placement_programme.specs.declared.sides.Side.{Side}
 use Rattle.placement_programme.proofs.AscendLemmas.{count_within}
 use Rattle.placement_programme.proofs.RowLemmas.{rows_higher}
 use Rattle.certificate_checker.specs.Nodes.{PlainTree, branch, over, dual, leaf}
+use Rattle.certificate_checker.specs.declared.fixings.Fixing.{Fixing}
 use Rattle.certificate_checker.specs.Rules.{DualHolds}
 use Rattle.certificate_checker.specs.Spelling.{IsDualInRange, IsTreeInRange}
 use Rattle.certificate_checker.proofs.Limits.{rows_few}
 
 -- a dual node that keeps its rule is within the ranges
-pub dual_in_range : (s : PlainSide) (best : ℕ) (marks : List ℕ) (scale : ℕ) (ms : List (ℕ × ℕ)) → IsWithinBounds s → DualHolds s best marks scale ms → All (λ m. value_of m < 2 ^ 64) ms → IsDualInRange scale ms
+pub dual_in_range : (s : PlainSide) (best : ℕ) (marks : List Fixing) (scale : ℕ) (ms : List (ℕ × ℕ)) → IsWithinBounds s → DualHolds s best marks scale ms → All (λ m. value_of m < 2 ^ 64) ms → IsDualInRange scale ms
 dual_in_range s best marks scale ms bounds holds small =
     let few_rows = bounds.few_rows in
     let few = rows_few (length s.rows) ms holds.rows in

@@ -6,6 +6,7 @@ use Rattle.certificate_checker.specs.Shows.{ShownBy}
 use Rattle.certificate_checker.specs.Reading.{most_levels}
 use Rattle.certificate_checker.specs.Spelling.{IsTreeInRange}
 use Rattle.certificate_checker.specs.Views.{plain_tree}
+use Rattle.certificate_checker.specs.declared.fixings.Fixing.{Fixing}
 use Rattle.certificate_checker.specs.declared.trees.Tree.{Tree}
 use Rattle.side_search.specs.declared.visiting.OnSide.{OnSide}
 use Rattle.side_search.specs.declared.visiting.OnSide.TheVariants.{Absent, Shown, Unfinished}
@@ -14,13 +15,13 @@ use Rattle.side_search.specs.declared.visiting.Visit.TheVariants.{Closed, Open, 
 
 -- a tree that is found shows that nothing below these marks gains more, and is within the ranges of a certificate's text,
 -- with at most so many levels
-abbrev pub ShownBelow : PlainSide → ℕ → List ℕ → ℕ → Option Tree → Type 0
+abbrev pub ShownBelow : PlainSide → ℕ → List Fixing → ℕ → Option Tree → Type 0
 ShownBelow s best marks levels None = Unit {0}
 ShownBelow s best marks levels (Some tree) =
     Holds s best marks (plain_tree tree) × IsTreeInRange levels (plain_tree tree)
 
 -- a node is closed by a tree that holds, or may be branched on
-abbrev pub IsVisited : PlainSide → ℕ → List ℕ → Visit → Type 0
+abbrev pub IsVisited : PlainSide → ℕ → List Fixing → Visit → Type 0
 IsVisited s best marks (Closed tree) = ShownBelow s best marks 1 (Some tree)
 IsVisited s best marks (Open var) = BranchHolds s marks var
 IsVisited s best marks Stuck = Unit {0}

@@ -8,42 +8,32 @@ ghost use Rattle.certificate_checker.specs.Views.{plain_certificate};
 ghost use Rattle.side_search.specs.Incumbents.{IsSound};
 ghost use Rattle.side_search.specs.Visits.{ShownBelow, ShownOn};
 
-use crate::advising::Guide;
+use crate::bounding::DualBound;
 use crate::incumbents::Incumbent;
-use crate::searching::search;
+use crate::searching::{Task, search};
 use crate::visiting::OnSide;
-use certificate_checker::{Certificate, Tree, var_count};
+use certificate_checker::{Certificate, Fixing, Tree, free_marks};
 use placement_programme::{Choice, Programme, Side};
 use std::alloc::{AllocError, Global};
 
 /// How many levels the text of a certificate's tree may have, the root being one.
 const MOST_LEVELS: u32 = 4097;
 
-fn free_marks(alloc: Global, side: &Side) -> Result<Vec<u8>, AllocError>
-    ensures { IfOk result (λ marks. marks.items ≡ all_free (plain_side side.now)) }
-{
-    let mut marks = Vec::new(alloc);
-    marks.resize(var_count(side), 2)?;
-    Ok(marks)
-}
-
 #[tactic(auto, unfolding(certificate_checker::specs::Reading::most_levels))]
 fn search_from(
     alloc: Global,
-    p: &Programme,
-    side: &Side,
-    on: bool,
-    marks: &mut [u8],
+    task: &Task,
+    marks: &mut [Fixing],
     best: &mut Incumbent,
 ) -> Result<Option<Tree>, AllocError>
-    requires marks { marks.old ≡ all_free (plain_side side.now) }
-    requires sound { IsSound (plain_programme p.now) best.old }
-    ensures sound { OnOk result (IsSound (plain_programme p.now) best.new) }
+    requires marks { marks.old ≡ all_free (plain_side task.now.side.now) }
+    requires sound { IsSound (plain_programme task.now.programme.now) best.old }
+    ensures sound { OnOk result (IsSound (plain_programme task.now.programme.now) best.new) }
     ensures grows { OnOk result (best.old.gain ≤ best.new.gain) }
-    ensures shown { IfOk result (ShownBelow (plain_side side.now) best.new.gain (all_free (plain_side side.now)) most_levels) }
+    ensures shown { IfOk result (ShownBelow (plain_side task.now.side.now) best.new.gain (all_free (plain_side task.now.side.now)) most_levels) }
 {
-    let mut guide = Guide::new(alloc, side)?;
-    match search(alloc, p, side, on, &mut guide, marks, MOST_LEVELS, best) {
+    let mut bound = DualBound::new(alloc, task.side)?;
+    match search(alloc, task, &mut bound, marks, MOST_LEVELS, best) {
         Ok(tree) => Ok(tree),
         Err(error) => Err(error),
     }
@@ -63,7 +53,12 @@ fn search_side(
     ensures shown { IfOk result (ShownBelow (plain_side side.now) best.new.gain (all_free (plain_side side.now)) most_levels) }
 {
     let mut marks = free_marks(alloc, side)?;
-    match search_from(alloc, p, side, on, &mut marks, best) {
+    let task = Task {
+        programme: p,
+        side,
+        on,
+    };
+    match search_from(alloc, &task, &mut marks, best) {
         Ok(tree) => Ok(tree),
         Err(error) => Err(error),
     }

@@ -12,21 +12,22 @@ pub(crate) struct Span {
     pub last: usize,
 }
 
-/// What the bound reads of a variable.
+/// What the bound reads of a variable. A packing row has room for one variable alone, and several variables can share a
+/// knapsack row.
 #[derive(Drop)]
 pub(crate) struct Column {
     /// Its gain, times the scale.
     pub gain: u64,
-    /// Its weights in rows that several variables can share.
-    pub shared: Vec<(u32, u64)>,
-    /// Its rows that have room for one variable alone.
-    pub single: Vec<u32>,
+    /// Its weights in knapsack rows.
+    pub knapsack: Vec<(u32, u64)>,
+    /// Its packing rows.
+    pub packing: Vec<u32>,
 }
 
 impl Column {
-    /// From its first to its last row that has room for one variable alone.
+    /// From its first to its last packing row.
     pub(crate) fn span(&self) -> Option<Span> {
-        match (self.single.first(), self.single.last()) {
+        match (self.packing.first(), self.packing.last()) {
             (Some(first), Some(last)) => Some(Span {
                 first: *first as usize,
                 last: *last as usize,
@@ -35,22 +36,23 @@ impl Column {
         }
     }
 
-    /// What of the scaled gain is left behind the prices of the weights.
-    pub(crate) fn left(&self, prices: &[u64]) -> u64 {
-        self.gain.saturating_sub(priced(&self.shared, prices))
+    /// What of the scaled gain is left behind the multiplied weights.
+    pub(crate) fn reduced_gain(&self, multipliers: &[u64]) -> u64 {
+        self.gain
+            .saturating_sub(priced(&self.knapsack, multipliers))
     }
 
-    /// How far the scaled gain is from the prices of the weights.
-    pub(crate) fn distance(&self, prices: &[u64]) -> u64 {
-        self.gain.abs_diff(priced(&self.shared, prices))
+    /// How far the scaled gain is from the multiplied weights.
+    pub(crate) fn reduced_gain_size(&self, multipliers: &[u64]) -> u64 {
+        self.gain.abs_diff(priced(&self.knapsack, multipliers))
     }
 }
 
-fn priced(weights: &[(u32, u64)], prices: &[u64]) -> u64 {
+fn priced(weights: &[(u32, u64)], multipliers: &[u64]) -> u64 {
     let mut total: u64 = 0;
     for (row, weight) in weights {
-        let price = weight.saturating_mul(number_at(prices, *row as usize));
-        total = total.saturating_add(price);
+        let multiplier = weight.saturating_mul(number_at(multipliers, *row as usize));
+        total = total.saturating_add(multiplier);
     }
     total
 }
@@ -61,32 +63,32 @@ pub(crate) fn scale_for(side: &Side) -> Option<u32> {
     for var in &side.vars {
         total = total.saturating_add(var.gain);
     }
-    let room = GAIN_LIMIT / total.max(1);
-    match u32::try_from(room.min(65536)) {
+    let limit = GAIN_LIMIT / total.max(1);
+    match u32::try_from(limit.min(65536)) {
         Ok(0) => None,
         Ok(scale) => Some(scale),
         Err(_) => None,
     }
 }
 
-/// The rows that several variables can share: those whose capacity or some weight isn't 1.
-pub(crate) fn shared_rows(alloc: Global, side: &Side) -> Result<Vec<bool>, AllocError> {
-    let mut shared = unset(alloc, side.rows.len())?;
+/// The knapsack rows: those whose capacity or some weight isn't 1.
+pub(crate) fn knapsack_rows(alloc: Global, side: &Side) -> Result<Vec<bool>, AllocError> {
+    let mut knapsack = unset(alloc, side.rows.len())?;
     for (row, capacity) in side.rows.iter().enumerate() {
         if *capacity != 1 {
-            set(&mut shared, row);
+            set(&mut knapsack, row);
         }
     }
     for var in &side.vars {
-        mark_weights(&mut shared, &var.weights);
+        mark_weights(&mut knapsack, &var.weights);
     }
-    Ok(shared)
+    Ok(knapsack)
 }
 
-fn mark_weights(shared: &mut [bool], weights: &[(u32, u64)]) {
+fn mark_weights(knapsack: &mut [bool], weights: &[(u32, u64)]) {
     for (row, weight) in weights {
         if *weight != 1 {
-            set(shared, *row as usize);
+            set(knapsack, *row as usize);
         }
     }
 }
@@ -97,32 +99,32 @@ fn scaled(gain: u128, scale: u32) -> u64 {
 }
 
 fn column_of(alloc: Global, var: &Var, scale: u32, rows: &[bool]) -> Result<Column, AllocError> {
-    let mut shared = Vec::new(alloc);
-    let mut single = Vec::new(alloc);
+    let mut knapsack = Vec::new(alloc);
+    let mut packing = Vec::new(alloc);
     for (row, weight) in &var.weights {
         if is_set(rows, *row as usize) {
-            shared.push((*row, *weight))?;
+            knapsack.push((*row, *weight))?;
         } else {
-            single.push(*row)?;
+            packing.push(*row)?;
         }
     }
     Ok(Column {
         gain: scaled(var.gain, scale),
-        shared,
-        single,
+        knapsack,
+        packing,
     })
 }
 
-/// The columns of a side's variables, where these rows are shared.
+/// The columns of a side's variables, with these knapsack rows.
 pub(crate) fn columns_of(
     alloc: Global,
     side: &Side,
     scale: u32,
-    shared: &[bool],
+    knapsack: &[bool],
 ) -> Result<Vec<Column>, AllocError> {
     let mut columns = Vec::new(alloc);
     for var in &side.vars {
-        columns.push(column_of(alloc, var, scale, shared)?)?;
+        columns.push(column_of(alloc, var, scale, knapsack)?)?;
     }
     Ok(columns)
 }

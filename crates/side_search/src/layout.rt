@@ -1,7 +1,8 @@
-use crate::columns::{Column, columns_of, scale_for, shared_rows};
+use crate::columns::{Column, columns_of, knapsack_rows, scale_for};
 use crate::numbers::{copy_of, is_set, numbered};
 use placement_programme::Side;
 use std::alloc::{AllocError, Global};
+use std::cmp::Reverse;
 
 /// What the bound reads of a side, made once.
 #[derive(Drop)]
@@ -10,17 +11,16 @@ pub(crate) struct Layout {
     pub scale: u32,
     pub capacities: Vec<u64>,
     pub columns: Vec<Column>,
-    /// The rows that several variables can share.
-    pub shared: Vec<u32>,
+    /// The knapsack rows.
+    pub knapsack: Vec<u32>,
     /// Whether a row is one of those.
-    pub is_shared: Vec<bool>,
-    /// For each row that has room for one variable alone, the variables of which it is the last such row.
+    pub is_knapsack: Vec<bool>,
+    /// For each packing row, the variables of which it is the last one.
     pub ending: Vec<Vec<u32>>,
-    /// The variables without such rows.
+    /// The variables without packing rows.
     pub loose: Vec<u32>,
-    /// The variables, the greatest gain first and the lowest number on a tie, each behind what its scaled gain lacks of the
-    /// greatest 64-bit number.
-    pub by_gain: Vec<(u64, u32)>,
+    /// The variables behind their scaled gains, the greatest gain first and the lowest number on a tie.
+    pub by_gain: Vec<(Reverse<u64>, u32)>,
 }
 
 fn set_rows(alloc: Global, flags: &[bool]) -> Result<Vec<u32>, AllocError> {
@@ -48,14 +48,14 @@ fn push_at(lists: &mut [Vec<u32>], place: usize, number: u32) -> Result<(), Allo
     Ok(())
 }
 
-/// Enters a variable where the bound looks for it: by its gain, and by the last of its rows for one variable alone.
+/// Enters a variable where the bound looks for it: by its gain, and by the last of its packing rows.
 fn sort_in(layout: &mut Layout, number: u32) -> Result<(), AllocError> {
     let place = number as usize;
     if place >= layout.columns.len() {
         return Ok(());
     }
-    let lacking = u64::MAX - layout.columns[place].gain;
-    layout.by_gain.push((lacking, number))?;
+    let gain = layout.columns[place].gain;
+    layout.by_gain.push((Reverse(gain), number))?;
     match layout.columns[place].span() {
         Some(span) => push_at(&mut layout.ending, span.last, number)?,
         None => layout.loose.push(number)?,
@@ -69,13 +69,13 @@ impl Layout {
         let Some(scale) = scale_for(side) else {
             return Ok(None);
         };
-        let is_shared = shared_rows(alloc, side)?;
+        let is_knapsack = knapsack_rows(alloc, side)?;
         let mut layout = Layout {
             scale,
             capacities: copy_of(alloc, &side.rows)?,
-            columns: columns_of(alloc, side, scale, &is_shared)?,
-            shared: set_rows(alloc, &is_shared)?,
-            is_shared,
+            columns: columns_of(alloc, side, scale, &is_knapsack)?,
+            knapsack: set_rows(alloc, &is_knapsack)?,
+            is_knapsack,
             ending: empty_lists(alloc, side.rows.len())?,
             loose: Vec::new(alloc),
             by_gain: Vec::new(alloc),

@@ -1,20 +1,20 @@
 //! Best choices of placement programmes, each with a certificate, by a search that a bound guides.
 //!
-//! The bound is weak duality: rows that several variables can share get prices, sought so that the bound is least, and the
-//! rows for one variable alone are kept. Nothing that it says is trusted: the certificate's own rules decide at each node.
+//! The bound is that of a Lagrangian relaxation: knapsack rows, which several variables can share, get multipliers, sought so
+//! that the bound is least, and packing rows, which have room for one variable alone, are kept. Nothing that it says is trusted: the certificate's own rules decide at each node.
 #![tactic(auto)]
 
-mod advising;
+mod bounding;
 mod certifying;
-mod closing;
 mod columns;
-mod filling;
+mod completing;
+mod fathoming;
 mod incumbents;
+mod lagrangian;
 mod layout;
 mod node;
 mod numbers;
-mod pricing;
-mod relaxing;
+mod relaxation;
 mod searching;
 mod visiting;
 

@@ -1,20 +1,21 @@
 use crate::columns::Column;
 use crate::layout::Layout;
 use crate::numbers::{copy_of, is_set, number_at, put, set, unset};
+use certificate_checker::{Fixing, is_free, is_one};
 use std::alloc::{AllocError, Global};
 
 /// What is left at a node of the search.
 #[derive(Drop)]
 pub(crate) struct Node {
-    /// Of each row, what the variables that are fixed to one leave.
-    pub room: Vec<u64>,
+    /// Of each row, what the variables that are fixed to one leave of its capacity.
+    pub slack: Vec<u64>,
     /// A row that they exceed.
     pub exceeded: Option<u32>,
     /// Whether a variable is fixed to one.
     pub ones: Vec<bool>,
     /// Whether a variable is free.
     pub free: Vec<bool>,
-    /// Whether a variable is free and each of its rows for one variable alone is empty.
+    /// Whether a variable is free and each of its packing rows has slack.
     pub live: Vec<bool>,
     /// The scaled gains of the variables that are fixed to one.
     pub gained: u64,
@@ -22,45 +23,45 @@ pub(crate) struct Node {
     pub target: u64,
 }
 
-fn take_room(node: &mut Node, row: u32, weight: u64) {
+fn use_slack(node: &mut Node, row: u32, weight: u64) {
     let place = row as usize;
-    match number_at(&node.room, place).checked_sub(weight) {
-        Some(left) => put(&mut node.room, place, left),
+    match number_at(&node.slack, place).checked_sub(weight) {
+        Some(left) => put(&mut node.slack, place, left),
         None => node.exceeded = Some(row),
     }
 }
 
 fn fix_to_one(node: &mut Node, column: &Column) {
     node.gained = node.gained.saturating_add(column.gain);
-    for (row, weight) in &column.shared {
-        take_room(node, *row, *weight);
+    for (row, weight) in &column.knapsack {
+        use_slack(node, *row, *weight);
     }
-    for row in &column.single {
-        take_room(node, *row, 1);
+    for row in &column.packing {
+        use_slack(node, *row, 1);
     }
 }
 
 fn is_open(node: &Node, column: &Column) -> bool {
-    for row in &column.single {
-        if number_at(&node.room, *row as usize) == 0 {
+    for row in &column.packing {
+        if number_at(&node.slack, *row as usize) == 0 {
             return false;
         }
     }
     true
 }
 
-fn fix_all(node: &mut Node, layout: &Layout, marks: &[u8]) {
+fn fix_all(node: &mut Node, layout: &Layout, marks: &[Fixing]) {
     for number in 0..marks.len() {
-        if number < layout.columns.len() && marks[number] == 1 {
+        if number < layout.columns.len() && is_one(marks, number) {
             set(&mut node.ones, number);
             fix_to_one(node, &layout.columns[number]);
         }
     }
 }
 
-fn mark_free(node: &mut Node, layout: &Layout, marks: &[u8]) {
+fn mark_free(node: &mut Node, layout: &Layout, marks: &[Fixing]) {
     for number in 0..marks.len() {
-        if number < layout.columns.len() && marks[number] > 1 {
+        if number < layout.columns.len() && is_free(marks, number) {
             set(&mut node.free, number);
             if is_open(node, &layout.columns[number]) {
                 set(&mut node.live, number);
@@ -70,16 +71,16 @@ fn mark_free(node: &mut Node, layout: &Layout, marks: &[u8]) {
 }
 
 impl Node {
-    /// Under these marks: 0 is zero, 1 is one, and more is free.
+    /// The node that fixes the variables so.
     pub(crate) fn of(
         alloc: Global,
         layout: &Layout,
-        marks: &[u8],
+        marks: &[Fixing],
         target: u64,
     ) -> Result<Node, AllocError> {
         let count = layout.columns.len();
         let mut node = Node {
-            room: copy_of(alloc, &layout.capacities)?,
+            slack: copy_of(alloc, &layout.capacities)?,
             exceeded: None,
             ones: unset(alloc, count)?,
             free: unset(alloc, count)?,

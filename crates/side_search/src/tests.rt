@@ -1,5 +1,5 @@
 use crate::certify;
-use certificate_checker::{Certificate, Verdict, check};
+use certificate_checker::{Certificate, Fixing, Verdict, check};
 use placement_programme::{Programme, Side, Var, VarName};
 use std::alloc::{AllocError, Global};
 use std::test::Fail;
@@ -35,7 +35,7 @@ fn programme(alloc: Global) -> Result<Option<Programme>, AllocError> {
 
 /// What a check of the certificate says, which must take the second and third variable.
 fn verdict(p: &Programme, c: &Certificate) -> Option<Verdict> {
-    let mut marks = [7; 8];
+    let mut marks = [Fixing::Free; 8];
     let fits = match &p.on {
         Some(side) => side.vars.len() <= marks.len(),
         None => true,

@@ -6,7 +6,7 @@ use Rattle.certificate_checker.proofs.Limits.{ones_small}
 use Rattle.branch_bound.proofs.OnesLemmas.{gains_small, all_gains}
 use Rattle.branch_bound.proofs.MarkLemmas.{sum_one, sum_other}
 use Rattle.branch_bound.proofs.ones.ones_gain.Goals as goal
-use Rattle.branch_bound.proofs.ones.ones_gain.Goals.{then-marks-number-eq1, else-marks-number-eq1}
+use Rattle.branch_bound.proofs.ones.ones_gain.Goals.{then-is_one, else-is_one}
 
 pub overflow_add-total : goal.overflow_add-total
 overflow_add-total c =
@@ -21,9 +21,9 @@ pub loop-number-preserved : goal.loop-number-preserved
 loop-number-preserved c =
     let s = plain_side c.args.side.now in
     let n = c.loop-number.number in
-    elim c.if-marks-number-eq1.branch [
-      | then-marks-number-eq1 w ↦ sum_one (gain_at s.vars) c.args.marks.now n (n + 1) c.loop-number.total c.if-marks-number-eq1.total (omega arith) w.if-marks-number-eq1.true c.loop-number.invariant (let is = w.total-is in let here = w.gain_of_var-total.ensures in omega (arith, is, here))
-      | else-marks-number-eq1 w ↦ sum_other (gain_at s.vars) c.args.marks.now n (n + 1) c.loop-number.total c.if-marks-number-eq1.total (omega arith) w.if-marks-number-eq1.false c.loop-number.invariant w.total-is
+    elim c.if-is_one.branch [
+      | then-is_one w ↦ sum_one (gain_at s.vars) c.args.marks.now n (n + 1) c.loop-number.total c.if-is_one.total (omega arith) (c.is_one.ensures.0 w.if-is_one.true) c.loop-number.invariant (let is = w.total-is in let here = w.gain_of_var-total.ensures in omega (arith, is, here))
+      | else-is_one w ↦ sum_other (gain_at s.vars) c.args.marks.now n (n + 1) c.loop-number.total c.if-is_one.total (omega arith) (λ one. let found = c.is_one.ensures.1 one in let missed = w.if-is_one.false in cc) c.loop-number.invariant w.total-is
     ]
 
 pub returns-clause-value : goal.returns-clause-value

@@ -4,9 +4,17 @@ use Rattle.placement_programme.specs.Views.{plain_side}
 use Rattle.certificate_checker.specs.declared.trees.Tree.{Tree}
 use Rattle.branch_bound.specs.declared.visiting.Visit.{Visit}
 use Rattle.branch_bound.specs.Searching.{Tells, Visits, HasLevels}
+use Rattle.certificate_checker.specs.Fixings.{is_free}
+use Rattle.certificate_checker.specs.declared.fixings.Fixing.{Fixing}
+use Rattle.certificate_checker.specs.declared.fixings.Fixing.TheVariants.{Zero, One}
+use Rattle.side_search.proofs.Branches.{back_once, back_twice}
 use Rattle.branch_bound.proofs.TellLemmas.{Branches, tells_first, tells_second, tells_both, levels_both}
-use Rattle.branch_bound.proofs.VisitLemmas.{zero_marks, fewer_again, marks_again}
+use Rattle.branch_bound.proofs.VisitLemmas.{zero_marks, fewer_again}
 use Rattle.branch_bound.proofs.searching.+search.Goals as goal
+
+pub returns-in-None-clause-kept : goal.returns-in-None-clause-kept
+returns-in-None-clause-kept t c =
+    back_once c.args.marks.now c.search.new.marks c.in-Open.number One c.fixing_of-old.result c.in_ok-search.ensures.kept c.fixing_of-old.ensures
 
 pub returns-in-None-clause-tells : goal.returns-in-None-clause-tells
 returns-in-None-clause-tells t c =
@@ -21,7 +29,7 @@ returns-in-None-clause-tells t c =
     let from : start ≤ best = omega (arith, order, grows) in
     let visits = subst (λ (v : Visit). Visits s best marks v) c.in-Open.is c.in_ok-tree.ensures.visits in
     let branches : Branches s start marks j best = record { from_start = from; fails = visits.0; greatest = visits.1; here = c.in_ok-tree.ensures.here } in
-    let first = subst (λ (o : Option Tree). Tells s start (slice_set marks j 1) c.search.new.run.best.gain c.visit.new.run.left c.search.new.run.left o) c.in-None.is (c.in_ok-search.ensures.tells start from) in
+    let first = subst (λ (o : Option Tree). Tells s start (slice_set marks j One) c.search.new.run.best.gain c.visit.new.run.left c.search.new.run.left o) c.in-None.is (c.in_ok-search.ensures.tells start from) in
     tells_first s start marks j best c.search.new.run.best.gain c.args.run.now.left c.visit.new.run.left c.search.new.run.left branches c.in_ok-search.ensures.grows (omega (arith, used, some)) first
 
 pub search-requires-2 : goal.search-requires-2
@@ -33,7 +41,7 @@ search-requires-2 t c =
 
 pub returns-in-None-2-clause-kept : goal.returns-in-None-2-clause-kept
 returns-in-None-2-clause-kept t c =
-    marks_again c.args.marks.now c.search.new.marks c.search-2.new.marks c.in-Open.number _ c.in_ok-search.ensures.kept c.in_ok-search-2.ensures.kept refl
+    back_twice c.args.marks.now c.search.new.marks c.search-2.new.marks c.in-Open.number One Zero c.fixing_of-old.result c.in_ok-search.ensures.kept c.in_ok-search-2.ensures.kept c.fixing_of-old.ensures
 
 pub returns-in-None-2-clause-tells : goal.returns-in-None-2-clause-tells
 returns-in-None-2-clause-tells t c =
@@ -54,14 +62,14 @@ returns-in-None-2-clause-tells t c =
     let from : start ≤ best = omega (arith, order, grows) in
     let visits = subst (λ (v : Visit). Visits s best marks v) c.in-Open.is c.in_ok-tree.ensures.visits in
     let branches : Branches s start marks j best = record { from_start = from; fails = visits.0; greatest = visits.1; here = c.in_ok-tree.ensures.here } in
-    let first = subst (λ (o : Option Tree). Tells s start (slice_set marks j 1) between middle second o) c.in-Some.is (c.in_ok-search.ensures.tells start from) in
-    let there = subst (λ (m : List ℕ). Tells s start m more second after c.in_ok-search-2.field-0) (zero_marks marks c.search.new.marks j c.in_ok-search.ensures.kept) (c.in_ok-search-2.ensures.tells start (omega (arith, from, grows_one))) in
-    let last = subst (λ (o : Option Tree). Tells s start (slice_set marks j 0) more second after o) c.in-None-2.is there in
+    let first = subst (λ (o : Option Tree). Tells s start (slice_set marks j One) between middle second o) c.in-Some.is (c.in_ok-search.ensures.tells start from) in
+    let there = subst (λ (m : List Fixing). Tells s start m more second after c.in_ok-search-2.field-0) (zero_marks marks c.search.new.marks j c.in_ok-search.ensures.kept) (c.in_ok-search-2.ensures.tells start (omega (arith, from, grows_one))) in
+    let last = subst (λ (o : Option Tree). Tells s start (slice_set marks j Zero) more second after o) c.in-None-2.is there in
     tells_second s start marks j best between more c.args.run.now.left middle second after c.in-Some.tree branches grows_one c.in_ok-search-2.ensures.grows (omega (arith, used, some)) first last
 
 pub returns-clause-kept : goal.returns-clause-kept
 returns-clause-kept t c =
-    marks_again c.args.marks.now c.search.new.marks c.search-2.new.marks c.in-Open.number _ c.in_ok-search.ensures.kept c.in_ok-search-2.ensures.kept refl
+    back_twice c.args.marks.now c.search.new.marks c.search-2.new.marks c.in-Open.number One Zero c.fixing_of-old.result c.in_ok-search.ensures.kept c.in_ok-search-2.ensures.kept c.fixing_of-old.ensures
 
 pub returns-clause-levels : goal.returns-clause-levels
 returns-clause-levels t c =
@@ -72,9 +80,9 @@ returns-clause-levels t c =
     let inside = visits.1.inside in
     let few = c.args.side.now.bounds.few_vars in
     let small : j < 2 ^ 32 = omega (arith, inside, few) in
-    let by_one = subst (λ (o : Option Tree). HasLevels (suc (count_by (nat_le 2) (slice_set marks j 1))) o) c.in-Some.is c.in_ok-search.ensures.levels in
-    let there = subst (λ (m : List ℕ). HasLevels (suc (count_by (nat_le 2) m)) c.in_ok-search-2.field-0) (zero_marks marks c.search.new.marks j c.in_ok-search.ensures.kept) c.in_ok-search-2.ensures.levels in
-    let by_zero = subst (λ (o : Option Tree). HasLevels (suc (count_by (nat_le 2) (slice_set marks j 0))) o) c.in-Some-2.is there in
+    let by_one = subst (λ (o : Option Tree). HasLevels (suc (count_by is_free (slice_set marks j One))) o) c.in-Some.is c.in_ok-search.ensures.levels in
+    let there = subst (λ (m : List Fixing). HasLevels (suc (count_by is_free m)) c.in_ok-search-2.field-0) (zero_marks marks c.search.new.marks j c.in_ok-search.ensures.kept) c.in_ok-search-2.ensures.levels in
+    let by_zero = subst (λ (o : Option Tree). HasLevels (suc (count_by is_free (slice_set marks j Zero))) o) c.in-Some-2.is there in
     levels_both marks j c.in-Some.tree c.in-Some-2.tree c.in_ok-branch_on.field-0 visits.1.holds small by_one by_zero c.in_ok-branch_on.ensures
 
 pub returns-clause-tells : goal.returns-clause-tells
@@ -96,7 +104,7 @@ returns-clause-tells t c =
     let from : start ≤ best = omega (arith, order, grows) in
     let visits = subst (λ (v : Visit). Visits s best marks v) c.in-Open.is c.in_ok-tree.ensures.visits in
     let branches : Branches s start marks j best = record { from_start = from; fails = visits.0; greatest = visits.1; here = c.in_ok-tree.ensures.here } in
-    let first = subst (λ (o : Option Tree). Tells s start (slice_set marks j 1) between middle second o) c.in-Some.is (c.in_ok-search.ensures.tells start from) in
-    let there = subst (λ (m : List ℕ). Tells s start m more second after c.in_ok-search-2.field-0) (zero_marks marks c.search.new.marks j c.in_ok-search.ensures.kept) (c.in_ok-search-2.ensures.tells start (omega (arith, from, grows_one))) in
-    let last = subst (λ (o : Option Tree). Tells s start (slice_set marks j 0) more second after o) c.in-Some-2.is there in
+    let first = subst (λ (o : Option Tree). Tells s start (slice_set marks j One) between middle second o) c.in-Some.is (c.in_ok-search.ensures.tells start from) in
+    let there = subst (λ (m : List Fixing). Tells s start m more second after c.in_ok-search-2.field-0) (zero_marks marks c.search.new.marks j c.in_ok-search.ensures.kept) (c.in_ok-search-2.ensures.tells start (omega (arith, from, grows_one))) in
+    let last = subst (λ (o : Option Tree). Tells s start (slice_set marks j Zero) more second after o) c.in-Some-2.is there in
     tells_both s start marks j best between more c.args.run.now.left middle second after c.in-Some.tree c.in-Some-2.tree c.in_ok-branch_on.field-0 branches c.in_ok-search-2.ensures.grows (omega (arith, used, some)) first last c.in_ok-branch_on.ensures

@@ -3,6 +3,7 @@ use Rattle.std.specs.List.{count_by}
 use Rattle.placement_programme.specs.Views.{plain_side}
 use Rattle.certificate_checker.specs.Shows.{all_free}
 use Rattle.branch_bound.specs.Searching.{Tells, HasLevels}
+use Rattle.certificate_checker.specs.Fixings.{is_free}
 use Rattle.branch_bound.proofs.SolveLemmas.{root_levels}
 use Rattle.branch_bound.proofs.solving.search_side.Goals as goal
 
@@ -10,7 +11,7 @@ pub returns-clause-levels : goal.returns-clause-levels
 returns-clause-levels c =
     let s = plain_side c.args.side.now in
     let is : c.deref_mut.result.now ≡ all_free s = c.deref_mut.ensures.value ∙ c.in_ok-marks.ensures in
-    root_levels s c.in_ok-tree.tree c.args.side.now.bounds.few_vars (subst (λ m. HasLevels (suc (count_by (nat_le 2) m)) c.in_ok-tree.tree) is c.in_ok-tree.ensures.levels)
+    root_levels s c.in_ok-tree.tree c.args.side.now.bounds.few_vars (subst (λ m. HasLevels (suc (count_by is_free m)) c.in_ok-tree.tree) is c.in_ok-tree.ensures.levels)
 
 pub returns-clause-tells : goal.returns-clause-tells
 returns-clause-tells c =

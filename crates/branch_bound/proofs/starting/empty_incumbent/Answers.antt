@@ -1,6 +1,8 @@
 use Rattle.std.proofs.Common.{length, ap, arith, ℕ}
 use Rattle.std.proofs.lemmas.List.{length-replicate}
 use Rattle.placement_programme.specs.Views.{plain_programme}
+use Rattle.certificate_checker.specs.declared.fixings.Fixing.{Fixing}
+use Rattle.certificate_checker.specs.declared.fixings.Fixing.TheVariants.{Free}
 use Rattle.branch_bound.proofs.SolveLemmas.{nothing_from, nothing_accepted}
 use Rattle.branch_bound.proofs.starting.empty_incumbent.Goals as goal
 
@@ -11,7 +13,7 @@ pub returns-clause-incumbent : goal.returns-clause-incumbent
 returns-clause-incumbent c =
     let p = plain_programme c.args.p.now in
     let same = ap length c.in_ok-marks.ensures in
-    let all = length-replicate {A = ℕ} (length p.off.vars) 2 in
+    let all = length-replicate {A = Fixing} (length p.off.vars) Free in
     record {
       accepted = nothing_accepted p c.in_ok-marks.marks.items c.in_ok-marks.ensures;
       marked = omega (arith, same, all);

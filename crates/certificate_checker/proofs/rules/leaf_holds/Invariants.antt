@@ -2,12 +2,13 @@ use Rattle.std.proofs.Common.{◌≡◌, ℕ, ◌<◌}
 use Rattle.placement_programme.specs.Programme.{gain_at}
 use Rattle.placement_programme.specs.Sums.{sum_below}
 use Rattle.placement_programme.specs.Views.{plain_side}
-use Rattle.certificate_checker.specs.Marks.{mark, free}
 use Rattle.certificate_checker.specs.Rules.{if_one}
+use Rattle.certificate_checker.specs.Fixings.{fixing_of}
+use Rattle.certificate_checker.specs.declared.fixings.Fixing.TheVariants.{Free}
 use Rattle.certificate_checker.proofs.rules.leaf_holds.Given as goal
 
 abbrev pub invariant-loop-number : goal.invariant-loop-number
 invariant-loop-number l = record {
-  value : l.total ≡ sum_below l.number (λ j. if_one (mark l.marks j) (gain_at (plain_side l.side).vars j));
-  full : (j : ℕ) → j < l.number → mark l.marks j ≡ free → ⊥;
+  value : l.total ≡ sum_below l.number (λ j. if_one (fixing_of l.marks j) (gain_at (plain_side l.side).vars j));
+  full : (j : ℕ) → j < l.number → fixing_of l.marks j ≡ Free → ⊥;
 }

@@ -2,9 +2,9 @@ use Rattle.std.proofs.Common.{Some, None}
 use Rattle.certificate_checker.proofs.RoomLemmas.{one_tree, two_trees}
 use Rattle.certificate_checker.proofs.text_trees.claimed_trees.Goals as goal
 
-pub returns-then-count-eq1 : goal.returns-then-count-eq1
-returns-then-count-eq1 c =
-    let off = c.in_ok-off.ensures in (
+pub returns-then-count-eq1-clause-read : goal.returns-then-count-eq1-clause-read
+returns-then-count-eq1-clause-read c =
+    let off = c.in_ok-off.ensures.read in (
       (Some off.0, None),
       (
         one_tree c.args.total c.args.bytes.now c.in_ok-count.count c.in_ok-count.rest.now off.0 c.in_ok-off.rest.now c.in_ok-count.ensures.gives off.1.0 c.if-count-eq1.true,
@@ -13,10 +13,10 @@ returns-then-count-eq1 c =
       ),
     )
 
-pub returns : goal.returns
-returns c =
-    let off = c.in_ok-off.ensures in
-    let on = c.in_ok-on.ensures in (
+pub returns-clause-read : goal.returns-clause-read
+returns-clause-read c =
+    let off = c.in_ok-off.ensures.read in
+    let on = c.in_ok-on.ensures.read in (
       (Some off.0, Some on.0),
       (
         two_trees c.args.total c.args.bytes.now c.in_ok-count.count c.in_ok-count.rest.now off.0 c.in_ok-off.rest.now on.0 c.in_ok-on.rest.now c.in_ok-count.ensures.gives off.1.0 c.if-count-eq1.false on.1.0,

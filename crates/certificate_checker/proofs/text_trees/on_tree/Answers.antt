@@ -4,9 +4,9 @@ use Rattle.certificate_checker.specs.Shows.{SideWrong}
 use Rattle.certificate_checker.proofs.Failures.{number_here}
 use Rattle.certificate_checker.proofs.text_trees.on_tree.Goals as goal
 
-pub returns-in-Ok : goal.returns-in-Ok
-returns-in-Ok c =
-    let read = c.in-Ok.ensures in (
+pub returns-in-Ok-clause-read : goal.returns-in-Ok-clause-read
+returns-in-Ok-clause-read c =
+    let read = c.in-Ok.ensures.read in (
       read.0,
       (
         read.1.0,

@@ -4,8 +4,8 @@ use Rattle.certificate_checker.specs.Reading.{trees_for}
 use Rattle.certificate_checker.proofs.RoomLemmas.{missing_first}
 use Rattle.certificate_checker.proofs.text_trees.text_trees.Goals as goal
 
-pub returns-else-optimal : goal.returns-else-optimal
-returns-else-optimal c = (
+pub returns-else-optimal-clause-read : goal.returns-else-optimal-clause-read
+returns-else-optimal-clause-read c = (
   (None, None),
   (
     subst (λ claimed. trees_for claimed c.args.total c.args.bytes.now ≡ Ok ((None, None), c.args.bytes.now)) (sym c.if-optimal.false) refl,

@@ -13,26 +13,26 @@ returns-in_err-tag-clause-reads c =
     let task = c.args.task.now in
     let progress = c.args.progress in
     rw (p.1, p.2) (λ all before.
-    read_fault (text_of (plain_side task.side.now) task.best task.total c.args.levels all) c.args.path.now c.args.marks.now progress.depth progress.so_far c.args.bytes.now c.in_err-tag.field-0.0 before
-    (tree_cut task.total (c.args.levels - progress.depth) c.args.bytes.now c.in_err-tag.field-0.0 c.in_err-tag.ensures.0 c.in_err-tag.ensures.1))
+    read_fault (text_of (plain_side task.side.now) task.best task.total c.args.task.now.levels all) c.args.path.now c.args.marks.now progress.depth progress.so_far c.args.bytes.now c.in_err-tag.field-0.0 before
+    (tree_cut task.total (c.args.task.now.levels - progress.depth) c.args.bytes.now c.in_err-tag.field-0.0 c.in_err-tag.ensures.0 c.in_err-tag.ensures.1))
 
-pub returns-then-progress-levels-clause-reads : goal.returns-then-progress-levels-clause-reads
-returns-then-progress-levels-clause-reads c all before =
+pub returns-then-progress-task-clause-reads : goal.returns-then-progress-task-clause-reads
+returns-then-progress-task-clause-reads c all before =
     let task = c.args.task.now in
     let progress = c.args.progress in
-    let last = c.if-progress-levels.true in
-    read_fault (text_of (plain_side task.side.now) task.best task.total c.args.levels all) c.args.path.now c.args.marks.now progress.depth progress.so_far c.args.bytes.now c.below_all.result before
-    (tree_below task.total (c.args.levels - progress.depth) c.args.bytes.now c.in_ok-tag.tag c.in_ok-tag.rest.now c.below_all.result (omega (arith, last)) c.in_ok-tag.ensures c.below_all.ensures)
+    let last = c.if-progress-task.true in
+    read_fault (text_of (plain_side task.side.now) task.best task.total c.args.task.now.levels all) c.args.path.now c.args.marks.now progress.depth progress.so_far c.args.bytes.now c.below_all.result before
+    (tree_below task.total (c.args.task.now.levels - progress.depth) c.args.bytes.now c.in_ok-tag.tag c.in_ok-tag.rest.now c.below_all.result (omega (arith, last)) c.in_ok-tag.ensures c.below_all.ensures)
 
 pub returns-then-tag-eq0-clause-reads : goal.returns-then-tag-eq0-clause-reads
 returns-then-tag-eq0-clause-reads c all before =
     let task = c.args.task.now in
     let progress = c.args.progress in
-    let x = text_of (plain_side task.side.now) task.best task.total c.args.levels all in
+    let x = text_of (plain_side task.side.now) task.best task.total c.args.task.now.levels all in
     let most = c.requires.depth in
-    let other = c.if-progress-levels.false in
+    let other = c.if-progress-task.false in
     let zeroed = c.in_ok-tag.ensures ∙ ap (λ b. b ∷ c.in_ok-tag.rest.now) c.if-tag-eq0.true in
-    c.read_branch.ensures.reads c.args.levels all (omega (arith, most, other))
+    c.read_branch.ensures.reads c.args.task.now.levels all (omega (arith, most, other))
     (subst (λ bs. IsBefore x c.args.path.now c.args.marks.now progress.depth progress.so_far bs) zeroed before)
 
 pub returns-then-tag-eq0-clause-left : goal.returns-then-tag-eq0-clause-left
@@ -43,8 +43,8 @@ returns-then-tag-eq0-clause-left c reading =
 pub returns-then-tag-eq0-clause-depth : goal.returns-then-tag-eq0-clause-depth
 returns-then-tag-eq0-clause-depth c =
     let most = c.requires.depth in
-    let other = c.if-progress-levels.false in
-    c.read_branch.ensures.depth c.args.levels (omega (arith, most, other))
+    let other = c.if-progress-task.false in
+    c.read_branch.ensures.depth c.args.task.now.levels (omega (arith, most, other))
 
 pub read_single-requires-clause-tag : goal.read_single-requires-clause-tag
 read_single-requires-clause-tag c rest is =
@@ -53,11 +53,11 @@ read_single-requires-clause-tag c rest is =
 pub returns-clause-reads : goal.returns-clause-reads
 returns-clause-reads c all before =
     let most = c.requires.depth in
-    let other = c.if-progress-levels.false in
-    c.read_single.ensures.reads c.args.levels all (omega (arith, most, other)) before
+    let other = c.if-progress-task.false in
+    c.read_single.ensures.reads c.args.task.now.levels all (omega (arith, most, other)) before
 
 pub returns-clause-depth : goal.returns-clause-depth
 returns-clause-depth c =
     let most = c.requires.depth in
-    let other = c.if-progress-levels.false in
-    c.read_single.ensures.depth c.args.levels (omega (arith, most, other))
+    let other = c.if-progress-task.false in
+    c.read_single.ensures.depth c.args.task.now.levels (omega (arith, most, other))

@@ -8,7 +8,7 @@ pub loop-marks-init : goal.loop-marks-init
 loop-marks-init c =
     let task = c.args.task.now in
     record {
-      stands = at_root (plain_side task.side.now) task.best task.total c.args.levels c.args.bytes.now c.args.path.now c.args.marks.now c.requires.free;
+      stands = at_root (plain_side task.side.now) task.best task.total c.args.task.now.levels c.args.bytes.now c.args.path.now c.args.marks.now c.requires.free;
       depth = omega arith;
     }
 
@@ -16,7 +16,7 @@ pub advance-requires-clause-step : goal.advance-requires-clause-step
 advance-requires-clause-step c =
     let task = c.args.task.now in
     let progress = c.loop-marks.progress in
-    let x = text_of (plain_side task.side.now) task.best task.total c.args.levels c.args.bytes.now in
+    let x = text_of (plain_side task.side.now) task.best task.total c.args.task.now.levels c.args.bytes.now in
     can_advance x c.loop-marks.path c.loop-marks.marks progress.depth progress.ended progress.so_far c.loop-marks.rest.now
     (marks_long x.side c.args.marks.now c.loop-marks.marks c.requires.free c.loop-marks.auto.marks)
     (λ done. let found = c.is_done.ensures.1 done in let going = c.loop-marks-test.true in cc)

@@ -1,6 +1,6 @@
 use Rattle.placement_programme.specs.Views.{plain_side}
 use Rattle.side_search.proofs.Ranges.{dual_in_range}
-use Rattle.side_search.proofs.closing.is_dual.Goals as goal
+use Rattle.side_search.proofs.fathoming.is_dual.Goals as goal
 
 pub returns-then-dual_holds : goal.returns-then-dual_holds
 returns-then-dual_holds c =

@@ -6,13 +6,13 @@ ghost use Rattle.certificate_checker.specs.Rules.{BranchHolds, DualHolds};
 ghost use Rattle.certificate_checker.specs.Spelling.{IsDualInRange};
 ghost use Rattle.side_search.specs.Visits.{ShownBelow, IsVisited};
 
-use crate::advising::Proposal;
+use crate::bounding::DualSolution;
 use crate::visiting::Visit;
-use certificate_checker::{Tree, branch_holds, dual_holds, keeps_rule};
+use certificate_checker::{Fixing, Tree, branch_holds, dual_holds, keeps_rule};
 use placement_programme::Side;
 
-/// A row that is exceeded closes a node.
-fn close_over(side: &Side, best: u128, marks: &[u8], row: Option<u32>) -> Option<Tree>
+/// A row that is exceeded fathoms a node.
+fn fathom_over(side: &Side, best: u128, marks: &[Fixing], row: Option<u32>) -> Option<Tree>
     requires best { best ≤ 2 ^ 104 }
     requires marked { length (plain_side side.now).vars ≤ length marks.now }
     ensures { ShownBelow (plain_side side.now) best marks.now 1 result }
@@ -33,7 +33,13 @@ fn are_small(multipliers: &[(u32, u64)]) -> bool
 }
 
 /// Whether multipliers make a dual node that keeps its rule and is within the ranges of a certificate's text.
-fn is_dual(side: &Side, best: u128, marks: &[u8], scale: u32, multipliers: &[(u32, u64)]) -> bool
+fn is_dual(
+    side: &Side,
+    best: u128,
+    marks: &[Fixing],
+    scale: u32,
+    multipliers: &[(u32, u64)],
+) -> bool
     requires best { best ≤ 2 ^ 104 }
     requires marked { length (plain_side side.now).vars ≤ length marks.now }
     ensures { IsTrue result → DualHolds (plain_side side.now) best marks.now scale multipliers.now × IsDualInRange scale multipliers.now }
@@ -41,13 +47,18 @@ fn is_dual(side: &Side, best: u128, marks: &[u8], scale: u32, multipliers: &[(u3
     dual_holds(side, best, marks, scale, multipliers) && are_small(multipliers)
 }
 
-/// Multipliers close a node where they bound the gain.
-fn close_dual(side: &Side, best: u128, marks: &[u8], proposal: Option<Proposal>) -> Option<Tree>
+/// A dual solution fathoms a node where it bounds the gain.
+fn fathom_dual(
+    side: &Side,
+    best: u128,
+    marks: &[Fixing],
+    dual: Option<DualSolution>,
+) -> Option<Tree>
     requires best { best ≤ 2 ^ 104 }
     requires marked { length (plain_side side.now).vars ≤ length marks.now }
     ensures { ShownBelow (plain_side side.now) best marks.now 1 result }
 {
-    let Proposal { scale, multipliers } = proposal?;
+    let DualSolution { scale, multipliers } = dual?;
     if is_dual(side, best, marks, scale, &multipliers) {
         Some(Tree::Dual { scale, multipliers })
     } else {
@@ -55,8 +66,8 @@ fn close_dual(side: &Side, best: u128, marks: &[u8], proposal: Option<Proposal>)
     }
 }
 
-/// A node at which nothing is free is closed where it gains no more.
-fn close_leaf(side: &Side, best: u128, marks: &[u8]) -> Option<Tree>
+/// A node at which nothing is free is fathomed where it gains no more.
+fn fathom_leaf(side: &Side, best: u128, marks: &[Fixing]) -> Option<Tree>
     requires best { best ≤ 2 ^ 104 }
     requires marked { length (plain_side side.now).vars ≤ length marks.now }
     ensures { ShownBelow (plain_side side.now) best marks.now 1 result }
@@ -69,29 +80,29 @@ fn close_leaf(side: &Side, best: u128, marks: &[u8]) -> Option<Tree>
     }
 }
 
-/// A tree of one node, if one closes the node.
-fn close(
+/// A tree of one node, if one fathoms the node.
+fn fathom(
     side: &Side,
     best: u128,
-    marks: &[u8],
+    marks: &[Fixing],
     exceeded: Option<u32>,
-    proposal: Option<Proposal>,
+    dual: Option<DualSolution>,
 ) -> Option<Tree>
     requires best { best ≤ 2 ^ 104 }
     requires marked { length (plain_side side.now).vars ≤ length marks.now }
     ensures { ShownBelow (plain_side side.now) best marks.now 1 result }
 {
-    if let Some(tree) = close_over(side, best, marks, exceeded) {
+    if let Some(tree) = fathom_over(side, best, marks, exceeded) {
         return Some(tree);
     }
-    if let Some(tree) = close_dual(side, best, marks, proposal) {
+    if let Some(tree) = fathom_dual(side, best, marks, dual) {
         return Some(tree);
     }
-    close_leaf(side, best, marks)
+    fathom_leaf(side, best, marks)
 }
 
 /// The first variable that is free.
-fn first_free(side: &Side, marks: &[u8]) -> Option<u32>
+fn first_free(side: &Side, marks: &[Fixing]) -> Option<u32>
     requires { length (plain_side side.now).vars ≤ length marks.now }
 {
     for number in 0..4000 {
@@ -102,12 +113,12 @@ fn first_free(side: &Side, marks: &[u8]) -> Option<u32>
     None
 }
 
-/// A variable to branch on: the one that is advised, if it is free, else the first free one.
-fn open(side: &Side, marks: &[u8], advised: Option<u32>) -> Option<u32>
+/// A variable to branch on: the one that is suggested, if it is free, else the first free one.
+fn open(side: &Side, marks: &[Fixing], suggested: Option<u32>) -> Option<u32>
     requires { length (plain_side side.now).vars ≤ length marks.now }
     ensures { IfSome result (BranchHolds (plain_side side.now) marks.now) }
 {
-    let number = match advised {
+    let number = match suggested {
         Some(number) => number,
         None => first_free(side, marks)?,
     };
@@ -118,23 +129,23 @@ fn open(side: &Side, marks: &[u8], advised: Option<u32>) -> Option<u32>
     }
 }
 
-/// Closes a node, or finds the variable to branch on.
-pub(crate) fn close_or_open(
+/// Fathoms a node, or finds the variable to branch on.
+pub(crate) fn fathom_or_branch(
     side: &Side,
     best: u128,
-    marks: &[u8],
+    marks: &[Fixing],
     exceeded: Option<u32>,
-    proposal: Option<Proposal>,
-    advised: Option<u32>,
+    dual: Option<DualSolution>,
+    suggested: Option<u32>,
 ) -> Visit
     requires best { best ≤ 2 ^ 104 }
     requires marked { length (plain_side side.now).vars ≤ length marks.now }
     ensures { IsVisited (plain_side side.now) best marks.now result }
 {
-    if let Some(tree) = close(side, best, marks, exceeded, proposal) {
+    if let Some(tree) = fathom(side, best, marks, exceeded, dual) {
         return Visit::Closed(tree);
     }
-    match open(side, marks, advised) {
+    match open(side, marks, suggested) {
         Some(number) => Visit::Open(number),
         None => Visit::Stuck,
     }

@@ -2,53 +2,53 @@ use crate::columns::Column;
 use crate::layout::Layout;
 use crate::node::Node;
 use crate::numbers::{copy_of, is_set, number_at, numbered, put, set, unset};
-use crate::relaxing::Relaxation;
+use crate::relaxation::LagrangianRelaxation;
 use std::alloc::{AllocError, Global};
 
-/// A choice below a node: what a relaxation takes, and then each other free variable that has room, the greatest gain first and the
-/// lowest number on a tie.
+/// A choice below a node, by a greedy heuristic: what a relaxation takes, and then each other free variable that fits, the
+/// greatest gain first and the lowest number on a tie.
 #[derive(Drop)]
-pub(crate) struct Filled {
-    /// What is left of each row.
-    room: Vec<u64>,
+pub(crate) struct Completion {
+    /// What the choice leaves of each row.
+    slack: Vec<u64>,
     /// Which variables are taken.
     taken: Vec<bool>,
     /// Their scaled gains.
     pub gain: u64,
 }
 
-fn fits(room: &[u64], column: &Column) -> bool {
-    for (row, weight) in &column.shared {
-        if number_at(room, *row as usize) < *weight {
+fn fits(slack: &[u64], column: &Column) -> bool {
+    for (row, weight) in &column.knapsack {
+        if number_at(slack, *row as usize) < *weight {
             return false;
         }
     }
-    for row in &column.single {
-        if number_at(room, *row as usize) == 0 {
+    for row in &column.packing {
+        if number_at(slack, *row as usize) == 0 {
             return false;
         }
     }
     true
 }
 
-fn use_room(room: &mut [u64], row: u32, weight: u64) {
+fn use_slack(slack: &mut [u64], row: u32, weight: u64) {
     let place = row as usize;
-    put(room, place, number_at(room, place).saturating_sub(weight));
+    put(slack, place, number_at(slack, place).saturating_sub(weight));
 }
 
-impl Filled {
+impl Completion {
     fn take(&mut self, column: &Column, number: usize) {
         set(&mut self.taken, number);
         self.gain = self.gain.saturating_add(column.gain);
-        for (row, weight) in &column.shared {
-            use_room(&mut self.room, *row, *weight);
+        for (row, weight) in &column.knapsack {
+            use_slack(&mut self.slack, *row, *weight);
         }
-        for row in &column.single {
-            use_room(&mut self.room, *row, 1);
+        for row in &column.packing {
+            use_slack(&mut self.slack, *row, 1);
         }
     }
 
-    fn take_relaxed(&mut self, layout: &Layout, relaxation: &Relaxation) {
+    fn take_relaxed(&mut self, layout: &Layout, relaxation: &LagrangianRelaxation) {
         for number in 0..layout.columns.len() {
             if is_set(&relaxation.taken, number) {
                 self.take(&layout.columns[number], number);
@@ -62,27 +62,27 @@ impl Filled {
             if place >= layout.columns.len() || is_set(&self.taken, place) {
                 continue;
             }
-            if is_set(&node.free, place) && fits(&self.room, &layout.columns[place]) {
+            if is_set(&node.free, place) && fits(&self.slack, &layout.columns[place]) {
                 self.take(&layout.columns[place], place);
             }
         }
     }
 
-    /// Fills up what a relaxation takes, which must have room.
+    /// Completes what a relaxation takes, which must be feasible.
     pub(crate) fn of(
         alloc: Global,
         layout: &Layout,
         node: &Node,
-        relaxation: &Relaxation,
-    ) -> Result<Filled, AllocError> {
-        let mut filled = Filled {
-            room: copy_of(alloc, &node.room)?,
+        relaxation: &LagrangianRelaxation,
+    ) -> Result<Completion, AllocError> {
+        let mut completion = Completion {
+            slack: copy_of(alloc, &node.slack)?,
             taken: unset(alloc, layout.columns.len())?,
             gain: node.gained,
         };
-        filled.take_relaxed(layout, relaxation);
-        filled.fill(layout, node);
-        Ok(filled)
+        completion.take_relaxed(layout, relaxation);
+        completion.fill(layout, node);
+        Ok(completion)
     }
 
     /// The numbers of the variables that are taken, with those that the node fixes to one.

@@ -1,0 +1,188 @@
+use crate::lagrangian::{BoundStatus, LagrangianDual};
+use crate::layout::Layout;
+use crate::node::Node;
+use crate::numbers::{copy_of, is_set, number_at, numbered, put, zeros};
+use crate::relaxation::LagrangianRelaxation;
+use certificate_checker::Fixing;
+use placement_programme::Side;
+use std::alloc::{AllocError, Global};
+
+/// The Lagrangian bound of a side, with what it keeps from node to node.
+#[derive(Drop)]
+pub(crate) struct DualBound {
+    /// None where the side's gains are too large for it: then it bounds nothing.
+    layout: Option<Layout>,
+    /// The multipliers of the last node, from which the next one's begin.
+    multipliers: Vec<u64>,
+}
+
+/// A dual solution: multipliers that may bound the gain, with the scale of the gains.
+#[derive(Drop)]
+pub(crate) struct DualSolution {
+    pub scale: u32,
+    pub multipliers: Vec<(u32, u64)>,
+}
+
+/// What the bound says of a node.
+#[derive(Drop)]
+pub(crate) struct NodeBound {
+    /// A row that the variables fixed to one exceed.
+    pub exceeded: Option<u32>,
+    /// A choice below the node that gains more than what was asked, as the numbers of its variables.
+    pub candidate: Option<Vec<u32>>,
+    /// What may show that nothing below the node gains more than what was asked, or than the candidate.
+    pub dual: Option<DualSolution>,
+    /// The variable to branch on.
+    pub branch: Option<u32>,
+}
+
+fn nothing() -> NodeBound {
+    NodeBound {
+        exceeded: None,
+        candidate: None,
+        dual: None,
+        branch: None,
+    }
+}
+
+fn scaled_target(side: &Side, layout: &Layout, best: u128) -> u64 {
+    let gains = best.saturating_add(side.fixed);
+    let scaled = gains.saturating_mul(u128::from(layout.scale));
+    u64::try_from(scaled).unwrap_or(u64::MAX)
+}
+
+/// The multipliers of the packing rows: what each adds to the reach.
+fn add_steps(multipliers: &mut [u64], layout: &Layout, reach: &[u64]) {
+    for row in 0..layout.is_knapsack.len() {
+        if !layout.is_knapsack[row] {
+            let step = number_at(reach, row.saturating_add(1)).saturating_sub(number_at(
+                reach, row,
+            ));
+            put(multipliers, row, step);
+        }
+    }
+}
+
+/// A packing row without slack pays for a free variable that it bars.
+fn bar(multipliers: &mut [u64], node: &Node, packing: &[u32], gain: u64) {
+    for row in packing {
+        let place = *row as usize;
+        if number_at(&node.slack, place) == 0 {
+            put(multipliers, place, number_at(multipliers, place).max(gain));
+            return;
+        }
+    }
+}
+
+fn bar_all(multipliers: &mut [u64], layout: &Layout, dual_problem: &LagrangianDual) {
+    for number in 0..layout.columns.len() {
+        let column = &layout.columns[number];
+        if is_set(&dual_problem.node.free, number) && !is_set(&dual_problem.node.live, number) {
+            bar(
+                multipliers,
+                &dual_problem.node,
+                &column.packing,
+                column.reduced_gain(&dual_problem.multipliers),
+            );
+        }
+    }
+}
+
+fn entries(alloc: Global, multipliers: &[u64]) -> Result<Vec<(u32, u64)>, AllocError> {
+    let mut entries = Vec::new(alloc);
+    for row in 0..numbered(multipliers.len()) {
+        let multiplier = number_at(multipliers, row as usize);
+        if multiplier > 0 {
+            entries.push((row, multiplier))?;
+        }
+    }
+    Ok(entries)
+}
+
+fn dual_solution(
+    alloc: Global,
+    layout: &Layout,
+    dual_problem: &LagrangianDual,
+) -> Result<DualSolution, AllocError> {
+    let mut multipliers = copy_of(alloc, &dual_problem.multipliers)?;
+    add_steps(&mut multipliers, layout, &dual_problem.relaxation.reach);
+    bar_all(&mut multipliers, layout, dual_problem);
+    Ok(DualSolution {
+        scale: layout.scale,
+        multipliers: entries(alloc, &multipliers)?,
+    })
+}
+
+/// The branching variable: of those that some multipliers take and others don't, the one of least reduced gain.
+fn branch_of(layout: &Layout, dual_problem: &LagrangianDual) -> Option<u32> {
+    let mut branch = None;
+    let mut least = u64::MAX;
+    for number in 0..numbered(layout.columns.len()) {
+        let place = number as usize;
+        if place >= layout.columns.len() || !is_set(&dual_problem.node.free, place) {
+            continue;
+        }
+        let size = layout.columns[place].reduced_gain_size(&dual_problem.multipliers);
+        if dual_problem.relaxation.is_split(place) && size < least {
+            least = size;
+            branch = Some(number);
+        }
+    }
+    branch
+}
+
+fn bound_of(
+    alloc: Global,
+    layout: &Layout,
+    dual_problem: &mut LagrangianDual,
+) -> Result<NodeBound, AllocError> {
+    let status = dual_problem.minimise(alloc, layout)?;
+    let mut found = nothing();
+    found.candidate = dual_problem.candidate.take();
+    if status == BoundStatus::Fathomed {
+        found.dual = Some(dual_solution(alloc, layout, dual_problem)?);
+    } else {
+        found.branch = branch_of(layout, dual_problem);
+    }
+    Ok(found)
+}
+
+impl DualBound {
+    /// Of a side.
+    pub(crate) fn new(alloc: Global, side: &Side) -> Result<DualBound, AllocError> {
+        Ok(DualBound {
+            layout: Layout::of(alloc, side)?,
+            multipliers: zeros(alloc, side.rows.len())?,
+        })
+    }
+
+    /// What the bound says of a node that fixes the variables so. It is
+    /// asked whether anything gains more than `best`, which has the fixed cost taken off.
+    pub(crate) fn at_node(
+        &mut self,
+        alloc: Global,
+        side: &Side,
+        marks: &[Fixing],
+        best: u128,
+    ) -> Result<NodeBound, AllocError> {
+        let Some(layout) = &self.layout else {
+            return Ok(nothing());
+        };
+        let target = scaled_target(side, layout, best);
+        let node = Node::of(alloc, layout, marks, target)?;
+        if node.exceeded.is_some() {
+            let mut found = nothing();
+            found.exceeded = node.exceeded;
+            return Ok(found);
+        }
+        let mut dual_problem = LagrangianDual {
+            node,
+            multipliers: copy_of(alloc, &self.multipliers)?,
+            relaxation: LagrangianRelaxation::new(alloc, layout)?,
+            candidate: None,
+        };
+        let found = bound_of(alloc, layout, &mut dual_problem)?;
+        self.multipliers = dual_problem.multipliers;
+        Ok(found)
+    }
+}
