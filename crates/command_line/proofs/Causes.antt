@@ -5,8 +5,8 @@ use Rattle.shelf_io.specs.Sink.{SinkView}
 use Rattle.command_line.specs.Command.{PlainCommand, IsCommand}
 use Rattle.command_line.specs.Refused.{IsReadyOrMemory}
 use Rattle.command_line.specs.Reading.{one_fails, memory_wanting}
-use Rattle.command_line.specs.Performing.{Performs, YieldsOf, InputsFail, RefusesPerforming, IsRefusedBy, preparing_fails, write_fails, print_fails, line_wants_memory, write_wants_memory}
-use Rattle.command_line.specs.Answers.{Produces, InputFails, IsDone, IsNoCommand, Cause, HasCause}
+use Rattle.command_line.specs.Performing.{Performs, YieldsOf, InputsFail, RefusesPreparing, RefusesPerforming, IsRefusedBy, preparing_fails, write_fails, print_fails, line_wants_memory, write_wants_memory}
+use Rattle.command_line.specs.Answers.{Produces, InputFails, IsDone, IsNoCommand, WantsBeforeWriting, Cause, HasCause}
 use Rattle.command_line.specs.declared.refused.Refused.{Refused}
 use Rattle.command_line.specs.declared.faults.Refusal.{Refusal}
 use Rattle.command_line.specs.declared.faults.Refusal.TheVariants as refusal
@@ -45,16 +45,24 @@ input_cause (refusal.Read place) words old new sink mid f same =
     let low = first_least f.command f.inputs _ f.first in absurd (omega arith)
 input_cause (refusal.Write place) words old new sink mid f same =
     let low = first_least f.command f.inputs _ f.first in absurd (omega arith)
-input_cause refusal.Memory words old new sink mid f same = (inl (ap (λ (s : ShelfView). s.content) f.same), same)
+input_cause refusal.Memory words old new sink mid f same = (inl (inl f.same), same)
 
 inputs_cause : (words : List (List ℕ)) (command : PlainCommand) (old new : ShelfView) (sink mid : SinkView) (fault : Refusal)
     → IsCommand words command → (f : InputsFail command old new fault) → mid ≡ sink → Cause fault words old new sink mid
 inputs_cause words command old new sink mid fault is f same =
     elim f.refuses [
-      | inl e ↦ subst (λ (r : Refusal). Cause r words old new sink mid) (sym e) (inl (ap (λ (s : ShelfView). s.content) f.same), same)
+      | inl e ↦ subst (λ (r : Refusal). Cause r words old new sink mid) (sym e) (inl (inl f.same), same)
       | inr first ↦ input_cause fault words old new sink mid
           (record { command = command; is_command = is; inputs = f.inputs; holds = f.holds; first = first; same = f.same }) same
     ]
+
+-- a command that can't be prepared has written nothing
+before_writing : (words : List (List ℕ)) (command : PlainCommand) (old new : ShelfView) (fault : Refusal)
+    → IsCommand words command → RefusesPreparing command old new fault → WantsBeforeWriting words old new
+before_writing words command old new fault is (inl (one_fails n is_read e logged)) =
+    inr (n.place, record { command = command; is_command = is; read = n; is_read = is_read; place_is = refl; logged = logged })
+before_writing words command old new fault is (inl (memory_wanting e same)) = inl same
+before_writing words command old new fault is (inr f) = inl f.same
 
 -- a refused command has its cause
 cause_of_refuses : (words : List (List ℕ)) (command : PlainCommand) (old new : ShelfView) (sink mid : SinkView) (fault : Refusal)
@@ -63,7 +71,7 @@ cause_of_refuses words command old new sink mid fault is (preparing_fails (inl (
     subst (λ (r : Refusal). Cause r words old new sink mid) (sym e)
     (record { command = command; is_command = is; read = n; is_read = is_read; place_is = refl; logged = logged }, same)
 cause_of_refuses words command old new sink mid fault is (preparing_fails (inl (memory_wanting e shelf_same)) same) =
-    subst (λ (r : Refusal). Cause r words old new sink mid) (sym e) (inl (ap (λ (s : ShelfView). s.content) shelf_same), same)
+    subst (λ (r : Refusal). Cause r words old new sink mid) (sym e) (inl (inl shelf_same), same)
 cause_of_refuses words command old new sink mid fault is (preparing_fails (inr f) same) =
     inputs_cause words command old new sink mid fault is f same
 cause_of_refuses words command old new sink mid fault is (write_fails outputs text place yields e lost same) =
@@ -77,8 +85,8 @@ cause_of_refuses words command old new sink mid fault is (print_fails outputs te
       delivers = record { outputs = outputs; produces = produces words command outputs text old is yields; set = set };
       printed = printed;
     }))
-cause_of_refuses words command old new sink mid fault is (line_wants_memory e same_content same) =
-    subst (λ (r : Refusal). Cause r words old new sink mid) (sym e) (inl same_content, same)
+cause_of_refuses words command old new sink mid fault is (line_wants_memory untold preparing e same) =
+    subst (λ (r : Refusal). Cause r words old new sink mid) (sym e) (inl (before_writing words command old new untold is preparing), same)
 cause_of_refuses words command old new sink mid fault is (write_wants_memory outputs text yields e wants same) =
     subst (λ (r : Refusal). Cause r words old new sink mid) (sym e)
     (inr (record { outputs = outputs; text = text; produces = produces words command outputs text old is yields; wants = wants }), same)
@@ -94,4 +102,4 @@ pub usage_cause : (words : List (List ℕ)) (old : ShelfView) (sink : SinkView) 
 usage_cause words old sink r none (inl ready) =
     record { fault = refusal.Usage; ready = ready; cause = (none, refl, refl) }
 usage_cause words old sink r none (inr ready) =
-    record { fault = refusal.Memory; ready = ready; cause = (inl refl, refl) }
+    record { fault = refusal.Memory; ready = ready; cause = (inl (inl refl), refl) }

@@ -5,7 +5,6 @@ use Rattle.shelf_io.specs.Shelf.{ShelfView, SetsName, LosesName}
 use Rattle.shelf_io.specs.Sink.{SinkView}
 use Rattle.command_line.specs.Command.{PlainCommand, Named, writes}
 use Rattle.command_line.specs.Refused.{IsReady, IsReadyOrMemory}
-use Rattle.command_line.specs.Reading.{RefusesReads, one_fails, memory_wanting}
 use Rattle.command_line.specs.Delivery.{AreReady, SetsAll, SetsReady, LosesOne, WantsInOne, FailsToWrite, write_fails, wants_memory, DeliversAll, FailsToDeliver, writing_fails, print_fails}
 use Rattle.command_line.specs.Performing.{IsPrepared, RefusesPreparing, Performs, YieldsOf, IsRefusedBy}
 use Rattle.command_line.specs.Performing as performing
@@ -118,20 +117,10 @@ refused_delivery command ready old mid_shelf new sink mid r p f =
     fails_to_deliver command ready old mid_shelf new sink mid r p
     (subst (λ (s : ShelfView). FailsToDeliver ready s new sink mid r) p.same f)
 
-reads_content : (names : List Named) (old new : ShelfView) (fault : Refusal)
-    → RefusesReads names old new fault → new.content ≡ old.content
-reads_content names old new fault (one_fails n is_read e logged) = ap (λ (s : ShelfView). s.content) logged
-reads_content names old new fault (memory_wanting e same) = ap (λ (s : ShelfView). s.content) same
-
-prepare_content : (command : PlainCommand) (old new : ShelfView) (fault : Refusal)
-    → RefusesPreparing command old new fault → new.content ≡ old.content
-prepare_content command old new fault (inl x) = reads_content _ old new fault x
-prepare_content command old new fault (inr x) = ap (λ (s : ShelfView). s.content) x.same
-
 -- a result that could not be made has its refusal, or that of want of memory
 pub refused_preparing : (command : PlainCommand) (old new : ShelfView) (sink : SinkView) (fault : Refusal) (r : Refused)
     → RefusesPreparing command old new fault → IsReadyOrMemory fault r → IsRefusedBy command old new sink sink r
 refused_preparing command old new sink fault r c (inl ready) =
     record { fault = fault; ready = ready; cause = performing.preparing_fails c refl }
 refused_preparing command old new sink fault r c (inr ready) =
-    record { fault = refusal.Memory; ready = ready; cause = performing.line_wants_memory refl (prepare_content command old new fault c) refl }
+    record { fault = refusal.Memory; ready = ready; cause = performing.line_wants_memory fault c refl refl }

@@ -69,7 +69,12 @@ pub record InputFails (words : List (List ℕ)) (fault : Refusal) (old new : She
   pub first : IsFirst command inputs (Some (parts_of fault))
   pub same : new ≡ old
 
--- a write of the command wanted memory: it changed nothing, and the writes before it stand
+-- memory was wanting before the first write: nothing changed, but that a read that failed is logged, whose fault line
+-- could not be made
+abbrev pub WantsBeforeWriting : List (List ℕ) → ShelfView → ShelfView → Type 0
+WantsBeforeWriting words old new = (new ≡ old) ⊎ ((place : ℕ) × ReadFails words place old new)
+
+-- a write of the command wanted memory: nothing but its count of wants rose, and the writes before it stand
 pub record WriteWantsMemory (words : List (List ℕ)) (old new : ShelfView) : Type 0 where
   pub outputs : List (List ℕ)
   pub text : List ℕ
@@ -106,7 +111,7 @@ Cause (refusal.Differs at) words old new sink mid =
 Cause (refusal.SourceFault pc why) words old new sink mid =
     InputFails words (refusal.SourceFault pc why) old new × (mid ≡ sink)
 Cause refusal.Memory words old new sink mid =
-    ((new.content ≡ old.content) ⊎ WriteWantsMemory words old new) × (mid ≡ sink)
+    (WantsBeforeWriting words old new ⊎ WriteWantsMemory words old new) × (mid ≡ sink)
 
 -- a refusal whose line is still to be put, and why it came
 pub record HasCause (words : List (List ℕ)) (old new : ShelfView) (sink mid : SinkView) (r : Refused)

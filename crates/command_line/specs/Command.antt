@@ -78,6 +78,20 @@ Spells words (gen_command seed kernels out) = SpellsGen words seed kernels out
 Spells words (hex_command file out) = words ≡ codes "hex" ∷ file ∷ out ∷ []
 Spells words (hex_check_command file hex) = words ≡ codes "hexcheck" ∷ file ∷ hex ∷ []
 
+-- the words spell no command that runs the program of a file
+pub record SpellsNoRun (words : List (List ℕ)) : Type 0 where
+  pub run : (f b i o : List ℕ) → Spells words (run_command f b i o) → ⊥
+  pub relink : (f b i o c : List ℕ) → Spells words (relink_command f b i o c) → ⊥
+  pub profile : (f b i : List ℕ) → Spells words (profile_command f b i) → ⊥
+  pub compare : (f r b i : List ℕ) → Spells words (compare_command f r b i) → ⊥
+  pub check : (f b i c : List ℕ) → Spells words (check_command f b i c) → ⊥
+
+-- and none that reads files and runs nothing
+pub record SpellsNoOther (words : List (List ℕ)) : Type 0 where
+  pub show : (f b : List ℕ) → Spells words (show_command f b) → ⊥
+  pub hex : (f o : List ℕ) → Spells words (hex_command f o) → ⊥
+  pub hex_check : (f h : List ℕ) → Spells words (hex_check_command f h) → ⊥
+
 -- a name of a command, and the place of its word among the words, from 0
 pub record Named : Type 0 where
   pub place : ℕ

@@ -1,6 +1,6 @@
 -- What is left to do once the result of a command stands ready, and what it leaves.
 use Rattle.std.specs.Prelude.{◌≡◌, ◌⊎◌, ℕ, List, [], ◌∷◌}
-use Rattle.shelf_io.specs.Shelf.{ShelfView, SetsName, LosesName}
+use Rattle.shelf_io.specs.Shelf.{ShelfView, SetsName, LosesName, WantsMemory}
 use Rattle.shelf_io.specs.Sink.{SinkView, PutAll, PutSome}
 use Rattle.command_line.specs.Command.{Named}
 use Rattle.command_line.specs.Refused.{IsReady}
@@ -26,12 +26,12 @@ LosesOne (w ∷ names) (output ∷ outputs) place old new =
     ((place ≡ w.place) × LosesName w.name old new)
     ⊎ ((mid : ShelfView) × SetsName w.name output old mid × LosesOne names outputs place mid new)
 
--- a write wanted memory and changed nothing; those before it stand
+-- a write wanted memory and nothing but its count of wants rose; those before it stand, and none behind it was made
 abbrev pub WantsInOne : List Named → List (List ℕ) → ShelfView → ShelfView → Type 0
 WantsInOne [] outputs old new = ⊥
 WantsInOne (w ∷ names) [] old new = ⊥
 WantsInOne (w ∷ names) (output ∷ outputs) old new =
-    (new.content ≡ old.content)
+    WantsMemory old new
     ⊎ ((mid : ShelfView) × SetsName w.name output old mid × WantsInOne names outputs mid new)
 
 -- an output that stands ready under a name, with the refusal of its write
@@ -56,10 +56,10 @@ SetsReady [] old new = new ≡ old
 SetsReady (o ∷ ready) old new =
     (mid : ShelfView) × SetsName o.name.now o.bytes.items old mid × SetsReady ready mid new
 
--- a write failed, and `r` is its refusal; or it wanted memory
+-- a write failed, and `r` is its refusal; or it wanted memory, which its count of wants tells
 pub data FailsOnce (o : Output) (old new : ShelfView) (r : Refused) : Type 0 where
   write_fails : r ≡ o.fault → LosesName o.name.now old new → FailsOnce o old new r
-  wants_memory : r ≡ refused.Memory → new.content ≡ old.content → FailsOnce o old new r
+  wants_memory : r ≡ refused.Memory → WantsMemory old new → FailsOnce o old new r
 
 abbrev pub FailsToWrite : List Output → ShelfView → ShelfView → Refused → Type 0
 FailsToWrite [] old new r = ⊥

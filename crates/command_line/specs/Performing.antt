@@ -62,7 +62,7 @@ pub data RefusesPerforming (command : PlainCommand) (old new : ShelfView) (sink 
   print_fails : (outputs : List (List ℕ)) (text : List ℕ) → YieldsOf command outputs text old
       → fault ≡ refusal.Write 0 → SetsAll (writes command) outputs old new → PutSome text sink mid
       → RefusesPerforming command old new sink mid fault
-  line_wants_memory : fault ≡ refusal.Memory → new.content ≡ old.content → mid ≡ sink
+  line_wants_memory : (untold : Refusal) → RefusesPreparing command old new untold → fault ≡ refusal.Memory → mid ≡ sink
       → RefusesPerforming command old new sink mid fault
   write_wants_memory : (outputs : List (List ℕ)) (text : List ℕ) → YieldsOf command outputs text old
       → fault ≡ refusal.Memory → WantsInOne (writes command) outputs old new → mid ≡ sink

@@ -1,5 +1,5 @@
 ghost use Rattle.std.specs.Prelude.{◌≡◌, ◌≢◌, ◌≤◌, ◌↔◌, ℕ, List, IsTrue, IfOk, IfSome, IsSome, MatchOption, All, codes, length, ◌∷◌, [], map};
-ghost use Rattle.command_line.specs.Command.{texts, IsName, IsNameWord, AreNames, IsDigit, value_of, IsNumber, PlainCommand, Spells, SpellsGen, IsApart, IsCommand, plain_command, plain_named, reads};
+ghost use Rattle.command_line.specs.Command.{texts, IsName, IsNameWord, AreNames, IsDigit, value_of, IsNumber, PlainCommand, Spells, SpellsGen, SpellsNoRun, SpellsNoOther, IsApart, IsCommand, plain_command, plain_named, named, reads};
 
 use std::alloc::{AllocError, Global};
 
@@ -62,6 +62,17 @@ pub struct NamedWord<'a> {
     pub name: &'a str,
 }
 
+impl<'a> NamedWord<'a> {
+    ghost use Rattle.std.specs.Prelude.{◌≡◌};
+    ghost use Rattle.command_line.specs.Command.{plain_named, named};
+
+    fn new(place: u32, name: &'a str) -> NamedWord<'a>
+        ensures { plain_named result ≡ named place name.now }
+    {
+        NamedWord { place, name }
+    }
+}
+
 impl<'a> Command<'a> {
     ghost use Rattle.std.specs.Prelude.{◌≡◌, IfOk, map};
     ghost use Rattle.command_line.specs.Command.{plain_command, plain_named, reads};
@@ -70,58 +81,89 @@ impl<'a> Command<'a> {
     pub fn reads(&self, alloc: Global) -> Result<Vec<NamedWord<'a>>, AllocError>
         ensures { IfOk result (λ names. map plain_named names.items ≡ reads (plain_command self.now)) }
     {
-        let names = match *self {
+        match *self {
             Command::Run {
                 file,
                 board,
                 input,
                 ..
-            } => vec![in alloc; named(1, file), named(2, board), named(3, input)]?,
+            } => three_names(alloc, file, board, input),
             Command::Relink {
                 file,
                 board,
                 input,
                 ..
-            } => vec![in alloc; named(1, file), named(2, board), named(3, input)]?,
-            Command::Profile { file, board, input } => {
-                vec![in alloc; named(1, file), named(2, board), named(3, input)]?
-            }
+            } => three_names(alloc, file, board, input),
+            Command::Profile { file, board, input } => three_names(alloc, file, board, input),
             Command::Compare {
                 file,
                 relinked,
                 board,
                 input,
-            } => vec![in alloc;
-                named(1, file),
-                named(2, relinked),
-                named(3, board),
-                named(4, input),
-            ]?,
+            } => four_names(alloc, file, relinked, board, input),
             Command::Check {
                 file,
                 board,
                 input,
                 cert,
-            } => vec![in alloc;
-                named(1, file),
-                named(2, board),
-                named(3, input),
-                named(4, cert),
-            ]?,
-
-            Command::Show { file, board } => vec![in alloc; named(1, file), named(2, board)]?,
-            Command::Gen { .. } => Vec::new(alloc),
-            Command::Hex { file, .. } => vec![in alloc; named(1, file)]?,
-            Command::HexCheck { file, hex } => vec![in alloc; named(1, file), named(2, hex)]?,
-        };
-        Ok(names)
+            } => four_names(alloc, file, board, input, cert),
+            Command::Show { file, board } => two_names(alloc, file, board),
+            Command::Gen { .. } => Ok(Vec::new(alloc)),
+            Command::Hex { file, .. } => one_name(alloc, file),
+            Command::HexCheck { file, hex } => two_names(alloc, file, hex),
+        }
     }
 }
 
-fn named(place: u32, name: &str) -> NamedWord<'_>
-    ensures { plain_named result ≡ Rattle.command_line.specs.Command.named place name.now }
+/// The names of the first words behind that of the command.
+fn one_name<'a>(alloc: Global, first: &'a str) -> Result<Vec<NamedWord<'a>>, AllocError>
+    ensures { IfOk result (λ names. map plain_named names.items ≡ named 1 first.now ∷ []) }
 {
-    NamedWord { place, name }
+    Ok(vec![in alloc; NamedWord::new(1, first)]?)
+}
+
+fn two_names<'a>(
+    alloc: Global,
+    first: &'a str,
+    second: &'a str,
+) -> Result<Vec<NamedWord<'a>>, AllocError>
+    ensures { IfOk result (λ names. map plain_named names.items ≡ named 1 first.now ∷ named 2 second.now ∷ []) }
+{
+    Ok(vec![in alloc; NamedWord::new(1, first), NamedWord::new(2, second)]?)
+}
+
+fn three_names<'a>(
+    alloc: Global,
+    first: &'a str,
+    second: &'a str,
+    third: &'a str,
+) -> Result<Vec<NamedWord<'a>>, AllocError>
+    ensures { IfOk result (λ names. map plain_named names.items
+        ≡ named 1 first.now ∷ named 2 second.now ∷ named 3 third.now ∷ []) }
+{
+    Ok(vec![in alloc;
+        NamedWord::new(1, first),
+        NamedWord::new(2, second),
+        NamedWord::new(3, third),
+    ]?)
+}
+
+fn four_names<'a>(
+    alloc: Global,
+    first: &'a str,
+    second: &'a str,
+    third: &'a str,
+    fourth: &'a str,
+) -> Result<Vec<NamedWord<'a>>, AllocError>
+    ensures { IfOk result (λ names. map plain_named names.items
+        ≡ named 1 first.now ∷ named 2 second.now ∷ named 3 third.now ∷ named 4 fourth.now ∷ []) }
+{
+    Ok(vec![in alloc;
+        NamedWord::new(1, first),
+        NamedWord::new(2, second),
+        NamedWord::new(3, third),
+        NamedWord::new(4, fourth),
+    ]?)
 }
 
 /// The command that the words are, or `None` exactly where they are none.
@@ -138,7 +180,7 @@ pub fn parse(words: &[String]) -> Option<Command<'_>>
     }
 }
 
-/// The command that the words spell.
+/// The command that the words spell: its word, and then as many others as it has.
 fn spelled(words: &[String]) -> Option<Command<'_>>
     ensures { MatchOption result
         ((command : PlainCommand) → Spells (texts words.now) command → ⊥)
@@ -147,205 +189,141 @@ fn spelled(words: &[String]) -> Option<Command<'_>>
     if let Some(command) = spelled_run(words) {
         return Some(command);
     }
-    if let Some(command) = spelled_relink(words) {
-        return Some(command);
-    }
-    if let Some(command) = spelled_profile(words) {
-        return Some(command);
-    }
-    if let Some(command) = spelled_compare(words) {
-        return Some(command);
-    }
-    if let Some(command) = spelled_check(words) {
-        return Some(command);
-    }
-    if let Some(command) = spelled_show(words) {
-        return Some(command);
-    }
     if let Some(command) = spelled_gen(words) {
         return Some(command);
     }
-    if let Some(command) = spelled_hex(words) {
-        return Some(command);
-    }
-    spelled_hex_check(words)
+    spelled_unrun(words)
 }
 
+/// The command that the words spell, of those that run the program of a file.
 fn spelled_run(words: &[String]) -> Option<Command<'_>>
     ensures { MatchOption result
-        ((f b i o : List ℕ) → texts words.now ≡ codes "run" ∷ f ∷ b ∷ i ∷ o ∷ [] → ⊥)
+        (SpellsNoRun (texts words.now))
         (λ command. Spells (texts words.now) (plain_command command)) }
 {
-    let [name, file, board, input, out] = words else {
-        return None;
-    };
-    if is_the_word(name.as_str(), "run") {
-        Some(Command::Run {
-            file: file.as_str(),
-            board: board.as_str(),
-            input: input.as_str(),
-            out: out.as_str(),
-        })
-    } else {
-        None
+    if let Some((file, board, input, out)) = four_words(words, "run") {
+        return Some(Command::Run {
+            file,
+            board,
+            input,
+            out,
+        });
     }
+    if let Some((file, board, input, out, cert)) = five_words(words, "relink") {
+        return Some(Command::Relink {
+            file,
+            board,
+            input,
+            out,
+            cert,
+        });
+    }
+    if let Some((file, board, input)) = three_words(words, "profile") {
+        return Some(Command::Profile { file, board, input });
+    }
+    if let Some((file, relinked, board, input)) = four_words(words, "compare") {
+        return Some(Command::Compare {
+            file,
+            relinked,
+            board,
+            input,
+        });
+    }
+    if let Some((file, board, input, cert)) = four_words(words, "check") {
+        return Some(Command::Check {
+            file,
+            board,
+            input,
+            cert,
+        });
+    }
+    None
 }
 
-fn spelled_relink(words: &[String]) -> Option<Command<'_>>
+/// The command that the words spell, of those that read files and run nothing.
+fn spelled_unrun(words: &[String]) -> Option<Command<'_>>
     ensures { MatchOption result
-        ((f b i o c : List ℕ) → texts words.now ≡ codes "relink" ∷ f ∷ b ∷ i ∷ o ∷ c ∷ [] → ⊥)
+        (SpellsNoOther (texts words.now))
         (λ command. Spells (texts words.now) (plain_command command)) }
 {
-    let [name, file, board, input, out, cert] = words else {
-        return None;
-    };
-    if is_the_word(name.as_str(), "relink") {
-        Some(Command::Relink {
-            file: file.as_str(),
-            board: board.as_str(),
-            input: input.as_str(),
-            out: out.as_str(),
-            cert: cert.as_str(),
-        })
-    } else {
-        None
+    if let Some((file, board)) = two_words(words, "show") {
+        return Some(Command::Show { file, board });
     }
+    if let Some((file, out)) = two_words(words, "hex") {
+        return Some(Command::Hex { file, out });
+    }
+    if let Some((file, hex)) = two_words(words, "hexcheck") {
+        return Some(Command::HexCheck { file, hex });
+    }
+    None
 }
 
-fn spelled_profile(words: &[String]) -> Option<Command<'_>>
-    ensures { MatchOption result
-        ((f b i : List ℕ) → texts words.now ≡ codes "profile" ∷ f ∷ b ∷ i ∷ [] → ⊥)
-        (λ command. Spells (texts words.now) (plain_command command)) }
-{
-    let [name, file, board, input] = words else {
-        return None;
-    };
-    if is_the_word(name.as_str(), "profile") {
-        Some(Command::Profile {
-            file: file.as_str(),
-            board: board.as_str(),
-            input: input.as_str(),
-        })
-    } else {
-        None
-    }
-}
-
-fn spelled_compare(words: &[String]) -> Option<Command<'_>>
-    ensures { MatchOption result
-        ((f r b i : List ℕ) → texts words.now ≡ codes "compare" ∷ f ∷ r ∷ b ∷ i ∷ [] → ⊥)
-        (λ command. Spells (texts words.now) (plain_command command)) }
-{
-    let [name, file, relinked, board, input] = words else {
-        return None;
-    };
-    if is_the_word(name.as_str(), "compare") {
-        Some(Command::Compare {
-            file: file.as_str(),
-            relinked: relinked.as_str(),
-            board: board.as_str(),
-            input: input.as_str(),
-        })
-    } else {
-        None
-    }
-}
-
-fn spelled_check(words: &[String]) -> Option<Command<'_>>
-    ensures { MatchOption result
-        ((f b i c : List ℕ) → texts words.now ≡ codes "check" ∷ f ∷ b ∷ i ∷ c ∷ [] → ⊥)
-        (λ command. Spells (texts words.now) (plain_command command)) }
-{
-    let [name, file, board, input, cert] = words else {
-        return None;
-    };
-    if is_the_word(name.as_str(), "check") {
-        Some(Command::Check {
-            file: file.as_str(),
-            board: board.as_str(),
-            input: input.as_str(),
-            cert: cert.as_str(),
-        })
-    } else {
-        None
-    }
-}
-
-fn spelled_show(words: &[String]) -> Option<Command<'_>>
-    ensures { MatchOption result
-        ((f b : List ℕ) → texts words.now ≡ codes "show" ∷ f ∷ b ∷ [] → ⊥)
-        (λ command. Spells (texts words.now) (plain_command command)) }
-{
-    let [name, file, board] = words else {
-        return None;
-    };
-    if is_the_word(name.as_str(), "show") {
-        Some(Command::Show {
-            file: file.as_str(),
-            board: board.as_str(),
-        })
-    } else {
-        None
-    }
-}
-
+/// `gen SEED KERNELS OUT`, if the words are that.
 fn spelled_gen(words: &[String]) -> Option<Command<'_>>
     ensures { MatchOption result
         ((s k : ℕ) (o : List ℕ) → SpellsGen (texts words.now) s k o → ⊥)
         (λ command. Spells (texts words.now) (plain_command command)) }
 {
-    let [name, seed, kernels, out] = words else {
-        return None;
-    };
-    if !is_the_word(name.as_str(), "gen") {
-        return None;
-    }
-    let Some(seed) = parse_number(seed.as_str(), 0, u32::MAX) else {
-        return None;
-    };
-    let Some(kernels) = parse_number(kernels.as_str(), 1, 64) else {
-        return None;
-    };
-    Some(Command::Gen {
-        seed,
-        kernels,
-        out: out.as_str(),
-    })
+    let (seed, kernels, out) = three_words(words, "gen")?;
+    let seed = parse_number(seed, 0, u32::MAX)?;
+    let kernels = parse_number(kernels, 1, 64)?;
+    Some(Command::Gen { seed, kernels, out })
 }
 
-fn spelled_hex(words: &[String]) -> Option<Command<'_>>
+/// The two words behind this one, if the words are just these.
+fn two_words<'a>(words: &'a [String], wanted: &str) -> Option<(&'a str, &'a str)>
     ensures { MatchOption result
-        ((f o : List ℕ) → texts words.now ≡ codes "hex" ∷ f ∷ o ∷ [] → ⊥)
-        (λ command. Spells (texts words.now) (plain_command command)) }
+        ((a b : List ℕ) → texts words.now ≡ wanted.now ∷ a ∷ b ∷ [] → ⊥)
+        (λ found. texts words.now ≡ wanted.now ∷ found.0.now ∷ found.1.now ∷ []) }
 {
-    let [name, file, out] = words else {
-        return None;
-    };
-    if is_the_word(name.as_str(), "hex") {
-        Some(Command::Hex {
-            file: file.as_str(),
-            out: out.as_str(),
-        })
-    } else {
-        None
+    match words {
+        [word, a, b] if is_the_word(word.as_str(), wanted) => Some((a.as_str(), b.as_str())),
+        _ => None,
     }
 }
 
-fn spelled_hex_check(words: &[String]) -> Option<Command<'_>>
+/// The three words behind this one, if the words are just these.
+fn three_words<'a>(words: &'a [String], wanted: &str) -> Option<(&'a str, &'a str, &'a str)>
     ensures { MatchOption result
-        ((f h : List ℕ) → texts words.now ≡ codes "hexcheck" ∷ f ∷ h ∷ [] → ⊥)
-        (λ command. Spells (texts words.now) (plain_command command)) }
+        ((a b c : List ℕ) → texts words.now ≡ wanted.now ∷ a ∷ b ∷ c ∷ [] → ⊥)
+        (λ found. texts words.now ≡ wanted.now ∷ found.0.now ∷ found.1.now ∷ found.2.now ∷ []) }
 {
-    let [name, file, hex] = words else {
-        return None;
-    };
-    if is_the_word(name.as_str(), "hexcheck") {
-        Some(Command::HexCheck {
-            file: file.as_str(),
-            hex: hex.as_str(),
-        })
-    } else {
-        None
+    match words {
+        [word, a, b, c] if is_the_word(word.as_str(), wanted) => {
+            Some((a.as_str(), b.as_str(), c.as_str()))
+        }
+        _ => None,
+    }
+}
+
+/// The four words behind this one, if the words are just these.
+fn four_words<'a>(words: &'a [String], wanted: &str) -> Option<(&'a str, &'a str, &'a str, &'a str)>
+    ensures { MatchOption result
+        ((a b c d : List ℕ) → texts words.now ≡ wanted.now ∷ a ∷ b ∷ c ∷ d ∷ [] → ⊥)
+        (λ found. texts words.now ≡ wanted.now ∷ found.0.now ∷ found.1.now ∷ found.2.now ∷ found.3.now ∷ []) }
+{
+    match words {
+        [word, a, b, c, d] if is_the_word(word.as_str(), wanted) => {
+            Some((a.as_str(), b.as_str(), c.as_str(), d.as_str()))
+        }
+        _ => None,
+    }
+}
+
+/// The five words behind this one, if the words are just these.
+fn five_words<'a>(
+    words: &'a [String],
+    wanted: &str,
+) -> Option<(&'a str, &'a str, &'a str, &'a str, &'a str)>
+    ensures { MatchOption result
+        ((a b c d e : List ℕ) → texts words.now ≡ wanted.now ∷ a ∷ b ∷ c ∷ d ∷ e ∷ [] → ⊥)
+        (λ found. texts words.now ≡ wanted.now ∷ found.0.now ∷ found.1.now ∷ found.2.now ∷ found.3.now ∷ found.4.now ∷ []) }
+{
+    match words {
+        [word, a, b, c, d, e] if is_the_word(word.as_str(), wanted) => {
+            Some((a.as_str(), b.as_str(), c.as_str(), d.as_str(), e.as_str()))
+        }
+        _ => None,
     }
 }
 
