@@ -21,7 +21,7 @@ mod running;
 
 use crate::lists::{Case, List, read_list};
 use crate::running::first_difference;
-use anyhow::Result;
+use anyhow::{Context, Result};
 use std::env;
 use std::process::ExitCode;
 use std::rt::{Env, Files};
@@ -53,7 +53,7 @@ fn run_case(
     case: &Case,
     tally: &mut Tally,
 ) -> Result<()> {
-    let difference = first_difference(rt, list, case)?;
+    let difference = first_difference(rt, list, case).with_context(|| &case.name)?;
     tally.count(difference.is_none());
     match difference {
         None => println!(rt; "ok {}", case.name)?,
