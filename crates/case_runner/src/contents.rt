@@ -2,21 +2,31 @@
 
 use crate::lists::{Content, Parts, Stored};
 use anyhow::{Context, Result};
+use std::alloc::{AllocError, Global};
 use std::fs;
 use std::rt::Files;
 
-/// The bytes of a content.
-pub fn bytes_of(rt: &(impl Files + AllocGlobal), content: &Content) -> Result<Vec<u8>> {
+/// The bytes of a content of the list with this name.
+pub fn bytes_of(rt: &(impl Files + AllocGlobal), list: &str, content: &Content) -> Result<Vec<u8>> {
     match content {
         Content::Text(text) => Ok(text.as_bytes().to_vec(rt.alloc())?),
         Content::Bytes(bytes) => Ok(bytes.to_vec(rt.alloc())?),
-        Content::Stored(stored) => stored_bytes(rt, stored),
+        Content::Stored(stored) => stored_bytes(rt, list, stored),
+    }
+}
+
+/// The name of a file that lies beside a list.
+fn beside(alloc: Global, list: &str, file: &str) -> Result<String, AllocError> {
+    match list.rsplit_once('/') {
+        Some((folder, _)) => format!(in alloc; "{folder}/{file}"),
+        None => String::from_str(alloc, file),
     }
 }
 
 /// The bytes of a stored file, cut off and changed.
-fn stored_bytes(rt: &(impl Files + AllocGlobal), stored: &Stored) -> Result<Vec<u8>> {
-    let mut bytes = fs::read(rt, &stored.file).with_context(|| &stored.file)?;
+fn stored_bytes(rt: &(impl Files + AllocGlobal), list: &str, stored: &Stored) -> Result<Vec<u8>> {
+    let name = beside(rt.alloc(), list, &stored.file)?;
+    let mut bytes = fs::read(rt, &name).with_context(|| &name)?;
     if let Some(first) = stored.first {
         bytes.truncate(usize::try_from(first)?);
     }

@@ -57,7 +57,7 @@ pub enum Content {
     Stored(Stored),
 }
 
-/// A file that lies where the program is run, or a changed copy of it.
+/// A file that lies beside the list, or a changed copy of it.
 #[derive(Drop, Deserialize)]
 #[serde(deny_unknown_fields)]
 pub struct Stored {

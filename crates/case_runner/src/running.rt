@@ -11,7 +11,7 @@ use std::rt::Files;
 /// What stands under each name.
 type Held = BTreeMap<String, Vec<u8>>;
 
-/// Runs the calls of a case, and tells the first difference to what must come out; `None` where there is none.
+/// Runs the calls of a case of a list, and tells the first difference to what must come out; `None` where there is none.
 pub fn first_difference(
     rt: &(impl Files + AllocGlobal),
     list: &List,

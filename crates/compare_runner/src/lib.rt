@@ -8,6 +8,3 @@ mod running;
 
 pub use comparing::{Comparison, compare};
 pub use laws::{kept_never_differs, one_comparison, unmoved_never_differs};
-
-#[cfg(test)]
-mod tests;

@@ -23,8 +23,3 @@ pub use fault::ElfFault;
 pub use laws::{loaded_bytes, segments_are_apart, segments_are_loadable};
 pub use reading::read;
 pub use view::{ElfView, Reloc, Section, Segment, Symbol};
-
-#[cfg(test)]
-mod linked_file_tests;
-#[cfg(test)]
-mod tests;
