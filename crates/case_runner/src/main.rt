@@ -46,14 +46,15 @@ impl Tally {
     }
 }
 
-/// Runs a case, and tells on a line whether it passed.
+/// Runs a case of the list with this name, and tells on a line whether it passed.
 fn run_case(
     rt: &(impl Files + Print + AllocGlobal),
+    name: &str,
     list: &List,
     case: &Case,
     tally: &mut Tally,
 ) -> Result<()> {
-    let difference = first_difference(rt, list, case).with_context(|| &case.name)?;
+    let difference = first_difference(rt, name, list, case).with_context(|| &case.name)?;
     tally.count(difference.is_none());
     match difference {
         None => println!(rt; "ok {}", case.name)?,
@@ -66,7 +67,7 @@ fn run_case(
 fn run_list(rt: &(impl Files + Print + AllocGlobal), name: &str, tally: &mut Tally) -> Result<()> {
     let list = read_list(rt, name)?;
     for case in &list.cases {
-        run_case(rt, &list, case, tally)?;
+        run_case(rt, name, &list, case, tally)?;
     }
     Ok(())
 }

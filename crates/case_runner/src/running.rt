@@ -11,30 +11,32 @@ use std::rt::Files;
 /// What stands under each name.
 type Held = BTreeMap<String, Vec<u8>>;
 
-/// Runs the calls of a case of a list, and tells the first difference to what must come out; `None` where there is none.
+/// Runs the calls of a case of the list with this name, and tells the first difference to what must come out; `None` where there is none.
 pub fn first_difference(
     rt: &(impl Files + AllocGlobal),
+    name: &str,
     list: &List,
     case: &Case,
 ) -> Result<Option<String>> {
     let mut before = BTreeMap::new(rt.alloc());
-    add_contents(rt, &list.files, &mut before)?;
-    add_contents(rt, &case.files, &mut before)?;
+    add_contents(rt, name, &list.files, &mut before)?;
+    add_contents(rt, name, &case.files, &mut before)?;
     let mut outside = Outside::new(rt.alloc(), &before, case)?;
     if let Some(difference) = called_difference(rt.alloc(), &mut outside, &case.calls)? {
         return Ok(Some(difference));
     }
-    file_difference(rt, &mut outside, case, &before)
+    file_difference(rt, name, &mut outside, case, &before)
 }
 
 /// Puts contents under their names.
 fn add_contents(
     rt: &(impl Files + AllocGlobal),
+    list: &str,
     contents: &BTreeMap<String, Content>,
     held: &mut Held,
 ) -> Result<()> {
     for (name, content) in contents {
-        held.insert(name.clone()?, bytes_of(rt, content)?)?;
+        held.insert(name.clone()?, bytes_of(rt, list, content)?)?;
     }
     Ok(())
 }
@@ -81,6 +83,7 @@ fn call_difference(
 /// not stand for anything.
 fn file_difference(
     rt: &(impl Files + AllocGlobal),
+    list: &str,
     outside: &mut Outside,
     case: &Case,
     before: &Held,
@@ -88,7 +91,7 @@ fn file_difference(
     for name in names(rt.alloc(), case, before)? {
         let got = outside.content(name);
         let difference = match case.after.get(name) {
-            Some(wanted) => wanted_difference(rt, wanted, got.as_deref())?,
+            Some(wanted) => wanted_difference(rt, list, wanted, got.as_deref())?,
             None => content_difference(
                 rt.alloc(),
                 before.get(name).map(|bytes| bytes.as_slice()),
@@ -119,12 +122,13 @@ fn names<'a>(alloc: Global, case: &'a Case, before: &'a Held) -> Result<Vec<&'a 
 /// The difference of what stands under a name to what must.
 fn wanted_difference(
     rt: &(impl Files + AllocGlobal),
+    list: &str,
     wanted: &Wanted,
     got: Option<&[u8]>,
 ) -> Result<Option<String>> {
     match wanted {
         Wanted::Whole(content) => {
-            let bytes = bytes_of(rt, content)?;
+            let bytes = bytes_of(rt, list, content)?;
             Ok(content_difference(rt.alloc(), Some(&bytes), got)?)
         }
         Wanted::Parts(parts) if got.is_some_and(|bytes| has_parts(bytes, parts)) => Ok(None),
