@@ -13,6 +13,3 @@ mod work_keys;
 
 pub use board::{Board, BoardFault, Prices, Range};
 pub use reading::read_board;
-
-#[cfg(test)]
-mod tests;

@@ -11,6 +11,3 @@ pub use laws::{
     kept_goes_on, kept_never_differs, kept_runs_go_on, kept_runs_never_differ, one_comparison,
     unmoved_never_differs,
 };
-
-#[cfg(test)]
-mod tests;

@@ -29,8 +29,3 @@ pub use kinds::{
 pub use laws::{loaded_bytes, segments_are_apart, segments_are_loadable};
 pub use reading::read;
 pub use view::{ElfView, Reloc, Section, Segment, Symbol};
-
-#[cfg(test)]
-mod linked_file_tests;
-#[cfg(test)]
-mod tests;

@@ -13,6 +13,3 @@ pub use adding::data_energy_adds_up;
 pub use counting::full;
 pub use selecting::select;
 pub use stating::programme;
-
-#[cfg(test)]
-mod tests;

@@ -15,6 +15,3 @@ pub use image::{HexImage, HexRun};
 pub use laws::{one_spelling, text_spells_image};
 pub use reading::read_hex;
 pub use writing::{record_count, write_hex};
-
-#[cfg(test)]
-mod tests;

@@ -15,6 +15,3 @@ pub use fault::AnalyseFault;
 pub use laws::{absolute_keeps_runs, stated_is_realisable, unmoved_file_keeps};
 pub use realising::{realise, start_places};
 pub use taking::taken_objects;
-
-#[cfg(test)]
-mod tests;

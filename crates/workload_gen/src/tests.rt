@@ -1,4 +1,4 @@
-use crate::{FileSpec, SectionSpec, SymbolSpec, build, workload};
+use crate::{FileSpec, SectionSpec, SymbolSpec, build};
 use elf_reader::Reloc;
 use std::alloc::{AllocError, Global};
 use std::test::Fail;
@@ -155,33 +155,5 @@ fn builds_an_empty_section(rt: HostRuntime) -> Result<(), Fail> {
     let file = build(alloc, &spec)?;
     let sizes = [0, 0, 0, 0, 0, 5, 0, 0, 6, 0, 0, 0];
     assert_eq!(rt; file.get(68..80), Some(sizes.as_slice()));
-    Ok(())
-}
-
-/// The word that begins at byte `at`.
-fn word_at(bytes: &[u8], at: usize) -> Option<u32> {
-    let word = bytes.get(at..)?.first_chunk::<4>()?;
-    Some(u32::from_le_bytes(*word))
-}
-
-// Four kernels of seed 0 have tables of 48, 16, 48 and 48 words, and 4, 5, 10 and 5 passes.
-#[test]
-fn generates_a_workload(rt: HostRuntime) -> Result<(), Fail> {
-    let file = workload(rt.alloc(), 0, 4)?;
-    let rows: [(usize, u32); 10] = [
-        (0x94, 0x00a0_0413),
-        (0x98, 0x0000_0493),
-        (0x9c, 0x0400_00ef),
-        (0xa8, 0x0b80_00ef),
-        (0xb0, 0xfe04_16e3),
-        (0xdc, 0x0040_0713),
-        (0x108, 0x0050_0713),
-        (0x10c, 0x0001_2537),
-        (0x110, 0x0c05_0513),
-        (0x134, 0x00a0_0713),
-    ];
-    for (at, word) in rows {
-        assert_eq!(rt; word_at(&file, at), Some(word), "at {at}");
-    }
     Ok(())
 }

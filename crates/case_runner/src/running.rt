@@ -1,0 +1,162 @@
+//! One case: its calls, and the first difference to what must come out.
+
+use crate::contents::{bytes_of, has_parts};
+use crate::lists::{Call, Case, Content, List, Wanted};
+use crate::outside::Outside;
+use anyhow::Result;
+use std::alloc::{AllocError, Global};
+use std::collections::BTreeMap;
+use std::rt::Files;
+
+/// What stands under each name.
+type Held = BTreeMap<String, Vec<u8>>;
+
+/// Runs the calls of a case of the list with this name, and tells the first difference to what must come out; `None` where there is none.
+pub fn first_difference(
+    rt: &(impl Files + AllocGlobal),
+    name: &str,
+    list: &List,
+    case: &Case,
+) -> Result<Option<String>> {
+    let mut before = BTreeMap::new(rt.alloc());
+    add_contents(rt, name, &list.files, &mut before)?;
+    add_contents(rt, name, &case.files, &mut before)?;
+    let mut outside = Outside::new(rt.alloc(), &before, case)?;
+    if let Some(difference) = called_difference(rt.alloc(), &mut outside, &case.calls)? {
+        return Ok(Some(difference));
+    }
+    file_difference(rt, name, &mut outside, case, &before)
+}
+
+/// Puts contents under their names.
+fn add_contents(
+    rt: &(impl Files + AllocGlobal),
+    list: &str,
+    contents: &BTreeMap<String, Content>,
+    held: &mut Held,
+) -> Result<()> {
+    for (name, content) in contents {
+        held.insert(name.clone()?, bytes_of(rt, list, content)?)?;
+    }
+    Ok(())
+}
+
+/// The first call that answers or prints something else than it must.
+fn called_difference(
+    alloc: Global,
+    outside: &mut Outside,
+    calls: &[Call],
+) -> Result<Option<String>> {
+    for call in calls {
+        let status = outside.call(&call.words)?;
+        if let Some(difference) = call_difference(alloc, call, status, outside.printed())? {
+            return Ok(Some(difference));
+        }
+    }
+    Ok(None)
+}
+
+/// The difference of a call's status and print to what they must be.
+fn call_difference(
+    alloc: Global,
+    call: &Call,
+    status: u8,
+    printed: &[u8],
+) -> Result<Option<String>, AllocError> {
+    let words = &call.words;
+    if let Some(wanted) = &call.prints {
+        if printed != wanted.as_bytes() {
+            let got = String::from_utf8_lossy(alloc, printed)?;
+            return Ok(Some(format!(in alloc;
+                "`{words}` prints, expected {wanted:?}, got {got:?}"
+            )?));
+        }
+    }
+    if status != call.status {
+        let wanted = call.status;
+        return Ok(Some(format!(in alloc; "`{words}` status, expected {wanted}, got {status}")?));
+    }
+    Ok(None)
+}
+
+/// The first name under which what must stand there after the calls does not. A name that only the words of a call have may
+/// not stand for anything.
+fn file_difference(
+    rt: &(impl Files + AllocGlobal),
+    list: &str,
+    outside: &mut Outside,
+    case: &Case,
+    before: &Held,
+) -> Result<Option<String>> {
+    for name in names(rt.alloc(), case, before)? {
+        let got = outside.content(name);
+        let difference = match case.after.get(name) {
+            Some(wanted) => wanted_difference(rt, list, wanted, got.as_deref())?,
+            None => content_difference(
+                rt.alloc(),
+                before.get(name).map(|bytes| bytes.as_slice()),
+                got.as_deref(),
+            )?,
+        };
+        if let Some(difference) = difference {
+            return Ok(Some(format!(in rt.alloc(); "`{name}` {difference}")?));
+        }
+    }
+    Ok(None)
+}
+
+/// All names that a case gives, and the words of its calls.
+fn names<'a>(alloc: Global, case: &'a Case, before: &'a Held) -> Result<Vec<&'a str>, AllocError> {
+    let mut names = Vec::new(alloc);
+    for name in case.after.keys().chain(before.keys()) {
+        names.push(name.as_str())?;
+    }
+    for call in &case.calls {
+        for word in call.words.split(' ') {
+            names.push(word)?;
+        }
+    }
+    Ok(names)
+}
+
+/// The difference of what stands under a name to what must.
+fn wanted_difference(
+    rt: &(impl Files + AllocGlobal),
+    list: &str,
+    wanted: &Wanted,
+    got: Option<&[u8]>,
+) -> Result<Option<String>> {
+    match wanted {
+        Wanted::Whole(content) => {
+            let bytes = bytes_of(rt, list, content)?;
+            Ok(content_difference(rt.alloc(), Some(&bytes), got)?)
+        }
+        Wanted::Parts(parts) if got.is_some_and(|bytes| has_parts(bytes, parts)) => Ok(None),
+        Wanted::Parts(_) => Ok(Some(String::from_str(
+            rt.alloc(),
+            "differs, expected the bytes of `has`, got others",
+        )?)),
+    }
+}
+
+/// The difference of a file, or of none, to what must be there.
+fn content_difference(
+    alloc: Global,
+    wanted: Option<&[u8]>,
+    got: Option<&[u8]>,
+) -> Result<Option<String>, AllocError> {
+    let difference = match (wanted, got) {
+        (Some(wanted), Some(got)) if wanted != got => {
+            let same = wanted.iter().zip(got).take_while(|(a, b)| a == b).count();
+            format!(in alloc;
+                "differs at byte {same}, expected {} bytes, got {}",
+                wanted.len(),
+                got.len()
+            )?
+        }
+        (Some(_), None) => String::from_str(alloc, "is missing")?,
+        (None, Some(_)) => String::from_str(alloc, "is there, expected nothing")?,
+        _ => return Ok(None),
+    };
+    Ok(Some(difference))
+}
