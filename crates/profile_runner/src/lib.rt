@@ -17,6 +17,3 @@ pub use counts::{Edge, Profile};
 pub use fault::ProfileFault;
 pub use laws::{moves_are_determined, moves_are_few, moves_are_steps};
 pub use running::profile;
-
-#[cfg(test)]
-mod tests;

@@ -11,6 +11,3 @@ mod standing;
 mod words;
 
 pub use marks::sound_kinds;
-
-#[cfg(test)]
-mod tests;
