@@ -1,4 +1,4 @@
-//! A large program: 65,536 blocks, the most that there may be, and 512 objects whose addresses they make.
+//! A large program: 65,536 blocks, the most that there may be, and 64 objects whose addresses they make.
 use elf_reader::Reloc;
 use std::alloc::{AllocError, Global};
 use workload_gen::{FileSpec, SectionSpec, SymbolSpec, build};
@@ -6,7 +6,7 @@ use workload_gen::{FileSpec, SectionSpec, SymbolSpec, build};
 /// A fourth of the number of blocks.
 const FOURTH: u32 = 16_384;
 
-const OBJECTS: u32 = 512;
+const OBJECTS: u32 = 64;
 
 const CODE: u32 = 0x1_0000;
 
