@@ -1,9 +1,9 @@
-//! A large program: 65,536 blocks, the most that there may be, and 64 objects whose addresses they make.
+//! A large program: 65,534 blocks, two fewer than there may be, and 64 objects whose addresses they make.
 use elf_reader::Reloc;
 use std::alloc::{AllocError, Global};
 use workload_gen::{FileSpec, SectionSpec, SymbolSpec, build};
 
-/// A fourth of the number of blocks.
+/// A fourth of the most blocks that there may be.
 const FOURTH: u32 = 16_384;
 
 const OBJECTS: u32 = 64;
@@ -57,7 +57,7 @@ fn relocations(alloc: Global) -> Result<Vec<Reloc>, AllocError> {
     Ok(relocs)
 }
 
-/// The function, and the objects behind it.
+/// A function that ends behind the code, so that it is none, and the objects.
 fn symbols(alloc: Global) -> Result<Vec<SymbolSpec>, AllocError> {
     let main = SymbolSpec {
         name: String::from_str(alloc, "main")?,
