@@ -17,16 +17,3 @@ pub use building::blocks;
 pub use ends::End;
 pub use fault::CodeFault;
 pub use parts::{Block, Code, Function, Unit};
-
-#[cfg(test)]
-mod compiled_files;
-#[cfg(test)]
-mod compiled_tests;
-#[cfg(test)]
-mod program_checks;
-#[cfg(test)]
-mod program_files;
-#[cfg(test)]
-mod program_tests;
-#[cfg(test)]
-mod tests;

@@ -20,6 +20,3 @@ pub use meanings::{has_meaning, is_auipc, is_branch, is_ebreak, is_jal, is_jalr,
 pub use search::has_address;
 pub use strata::leaders;
 pub use targets::{branch_target, jal_target, pair_target};
-
-#[cfg(test)]
-mod tests;

@@ -11,6 +11,3 @@ mod top;
 
 pub use lookup::lies_in_some;
 pub use top::fixed_ranges;
-
-#[cfg(test)]
-mod tests;

@@ -11,6 +11,3 @@ mod table;
 
 pub use living::live;
 pub use table::LiveTable;
-
-#[cfg(test)]
-mod tests;

@@ -10,6 +10,3 @@ pub use code_ranges::{holds_code, is_code_range, is_code_word};
 pub use code_words::word_in;
 pub use loaded::loaded_sections;
 pub use records::{counts, target};
-
-#[cfg(test)]
-mod tests;

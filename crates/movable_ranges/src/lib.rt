@@ -14,6 +14,3 @@ mod words;
 
 pub use meaning::meant_range;
 pub use top::movable_ranges;
-
-#[cfg(test)]
-mod tests;

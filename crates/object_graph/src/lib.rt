@@ -25,6 +25,3 @@ pub use laws::{
 };
 pub use layout::check_layout;
 pub use parts::{DataWord, Graph, Object, Site, SiteKind};
-
-#[cfg(test)]
-mod tests;

@@ -8,6 +8,3 @@ mod symbol_ranges;
 pub use extents::Extent;
 pub use overlaps::overlapped;
 pub use symbol_ranges::{has_range, object_ranges};
-
-#[cfg(test)]
-mod tests;

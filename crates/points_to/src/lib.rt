@@ -18,6 +18,3 @@ mod units;
 pub use pointing::points;
 pub use reached::Reached;
 pub use table::PointsTable;
-
-#[cfg(test)]
-mod tests;

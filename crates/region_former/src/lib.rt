@@ -14,6 +14,3 @@ mod table;
 pub use fault::RegionFault;
 pub use forming::regions;
 pub use table::RegionTable;
-
-#[cfg(test)]
-mod tests;

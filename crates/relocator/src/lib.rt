@@ -18,6 +18,3 @@ pub use laws::{
 pub use places::{Places, layout};
 pub use slots::Slot;
 pub use words::site_words;
-
-#[cfg(test)]
-mod tests;

@@ -12,6 +12,3 @@ mod words;
 
 pub use kinds::{is_mute, is_pair_low};
 pub use marks::sound_kinds;
-
-#[cfg(test)]
-mod tests;

@@ -1,0 +1,114 @@
+//! Tables of what holds where blocks begin: live and dead registers, addresses of objects in registers, regions.
+use anyhow::Result;
+use code_blocks::Code;
+use liveness::LiveTable;
+use points_to::PointsTable;
+use region_former::RegionTable;
+use relink_core::Analysis;
+use rv_decode::RegSet;
+
+/// How many dead registers are told.
+const DEAD: u32 = 3;
+
+/// For each of the first blocks the registers that are live, and the least ones that are dead.
+pub(crate) fn print_live(
+    rt: &impl Print,
+    code: &Code,
+    live: &LiveTable,
+    most: usize,
+) -> Result<()> {
+    for block in code.blocks.iter().take(most) {
+        print!(rt; "live {:#010x}", block.start)?;
+        for register in 0..32u8 {
+            if live.is_live(block.start, register) {
+                print!(rt; " x{register}")?;
+            }
+        }
+        print_dead(rt, live, block.start)?;
+    }
+    Ok(())
+}
+
+/// The end of a line with the least dead registers from x5 on.
+fn print_dead(rt: &impl Print, live: &LiveTable, leader: u32) -> Result<()> {
+    print!(rt; ", dead")?;
+    let mut told = RegSet { bits: 0 };
+    for _ in 0..DEAD {
+        if let Some(register) = live.dead_at(leader, told) {
+            print!(rt; " x{register}")?;
+            told.bits |= 1u32.checked_shl(u32::from(register)).unwrap_or(0);
+        }
+    }
+    println!(rt; "")?;
+    Ok(())
+}
+
+/// For each of the first blocks the registers that may hold addresses of objects, and which; and the objects that
+/// escape.
+pub(crate) fn print_points(rt: &impl Print, analysis: &Analysis<'_>, most: usize) -> Result<()> {
+    let objects = analysis.graph.objects.len() as u32;
+    for block in analysis.code.blocks.iter().take(most) {
+        print!(rt; "points {:#010x}", block.start)?;
+        for register in 0..32u8 {
+            print_held(rt, &analysis.points, block.start, register, objects)?;
+        }
+        println!(rt; "")?;
+    }
+    print!(rt; "escape")?;
+    for object in 0..objects {
+        if analysis.points.escapes(object) {
+            print!(rt; " {object}")?;
+        }
+    }
+    println!(rt; "")?;
+    Ok(())
+}
+
+/// The objects whose addresses a register may hold where a block begins.
+fn print_held(
+    rt: &impl Print,
+    points: &PointsTable,
+    leader: u32,
+    register: u8,
+    objects: u32,
+) -> Result<()> {
+    let mut before = false;
+    for object in 0..objects {
+        if points.may(leader, register, object) {
+            if before {
+                print!(rt; ",{object}")?;
+            } else {
+                print!(rt; " x{register}:{object}")?;
+            }
+            before = true;
+        }
+    }
+    Ok(())
+}
+
+/// For each region, and for none, its blocks and those among them by which it is entered.
+pub(crate) fn print_regions(rt: &impl Print, regions: &RegionTable) -> Result<()> {
+    println!(rt; "regions {}", regions.count)?;
+    for region in 0..=regions.count {
+        print!(rt; "region {region} blocks")?;
+        for (block, of) in regions.of_block.iter().enumerate() {
+            if *of == region {
+                print!(rt; " {block}")?;
+            }
+        }
+        print_border(rt, regions, region)?;
+    }
+    Ok(())
+}
+
+/// The end of a line with the blocks by which a region is entered.
+fn print_border(rt: &impl Print, regions: &RegionTable, region: u32) -> Result<()> {
+    print!(rt; ", entered at")?;
+    for (block, (of, border)) in regions.of_block.iter().zip(&regions.border).enumerate() {
+        if *of == region && *border {
+            print!(rt; " {block}")?;
+        }
+    }
+    println!(rt; "")?;
+    Ok(())
+}
