@@ -38,6 +38,3 @@ pub use text_checking::check_text;
 pub use trees::{Certificate, Tree};
 pub use verdict::Verdict;
 pub use writing::write_tree;
-
-#[cfg(test)]
-mod tests;

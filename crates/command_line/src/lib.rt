@@ -7,8 +7,6 @@ mod calls;
 mod check_file;
 #[cfg(test)]
 mod check_tests;
-#[cfg(test)]
-mod clap_agrees;
 mod commands;
 mod compare_files;
 mod delivery;

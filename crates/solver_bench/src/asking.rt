@@ -21,7 +21,7 @@ fn choice(alloc: Global, words: &str) -> Result<Choice> {
     })
 }
 
-/// Answers a question: `solve NODES`, `choose NODES` for the choice also, `search NODES`, `fill`, `value on|off NUMBERS`,
+/// Answers a question: `solve NODES`, `choose NODES`, `trees NODES`, `search NODES`, `fill`, `value on|off NUMBERS`,
 /// `check BYTES` or `full ROW`.
 fn tell_answer(
     rt: &(impl Print + AllocGlobal),
@@ -34,8 +34,7 @@ fn tell_answer(
 {
     let (key, words) = question.split_once(' ').unwrap_or((question, ""));
     match key {
-        "solve" => tell_solution(rt, p, small_number(words)?, false),
-        "choose" => tell_solution(rt, p, small_number(words)?, true),
+        "solve" | "choose" | "trees" => tell_solution(rt, p, small_number(words)?, key),
         "search" => tell_searched(rt, p, small_number(words)?),
         "value" => tell_value(rt, p, &choice(rt.alloc(), words)?),
         "check" => tell_bytes(rt, p, room, words),

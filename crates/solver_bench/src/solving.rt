@@ -44,27 +44,35 @@ pub(crate) fn tell_least(rt: &(impl Print + AllocGlobal), p: &Programme) -> Resu
     Ok(())
 }
 
-/// Solves a programme within a budget of nodes, and tells the energy; where `whole` is set, also the choice and the sides
-/// that have trees.
+/// Solves a programme within a budget of nodes, and tells what the key names: the status and the energy of the choice
+/// (`solve`), the choice (`choose`), or which sides have trees (`trees`).
 pub(crate) fn tell_solution(
     rt: &(impl Print + AllocGlobal),
     p: &Programme,
     nodes: u64,
-    whole: bool,
+    key: &str,
 ) -> Result<()> {
     if nodes == 0 {
         bail!("no nodes");
     }
     let found = solve(rt.alloc(), p, nodes)?;
-    let energy = energy_of(p, &found).context("the choice is not feasible")?;
-    println!(rt; "{:?}, energy {energy}", found.status)?;
-    if whole {
-        let (off, on) = (
-            found.certificate.off.is_some(),
-            found.certificate.on.is_some(),
-        );
-        let (side, take) = (found.choice.on, &found.choice.take);
-        println!(rt; "  on {side} {take:?}, trees {off} {on}")?;
+    match key {
+        "solve" => {
+            let energy = energy_of(p, &found).context("the choice is not feasible")?;
+            println!(rt; "{:?}, energy {energy}", found.status)?;
+        }
+        "choose" => println!(rt;
+            "{nodes} nodes: on {} {:?}",
+            found.choice.on, found.choice.take
+        )?,
+        _ => {
+            let (off, on) = (&found.certificate.off, &found.certificate.on);
+            println!(rt;
+                "{nodes} nodes: trees off {}, on {}",
+                off.is_some(),
+                on.is_some()
+            )?;
+        }
     }
     Ok(())
 }

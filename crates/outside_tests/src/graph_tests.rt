@@ -1,7 +1,7 @@
 ghost use Rattle.std.specs.Prelude.{◌≡◌, ◌∷◌, [], IfOk};
 ghost use Rattle.reach_graph.specs.Reaching.{plain_rows};
 
-use crate::{Arrow, spread};
+use reach_graph::{Arrow, spread};
 use std::alloc::{AllocError, Global};
 use std::test::Fail;
 

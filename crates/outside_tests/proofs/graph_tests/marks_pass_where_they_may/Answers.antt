@@ -1,7 +1,7 @@
 use Rattle.std.proofs.Common.{sym, subst, ap, length, ◌∙◌}
 use Rattle.reach_graph.specs.Reaching.{plain_rows, AreInside}
-use Rattle.reach_graph.proofs.TestRows.{rows_count, rows_inside}
-use Rattle.reach_graph.proofs.tests.marks_pass_where_they_may.Goals as goal
+use Rattle.outside_tests.proofs.TestRows.{rows_count, rows_inside}
+use Rattle.outside_tests.proofs.graph_tests.marks_pass_where_they_may.Goals as goal
 
 pub spread-requires-clause-one_each : goal.spread-requires-clause-one_each
 spread-requires-clause-one_each g c = ap length c.deref.ensures.value ∙ rows_count c.in_ok-rows.rows.items c.in_ok-rows.ensures

@@ -1,6 +1,6 @@
 ghost use Rattle.std.specs.Prelude.{◌≡◌, Some, IfSome, IsTrue, OnOk};
 
-use crate::{DirShelf, MemShelf, MemSink, OutSink, Shelf, ShelfFault, Sink};
+use shelf_io::{DirShelf, MemShelf, MemSink, OutSink, Shelf, ShelfFault, Sink};
 use std::alloc::{AllocError, Global};
 use std::fs;
 use std::test::Fail;
@@ -37,7 +37,7 @@ fn twice(alloc: Global) -> Result<Vec<(String, Vec<u8>)>, AllocError> {
 }
 
 #[test]
-fn shelf_in_memory(rt: HostRuntime) -> Result<(), Fail> {
+fn shelves_in_memory(rt: HostRuntime) -> Result<(), Fail> {
     let alloc = rt.alloc();
     let mut shelf = MemShelf::new(alloc, twice(alloc)?, vec![in alloc; 1, 4]?)?;
     let as_promised = [
@@ -49,20 +49,14 @@ fn shelf_in_memory(rt: HostRuntime) -> Result<(), Fail> {
         has(alloc, &mut shelf, "b", b"three"),
     ];
     assert_eq!(rt; as_promised, [true; 6]);
+    let mut sound = MemShelf::sound(alloc, twice(alloc)?)?;
+    copy(alloc, &mut sound, "a", "b")?;
+    assert!(rt; has(alloc, &mut sound, "b", b"two"));
     Ok(())
 }
 
 #[test]
-fn sound_shelf_in_memory(rt: HostRuntime) -> Result<(), Fail> {
-    let alloc = rt.alloc();
-    let mut shelf = MemShelf::sound(alloc, twice(alloc)?)?;
-    copy(alloc, &mut shelf, "a", "b")?;
-    assert!(rt; has(alloc, &mut shelf, "b", b"two"));
-    Ok(())
-}
-
-#[test]
-fn sink_in_memory(rt: HostRuntime) -> Result<(), Fail> {
+fn sinks(rt: HostRuntime) -> Result<(), Fail> {
     let alloc = rt.alloc();
     let mut sink = MemSink::new(Vec::with_capacity(alloc, 5)?, vec![in alloc; 1]?);
     let as_promised = [
@@ -73,6 +67,7 @@ fn sink_in_memory(rt: HostRuntime) -> Result<(), Fail> {
         sink.bytes() == b"abcde".as_slice(),
     ];
     assert_eq!(rt; as_promised, [true; 5]);
+    OutSink::new(rt.stdout()).put(b"put\n")?;
     Ok(())
 }
 
@@ -88,10 +83,4 @@ fn files_of_the_folder(rt: HostRuntime) {
         fails(alloc, &mut shelf, "shelf_io_test"),
     ];
     assert_eq!(rt; as_promised, [true; 5]);
-}
-
-#[test]
-fn standard_output(rt: HostRuntime) -> Result<(), Fail> {
-    OutSink::new(rt.stdout()).put(b"put\n")?;
-    Ok(())
 }
