@@ -61,13 +61,22 @@ fn plan_of_bytes(alloc: Global) -> Result<StubPlan, AllocError>
     Ok(plan_of(alloc, true, start))
 }
 
+/// The plan of a name.
+fn plan_named(alloc: Global, name: &str) -> Result<StubPlan>
+    ensures start { IfOk result (λ plan. CanStart (start_of plan)) }
+    ensures bytes { IfOk result (λ plan. start_bytes (start_of plan) < 4294967296) }
+    ensures alone { IfOk result IsStartAlone }
+{
+    match name {
+        "words" => Ok(plan_of_words(alloc)?),
+        "bytes" => Ok(plan_of_bytes(alloc)?),
+        _ => bail!("no plan"),
+    }
+}
+
 /// Tells the words of the patch range for the start stub of `words` or of `bytes`, and where it stands.
 pub(crate) fn tell_stub(rt: &(impl Print + AllocGlobal), text: &str) -> Result<()> {
-    let plan = match text {
-        "words" => plan_of_words(rt.alloc())?,
-        "bytes" => plan_of_bytes(rt.alloc())?,
-        _ => bail!("no plan"),
-    };
+    let plan = plan_named(rt.alloc(), text)?;
     let code = stubs(rt.alloc(), &plan)?;
     println!(rt; "stub of {text} at {:#x}, {:?}", code.start, sizes(&plan))?;
     println!(rt; "  stubs {:?}, images {:?}", code.stub_at, code.image_at)?;

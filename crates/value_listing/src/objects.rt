@@ -35,10 +35,10 @@ fn graph(alloc: Global, grain: u32) -> Result<Graph, AllocError>
 fn graph_at(alloc: Global, grain: u32) -> Result<Graph>
     ensures { IfOk result (λ g. IsGrain g.grain) }
 {
-    if grain != 16 && grain != 32 && grain != 64 {
-        bail!("no grain");
+    match grain {
+        16 | 32 | 64 => Ok(graph(alloc, grain)?),
+        _ => bail!("no grain"),
     }
-    Ok(graph(alloc, grain)?)
 }
 
 fn is_of_graph(v: &Val, graph: &Graph) -> bool
