@@ -23,8 +23,9 @@ pub(crate) fn tell_flat(rt: &(impl Print + AllocGlobal), case: &Case, text: &str
         if word == "step" {
             println!(rt; "  {:?}", machine.step()?)?;
         } else {
-            let outcome = machine.run(u64::from(number(word)?))?;
-            println!(rt; "  {word}: {outcome:?}, at {:#x}", machine.at())?;
+            let steps = number(word)?;
+            let outcome = machine.run(u64::from(steps))?;
+            println!(rt; "  {steps}: {outcome:?}, at {:#x}", machine.at())?;
         }
     }
     println!(rt; "  wrote {:?}", machine.output())?;
@@ -51,8 +52,9 @@ pub(crate) fn tell_object(rt: &(impl Print + AllocGlobal), case: &Case, text: &s
             let footprint = machine.footprint();
             println!(rt; "  {footprint:?}, {:?}", machine.step()?)?;
         } else {
-            let outcome = machine.run(u64::from(number(word)?))?;
-            println!(rt; "  {word}: {outcome:?}, at {:#x}", machine.at())?;
+            let steps = number(word)?;
+            let outcome = machine.run(u64::from(steps))?;
+            println!(rt; "  {steps}: {outcome:?}, at {:#x}", machine.at())?;
         }
     }
     println!(rt; "  wrote {:?}", machine.output())?;

@@ -63,15 +63,21 @@ fn run_accepts(alloc: Global, line: &str) -> Result<bool, AllocError> {
     Ok(run(alloc, &words, &mut shelf, &mut sink) != 1)
 }
 
+/// Tells of a line.
+fn tell_line(rt: &(impl Print + AllocGlobal), line: &str) -> Result<()> {
+    let Ok(by_clap) = clap_accepts(rt.alloc(), line) else {
+        bail!("clap has no memory");
+    };
+    let by_run = run_accepts(rt.alloc(), line)?;
+    println!(rt; "{by_clap} {by_run} {line}")?;
+    Ok(())
+}
+
 /// Tells of the lines of a file.
 fn tell_file(rt: &(impl Files + Print + AllocGlobal), name: &str) -> Result<()> {
     let text = fs::read_to_string(rt, name)?;
     for line in text.lines() {
-        let Ok(by_clap) = clap_accepts(rt.alloc(), line) else {
-            bail!("clap has no memory");
-        };
-        let by_run = run_accepts(rt.alloc(), line)?;
-        println!(rt; "{by_clap} {by_run} {line}")?;
+        tell_line(rt, line)?;
     }
     Ok(())
 }

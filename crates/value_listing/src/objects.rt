@@ -83,7 +83,8 @@ pub(crate) fn tell_operation(rt: &(impl Print + AllocGlobal), text: &str) -> Res
     let (grain, rest) = text.split_once(' ').context("no instruction")?;
     let (word, rest) = rest.split_once(' ').context("no values")?;
     let (a, b) = rest.split_once(' ').context("no second value")?;
-    let graph = graph_at(rt.alloc(), number(grain)?)?;
+    let grain = number(grain)?;
+    let graph = graph_at(rt.alloc(), grain)?;
     let (a, b) = (value(a)?, value(b)?);
     if !is_of_graph(&a, &graph) || !is_of_graph(&b, &graph) {
         bail!("a value of no object");
@@ -117,7 +118,8 @@ pub(crate) fn tell_address(rt: &(impl Print + AllocGlobal), text: &str) -> Resul
     let (grain, rest) = text.split_once(' ').context("no value")?;
     let (word, rest) = rest.split_once(' ').context("no object")?;
     let (obj, off) = rest.split_once(' ').context("no offset")?;
-    let graph = graph_at(rt.alloc(), number(grain)?)?;
+    let grain = number(grain)?;
+    let graph = graph_at(rt.alloc(), grain)?;
     let (a, obj, off) = (value(word)?, number(obj)?, number(off)?);
     if !is_of_graph(&a, &graph) || obj as usize >= graph.objects.len() {
         bail!("a value of no object");
