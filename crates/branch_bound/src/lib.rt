@@ -20,6 +20,3 @@ mod visiting;
 pub use greedy::fill;
 pub use outcomes::{Found, Status};
 pub use solving::solve;
-
-#[cfg(test)]
-mod tests;

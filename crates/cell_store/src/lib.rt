@@ -5,6 +5,3 @@ mod others;
 mod store;
 
 pub use store::CellStore;
-
-#[cfg(test)]
-mod tests;

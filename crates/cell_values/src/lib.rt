@@ -14,6 +14,3 @@ pub use laws::{immediates_are_numbers, operations_keep_words, split_joins};
 pub use operations::{op_imm, op_reg};
 pub use places::low_site;
 pub use values::{Cell, Val};
-
-#[cfg(test)]
-mod tests;

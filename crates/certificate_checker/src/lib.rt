@@ -40,6 +40,3 @@ pub use text_checking::check_text;
 pub use trees::{Certificate, Tree, branch_on};
 pub use verdict::Verdict;
 pub use writing::write_tree;
-
-#[cfg(test)]
-mod tests;

@@ -3,8 +3,6 @@
 #![tactic(auto)]
 
 mod check_file;
-#[cfg(test)]
-mod clap_agrees;
 mod commands;
 mod compare_files;
 mod delivery;

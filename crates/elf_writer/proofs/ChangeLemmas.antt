@@ -1,5 +1,6 @@
 -- How changes act on lists of bytes.
-use Rattle.std.proofs.Common.{◌≡◌, ◌∙◌, ℕ, zero, suc, ◌+◌, ◌-◌, ◌<◌, ◌≤◌, List, [], ◌∷◌, ◌++◌, length, get_or, take, drop, slice_index, slice_range, refl, ap, sym, arith, length-append, length-take, length-drop, false, true, ◌&&◌, nat_le, nat_lt, inl, inr}
+use Rattle.std.proofs.Common.{◌≡◌, ◌∙◌, ℕ, zero, suc, ◌+◌, ◌-◌, ◌<◌, ◌≤◌, List, [], ◌∷◌, ◌++◌, length, get_or, take, drop, slice_index, slice_range, refl, ap, sym, subst, arith, length-append, length-take, length-drop, false, true, ◌&&◌, nat_le, nat_lt, inl, inr}
+use Rattle.std.specs.List.{All}
 use Rattle.std.proofs.lemmas.List.{ext_get_or, get_or-take, get_or-drop, get_or_append_left, get_or-append_right, drop-drop, at_drop_more, at_drop_all}
 use Rattle.std.proofs.lemmas.Bool.{cases_lt}
 use Rattle.std.proofs.lemmas.Bool.Decides.{nat_tests}
@@ -148,3 +149,8 @@ changes_end all xs i out whole none past so_far =
 
 pub changed_twice : (cs ds : List Change) (bytes first last : List ℕ) → first ≡ changed cs 0 bytes → last ≡ changed ds 0 first → last ≡ changed (cs ++ ds) 0 bytes
 changed_twice cs ds bytes first last e f = f ∙ (ap (changed ds 0) e ∙ sym (changed-append cs ds 0 bytes))
+
+-- what holds for the elements below a place behind the last, for all
+pub all_taken : {X : Type 0} (P : X → Type 0) (xs : List X) (i : ℕ) → length xs ≤ i → All P (take i xs) → All P xs
+all_taken P xs i past all k d below =
+    subst P (get_or-take i xs k d (omega (arith, past, below))) (all k d (simp length-take (omega (arith, past, below))))

@@ -1,7 +1,6 @@
 pub mod ChangeLemmas
 pub mod PieceLemmas
 pub mod FitLemmas
-pub mod AllowedLemmas
 pub mod WrittenLemmas
 pub mod AlikeLemmas
 pub mod FreeLemmas

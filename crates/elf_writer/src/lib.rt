@@ -14,8 +14,3 @@ pub use laws::{
 };
 pub use parts::{Patch, SegmentBytes, SymbolMove};
 pub use writing::write;
-
-#[cfg(test)]
-mod allowed;
-#[cfg(test)]
-mod tests;

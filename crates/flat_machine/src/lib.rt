@@ -15,6 +15,3 @@ pub use laws::{
     steps_compose, words_stay,
 };
 pub use machine::Flat;
-
-#[cfg(test)]
-mod tests;

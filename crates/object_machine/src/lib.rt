@@ -18,6 +18,3 @@ pub use events::{Access, Event, Outcome};
 pub use footprints::{AccessKind, Footprint};
 pub use laws::{ended_stays, is_determined, output_grows, steps_compose};
 pub use machine::Source;
-
-#[cfg(test)]
-mod tests;

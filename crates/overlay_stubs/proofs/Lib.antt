@@ -5,4 +5,3 @@ pub mod JobLemmas
 pub mod WordLemmas
 pub mod Starting
 pub mod ByteLemmas
-pub mod Examples

@@ -5,8 +5,6 @@ mod code;
 mod instructions;
 mod laws;
 mod plan;
-#[cfg(test)]
-mod tests;
 
 pub use code::{sizes, stubs};
 pub use laws::{jobs_copy, start_runs};

@@ -82,30 +82,3 @@ impl ByteStore for ListStore {
         Ok(())
     }
 }
-
-#[cfg(test)]
-mod tests {
-    use super::*;
-    use std::test::Fail;
-
-    #[test]
-    fn sets_a_word_in_made_room(rt: HostRuntime) -> Result<(), Fail> {
-        let mut store = ListStore::new(rt.alloc());
-        store.room(0xffff_fffe, 4)?;
-        store.set_word(0xffff_fffe, 0x1234_5678)?;
-        assert_eq!(rt; store.get(0), 0x34);
-        assert_eq!(rt; store.get_half(0xffff_ffff), 0x3456);
-        assert_eq!(rt; store.get_word(0xffff_fffe), 0x1234_5678);
-        Ok(())
-    }
-
-    #[test]
-    fn sets_a_byte_twice(rt: HostRuntime) -> Result<(), Fail> {
-        let mut store = ListStore::new(rt.alloc());
-        store.set(7, 1)?;
-        store.set(7, 2)?;
-        assert_eq!(rt; store.get(7), 2);
-        assert_eq!(rt; store.get(8), 0);
-        Ok(())
-    }
-}

@@ -306,32 +306,3 @@ impl ByteStore for PageStore {
         Ok(())
     }
 }
-
-#[cfg(test)]
-mod tests {
-    use super::*;
-    use std::test::Fail;
-
-    #[test]
-    fn makes_room_across_a_page_border(rt: HostRuntime) -> Result<(), Fail> {
-        let mut store = PageStore::new(rt.alloc());
-        assert_eq!(rt; store.get_word(0x0001_0ffe), 0);
-        store.room(0x0001_0ffe, 4)?;
-        store.set_word(0x0001_0ffe, 0x1234_5678)?;
-        assert_eq!(rt; store.get_half(0x0001_0ffe), 0x5678);
-        assert_eq!(rt; store.get_half(0x0001_1000), 0x1234);
-        assert_eq!(rt; store.get_word(0x0001_0ffc), 0x5678_0000);
-        assert_eq!(rt; store.get(0x0002_1000), 0);
-        Ok(())
-    }
-
-    #[test]
-    fn sets_bytes_in_two_pages(rt: HostRuntime) -> Result<(), Fail> {
-        let mut store = PageStore::new(rt.alloc());
-        store.set_bytes(0xffff_effe, b"abcd")?;
-        assert_eq!(rt; store.get_word(0xffff_effe), 0x6463_6261);
-        assert_eq!(rt; store.get(0xffff_f000), b'c');
-        assert_eq!(rt; store.get(0x0000_0000), 0);
-        Ok(())
-    }
-}

@@ -23,6 +23,3 @@ pub use laws::{
 };
 pub use sides::{Programme, Side};
 pub use variables::{FullVar, Var, VarName};
-
-#[cfg(test)]
-mod tests;

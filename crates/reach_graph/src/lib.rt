@@ -8,6 +8,3 @@ mod spreading;
 
 pub use arrows::Arrow;
 pub use spreading::spread;
-
-#[cfg(test)]
-mod tests;

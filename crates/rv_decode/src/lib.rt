@@ -8,8 +8,6 @@ mod instructions;
 mod laws;
 mod operations;
 mod registers;
-#[cfg(test)]
-mod tests;
 
 pub use decoding::decode;
 pub use encoding::encode;

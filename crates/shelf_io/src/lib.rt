@@ -8,8 +8,6 @@ mod memory_sink;
 mod output;
 mod shelves;
 mod sinks;
-#[cfg(test)]
-mod tests;
 
 pub use folder::DirShelf;
 pub use memory_shelf::MemShelf;

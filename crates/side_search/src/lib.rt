@@ -19,6 +19,3 @@ mod searching;
 mod visiting;
 
 pub use certifying::certify;
-
-#[cfg(test)]
-mod tests;

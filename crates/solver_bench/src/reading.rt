@@ -22,11 +22,11 @@ struct Draft {
     has_on: bool,
 }
 
-fn number(word: &str) -> Result<u128> {
+pub(crate) fn number(word: &str) -> Result<u128> {
     word.parse::<u128>().context("a word is no number")
 }
 
-fn small_number(word: &str) -> Result<u64> {
+pub(crate) fn small_number(word: &str) -> Result<u64> {
     word.parse::<u64>().context("a word is no number")
 }
 
@@ -109,7 +109,7 @@ impl Draft {
     fn take_line(&mut self, alloc: Global, key: &str, words: &str) -> Result<()> {
         match key {
             "base" => self.base = number(words)?,
-            "optimum" => {}
+            "#" | "ask" | "optimum" => {}
             "side" => self.begin_side(words)?,
             "rows" => self.side().rows = read_rows(alloc, words)?,
             "var" => self.side().vars.push(read_var(alloc, words)?)?,
@@ -135,7 +135,7 @@ impl Draft {
 }
 
 /// Reads a programme: `base N`, then for each side `side off|on fixed N`, `rows` with the capacities and a line
-/// `var GAIN ROW:WEIGHT ..` a variable. A line `optimum N` is left aside.
+/// `var GAIN ROW:WEIGHT ..` a variable. A line `optimum N`, `ask ..` or `# ..` is left aside.
 pub(crate) fn read_programme(alloc: Global, text: &str) -> Result<Programme> {
     let mut draft = Draft::empty(alloc);
     for line in text.lines() {

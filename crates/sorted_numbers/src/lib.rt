@@ -6,6 +6,3 @@ mod search;
 
 pub use lists::{arrange, arrange_once};
 pub use search::{count_under, has, has_inside, place_of, repeats};
-
-#[cfg(test)]
-mod tests;

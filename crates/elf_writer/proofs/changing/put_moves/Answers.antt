@@ -3,11 +3,10 @@ use Rattle.elf_reader.specs.File.{PlainSymbol, plain_symbol}
 use Rattle.workload_gen.specs.Pieces.{half_bytes, word_bytes}
 use Rattle.elf_writer.specs.Changes.{changed}
 use Rattle.elf_writer.specs.Parts.{move_changes, moves_changes}
-use Rattle.elf_writer.proofs.ChangeLemmas.{changes_step, changes_end}
+use Rattle.elf_writer.proofs.ChangeLemmas.{changes_step, changes_end, all_taken}
 use Rattle.std.proofs.lemmas.List.Elements.{All-more}
 use Rattle.elf_writer.specs.declared.parts.SymbolMove.{SymbolMove}
 use Rattle.elf_writer.specs.Conditions.{HasWordValue}
-use Rattle.elf_writer.proofs.AllowedLemmas.{all_taken}
 use Rattle.elf_writer.proofs.FitLemmas.{symbol_in}
 use Rattle.elf_writer.proofs.changing.put_moves.Goals as goal
 

@@ -1,0 +1,136 @@
+use anyhow::{Context, Result, bail};
+use elf_reader::Reloc;
+use num_traits::Num;
+use std::alloc::Global;
+use workload_gen::{FileSpec, SectionSpec, SymbolSpec, build};
+
+/// A file to be built, the bytes behind it, and the input of its runs.
+#[derive(Drop)]
+pub(crate) struct Case {
+    spec: FileSpec,
+    behind: Vec<u8>,
+    pub(crate) input: Vec<u8>,
+}
+
+/// A number in decimal, or with `0x` before it in hexadecimal.
+pub(crate) fn number(word: &str) -> Result<u32> {
+    let (digits, radix) = match word.strip_prefix("0x") {
+        Some(digits) => (digits, 16),
+        None => (word, 10),
+    };
+    <u32 as Num>::from_str_radix(digits, radix).context("a word is no number")
+}
+
+/// The numbers of a text.
+pub(crate) fn numbers(alloc: Global, text: &str) -> Result<Vec<u32>> {
+    let mut numbers = Vec::new(alloc);
+    for word in text.split_whitespace() {
+        numbers.push(number(word)?)?;
+    }
+    Ok(numbers)
+}
+
+/// Appends words, each least byte first.
+fn push_words(bytes: &mut Vec<u8>, words: &[u32]) -> Result<()> {
+    for word in words {
+        bytes.extend_from_slice(&word.to_le_bytes())?;
+    }
+    Ok(())
+}
+
+/// `NAME ADDRESS FLAGS`: a section that has no words yet.
+fn section(alloc: Global, text: &str) -> Result<SectionSpec> {
+    let (name, rest) = text.split_once(' ').context("a section has no address")?;
+    let words = numbers(alloc, rest)?;
+    let &[addr, flags] = words.as_slice() else {
+        bail!("a section has an address and flags");
+    };
+    Ok(SectionSpec {
+        name: String::from_str(alloc, name)?,
+        addr,
+        flags,
+        bytes: Vec::new(alloc),
+        empty: 0,
+        relocs: Vec::new(alloc),
+    })
+}
+
+/// `NAME VALUE SIZE KIND SECTION`.
+fn symbol(alloc: Global, text: &str) -> Result<SymbolSpec> {
+    let (name, rest) = text.split_once(' ').context("a symbol has no value")?;
+    let words = numbers(alloc, rest)?;
+    let &[value, size, kind, section] = words.as_slice() else {
+        bail!("a symbol has a value, a size, a kind and a section");
+    };
+    Ok(SymbolSpec {
+        name: String::from_str(alloc, name)?,
+        value,
+        size,
+        kind: (kind % 16) as u8,
+        section,
+    })
+}
+
+/// `ADDRESS KIND SYMBOL`.
+fn reloc(alloc: Global, text: &str) -> Result<Reloc> {
+    let words = numbers(alloc, text)?;
+    let &[at, kind, symbol] = words.as_slice() else {
+        bail!("a relocation has an address, a kind and a symbol");
+    };
+    Ok(Reloc {
+        at,
+        kind,
+        symbol,
+        addend: 0,
+        section: 1,
+    })
+}
+
+impl Case {
+    pub(crate) fn empty(alloc: Global) -> Case {
+        let spec = FileSpec {
+            entry: 0,
+            sections: Vec::new(alloc),
+            symbols: Vec::new(alloc),
+        };
+        Case {
+            spec,
+            behind: Vec::new(alloc),
+            input: Vec::new(alloc),
+        }
+    }
+
+    /// The file.
+    pub(crate) fn built(&self, alloc: Global) -> Result<Vec<u8>> {
+        let mut file = build(alloc, &self.spec)?;
+        file.extend_from_slice(&self.behind)?;
+        Ok(file)
+    }
+
+    /// The section whose lines are being read.
+    fn last_section(&mut self) -> Result<&mut SectionSpec> {
+        self.spec.sections.last_mut().context("no section")
+    }
+
+    /// Takes a line of a file: its `entry`, a `section`, `words` and relocations (`reloc`) of the last section, a
+    /// `symbol`, a byte `behind` all of the file, or the `input` of its runs.
+    pub(crate) fn take_line(&mut self, alloc: Global, key: &str, rest: &str) -> Result<()> {
+        match key {
+            "entry" => self.spec.entry = number(rest)?,
+            "section" => self.spec.sections.push(section(alloc, rest)?)?,
+            "symbol" => self.spec.symbols.push(symbol(alloc, rest)?)?,
+            "input" => self.input = rest.as_bytes().to_vec(alloc)?,
+            "behind" => self.behind.push((number(rest)? % 256) as u8)?,
+            "words" => {
+                let words = numbers(alloc, rest)?;
+                push_words(&mut self.last_section()?.bytes, &words)?;
+            }
+            "reloc" => {
+                let reloc = reloc(alloc, rest)?;
+                self.last_section()?.relocs.push(reloc)?;
+            }
+            _ => bail!("a line has no known key"),
+        }
+        Ok(())
+    }
+}

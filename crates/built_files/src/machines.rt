@@ -1,0 +1,62 @@
+ghost use Rattle.board_config.specs.Board.{IsLawful};
+
+use crate::cases::{Case, number};
+use anyhow::Result;
+use board_config::{Board, read_board};
+use code_blocks::blocks;
+use elf_reader::read;
+use flat_machine::Flat;
+use object_graph::graph;
+use object_machine::Source;
+use paged_store::PageStore;
+use std::alloc::Global;
+
+/// Runs a file on the flat machine: `step` tells the event of one step, and a number the outcome after as many steps, and
+/// the pc; then what was written is told.
+pub(crate) fn tell_flat(rt: &(impl Print + AllocGlobal), case: &Case, text: &str) -> Result<()> {
+    let file = case.built(rt.alloc())?;
+    let view = read(rt.alloc(), &file)?;
+    let board = read_board(rt.alloc(), b"")?;
+    let store = PageStore::new(rt.alloc());
+    let mut machine = Flat::new(rt.alloc(), &view, &board, &case.input, store)?;
+    for word in text.split_whitespace() {
+        if word == "step" {
+            println!(rt; "  {:?}", machine.step()?)?;
+        } else {
+            let steps = number(word)?;
+            let outcome = machine.run(u64::from(steps))?;
+            println!(rt; "  {steps}: {outcome:?}, at {:#x}", machine.at())?;
+        }
+    }
+    println!(rt; "  wrote {:?}", machine.output())?;
+    Ok(())
+}
+
+/// The machine of a file whose objects have no addresses.
+fn started(alloc: Global, file: &[u8], board: &Board, input: &[u8]) -> Result<Source>
+    requires { IsLawful board.now }
+{
+    let view = read(alloc, file)?;
+    let graph = graph(alloc, &view, board)?;
+    let code = blocks(alloc, &view)?;
+    Ok(Source::new(alloc, &view, &graph, &code, board, input)?)
+}
+
+/// The same on that machine. `step` also tells what the step asks of memory.
+pub(crate) fn tell_object(rt: &(impl Print + AllocGlobal), case: &Case, text: &str) -> Result<()> {
+    let file = case.built(rt.alloc())?;
+    let board = read_board(rt.alloc(), b"")?;
+    let mut machine = started(rt.alloc(), &file, &board, &case.input)?;
+    for word in text.split_whitespace() {
+        if word == "step" {
+            let footprint = machine.footprint();
+            println!(rt; "  {footprint:?}, {:?}", machine.step()?)?;
+        } else {
+            let steps = number(word)?;
+            let outcome = machine.run(u64::from(steps))?;
+            println!(rt; "  {steps}: {outcome:?}, at {:#x}", machine.at())?;
+        }
+    }
+    println!(rt; "  wrote {:?}", machine.output())?;
+    Ok(())
+}

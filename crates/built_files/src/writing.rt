@@ -1,0 +1,203 @@
+ghost use Rattle.std.specs.Prelude.{◌≡◌, ℕ, ◌<◌, ◌≤◌, ◌*◌, ◌∷◌, [], true, false, None, Some, map, length, All};
+ghost use Rattle.elf_reader.specs.File.{IsFile, plain_view};
+ghost use Rattle.elf_reader.specs.Faults.{first_fault};
+ghost use Rattle.index_tests.specs.Tests.{lies_in, meets};
+ghost use Rattle.loaded_code.specs.Marks.{all_loaded};
+ghost use Rattle.elf_writer.specs.Parts.{new_segment};
+ghost use Rattle.elf_writer.specs.Conditions.{is_loaded_word, IsAddable, IsWritable};
+
+use crate::cases::{Case, numbers};
+use anyhow::{Result, bail};
+use elf_reader::{ElfView, Section, Segment, read};
+use elf_writer::{Patch, SegmentBytes, SymbolMove, write};
+use loaded_code::loaded_sections;
+use std::alloc::Global;
+
+/// The most bytes of a new segment that these tests let pass.
+const SEGMENT_LIMIT: usize = 0x1000_0000;
+
+/// The word at `at` lies in the file bytes of a section.
+fn holds_word(section: &Section, at: u32) -> bool
+    ensures { result ≡ true → lies_in section.now.offset section.now.size at 4 ≡ true }
+{
+    let (start, at) = (u64::from(section.offset), u64::from(at));
+    start <= at && at + 4 <= start + u64::from(section.size)
+}
+
+/// The word at `at` lies in the file bytes of section `k`, which is loaded.
+#[tactic(auto, using(crate::proofs::AllowedLemmas::word_found))]
+fn has_word(view: &ElfView, loaded: &Vec<bool>, at: u32, k: usize) -> bool
+    requires marks { loaded.now.items ≡ all_loaded (plain_view view.now) }
+    requires below { k < length view.now.sections.items }
+    requires marked { k < length loaded.now.items }
+    ensures { result ≡ true → is_loaded_word (plain_view view.now) at ≡ true }
+{
+    let section = &view.sections[k];
+    if !loaded[k] || section.kind != 1 {
+        return false;
+    }
+    holds_word(section, at)
+}
+
+/// Two ranges share no byte.
+fn are_apart(start: u32, size: u32, other: u32, other_size: u32) -> bool
+    ensures { result ≡ true → meets start size other other_size ≡ false }
+{
+    let (end, other_end) = (
+        u64::from(start) + u64::from(size),
+        u64::from(other) + u64::from(other_size),
+    );
+    end <= u64::from(other) || other_end <= u64::from(start)
+}
+
+/// No segment shares an address with a new one of `size` bytes.
+fn is_clear(base: u32, size: u32, segments: &[Segment]) -> bool
+    ensures { result ≡ true → All (λ s. meets s.vaddr s.memsz base size ≡ false) segments.now }
+{
+    for segment in segments {
+        if !are_apart(segment.vaddr, segment.memsz, base, size) {
+            return false;
+        }
+    }
+    true
+}
+
+/// A segment can be added.
+fn is_addable(view: &ElfView, new: &SegmentBytes) -> bool
+    ensures { result ≡ true → IsAddable (plain_view view.now) (new_segment new.now) × (length new.now.bytes.items ≤ 268435456) }
+{
+    let size = new.bytes.len();
+    if size == 0 || size > SEGMENT_LIMIT {
+        return false;
+    }
+    if u64::from(new.base) + size as u64 >= 0x1_0000_0000 {
+        return false;
+    }
+    if view.ph_count == 0 || view.ph_count > 63 {
+        return false;
+    }
+    is_clear(new.base, size as u32, &view.segments)
+}
+
+/// The patch, the segment and the moved symbol may be written, the patch into section `k`.
+fn may_add(
+    view: &ElfView,
+    loaded: &Vec<bool>,
+    k: usize,
+    patch: Patch,
+    segment: &SegmentBytes,
+    change: SymbolMove,
+) -> bool
+    requires file { IsFile view.now.bytes.now view.now }
+    requires sound { first_fault view.now.bytes.now ≡ None }
+    requires marks { loaded.now.items ≡ all_loaded (plain_view view.now) }
+    ensures { result ≡ true → IsWritable (plain_view view.now) (patch ∷ []) (Some (new_segment segment.now)) (change ∷ []) }
+{
+    if !may_patch(view, loaded, k, patch) || change.symbol as usize >= view.symbols.len() {
+        return false;
+    }
+    is_addable(view, segment)
+}
+
+/// The patch may be written without a segment, into section `k`.
+fn may_patch(view: &ElfView, loaded: &Vec<bool>, k: usize, patch: Patch) -> bool
+    requires file { IsFile view.now.bytes.now view.now }
+    requires sound { first_fault view.now.bytes.now ≡ None }
+    requires marks { loaded.now.items ≡ all_loaded (plain_view view.now) }
+    ensures { result ≡ true → IsWritable (plain_view view.now) (patch ∷ []) None [] }
+{
+    if k >= view.sections.len() || k >= loaded.len() {
+        return false;
+    }
+    has_word(view, loaded, patch.offset, k)
+}
+
+/// What is to be written: a patch in section `k`, and where one is given a segment of these bytes and a moved symbol.
+#[derive(Drop)]
+struct Change {
+    k: usize,
+    patch: Patch,
+    segment: Option<(SegmentBytes, SymbolMove)>,
+}
+
+/// The bytes of a new segment.
+const NEW: [u8; 8] = [0x6f, 0x00, 0x40, 0x00, 0x13, 0x00, 0x00, 0x00];
+
+/// `SECTION OFFSET WORD`, and behind it `BASE SYMBOL VALUE` where there is a new segment, which is entered at its base.
+fn read_change(alloc: Global, text: &str) -> Result<Change> {
+    let numbers = numbers(alloc, text)?;
+    let (k, offset, word, segment) = match numbers.as_slice() {
+        &[k, offset, word] => (k, offset, word, None),
+        &[k, offset, word, base, symbol, value] => {
+            let bytes = NEW.to_vec(alloc)?;
+            let new = SegmentBytes {
+                base,
+                entry: base,
+                bytes,
+            };
+            (k, offset, word, Some((new, SymbolMove { symbol, value })))
+        }
+        _ => bail!("a change has three or six numbers"),
+    };
+    Ok(Change {
+        k: k as usize,
+        patch: Patch { offset, word },
+        segment,
+    })
+}
+
+/// The file with the change, if it may be written.
+fn changed(alloc: Global, bytes: &[u8], change: &Change) -> Result<Option<Vec<u8>>> {
+    let view = read(alloc, bytes)?;
+    let loaded = loaded_sections(alloc, &view)?;
+    let patch = change.patch;
+    match &change.segment {
+        Some((new, moved)) if may_add(&view, &loaded, change.k, patch, new, *moved) => {
+            Ok(Some(write(alloc, &view, &[patch], Some(new), &[*moved])?))
+        }
+        None if may_patch(&view, &loaded, change.k, patch) => {
+            Ok(Some(write(alloc, &view, &[patch], None, &[])?))
+        }
+        _ => Ok(None),
+    }
+}
+
+/// Tells the bytes of a file that another file has changed.
+fn tell_changes(rt: &impl Print, old: &[u8], new: &[u8]) -> Result<()> {
+    for (place, (before, after)) in old.iter().zip(new).enumerate() {
+        if before != after {
+            println!(rt; "  byte {place}: {before:#04x} to {after:#04x}")?;
+        }
+    }
+    Ok(())
+}
+
+/// Tells the segments and symbols of a file.
+fn tell_parts(rt: &(impl Print + AllocGlobal), bytes: &[u8]) -> Result<()> {
+    let view = read(rt.alloc(), bytes)?;
+    println!(rt;
+        "  entry {:#x}, {} program headers at {}",
+        view.entry, view.ph_count, view.ph_at
+    )?;
+    for segment in &view.segments {
+        println!(rt; "  {segment:?}")?;
+    }
+    for symbol in &view.symbols {
+        println!(rt; "  {symbol:?}")?;
+    }
+    Ok(())
+}
+
+/// Tells what the writer makes of a file with a change.
+pub(crate) fn tell_written(rt: &(impl Print + AllocGlobal), case: &Case, text: &str) -> Result<()> {
+    let file = case.built(rt.alloc())?;
+    match changed(rt.alloc(), &file, &read_change(rt.alloc(), text)?)? {
+        Some(out) => {
+            println!(rt; "write {text}: {} bytes become {}", file.len(), out.len())?;
+            tell_changes(rt, &file, &out)?;
+            tell_parts(rt, &out)?;
+        }
+        None => println!(rt; "write {text}: is not to be written")?,
+    }
+    Ok(())
+}

@@ -1,7 +1,0 @@
-use Rattle.std.proofs.Common.{◌≡◌, false, take}
-use Rattle.std.specs.List.{All}
-use Rattle.index_tests.specs.Tests.{meets}
-use Rattle.elf_writer.proofs.allowed.is_clear.Given as goal
-
-abbrev pub invariant-loop-segment : goal.invariant-loop-segment
-invariant-loop-segment l = All (λ s. meets s.vaddr s.memsz l.base l.size ≡ false) (take l.segment-index l.segments)

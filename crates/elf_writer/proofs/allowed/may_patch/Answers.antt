@@ -1,5 +1,0 @@
-use Rattle.elf_writer.proofs.AllowedLemmas.{view_patch_allowed}
-use Rattle.elf_writer.proofs.allowed.may_patch.Goals as goal
-
-pub returns : goal.returns
-returns c passes = view_patch_allowed c.args.view.now c.args.patch c.requires.file c.requires.sound (c.has_word.ensures passes)

@@ -1,0 +1,42 @@
+//! Tells of lines of a file what functions on words, instructions, values and sorted numbers give.
+#![tactic(auto)]
+
+mod numbers;
+mod objects;
+mod words;
+
+use anyhow::{Result, bail};
+use std::rt::Files;
+use std::{env, fs};
+
+/// Tells what a line asks for. A line that begins with `#` is told as it is.
+fn tell_line(rt: &(impl Print + AllocGlobal), line: &str) -> Result<()> {
+    let (key, rest) = line.split_once(' ').unwrap_or((line, ""));
+    match key {
+        "#" => println!(rt; "{line}")?,
+        "word" => words::tell_word(rt, rest)?,
+        "extend" => words::tell_extension(rt, rest)?,
+        "operate" => objects::tell_operation(rt, rest)?,
+        "address" => objects::tell_address(rt, rest)?,
+        "cells" => objects::tell_cells(rt, rest)?,
+        "sorted" => numbers::tell_sorted(rt, rest)?,
+        _ => bail!("a line has no known key"),
+    }
+    Ok(())
+}
+
+/// Tells of the lines of a file.
+fn tell_file(rt: &(impl Files + Print + AllocGlobal), name: &str) -> Result<()> {
+    let text = fs::read_to_string(rt, name)?;
+    for line in text.lines() {
+        tell_line(rt, line)?;
+    }
+    Ok(())
+}
+
+fn main(rt: HostRuntime) -> Result<()> {
+    for name in env::args(&rt)?.skip(1) {
+        tell_file(&rt, &name)?;
+    }
+    Ok(())
+}

@@ -1,0 +1,143 @@
+ghost use Rattle.std.specs.Prelude.{◌≡◌, IfOk, IfSome, IsTrue, ◌↔◌, OnOk};
+ghost use Rattle.cell_values.specs.Objects.{IsOfGraph, IsGrain};
+
+use crate::words::number;
+use anyhow::{Context, Result, bail};
+use cell_values::{Val, compare, join, low_site, op_imm, op_reg, split};
+use object_graph::{Graph, Object};
+use rv_decode::{Instr, decode};
+use std::alloc::{AllocError, Global};
+
+/// The graph of two objects. Object 0 has 40 bytes from 0x11038, which is 8 modulo 16 and 56 modulo 64; object 1 has
+/// 64 bytes from 0x11064, which is 4 modulo 16 and 36 modulo 64.
+fn graph(alloc: Global, grain: u32) -> Result<Graph, AllocError>
+    ensures { IfOk result (λ g. g.grain ≡ grain) }
+{
+    let mut objects = Vec::new(alloc);
+    for (name, home, size) in [(3, 0x0001_1038, 40), (5, 0x0001_1064, 64)] {
+        objects.push(Object {
+            name,
+            home,
+            size,
+            writable: true,
+        })?;
+    }
+    Ok(Graph {
+        grain,
+        objects,
+        sites: Vec::new(alloc),
+        data_words: Vec::new(alloc),
+        code: Vec::new(alloc),
+    })
+}
+
+/// The graph at a grain that is one of a board.
+fn graph_at(alloc: Global, grain: u32) -> Result<Graph>
+    ensures { IfOk result (λ g. IsGrain g.grain) }
+{
+    match grain {
+        16 | 32 | 64 => Ok(graph(alloc, grain)?),
+        _ => bail!("no grain"),
+    }
+}
+
+fn is_of_graph(v: &Val, graph: &Graph) -> bool
+    ensures { IsTrue result ↔ IsOfGraph graph.now v.now }
+{
+    match *v {
+        Val::Addr { obj, .. } | Val::Hi { obj, .. } | Val::Piece { obj, .. } => {
+            (obj as usize) < graph.objects.len()
+        }
+        Val::Int(_) | Val::Low(_) | Val::Unknown => true,
+    }
+}
+
+/// A value: a number, `address:OBJECT:OFFSET`, `upper:OBJECT:OFFSET`, `piece:OBJECT:OFFSET` for byte 2 of an address,
+/// `low:NUMBER` or `unknown`.
+fn value(word: &str) -> Result<Val> {
+    let Some((kind, rest)) = word.split_once(':') else {
+        return match word {
+            "unknown" => Ok(Val::Unknown),
+            _ => Ok(Val::Int(number(word)?)),
+        };
+    };
+    let Some((obj, off)) = rest.split_once(':') else {
+        return Ok(Val::Low(number(rest)?));
+    };
+    let (obj, off) = (number(obj)?, number(off)?);
+    match kind {
+        "address" => Ok(Val::Addr { obj, off }),
+        "upper" => Ok(Val::Hi { obj, off }),
+        _ => Ok(Val::Piece {
+            hi: false,
+            obj,
+            off,
+            k: 2,
+        }),
+    }
+}
+
+/// `GRAIN INSTRUCTION VALUE VALUE`: what the instruction, a word, makes of the values of its two registers, or of the
+/// first and its immediate; of a branch, whether it is taken.
+pub(crate) fn tell_operation(rt: &(impl Print + AllocGlobal), text: &str) -> Result<()> {
+    let (grain, rest) = text.split_once(' ').context("no instruction")?;
+    let (word, rest) = rest.split_once(' ').context("no values")?;
+    let (a, b) = rest.split_once(' ').context("no second value")?;
+    let grain = number(grain)?;
+    let graph = graph_at(rt.alloc(), grain)?;
+    let (a, b) = (value(a)?, value(b)?);
+    if !is_of_graph(&a, &graph) || !is_of_graph(&b, &graph) {
+        bail!("a value of no object");
+    }
+    match decode(number(word)?) {
+        Some(Instr::OpReg { kind, .. }) => {
+            println!(rt;
+                "{grain} {kind:?} {a:?} {b:?}: {:?}",
+                op_reg(kind, &a, &b, &graph)
+            )?;
+        }
+        Some(Instr::OpImm { kind, imm, .. }) => {
+            println!(rt;
+                "{grain} {kind:?} {a:?} {imm}: {:?}",
+                op_imm(kind, &a, imm, &graph)
+            )?;
+        }
+        Some(Instr::Branch { kind, .. }) => {
+            println!(rt;
+                "{grain} {kind:?} {a:?} {b:?}: {:?}",
+                compare(kind, &a, &b, &graph)
+            )?;
+        }
+        _ => bail!("no operation"),
+    }
+    Ok(())
+}
+
+/// `GRAIN VALUE OBJECT OFFSET`: the address that a low part of an address of the object makes of the value.
+pub(crate) fn tell_address(rt: &(impl Print + AllocGlobal), text: &str) -> Result<()> {
+    let (grain, rest) = text.split_once(' ').context("no value")?;
+    let (word, rest) = rest.split_once(' ').context("no object")?;
+    let (obj, off) = rest.split_once(' ').context("no offset")?;
+    let grain = number(grain)?;
+    let graph = graph_at(rt.alloc(), grain)?;
+    let (a, obj, off) = (value(word)?, number(obj)?, number(off)?);
+    if !is_of_graph(&a, &graph) || obj as usize >= graph.objects.len() {
+        bail!("a value of no object");
+    }
+    println!(rt;
+        "{grain} {a:?} {obj} {off}: {:?}",
+        low_site(&a, obj, off, &graph)
+    )?;
+    Ok(())
+}
+
+/// The cells that a value fills in memory, what they are as a word, and what they are with the first two exchanged.
+pub(crate) fn tell_cells(rt: &impl Print, text: &str) -> Result<()> {
+    let v = value(text)?;
+    let cells = split(&v);
+    let [first, second, third, fourth] = cells;
+    let other = join([second, first, third, fourth]);
+    println!(rt; "{v:?}: {cells:?}")?;
+    println!(rt; "  {:?}, {other:?}", join(cells))?;
+    Ok(())
+}

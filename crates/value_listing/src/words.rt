@@ -1,0 +1,48 @@
+use anyhow::{Context, Result};
+use num_traits::Num;
+use rv_decode::{decode, defs, encode, uses};
+use word_bits::{bytes4, hi20, lo12, sext, word4};
+
+/// A number in decimal, or with `0x` before it in hexadecimal.
+pub(crate) fn number(word: &str) -> Result<u32> {
+    let (digits, radix) = match word.strip_prefix("0x") {
+        Some(digits) => (digits, 16),
+        None => (word, 10),
+    };
+    <u32 as Num>::from_str_radix(digits, radix).context("a word is no number")
+}
+
+/// The halves and the bytes of a word, and the instruction that it is: what that is encoded to, and the registers that
+/// it reads and writes, a bit for each.
+pub(crate) fn tell_word(rt: &impl Print, text: &str) -> Result<()> {
+    let word = number(text)?;
+    let bytes = bytes4(word);
+    let same = word4(bytes);
+    println!(rt;
+        "{text} {:#x} {} {bytes:?} {same:#x}",
+        hi20(word),
+        lo12(word)
+    )?;
+    match decode(word) {
+        Some(instr) => {
+            let (read, written) = (uses(&instr).bits, defs(&instr).bits);
+            println!(rt;
+                "  {instr:?} {:#010x}, reads {read:#x}, writes {written:#x}",
+                encode(&instr)
+            )?;
+        }
+        None => println!(rt; "  no instruction")?,
+    }
+    Ok(())
+}
+
+/// A word whose low bits, as many as are given, are extended by their sign.
+pub(crate) fn tell_extension(rt: &impl Print, text: &str) -> Result<()> {
+    let (word, bits) = text.split_once(' ').context("no number of bits")?;
+    let (word, bits) = (number(word)?, number(bits)?);
+    if bits == 0 || bits > 32 {
+        return Ok(());
+    }
+    println!(rt; "{text} {:#x}", sext(word, bits))?;
+    Ok(())
+}
