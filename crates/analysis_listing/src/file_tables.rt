@@ -1,9 +1,9 @@
 //! Tables of what is found in a file before its code is followed.
 ghost use Rattle.std.specs.Prelude.{◌≡◌};
 ghost use Rattle.elf_reader.specs.File.{plain_view};
-ghost use Rattle.loaded_code.specs.Read.{IsRead};
-ghost use Rattle.loaded_code.specs.Marks.{all_loaded};
-ghost use Rattle.object_ranges.specs.Extents.{IsFilled};
+ghost use Rattle.loaded_file.specs.Read.{IsRead};
+ghost use Rattle.loaded_file.specs.Marks.{all_loaded};
+ghost use Rattle.loaded_file.specs.Extents.{IsFilled};
 ghost use Rattle.movable_ranges.specs.Apart.{IsApart};
 
 use crate::printing::print_addresses;
@@ -11,9 +11,8 @@ use anyhow::Result;
 use board_config::Board;
 use code_leaders::{early_leaders, leaders};
 use elf_reader::ElfView;
-use loaded_code::{is_code_range, loaded_sections};
+use loaded_file::{Extent, is_code_range, loaded_sections, object_ranges, overlapped};
 use movable_ranges::{meant_range, movable_ranges};
-use object_ranges::{Extent, object_ranges, overlapped};
 use sound_relocations::sound_kinds;
 
 /// A line for each section that is loaded, and whether it is a code range.

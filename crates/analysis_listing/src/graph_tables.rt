@@ -4,8 +4,7 @@ ghost use Rattle.relinking.specs.Runs.{IsAnalysed};
 
 use anyhow::Result;
 use board_config::Board;
-use fixed_memory::fixed_ranges;
-use object_graph::{Graph, SiteKind};
+use object_graph::{Graph, SiteKind, fixed_ranges};
 use relink_core::Analysis;
 
 /// The grain, the objects, the sites and words that lead to them, and the code ranges.

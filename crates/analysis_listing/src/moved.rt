@@ -2,7 +2,7 @@
 ghost use Rattle.std.specs.Prelude.{◌≡◌, ◌×◌, ℕ, ◌<◌, List, length, IfOk, IfSome};
 ghost use Rattle.elf_reader.specs.File.{PlainView, plain_view};
 ghost use Rattle.board_config.specs.Board.{IsLawful};
-ghost use Rattle.loaded_code.specs.Read.{IsRead};
+ghost use Rattle.loaded_file.specs.Read.{IsRead};
 ghost use Rattle.object_graph.specs.Graphs.{IsGraph};
 ghost use Rattle.placement_programme.specs.Rows.{data_span, rounded_up};
 ghost use Rattle.placement_programme.specs.Views.{plain_side};

@@ -7,7 +7,7 @@ use Rattle.std.specs.Ordering.{nat_cmp, match_ordering}
 use Rattle.std.specs.Cmp.Lexicographic.{slice_cmp}
 use Rattle.toml.specs.Data.{Data, Members, no_members, member, get_member, as_str, as_integer, as_bool, as_table}
 use Rattle.toml.specs.Parse.{parse_document}
-use Rattle.fault_order.specs.First.{◌or_else◌}
+use Rattle.list_checks.specs.First.{◌or_else◌}
 use Rattle.board_config.specs.declared.board.Range.{Range}
 use Rattle.board_config.specs.Faults.{Fault, not_toml, missing, wrong_type, out_of_range, unknown_key}
 use Rattle.board_config.specs.Values.{pair_of, pairs_of, texts_of, text_lists_of}

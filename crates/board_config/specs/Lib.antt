@@ -1,4 +1,4 @@
-pub use Rattle.fault_order.specs.First
+pub use Rattle.list_checks.specs.First
 pub mod Faults
 pub mod Values
 pub mod Limits

@@ -3,9 +3,9 @@ use Rattle.std.proofs.Common.{◌≡◌, ◌∙◌, ℕ, zero, suc, ◌+◌, ◌
 use Rattle.std.specs.List.{All, AllPairs}
 use Rattle.std.proofs.lemmas.List.{get_or-map, length-map}
 use Rattle.std.proofs.lemmas.Bool.{leb-true}
-use Rattle.index_tests.specs.Tests.{lies_in, meets}
-use Rattle.index_tests.proofs.TestLemmas.{any_at}
-use Rattle.fault_order.proofs.FirstLemmas.{both_none, holds}
+use Rattle.list_checks.specs.Tests.{lies_in, meets}
+use Rattle.list_checks.proofs.TestLemmas.{any_at}
+use Rattle.list_checks.proofs.FirstLemmas.{both_none, holds}
 use Rattle.elf_reader.specs.File.{IsFile, PlainView, plain_segment, plain_section, plain_view, view_in}
 use Rattle.elf_reader.specs.HeaderChecks.{size_fault, header_fault}
 use Rattle.elf_reader.specs.Faults.{first_fault}
@@ -13,8 +13,8 @@ use Rattle.elf_reader.specs.Loaded.{no_section, section_at, is_loaded}
 use Rattle.elf_reader.specs.declared.view.ElfView.{ElfView}
 use Rattle.elf_reader.specs.declared.view.Segment.{Segment}
 use Rattle.elf_reader.specs.declared.view.Section.{Section}
-use Rattle.loaded_code.specs.Marks.{all_loaded}
-use Rattle.loaded_code.proofs.LoadedSections.{mark_is}
+use Rattle.loaded_file.specs.Marks.{all_loaded}
+use Rattle.loaded_file.proofs.LoadedSections.{mark_is}
 use Rattle.elf_writer.specs.declared.parts.Patch.{Patch}
 use Rattle.elf_writer.specs.declared.parts.SymbolMove.{SymbolMove}
 use Rattle.elf_writer.specs.Changes.{changed}
@@ -23,7 +23,7 @@ use Rattle.elf_writer.specs.Written.{all_changes, written}
 use Rattle.elf_writer.specs.Conditions.{has_word, is_loaded_word, PatchesLoadedWord, ArePatchesApart, HasSymbol, AreOfTwoSymbols, IsClearOf, IsAddable, IsWritable}
 use Rattle.elf_writer.proofs.ChangeLemmas.{length-changed}
 use Rattle.elf_writer.proofs.FitLemmas.{table_inside, number_within, length_written}
-use Rattle.loaded_code.proofs.WordLemmas.{same_view}
+use Rattle.loaded_file.proofs.WordLemmas.{same_view}
 
 all_three : (a b c : Bool) → a ≡ true → b ≡ true → c ≡ true → a && b && c ≡ true
 all_three a b c x y z = rw (x, y, z) refl

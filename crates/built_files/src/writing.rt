@@ -1,8 +1,8 @@
 ghost use Rattle.std.specs.Prelude.{◌≡◌, ℕ, ◌<◌, ◌≤◌, ◌*◌, ◌∷◌, [], true, false, None, Some, map, length, All};
 ghost use Rattle.elf_reader.specs.File.{IsFile, plain_view};
 ghost use Rattle.elf_reader.specs.Faults.{first_fault};
-ghost use Rattle.index_tests.specs.Tests.{lies_in, meets};
-ghost use Rattle.loaded_code.specs.Marks.{all_loaded};
+ghost use Rattle.list_checks.specs.Tests.{lies_in, meets};
+ghost use Rattle.loaded_file.specs.Marks.{all_loaded};
 ghost use Rattle.elf_writer.specs.Parts.{new_segment};
 ghost use Rattle.elf_writer.specs.Conditions.{is_loaded_word, IsAddable, IsWritable};
 
@@ -10,7 +10,7 @@ use crate::cases::{Case, numbers};
 use anyhow::{Result, bail};
 use elf_reader::{ElfView, Section, Segment, read};
 use elf_writer::{Patch, SegmentBytes, SymbolMove, write};
-use loaded_code::loaded_sections;
+use loaded_file::loaded_sections;
 use std::alloc::Global;
 
 /// The most bytes of a new segment that these tests let pass.

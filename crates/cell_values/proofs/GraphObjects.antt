@@ -6,8 +6,8 @@ use Rattle.std.proofs.lemmas.List.{get_or_past}
 use Rattle.std.proofs.lemmas.List.Folds.{list_any_at}
 use Rattle.elf_reader.specs.File.{PlainView}
 use Rattle.board_config.specs.declared.board.Board.{Board}
-use Rattle.loaded_code.specs.Records.{symbol_at}
-use Rattle.object_ranges.proofs.RangeLemmas.{extent_of}
+use Rattle.loaded_file.specs.Records.{symbol_at}
+use Rattle.loaded_file.proofs.RangeLemmas.{extent_of}
 use Rattle.movable_ranges.specs.Fixed.{is_movable}
 use Rattle.object_graph.specs.Graphs.{is_object_of, IsObjects}
 use Rattle.object_graph.specs.declared.parts.Object.{Object}

@@ -2,3 +2,15 @@ pub mod Reloads
 pub mod Immediates
 pub mod Words
 pub mod GraphObjects
+pub mod Bits
+pub mod Sums
+pub mod Lows
+pub mod Branches
+pub mod OperationWords
+pub mod ImmediateWords
+pub mod Sites
+pub mod Stores
+pub mod Loads
+pub mod Makes
+pub mod Keeps
+pub mod CellLemmas

@@ -4,3 +4,11 @@ pub mod Operations
 pub mod Comparisons
 pub mod Cells
 pub mod Laws
+pub use Rattle.cell_values.specs.Objects
+pub use Rattle.cell_values.specs.Operations
+pub use Rattle.cell_values.specs.Cells
+pub use Rattle.cell_values.specs.Laws as CellLaws
+pub mod Makers
+pub mod Stands
+pub mod WordLaws
+pub mod Stored

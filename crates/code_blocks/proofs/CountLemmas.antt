@@ -9,7 +9,7 @@ use Rattle.std.proofs.lemmas.List.Folds.{list_any_none}
 use Rattle.code_leaders.specs.Early.{has}
 use Rattle.elf_reader.specs.File.{plain_view}
 use Rattle.elf_reader.specs.declared.view.ElfView.{ElfView}
-use Rattle.loaded_code.specs.Read.{IsRead}
+use Rattle.loaded_file.specs.Read.{IsRead}
 use Rattle.code_leaders.specs.Leaders.{is_leader}
 use Rattle.code_leaders.specs.AllLeaders.{IsLeaders}
 use Rattle.code_leaders.specs.declared.lists.Leaders.{Leaders}

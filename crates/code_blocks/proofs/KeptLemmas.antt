@@ -7,10 +7,10 @@ use Rattle.std.proofs.lemmas.List.{map-append, length-map, length_push, get_or-m
 use Rattle.std.proofs.lemmas.List.Elements.{All-nil, All-push}
 use Rattle.std.proofs.lemmas.List.Quantifiers.{all_pairs_push}
 use Rattle.std.proofs.lemmas.List.Folds.{list_any-append}
-use Rattle.index_tests.specs.Tests.{meets}
-use Rattle.index_tests.proofs.TestLemmas.{both}
+use Rattle.list_checks.specs.Tests.{meets}
+use Rattle.list_checks.proofs.TestLemmas.{both}
 use Rattle.elf_reader.specs.File.{PlainView}
-use Rattle.loaded_code.specs.Records.{symbol_at}
+use Rattle.loaded_file.specs.Records.{symbol_at}
 use Rattle.code_leaders.specs.Early.{has}
 use Rattle.code_blocks.specs.Functions.{comes_before, functions_meet, keeps_out}
 use Rattle.code_blocks.specs.Blocks.{name_of, IsFunction}

@@ -5,9 +5,9 @@ use Rattle.std.proofs.lemmas.Bool.{eqb-true, eq-eqb, ltb-true, leb-true, cases_l
 use Rattle.std.proofs.lemmas.Bool.Decides.{nat_tests}
 use Rattle.std.proofs.lemmas.List.{length-map, get_or-map}
 use Rattle.std.proofs.lemmas.List.Kept.{AllPairs-from_increasing}
-use Rattle.fault_order.proofs.FirstLemmas.{both_none, holds}
-use Rattle.index_tests.specs.Tests.{any_below, lies_in}
-use Rattle.index_tests.proofs.TestLemmas.{both, same_tests, any_found, any_at}
+use Rattle.list_checks.proofs.FirstLemmas.{both_none, holds}
+use Rattle.list_checks.specs.Tests.{any_below, lies_in}
+use Rattle.list_checks.proofs.TestLemmas.{both, same_tests, any_found, any_at}
 use Rattle.elf_reader.specs.Layout.{section_header}
 use Rattle.elf_reader.specs.Sections.{symbol_table, symbol_count_of}
 use Rattle.elf_reader.specs.HeaderChecks.{header_fault}
@@ -17,10 +17,10 @@ use Rattle.elf_reader.specs.SymbolChecks.{one_table_fault, symbol_size_fault, sh
 use Rattle.elf_reader.specs.File.{PlainSection, PlainView, plain_section, plain_symbol, plain_view, symbol_of, symbols_below, symbols_in}
 use Rattle.elf_reader.specs.Loaded.{no_section, section_at}
 use Rattle.elf_reader.specs.declared.view.ElfView.{ElfView}
-use Rattle.loaded_code.specs.Code.{is_code_range}
-use Rattle.loaded_code.specs.Records.{symbol_at}
-use Rattle.loaded_code.specs.Read.{IsRead}
-use Rattle.loaded_code.proofs.WordLemmas.{range_ends, lies_to}
+use Rattle.loaded_file.specs.Code.{is_code_range}
+use Rattle.loaded_file.specs.Records.{symbol_at}
+use Rattle.loaded_file.specs.Read.{IsRead}
+use Rattle.loaded_file.proofs.WordLemmas.{range_ends, lies_to}
 use Rattle.code_leaders.specs.Early.{has}
 use Rattle.code_leaders.proofs.LeaderLemmas.{both_pass}
 use Rattle.code_blocks.specs.Functions.{lies_in_range, is_function, comes_before}

@@ -3,7 +3,7 @@ use Rattle.std.proofs.Common.{◌≡◌, ◌∙◌, inl, inr, ℕ, ◌<◌, ◌=
 use Rattle.std.specs.List.{list_any}
 use Rattle.std.proofs.lemmas.Bool.{eqb-true, eq-eqb}
 use Rattle.std.proofs.lemmas.List.Folds.{list_any_at}
-use Rattle.index_tests.proofs.TestLemmas.{either}
+use Rattle.list_checks.proofs.TestLemmas.{either}
 use Rattle.code_leaders.specs.Early.{has}
 
 -- a list passes a test where the list that it is made from passes the test of what is made

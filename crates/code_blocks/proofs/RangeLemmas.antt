@@ -2,17 +2,17 @@
 use Rattle.std.proofs.Common.{◌≡◌, ◌∙◌, ℕ, zero, suc, ◌+◌, ◌*◌, ◌-◌, ◌/◌, ◌%◌, ◌<◌, ◌≤◌, ◌==◌, Bool, true, false, not, length, slice_index_or, Some, None, refl, sym, ap, subst, arith}
 use Rattle.std.proofs.lemmas.Bool.Decides.{nat_tests}
 use Rattle.std.proofs.lemmas.List.{get_or-map}
-use Rattle.fault_order.specs.First.{unless, first_below}
-use Rattle.fault_order.proofs.FirstLemmas.{both_none, first_found}
-use Rattle.index_tests.specs.Tests.{any_below, lies_in}
-use Rattle.index_tests.proofs.TestLemmas.{both, any_found}
+use Rattle.list_checks.specs.First.{unless, first_below}
+use Rattle.list_checks.proofs.FirstLemmas.{both_none, first_found}
+use Rattle.list_checks.specs.Tests.{any_below, lies_in}
+use Rattle.list_checks.proofs.TestLemmas.{both, any_found}
 use Rattle.elf_reader.specs.File.{PlainSection, PlainView, plain_section, plain_view}
 use Rattle.elf_reader.specs.Loaded.{no_section, section_at}
 use Rattle.elf_reader.specs.declared.view.ElfView.{ElfView}
 use Rattle.elf_reader.specs.declared.view.Section.{Section}
-use Rattle.loaded_code.specs.Code.{is_code_range, holds_code, is_code_word}
-use Rattle.loaded_code.specs.Read.{IsRead}
-use Rattle.loaded_code.proofs.WordLemmas.{word_fits, range_below, range_ends, lies_from, lies_to}
+use Rattle.loaded_file.specs.Code.{is_code_range, holds_code, is_code_word}
+use Rattle.loaded_file.specs.Read.{IsRead}
+use Rattle.loaded_file.proofs.WordLemmas.{word_fits, range_below, range_ends, lies_from, lies_to}
 use Rattle.code_leaders.proofs.LeaderLemmas.{both_pass}
 use Rattle.code_blocks.specs.Ends.{range_at}
 

@@ -4,9 +4,9 @@ use Rattle.std.specs.List.{All}
 use Rattle.std.proofs.lemmas.List.{map-append}
 use Rattle.std.proofs.lemmas.List.Elements.{All-nil, All-push}
 use Rattle.rv_decode.specs.Table.{Means, MeansNothing}
-use Rattle.fault_order.specs.First.{◌or_else◌, first_below}
+use Rattle.list_checks.specs.First.{◌or_else◌, first_below}
 use Rattle.elf_reader.specs.File.{PlainView}
-use Rattle.loaded_code.specs.Code.{image_word}
+use Rattle.loaded_file.specs.Code.{image_word}
 use Rattle.code_leaders.specs.Words.{is_branch, is_jal, is_jalr, branch_target}
 use Rattle.code_leaders.specs.Meanings.{is_ebreak, has_meaning}
 use Rattle.code_leaders.specs.Leaders.{is_call_pair, is_leader}

@@ -5,8 +5,8 @@ use Rattle.std.proofs.lemmas.Bool.{cases_Bool}
 use Rattle.std.proofs.lemmas.List.{length-map, get_or-map, get_or-take, length-take-le, take-map, take_more}
 use Rattle.elf_reader.specs.File.{PlainView, plain_symbol, plain_view}
 use Rattle.elf_reader.specs.declared.view.ElfView.{ElfView}
-use Rattle.loaded_code.specs.Records.{symbol_at}
-use Rattle.loaded_code.specs.Read.{IsRead}
+use Rattle.loaded_file.specs.Records.{symbol_at}
+use Rattle.loaded_file.specs.Read.{IsRead}
 use Rattle.code_leaders.specs.Early.{has}
 use Rattle.code_leaders.proofs.SearchLemmas.{has_found}
 use Rattle.code_blocks.specs.Functions.{comes_before, keeps_out}

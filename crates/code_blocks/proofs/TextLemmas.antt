@@ -1,12 +1,12 @@
 -- A code range has a word just where its first word lies inside it.
 use Rattle.std.proofs.Common.{◌≡◌, ◌∙◌, ℕ, ◌+◌, ◌*◌, ◌/◌, ◌≤◌, Bool, true, ◌&&◌, refl, sym, ap, arith}
 use Rattle.std.proofs.lemmas.Bool.Decides.{nat_tests}
-use Rattle.index_tests.specs.Tests.{any_below, lies_in}
-use Rattle.index_tests.proofs.TestLemmas.{both, same_tests, any_found, any_at}
+use Rattle.list_checks.specs.Tests.{any_below, lies_in}
+use Rattle.list_checks.proofs.TestLemmas.{both, same_tests, any_found, any_at}
 use Rattle.elf_reader.specs.File.{PlainSection, PlainView}
 use Rattle.elf_reader.specs.Loaded.{section_at}
-use Rattle.loaded_code.specs.Code.{is_code_range}
-use Rattle.loaded_code.proofs.WordLemmas.{lies_to}
+use Rattle.loaded_file.specs.Code.{is_code_range}
+use Rattle.loaded_file.proofs.WordLemmas.{lies_to}
 use Rattle.code_leaders.specs.Words.{first_word, code_word, passes_at, passes_in}
 use Rattle.code_leaders.proofs.LeaderLemmas.{both_pass}
 use Rattle.code_blocks.specs.Blocks.{is_any}

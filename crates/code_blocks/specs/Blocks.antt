@@ -2,11 +2,11 @@
 use Rattle.std.specs.Prelude.{◌≡◌, ℕ, zero, suc, ◌+◌, ◌<◌, nat_le, nat_lt, min, Bool, true, false, not, ◌&&◌, ◌||◌, if◌then◌else◌, List, [], ◌∷◌, map, length, slice_index_or, Option, MatchOption}
 use Rattle.std.specs.List.{All, list_any}
 use Rattle.std.specs.List.Sorted.{IsStrictlyIncreasing}
-use Rattle.fault_order.specs.First.{◌or_else◌, unless}
+use Rattle.list_checks.specs.First.{◌or_else◌, unless}
 use Rattle.rv_decode.specs.Table.{Means, MeansNothing}
 use Rattle.elf_reader.specs.File.{PlainView}
-use Rattle.loaded_code.specs.Code.{is_code_word, image_word}
-use Rattle.loaded_code.specs.Records.{symbol_at}
+use Rattle.loaded_file.specs.Code.{is_code_word, image_word}
+use Rattle.loaded_file.specs.Records.{symbol_at}
 use Rattle.code_leaders.specs.Words.{is_branch, is_jal, is_jalr, any_code_word}
 use Rattle.code_leaders.specs.Meanings.{is_ebreak, has_meaning}
 use Rattle.code_leaders.specs.Leaders.{is_call_pair, is_leader, is_indirect}

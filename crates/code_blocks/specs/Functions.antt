@@ -1,11 +1,11 @@
 -- The functions of a program's code: of those that overlap, the first and largest.
 use Rattle.std.specs.Prelude.{◌≡◌, ℕ, ◌==◌, nat_lt, Bool, true, not, ◌&&◌, ◌||◌, List, length}
 use Rattle.std.specs.List.{AllPairs, list_any}
-use Rattle.index_tests.specs.Tests.{any_below, lies_in, meets}
+use Rattle.list_checks.specs.Tests.{any_below, lies_in, meets}
 use Rattle.elf_reader.specs.File.{PlainView}
 use Rattle.elf_reader.specs.Loaded.{section_at}
-use Rattle.loaded_code.specs.Code.{is_code_range}
-use Rattle.loaded_code.specs.Records.{symbol_at}
+use Rattle.loaded_file.specs.Code.{is_code_range}
+use Rattle.loaded_file.specs.Records.{symbol_at}
 use Rattle.code_leaders.specs.Early.{has}
 
 -- the whole range of symbol `k` lies in code range `j`

@@ -1,9 +1,9 @@
-pub use Rattle.fault_order.specs.First
+pub use Rattle.list_checks.specs.First
 pub use Rattle.rv_decode.specs.Table
 pub use Rattle.elf_reader.specs.Loaded
-pub use Rattle.loaded_code.specs.Code
-pub use Rattle.loaded_code.specs.Records
-pub use Rattle.loaded_code.specs.Read
+pub use Rattle.loaded_file.specs.Code
+pub use Rattle.loaded_file.specs.Records
+pub use Rattle.loaded_file.specs.Read
 pub use Rattle.code_leaders.specs.Words
 pub use Rattle.code_leaders.specs.Meanings
 pub use Rattle.code_leaders.specs.Leaders

@@ -1,9 +1,9 @@
 -- How a block ends behind one of its units, and what a walk through a block finds.
 use Rattle.std.specs.Prelude.{◌≡◌, ℕ, ◌+◌, if◌then◌else◌, map, Option, Some, None}
 use Rattle.std.specs.List.{All}
-use Rattle.fault_order.specs.First.{◌or_else◌}
+use Rattle.list_checks.specs.First.{◌or_else◌}
 use Rattle.elf_reader.specs.File.{PlainView}
-use Rattle.loaded_code.specs.Code.{image_word}
+use Rattle.loaded_file.specs.Code.{image_word}
 use Rattle.code_leaders.specs.Meanings.{has_meaning}
 use Rattle.code_leaders.specs.Leaders.{is_leader}
 use Rattle.code_blocks.specs.Ends.{jump_end, end_from}

@@ -1,10 +1,10 @@
 ghost use Rattle.std.specs.Prelude.{◌≡◌, ◌^◌, ◌<◌, nat_le, min, length, map, IfOk};
 ghost use Rattle.std.specs.List.{All};
-ghost use Rattle.fault_order.specs.First.{◌or_else◌, unless, Tells, TellsUnless};
+ghost use Rattle.list_checks.specs.First.{◌or_else◌, unless, Tells, TellsUnless};
 ghost use Rattle.elf_reader.specs.File.{plain_view};
-ghost use Rattle.loaded_code.specs.Marks.{all_loaded};
-ghost use Rattle.loaded_code.specs.Code.{is_code_word};
-ghost use Rattle.loaded_code.specs.Read.{IsRead};
+ghost use Rattle.loaded_file.specs.Marks.{all_loaded};
+ghost use Rattle.loaded_file.specs.Code.{is_code_word};
+ghost use Rattle.loaded_file.specs.Read.{IsRead};
 ghost use Rattle.code_leaders.specs.Words.{any_code_word};
 ghost use Rattle.code_leaders.specs.AllLeaders.{IsLeaders};
 ghost use Rattle.code_blocks.specs.Blocks.{start_of, IsBlock, IsCode, is_any, block_count, code_fault};
@@ -17,7 +17,7 @@ use crate::texts::has_text;
 use crate::walking::walk_from;
 use code_leaders::{Leaders, leaders};
 use elf_reader::ElfView;
-use loaded_code::{is_code_word, loaded_sections};
+use loaded_file::{is_code_word, loaded_sections};
 use std::alloc::{AllocError, Global};
 
 /// The most blocks that a program may have.

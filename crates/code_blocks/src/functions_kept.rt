@@ -1,9 +1,9 @@
 ghost use Rattle.std.specs.Prelude.{◌≡◌, ℕ, ◌+◌, ◌++◌, ◌∷◌, [], ◌^◌, ◌<◌, ◌≤◌, nat_lt, true, false, length, map, IfOk, MatchOption, slice_index_or};
 ghost use Rattle.std.specs.List.{All, list_any};
 ghost use Rattle.elf_reader.specs.File.{plain_view};
-ghost use Rattle.loaded_code.specs.Marks.{all_loaded};
-ghost use Rattle.loaded_code.specs.Records.{symbol_at};
-ghost use Rattle.loaded_code.specs.Read.{IsRead};
+ghost use Rattle.loaded_file.specs.Marks.{all_loaded};
+ghost use Rattle.loaded_file.specs.Records.{symbol_at};
+ghost use Rattle.loaded_file.specs.Read.{IsRead};
 ghost use Rattle.code_blocks.specs.Blocks.{IsFunction, IsFunctionOf, name_of};
 ghost use Rattle.code_blocks.specs.Kept.{name_in, AreKeys, AreKept, AreApart};
 

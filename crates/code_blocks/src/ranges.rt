@@ -1,15 +1,15 @@
 ghost use Rattle.std.specs.Prelude.{◌≡◌, ℕ, ◌+◌, ◌-◌, ◌/◌, true, false, length, MatchOption};
-ghost use Rattle.index_tests.specs.Tests.{any_below};
-ghost use Rattle.fault_order.specs.First.{first_below};
+ghost use Rattle.list_checks.specs.Tests.{any_below};
+ghost use Rattle.list_checks.specs.First.{first_below};
 ghost use Rattle.elf_reader.specs.File.{plain_view};
 ghost use Rattle.elf_reader.specs.Loaded.{section_at};
-ghost use Rattle.loaded_code.specs.Marks.{all_loaded};
-ghost use Rattle.loaded_code.specs.Code.{holds_code, is_code_word, image_word};
-ghost use Rattle.loaded_code.specs.Read.{IsRead};
+ghost use Rattle.loaded_file.specs.Marks.{all_loaded};
+ghost use Rattle.loaded_file.specs.Code.{holds_code, is_code_word, image_word};
+ghost use Rattle.loaded_file.specs.Read.{IsRead};
 ghost use Rattle.code_blocks.specs.Ends.{range_at};
 
 use elf_reader::ElfView;
-use loaded_code::{holds_code, word_in};
+use loaded_file::{holds_code, word_in};
 
 /// The lowest code range that holds the word at `address`.
 pub(crate) fn lowest_range(view: &ElfView, loaded: &[bool], address: u32) -> Option<usize>

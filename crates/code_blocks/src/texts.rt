@@ -1,12 +1,12 @@
 ghost use Rattle.std.specs.Prelude.{◌≡◌, ◌+◌, ◌*◌, ◌/◌, ◌<◌, length};
-ghost use Rattle.index_tests.specs.Tests.{lies_in};
+ghost use Rattle.list_checks.specs.Tests.{lies_in};
 ghost use Rattle.elf_reader.specs.File.{plain_view};
-ghost use Rattle.loaded_code.specs.Marks.{all_loaded};
+ghost use Rattle.loaded_file.specs.Marks.{all_loaded};
 ghost use Rattle.code_leaders.specs.Words.{passes_in, any_code_word};
 ghost use Rattle.code_blocks.specs.Blocks.{is_any};
 
 use elf_reader::{ElfView, Section};
-use loaded_code::is_code_range;
+use loaded_file::is_code_range;
 
 /// Whether some code range has a word.
 pub(crate) fn has_text(view: &ElfView, loaded: &[bool]) -> bool

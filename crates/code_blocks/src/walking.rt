@@ -2,9 +2,9 @@ ghost use Rattle.std.specs.Prelude.{◌≡◌, ℕ, ◌+◌, ◌-◌, ◌/◌, �
 ghost use Rattle.std.specs.List.{All};
 ghost use Rattle.elf_reader.specs.File.{plain_view};
 ghost use Rattle.elf_reader.specs.Loaded.{section_at};
-ghost use Rattle.loaded_code.specs.Marks.{all_loaded};
-ghost use Rattle.loaded_code.specs.Code.{holds_code};
-ghost use Rattle.loaded_code.specs.Read.{IsRead};
+ghost use Rattle.loaded_file.specs.Marks.{all_loaded};
+ghost use Rattle.loaded_file.specs.Code.{holds_code};
+ghost use Rattle.loaded_file.specs.Read.{IsRead};
 ghost use Rattle.code_leaders.specs.AllLeaders.{IsLeaders};
 ghost use Rattle.code_blocks.specs.Ends.{words_left};
 ghost use Rattle.code_blocks.specs.Steps.{IsWalk};
@@ -15,7 +15,7 @@ use crate::ranges::{lowest_range, words_from};
 use crate::steps::{end_behind, unit_at};
 use code_leaders::Leaders;
 use elf_reader::ElfView;
-use loaded_code::word_in;
+use loaded_file::word_in;
 use std::alloc::{AllocError, Global};
 
 /// What a walk through the words of a block finds.

@@ -5,11 +5,11 @@ use Rattle.std.proofs.lemmas.Bool.{eqb-true}
 use Rattle.std.specs.Cmp.{nat_eq_equiv}
 use Rattle.std.proofs.lemmas.List.Kept.{Contains-dedup_nat, Contains-from_dedup}
 use Rattle.std.proofs.lemmas.Map.Views.{Contains-from_any, list_any-from_Contains}
-use Rattle.index_tests.proofs.TestLemmas.{same_tests}
-use Rattle.index_tests.specs.Tests.{any_below, lies_in}
+use Rattle.list_checks.proofs.TestLemmas.{same_tests}
+use Rattle.list_checks.specs.Tests.{any_below, lies_in}
 use Rattle.elf_reader.specs.File.{PlainView}
 use Rattle.elf_reader.specs.Loaded.{section_at}
-use Rattle.loaded_code.specs.Code.{is_code_range, is_code_word}
+use Rattle.loaded_file.specs.Code.{is_code_range, is_code_word}
 use Rattle.code_leaders.specs.Words.{code_word, passes_at, passes_in, any_code_word}
 use Rattle.code_leaders.specs.Leaders.{is_named, goes_to, comes_back, is_early}
 use Rattle.code_leaders.specs.Early.{has, flows_to}

@@ -1,10 +1,10 @@
 -- The rules of leaders, from one stratum to the next.
 use Rattle.std.proofs.Common.{◌≡◌, inl, inr, ℕ, ◌+◌, ◌/◌, ◌==◌, Bool, true, false, ◌&&◌, ◌||◌, length, refl}
-use Rattle.index_tests.specs.Tests.{any_below, lies_in}
-use Rattle.index_tests.proofs.TestLemmas.{either, both, any_found, any_at}
+use Rattle.list_checks.specs.Tests.{any_below, lies_in}
+use Rattle.list_checks.proofs.TestLemmas.{either, both, any_found, any_at}
 use Rattle.elf_reader.specs.File.{PlainView}
 use Rattle.elf_reader.specs.Loaded.{section_at}
-use Rattle.loaded_code.specs.Code.{is_code_range, is_code_word, image_word}
+use Rattle.loaded_file.specs.Code.{is_code_range, is_code_word, image_word}
 use Rattle.code_leaders.specs.Words.{is_jal, is_jalr, links, code_word, passes_at, passes_in, any_code_word}
 use Rattle.code_leaders.specs.Leaders.{is_named, goes_to, comes_back, is_early, pair_goes_to, pair_comes_back, is_leader, link_comes_back, is_indirect}
 

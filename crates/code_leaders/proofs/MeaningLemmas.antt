@@ -3,7 +3,7 @@ use Rattle.std.proofs.Common.{◌≡◌, ◌⊎◌, inl, inr, ℕ, zero, suc, �
 use Rattle.std.specs.Option.{is_some, MatchOption}
 use Rattle.std.proofs.lemmas.Bool.{eqb-true, ltb-true, both_ways, cases_Bool}
 use Rattle.std.proofs.lemmas.Grind.{common_steps}
-use Rattle.index_tests.proofs.TestLemmas.{either, both}
+use Rattle.list_checks.proofs.TestLemmas.{either, both}
 use Rattle.rv_decode.specs.Fields.{opcode_of, rd_of, funct3_of, rs1_of, rs2_of, funct7_of, u_immediate, i_immediate, s_immediate, b_immediate, j_immediate, fence_bits_of}
 use Rattle.rv_decode.specs.Table.{Means, MeansNothing, HasImm, imm_funct3, branch_funct3, load_funct3, store_funct3, reg_funct3, reg_funct7}
 use Rattle.rv_decode.specs.declared.instructions.Instr.{Instr}

@@ -4,15 +4,15 @@ use Rattle.std.specs.List.{list_any}
 use Rattle.std.proofs.lemmas.Bool.{eqb-true, eq-eqb}
 use Rattle.std.proofs.lemmas.Bool.Decides.{nat_tests}
 use Rattle.std.proofs.lemmas.List.Folds.{Any-from_list_any, list_any_at, list_any-append, list_any_more}
-use Rattle.index_tests.specs.Tests.{any_below, lies_in}
-use Rattle.index_tests.proofs.TestLemmas.{both, not_true, same_tests, any_found, any_at}
+use Rattle.list_checks.specs.Tests.{any_below, lies_in}
+use Rattle.list_checks.proofs.TestLemmas.{both, not_true, same_tests, any_found, any_at}
 use Rattle.rv_decode.specs.Fields.{opcode_of, rd_of, rs1_of, funct3_of}
 use Rattle.elf_reader.specs.File.{PlainView}
 use Rattle.elf_reader.specs.Loaded.{section_at}
 use Rattle.elf_reader.specs.declared.view.Reloc.{Reloc}
-use Rattle.loaded_code.specs.Code.{is_code_range, holds_code, is_code_word, image_word}
-use Rattle.loaded_code.specs.Records.{reloc_at, counts, target, is_call_kind}
-use Rattle.loaded_code.proofs.WordLemmas.{lies_from, lies_to}
+use Rattle.loaded_file.specs.Code.{is_code_range, holds_code, is_code_word, image_word}
+use Rattle.loaded_file.specs.Records.{reloc_at, counts, target, is_call_kind}
+use Rattle.loaded_file.proofs.WordLemmas.{lies_from, lies_to}
 use Rattle.code_leaders.specs.Words.{is_jalr, is_auipc, links, pair_target, code_word, passes_at, passes_in, any_code_word}
 use Rattle.code_leaders.specs.Leaders.{is_named, is_early, calls, is_pair_of_words, is_call_by, is_call_pair, pair_goes_to, pair_comes_back, is_leader, link_comes_back, is_indirect}
 use Rattle.code_leaders.specs.Early.{has}

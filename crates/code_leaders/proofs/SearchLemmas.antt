@@ -8,7 +8,7 @@ use Rattle.std.proofs.lemmas.Grind.{get_or_default_zero}
 use Rattle.std.proofs.lemmas.List.Folds.{Any-from_list_any, list_any_at}
 use Rattle.std.proofs.lemmas.List.Kept.{AllPairs-from_increasing}
 use Rattle.std.proofs.lemmas.List.Sorted.{searched}
-use Rattle.index_tests.proofs.TestLemmas.{same_tests}
+use Rattle.list_checks.proofs.TestLemmas.{same_tests}
 use Rattle.code_leaders.specs.Early.{has}
 
 -- the place of an address that a list has

@@ -3,7 +3,7 @@ use Rattle.std.specs.Prelude.{◌≡◌, ℕ, ◌+◌, ◌<◌, true, false}
 use Rattle.rv_decode.specs.Table.{Means, MeansNothing}
 use Rattle.rv_decode.specs.declared.instructions.Instr.{Instr}
 use Rattle.elf_reader.specs.File.{PlainView}
-use Rattle.loaded_code.specs.Code.{is_code_word}
+use Rattle.loaded_file.specs.Code.{is_code_word}
 use Rattle.code_leaders.specs.Meanings.{has_meaning}
 use Rattle.code_leaders.specs.Leaders.{is_call_pair, is_leader, is_indirect}
 

@@ -1,11 +1,11 @@
 -- Where basic blocks begin. The rules come in two strata: those that rest on no call pair, the call pairs,
 -- and those that rest on these.
 use Rattle.std.specs.Prelude.{ℕ, ◌+◌, ◌==◌, Bool, not, ◌&&◌, ◌||◌, length}
-use Rattle.index_tests.specs.Tests.{any_below}
+use Rattle.list_checks.specs.Tests.{any_below}
 use Rattle.rv_decode.specs.Fields.{rd_of, rs1_of}
 use Rattle.elf_reader.specs.File.{PlainView}
-use Rattle.loaded_code.specs.Code.{is_code_word, image_word}
-use Rattle.loaded_code.specs.Records.{symbol_at, reloc_at, counts, target, is_call_kind}
+use Rattle.loaded_file.specs.Code.{is_code_word, image_word}
+use Rattle.loaded_file.specs.Records.{symbol_at, reloc_at, counts, target, is_call_kind}
 use Rattle.code_leaders.specs.Words.{is_branch, is_jal, is_jalr, is_auipc, links, branch_target, jal_target, pair_target, any_code_word}
 
 -- symbol `k` is of a function (STT_FUNC, 2) and stands at `a`

@@ -1,11 +1,11 @@
 -- How call pairs are found, and what rests on them.
 use Rattle.std.specs.Prelude.{◌≡◌, ℕ, ◌+◌, ◌==◌, Bool, not, ◌&&◌, ◌||◌, List, length}
 use Rattle.std.specs.List.Sorted.{IsStrictlyIncreasing}
-use Rattle.index_tests.specs.Tests.{any_below}
+use Rattle.list_checks.specs.Tests.{any_below}
 use Rattle.rv_decode.specs.Fields.{rd_of, rs1_of}
 use Rattle.elf_reader.specs.File.{PlainView}
-use Rattle.loaded_code.specs.Code.{is_code_word, image_word}
-use Rattle.loaded_code.specs.Records.{counts, target, is_call_kind}
+use Rattle.loaded_file.specs.Code.{is_code_word, image_word}
+use Rattle.loaded_file.specs.Records.{counts, target, is_call_kind}
 use Rattle.elf_reader.specs.declared.view.Reloc.{Reloc}
 use Rattle.code_leaders.specs.Words.{is_jalr, is_auipc, links, pair_target}
 use Rattle.code_leaders.specs.Leaders.{is_early, calls, is_pair_of_words}

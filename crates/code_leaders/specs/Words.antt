@@ -2,11 +2,11 @@
 -- Instructions").
 use Rattle.std.specs.Prelude.{ℕ, ◌+◌, ◌*◌, ◌/◌, ◌==◌, nat_lt, Bool, not, ◌&&◌, ◌||◌, length}
 use Rattle.word_bits.specs.Words.{plus, offset}
-use Rattle.index_tests.specs.Tests.{any_below, lies_in}
+use Rattle.list_checks.specs.Tests.{any_below, lies_in}
 use Rattle.rv_decode.specs.Fields.{opcode_of, rd_of, funct3_of, u_immediate, i_immediate, b_immediate, j_immediate}
 use Rattle.elf_reader.specs.File.{PlainView}
 use Rattle.elf_reader.specs.Loaded.{section_at}
-use Rattle.loaded_code.specs.Code.{is_code_range, image_word}
+use Rattle.loaded_file.specs.Code.{is_code_range, image_word}
 
 -- BEQ, BNE, BLT, BGE, BLTU and BGEU; JAL; JALR; AUIPC
 abbrev pub is_branch : ℕ → Bool

@@ -1,18 +1,18 @@
 ghost use Rattle.std.specs.Prelude.{◌≡◌, ℕ, ◌<◌, ◌==◌, ◌&&◌, ◌||◌, length, OnOk, IfOk};
 ghost use Rattle.std.specs.List.Sorted.{IsStrictlyIncreasing};
-ghost use Rattle.index_tests.specs.Tests.{any_below};
+ghost use Rattle.list_checks.specs.Tests.{any_below};
 ghost use Rattle.elf_reader.specs.File.{plain_view};
-ghost use Rattle.loaded_code.specs.Marks.{all_loaded};
-ghost use Rattle.loaded_code.specs.Code.{is_code_word};
-ghost use Rattle.loaded_code.specs.Records.{symbol_at};
-ghost use Rattle.loaded_code.specs.Read.{IsRead};
+ghost use Rattle.loaded_file.specs.Marks.{all_loaded};
+ghost use Rattle.loaded_file.specs.Code.{is_code_word};
+ghost use Rattle.loaded_file.specs.Records.{symbol_at};
+ghost use Rattle.loaded_file.specs.Read.{IsRead};
 ghost use Rattle.code_leaders.specs.Leaders.{is_function_at, makes_no_address, makes_address, is_named, is_early};
 ghost use Rattle.code_leaders.specs.Early.{has};
 
 use crate::flow::{FlowRule, add_flow};
 use crate::search::arrange;
 use elf_reader::{ElfView, STT_FUNC};
-use loaded_code::{counts, is_code_word, target};
+use loaded_file::{counts, is_code_word, target};
 use std::alloc::{AllocError, Global};
 
 /// The addresses at which basic blocks begin by the rules that rest on no call pair, in ascending order and

@@ -1,10 +1,10 @@
 ghost use Rattle.std.specs.Prelude.{◌≡◌, ℕ, IsTrue, ◌+◌, ◌*◌, ◌^◌, ◌/◌, ◌<◌, ◌≤◌, true, false, ◌&&◌, ◌||◌, length, MatchOption, OnOk};
-ghost use Rattle.index_tests.specs.Tests.{any_below, lies_in};
+ghost use Rattle.list_checks.specs.Tests.{any_below, lies_in};
 ghost use Rattle.elf_reader.specs.File.{plain_view};
 ghost use Rattle.elf_reader.specs.Loaded.{section_at};
-ghost use Rattle.loaded_code.specs.Marks.{all_loaded};
-ghost use Rattle.loaded_code.specs.Code.{is_code_range, holds_code, is_code_word, image_word};
-ghost use Rattle.loaded_code.specs.Read.{IsRead};
+ghost use Rattle.loaded_file.specs.Marks.{all_loaded};
+ghost use Rattle.loaded_file.specs.Code.{is_code_range, holds_code, is_code_word, image_word};
+ghost use Rattle.loaded_file.specs.Read.{IsRead};
 ghost use Rattle.code_leaders.specs.Words.{is_branch, is_jal, is_jalr, links, code_word, passes_at, passes_in, any_code_word};
 ghost use Rattle.code_leaders.specs.Leaders.{goes_to, comes_back, link_comes_back};
 ghost use Rattle.code_leaders.specs.Early.{has, flows_to};
@@ -14,7 +14,7 @@ use crate::early::add_leader;
 use crate::meanings::{is_branch, is_jal, is_jalr, links};
 use crate::targets::{branch_target, jal_target};
 use elf_reader::{ElfView, Section};
-use loaded_code::{is_code_range, word_in};
+use loaded_file::{is_code_range, word_in};
 use std::alloc::AllocError;
 
 /// Which leaders the words of code make.

@@ -1,11 +1,11 @@
 // Call pairs: an AUIPC and the JALR behind it that are one call (RISC-V psABI, "Procedure Calls").
 ghost use Rattle.std.specs.Prelude.{◌≡◌, ℕ, ◌+◌, ◌^◌, ◌<◌, ◌==◌, true, false, ◌&&◌, ◌||◌, length, IfOk, MatchOption, OnOk};
-ghost use Rattle.index_tests.specs.Tests.{any_below};
+ghost use Rattle.list_checks.specs.Tests.{any_below};
 ghost use Rattle.elf_reader.specs.File.{plain_view};
-ghost use Rattle.loaded_code.specs.Marks.{all_loaded};
-ghost use Rattle.loaded_code.specs.Code.{holds_code, is_code_word, image_word};
-ghost use Rattle.loaded_code.specs.Records.{is_call_kind, counts};
-ghost use Rattle.loaded_code.specs.Read.{IsRead};
+ghost use Rattle.loaded_file.specs.Marks.{all_loaded};
+ghost use Rattle.loaded_file.specs.Code.{holds_code, is_code_word, image_word};
+ghost use Rattle.loaded_file.specs.Records.{is_call_kind, counts};
+ghost use Rattle.loaded_file.specs.Read.{IsRead};
 ghost use Rattle.code_leaders.specs.Words.{pair_target};
 ghost use Rattle.code_leaders.specs.Leaders.{is_early, calls, is_call_by, is_call_pair};
 ghost use Rattle.code_leaders.specs.Pairs.{AreThose, is_barred, fits_pair, are_code_words, may_be_pair, makes_pair};
@@ -15,7 +15,7 @@ use crate::meanings::{is_auipc, is_jalr, links};
 use crate::search::{arrange, has_address};
 use crate::targets::pair_target;
 use elf_reader::{ElfView, Reloc};
-use loaded_code::{counts, holds_code, is_code_word, target, word_in};
+use loaded_file::{counts, holds_code, is_code_word, target, word_in};
 use rv_decode::{rd, rs1};
 use std::alloc::{AllocError, Global};
 

@@ -2,9 +2,9 @@
 ghost use Rattle.std.specs.Prelude.{◌≡◌, ℕ, ◌&&◌, ◌||◌, IfOk, OnOk};
 ghost use Rattle.std.specs.List.{list_any};
 ghost use Rattle.elf_reader.specs.File.{plain_view};
-ghost use Rattle.loaded_code.specs.Marks.{all_loaded};
-ghost use Rattle.loaded_code.specs.Code.{is_code_word};
-ghost use Rattle.loaded_code.specs.Read.{IsRead};
+ghost use Rattle.loaded_file.specs.Marks.{all_loaded};
+ghost use Rattle.loaded_file.specs.Code.{is_code_word};
+ghost use Rattle.loaded_file.specs.Read.{IsRead};
 ghost use Rattle.code_leaders.specs.Leaders.{is_early, is_call_pair, is_leader, is_indirect};
 ghost use Rattle.code_leaders.specs.Early.{has};
 ghost use Rattle.code_leaders.specs.Pairs.{AreThose, leads_to, returns_to};

@@ -16,7 +16,7 @@ use Rattle.object_machine.specs.declared.events.Outcome.TheVariants.{GoesOn, Exi
 use Rattle.object_machine.specs.Program.{Program, program_of}
 use Rattle.object_machine.specs.State.{SourceState}
 use Rattle.object_machine.specs.Start.{start_of}
-use Rattle.file_at_home.specs.Laws.{program_in, source_start}
+use Rattle.result_setups.specs.HomeLaws.{program_in, source_start}
 use Rattle.compare_runner.specs.Comparing.{Judges, Tells, JudgesRun, Compares}
 use Rattle.compare_runner.specs.declared.comparing.Comparison.{Comparison}
 use Rattle.compare_runner.specs.declared.comparing.Comparison.TheVariants.{Same, Differs, SourceFault}

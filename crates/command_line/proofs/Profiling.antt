@@ -8,7 +8,7 @@ use Rattle.object_graph.specs.declared.parts.Graph.{Graph}
 use Rattle.code_blocks.specs.Blocks.{IsCode, start_of}
 use Rattle.code_blocks.specs.Numbers.{starts_of}
 use Rattle.code_blocks.specs.declared.parts.Code.{Code}
-use Rattle.file_at_home.specs.Laws.{program_in, source_start}
+use Rattle.result_setups.specs.HomeLaws.{program_in, source_start}
 use Rattle.region_former.specs.declared.table.RegionTable.{RegionTable}
 use Rattle.profile_runner.proofs.RunLemmas.{moves_steps}
 use Rattle.profile_runner.specs.declared.counts.Profile.{Profile}

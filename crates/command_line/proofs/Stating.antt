@@ -1,6 +1,6 @@
 -- A program that is relinked was run.
 use Rattle.std.proofs.Common.{ℕ, List, refl}
-use Rattle.file_at_home.specs.Laws.{program_in, source_start}
+use Rattle.result_setups.specs.HomeLaws.{program_in, source_start}
 use Rattle.profile_runner.proofs.RunLemmas.{moves_steps}
 use Rattle.relinking.specs.Runs.{RunsProgram}
 use Rattle.command_line.specs.RelinkFile.{RelinksTo}

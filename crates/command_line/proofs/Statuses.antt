@@ -1,6 +1,6 @@
 -- The statuses of what is told of inputs.
 use Rattle.std.proofs.Common.{◌≡◌, ℕ, ◌≤◌, List, Option, Some, None, option_map, subst, sym, arith}
-use Rattle.fault_order.specs.First.{◌or_else◌}
+use Rattle.list_checks.specs.First.{◌or_else◌}
 use Rattle.elf_reader.specs.Faults.{first_fault}
 use Rattle.elf_reader.specs.declared.fault.ElfFault.{ElfFault}
 use Rattle.elf_reader.specs.declared.fault.ElfFault.TheVariants as elf

@@ -1,7 +1,7 @@
 -- What each command makes of what it reads: the first fault that refuses it, or its outputs and text.
 use Rattle.std.specs.Prelude.{◌≡◌, ◌⊎◌, ℕ, List, [], ◌∷◌, ◌++◌, codes, length, Option, Some, None, option_map}
 use Rattle.std.specs.Fmt.{decimal}
-use Rattle.fault_order.specs.First.{◌or_else◌}
+use Rattle.list_checks.specs.First.{◌or_else◌}
 use Rattle.elf_reader.specs.Faults.{first_fault}
 use Rattle.elf_reader.specs.File.{entry_of, load_segments}
 use Rattle.workload_gen.specs.Built.{built}

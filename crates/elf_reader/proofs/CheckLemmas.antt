@@ -1,7 +1,7 @@
 -- Checks in a fixed order: of each section header, and one more that holds.
 use Rattle.std.proofs.Common.{◌≡◌, ℕ, ◌+◌, ◌<◌, List, Option, Some, None, subst, add-one}
-use Rattle.fault_order.specs.First.{first_below}
-use Rattle.fault_order.proofs.FirstLemmas.{first_found}
+use Rattle.list_checks.specs.First.{first_below}
+use Rattle.list_checks.proofs.FirstLemmas.{first_found}
 use Rattle.elf_reader.specs.Layout.{file_header, section_count}
 use Rattle.elf_reader.specs.declared.records.FileHeader.{FileHeader}
 

@@ -6,9 +6,9 @@ use Rattle.std.proofs.lemmas.Bool.{leb-true, eqb-true, cond_both, cases_Bool, ca
 use Rattle.std.proofs.lemmas.Bool.Decides.{nat_tests}
 use Rattle.std.proofs.lemmas.List.{get_or-take, get_or-drop}
 use Rattle.std.proofs.lemmas.List.Elements.{All-nil, All-push}
-use Rattle.index_tests.specs.Tests.{any_below, lies_in, meets}
-use Rattle.index_tests.proofs.TestLemmas.{either, both, not_true, any_found, none_at}
-use Rattle.index_tests.proofs.StepLemmas.{length_built, built_at}
+use Rattle.list_checks.specs.Tests.{any_below, lies_in, meets}
+use Rattle.list_checks.proofs.TestLemmas.{either, both, not_true, any_found, none_at}
+use Rattle.list_checks.proofs.StepLemmas.{length_built, built_at}
 use Rattle.elf_reader.specs.Layout.{program_header_count, program_header, section_count, section_header}
 use Rattle.elf_reader.specs.Sections.{bit_of, stands_in_file}
 use Rattle.elf_reader.specs.File.{PlainSegment, PlainSection, PlainView, view_in, is_load, segment_of, segments_below, load_segments, section_of, sections_below}
@@ -19,7 +19,7 @@ use Rattle.elf_reader.specs.Loadable.{HasSegment, HasSegments, AreApart}
 use Rattle.elf_reader.specs.Loaded.{no_section, section_at, no_segment, segment_at, meets_headers, meets_section, meets_segment, has_own_bytes, is_filled, is_zeroed, loads, is_loaded, LoadedBytes}
 use Rattle.elf_reader.specs.declared.records.ProgramHeader.{ProgramHeader}
 use Rattle.elf_reader.proofs.SegmentLemmas.{segments_held, none_of_headers, load_segments_apart}
-use Rattle.fault_order.proofs.FirstLemmas.{both_none}
+use Rattle.list_checks.proofs.FirstLemmas.{both_none}
 
 -- a byte of a range of the file
 pub byte_of_range : (file : List ℕ) (start size i : ℕ) → i < size → slice_index (slice_range file start (start + size)) i ≡ slice_index file (start + i)

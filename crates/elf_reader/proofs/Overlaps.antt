@@ -1,7 +1,7 @@
 -- The pairs of program headers.
 use Rattle.std.proofs.Common.{◌≡◌, ℕ, zero, suc, ◌+◌, ◌≤◌, List, None, refl, arith}
 use Rattle.std.proofs.lemmas.Bool.Decides.{nat_tests}
-use Rattle.fault_order.specs.First.{first_below}
+use Rattle.list_checks.specs.First.{first_below}
 use Rattle.elf_reader.specs.ProgramHeaderChecks.{pair_fault}
 
 -- no pair has its higher program header at or below the lower one

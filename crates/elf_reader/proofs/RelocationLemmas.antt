@@ -2,8 +2,8 @@
 -- in which no check fails.
 use Rattle.std.proofs.Common.{◌≡◌, ◌⊎◌, inl, inr, ℕ, zero, suc, ◌+◌, ◌*◌, ◌/◌, ◌<◌, ◌≤◌, nat_lt, Bool, true, false, not, IsTrue, List, length, None, refl, arith, if◌then◌else◌}
 use Rattle.std.proofs.lemmas.Bool.{ltb-true, leb-true, eqb-true}
-use Rattle.index_tests.proofs.TestLemmas.{both}
-use Rattle.fault_order.proofs.FirstLemmas.{both_none, none_at, holds}
+use Rattle.list_checks.proofs.TestLemmas.{both}
+use Rattle.list_checks.proofs.FirstLemmas.{both_none, none_at, holds}
 use Rattle.elf_reader.specs.Layout.{section_count, section_header, relocation_record}
 use Rattle.elf_reader.specs.Sections.{stands_in_file, is_allocated, is_rela, is_relocation_section, names_section, is_read, relocation_count_at, relocation_count_below, relocation_count, symbol_count, symbol_of_info, kind_of_info}
 use Rattle.elf_reader.specs.RelocationChecks.{rels_fault, relas_fault, relocation_limit_fault, is_supported, relocation_fault, section_relocations_fault, relocations_fault}

@@ -10,7 +10,7 @@ use Rattle.elf_reader.specs.ProgramHeaderChecks.{program_headers_fault}
 use Rattle.elf_reader.specs.Faults.{first_fault}
 use Rattle.elf_reader.specs.Placed.{HasSectionHeaders, HasContent, HasContents, HasNamesTable, HasSectionNames}
 use Rattle.elf_reader.specs.declared.records.SectionHeader.{SectionHeader}
-use Rattle.fault_order.proofs.FirstLemmas.{both_none, none_at, holds}
+use Rattle.list_checks.proofs.FirstLemmas.{both_none, none_at, holds}
 
 pub headers_held : (file : List ℕ) → header_places_fault file ≡ None → HasSectionHeaders file
 headers_held file none k below =

@@ -5,7 +5,7 @@ use Rattle.std.proofs.lemmas.Bool.Decides.{nat_tests}
 use Rattle.std.proofs.lemmas.Bool.{leb-true, cond_both}
 use Rattle.std.proofs.lemmas.List.Elements.{All-nil, All-push, All-take, All-drop}
 use Rattle.std.proofs.lemmas.List.Quantifiers.{all_pairs_push}
-use Rattle.index_tests.specs.Tests.{meets}
+use Rattle.list_checks.specs.Tests.{meets}
 use Rattle.elf_reader.specs.Layout.{program_header_count, program_header}
 use Rattle.elf_reader.specs.File.{PlainSegment, is_load, segment_of, segments_below, load_segments}
 use Rattle.elf_reader.specs.HeaderChecks.{header_fault}
@@ -14,7 +14,7 @@ use Rattle.elf_reader.specs.Faults.{first_fault}
 use Rattle.elf_reader.specs.declared.fault.ElfFault.TheVariants.{Overlap}
 use Rattle.elf_reader.specs.Loadable.{HasSegment, HasSegments, IsByte, AreBytes, IsLoadable, AreLoadable, IsApart, AreApart}
 use Rattle.elf_reader.specs.declared.records.ProgramHeader.{ProgramHeader}
-use Rattle.fault_order.proofs.FirstLemmas.{both_none, none_at, holds}
+use Rattle.list_checks.proofs.FirstLemmas.{both_none, none_at, holds}
 
 -- the segment of a program header without a fault
 pub segment_held : (size k : ℕ) (p : ProgramHeader) → load_fault size k p ≡ None → HasSegment size p

@@ -1,10 +1,10 @@
 -- The symbol table of a file in which no check fails.
 use Rattle.std.proofs.Common.{◌≡◌, ◌⊎◌, inl, inr, ℕ, zero, suc, ◌+◌, ◌*◌, ◌<◌, ◌≤◌, nat_lt, Bool, true, false, not, ◌&&◌, IsTrue, List, length, Option, Some, None, refl, arith}
 use Rattle.std.proofs.lemmas.Bool.{ltb-true, eqb-true}
-use Rattle.index_tests.specs.Tests.{any_below}
-use Rattle.index_tests.proofs.TestLemmas.{both, not_true, any_at}
-use Rattle.fault_order.specs.First.{◌or_else◌, unless}
-use Rattle.fault_order.proofs.FirstLemmas.{both_none, none_at, holds}
+use Rattle.list_checks.specs.Tests.{any_below}
+use Rattle.list_checks.proofs.TestLemmas.{both, not_true, any_at}
+use Rattle.list_checks.specs.First.{◌or_else◌, unless}
+use Rattle.list_checks.proofs.FirstLemmas.{both_none, none_at, holds}
 use Rattle.elf_reader.specs.Layout.{section_count, section_header, symbol_record}
 use Rattle.elf_reader.specs.Sections.{stands_in_file, names_section, has_name, is_table_at, table_at, symbol_table_below, symbol_table, symbol_count_of, symbol_names}
 use Rattle.elf_reader.specs.SymbolChecks.{second_table_fault, one_table_fault, symbol_size_fault, shared_table_fault, symbol_strings_fault, symbol_limit_fault, has_section, symbol_fault, symbol_table_fault, found_table_fault, symbols_fault}

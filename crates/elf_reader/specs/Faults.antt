@@ -1,6 +1,6 @@
 -- The checks of an ELF file, in their order.
 use Rattle.std.specs.Prelude.{ℕ, List, Option}
-use Rattle.fault_order.specs.First.{◌or_else◌}
+use Rattle.list_checks.specs.First.{◌or_else◌}
 use Rattle.elf_reader.specs.HeaderChecks.{header_fault}
 use Rattle.elf_reader.specs.ProgramHeaderChecks.{program_headers_fault}
 use Rattle.elf_reader.specs.SectionChecks.{sections_fault}

@@ -1,6 +1,6 @@
 -- The checks of the ELF header, each with the fault that it tells, and their order.
 use Rattle.std.specs.Prelude.{ℕ, min, ◌==◌, nat_le, not, ◌||◌, List, length, slice_index, Option}
-use Rattle.fault_order.specs.First.{◌or_else◌, unless}
+use Rattle.list_checks.specs.First.{◌or_else◌, unless}
 use Rattle.elf_reader.specs.Layout.{file_header}
 use Rattle.elf_reader.specs.Sections.{bit_of}
 use Rattle.elf_reader.specs.declared.fault.ElfFault.{ElfFault}

@@ -1,7 +1,7 @@
-pub use Rattle.fault_order.specs.First
+pub use Rattle.list_checks.specs.First
 pub use Rattle.word_bits.specs.Words
 pub use Rattle.word_bits.specs.Memory
-pub use Rattle.index_tests.specs.Tests
+pub use Rattle.list_checks.specs.Tests
 pub mod Layout
 pub mod Sections
 pub mod Names

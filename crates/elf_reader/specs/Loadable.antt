@@ -3,7 +3,7 @@ use Rattle.std.specs.Prelude.{◌≡◌, ℕ, ◌+◌, ◌<◌, ◌≤◌, false
 use Rattle.std.specs.List.{AllPairs}
 use Rattle.elf_reader.specs.Layout.{program_header_count, program_header_at, program_header}
 use Rattle.elf_reader.specs.File.{PlainSegment, is_load}
-use Rattle.index_tests.specs.Tests.{meets}
+use Rattle.list_checks.specs.Tests.{meets}
 use Rattle.elf_reader.specs.declared.records.ProgramHeader.{ProgramHeader}
 
 -- the program header table lies inside the file

@@ -1,7 +1,7 @@
 -- Which sections are loaded: those whose bytes the segments put at the sections' addresses. All that is
 -- read or changed of a program by its sections rests on this.
 use Rattle.std.specs.Prelude.{◌≡◌, ℕ, ◌+◌, ◌*◌, ◌<◌, ◌==◌, nat_le, Bool, true, not, ◌&&◌, ◌||◌, List, [], length, slice_index, slice_index_or, None}
-use Rattle.index_tests.specs.Tests.{any_below, lies_in, meets}
+use Rattle.list_checks.specs.Tests.{any_below, lies_in, meets}
 use Rattle.elf_reader.specs.Layout.{file_header}
 use Rattle.elf_reader.specs.Sections.{bit_of, stands_in_file}
 use Rattle.elf_reader.specs.File.{PlainSegment, PlainSection, PlainView, view_in}

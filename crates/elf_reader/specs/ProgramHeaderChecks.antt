@@ -1,8 +1,8 @@
 -- The checks of the program headers and their segments, each with the fault that it tells, and their
 -- order.
 use Rattle.std.specs.Prelude.{ℕ, zero, suc, ◌+◌, ◌==◌, nat_lt, nat_le, Bool, not, ◌&&◌, ◌||◌, if◌then◌else◌, List, length, Option, None}
-use Rattle.fault_order.specs.First.{◌or_else◌, unless, first_below}
-use Rattle.index_tests.specs.Tests.{meets}
+use Rattle.list_checks.specs.First.{◌or_else◌, unless, first_below}
+use Rattle.list_checks.specs.Tests.{meets}
 use Rattle.elf_reader.specs.Layout.{program_header_count, program_header_at, program_header}
 use Rattle.elf_reader.specs.File.{is_load}
 use Rattle.elf_reader.specs.HeaderChecks.{capped}

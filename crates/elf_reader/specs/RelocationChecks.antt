@@ -1,7 +1,7 @@
 -- The checks of the relocations, each with the fault that it tells, and their order.
 use Rattle.std.specs.Prelude.{ℕ, ◌+◌, ◌==◌, nat_lt, nat_le, Bool, false, not, ◌&&◌, if◌then◌else◌, List, [], ◌∷◌, Option, Some, None}
 use Rattle.std.specs.List.{list_any}
-use Rattle.fault_order.specs.First.{◌or_else◌, unless, first_below}
+use Rattle.list_checks.specs.First.{◌or_else◌, unless, first_below}
 use Rattle.elf_reader.specs.Layout.{section_count, section_header, relocation_record}
 use Rattle.elf_reader.specs.Sections.{is_allocated, is_rel, is_relocation_section, names_section, has_entries, symbol_table, symbol_count, relocation_count_at, relocation_count_below, relocation_count, symbol_of_info, kind_of_info}
 use Rattle.elf_reader.specs.HeaderChecks.{capped}

@@ -1,8 +1,8 @@
 -- The checks of the section headers and of the sections' names, each with the fault that it tells, and
 -- their order.
 use Rattle.std.specs.Prelude.{ℕ, ◌+◌, ◌*◌, ◌==◌, nat_lt, nat_le, Bool, not, ◌&&◌, ◌||◌, if◌then◌else◌, List, length, Option, None}
-use Rattle.fault_order.specs.First.{◌or_else◌, unless, first_below}
-use Rattle.index_tests.specs.Tests.{meets}
+use Rattle.list_checks.specs.First.{◌or_else◌, unless, first_below}
+use Rattle.list_checks.specs.Tests.{meets}
 use Rattle.elf_reader.specs.Layout.{file_header, section_count, section_header_at, section_header}
 use Rattle.elf_reader.specs.Sections.{is_allocated, is_compressed, stands_in_file, is_string_table, is_rel, is_rela, names_section, has_name, section_names}
 use Rattle.elf_reader.specs.declared.fault.ElfFault.{ElfFault}

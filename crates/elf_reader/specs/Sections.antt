@@ -1,7 +1,7 @@
 -- What a section header says of its section (ELF, "Sections": sh_type and sh_flags).
 use Rattle.std.specs.Prelude.{ℕ, zero, suc, ◌+◌, ◌/◌, ◌%◌, ◌^◌, ◌==◌, nat_lt, Bool, not, ◌&&◌, ◌||◌, if◌then◌else◌, List, [], slice_range, drop, Option, Some, None}
 use Rattle.std.specs.List.{list_any, take_while}
-use Rattle.fault_order.specs.First.{unless, first_below}
+use Rattle.list_checks.specs.First.{unless, first_below}
 use Rattle.elf_reader.specs.Layout.{file_header, section_count, section_header}
 use Rattle.elf_reader.specs.declared.records.SectionHeader.{SectionHeader}
 

@@ -1,7 +1,7 @@
 -- The checks of the symbol table, each with the fault that it tells, and their order.
 use Rattle.std.specs.Prelude.{ℕ, ◌*◌, ◌==◌, nat_lt, nat_le, Bool, not, ◌&&◌, ◌||◌, List, Option, Some, None}
-use Rattle.fault_order.specs.First.{◌or_else◌, unless, first_below}
-use Rattle.index_tests.specs.Tests.{any_below, meets}
+use Rattle.list_checks.specs.First.{◌or_else◌, unless, first_below}
+use Rattle.list_checks.specs.Tests.{any_below, meets}
 use Rattle.elf_reader.specs.Layout.{file_header, section_count, section_header, symbol_record}
 use Rattle.elf_reader.specs.Sections.{is_table_at, is_string_table, stands_in_file, names_section, has_name, has_entries, symbol_table, symbol_count_of, symbol_names}
 use Rattle.elf_reader.specs.declared.fault.ElfFault.{ElfFault}

@@ -1,5 +1,5 @@
 ghost use Rattle.std.specs.Prelude.{◌≡◌, ℕ, ◌+◌, ◌*◌, ◌<◌, ◌≤◌, length, slice_index, IfOk, OnOk};
-ghost use Rattle.fault_order.specs.First.{Tells};
+ghost use Rattle.list_checks.specs.First.{Tells};
 ghost use Rattle.elf_reader.specs.Layout.{file_header};
 ghost use Rattle.elf_reader.specs.Sections.{bit_of};
 ghost use Rattle.elf_reader.specs.HeaderChecks.{size_fault, magic_byte_fault, magic_fault, identification_fault, field_fault, machine_fault, flags_fault, sizes_fault, counts_fault, fields_fault, header_fault};

@@ -1,5 +1,5 @@
 ghost use Rattle.std.specs.Prelude.{◌≡◌, ℕ, ◌+◌, ◌*◌, ◌<◌, ◌≤◌, length, OnOk};
-ghost use Rattle.fault_order.specs.First.{Tells};
+ghost use Rattle.list_checks.specs.First.{Tells};
 ghost use Rattle.elf_reader.specs.Layout.{file_header, program_header};
 ghost use Rattle.elf_reader.specs.ProgramHeaderChecks.{place_fault, table_fault, load_fault, program_fault, entry_fault, entries_fault, memory_size, memory_fault, overlaps, pair_fault, pairs_fault, overlap_fault, program_headers_fault};
 ghost use Rattle.elf_reader.specs.Loadable.{HasProgramHeaders, HasSegments};
@@ -43,7 +43,7 @@ pub(crate) fn program_header(bytes: &[u8], header: &FileHeader, k: u16) -> Progr
     )
 }
 
-#[tactic(auto, using(fault_order::proofs::FirstLemmas::first_found))]
+#[tactic(auto, using(list_checks::proofs::FirstLemmas::first_found))]
 fn check_table(bytes: &[u8], header: &FileHeader) -> Result<(), ElfFault>
     requires { header.now ≡ file_header bytes.now }
     ensures fault { Tells result (table_fault bytes.now) }
@@ -70,7 +70,7 @@ fn check_place(bytes: &[u8], header: &FileHeader, k: u16) -> Result<(), ElfFault
     }
 }
 
-#[tactic(auto, using(fault_order::proofs::FirstLemmas::first_found))]
+#[tactic(auto, using(list_checks::proofs::FirstLemmas::first_found))]
 fn check_entries(bytes: &[u8], header: &FileHeader) -> Result<(), ElfFault>
     requires header { header.now ≡ file_header bytes.now }
     requires headers { HasProgramHeaders bytes.now }
@@ -160,7 +160,7 @@ fn memory_of(program: &ProgramHeader) -> u64
     }
 }
 
-#[tactic(auto, using(fault_order::proofs::FirstLemmas::first_found))]
+#[tactic(auto, using(list_checks::proofs::FirstLemmas::first_found))]
 fn check_overlaps(bytes: &[u8], header: &FileHeader) -> Result<(), ElfFault>
     requires header { header.now ≡ file_header bytes.now }
     requires headers { HasProgramHeaders bytes.now }
@@ -172,7 +172,7 @@ fn check_overlaps(bytes: &[u8], header: &FileHeader) -> Result<(), ElfFault>
     Ok(())
 }
 
-#[tactic(auto, using(fault_order::proofs::FirstLemmas::first_found, crate::proofs::Overlaps::no_lower))]
+#[tactic(auto, using(list_checks::proofs::FirstLemmas::first_found, crate::proofs::Overlaps::no_lower))]
 fn check_pairs(bytes: &[u8], header: &FileHeader, first: u16) -> Result<(), ElfFault>
     requires header { header.now ≡ file_header bytes.now }
     requires headers { HasProgramHeaders bytes.now }

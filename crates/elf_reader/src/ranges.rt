@@ -1,5 +1,5 @@
 ghost use Rattle.std.specs.Prelude.{◌≡◌};
-ghost use Rattle.index_tests.specs.Tests.{meets};
+ghost use Rattle.list_checks.specs.Tests.{meets};
 
 /// Two ranges, each a first place and a size, share a place.
 pub(crate) fn meet(base: u32, size: u32, other_base: u32, other_size: u32) -> bool

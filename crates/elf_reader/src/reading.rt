@@ -1,5 +1,5 @@
 ghost use Rattle.std.specs.Prelude.{◌≡◌, ◌≤◌, length, IfOk};
-ghost use Rattle.fault_order.specs.First.{TellsUnless};
+ghost use Rattle.list_checks.specs.First.{TellsUnless};
 ghost use Rattle.elf_reader.specs.Faults.{first_fault};
 ghost use Rattle.elf_reader.specs.File.{IsFile, segments_of};
 ghost use Rattle.elf_reader.specs.Layout.{file_header};

@@ -1,5 +1,5 @@
 ghost use Rattle.std.specs.Prelude.{◌≡◌, ℕ, ◌+◌, ◌<◌, ◌≤◌, OnOk};
-ghost use Rattle.fault_order.specs.First.{Tells};
+ghost use Rattle.list_checks.specs.First.{Tells};
 ghost use Rattle.elf_reader.specs.Layout.{file_header};
 ghost use Rattle.elf_reader.specs.Sections.{symbol_table, symbol_count, relocation_count_at, relocation_count_below, relocation_count};
 ghost use Rattle.elf_reader.specs.RelocationChecks.{rel_fault, rels_fault, is_table_of, rela_table_fault, rela_section_fault, rela_fault, relas_fault, relocation_limit_fault, is_supported, relocation_fault_of, relocation_fault, section_relocations_fault, relocation_entries_fault, relocations_fault};
@@ -39,7 +39,7 @@ pub(crate) fn check_relocations(
     check_entries(bytes, header, symbols)
 }
 
-#[tactic(auto, using(fault_order::proofs::FirstLemmas::first_found))]
+#[tactic(auto, using(list_checks::proofs::FirstLemmas::first_found))]
 fn check_rels(bytes: &[u8], header: &FileHeader) -> Result<(), ElfFault>
     requires header { header.now ≡ file_header bytes.now }
     requires headers { HasSectionHeaders bytes.now }
@@ -178,7 +178,7 @@ fn check_limit(bytes: &[u8], header: &FileHeader) -> Result<(), ElfFault>
     Ok(())
 }
 
-#[tactic(auto, using(fault_order::proofs::FirstLemmas::first_found))]
+#[tactic(auto, using(list_checks::proofs::FirstLemmas::first_found))]
 fn check_entries(bytes: &[u8], header: &FileHeader, symbols: u32) -> Result<(), ElfFault>
     requires header { header.now ≡ file_header bytes.now }
     requires headers { HasSectionHeaders bytes.now }

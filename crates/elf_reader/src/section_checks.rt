@@ -1,5 +1,5 @@
 ghost use Rattle.std.specs.Prelude.{◌≡◌, ℕ, ◌+◌, ◌*◌, ◌<◌, ◌≤◌, nat_lt, IsTrue, length, OnOk};
-ghost use Rattle.fault_order.specs.First.{Tells};
+ghost use Rattle.list_checks.specs.First.{Tells};
 ghost use Rattle.elf_reader.specs.Layout.{file_header};
 ghost use Rattle.elf_reader.specs.Sections.{is_string_table, names_section, has_name, section_names};
 ghost use Rattle.elf_reader.specs.SectionChecks.{header_place_fault, header_places_fault, meets_file_header, table_start_fault, content_fault, section_place_fault, section_places_fault, compressed_fault_of, compressed_fault, compressed_sections_fault, loaded_relocations_fault_of, loaded_relocations_fault, section_kinds_fault, section_headers_fault, names_table_fault, section_name_fault, section_names_fault, names_fault, sections_fault};
@@ -42,7 +42,7 @@ fn check_section_headers(bytes: &[u8], header: &FileHeader) -> Result<(), ElfFau
     check_kinds(bytes, header)
 }
 
-#[tactic(auto, using(fault_order::proofs::FirstLemmas::first_found))]
+#[tactic(auto, using(list_checks::proofs::FirstLemmas::first_found))]
 fn check_table(bytes: &[u8], header: &FileHeader) -> Result<(), ElfFault>
     requires { header.now ≡ file_header bytes.now }
     ensures fault { Tells result (header_places_fault bytes.now) }
@@ -90,7 +90,7 @@ fn meets_file_header(offset: u32, size: usize) -> bool
     size > 0 && (offset as usize) < FILE_HEADER_SIZE
 }
 
-#[tactic(auto, using(fault_order::proofs::FirstLemmas::first_found))]
+#[tactic(auto, using(list_checks::proofs::FirstLemmas::first_found))]
 fn check_places(bytes: &[u8], header: &FileHeader) -> Result<(), ElfFault>
     requires header { header.now ≡ file_header bytes.now }
     requires headers { HasSectionHeaders bytes.now }
@@ -135,7 +135,7 @@ fn check_content(size: usize, k: u16, section: &SectionHeader) -> Result<(), Elf
     Ok(())
 }
 
-#[tactic(auto, using(fault_order::proofs::FirstLemmas::first_found))]
+#[tactic(auto, using(list_checks::proofs::FirstLemmas::first_found))]
 fn check_compressed(bytes: &[u8], header: &FileHeader) -> Result<(), ElfFault>
     requires header { header.now ≡ file_header bytes.now }
     requires headers { HasSectionHeaders bytes.now }
@@ -167,7 +167,7 @@ fn check_compression(k: u16, section: &SectionHeader) -> Result<(), ElfFault>
     Ok(())
 }
 
-#[tactic(auto, using(fault_order::proofs::FirstLemmas::first_found))]
+#[tactic(auto, using(list_checks::proofs::FirstLemmas::first_found))]
 fn check_kinds(bytes: &[u8], header: &FileHeader) -> Result<(), ElfFault>
     requires header { header.now ≡ file_header bytes.now }
     requires headers { HasSectionHeaders bytes.now }
@@ -233,7 +233,7 @@ fn check_names_table(bytes: &[u8], header: &FileHeader) -> Result<(), ElfFault>
     }
 }
 
-#[tactic(auto, using(fault_order::proofs::FirstLemmas::first_found))]
+#[tactic(auto, using(list_checks::proofs::FirstLemmas::first_found))]
 fn check_section_names(bytes: &[u8], header: &FileHeader) -> Result<(), ElfFault>
     requires header { header.now ≡ file_header bytes.now }
     requires headers { HasSectionHeaders bytes.now }

@@ -7,9 +7,9 @@ use Rattle.std.proofs.lemmas.Bool.{leb-true, eqb-true, cond_both, cases_lt}
 use Rattle.std.proofs.lemmas.Bool.Decides.{nat_tests}
 use Rattle.std.proofs.lemmas.List.{get_or-map, length-map}
 use Rattle.std.proofs.lemmas.List.Elements.{All-nil, All-push, All-head, All-tail}
-use Rattle.index_tests.specs.Tests.{lies_in}
-use Rattle.index_tests.proofs.TestLemmas.{both, any_found}
-use Rattle.fault_order.proofs.FirstLemmas.{both_none, none_at, holds}
+use Rattle.list_checks.specs.Tests.{lies_in}
+use Rattle.list_checks.proofs.TestLemmas.{both, any_found}
+use Rattle.list_checks.proofs.FirstLemmas.{both_none, none_at, holds}
 use Rattle.elf_reader.specs.Layout.{program_header_count, program_header_at, program_header, section_count, section_header}
 use Rattle.elf_reader.specs.Sections.{stands_in_file, symbol_table, symbol_count_of}
 use Rattle.elf_reader.specs.File.{IsFile, PlainSegment, PlainSection, PlainView, plain_symbol, plain_view, view_in, is_load, segment_of, segments_below, load_segments, section_of, symbol_of, symbols_below, symbols_in, all_symbols}
@@ -37,7 +37,7 @@ use Rattle.elf_writer.specs.Changes.{changed}
 use Rattle.elf_writer.proofs.ChangeLemmas.{length-changed}
 use Rattle.elf_writer.specs.Fits.{PatchFits, MoveFits, SegmentFits, WriteFits}
 use Rattle.elf_writer.specs.Conditions.{has_word, is_loaded_word, HasSymbol, IsAddable, IsWritable}
-use Rattle.loaded_code.proofs.WordLemmas.{same_view}
+use Rattle.loaded_file.proofs.WordLemmas.{same_view}
 
 -- a symbol of a view without its borrow
 pub symbol_in : (symbols : List Symbol) (k : ℕ) (d : Symbol) → k < length (map plain_symbol symbols) → nth_symbol (map plain_symbol symbols) k ≡ plain_symbol (get_or symbols k d)

@@ -5,7 +5,7 @@ use Rattle.std.proofs.lemmas.Bool.{cases_Bool, cases_lt, cond_both, cond-true, c
 use Rattle.std.proofs.lemmas.Bool.Decides.{nat_tests}
 use Rattle.std.proofs.lemmas.List.{get_or-map, length-map}
 use Rattle.std.proofs.lemmas.List.Elements.{All-head, All-tail, All-map}
-use Rattle.index_tests.specs.Tests.{meets}
+use Rattle.list_checks.specs.Tests.{meets}
 use Rattle.elf_reader.specs.File.{PlainSegment, PlainView, view_in}
 use Rattle.elf_reader.specs.Image.{has_byte, image_of}
 use Rattle.elf_reader.specs.Loadable.{AreApart}

@@ -2,9 +2,9 @@
 -- fails, and what else stands there: nothing that is read of the file.
 use Rattle.std.proofs.Common.{◌≡◌, ◌∙◌, ◌⊎◌, inl, inr, ℕ, ◌+◌, ◌*◌, ◌<◌, ◌≤◌, ◌==◌, Bool, true, false, not, ◌&&◌, List, length, Option, Some, None, refl, ap, subst, arith}
 use Rattle.std.proofs.lemmas.Bool.{eqb-true}
-use Rattle.index_tests.specs.Tests.{any_below, meets}
-use Rattle.index_tests.proofs.TestLemmas.{neither, not_true, none_at}
-use Rattle.fault_order.proofs.FirstLemmas.{both_none, holds}
+use Rattle.list_checks.specs.Tests.{any_below, meets}
+use Rattle.list_checks.proofs.TestLemmas.{neither, not_true, none_at}
+use Rattle.list_checks.proofs.FirstLemmas.{both_none, holds}
 use Rattle.elf_reader.specs.Layout.{file_header, section_count, section_header}
 use Rattle.elf_reader.specs.Sections.{stands_in_file, symbol_table, symbol_count_of}
 use Rattle.elf_reader.specs.File.{PlainSection, PlainView, view_in, section_of, symbols_in}
@@ -19,7 +19,7 @@ use Rattle.elf_writer.specs.declared.parts.SymbolMove.{SymbolMove}
 use Rattle.elf_writer.specs.Parts.{nth_symbol}
 use Rattle.elf_writer.specs.Conditions.{is_loaded_word, HasSymbol}
 use Rattle.elf_writer.proofs.FitLemmas.{none_of_symbols, loaded_word, length_symbols, symbol_below}
-use Rattle.fault_order.proofs.FirstLemmas.{none_at as no_check_at}
+use Rattle.list_checks.proofs.FirstLemmas.{none_at as no_check_at}
 
 -- ---- no content of a section meets the ELF header, and the section headers don't
 

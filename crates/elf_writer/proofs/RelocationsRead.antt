@@ -2,7 +2,7 @@
 use Rattle.std.proofs.Common.{◌≡◌, ◌∙◌, inl, inr, ℕ, zero, suc, ◌+◌, ◌*◌, ◌/◌, ◌<◌, ◌≤◌, nat_lt, Bool, true, false, not, ◌&&◌, List, [], ◌∷◌, ◌++◌, Option, None, refl, ap, arith, if◌then◌else◌}
 use Rattle.std.proofs.lemmas.Bool.{eqb-true, cases_lt}
 use Rattle.std.proofs.lemmas.Bool.Decides.{nat_tests}
-use Rattle.index_tests.proofs.TestLemmas.{both}
+use Rattle.list_checks.proofs.TestLemmas.{both}
 use Rattle.elf_reader.specs.Layout.{section_count, section_header, relocation_record_in, relocation_record}
 use Rattle.elf_reader.specs.Sections.{is_allocated, is_rela, is_relocation_section, names_section, is_read, relocation_count_at, symbol_of_info, kind_of_info}
 use Rattle.elf_reader.specs.File.{view_in, relocation_of, relocations_within, relocations_below, all_relocations}

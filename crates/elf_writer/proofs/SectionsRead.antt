@@ -2,7 +2,7 @@
 use Rattle.std.proofs.Common.{◌≡◌, ◌∙◌, inl, inr, ℕ, zero, suc, ◌+◌, ◌-◌, ◌*◌, ◌<◌, ◌≤◌, nat_lt, true, IsTrue, List, [], ◌∷◌, ◌++◌, map, length, Option, None, refl, sym, ap, arith}
 use Rattle.std.proofs.lemmas.Bool.{eqb-true, ltb-true, cases_Bool}
 use Rattle.std.proofs.lemmas.List.{map-append}
-use Rattle.index_tests.proofs.TestLemmas.{both}
+use Rattle.list_checks.proofs.TestLemmas.{both}
 use Rattle.elf_reader.specs.Layout.{file_header, section_count, section_header_in, section_header}
 use Rattle.elf_reader.specs.Sections.{stands_in_file, content_of, section_content, is_string_table, names_section, name_in, section_names}
 use Rattle.elf_reader.specs.File.{view_in, section_of, sections_below, all_sections}

@@ -5,7 +5,7 @@ use Rattle.std.proofs.lemmas.Bool.{cond_both, cond-true, cond-false}
 use Rattle.std.proofs.lemmas.Bool.Decides.{nat_tests}
 use Rattle.std.proofs.lemmas.List.{map-append}
 use Rattle.std.proofs.lemmas.List.Elements.{All-nil, All-head, All-tail, All-push, All-map}
-use Rattle.fault_order.proofs.FirstLemmas.{both_none}
+use Rattle.list_checks.proofs.FirstLemmas.{both_none}
 use Rattle.workload_gen.proofs.Standing.{stands_range}
 use Rattle.elf_reader.specs.Layout.{program_header_count, program_header, program_header_in}
 use Rattle.elf_reader.specs.File.{PlainSegment, view_in, is_load, segment_of, segments_at, segments_below, load_segments}

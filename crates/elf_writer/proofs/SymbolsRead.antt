@@ -4,7 +4,7 @@ use Rattle.std.specs.List.{All}
 use Rattle.std.proofs.lemmas.Bool.{eqb-true, cases_Bool, cond-true, cond-false}
 use Rattle.std.proofs.lemmas.Bool.Decides.{nat_tests}
 use Rattle.std.proofs.lemmas.List.Elements.{All-head, All-tail}
-use Rattle.fault_order.specs.First.{◌or_else◌, unless}
+use Rattle.list_checks.specs.First.{◌or_else◌, unless}
 use Rattle.word_bits.specs.Words.{half_of, word_of}
 use Rattle.workload_gen.specs.Pieces.{half_bytes, word_bytes}
 use Rattle.elf_reader.specs.Layout.{section_count, section_header, half_in, word_in, symbol_record_in, symbol_record}

@@ -2,7 +2,7 @@
 use Rattle.std.proofs.Common.{◌≡◌, ◌∙◌, ℕ, ◌+◌, ◌-◌, ◌*◌, ◌<◌, ◌≤◌, ◌==◌, Bool, true, false, not, ◌&&◌, List, [], ◌∷◌, ◌++◌, map, length, slice_range, Some, None, refl, ap, subst, arith}
 use Rattle.std.specs.List.{All}
 use Rattle.std.proofs.lemmas.List.Elements.{All-nil, All-append}
-use Rattle.index_tests.specs.Tests.{meets}
+use Rattle.list_checks.specs.Tests.{meets}
 use Rattle.workload_gen.specs.Pieces.{zero_bytes, padding}
 use Rattle.workload_gen.proofs.ByteLemmas.{length-zero_bytes}
 use Rattle.workload_gen.proofs.Standing.{Stands, stands_whole, stands_first, stands_behind, byte_there, words_there}

@@ -11,7 +11,7 @@ use Rattle.elf_writer.specs.Written.{written}
 use Rattle.elf_writer.specs.Conditions.{IsWritable, HasWords}
 use Rattle.elf_writer.specs.View.{written_view}
 use Rattle.elf_writer.specs.Laws.{WrittenReadsBack, WrittenIsFile}
-use Rattle.loaded_code.proofs.WordLemmas.{same_view}
+use Rattle.loaded_file.proofs.WordLemmas.{same_view}
 use Rattle.elf_writer.proofs.HeaderRead.{keeps_header, header_is}
 use Rattle.elf_writer.proofs.SegmentsRead.{segments_read}
 use Rattle.elf_writer.proofs.SectionsRead.{sections_read}

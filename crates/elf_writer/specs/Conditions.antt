@@ -1,7 +1,7 @@
 -- What may be written into a file.
 use Rattle.std.specs.Prelude.{◌≡◌, ◌≢◌, ◌⊎◌, ℕ, ◌+◌, ◌*◌, ◌<◌, ◌≤◌, ◌==◌, Bool, false, not, ◌&&◌, IsTrue, List, [], ◌∷◌, length, Option, Some, None, All}
 use Rattle.std.specs.List.{AllPairs}
-use Rattle.index_tests.specs.Tests.{any_below, lies_in, meets}
+use Rattle.list_checks.specs.Tests.{any_below, lies_in, meets}
 use Rattle.elf_reader.specs.File.{PlainSegment, PlainSection, PlainView}
 use Rattle.elf_reader.specs.Loaded.{section_at, is_loaded}
 use Rattle.elf_writer.specs.declared.parts.Patch.{Patch}

@@ -7,7 +7,7 @@ use Rattle.std.proofs.lemmas.Bool.Decides.{nat_tests}
 use Rattle.std.proofs.lemmas.Int.{ints}
 use Rattle.std.proofs.lemmas.List.{get_or_append_left, append-nil}
 use Rattle.std.proofs.lemmas.List.Sums.{sum_by-cons}
-use Rattle.sorted_numbers.specs.Sorted.{count_below}
+use Rattle.list_checks.specs.Sorted.{count_below}
 use Rattle.rv_decode.specs.Table.{OneInstruction}
 use Rattle.code_leaders.specs.Early.{has}
 use Rattle.placement_programme.specs.declared.variables.VarName.{VarName}

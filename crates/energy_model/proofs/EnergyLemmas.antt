@@ -3,7 +3,7 @@ use Rattle.std.proofs.Common.{◌≡◌, ◌∙◌, inl, inr, ℕ, zero, suc, �
 use Rattle.std.specs.List.{All}
 use Rattle.std.proofs.lemmas.Bool.{cases_eq, cases_lt}
 use Rattle.std.proofs.lemmas.Bool.Decides.{nat_tests}
-use Rattle.sorted_numbers.specs.Sorted.{count_below}
+use Rattle.list_checks.specs.Sorted.{count_below}
 use Rattle.rv_decode.specs.declared.instructions.Instr.{Instr}
 use Rattle.board_config.specs.declared.board.Prices.{Prices}
 use Rattle.code_leaders.specs.Early.{has}

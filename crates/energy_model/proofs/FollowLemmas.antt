@@ -11,8 +11,8 @@ use Rattle.rv_decode.specs.declared.instructions.BranchKind.TheVariants.{Beq, Bn
 use Rattle.elf_reader.specs.File.{PlainView, plain_view}
 use Rattle.elf_reader.specs.declared.view.ElfView.{ElfView}
 use Rattle.board_config.specs.declared.board.Board.{Board}
-use Rattle.loaded_code.specs.Code.{is_code_word, image_word}
-use Rattle.loaded_code.specs.Read.{IsRead}
+use Rattle.loaded_file.specs.Code.{is_code_word, image_word}
+use Rattle.loaded_file.specs.Read.{IsRead}
 use Rattle.object_graph.specs.declared.parts.Graph.{Graph}
 use Rattle.code_leaders.specs.Early.{has}
 use Rattle.code_leaders.specs.Words.{is_branch, is_jal, is_jalr}

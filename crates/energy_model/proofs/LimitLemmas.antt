@@ -4,15 +4,15 @@ use Rattle.std.proofs.lemmas.Bool.{cases_lt}
 use Rattle.std.proofs.lemmas.Bool.Decides.{nat_tests}
 use Rattle.std.proofs.lemmas.List.{length-map}
 use Rattle.std.proofs.lemmas.List.Folds.{list_any_at}
-use Rattle.fault_order.specs.First.{◌or_else◌, unless}
-use Rattle.fault_order.proofs.FirstLemmas.{both_none, holds}
-use Rattle.index_tests.specs.Tests.{any_below}
+use Rattle.list_checks.specs.First.{◌or_else◌, unless}
+use Rattle.list_checks.proofs.FirstLemmas.{both_none, holds}
+use Rattle.list_checks.specs.Tests.{any_below}
 use Rattle.elf_reader.specs.File.{PlainView, plain_view}
 use Rattle.elf_reader.specs.declared.view.ElfView.{ElfView}
-use Rattle.loaded_code.specs.Read.{IsRead}
-use Rattle.loaded_code.specs.Code.{is_code_word}
-use Rattle.loaded_code.specs.Records.{symbol_at}
-use Rattle.object_ranges.proofs.RangeLemmas.{HasExtent, extent_of}
+use Rattle.loaded_file.specs.Read.{IsRead}
+use Rattle.loaded_file.specs.Code.{is_code_word}
+use Rattle.loaded_file.specs.Records.{symbol_at}
+use Rattle.loaded_file.proofs.RangeLemmas.{HasExtent, extent_of}
 use Rattle.movable_ranges.specs.Fixed.{is_movable}
 use Rattle.board_config.specs.declared.board.Board.{Board}
 use Rattle.object_graph.specs.declared.parts.Object.{Object}

@@ -7,7 +7,7 @@ use Rattle.std.proofs.lemmas.Bool.Decides.{nat_tests}
 use Rattle.std.proofs.lemmas.List.{get_or-map, take_more}
 use Rattle.std.proofs.lemmas.List.Elements.{All-append}
 use Rattle.std.proofs.lemmas.List.Sums.{sum_by-append, sum_by-cons, sum_by-take-le}
-use Rattle.sorted_numbers.specs.Sorted.{count_below}
+use Rattle.list_checks.specs.Sorted.{count_below}
 use Rattle.placement_programme.specs.declared.variables.FullVar.{FullVar}
 use Rattle.placement_programme.specs.Plain.{PlainVar, PlainSide, PlainFullVar, PlainFullSide, plain_full_var}
 use Rattle.placement_programme.specs.Bounds.{AreWeights, IsWithinBounds, IsWithinFullBounds}

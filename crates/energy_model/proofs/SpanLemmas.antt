@@ -4,8 +4,8 @@ use Rattle.std.specs.List.{All}
 use Rattle.std.proofs.lemmas.Bool.{leb-true, cond_both}
 use Rattle.std.proofs.lemmas.Bool.Decides.{nat_tests}
 use Rattle.std.proofs.lemmas.List.Elements.{All-nil, All-push}
-use Rattle.fault_order.proofs.FirstLemmas.{both_none, holds}
-use Rattle.index_tests.specs.Tests.{lies_in}
+use Rattle.list_checks.proofs.FirstLemmas.{both_none, holds}
+use Rattle.list_checks.specs.Tests.{lies_in}
 use Rattle.elf_reader.specs.Layout.{program_header_count, program_header}
 use Rattle.elf_reader.specs.File.{PlainSegment, PlainSymbol, plain_view, is_load, segment_of, segments_below}
 use Rattle.elf_reader.specs.HeaderChecks.{capped}
@@ -18,10 +18,10 @@ use Rattle.elf_reader.proofs.SegmentLemmas.{none_of_headers}
 use Rattle.elf_reader.proofs.LoadedLemmas.{loaded_found}
 use Rattle.board_config.specs.Board.{IsGrain, IsLawful}
 use Rattle.board_config.specs.declared.board.Board.{Board}
-use Rattle.loaded_code.specs.Read.{IsRead}
-use Rattle.loaded_code.specs.Records.{symbol_at}
-use Rattle.object_ranges.specs.Ranges.{owner_of}
-use Rattle.object_ranges.proofs.RangeLemmas.{IsOf}
+use Rattle.loaded_file.specs.Read.{IsRead}
+use Rattle.loaded_file.specs.Records.{symbol_at}
+use Rattle.loaded_file.specs.Ranges.{owner_of}
+use Rattle.loaded_file.proofs.RangeLemmas.{IsOf}
 use Rattle.object_graph.specs.declared.parts.Graph.{Graph}
 use Rattle.object_graph.specs.Graphs.{IsGraph}
 use Rattle.cell_values.specs.Objects.{object_of}

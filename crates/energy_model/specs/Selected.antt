@@ -1,7 +1,7 @@
 -- Which variables of a programme are kept: those that save something, of each side at most 4,000.
 use Rattle.std.specs.Prelude.{ℕ, zero, suc, ◌==◌, nat_lt, ℤ, pos, negsuc, Bool, true, false, ◌&&◌, ◌||◌, if◌then◌else◌, List, [], ◌∷◌, ◌++◌, length, slice_index_or, Option, Some, None}
-use Rattle.index_tests.specs.Tests.{any_below}
-use Rattle.sorted_numbers.specs.Sorted.{count_below}
+use Rattle.list_checks.specs.Tests.{any_below}
+use Rattle.list_checks.specs.Sorted.{count_below}
 use Rattle.placement_programme.specs.declared.variables.VarName.{VarName}
 use Rattle.placement_programme.specs.declared.variables.VarName.TheVariants.{StaticData, StaticCode, OverlayData, OverlayCode}
 use Rattle.placement_programme.specs.Rows.{Layout}

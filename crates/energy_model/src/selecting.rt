@@ -1,6 +1,6 @@
 ghost use Rattle.std.specs.Prelude.{◌≡◌, ◌<◌, ◌++◌, map, length, option_map, IfOk, OnOk};
-ghost use Rattle.index_tests.specs.Tests.{any_below};
-ghost use Rattle.sorted_numbers.specs.Sorted.{count_below};
+ghost use Rattle.list_checks.specs.Tests.{any_below};
+ghost use Rattle.list_checks.specs.Sorted.{count_below};
 ghost use Rattle.placement_programme.specs.Plain.{plain_var, plain_full_var};
 ghost use Rattle.placement_programme.specs.Bounds.{IsWithinBounds};
 ghost use Rattle.placement_programme.specs.Views.{plain_side, plain_programme, plain_full_side, plain_full};

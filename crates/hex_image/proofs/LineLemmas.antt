@@ -6,7 +6,7 @@ use Rattle.std.proofs.lemmas.Option.{cond_some}
 use Rattle.std.proofs.lemmas.List.Splits.{length-slice_split, slice_split_first}
 use Rattle.std.proofs.lemmas.Slice.{between_to_end}
 use Rattle.std.specs.List.{onto_first, position, position_or_len}
-use Rattle.fault_order.specs.First.{◌or_else◌}
+use Rattle.list_checks.specs.First.{◌or_else◌}
 use Rattle.hex_image.specs.Records.{bytes_in}
 use Rattle.hex_image.specs.Reading.{Contents, is_newline, lines_of, next_line, after_line, line_fault, is_end, trailing_fault, fault_from, contents_from}
 use Rattle.hex_image.specs.declared.fault.HexFault.{HexFault}

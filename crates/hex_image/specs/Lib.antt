@@ -1,4 +1,4 @@
-pub use Rattle.fault_order.specs.First
+pub use Rattle.list_checks.specs.First
 pub use Rattle.word_bits.specs.Words
 pub use Rattle.elf_reader.specs.File
 pub use Rattle.elf_reader.specs.Loadable

@@ -7,7 +7,7 @@ use Rattle.std.proofs.lemmas.Bool.{cases_eq, cases_order, eqb-true}
 use Rattle.std.proofs.lemmas.Grind.{get_or_default_zero}
 use Rattle.std.proofs.lemmas.List.{get_or-map, length-map}
 use Rattle.std.proofs.lemmas.List.Kept.{AllPairs-from_increasing}
-use Rattle.index_tests.proofs.TestLemmas.{either}
+use Rattle.list_checks.proofs.TestLemmas.{either}
 use Rattle.code_leaders.specs.Early.{has}
 use Rattle.code_leaders.proofs.SearchLemmas.{has_found, has_at}
 use Rattle.code_blocks.specs.Blocks.{start_of}

@@ -3,10 +3,10 @@ use Rattle.std.proofs.Common.{◌≡◌, ◌∙◌, ◌⊎◌, inl, inr, ℕ, �
 use Rattle.std.specs.List.Sorted.{IsNonDecreasingBy}
 use Rattle.std.proofs.lemmas.Bool.{cases_lt}
 use Rattle.std.proofs.lemmas.Bool.Decides.{nat_tests}
-use Rattle.index_tests.specs.Tests.{any_below}
-use Rattle.object_ranges.specs.declared.extents.Extent.{Extent}
-use Rattle.object_ranges.specs.Ranges.{inside}
-use Rattle.object_ranges.specs.Extents.{extent_at, no_extent, IsFilled}
+use Rattle.list_checks.specs.Tests.{any_below}
+use Rattle.loaded_file.specs.declared.extents.Extent.{Extent}
+use Rattle.loaded_file.specs.Ranges.{inside}
+use Rattle.loaded_file.specs.Extents.{extent_at, no_extent, IsFilled}
 use Rattle.movable_ranges.specs.Apart.{IsApart, rule_at, Finds, AddsPlace, AddsRule}
 
 -- homes don't fall

@@ -6,16 +6,16 @@ use Rattle.std.proofs.lemmas.Bool.{cases_lt, eq-eqb, leb-true, ltb-true}
 use Rattle.std.proofs.lemmas.Bool.Decides.{nat_tests}
 use Rattle.std.proofs.lemmas.List.{get_or_past}
 use Rattle.word_bits.specs.Words.{minus}
-use Rattle.index_tests.specs.Tests.{any_below}
-use Rattle.index_tests.proofs.TestLemmas.{either, both, same_tests, any_found, any_at}
+use Rattle.list_checks.specs.Tests.{any_below}
+use Rattle.list_checks.proofs.TestLemmas.{either, both, same_tests, any_found, any_at}
 use Rattle.elf_reader.specs.File.{PlainView}
 use Rattle.elf_reader.specs.declared.view.Reloc.{Reloc}
-use Rattle.loaded_code.specs.Records.{no_symbol, symbol_at, reloc_at, counts, symbol_of, target}
-use Rattle.object_ranges.specs.Ranges.{has_range, is_of, inside}
-use Rattle.object_ranges.proofs.RangeLemmas.{range_parts, of_parts}
-use Rattle.object_ranges.proofs.ExtentLemmas.{both_made}
+use Rattle.loaded_file.specs.Records.{no_symbol, symbol_at, reloc_at, counts, symbol_of, target}
+use Rattle.loaded_file.specs.Ranges.{has_range, is_of, inside}
+use Rattle.loaded_file.proofs.RangeLemmas.{range_parts, of_parts}
+use Rattle.loaded_file.proofs.ExtentLemmas.{both_made}
 use Rattle.sound_relocations.specs.Sound.{is_meant, displacement}
-use Rattle.sorted_numbers.specs.Sorted.{is_under, count_below}
+use Rattle.list_checks.specs.Sorted.{is_under, count_below}
 use Rattle.movable_ranges.specs.Fixed.{leads_to}
 use Rattle.movable_ranges.specs.declared.cover.Cover.{Cover}
 use Rattle.movable_ranges.specs.Shares.{begins_by, ends_by, holds_address, IsCover, leads_by, leads_some}

@@ -4,7 +4,7 @@ use Rattle.std.proofs.Math.ListN.{replicate}
 use Rattle.std.proofs.Math.Seq.{take-append_seam}
 use Rattle.std.proofs.lemmas.Bool.{cases_lt}
 use Rattle.std.proofs.lemmas.List.{get_or-replicate, get_or_past, length-replicate}
-use Rattle.object_ranges.specs.declared.extents.Extent.{Extent}
+use Rattle.loaded_file.specs.declared.extents.Extent.{Extent}
 use Rattle.movable_ranges.specs.Apart.{rule_at, mark_at, AddsRule, AreMarks}
 
 -- no place has a mark

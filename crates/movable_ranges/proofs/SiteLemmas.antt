@@ -3,17 +3,17 @@
 use Rattle.std.proofs.Common.{◌≡◌, ◌∙◌, inl, inr, ℕ, ◌<◌, ◌==◌, nat_lt, nat_le, Bool, true, false, not, ◌&&◌, List, length, refl, sym, ap, subst}
 use Rattle.std.specs.List.{count_by}
 use Rattle.std.proofs.lemmas.Bool.{eq-eqb, eqb-true}
-use Rattle.index_tests.specs.Tests.{any_below}
-use Rattle.index_tests.proofs.TestLemmas.{either, both, same_tests, any_found, any_at}
+use Rattle.list_checks.specs.Tests.{any_below}
+use Rattle.list_checks.proofs.TestLemmas.{either, both, same_tests, any_found, any_at}
 use Rattle.elf_reader.specs.File.{PlainView}
 use Rattle.elf_reader.specs.declared.view.Reloc.{Reloc}
-use Rattle.loaded_code.specs.Records.{symbol_at, reloc_at, counts, symbol_of}
-use Rattle.object_ranges.specs.Ranges.{has_range, is_symbol_of, is_range}
-use Rattle.object_ranges.proofs.RangeLemmas.{of_parts}
-use Rattle.object_ranges.proofs.ExtentLemmas.{both_made}
+use Rattle.loaded_file.specs.Records.{symbol_at, reloc_at, counts, symbol_of}
+use Rattle.loaded_file.specs.Ranges.{has_range, is_symbol_of, is_range}
+use Rattle.loaded_file.proofs.RangeLemmas.{of_parts}
+use Rattle.loaded_file.proofs.ExtentLemmas.{both_made}
 use Rattle.sound_relocations.specs.Sound.{is_meant, displacement, is_sound_pair, is_pair_low, names_high}
-use Rattle.sorted_numbers.specs.Sorted.{is_number, count_below}
-use Rattle.sorted_numbers.proofs.SortedLemmas.{two_places}
+use Rattle.list_checks.specs.Sorted.{is_number, count_below}
+use Rattle.list_checks.proofs.SortedLemmas.{two_places}
 use Rattle.movable_ranges.specs.Fixed.{leads_to, gives_pair, is_site_of, is_site_by, shares_word, is_shared_by, is_shared}
 use Rattle.movable_ranges.specs.Meant.{is_direct}
 use Rattle.movable_ranges.specs.Shares.{leads_some, is_high_by, at_number, is_low_of_some, gives_some, gives_by, repeats_at, is_shared_low, shares_from, is_shared_from, shares_a_word}

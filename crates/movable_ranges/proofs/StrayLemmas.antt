@@ -1,11 +1,11 @@
 -- That a relocation strays into some object of a section just where the range of some symbol of it is hit.
 use Rattle.std.proofs.Common.{◌≡◌, ◌∙◌, ℕ, ◌==◌, Bool, true, false, ◌&&◌, ◌||◌, length, ap}
-use Rattle.index_tests.specs.Tests.{any_below}
-use Rattle.index_tests.proofs.TestLemmas.{both, same_tests, any_found, any_at}
+use Rattle.list_checks.specs.Tests.{any_below}
+use Rattle.list_checks.proofs.TestLemmas.{both, same_tests, any_found, any_at}
 use Rattle.elf_reader.specs.File.{PlainView}
-use Rattle.loaded_code.specs.Records.{symbol_at, reloc_at, counts, symbol_of, target}
-use Rattle.object_ranges.specs.Ranges.{has_range, inside}
-use Rattle.object_ranges.proofs.ExtentLemmas.{both_made}
+use Rattle.loaded_file.specs.Records.{symbol_at, reloc_at, counts, symbol_of, target}
+use Rattle.loaded_file.specs.Ranges.{has_range, inside}
+use Rattle.loaded_file.proofs.ExtentLemmas.{both_made}
 use Rattle.movable_ranges.specs.Fixed.{is_stray, is_strayed_into, strays_into}
 use Rattle.movable_ranges.specs.Strays.{strays_by, is_hit, is_hit_in}
 

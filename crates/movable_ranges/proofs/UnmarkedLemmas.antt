@@ -6,15 +6,15 @@ use Rattle.std.proofs.lemmas.List.{append-nil, get_or-map}
 use Rattle.std.proofs.lemmas.List.Folds.{list_any-append, list_any_at}
 use Rattle.std.proofs.lemmas.List.Elements.{All-push}
 use Rattle.std.proofs.lemmas.List.Quantifiers.{all_pairs_push}
-use Rattle.index_tests.specs.Tests.{any_below}
-use Rattle.index_tests.proofs.TestLemmas.{both, not_true, same_tests, any_found, any_at}
+use Rattle.list_checks.specs.Tests.{any_below}
+use Rattle.list_checks.proofs.TestLemmas.{both, not_true, same_tests, any_found, any_at}
 use Rattle.elf_reader.specs.File.{PlainView}
 use Rattle.board_config.specs.declared.board.Board.{Board}
-use Rattle.object_ranges.specs.declared.extents.Extent.{Extent}
-use Rattle.object_ranges.specs.Ranges.{is_range, is_overlapped}
-use Rattle.object_ranges.specs.Extents.{is_extent, has_extent_in, extent_at, no_extent, IsAscending, IsFilled, meets_another}
-use Rattle.object_ranges.proofs.ExtentLemmas.{both_made}
-use Rattle.object_ranges.proofs.OverlapLemmas.{any_place, meets_later, overlap_marks}
+use Rattle.loaded_file.specs.declared.extents.Extent.{Extent}
+use Rattle.loaded_file.specs.Ranges.{is_range, is_overlapped}
+use Rattle.loaded_file.specs.Extents.{is_extent, has_extent_in, extent_at, no_extent, IsAscending, IsFilled, meets_another}
+use Rattle.loaded_file.proofs.ExtentLemmas.{both_made}
+use Rattle.loaded_file.proofs.OverlapLemmas.{any_place, meets_later, overlap_marks}
 use Rattle.movable_ranges.specs.Fixed.{is_in_zeros, is_listed, is_strayed, is_unsound, is_shared, is_movable}
 use Rattle.movable_ranges.specs.Shares.{shares_a_word}
 use Rattle.movable_ranges.specs.Rules.{is_stuck}

@@ -1,13 +1,13 @@
 -- Which objects stay where they are: a definition for each rule.
 use Rattle.std.specs.Prelude.{ℕ, ◌==◌, nat_le, Bool, not, ◌&&◌, ◌||◌, List, length, codes, bytes_eq}
 use Rattle.std.specs.List.{list_any}
-use Rattle.index_tests.specs.Tests.{any_below}
+use Rattle.list_checks.specs.Tests.{any_below}
 use Rattle.elf_reader.specs.File.{PlainSymbol, PlainView}
 use Rattle.elf_reader.specs.declared.view.Reloc.{Reloc}
 use Rattle.board_config.specs.Board.{plain_texts}
 use Rattle.board_config.specs.declared.board.Board.{Board}
-use Rattle.loaded_code.specs.Records.{symbol_at, reloc_at, counts, symbol_of, target}
-use Rattle.object_ranges.specs.Ranges.{owner_of, has_range, is_symbol_of, is_range, is_overlapped, inside}
+use Rattle.loaded_file.specs.Records.{symbol_at, reloc_at, counts, symbol_of, target}
+use Rattle.loaded_file.specs.Ranges.{owner_of, has_range, is_symbol_of, is_range, is_overlapped, inside}
 use Rattle.sound_relocations.specs.Sound.{is_meant, displacement, is_sound, is_sound_high, is_sound_low, is_sound_pair, names_high}
 
 -- symbol `k` of it stands in a section without content (SHT_NOBITS, 8)

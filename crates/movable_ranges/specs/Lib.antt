@@ -1,7 +1,7 @@
 pub use Rattle.elf_reader.specs.Loaded
-pub use Rattle.loaded_code.specs.Records
-pub use Rattle.object_ranges.specs.Ranges
-pub use Rattle.object_ranges.specs.Extents
+pub use Rattle.loaded_file.specs.Records
+pub use Rattle.loaded_file.specs.Ranges
+pub use Rattle.loaded_file.specs.Extents
 pub use Rattle.sound_relocations.specs.Sound
 pub use Rattle.sound_relocations.specs.Marks
 pub mod Fixed

@@ -2,8 +2,8 @@
 use Rattle.std.specs.Prelude.{ℕ, ◌==◌, nat_le, Bool, ◌&&◌, ◌||◌}
 use Rattle.elf_reader.specs.File.{PlainSymbol, PlainView}
 use Rattle.elf_reader.specs.declared.view.Reloc.{Reloc}
-use Rattle.loaded_code.specs.Records.{reloc_at}
-use Rattle.object_ranges.specs.Ranges.{is_of, inside}
+use Rattle.loaded_file.specs.Records.{reloc_at}
+use Rattle.loaded_file.specs.Ranges.{is_of, inside}
 use Rattle.sound_relocations.specs.Sound.{is_meant, displacement, is_sound_high, is_sound_low, is_sound_pair}
 
 -- a relocation with this symbol, which leads to `a`, means the `n` bytes at `home`

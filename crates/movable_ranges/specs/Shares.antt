@@ -2,13 +2,13 @@
 -- another one.
 use Rattle.std.specs.Prelude.{◌≡◌, ℕ, ◌+◌, ◌==◌, nat_lt, nat_le, Bool, ◌&&◌, ◌||◌, length}
 use Rattle.std.specs.List.{count_by, list_any}
-use Rattle.index_tests.specs.Tests.{any_below}
+use Rattle.list_checks.specs.Tests.{any_below}
 use Rattle.elf_reader.specs.File.{PlainSymbol, PlainView}
 use Rattle.elf_reader.specs.declared.view.Reloc.{Reloc}
-use Rattle.loaded_code.specs.Records.{symbol_at, reloc_at, counts, symbol_of, target}
-use Rattle.object_ranges.specs.Ranges.{has_range, inside}
+use Rattle.loaded_file.specs.Records.{symbol_at, reloc_at, counts, symbol_of, target}
+use Rattle.loaded_file.specs.Ranges.{has_range, inside}
 use Rattle.sound_relocations.specs.Sound.{displacement, is_sound_pair, is_pair_low}
-use Rattle.sorted_numbers.specs.Sorted.{IsSorted, count_below}
+use Rattle.list_checks.specs.Sorted.{IsSorted, count_below}
 use Rattle.movable_ranges.specs.Meant.{leads_inside, is_direct}
 use Rattle.movable_ranges.specs.declared.cover.Cover.{Cover}
 use Rattle.movable_ranges.specs.declared.words.SharedWords.{SharedWords}

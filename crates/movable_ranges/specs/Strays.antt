@@ -1,9 +1,9 @@
 -- Into which addresses and sections relocations stray.
 use Rattle.std.specs.Prelude.{ℕ, ◌==◌, Bool, ◌&&◌, ◌||◌, length}
-use Rattle.index_tests.specs.Tests.{any_below}
+use Rattle.list_checks.specs.Tests.{any_below}
 use Rattle.elf_reader.specs.File.{PlainView}
-use Rattle.loaded_code.specs.Records.{symbol_at, reloc_at, counts, symbol_of, target}
-use Rattle.object_ranges.specs.Ranges.{has_range, inside}
+use Rattle.loaded_file.specs.Records.{symbol_at, reloc_at, counts, symbol_of, target}
+use Rattle.loaded_file.specs.Ranges.{has_range, inside}
 use Rattle.movable_ranges.specs.Fixed.{is_stray}
 
 -- relocation `i` strays, and its symbol or its target passes a test of addresses

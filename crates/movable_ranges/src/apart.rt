@@ -1,9 +1,9 @@
 ghost use Rattle.std.specs.Prelude.{◌≡◌, ℕ, ◌<◌, ◌≤◌, ◌==◌, ◌&&◌, length};
-ghost use Rattle.object_ranges.specs.Ranges.{inside};
-ghost use Rattle.object_ranges.specs.Extents.{extent_at, IsFilled};
+ghost use Rattle.loaded_file.specs.Ranges.{inside};
+ghost use Rattle.loaded_file.specs.Extents.{extent_at, IsFilled};
 ghost use Rattle.movable_ranges.specs.Apart.{IsApart, IsBelow, Finds};
 
-use object_ranges::Extent;
+use loaded_file::Extent;
 
 /// How many ranges begin at or before an address.
 fn count_begun(ranges: &[Extent], address: u32) -> usize

@@ -1,16 +1,15 @@
 ghost use Rattle.std.specs.Prelude.{◌≡◌, ℕ, ◌+◌, ◌<◌, Bool, ◌&&◌, length, if◌then◌else◌, IfOk};
 ghost use Rattle.std.specs.List.{count_by};
-ghost use Rattle.index_tests.specs.Tests.{any_below};
+ghost use Rattle.list_checks.specs.Tests.{any_below};
 ghost use Rattle.elf_reader.specs.File.{plain_symbol, plain_view};
-ghost use Rattle.loaded_code.specs.Marks.{all_loaded};
-ghost use Rattle.loaded_code.specs.Records.{target};
-ghost use Rattle.sorted_numbers.specs.Sorted.{count_below};
+ghost use Rattle.loaded_file.specs.Marks.{all_loaded};
+ghost use Rattle.loaded_file.specs.Records.{target};
+ghost use Rattle.list_checks.specs.Sorted.{count_below};
 ghost use Rattle.movable_ranges.specs.Shares.{begins_by, ends_by, holds_address, IsCover};
 
 use elf_reader::{ElfView, Reloc};
-use loaded_code::target;
-use object_ranges::has_range;
-use sorted_numbers::{arrange, count_under};
+use list_checks::{arrange, count_under};
+use loaded_file::{has_range, target};
 use std::alloc::{AllocError, Global};
 
 /// The homes and the ends of all objects, each ascending. Objects may overlap.

@@ -1,7 +1,7 @@
 ghost use Rattle.std.specs.Prelude.{◌≡◌, ℕ, ◌<◌, ◌++◌, false, length, IfOk};
 ghost use Rattle.movable_ranges.specs.Apart.{IsBelow, mark_at, AddsPlace, unmarked_at, unmarked_below};
 
-use object_ranges::Extent;
+use loaded_file::Extent;
 use std::alloc::{AllocError, Global};
 
 /// So many places without a mark.

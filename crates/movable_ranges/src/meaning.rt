@@ -1,17 +1,16 @@
 ghost use Rattle.std.specs.Prelude.{◌≡◌, ℕ, ◌<◌, true, false, length, MatchOption};
 ghost use Rattle.elf_reader.specs.File.{plain_symbol, plain_view};
-ghost use Rattle.loaded_code.specs.Marks.{all_loaded};
-ghost use Rattle.loaded_code.specs.Records.{reloc_at, target};
-ghost use Rattle.object_ranges.specs.Ranges.{is_of};
-ghost use Rattle.object_ranges.specs.Extents.{extent_at, IsFilled};
+ghost use Rattle.loaded_file.specs.Marks.{all_loaded};
+ghost use Rattle.loaded_file.specs.Records.{reloc_at, target};
+ghost use Rattle.loaded_file.specs.Ranges.{is_of};
+ghost use Rattle.loaded_file.specs.Extents.{extent_at, IsFilled};
 ghost use Rattle.sound_relocations.specs.Sound.{is_meant};
 ghost use Rattle.movable_ranges.specs.Apart.{IsApart, IsBelow, Finds};
 ghost use Rattle.movable_ranges.specs.Meant.{means_by};
 
 use crate::apart::{place_holding, place_of};
 use elf_reader::{ElfView, Reloc, STT_SECTION, Symbol};
-use loaded_code::target;
-use object_ranges::{Extent, has_range};
+use loaded_file::{Extent, has_range, target};
 
 /// The range of a list that relocation `i` means, if it means one of them: the range of its symbol, or that
 /// in which its target lies if its symbol is that of a section. `loaded` are the marks of the loaded sections;

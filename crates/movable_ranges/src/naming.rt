@@ -1,9 +1,9 @@
 ghost use Rattle.std.specs.Prelude.{◌≡◌, ℕ, ◌<◌, ◌==◌, ◌||◌, length};
-ghost use Rattle.index_tests.specs.Tests.{any_below};
+ghost use Rattle.list_checks.specs.Tests.{any_below};
 ghost use Rattle.elf_reader.specs.File.{plain_symbol, plain_view};
-ghost use Rattle.loaded_code.specs.Marks.{all_loaded};
-ghost use Rattle.object_ranges.specs.Ranges.{owner_of};
-ghost use Rattle.object_ranges.specs.Extents.{IsFilled};
+ghost use Rattle.loaded_file.specs.Marks.{all_loaded};
+ghost use Rattle.loaded_file.specs.Ranges.{owner_of};
+ghost use Rattle.loaded_file.specs.Extents.{IsFilled};
 ghost use Rattle.movable_ranges.specs.Fixed.{is_listed_name, stands_in_zeros, has_listed_name, is_in_zeros, is_listed};
 ghost use Rattle.movable_ranges.specs.Apart.{IsApart, IsBelow, Finds, AddsRule};
 
@@ -11,7 +11,7 @@ use crate::marks::mark;
 use crate::meaning::place_of_symbol;
 use board_config::Board;
 use elf_reader::{ElfView, SHT_NOBITS, Symbol};
-use object_ranges::Extent;
+use loaded_file::Extent;
 
 /// Marks the ranges in sections without content, if the board doesn't let these move.
 pub(crate) fn mark_zeros(

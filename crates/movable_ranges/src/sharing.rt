@@ -1,8 +1,8 @@
 ghost use Rattle.std.specs.Prelude.{◌≡◌, ℕ, ◌<◌, ◌&&◌, length};
 ghost use Rattle.elf_reader.specs.File.{plain_view};
-ghost use Rattle.loaded_code.specs.Marks.{all_loaded};
-ghost use Rattle.loaded_code.specs.Records.{reloc_at, counts};
-ghost use Rattle.object_ranges.specs.Extents.{IsFilled};
+ghost use Rattle.loaded_file.specs.Marks.{all_loaded};
+ghost use Rattle.loaded_file.specs.Records.{reloc_at, counts};
+ghost use Rattle.loaded_file.specs.Extents.{IsFilled};
 ghost use Rattle.sound_relocations.specs.Marks.{all_sound};
 ghost use Rattle.movable_ranges.specs.Apart.{IsApart, IsBelow, Finds, AddsRule};
 ghost use Rattle.movable_ranges.specs.Shares.{shares_from, is_shared_from, shares_a_word, AreSharedWords};
@@ -11,9 +11,8 @@ use crate::marks::mark;
 use crate::soundness::{is_direct, is_pair, leading_place};
 use crate::words::SharedWords;
 use elf_reader::ElfView;
-use loaded_code::counts;
-use object_ranges::Extent;
-use sorted_numbers::{has, repeats};
+use list_checks::{has, repeats};
+use loaded_file::{Extent, counts};
 
 /// Marks the ranges with a site that shares its word.
 pub(crate) fn mark_shared(

@@ -1,8 +1,8 @@
 ghost use Rattle.std.specs.Prelude.{◌≡◌, ℕ, ◌<◌, ◌&&◌, not, nat_le, length};
 ghost use Rattle.elf_reader.specs.File.{plain_view};
-ghost use Rattle.loaded_code.specs.Marks.{all_loaded};
-ghost use Rattle.loaded_code.specs.Records.{reloc_at};
-ghost use Rattle.object_ranges.specs.Extents.{extent_at, IsFilled};
+ghost use Rattle.loaded_file.specs.Marks.{all_loaded};
+ghost use Rattle.loaded_file.specs.Records.{reloc_at};
+ghost use Rattle.loaded_file.specs.Extents.{extent_at, IsFilled};
 ghost use Rattle.sound_relocations.specs.Marks.{all_sound};
 ghost use Rattle.sound_relocations.specs.Sound.{displacement, is_meant, is_sound_kind, is_sound_pair};
 ghost use Rattle.movable_ranges.specs.Fixed.{is_unsound_by, is_unsound};
@@ -12,8 +12,7 @@ ghost use Rattle.movable_ranges.specs.Meant.{is_direct, is_site_kind, leads_insi
 use crate::marks::mark;
 use crate::meaning::place_meant;
 use elf_reader::{ElfView, R_RISCV_PCREL_HI20, Reloc};
-use loaded_code::{counts, target};
-use object_ranges::Extent;
+use loaded_file::{Extent, counts, target};
 use sound_relocations::is_mute;
 
 /// Marks the ranges that a relocation means that isn't sound.

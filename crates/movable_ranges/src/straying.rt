@@ -1,12 +1,12 @@
 ghost use Rattle.std.specs.Prelude.{◌≡◌, ℕ, ◌<◌, ◌&&◌, ◌||◌, Bool, length, IfOk};
 ghost use Rattle.std.specs.List.{list_any};
-ghost use Rattle.index_tests.specs.Tests.{any_below};
+ghost use Rattle.list_checks.specs.Tests.{any_below};
 ghost use Rattle.elf_reader.specs.File.{plain_symbol, plain_view};
-ghost use Rattle.loaded_code.specs.Marks.{all_loaded};
-ghost use Rattle.loaded_code.specs.Records.{symbol_at};
-ghost use Rattle.object_ranges.specs.Ranges.{has_range, inside};
-ghost use Rattle.object_ranges.specs.Extents.{IsFilled};
-ghost use Rattle.sorted_numbers.specs.Sorted.{IsSorted};
+ghost use Rattle.loaded_file.specs.Marks.{all_loaded};
+ghost use Rattle.loaded_file.specs.Records.{symbol_at};
+ghost use Rattle.loaded_file.specs.Ranges.{has_range, inside};
+ghost use Rattle.loaded_file.specs.Extents.{IsFilled};
+ghost use Rattle.list_checks.specs.Sorted.{IsSorted};
 ghost use Rattle.movable_ranges.specs.Fixed.{is_stray, strays_into, has_strayed_section, is_strayed};
 ghost use Rattle.movable_ranges.specs.Apart.{IsApart, IsBelow, Finds, is_place, mark_at, AddsRule};
 ghost use Rattle.movable_ranges.specs.Strays.{strays_by, is_hit, is_hit_in};
@@ -14,9 +14,8 @@ ghost use Rattle.movable_ranges.specs.Strays.{strays_by, is_hit, is_hit_in};
 use crate::marks::{is_marked, mark, no_marks};
 use crate::meaning::place_of_symbol;
 use elf_reader::{ElfView, STT_SECTION, Symbol};
-use loaded_code::{counts, target};
-use object_ranges::{Extent, has_range};
-use sorted_numbers::{arrange, has_inside};
+use list_checks::{arrange, has_inside};
+use loaded_file::{Extent, counts, has_range, target};
 use std::alloc::{AllocError, Global};
 
 /// The symbol to which the global pointer is set (RISC-V psABI, "Global-pointer").

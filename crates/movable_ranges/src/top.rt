@@ -1,9 +1,9 @@
 ghost use Rattle.std.specs.Prelude.{◌≡◌, ℕ, ◌&&◌, not, length, IfOk};
-ghost use Rattle.index_tests.specs.Tests.{any_below};
+ghost use Rattle.list_checks.specs.Tests.{any_below};
 ghost use Rattle.elf_reader.specs.File.{plain_view};
-ghost use Rattle.loaded_code.specs.Marks.{all_loaded};
-ghost use Rattle.object_ranges.specs.Ranges.{is_range, is_overlapped};
-ghost use Rattle.object_ranges.specs.Extents.{has_extent_in, IsFilled};
+ghost use Rattle.loaded_file.specs.Marks.{all_loaded};
+ghost use Rattle.loaded_file.specs.Ranges.{is_range, is_overlapped};
+ghost use Rattle.loaded_file.specs.Extents.{has_extent_in, IsFilled};
 ghost use Rattle.sound_relocations.specs.Marks.{all_sound};
 ghost use Rattle.movable_ranges.specs.Fixed.{strays_into, is_movable};
 ghost use Rattle.movable_ranges.specs.Apart.{IsApart, mark_at, AddsRule, AreMarks};
@@ -18,7 +18,7 @@ use crate::straying::{mark_strayed, strayed_sections};
 use crate::words::{SharedWords, shared_words};
 use board_config::Board;
 use elf_reader::ElfView;
-use object_ranges::{Extent, object_ranges, overlapped};
+use loaded_file::{Extent, object_ranges, overlapped};
 use std::alloc::{AllocError, Global};
 
 /// The ranges of the objects that may move, ascending. `loaded` are the marks of the loaded sections, and

@@ -1,20 +1,19 @@
 ghost use Rattle.std.specs.Prelude.{◌≡◌, ℕ, ◌+◌, ◌<◌, Bool, ◌&&◌, ◌||◌, length, if◌then◌else◌, IfOk};
 ghost use Rattle.std.specs.List.{count_by, list_any};
-ghost use Rattle.index_tests.specs.Tests.{any_below};
+ghost use Rattle.list_checks.specs.Tests.{any_below};
 ghost use Rattle.elf_reader.specs.File.{plain_symbol, plain_view};
-ghost use Rattle.loaded_code.specs.Marks.{all_loaded};
-ghost use Rattle.loaded_code.specs.Records.{reloc_at, symbol_of};
+ghost use Rattle.loaded_file.specs.Marks.{all_loaded};
+ghost use Rattle.loaded_file.specs.Records.{reloc_at, symbol_of};
 ghost use Rattle.sound_relocations.specs.Marks.{all_sound};
-ghost use Rattle.sorted_numbers.specs.Sorted.{IsSorted, count_below};
+ghost use Rattle.list_checks.specs.Sorted.{IsSorted, count_below};
 ghost use Rattle.movable_ranges.specs.Shares.{IsCover, leads_some, leads_by, is_high_by, is_low_of_some, gives_some, gives_by, repeats_at, is_low_shared, is_shared_low, AreSharedWords};
 
 use crate::cover::{Cover, is_covered, object_cover};
 use crate::soundness::{is_direct, is_pair};
 use crate::straying::symbol_value;
 use elf_reader::{ElfView, Reloc, STT_SECTION, Symbol};
-use loaded_code::{counts, target};
-use object_ranges::has_range;
-use sorted_numbers::{arrange, has, repeats};
+use list_checks::{arrange, has, repeats};
+use loaded_file::{counts, has_range, target};
 use sound_relocations::is_pair_low;
 use std::alloc::{AllocError, Global};
 

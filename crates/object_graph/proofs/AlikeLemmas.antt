@@ -2,7 +2,7 @@
 use Rattle.std.proofs.Common.{◌≡◌, ◌≢◌, ◌∙◌, ℕ, ◌<◌, ◌==◌, Bool, true, ◌&&◌, List, length, get_or, refl, sym, ap, arith}
 use Rattle.std.proofs.lemmas.Bool.{eqb-true, eq-eqb}
 use Rattle.std.proofs.lemmas.List.{get_or_default}
-use Rattle.index_tests.proofs.TestLemmas.{both}
+use Rattle.list_checks.proofs.TestLemmas.{both}
 use Rattle.object_graph.specs.declared.parts.Site.{Site}
 use Rattle.object_graph.specs.declared.parts.DataWord.{DataWord}
 use Rattle.object_graph.specs.Graphs.{same_part, same_site, same_word}

@@ -2,20 +2,20 @@
 use Rattle.std.proofs.Common.{◌≡◌, inl, inr, ℕ, ◌+◌, ◌-◌, ◌<◌, ◌==◌, ◌%◌, true, false, ◌&&◌, List, length, None, sym, subst, arith}
 use Rattle.std.proofs.lemmas.Bool.{eqb-true, cases_Bool, cases_lt, both_ways}
 use Rattle.std.proofs.lemmas.Bool.Decides.{nat_tests}
-use Rattle.index_tests.specs.Tests.{any_below, lies_in, meets}
-use Rattle.index_tests.proofs.TestLemmas.{both, any_found}
+use Rattle.list_checks.specs.Tests.{any_below, lies_in, meets}
+use Rattle.list_checks.proofs.TestLemmas.{both, any_found}
 use Rattle.elf_reader.specs.Sections.{bit_of}
 use Rattle.elf_reader.specs.File.{PlainView, view_in}
 use Rattle.elf_reader.specs.Faults.{first_fault}
 use Rattle.elf_reader.specs.Loadable.{AreApart}
 use Rattle.elf_reader.specs.Loaded.{section_at, segment_at, is_loaded}
-use Rattle.loaded_code.specs.Code.{is_code_range, holds_code, is_code_word}
+use Rattle.loaded_file.specs.Code.{is_code_range, holds_code, is_code_word}
 use Rattle.elf_reader.proofs.SegmentLemmas.{none_of_headers, load_segments_apart}
 use Rattle.elf_reader.proofs.LoadedLemmas.{IsFilled, loaded_found, same_segment, filled_alone, zeroed_apart}
-use Rattle.loaded_code.specs.Records.{symbol_at, reloc_at}
-use Rattle.object_ranges.specs.Ranges.{is_executable}
+use Rattle.loaded_file.specs.Records.{symbol_at, reloc_at}
+use Rattle.loaded_file.specs.Ranges.{is_executable}
 use Rattle.object_graph.specs.Laws.{ObjectsOffCode, DataOffCode}
-use Rattle.object_ranges.proofs.RangeLemmas.{IsOf}
+use Rattle.loaded_file.proofs.RangeLemmas.{IsOf}
 use Rattle.object_graph.proofs.MovableLemmas.{movable_parts}
 use Rattle.object_graph.proofs.SoundLemmas.{sound_word}
 

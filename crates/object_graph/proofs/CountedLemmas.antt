@@ -5,13 +5,13 @@ use Rattle.std.proofs.lemmas.Bool.{cases_lt, cases_eq, eqb-true, eq-eqb, both_wa
 use Rattle.std.proofs.lemmas.Bool.Decides.{nat_tests}
 use Rattle.std.proofs.lemmas.List.{get_or_default}
 use Rattle.std.proofs.lemmas.List.Folds.{Any-from_list_any, list_any_at, list_any_none}
-use Rattle.index_tests.specs.Tests.{any_below}
-use Rattle.index_tests.proofs.TestLemmas.{both, not_true, none_at, same_tests}
+use Rattle.list_checks.specs.Tests.{any_below}
+use Rattle.list_checks.proofs.TestLemmas.{both, not_true, none_at, same_tests}
 use Rattle.elf_reader.specs.File.{PlainView}
-use Rattle.loaded_code.specs.Records.{symbol_at}
-use Rattle.object_ranges.specs.declared.extents.Extent.{Extent}
-use Rattle.object_ranges.specs.Ranges.{has_range, is_symbol_of, is_range}
-use Rattle.object_ranges.specs.Extents.{is_extent, no_extent, extent_at}
+use Rattle.loaded_file.specs.Records.{symbol_at}
+use Rattle.loaded_file.specs.declared.extents.Extent.{Extent}
+use Rattle.loaded_file.specs.Ranges.{has_range, is_symbol_of, is_range}
+use Rattle.loaded_file.specs.Extents.{is_extent, no_extent, extent_at}
 use Rattle.movable_ranges.specs.Fixed.{is_movable}
 use Rattle.object_graph.specs.LayoutFaults.{same_range, names_object, objects_below}
 use Rattle.object_graph.specs.Gathered.{AreMovable, first_symbol}

@@ -3,13 +3,13 @@ use Rattle.std.proofs.Common.{◌≡◌, ◌∙◌, ◌⊎◌, inl, inr, ℕ, ze
 use Rattle.std.specs.List.{list_any}
 use Rattle.std.proofs.lemmas.Bool.{cases_Bool, eqb-true, eq-eqb, ltb-true, leb-true, both_ways}
 use Rattle.std.proofs.lemmas.Bool.Decides.{nat_tests}
-use Rattle.index_tests.specs.Tests.{any_below}
-use Rattle.index_tests.proofs.TestLemmas.{either, both, same_tests, any_found}
+use Rattle.list_checks.specs.Tests.{any_below}
+use Rattle.list_checks.proofs.TestLemmas.{either, both, same_tests, any_found}
 use Rattle.elf_reader.specs.File.{PlainView}
 use Rattle.elf_reader.specs.declared.view.Reloc.{Reloc}
-use Rattle.loaded_code.specs.Records.{reloc_at, counts, symbol_of}
-use Rattle.object_ranges.specs.declared.extents.Extent.{Extent}
-use Rattle.object_ranges.specs.Extents.{extent_at}
+use Rattle.loaded_file.specs.Records.{reloc_at, counts, symbol_of}
+use Rattle.loaded_file.specs.declared.extents.Extent.{Extent}
+use Rattle.loaded_file.specs.Extents.{extent_at}
 use Rattle.sound_relocations.specs.Sound.{is_meant, displacement, is_sound_word, is_sound_high, is_sound_low, is_sound_pair, is_pair_low, names_high, is_sound_kind}
 use Rattle.movable_ranges.specs.Fixed.{leads_to}
 use Rattle.object_graph.specs.declared.leads.Lead.{Lead}

@@ -3,14 +3,14 @@ use Rattle.std.proofs.Common.{◌≡◌, ◌∙◌, ℕ, zero, suc, ◌+◌, ◌
 use Rattle.std.specs.List.{All, AllPairs, list_any}
 use Rattle.std.proofs.lemmas.List.{length-map, get_or-map, map-append, take_more}
 use Rattle.std.proofs.lemmas.List.Elements.{All-push}
-use Rattle.fault_order.specs.First.{unless}
-use Rattle.index_tests.specs.Tests.{any_below}
+use Rattle.list_checks.specs.First.{unless}
+use Rattle.list_checks.specs.Tests.{any_below}
 use Rattle.elf_reader.specs.File.{PlainView}
 use Rattle.board_config.specs.declared.board.Board.{Board}
-use Rattle.loaded_code.specs.Records.{reloc_at}
-use Rattle.object_ranges.specs.declared.extents.Extent.{Extent}
-use Rattle.object_ranges.specs.Extents.{is_extent, no_extent, extent_at}
-use Rattle.object_ranges.proofs.ExtentLemmas.{any_map}
+use Rattle.loaded_file.specs.Records.{reloc_at}
+use Rattle.loaded_file.specs.declared.extents.Extent.{Extent}
+use Rattle.loaded_file.specs.Extents.{is_extent, no_extent, extent_at}
+use Rattle.loaded_file.proofs.ExtentLemmas.{any_map}
 use Rattle.sound_relocations.specs.Sound.{displacement, is_sound_word}
 use Rattle.movable_ranges.specs.Fixed.{leads_to}
 use Rattle.object_graph.specs.declared.fault.GraphFault.{GraphFault}

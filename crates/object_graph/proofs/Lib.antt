@@ -17,3 +17,7 @@ pub mod ObjectLemmas
 pub mod CountedLemmas
 pub mod GraphLemmas
 pub mod LookupLemmas
+pub mod SpanLookupLemmas
+pub mod SpanLemmas
+pub mod BoundLemmas
+pub mod KindLemmas

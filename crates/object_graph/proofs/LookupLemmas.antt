@@ -6,13 +6,13 @@ use Rattle.std.proofs.lemmas.Bool.{cases_Bool, cases_lt, cases_eq, eqb-true, eq-
 use Rattle.std.proofs.lemmas.Bool.Decides.{nat_tests}
 use Rattle.std.proofs.lemmas.List.Folds.{list_any_none, list_any_at}
 use Rattle.std.proofs.lemmas.List.Sorted.{IsPartitionedBy-leb}
-use Rattle.index_tests.proofs.TestLemmas.{both}
+use Rattle.list_checks.proofs.TestLemmas.{both}
 use Rattle.elf_reader.specs.File.{PlainView}
 use Rattle.board_config.specs.declared.board.Board.{Board}
-use Rattle.loaded_code.specs.Records.{symbol_at}
-use Rattle.object_ranges.specs.Ranges.{inside}
-use Rattle.object_ranges.proofs.ExtentLemmas.{both_made}
-use Rattle.object_ranges.proofs.RangeLemmas.{extent_of}
+use Rattle.loaded_file.specs.Records.{symbol_at}
+use Rattle.loaded_file.specs.Ranges.{inside}
+use Rattle.loaded_file.proofs.ExtentLemmas.{both_made}
+use Rattle.loaded_file.proofs.RangeLemmas.{extent_of}
 use Rattle.object_graph.specs.declared.parts.Object.{Object}
 use Rattle.object_graph.specs.declared.parts.Site.{Site}
 use Rattle.object_graph.specs.declared.parts.DataWord.{DataWord}

@@ -1,13 +1,13 @@
 -- What holds of an object that may move.
 use Rattle.std.proofs.Common.{◌≡◌, ◌⊎◌, inl, inr, ℕ, ◌<◌, ◌==◌, Bool, true, false, not, ◌&&◌, ◌||◌, length, refl, subst, arith}
 use Rattle.std.proofs.lemmas.Bool.{eqb-true}
-use Rattle.index_tests.specs.Tests.{meets}
-use Rattle.index_tests.proofs.TestLemmas.{neither, both, not_true, any_found, none_at}
+use Rattle.list_checks.specs.Tests.{meets}
+use Rattle.list_checks.proofs.TestLemmas.{neither, both, not_true, any_found, none_at}
 use Rattle.elf_reader.specs.File.{PlainSymbol, PlainView}
 use Rattle.board_config.specs.declared.board.Board.{Board}
-use Rattle.loaded_code.specs.Records.{symbol_at}
-use Rattle.object_ranges.specs.Ranges.{has_range, is_symbol_of, is_range, meets_range, is_overlapped}
-use Rattle.object_ranges.proofs.RangeLemmas.{IsOf, of_parts}
+use Rattle.loaded_file.specs.Records.{symbol_at}
+use Rattle.loaded_file.specs.Ranges.{has_range, is_symbol_of, is_range, meets_range, is_overlapped}
+use Rattle.loaded_file.proofs.RangeLemmas.{IsOf, of_parts}
 use Rattle.movable_ranges.specs.Fixed.{is_in_zeros, is_listed, is_strayed, is_unsound, is_shared, is_fixed, is_movable}
 use Rattle.object_graph.specs.Laws.{ObjectsApart}
 

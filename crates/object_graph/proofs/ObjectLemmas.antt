@@ -5,10 +5,10 @@ use Rattle.std.proofs.lemmas.Bool.{cases_Bool, cases_eq, cases_lt, eqb-true, eq-
 use Rattle.std.proofs.lemmas.Bool.Decides.{nat_tests}
 use Rattle.std.proofs.lemmas.List.{length-map, get_or-map, get_or_past}
 use Rattle.std.proofs.lemmas.List.Folds.{Any-from_list_any, list_any_at}
-use Rattle.fault_order.specs.First.{◌or_else◌, unless, first_below}
-use Rattle.fault_order.proofs.FirstLemmas.{both_none, holds}
-use Rattle.index_tests.specs.Tests.{any_below}
-use Rattle.index_tests.proofs.TestLemmas.{both, not_true, any_found, any_at, same_tests}
+use Rattle.list_checks.specs.First.{◌or_else◌, unless, first_below}
+use Rattle.list_checks.proofs.FirstLemmas.{both_none, holds}
+use Rattle.list_checks.specs.Tests.{any_below}
+use Rattle.list_checks.proofs.TestLemmas.{both, not_true, any_found, any_at, same_tests}
 use Rattle.elf_reader.specs.File.{PlainView, plain_view, view_in, IsFile, symbol_of, symbols_below, symbols_in}
 use Rattle.elf_reader.specs.Faults.{first_fault}
 use Rattle.elf_reader.specs.HeaderChecks.{header_fault}
@@ -18,9 +18,9 @@ use Rattle.elf_reader.specs.SymbolChecks.{symbols_fault, one_table_fault, found_
 use Rattle.elf_reader.specs.Layout.{section_header}
 use Rattle.elf_reader.specs.Sections.{symbol_table, symbol_count_of}
 use Rattle.elf_reader.specs.declared.view.ElfView.{ElfView}
-use Rattle.loaded_code.specs.Read.{IsRead}
-use Rattle.loaded_code.specs.Records.{no_symbol, symbol_at}
-use Rattle.object_ranges.specs.Ranges.{has_range, is_symbol_of, is_range}
+use Rattle.loaded_file.specs.Read.{IsRead}
+use Rattle.loaded_file.specs.Records.{no_symbol, symbol_at}
+use Rattle.loaded_file.specs.Ranges.{has_range, is_symbol_of, is_range}
 use Rattle.object_graph.specs.Graphs.{is_first_of}
 use Rattle.object_graph.specs.Gathered.{symbol_if, first_symbol}
 

@@ -2,14 +2,14 @@
 use Rattle.std.proofs.Common.{◌≡◌, ◌∙◌, ◌⊎◌, inl, inr, ℕ, ◌+◌, ◌<◌, ◌==◌, nat_le, Bool, true, false, ◌&&◌, ◌||◌, length, refl, sym, subst, arith}
 use Rattle.std.proofs.lemmas.Bool.{eqb-true, both_ways}
 use Rattle.std.proofs.lemmas.Bool.Decides.{nat_tests}
-use Rattle.index_tests.specs.Tests.{any_below, meets}
-use Rattle.index_tests.proofs.TestLemmas.{either, both, any_found, any_at}
+use Rattle.list_checks.specs.Tests.{any_below, meets}
+use Rattle.list_checks.proofs.TestLemmas.{either, both, any_found, any_at}
 use Rattle.elf_reader.specs.File.{PlainView}
 use Rattle.elf_reader.specs.declared.view.Reloc.{Reloc}
 use Rattle.board_config.specs.declared.board.Board.{Board}
-use Rattle.loaded_code.specs.Records.{reloc_at, counts, symbol_of, target}
-use Rattle.object_ranges.specs.Ranges.{is_of, inside}
-use Rattle.object_ranges.proofs.RangeLemmas.{of_parts}
+use Rattle.loaded_file.specs.Records.{reloc_at, counts, symbol_of, target}
+use Rattle.loaded_file.specs.Ranges.{is_of, inside}
+use Rattle.loaded_file.proofs.RangeLemmas.{of_parts}
 use Rattle.sound_relocations.specs.Sound.{is_meant, displacement, is_sound_high, is_sound_low, is_pair_low, names_high, is_sound_pair}
 use Rattle.movable_ranges.specs.Fixed.{leads_to, gives_pair, is_site_of, is_movable}
 use Rattle.object_graph.specs.Sites.{is_site}

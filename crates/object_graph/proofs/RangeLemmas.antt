@@ -3,19 +3,19 @@ use Rattle.std.proofs.Common.{◌≡◌, ◌∙◌, ◌⊎◌, inl, inr, ℕ, ze
 use Rattle.std.proofs.lemmas.Bool.{cases_eq, cases_lt, eq-eqb}
 use Rattle.std.proofs.lemmas.Bool.Decides.{nat_tests}
 use Rattle.std.proofs.lemmas.List.Folds.{list_any_at}
-use Rattle.index_tests.specs.Tests.{meets}
-use Rattle.index_tests.proofs.TestLemmas.{both}
+use Rattle.list_checks.specs.Tests.{meets}
+use Rattle.list_checks.proofs.TestLemmas.{both}
 use Rattle.std.proofs.lemmas.List.{get_or_default}
 use Rattle.word_bits.specs.Words.{minus}
 use Rattle.elf_reader.specs.File.{PlainView, plain_view}
 use Rattle.elf_reader.specs.declared.view.ElfView.{ElfView}
 use Rattle.elf_reader.specs.declared.view.Reloc.{Reloc}
-use Rattle.loaded_code.specs.Records.{symbol_at, no_reloc, reloc_at, target}
-use Rattle.object_ranges.specs.declared.extents.Extent.{Extent}
-use Rattle.object_ranges.specs.Ranges.{is_range}
-use Rattle.object_ranges.specs.Extents.{is_extent, no_extent, extent_at}
-use Rattle.object_ranges.proofs.ExtentLemmas.{both_made}
-use Rattle.object_ranges.proofs.RangeLemmas.{HasExtent, extent_of}
+use Rattle.loaded_file.specs.Records.{symbol_at, no_reloc, reloc_at, target}
+use Rattle.loaded_file.specs.declared.extents.Extent.{Extent}
+use Rattle.loaded_file.specs.Ranges.{is_range}
+use Rattle.loaded_file.specs.Extents.{is_extent, no_extent, extent_at}
+use Rattle.loaded_file.proofs.ExtentLemmas.{both_made}
+use Rattle.loaded_file.proofs.RangeLemmas.{HasExtent, extent_of}
 use Rattle.sound_relocations.specs.Sound.{is_meant, displacement}
 use Rattle.movable_ranges.specs.Fixed.{is_fixed, is_movable}
 use Rattle.object_graph.specs.Gathered.{AreMovable}

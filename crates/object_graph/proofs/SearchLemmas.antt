@@ -7,9 +7,9 @@ use Rattle.std.proofs.lemmas.Bool.Decides.{nat_tests}
 use Rattle.std.proofs.lemmas.List.Folds.{list_any_none, list_any_at, Any-from_list_any}
 use Rattle.std.proofs.lemmas.List.Sorted.{IsPartitionedBy-ltb}
 use Rattle.std.proofs.lemmas.List.{get_or_default}
-use Rattle.index_tests.proofs.TestLemmas.{both, same_tests}
-use Rattle.object_ranges.specs.declared.extents.Extent.{Extent}
-use Rattle.object_ranges.specs.Extents.{is_extent, no_extent, extent_at, IsFilled}
+use Rattle.list_checks.proofs.TestLemmas.{both, same_tests}
+use Rattle.loaded_file.specs.declared.extents.Extent.{Extent}
+use Rattle.loaded_file.specs.Extents.{is_extent, no_extent, extent_at, IsFilled}
 use Rattle.movable_ranges.specs.Apart.{IsApart}
 use Rattle.object_graph.specs.Gathered.{AreInOrder}
 

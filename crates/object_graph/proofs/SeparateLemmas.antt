@@ -2,14 +2,14 @@
 use Rattle.std.proofs.Common.{◌≡◌, ◌∙◌, inl, inr, ℕ, ◌+◌, ◌<◌, ◌==◌, nat_lt, nat_le, Bool, true, false, not, ◌&&◌, ◌||◌, List, length, refl, sym, subst, arith}
 use Rattle.std.proofs.lemmas.Bool.{cases_Bool, eqb-true, ltb-true}
 use Rattle.std.proofs.lemmas.Bool.Decides.{nat_tests}
-use Rattle.index_tests.specs.Tests.{any_below, meets}
-use Rattle.index_tests.proofs.TestLemmas.{both, not_true, none_at}
+use Rattle.list_checks.specs.Tests.{any_below, meets}
+use Rattle.list_checks.proofs.TestLemmas.{both, not_true, none_at}
 use Rattle.elf_reader.specs.File.{PlainView}
 use Rattle.elf_reader.specs.declared.view.Reloc.{Reloc}
-use Rattle.loaded_code.specs.Code.{image_word}
-use Rattle.loaded_code.specs.Records.{reloc_at, counts, target, is_mute, width_of}
-use Rattle.object_ranges.specs.declared.extents.Extent.{Extent}
-use Rattle.object_ranges.specs.Extents.{extent_at}
+use Rattle.loaded_file.specs.Code.{image_word}
+use Rattle.loaded_file.specs.Records.{reloc_at, counts, target, is_mute, width_of}
+use Rattle.loaded_file.specs.declared.extents.Extent.{Extent}
+use Rattle.loaded_file.specs.Extents.{extent_at}
 use Rattle.sound_relocations.specs.Sound.{is_meant, displacement, changes_word, is_sound_word, holds_data, cuts_range}
 use Rattle.movable_ranges.specs.Fixed.{leads_to}
 use Rattle.object_graph.specs.declared.parts.Site.{Site}

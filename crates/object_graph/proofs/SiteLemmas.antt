@@ -2,17 +2,17 @@
 use Rattle.std.proofs.Common.{◌≡◌, inl, inr, ℕ, ◌<◌, ◌==◌, ◌%◌, Bool, true, false, not, ◌&&◌, ◌||◌, length, arith}
 use Rattle.std.proofs.lemmas.Bool.{eqb-true}
 use Rattle.std.proofs.lemmas.Bool.Decides.{nat_tests}
-use Rattle.index_tests.specs.Tests.{any_below, meets}
-use Rattle.index_tests.proofs.TestLemmas.{either, both, any_found, any_at, none_at}
+use Rattle.list_checks.specs.Tests.{any_below, meets}
+use Rattle.list_checks.proofs.TestLemmas.{either, both, any_found, any_at, none_at}
 use Rattle.elf_reader.specs.File.{PlainSymbol, PlainView}
-use Rattle.loaded_code.specs.Code.{holds_code, is_code_word}
+use Rattle.loaded_file.specs.Code.{holds_code, is_code_word}
 use Rattle.board_config.specs.declared.board.Board.{Board}
-use Rattle.loaded_code.specs.Records.{symbol_at, reloc_at, counts}
-use Rattle.object_ranges.specs.Ranges.{has_range}
+use Rattle.loaded_file.specs.Records.{symbol_at, reloc_at, counts}
+use Rattle.loaded_file.specs.Ranges.{has_range}
 use Rattle.sound_relocations.specs.Sound.{is_sound_high, is_sound_low, is_sound_pair, names_high}
 use Rattle.movable_ranges.specs.Fixed.{leads_to, gives_pair, is_site_of, is_site_by, shares_word, is_shared_by}
 use Rattle.object_graph.specs.Laws.{GivesSite, SitesApart}
-use Rattle.object_ranges.proofs.RangeLemmas.{IsOf}
+use Rattle.loaded_file.proofs.RangeLemmas.{IsOf}
 use Rattle.object_graph.proofs.MovableLemmas.{movable_parts}
 use Rattle.object_graph.proofs.SoundLemmas.{high_parts, low_parts, pair_parts}
 use Rattle.object_graph.proofs.LeadLemmas.{paired_low}

@@ -7,7 +7,7 @@ use Rattle.std.proofs.lemmas.Bool.{cases_eq, cases_lt}
 use Rattle.std.proofs.lemmas.Bool.Decides.{nat_tests}
 use Rattle.std.proofs.lemmas.List.Edits.{swap_is, length-swap}
 use Rattle.std.proofs.lemmas.List.Sorted.{IsPermutation-keeps, length_permutation}
-use Rattle.index_tests.specs.Tests.{meets}
+use Rattle.list_checks.specs.Tests.{meets}
 use Rattle.object_graph.specs.Gathered.{AreSeparate, AreInOrder}
 
 -- R holds of the elements at any two places

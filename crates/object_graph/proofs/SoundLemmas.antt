@@ -2,21 +2,21 @@
 use Rattle.std.proofs.Common.{◌≡◌, ◌⊎◌, inl, inr, ℕ, ◌+◌, ◌<◌, ◌≤◌, ◌==◌, nat_le, Bool, true, false, not, ◌&&◌, ◌||◌, length, arith}
 use Rattle.std.proofs.lemmas.Bool.{leb-true, eqb-true}
 use Rattle.std.proofs.lemmas.Bool.Decides.{nat_tests}
-use Rattle.index_tests.specs.Tests.{any_below, lies_in}
-use Rattle.index_tests.proofs.TestLemmas.{either, both, not_true, any_found, none_at, given}
+use Rattle.list_checks.specs.Tests.{any_below, lies_in}
+use Rattle.list_checks.proofs.TestLemmas.{either, both, not_true, any_found, none_at, given}
 use Rattle.word_bits.specs.Words.{minus, upper_half}
 use Rattle.rv_decode.specs.Fields.{opcode_of}
 use Rattle.elf_reader.specs.File.{PlainView}
 use Rattle.elf_reader.specs.Loaded.{section_at, is_loaded}
-use Rattle.loaded_code.specs.Code.{is_code_word, image_word}
+use Rattle.loaded_file.specs.Code.{is_code_word, image_word}
 use Rattle.elf_reader.specs.declared.view.Reloc.{Reloc}
 use Rattle.board_config.specs.declared.board.Board.{Board}
-use Rattle.loaded_code.specs.Records.{symbol_at, reloc_at, counts, target, is_mute}
-use Rattle.object_ranges.specs.Ranges.{is_executable}
+use Rattle.loaded_file.specs.Records.{symbol_at, reloc_at, counts, target, is_mute}
+use Rattle.loaded_file.specs.Ranges.{is_executable}
 use Rattle.sound_relocations.specs.Sound.{is_meant, displacement, holds_data, cuts_range, changes_word, is_sound_word, u_high, takes_low_i, takes_low_s, is_sound_high, is_sound_low, distance, is_unpaired, is_call_at, is_sound_pair, is_sound_kind, is_sound}
 use Rattle.movable_ranges.specs.Fixed.{is_unsound_by, is_movable}
 use Rattle.object_graph.specs.Laws.{MeansBy}
-use Rattle.object_ranges.proofs.RangeLemmas.{HasExtent, extent_of}
+use Rattle.loaded_file.proofs.RangeLemmas.{HasExtent, extent_of}
 use Rattle.object_graph.proofs.MovableLemmas.{movable_parts}
 
 -- a target that lies a displacement behind a home: nothing wraps

@@ -2,7 +2,7 @@
 use Rattle.std.specs.Prelude.{ℕ, zero, suc, if◌then◌else◌, List, [], ◌∷◌, ◌++◌, length}
 use Rattle.elf_reader.specs.File.{PlainSection, PlainView}
 use Rattle.elf_reader.specs.Loaded.{section_at}
-use Rattle.loaded_code.specs.Code.{is_code_range}
+use Rattle.loaded_file.specs.Code.{is_code_range}
 use Rattle.board_config.specs.declared.board.Range.{Range}
 
 -- the addresses of a section

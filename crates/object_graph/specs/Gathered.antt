@@ -1,14 +1,14 @@
 -- How the parts of a graph are gathered, a relocation or a symbol at a time.
 use Rattle.std.specs.Prelude.{◌≡◌, ℕ, ◌+◌, ◌≤◌, ◌==◌, nat_lt, Bool, false, not, ◌&&◌, List, [], ◌∷◌, length, Option, Some, None}
 use Rattle.std.specs.List.{AllPairs, list_any}
-use Rattle.index_tests.specs.Tests.{any_below, meets}
-use Rattle.fault_order.specs.First.{unless, first_below}
+use Rattle.list_checks.specs.Tests.{any_below, meets}
+use Rattle.list_checks.specs.First.{unless, first_below}
 use Rattle.elf_reader.specs.File.{PlainView}
 use Rattle.board_config.specs.declared.board.Board.{Board}
-use Rattle.loaded_code.specs.Records.{reloc_at, counts}
-use Rattle.object_ranges.specs.declared.extents.Extent.{Extent}
-use Rattle.object_ranges.specs.Ranges.{is_symbol_of}
-use Rattle.object_ranges.specs.Extents.{extent_at, has_extent_in, IsFilled}
+use Rattle.loaded_file.specs.Records.{reloc_at, counts}
+use Rattle.loaded_file.specs.declared.extents.Extent.{Extent}
+use Rattle.loaded_file.specs.Ranges.{is_symbol_of}
+use Rattle.loaded_file.specs.Extents.{extent_at, has_extent_in, IsFilled}
 use Rattle.sound_relocations.specs.Sound.{displacement, is_sound_word}
 use Rattle.movable_ranges.specs.Apart.{IsApart}
 use Rattle.movable_ranges.specs.Fixed.{leads_to, is_movable}

@@ -1,13 +1,13 @@
 -- What the graph of a file and a board is.
 use Rattle.std.specs.Prelude.{◌≡◌, ℕ, ◌+◌, ◌==◌, ◌≤◌, nat_lt, Bool, true, not, ◌&&◌, ◌||◌, List, length, slice_index_or}
 use Rattle.std.specs.List.{All, AllPairs, list_any}
-use Rattle.index_tests.specs.Tests.{any_below}
+use Rattle.list_checks.specs.Tests.{any_below}
 use Rattle.elf_reader.specs.Sections.{bit_of}
 use Rattle.elf_reader.specs.File.{PlainView}
 use Rattle.elf_reader.specs.declared.view.Reloc.{Reloc}
 use Rattle.board_config.specs.declared.board.Board.{Board}
-use Rattle.loaded_code.specs.Records.{symbol_at, reloc_at, counts}
-use Rattle.object_ranges.specs.Ranges.{owner_of, is_symbol_of}
+use Rattle.loaded_file.specs.Records.{symbol_at, reloc_at, counts}
+use Rattle.loaded_file.specs.Ranges.{owner_of, is_symbol_of}
 use Rattle.sound_relocations.specs.Sound.{displacement, is_sound_word, is_sound_high, is_sound_low, is_sound_pair}
 use Rattle.movable_ranges.specs.Fixed.{leads_to, gives_pair, is_movable}
 use Rattle.object_graph.specs.CodeRanges.{code_ranges_of}

@@ -1,14 +1,14 @@
 -- The checks of a program's layout on a board, each with the fault that it tells, and their order.
 use Rattle.std.specs.Prelude.{ℕ, zero, suc, ◌+◌, ◌-◌, ◌==◌, nat_lt, nat_le, min, max, Bool, not, ◌&&◌, ◌||◌, if◌then◌else◌, length, slice_index_or, Option}
-use Rattle.fault_order.specs.First.{◌or_else◌, unless, first_below}
-use Rattle.index_tests.specs.Tests.{any_below, lies_in, meets}
+use Rattle.list_checks.specs.First.{◌or_else◌, unless, first_below}
+use Rattle.list_checks.specs.Tests.{any_below, lies_in, meets}
 use Rattle.elf_reader.specs.File.{PlainSegment, PlainView}
 use Rattle.elf_reader.specs.Loaded.{section_at, segment_at}
-use Rattle.loaded_code.specs.Code.{is_code_range}
-use Rattle.loaded_code.specs.Records.{symbol_at}
+use Rattle.loaded_file.specs.Code.{is_code_range}
+use Rattle.loaded_file.specs.Records.{symbol_at}
 use Rattle.board_config.specs.declared.board.Board.{Board}
 use Rattle.board_config.specs.declared.board.Range.{Range}
-use Rattle.object_ranges.specs.Ranges.{has_range}
+use Rattle.loaded_file.specs.Ranges.{has_range}
 use Rattle.movable_ranges.specs.Fixed.{is_movable}
 use Rattle.object_graph.specs.Sites.{no_area}
 use Rattle.object_graph.specs.declared.fault.GraphFault.{GraphFault}

@@ -1,8 +1,8 @@
 pub use Rattle.elf_reader.specs.Loaded
-pub use Rattle.loaded_code.specs.Code
-pub use Rattle.loaded_code.specs.Records
-pub use Rattle.object_ranges.specs.Ranges
-pub use Rattle.object_ranges.specs.Extents
+pub use Rattle.loaded_file.specs.Code
+pub use Rattle.loaded_file.specs.Records
+pub use Rattle.loaded_file.specs.Ranges
+pub use Rattle.loaded_file.specs.Extents
 pub use Rattle.sound_relocations.specs.Sound
 pub use Rattle.sound_relocations.specs.Marks
 pub use Rattle.movable_ranges.specs.Fixed
@@ -14,3 +14,7 @@ pub mod Graphs
 pub mod Gathered
 pub mod Lookups
 pub mod Laws
+pub use Rattle.object_graph.specs.Graphs
+pub use Rattle.object_graph.specs.Sites
+pub mod Spans
+pub mod Kinds

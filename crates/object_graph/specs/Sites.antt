@@ -1,14 +1,14 @@
 -- Where the addresses of the objects that may move are made, and which memory is theirs or anyone's.
 use Rattle.std.specs.Prelude.{ℕ, ◌+◌, ◌-◌, ◌==◌, nat_lt, Bool, not, ◌&&◌, ◌||◌, length, slice_index_or}
-use Rattle.index_tests.specs.Tests.{any_below}
+use Rattle.list_checks.specs.Tests.{any_below}
 use Rattle.elf_reader.specs.File.{PlainView}
 use Rattle.elf_reader.specs.Image.{has_byte}
 use Rattle.elf_reader.specs.Loaded.{section_at, segment_at}
-use Rattle.loaded_code.specs.Code.{is_code_range}
-use Rattle.loaded_code.specs.Records.{symbol_at, reloc_at}
+use Rattle.loaded_file.specs.Code.{is_code_range}
+use Rattle.loaded_file.specs.Records.{symbol_at, reloc_at}
 use Rattle.board_config.specs.declared.board.Board.{Board}
 use Rattle.board_config.specs.declared.board.Range.{Range}
-use Rattle.object_ranges.specs.Ranges.{has_range, inside}
+use Rattle.loaded_file.specs.Ranges.{has_range, inside}
 use Rattle.sound_relocations.specs.Sound.{is_sound_word}
 use Rattle.movable_ranges.specs.Fixed.{leads_to, is_site_of, is_movable}
 

@@ -1,9 +1,9 @@
 ghost use Rattle.std.specs.Prelude.{◌≡◌, ℕ, ◌≤◌, nat_le, length, map, IfOk};
 ghost use Rattle.std.specs.List.{All};
-ghost use Rattle.fault_order.specs.First.{Tells, TellsUnless, unless};
+ghost use Rattle.list_checks.specs.First.{Tells, TellsUnless, unless};
 ghost use Rattle.elf_reader.specs.File.{plain_view};
-ghost use Rattle.loaded_code.specs.Marks.{all_loaded};
-ghost use Rattle.loaded_code.specs.Read.{IsRead};
+ghost use Rattle.loaded_file.specs.Marks.{all_loaded};
+ghost use Rattle.loaded_file.specs.Read.{IsRead};
 ghost use Rattle.sound_relocations.specs.Marks.{all_sound};
 ghost use Rattle.object_graph.specs.declared.fault.GraphFault.TheVariants.{TooManyObjects};
 ghost use Rattle.object_graph.specs.LayoutFaults.{capped, too_many_fault, layout_fault};
@@ -19,9 +19,8 @@ use crate::sites::sites;
 use crate::words::data_words;
 use board_config::Board;
 use elf_reader::ElfView;
-use loaded_code::loaded_sections;
+use loaded_file::{Extent, loaded_sections};
 use movable_ranges::movable_ranges;
-use object_ranges::Extent;
 use sound_relocations::sound_kinds;
 use std::alloc::{AllocError, Global};
 

@@ -1,13 +1,13 @@
 ghost use Rattle.std.specs.Prelude.{◌≡◌, ◌<◌, ◌==◌, ◌&&◌, length, IfOk};
 ghost use Rattle.elf_reader.specs.Sections.{bit_of};
 ghost use Rattle.elf_reader.specs.File.{plain_view, plain_section};
-ghost use Rattle.loaded_code.specs.Marks.{all_loaded};
-ghost use Rattle.loaded_code.specs.Code.{is_code_range};
+ghost use Rattle.loaded_file.specs.Marks.{all_loaded};
+ghost use Rattle.loaded_file.specs.Code.{is_code_range};
 ghost use Rattle.object_graph.specs.CodeRanges.{section_range, code_ranges_of};
 
 use board_config::Range;
 use elf_reader::{ElfView, Section};
-use loaded_code::is_code_range;
+use loaded_file::is_code_range;
 use std::alloc::{AllocError, Global};
 
 /// The addresses of the code of a program, a range for each executable section with content that is loaded, in

@@ -1,8 +1,8 @@
 ghost use Rattle.std.specs.Prelude.{◌≡◌, ℕ, ◌+◌, ◌<◌, ◌≤◌, length};
-ghost use Rattle.fault_order.specs.First.{◌or_else◌, Tells, TellsUnless, first_below};
-ghost use Rattle.index_tests.specs.Tests.{any_below};
+ghost use Rattle.list_checks.specs.First.{◌or_else◌, Tells, TellsUnless, first_below};
+ghost use Rattle.list_checks.specs.Tests.{any_below};
 ghost use Rattle.elf_reader.specs.File.{plain_segment, plain_view};
-ghost use Rattle.loaded_code.specs.Marks.{all_loaded};
+ghost use Rattle.loaded_file.specs.Marks.{all_loaded};
 ghost use Rattle.object_graph.specs.LayoutFaults.{segment_meets, spm_overlap_fault, patch_overlap_fault, has_code, least_below, greatest_below, span_of, patch_far_fault, spm_meets_patch_fault, spm_at_zero_fault, segment_lies_in, lies_in_area, no_area_fault, places_fault};
 
 use crate::code::range_of;
@@ -10,7 +10,7 @@ use crate::fault::GraphFault;
 use crate::ranges::{end, lies_in, meet, memory_of};
 use board_config::{Board, Range};
 use elf_reader::{ElfView, Segment};
-use loaded_code::{is_code_range, loaded_sections};
+use loaded_file::{is_code_range, loaded_sections};
 use std::alloc::Global;
 
 /// How many bytes a jump reaches forwards (RISC-V Unprivileged ISA, "Unconditional Jumps": JAL).

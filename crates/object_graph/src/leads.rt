@@ -1,12 +1,11 @@
 ghost use Rattle.std.specs.Prelude.{◌≡◌, ℕ, ◌<◌, ◌≤◌, length};
 ghost use Rattle.elf_reader.specs.File.{plain_view};
-ghost use Rattle.loaded_code.specs.Marks.{all_loaded};
+ghost use Rattle.loaded_file.specs.Marks.{all_loaded};
 ghost use Rattle.object_graph.specs.Gathered.{AreMovable, is_lead, leads_by};
 
 use elf_reader::ElfView;
-use loaded_code::{counts, target};
+use loaded_file::{Extent, counts, target};
 use movable_ranges::meant_range;
-use object_ranges::Extent;
 
 /// Where a relocation leads: into an object that may move, or to its end.
 #[derive(Clone, Copy)]

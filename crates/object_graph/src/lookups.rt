@@ -2,7 +2,7 @@ ghost use Rattle.std.specs.Prelude.{◌≡◌, ℕ, ◌<◌, ◌==◌, true, fal
 ghost use Rattle.std.specs.List.{list_any};
 ghost use Rattle.object_graph.specs.declared.parts.Site.{Site};
 ghost use Rattle.object_graph.specs.declared.parts.DataWord.{DataWord};
-ghost use Rattle.object_ranges.specs.Ranges.{inside};
+ghost use Rattle.loaded_file.specs.Ranges.{inside};
 ghost use Rattle.object_graph.specs.Graphs.{object_at, same_site, same_word};
 ghost use Rattle.object_graph.specs.Lookups.{AreLaidOut};
 ghost use Rattle.object_graph.specs.Gathered.{gives, AreInOrder, site_place, word_place};
@@ -12,7 +12,7 @@ use crate::parts::{DataWord, Graph, Object, Site};
 impl Graph {
     ghost use Rattle.std.specs.Prelude.{◌≡◌, ℕ, ◌<◌, ◌==◌, true, false, length, MatchOption};
     ghost use Rattle.std.specs.List.{list_any};
-    ghost use Rattle.object_ranges.specs.Ranges.{inside};
+    ghost use Rattle.loaded_file.specs.Ranges.{inside};
     ghost use Rattle.object_graph.specs.Graphs.{object_at, same_site, same_word};
     ghost use Rattle.object_graph.specs.Lookups.{IsSomeGraph, stands_at, begins_at};
 

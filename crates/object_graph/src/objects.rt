@@ -1,18 +1,18 @@
 ghost use Rattle.std.specs.Prelude.{◌≡◌, ℕ, ◌<◌, true, length, map, slice_index_or, IfOk, None};
 ghost use Rattle.std.specs.List.{All};
-ghost use Rattle.fault_order.specs.First.{◌or_else◌};
+ghost use Rattle.list_checks.specs.First.{◌or_else◌};
 ghost use Rattle.elf_reader.specs.File.{plain_view};
-ghost use Rattle.loaded_code.specs.Marks.{all_loaded};
-ghost use Rattle.loaded_code.specs.Read.{IsRead};
-ghost use Rattle.object_ranges.specs.Ranges.{is_range};
-ghost use Rattle.object_ranges.specs.Extents.{extent_at};
+ghost use Rattle.loaded_file.specs.Marks.{all_loaded};
+ghost use Rattle.loaded_file.specs.Read.{IsRead};
+ghost use Rattle.loaded_file.specs.Ranges.{is_range};
+ghost use Rattle.loaded_file.specs.Extents.{extent_at};
 ghost use Rattle.object_graph.specs.Graphs.{is_writable, IsNamed};
 ghost use Rattle.object_graph.specs.Gathered.{AreMovable, range_of, symbol_if, first_symbol};
 
 use crate::parts::Object;
 use crate::places::place_of_symbol;
 use elf_reader::ElfView;
-use object_ranges::Extent;
+use loaded_file::Extent;
 use std::alloc::{AllocError, Global};
 
 /// The objects of these ranges, in their order. `loaded` are the marks of the loaded sections. It fails only

@@ -1,12 +1,12 @@
 ghost use Rattle.std.specs.Prelude.{◌≡◌, ℕ, ◌<◌, length};
 ghost use Rattle.elf_reader.specs.File.{plain_symbol, plain_view};
-ghost use Rattle.loaded_code.specs.Marks.{all_loaded};
-ghost use Rattle.object_ranges.specs.Ranges.{is_of};
-ghost use Rattle.object_ranges.specs.Extents.{is_extent, extent_at, IsFilled};
+ghost use Rattle.loaded_file.specs.Marks.{all_loaded};
+ghost use Rattle.loaded_file.specs.Ranges.{is_of};
+ghost use Rattle.loaded_file.specs.Extents.{is_extent, extent_at, IsFilled};
 ghost use Rattle.movable_ranges.specs.Apart.{IsApart, IsBelow, is_place};
 
 use elf_reader::{ElfView, Symbol};
-use object_ranges::{Extent, has_range};
+use loaded_file::{Extent, has_range};
 
 /// The place of a symbol's range in a list, if it stands there. The ranges ascend, share no byte, and have bytes.
 pub(crate) fn place_of_symbol(

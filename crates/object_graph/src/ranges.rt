@@ -1,5 +1,5 @@
 ghost use Rattle.std.specs.Prelude.{◌≡◌, ◌+◌};
-ghost use Rattle.index_tests.specs.Tests.{lies_in, meets};
+ghost use Rattle.list_checks.specs.Tests.{lies_in, meets};
 
 use board_config::Range;
 use elf_reader::Segment;

@@ -1,8 +1,8 @@
 ghost use Rattle.std.specs.Prelude.{◌≡◌, ℕ, ◌<◌, ◌≤◌, ◌==◌, Bool, true, ◌||◌, ◌++◌, length, IfOk};
 ghost use Rattle.std.specs.List.{list_any};
 ghost use Rattle.elf_reader.specs.File.{plain_view};
-ghost use Rattle.loaded_code.specs.Marks.{all_loaded};
-ghost use Rattle.loaded_code.specs.Records.{symbol_at, reloc_at};
+ghost use Rattle.loaded_file.specs.Marks.{all_loaded};
+ghost use Rattle.loaded_file.specs.Records.{symbol_at, reloc_at};
 ghost use Rattle.sound_relocations.specs.Sound.{is_pair_low, is_sound_kind};
 ghost use Rattle.sound_relocations.specs.Marks.{all_sound};
 ghost use Rattle.object_graph.specs.declared.parts.SiteKind.{SiteKind};
@@ -14,8 +14,7 @@ use crate::leads::lead_of;
 use crate::lookups::find_site;
 use crate::parts::{Site, SiteKind};
 use elf_reader::{ElfView, R_RISCV_PCREL_HI20};
-use loaded_code::counts;
-use object_ranges::Extent;
+use loaded_file::{Extent, counts};
 use sound_relocations::is_pair_low;
 use std::alloc::{AllocError, Global};
 

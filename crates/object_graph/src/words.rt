@@ -1,7 +1,7 @@
 ghost use Rattle.std.specs.Prelude.{◌≡◌, ◌<◌, ◌≤◌, Bool, ◌++◌, length, IfOk};
 ghost use Rattle.std.specs.List.{list_any};
 ghost use Rattle.elf_reader.specs.File.{plain_view};
-ghost use Rattle.loaded_code.specs.Marks.{all_loaded};
+ghost use Rattle.loaded_file.specs.Marks.{all_loaded};
 ghost use Rattle.sound_relocations.specs.Marks.{all_sound};
 ghost use Rattle.object_graph.specs.declared.parts.DataWord.{DataWord};
 ghost use Rattle.object_graph.specs.Graphs.{same_word};
@@ -11,7 +11,7 @@ use crate::leads::lead_of;
 use crate::parts::DataWord;
 use crate::sites::is_sound;
 use elf_reader::{ElfView, R_RISCV_32};
-use object_ranges::Extent;
+use loaded_file::Extent;
 use std::alloc::{AllocError, Global};
 
 /// The words of data that lead to the objects of these ranges, by address. `loaded` and `sound` are the marks

@@ -5,7 +5,7 @@ use Rattle.std.specs.List.{All, list_any}
 use Rattle.std.proofs.lemmas.Bool.Decides.{nat_tests}
 use Rattle.std.proofs.lemmas.List.{length-map}
 use Rattle.std.proofs.lemmas.List.Elements.{All-nil, All-cons}
-use Rattle.index_tests.proofs.TestLemmas.{both}
+use Rattle.list_checks.proofs.TestLemmas.{both}
 use Rattle.board_config.specs.declared.board.Range.{Range}
 use Rattle.object_graph.specs.declared.parts.Graph.{Graph}
 use Rattle.object_graph.specs.Sites.{in_range}

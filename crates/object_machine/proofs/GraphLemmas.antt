@@ -6,17 +6,17 @@ use Rattle.std.proofs.lemmas.Bool.Decides.{nat_tests}
 use Rattle.std.proofs.lemmas.List.{get_or_default}
 use Rattle.std.proofs.Math.ListN.{get_or-eq_default}
 use Rattle.std.proofs.lemmas.List.Folds.{list_any_at}
-use Rattle.index_tests.specs.Tests.{any_below, lies_in}
-use Rattle.index_tests.proofs.TestLemmas.{either, both, not_true, neither, any_found, any_at, none_at}
+use Rattle.list_checks.specs.Tests.{any_below, lies_in}
+use Rattle.list_checks.proofs.TestLemmas.{either, both, not_true, neither, any_found, any_at, none_at}
 use Rattle.elf_reader.specs.File.{PlainView, plain_view}
 use Rattle.elf_reader.specs.Loaded.{section_at, is_loaded}
 use Rattle.elf_reader.specs.declared.view.ElfView.{ElfView}
 use Rattle.board_config.specs.declared.board.Board.{Board}
-use Rattle.loaded_code.specs.Code.{image_word}
-use Rattle.loaded_code.specs.Read.{IsRead}
-use Rattle.loaded_code.specs.Records.{symbol_at, reloc_at, target}
-use Rattle.object_ranges.specs.Ranges.{is_of, has_range, inside, is_executable, is_symbol_of}
-use Rattle.object_ranges.proofs.RangeLemmas.{IsOf, HasExtent, extent_of}
+use Rattle.loaded_file.specs.Code.{image_word}
+use Rattle.loaded_file.specs.Read.{IsRead}
+use Rattle.loaded_file.specs.Records.{symbol_at, reloc_at, target}
+use Rattle.loaded_file.specs.Ranges.{is_of, has_range, inside, is_executable, is_symbol_of}
+use Rattle.loaded_file.proofs.RangeLemmas.{IsOf, HasExtent, extent_of}
 use Rattle.sound_relocations.specs.Sound.{displacement, holds_data, cuts_range, changes_word, is_sound_word}
 use Rattle.movable_ranges.specs.Fixed.{leads_to, is_movable}
 use Rattle.object_graph.specs.declared.parts.Object.{Object}

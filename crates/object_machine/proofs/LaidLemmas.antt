@@ -8,8 +8,8 @@ use Rattle.std.proofs.lemmas.List.{get_or-append-add, map-append, take_more, len
 use Rattle.elf_reader.specs.File.{PlainView, plain_view}
 use Rattle.elf_reader.specs.declared.view.ElfView.{ElfView}
 use Rattle.board_config.specs.declared.board.Board.{Board}
-use Rattle.loaded_code.specs.Code.{is_code_word}
-use Rattle.loaded_code.specs.Read.{IsRead}
+use Rattle.loaded_file.specs.Code.{is_code_word}
+use Rattle.loaded_file.specs.Read.{IsRead}
 use Rattle.object_graph.specs.declared.parts.Graph.{Graph}
 use Rattle.code_blocks.specs.Ends.{words_left}
 use Rattle.code_blocks.specs.Blocks.{unit_at, start_of, unit_addresses, goes_on, IsUnit, IsBlock}

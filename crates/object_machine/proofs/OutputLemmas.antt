@@ -1,7 +1,7 @@
 -- Runs write at the end of the output, and take nothing back.
 use Rattle.std.proofs.Common.{◌≡◌, ℕ, zero, suc, ◌+◌, ◌==◌, Bool, true, false, if◌then◌else◌, List, [], ◌∷◌, ◌++◌, take, append_assoc, Option, Some, None, ℤ, refl, sym, ◌∙◌, ap}
 use Rattle.std.proofs.lemmas.List.{append-nil}
-use Rattle.fault_order.specs.First.{first_below}
+use Rattle.list_checks.specs.First.{first_below}
 use Rattle.rv_decode.specs.Fields.{rd_of}
 use Rattle.rv_decode.specs.declared.instructions.Instr.{Instr}
 use Rattle.rv_decode.specs.declared.instructions.Instr.TheVariants.{Lui, Auipc, Jal, Jalr, Branch, Load, Store, OpImm, OpReg, Fence, FenceI, Ecall, Ebreak}

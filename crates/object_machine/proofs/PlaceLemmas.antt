@@ -4,8 +4,8 @@ use Rattle.std.specs.List.{list_any}
 use Rattle.std.proofs.lemmas.Bool.Decides.{nat_tests}
 use Rattle.std.proofs.lemmas.List.Folds.{list_any_none}
 use Rattle.std.proofs.lemmas.List.{get_or_default}
-use Rattle.fault_order.specs.First.{first_below}
-use Rattle.fault_order.proofs.FirstLemmas.{none_at}
+use Rattle.list_checks.specs.First.{first_below}
+use Rattle.list_checks.proofs.FirstLemmas.{none_at}
 use Rattle.board_config.specs.declared.board.Range.{Range}
 use Rattle.object_graph.specs.declared.parts.Object.{Object}
 use Rattle.cell_values.specs.Objects.{absent_object, object_of}

@@ -2,9 +2,9 @@
 use Rattle.std.proofs.Common.{◌≡◌, ◌⊎◌, inl, inr, ℕ, zero, suc, ◌+◌, ◌-◌, ◌*◌, ◌/◌, ◌<◌, ◌==◌, ◌%◌, Bool, true, false, ◌&&◌, not, ◌≤◌, List, length, Option, Some, None, refl, sym, ◌∙◌, ap, subst, arith}
 use Rattle.std.proofs.lemmas.Bool.{eqb-true, both_ways}
 use Rattle.std.proofs.lemmas.Bool.Decides.{nat_tests}
-use Rattle.fault_order.specs.First.{◌or_else◌, first_below, unless}
-use Rattle.index_tests.specs.Tests.{any_below, lies_in}
-use Rattle.index_tests.proofs.TestLemmas.{both, any_found, any_at}
+use Rattle.list_checks.specs.First.{◌or_else◌, first_below, unless}
+use Rattle.list_checks.specs.Tests.{any_below, lies_in}
+use Rattle.list_checks.proofs.TestLemmas.{both, any_found, any_at}
 use Rattle.elf_reader.specs.Sections.{bit_of}
 use Rattle.elf_reader.specs.File.{PlainView, plain_view, view_in}
 use Rattle.elf_reader.specs.Loadable.{AreApart}
@@ -12,9 +12,9 @@ use Rattle.elf_reader.specs.Loaded.{section_at, segment_at, is_loaded}
 use Rattle.elf_reader.specs.declared.view.ElfView.{ElfView}
 use Rattle.elf_reader.proofs.SegmentLemmas.{none_of_headers, load_segments_apart}
 use Rattle.elf_reader.proofs.LoadedLemmas.{IsFilled, loaded_found, same_segment, filled_alone, zeroed_apart}
-use Rattle.loaded_code.specs.Code.{is_code_range, holds_code, is_code_word}
-use Rattle.loaded_code.specs.Read.{IsRead}
-use Rattle.loaded_code.proofs.WordLemmas.{same_view, range_below, word_fits}
+use Rattle.loaded_file.specs.Code.{is_code_range, holds_code, is_code_word}
+use Rattle.loaded_file.specs.Read.{IsRead}
+use Rattle.loaded_file.proofs.WordLemmas.{same_view, range_below, word_fits}
 use Rattle.code_blocks.specs.Ends.{range_at, words_left_in, words_left}
 use Rattle.code_blocks.proofs.RangeLemmas.{code_held, no_range, word_held}
 

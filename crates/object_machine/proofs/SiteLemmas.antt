@@ -3,9 +3,9 @@ use Rattle.std.proofs.Common.{◌≡◌, inl, inr, ℕ, suc, ◌+◌, ◌≤◌,
 use Rattle.std.specs.List.{AllPairs, list_any}
 use Rattle.std.proofs.lemmas.Bool.{eqb-true, cases_eq}
 use Rattle.std.proofs.lemmas.Bool.Decides.{nat_tests}
-use Rattle.index_tests.proofs.TestLemmas.{either, both, neither}
-use Rattle.index_tests.specs.Tests.{any_below}
-use Rattle.index_tests.proofs.StepLemmas.{any_place}
+use Rattle.list_checks.proofs.TestLemmas.{either, both, neither}
+use Rattle.list_checks.specs.Tests.{any_below}
+use Rattle.list_checks.proofs.StepLemmas.{any_place}
 use Rattle.object_graph.specs.declared.parts.Site.{Site}
 use Rattle.object_graph.specs.declared.parts.Graph.{Graph}
 use Rattle.object_graph.specs.Graphs.{same_part, same_site, is_site_of_list, gives_site}

@@ -14,7 +14,7 @@ use Rattle.paged_store.proofs.Puts.{put_bytes_before, put_bytes_behind, put_byte
 use Rattle.object_graph.specs.declared.parts.DataWord.{DataWord}
 use Rattle.object_graph.specs.declared.parts.Graph.{Graph}
 use Rattle.cell_values.specs.Cells.{IsCellOfGraph, put_at, put_cells, parts_of}
-use Rattle.index_tests.proofs.TestLemmas.{both}
+use Rattle.list_checks.proofs.TestLemmas.{both}
 use Rattle.cell_values.specs.Objects.{IsOfGraph}
 use Rattle.cell_values.specs.declared.values.Val.{Val}
 use Rattle.cell_values.specs.declared.values.Val.TheVariants.{Int}

@@ -1,7 +1,7 @@
 -- The calls of the environment: ECALL with the number in a7 and the arguments in a0 to a2, as on the flat
 -- machine. What they look at must be plain numbers (reason 8), in the order number, code or count, bytes.
 use Rattle.std.specs.Prelude.{ℕ, zero, suc, ◌+◌, ◌%◌, ◌==◌, if◌then◌else◌, min, List, [], ◌∷◌, ◌++◌, length, take, drop, map, Option, Some, None}
-use Rattle.fault_order.specs.First.{first_below}
+use Rattle.list_checks.specs.First.{first_below}
 use Rattle.cell_values.specs.declared.values.Val.{Val}
 use Rattle.cell_values.specs.declared.values.Val.TheVariants.{Int}
 use Rattle.cell_values.specs.declared.values.Cell.{Cell}

@@ -3,7 +3,7 @@ use Rattle.std.specs.Prelude.{◌≡◌, ℕ, ◌+◌, ◌<◌, nat_lt, Bool, �
 use Rattle.std.specs.List.{list_any}
 use Rattle.rv_decode.specs.declared.instructions.Instr.{Instr}
 use Rattle.code_leaders.specs.Early.{has}
-use Rattle.cell_store.specs.Stored.{cells_of}
+use Rattle.cell_values.specs.Stored.{cells_of}
 use Rattle.cell_values.specs.Objects.{Objects, objects_of}
 use Rattle.cell_values.specs.declared.values.Val.{Val}
 use Rattle.cell_values.specs.declared.values.Val.TheVariants.{Int, Addr, Unknown}

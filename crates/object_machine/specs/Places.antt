@@ -1,6 +1,6 @@
 -- Where an access goes, or why it can't.
 use Rattle.std.specs.Prelude.{ℕ, ◌+◌, ◌%◌, ◌==◌, nat_le, nat_lt, Bool, if◌then◌else◌, Option, Some, None, ℤ}
-use Rattle.fault_order.specs.First.{first_below}
+use Rattle.list_checks.specs.First.{first_below}
 use Rattle.rv_decode.specs.declared.instructions.ImmKind.TheVariants.{Addi}
 use Rattle.cell_values.specs.Objects.{Objects, home_address}
 use Rattle.cell_values.specs.Operations.{op_imm, low_site}

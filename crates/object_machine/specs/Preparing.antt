@@ -3,7 +3,7 @@ use Rattle.std.specs.Prelude.{◌≡◌, ℕ, ◌+◌, ◌<◌, nat_lt, Bool, tr
 use Rattle.rv_decode.specs.Fields.{rd_of}
 use Rattle.elf_reader.specs.File.{PlainView}
 use Rattle.board_config.specs.declared.board.Board.{Board}
-use Rattle.loaded_code.specs.Code.{image_word}
+use Rattle.loaded_file.specs.Code.{image_word}
 use Rattle.object_graph.specs.declared.parts.Graph.{Graph}
 use Rattle.code_leaders.specs.Words.{pair_target}
 use Rattle.code_leaders.specs.Leaders.{is_call_pair}

@@ -1,13 +1,13 @@
 -- What the machine needs of a file and a board: as functions of addresses, and of the objects' numbers.
 use Rattle.std.specs.Prelude.{ℕ, ◌+◌, ◌==◌, nat_lt, Bool, ◌&&◌, ◌||◌, if◌then◌else◌, List, [], ◌∷◌, Option, Some, None, length}
 use Rattle.std.specs.List.{list_any}
-use Rattle.fault_order.specs.First.{unless, first_below}
+use Rattle.list_checks.specs.First.{unless, first_below}
 use Rattle.elf_reader.specs.File.{PlainView}
 use Rattle.elf_reader.specs.declared.view.Reloc.{Reloc}
 use Rattle.board_config.specs.declared.board.Board.{Board}
-use Rattle.loaded_code.specs.Code.{image_word}
-use Rattle.loaded_code.specs.Records.{reloc_at, counts, symbol_of}
-use Rattle.object_ranges.specs.Ranges.{inside}
+use Rattle.loaded_file.specs.Code.{image_word}
+use Rattle.loaded_file.specs.Records.{reloc_at, counts, symbol_of}
+use Rattle.loaded_file.specs.Ranges.{inside}
 use Rattle.sound_relocations.specs.Sound.{is_pair_low}
 use Rattle.object_graph.specs.Sites.{is_fixed_memory}
 use Rattle.object_graph.specs.declared.parts.Object.{Object}

@@ -2,7 +2,7 @@ ghost use Rattle.std.specs.Prelude.{◌≡◌, ◌+◌, ◌<◌, ◌≤◌, ℕ,
 ghost use Rattle.std.specs.List.{All};
 ghost use Rattle.cell_values.specs.Objects.{IsOfGraph};
 ghost use Rattle.cell_values.specs.Cells.{IsCellOfGraph};
-ghost use Rattle.cell_store.specs.Stored.{cells_of};
+ghost use Rattle.cell_values.specs.Stored.{cells_of};
 ghost use Rattle.object_machine.specs.Units.{unit_in};
 ghost use Rattle.object_machine.specs.OfGraph.{values_prop, cells_prop};
 
@@ -21,8 +21,7 @@ use crate::tables::Tables;
 use crate::tabling::tables_of;
 use crate::units::Prepared;
 use board_config::Board;
-use cell_store::CellStore;
-use cell_values::Val;
+use cell_values::{CellStore, Val};
 use code_blocks::Code;
 use elf_reader::ElfView;
 use object_graph::Graph;
@@ -55,7 +54,7 @@ impl Source {
     ghost use Rattle.std.specs.Prelude.{IfOk, true};
     ghost use Rattle.elf_reader.specs.File.{plain_view};
     ghost use Rattle.board_config.specs.Board.{IsLawful};
-    ghost use Rattle.loaded_code.specs.Read.{IsRead};
+    ghost use Rattle.loaded_file.specs.Read.{IsRead};
     ghost use Rattle.object_graph.specs.Graphs.{IsGraph};
     ghost use Rattle.code_leaders.specs.Leaders.{is_leader};
     ghost use Rattle.code_blocks.specs.Blocks.{IsCode};

@@ -4,13 +4,12 @@ ghost use Rattle.elf_reader.specs.Image.{image_of};
 ghost use Rattle.word_bits.specs.Memory.{Memory};
 ghost use Rattle.cell_values.specs.Cells.{put_cells, parts_of};
 ghost use Rattle.cell_values.specs.declared.values.Cell.TheVariants.{Byte};
-ghost use Rattle.cell_store.specs.Stored.{cells_of};
+ghost use Rattle.cell_values.specs.Stored.{cells_of};
 ghost use Rattle.object_machine.specs.Start.{first_cell};
 ghost use Rattle.object_machine.specs.Starting.{AreShortSegments, AreShortWords, plain_cells};
 ghost use Rattle.object_machine.specs.Machine.{byte_cells};
 
-use cell_store::CellStore;
-use cell_values::{Cell, Val, split};
+use cell_values::{Cell, CellStore, Val, split};
 use elf_reader::Segment;
 use object_graph::DataWord;
 use std::alloc::{AllocError, Global};

@@ -5,9 +5,8 @@ ghost use Rattle.object_machine.specs.Layout.{AreAscending, EndBelow, LieApart, 
 
 use crate::units::Prepared;
 use board_config::Range;
-use fixed_memory::lies_in_some;
-use object_graph::Graph;
-use sorted_numbers::place_of;
+use list_checks::place_of;
+use object_graph::{Graph, lies_in_some};
 
 /// What of a program never changes while it runs.
 #[derive(Drop)]

@@ -1,7 +1,7 @@
 ghost use Rattle.std.specs.Prelude.{◌≡◌, IfOk};
 ghost use Rattle.elf_reader.specs.File.{plain_view};
 ghost use Rattle.board_config.specs.Board.{IsLawful};
-ghost use Rattle.loaded_code.specs.Read.{IsRead};
+ghost use Rattle.loaded_file.specs.Read.{IsRead};
 ghost use Rattle.object_graph.specs.Graphs.{IsGraph};
 ghost use Rattle.code_blocks.specs.Blocks.{IsCode};
 ghost use Rattle.cell_values.specs.Objects.{IsGrain};
@@ -14,9 +14,8 @@ use crate::tables::Tables;
 use board_config::Board;
 use code_blocks::Code;
 use elf_reader::ElfView;
-use fixed_memory::fixed_ranges;
-use loaded_code::loaded_sections;
-use object_graph::Graph;
+use loaded_file::loaded_sections;
+use object_graph::{Graph, fixed_ranges};
 use std::alloc::{AllocError, Global};
 
 /// The tables of a program on a board.

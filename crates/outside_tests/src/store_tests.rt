@@ -1,5 +1,4 @@
-use cell_store::CellStore;
-use cell_values::{Cell, Val, join, split};
+use cell_values::{Cell, CellStore, Val, join, split};
 use paged_store::{ByteStore, ListStore, PageStore};
 use std::test::Fail;
 

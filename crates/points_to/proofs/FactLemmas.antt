@@ -5,8 +5,8 @@ use Rattle.std.specs.List.{list_any}
 use Rattle.std.proofs.lemmas.Bool.{eq-eqb}
 use Rattle.std.proofs.lemmas.Bool.Decides.{nat_tests}
 use Rattle.std.proofs.lemmas.List.Folds.{list_any_at}
-use Rattle.index_tests.proofs.TestLemmas.{both}
-use Rattle.index_tests.specs.Tests.{any_below}
+use Rattle.list_checks.proofs.TestLemmas.{both}
+use Rattle.list_checks.specs.Tests.{any_below}
 use Rattle.rv_decode.specs.declared.instructions.Instr.{Instr}
 use Rattle.object_graph.specs.declared.parts.SiteKind.{SiteKind}
 use Rattle.object_graph.specs.declared.parts.SiteKind.TheVariants.{Hi, LowI, LowS}

@@ -11,7 +11,7 @@ use Rattle.std.proofs.lemmas.Nat.Bits.{bit_at-pow_same, bit_at-pow_other}
 use Rattle.std.proofs.lemmas.List.{get_or_append_left, get_or_push, length_push, get_or_past, get_or-replicate, length-replicate, get_or-set_same, get_or-set_other}
 use Rattle.std.proofs.lemmas.List.Kept.{AllPairs-from_increasing}
 use Rattle.std.proofs.lemmas.List.Quantifiers.{all_pairs_push}
-use Rattle.index_tests.proofs.TestLemmas.{neither}
+use Rattle.list_checks.proofs.TestLemmas.{neither}
 use Rattle.code_leaders.specs.Early.{has}
 use Rattle.reach_graph.specs.Reaching.{HasMark, word_at, Reaches}
 use Rattle.reach_graph.specs.declared.arrows.Arrow.{Arrow}

@@ -5,9 +5,9 @@ use Rattle.std.specs.List.{AllPairs, list_any}
 use Rattle.std.proofs.lemmas.Bool.{eqb-true, eq-eqb, cases_eq}
 use Rattle.std.proofs.lemmas.Bool.Decides.{nat_tests}
 use Rattle.std.proofs.lemmas.List.Folds.{list_any_at}
-use Rattle.index_tests.proofs.TestLemmas.{either, both, neither}
-use Rattle.index_tests.specs.Tests.{any_below}
-use Rattle.index_tests.proofs.StepLemmas.{any_place}
+use Rattle.list_checks.proofs.TestLemmas.{either, both, neither}
+use Rattle.list_checks.specs.Tests.{any_below}
+use Rattle.list_checks.proofs.StepLemmas.{any_place}
 use Rattle.object_graph.specs.declared.parts.Site.{Site}
 use Rattle.object_graph.specs.declared.parts.SiteKind.{SiteKind}
 use Rattle.object_graph.specs.declared.parts.SiteKind.TheVariants.{Hi, LowI, LowS}

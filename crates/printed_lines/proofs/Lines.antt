@@ -4,7 +4,7 @@ use Rattle.std.specs.Global.{Global}
 use Rattle.std.proofs.lemmas.Bool.Decides.{nat_tests}
 use Rattle.std.proofs.lemmas.List.{append_assoc, get_or-map, get_or_read}
 use Rattle.elf_reader.specs.File.{PlainView}
-use Rattle.loaded_code.specs.Records.{symbol_at}
+use Rattle.loaded_file.specs.Records.{symbol_at}
 use Rattle.object_graph.specs.Graphs.{no_object}
 use Rattle.object_graph.specs.declared.parts.Object.{Object}
 use Rattle.code_blocks.specs.Blocks.{start_of}

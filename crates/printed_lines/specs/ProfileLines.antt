@@ -2,7 +2,7 @@
 use Rattle.std.specs.Prelude.{ℕ, zero, suc, ◌/◌, ◌%◌, ◌==◌, if◌then◌else◌, false, List, [], ◌∷◌, ◌++◌, codes, length, sum, slice_index_or}
 use Rattle.std.specs.Fmt.{decimal, digit_glyph}
 use Rattle.elf_reader.specs.File.{PlainView}
-use Rattle.loaded_code.specs.Records.{symbol_at}
+use Rattle.loaded_file.specs.Records.{symbol_at}
 use Rattle.object_graph.specs.Graphs.{object_at}
 use Rattle.object_graph.specs.declared.parts.Object.{Object}
 use Rattle.object_machine.specs.declared.events.Outcome.{Outcome}

@@ -2,7 +2,7 @@
 use Rattle.std.specs.Prelude.{ℕ, if◌then◌else◌, List, [], ◌∷◌, ◌++◌, codes, length, slice_index_or}
 use Rattle.std.specs.Fmt.{decimal}
 use Rattle.elf_reader.specs.File.{PlainView}
-use Rattle.loaded_code.specs.Records.{symbol_at}
+use Rattle.loaded_file.specs.Records.{symbol_at}
 use Rattle.object_graph.specs.Graphs.{object_at}
 use Rattle.object_graph.specs.declared.parts.Object.{Object}
 use Rattle.code_leaders.specs.Early.{has}

@@ -1,6 +1,6 @@
 ghost use Rattle.std.specs.Prelude.{◌≡◌, IfOk, string_bytes};
 ghost use Rattle.elf_reader.specs.File.{plain_view};
-ghost use Rattle.loaded_code.specs.Records.{symbol_at};
+ghost use Rattle.loaded_file.specs.Records.{symbol_at};
 ghost use Rattle.printed_lines.specs.ProfileLines.{address_text};
 
 use elf_reader::ElfView;

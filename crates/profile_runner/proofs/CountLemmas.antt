@@ -5,7 +5,7 @@ use Rattle.std.specs.Global.{Global}
 use Rattle.std.proofs.lemmas.Bool.{cases_eq, cases_lt}
 use Rattle.std.proofs.lemmas.List.{length-map, get_or-map, map-set}
 use Rattle.std.proofs.lemmas.Bool.Decides.{nat_tests}
-use Rattle.sorted_numbers.specs.Sorted.{count_below, is_number}
+use Rattle.list_checks.specs.Sorted.{count_below, is_number}
 use Rattle.profile_runner.specs.Counts.{row_of, entry, plain_rows, IsList, IsTable, sum_below}
 use Rattle.profile_runner.specs.Tallies.{Adds, AddsIn, is_entry}
 

@@ -5,7 +5,7 @@ use Rattle.std.specs.List.Sorted.{IsPartitionedBy, IsPartitionPoint}
 use Rattle.std.specs.Global.{Global}
 use Rattle.std.proofs.lemmas.List.{get_or-map, get_or_default, map-set}
 use Rattle.std.proofs.lemmas.Bool.{cases_order, cases_eq}
-use Rattle.index_tests.proofs.TestLemmas.{both}
+use Rattle.list_checks.proofs.TestLemmas.{both}
 use Rattle.std.proofs.lemmas.Bool.Decides.{nat_tests}
 use Rattle.profile_runner.specs.Counts.{count_in}
 use Rattle.profile_runner.specs.Tallies.{one_edge, with_edge, IsEdgeOf, AreFrom, Ascend, IsFoundAt, IsGapAt, plain_edges, edge_row}

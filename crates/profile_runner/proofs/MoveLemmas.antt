@@ -3,7 +3,7 @@ use Rattle.std.proofs.Common.{◌≡◌, ◌∙◌, ℕ, zero, suc, ◌+◌, ◌
 use Rattle.std.proofs.Math.Seq.{get_or-append_seam}
 use Rattle.std.proofs.lemmas.List.{get_or_append_left}
 use Rattle.code_leaders.specs.Early.{has}
-use Rattle.sorted_numbers.specs.Sorted.{count_below}
+use Rattle.list_checks.specs.Sorted.{count_below}
 use Rattle.profile_runner.specs.Move.{Move, no_move, move_at}
 use Rattle.profile_runner.specs.Standing.{number_of, begins, block_of, units_run, region_of, entered, current}
 use Rattle.profile_runner.specs.Counts.{is_edge, is_access_to, arrivals_of, edges_of, accesses_of, switches_of}

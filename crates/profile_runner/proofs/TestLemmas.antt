@@ -2,7 +2,7 @@
 use Rattle.std.proofs.Common.{◌≡◌, ◌∙◌, inl, inr, ℕ, suc, ◌<◌, ◌==◌, nat_lt, Bool, true, false, not, ◌&&◌, ◌||◌, if◌then◌else◌, List, [], ◌∷◌, length, Option, Some, None, refl, sym, arith}
 use Rattle.std.proofs.lemmas.Bool.{cases_eq}
 use Rattle.std.proofs.lemmas.Bool.Decides.{nat_tests}
-use Rattle.sorted_numbers.specs.Sorted.{is_number}
+use Rattle.list_checks.specs.Sorted.{is_number}
 use Rattle.object_machine.specs.declared.events.Access.{Access}
 use Rattle.code_leaders.specs.Early.{has}
 use Rattle.profile_runner.specs.Standing.{number_of, region_of, entered}

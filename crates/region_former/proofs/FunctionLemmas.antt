@@ -4,8 +4,8 @@ use Rattle.std.specs.List.{All, list_any}
 use Rattle.std.proofs.lemmas.Bool.{cases_order, both_ways}
 use Rattle.std.proofs.lemmas.Bool.Decides.{nat_tests}
 use Rattle.std.proofs.lemmas.List.Folds.{list_any_at}
-use Rattle.fault_order.specs.First.{◌or_else◌, unless, first_below}
-use Rattle.fault_order.proofs.FirstLemmas.{first_found}
+use Rattle.list_checks.specs.First.{◌or_else◌, unless, first_below}
+use Rattle.list_checks.proofs.FirstLemmas.{first_found}
 use Rattle.code_blocks.specs.Blocks.{no_function, lies_in_function}
 use Rattle.code_blocks.specs.declared.parts.Function.{Function}
 use Rattle.region_former.specs.Naming.{function_in, place_if_starts, function_at, AreOrdered}

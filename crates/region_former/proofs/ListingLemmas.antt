@@ -1,7 +1,7 @@
 -- The first listed name that fails.
 use Rattle.std.proofs.Common.{◌≡◌, ◌⊎◌, inl, inr, ℕ, suc, ◌<◌, List, length, Option, Some, None, sym}
-use Rattle.fault_order.specs.First.{first_below}
-use Rattle.fault_order.proofs.FirstLemmas.{first_found}
+use Rattle.list_checks.specs.First.{first_below}
+use Rattle.list_checks.proofs.FirstLemmas.{first_found}
 use Rattle.elf_reader.specs.File.{PlainView}
 use Rattle.code_blocks.specs.declared.parts.Function.{Function}
 use Rattle.region_former.specs.Faults.{Fault, plain_fault}

@@ -4,10 +4,10 @@ use Rattle.std.specs.List.{All, list_any}
 use Rattle.std.proofs.lemmas.Bool.{both_ways}
 use Rattle.std.proofs.lemmas.Bool.Decides.{nat_tests}
 use Rattle.std.proofs.lemmas.List.{length-map, get_or-map}
-use Rattle.index_tests.specs.Tests.{any_below, meets}
-use Rattle.index_tests.proofs.TestLemmas.{both, not_true}
+use Rattle.list_checks.specs.Tests.{any_below, meets}
+use Rattle.list_checks.proofs.TestLemmas.{both, not_true}
 use Rattle.elf_reader.specs.File.{PlainView}
-use Rattle.loaded_code.specs.Records.{symbol_at}
+use Rattle.loaded_file.specs.Records.{symbol_at}
 use Rattle.code_leaders.specs.Early.{has}
 use Rattle.code_blocks.specs.Functions.{is_function, lies_in_range, comes_before, functions_meet, keeps_out, IsKept}
 use Rattle.code_blocks.specs.Blocks.{name_of, no_function, IsFunction, IsFunctionOf, IsBlock, IsCode}

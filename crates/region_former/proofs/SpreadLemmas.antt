@@ -5,7 +5,7 @@ use Rattle.std.proofs.lemmas.Bool.{eqb-true, both_ways}
 use Rattle.std.proofs.lemmas.Bool.Decides.{nat_tests}
 use Rattle.std.proofs.lemmas.List.{length-map, get_or-set_same, get_or-set_other, length-set, length_push}
 use Rattle.std.proofs.lemmas.List.Sums.{sum_by-set}
-use Rattle.index_tests.proofs.TestLemmas.{either}
+use Rattle.list_checks.proofs.TestLemmas.{either}
 use Rattle.code_leaders.specs.Early.{has}
 use Rattle.code_blocks.proofs.KeptLemmas.{any_push}
 use Rattle.region_former.specs.Reaching.{Leads, Chain, further}

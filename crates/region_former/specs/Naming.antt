@@ -1,9 +1,9 @@
 -- Which function of a program a name stands for, and in which one an address lies.
 use Rattle.std.specs.Prelude.{◌≡◌, ℕ, ◌<◌, ◌==◌, Bool, false, not, ◌&&◌, if◌then◌else◌, List, length, slice_index_or, Option, Some, None, bytes_eq}
 use Rattle.std.specs.List.{All}
-use Rattle.fault_order.specs.First.{unless, first_below}
+use Rattle.list_checks.specs.First.{unless, first_below}
 use Rattle.elf_reader.specs.File.{PlainView}
-use Rattle.loaded_code.specs.Records.{symbol_at}
+use Rattle.loaded_file.specs.Records.{symbol_at}
 use Rattle.code_blocks.specs.Blocks.{no_function}
 use Rattle.code_blocks.specs.Kept.{AreApart}
 use Rattle.code_blocks.specs.declared.parts.Function.{Function}

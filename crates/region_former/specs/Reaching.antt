@@ -1,7 +1,7 @@
 -- The regions that a program has where its board lists none: each root is a function that the driver calls, and
 -- a function belongs to the one root that leads to it.
 use Rattle.std.specs.Prelude.{◌≡◌, ℕ, suc, nat_le, Bool, true, false, not, ◌&&◌, if◌then◌else◌, length, Option, Some, None}
-use Rattle.index_tests.specs.Tests.{any_below}
+use Rattle.list_checks.specs.Tests.{any_below}
 use Rattle.code_blocks.specs.Blocks.{count_below}
 use Rattle.code_blocks.specs.declared.parts.Code.{Code}
 use Rattle.region_former.specs.Naming.{is_some_of}

@@ -1,7 +1,7 @@
 -- Tables by functions: truth values, and the functions behind each function.
 use Rattle.std.specs.Prelude.{◌≡◌, ℕ, ◌<◌, ◌==◌, Bool, false, not, ◌&&◌, List, length, slice_index_or, Option, Vec}
 use Rattle.std.specs.Global.{Global}
-use Rattle.index_tests.specs.Tests.{any_below}
+use Rattle.list_checks.specs.Tests.{any_below}
 use Rattle.code_leaders.specs.Early.{has}
 use Rattle.code_blocks.specs.Numbers.{start_at}
 use Rattle.code_blocks.specs.declared.parts.Code.{Code}

@@ -2,7 +2,7 @@ ghost use Rattle.std.specs.Prelude.{◌≡◌, ℕ, ◌+◌, ◌<◌, ◌≤◌,
 ghost use Rattle.std.specs.List.{list_any};
 ghost use Rattle.code_leaders.specs.Early.{has};
 ghost use Rattle.code_blocks.specs.Numbers.{start_at, end_at};
-ghost use Rattle.index_tests.specs.Tests.{any_below};
+ghost use Rattle.list_checks.specs.Tests.{any_below};
 ghost use Rattle.region_former.specs.Flow.{block_count, leads_to, IsOrderly};
 ghost use Rattle.region_former.specs.Borders.{region_in, comes_from_outside, is_border, first_unit, links_base, is_branch_unit, is_jal_unit, is_direct_unit, target_of, behind_branch, misses, misses_target, misses_next, is_barred, bars, becomes_none};
 ghost use Rattle.region_former.specs.Rows.{truth_at};

@@ -16,7 +16,7 @@ use Rattle.relocator.specs.Slots.{region_of, no_var, name_at, item_at, items_in,
 use Rattle.relocator.specs.Placing.{chosen_slots}
 use Rattle.relocator.specs.Space.{datum_of, IsVariable, HoldsIn, HasSpace, IsSpaceOf}
 use Rattle.relocator.specs.Laws.{CanLayOut}
-use Rattle.moved_data.specs.Placing.{spans, AreTwo}
+use Rattle.result_setups.specs.Placing.{spans, AreTwo}
 use Rattle.relink_core.specs.Faults.{least_patch}
 use Rattle.relink_core.specs.Realises.{data_item, data_slots}
 use Rattle.relink_core.specs.Choices.{data_layout, IsDataVar, StandsBefore, IsDataChoice, taken_names}

@@ -5,12 +5,12 @@ use Rattle.std.proofs.lemmas.Bool.{cases_eq}
 use Rattle.std.proofs.lemmas.Bool.Decides.{nat_tests}
 use Rattle.std.proofs.lemmas.List.{length-map}
 use Rattle.std.proofs.lemmas.List.Folds.{list_any_at}
-use Rattle.index_tests.proofs.TestLemmas.{neither}
+use Rattle.list_checks.proofs.TestLemmas.{neither}
 use Rattle.elf_reader.specs.File.{PlainView}
 use Rattle.board_config.specs.declared.board.Board.{Board}
 use Rattle.object_graph.specs.declared.parts.Graph.{Graph}
 use Rattle.cell_values.specs.Objects.{IsGrain, object_of, objects_of}
-use Rattle.value_words.specs.Stands.{Fit}
+use Rattle.cell_values.specs.Stands.{Fit}
 use Rattle.placement_programme.specs.Plain.{PlainProgramme, PlainChoice}
 use Rattle.placement_programme.specs.Rows.{rounded_up}
 use Rattle.relocator.specs.declared.items.Item.{Item}
@@ -19,7 +19,7 @@ use Rattle.relocator.specs.declared.places.Places.{Places}
 use Rattle.relocator.specs.Slots.{moved_on, first_slots, slots_from}
 use Rattle.relocator.specs.Placing.{place_in, placed, chosen_slots, rows_of, ArePlaces}
 use Rattle.relocator.specs.Laws.{CanLayOut, IsLaidOut, PlacesFit}
-use Rattle.moved_data.specs.Placing.{span, spans, LiesIn, IsPlacing}
+use Rattle.result_setups.specs.Placing.{span, spans, LiesIn, IsPlacing}
 use Rattle.relink_core.specs.Faults.{least_patch}
 use Rattle.relink_core.specs.Realises.{data_item, data_slots, data_placing}
 use Rattle.relink_core.specs.Making.{ArePlacesOf, CanMove}

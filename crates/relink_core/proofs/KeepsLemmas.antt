@@ -1,7 +1,7 @@
 -- A file in which the analysis finds no fault keeps its meaning as it is.
 use Rattle.std.proofs.Common.{◌≡◌, ℕ, ◌+◌, ◌*◌, ◌≤◌, List, Option, Some, None, option_map, refl, arith}
 use Rattle.std.proofs.lemmas.Nat.{mul-le}
-use Rattle.fault_order.proofs.FirstLemmas.{both_none}
+use Rattle.list_checks.proofs.FirstLemmas.{both_none}
 use Rattle.elf_reader.specs.Layout.{program_header_count}
 use Rattle.elf_reader.specs.File.{view_in}
 use Rattle.elf_reader.specs.Faults.{first_fault}
@@ -9,10 +9,10 @@ use Rattle.board_config.specs.declared.board.Board.{Board}
 use Rattle.object_graph.specs.LayoutFaults.{layout_fault}
 use Rattle.code_blocks.specs.Blocks.{code_fault}
 use Rattle.simulation.proofs.Runs.{keeps_within}
-use Rattle.file_at_home.specs.Laws.{file_start}
-use Rattle.file_at_home.proofs.Absolute.{absolute_runs_are_paired}
-use Rattle.file_at_home.proofs.Units.{file_keeps}
-use Rattle.moved_data.specs.Laws.{most_steps}
+use Rattle.result_setups.specs.HomeLaws.{file_start}
+use Rattle.result_setups.proofs.Absolute.{absolute_runs_are_paired}
+use Rattle.result_setups.proofs.HomeUnits.{file_keeps}
+use Rattle.result_setups.specs.MovedLaws.{most_steps}
 use Rattle.relink_core.specs.declared.fault.AnalyseFault.TheVariants as analyse
 use Rattle.relink_core.specs.Faults.{headers_fault, file_fault, patch_fault, places_fault, view_fault, analyse_fault}
 use Rattle.relink_core.specs.Keeps.{UnmovedFileKeeps, AbsoluteKeepsRuns}

@@ -6,17 +6,17 @@ use Rattle.std.proofs.lemmas.Bool.Decides.{nat_tests}
 use Rattle.std.proofs.lemmas.List.Folds.{list_any_at, list_any-append}
 use Rattle.std.proofs.lemmas.List.Elements.{All-nil, All-cons, All-append, All-weaker}
 use Rattle.std.proofs.lemmas.List.Quantifiers.{all_pairs_push}
-use Rattle.index_tests.proofs.TestLemmas.{both, same_tests}
+use Rattle.list_checks.proofs.TestLemmas.{both, same_tests}
 use Rattle.elf_reader.specs.File.{PlainSymbol, PlainView}
-use Rattle.loaded_code.specs.Records.{symbol_at}
+use Rattle.loaded_file.specs.Records.{symbol_at}
 use Rattle.elf_writer.specs.declared.parts.SymbolMove.{SymbolMove}
 use Rattle.elf_writer.specs.Conditions.{AreOfTwoSymbols}
 use Rattle.board_config.specs.declared.board.Board.{Board}
-use Rattle.object_ranges.specs.Ranges.{has_extent, has_owner, has_range, is_symbol_of}
+use Rattle.loaded_file.specs.Ranges.{has_extent, has_owner, has_range, is_symbol_of}
 use Rattle.object_graph.specs.Graphs.{IsGraph}
 use Rattle.object_graph.specs.declared.parts.Graph.{Graph}
 use Rattle.cell_values.specs.Objects.{object_of}
-use Rattle.file_at_home.proofs.Lists.{element_found}
+use Rattle.result_setups.proofs.Lists.{element_found}
 use Rattle.cell_values.proofs.GraphObjects.{objects_differ}
 use Rattle.relocator.specs.declared.places.Places.{Places}
 use Rattle.relink_core.specs.Realises.{same_move, moves_with, AreSymbolMoves, data_placing}

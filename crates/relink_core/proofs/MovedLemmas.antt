@@ -7,7 +7,7 @@ use Rattle.std.proofs.lemmas.List.{length-map, get_or-map}
 use Rattle.std.proofs.lemmas.List.Folds.{list_any_at}
 use Rattle.word_bits.specs.Words.{plus, word_of, byte_of}
 use Rattle.word_bits.specs.Memory.{Memory, word_at}
-use Rattle.index_tests.proofs.TestLemmas.{both}
+use Rattle.list_checks.proofs.TestLemmas.{both}
 use Rattle.elf_reader.specs.File.{PlainView, view_in}
 use Rattle.elf_reader.specs.Image.{image_of}
 use Rattle.workload_gen.specs.Pieces.{word_bytes, words_bytes}
@@ -21,17 +21,17 @@ use Rattle.elf_writer.specs.Conditions.{IsWritable}
 use Rattle.elf_writer.proofs.ImageLemmas.{new_bytes_loaded}
 use Rattle.elf_writer.proofs.PatchLemmas.{words_loaded, others_loaded}
 use Rattle.board_config.specs.declared.board.Board.{Board}
-use Rattle.loaded_code.specs.Code.{image_word}
+use Rattle.loaded_file.specs.Code.{image_word}
 use Rattle.object_graph.specs.Sites.{in_range}
 use Rattle.object_graph.specs.declared.parts.Graph.{Graph}
-use Rattle.value_words.specs.Stands.{address_word}
-use Rattle.file_at_home.specs.Laws.{IsAccepted}
-use Rattle.file_at_home.proofs.Lists.{element_found}
+use Rattle.cell_values.specs.Stands.{address_word}
+use Rattle.result_setups.specs.HomeLaws.{IsAccepted}
+use Rattle.result_setups.proofs.Lists.{element_found}
 use Rattle.relocator.specs.declared.places.Places.{Places}
 use Rattle.relocator.specs.Placing.{place_at}
 use Rattle.relocator.specs.SiteWords as new
 use Rattle.relocator.specs.SiteWords.{no_site, site_at, no_word, data_word_at, is_entry, has_entry, AreSiteWords, IsNewWord}
-use Rattle.moved_data.specs.Moved.{IsOffWord, IsElsewhere}
+use Rattle.result_setups.specs.Moved.{IsOffWord, IsElsewhere}
 use Rattle.relink_core.specs.Realises.{data_placing}
 use Rattle.relink_core.specs.Making.{start_place, patch_of, AreOfGraph, ArePlacesOf, ArePatchesFor}
 use Rattle.relink_core.proofs.PatchPlaces.{patch_stands}

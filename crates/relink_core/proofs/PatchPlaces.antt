@@ -4,20 +4,20 @@ use Rattle.std.proofs.lemmas.Bool.{cases_eq, eqb-true, eq-eqb, ltb-true, leb-tru
 use Rattle.std.proofs.lemmas.Bool.Decides.{nat_tests}
 use Rattle.std.proofs.lemmas.List.Folds.{list_any_at}
 use Rattle.word_bits.specs.Words.{plus}
-use Rattle.index_tests.specs.Tests.{any_below, lies_in, meets}
-use Rattle.index_tests.proofs.TestLemmas.{both, any_at, any_found}
+use Rattle.list_checks.specs.Tests.{any_below, lies_in, meets}
+use Rattle.list_checks.proofs.TestLemmas.{both, any_at, any_found}
 use Rattle.elf_reader.specs.Sections.{bit_of, stands_in_file}
 use Rattle.elf_reader.specs.File.{PlainSegment, PlainSection, PlainView, section_of, view_in}
-use Rattle.fault_order.proofs.FirstLemmas.{both_none}
+use Rattle.list_checks.proofs.FirstLemmas.{both_none}
 use Rattle.elf_reader.specs.HeaderChecks.{size_fault, header_fault}
 use Rattle.elf_reader.specs.Faults.{first_fault}
 use Rattle.elf_reader.specs.Image.{has_byte}
 use Rattle.elf_reader.specs.Loaded.{section_at, segment_at, is_loaded, meets_section}
 use Rattle.elf_reader.proofs.SegmentLemmas.{none_of_headers, load_segments_apart}
 use Rattle.elf_reader.proofs.LoadedLemmas.{nth_segment, HasAddress, only_segment, load_segments_placed, loaded_found, loaded_below, section_is}
-use Rattle.loaded_code.specs.Code.{is_code_word}
-use Rattle.loaded_code.specs.Records.{reloc_at}
-use Rattle.loaded_code.proofs.WordLemmas.{lies_from, lies_to}
+use Rattle.loaded_file.specs.Code.{is_code_word}
+use Rattle.loaded_file.specs.Records.{reloc_at}
+use Rattle.loaded_file.proofs.WordLemmas.{lies_from, lies_to}
 use Rattle.elf_writer.specs.declared.parts.Patch.{Patch}
 use Rattle.elf_writer.specs.Conditions.{has_word, PatchesLoadedWord, ArePatchesApart}
 use Rattle.elf_writer.specs.Images.{StandsAt}
@@ -31,9 +31,9 @@ use Rattle.object_graph.specs.declared.parts.Graph.{Graph}
 use Rattle.object_graph.proofs.SoundLemmas.{HoldsData, sound_word}
 use Rattle.cell_values.specs.Objects.{object_of}
 use Rattle.cell_values.proofs.GraphObjects.{object_moves}
-use Rattle.file_at_home.proofs.Sites.{object_same, leads_means}
-use Rattle.file_at_home.proofs.Start.{word_itself}
-use Rattle.file_at_home.proofs.Words.{code_range}
+use Rattle.result_setups.proofs.Sites.{object_same, leads_means}
+use Rattle.result_setups.proofs.HomeStart.{word_itself}
+use Rattle.result_setups.proofs.Words.{code_range}
 use Rattle.relocator.specs.SiteWords.{no_word, data_word_at}
 use Rattle.relink_core.specs.Making.{place_in, patch_of}
 use Rattle.relink_core.proofs.StubLemmas.{ranges_apart}

@@ -6,7 +6,7 @@ use Rattle.std.specs.Prelude.{Vec}
 use Rattle.std.specs.Vec.{vec_len}
 use Rattle.std.specs.declared.alloc.Global.{Global}
 use Rattle.std.proofs.lemmas.List.{length-map}
-use Rattle.fault_order.proofs.FirstLemmas.{both_none, holds}
+use Rattle.list_checks.proofs.FirstLemmas.{both_none, holds}
 use Rattle.elf_reader.specs.Layout.{program_header_count}
 use Rattle.elf_reader.specs.File.{PlainView, plain_symbol, plain_view, view_in}
 use Rattle.elf_reader.specs.Faults.{first_fault}
@@ -18,8 +18,8 @@ use Rattle.elf_writer.specs.Written.{written}
 use Rattle.elf_writer.specs.View.{written_view}
 use Rattle.elf_writer.specs.Conditions.{IsWritable}
 use Rattle.board_config.specs.declared.board.Board.{Board}
-use Rattle.loaded_code.specs.Read.{IsRead}
-use Rattle.loaded_code.proofs.WordLemmas.{same_view}
+use Rattle.loaded_file.specs.Read.{IsRead}
+use Rattle.loaded_file.proofs.WordLemmas.{same_view}
 use Rattle.object_graph.specs.LayoutFaults.{layout_fault}
 use Rattle.object_graph.specs.Graphs.{IsGraph}
 use Rattle.object_graph.specs.declared.parts.Graph.{Graph}
@@ -33,15 +33,15 @@ use Rattle.placement_programme.specs.declared.sides.Programme.{Programme}
 use Rattle.placement_programme.specs.Bounds.{AscendWithin}
 use Rattle.placement_programme.specs.Plain.{PlainProgramme, PlainChoice, plain_var}
 use Rattle.placement_programme.specs.Views.{plain_programme}
-use Rattle.file_at_home.specs.Laws.{IsAccepted}
+use Rattle.result_setups.specs.HomeLaws.{IsAccepted}
 use Rattle.relocator.specs.declared.places.Places.{Places}
 use Rattle.relocator.specs.SiteWords.{site_at}
 use Rattle.relocator.specs.Laws.{IsLaidOut, AreObjectsOff}
 use Rattle.relocator.proofs.FitLemmas.{places_fit}
 use Rattle.relocator.proofs.ObjectLemmas.{home_off_scratchpad}
 use Rattle.relocator.proofs.WordLemmas.{site_listed, code_of, word_here}
-use Rattle.moved_data.specs.Laws.{KeepsRuns}
-use Rattle.moved_data.proofs.Kept.{moved_file_keeps}
+use Rattle.result_setups.specs.MovedLaws.{KeepsRuns}
+use Rattle.result_setups.proofs.Kept.{moved_file_keeps}
 use Rattle.relink_core.specs.declared.analysis.Analysis.{Analysis}
 use Rattle.relink_core.specs.declared.fault.AnalyseFault.TheVariants as analyse
 use Rattle.relink_core.specs.Faults.{headers_fault, file_fault, least_patch, patch_fault, places_fault, view_fault}

@@ -15,16 +15,16 @@ use Rattle.elf_writer.specs.Written.{written}
 use Rattle.elf_writer.specs.View.{written_segments, written_view}
 use Rattle.elf_writer.specs.Conditions.{IsAddable}
 use Rattle.board_config.specs.declared.board.Board.{Board}
-use Rattle.loaded_code.specs.Code.{image_word}
+use Rattle.loaded_file.specs.Code.{image_word}
 use Rattle.object_graph.specs.declared.parts.Graph.{Graph}
 use Rattle.overlay_stubs.specs.Start.{StartPlan, CanStart, start_at}
 use Rattle.overlay_stubs.specs.Plans.{AreStartWords}
-use Rattle.file_at_home.specs.Laws.{IsAccepted}
-use Rattle.file_at_home.proofs.Words.{code_below}
+use Rattle.result_setups.specs.HomeLaws.{IsAccepted}
+use Rattle.result_setups.proofs.Words.{code_below}
 use Rattle.relocator.specs.declared.places.Places.{Places}
 use Rattle.relocator.specs.SiteWords.{IsSiteWord, no_site, site_at, no_word, data_word_at}
-use Rattle.value_words.specs.Stands.{address_word}
-use Rattle.moved_data.specs.Moved.{start_plan, IsMovedSite, IsMovedWord, HoldsStart}
+use Rattle.cell_values.specs.Stands.{address_word}
+use Rattle.result_setups.specs.Moved.{start_plan, IsMovedSite, IsMovedWord, HoldsStart}
 use Rattle.relink_core.specs.Realises.{data_placing, start_segment, IsWrittenOver, MovesData}
 use Rattle.relink_core.specs.Making.{CanMove, start_plan_of, IsStartSegment, moves_below}
 use Rattle.relink_core.proofs.StubLemmas.{is_near, plan_same, stub_fits}

@@ -9,17 +9,17 @@ use Rattle.std.proofs.lemmas.List.{length-map, length-append}
 use Rattle.std.proofs.lemmas.List.Elements.{All-map}
 use Rattle.std.proofs.Math.Nat.{min-le_left, min-le_right, le-max_left, le-max_right}
 use Rattle.word_bits.specs.Words.{minus}
-use Rattle.fault_order.specs.First.{unless, first_below}
-use Rattle.fault_order.proofs.FirstLemmas.{both_none, holds}
-use Rattle.index_tests.specs.Tests.{meets}
-use Rattle.index_tests.proofs.TestLemmas.{not_true}
+use Rattle.list_checks.specs.First.{unless, first_below}
+use Rattle.list_checks.proofs.FirstLemmas.{both_none, holds}
+use Rattle.list_checks.specs.Tests.{meets}
+use Rattle.list_checks.proofs.TestLemmas.{not_true}
 use Rattle.rv_decode.specs.Table.{IsWithin, IsEvenWithin}
 use Rattle.rv_decode.specs.declared.instructions.Instr.TheVariants.{Jal}
 use Rattle.elf_reader.specs.File.{PlainView, view_in}
 use Rattle.elf_reader.specs.Loaded.{section_at}
 use Rattle.elf_reader.proofs.SegmentLemmas.{none_of_headers, load_segments_loadable}
 use Rattle.board_config.specs.declared.board.Board.{Board}
-use Rattle.loaded_code.specs.Code.{is_code_word}
+use Rattle.loaded_file.specs.Code.{is_code_word}
 use Rattle.code_leaders.specs.Words.{any_code_word}
 use Rattle.code_blocks.specs.Blocks.{is_any, code_fault}
 use Rattle.code_blocks.specs.declared.fault.CodeFault.TheVariants.{NoText, EntryNotLeader}
@@ -31,13 +31,13 @@ use Rattle.cell_values.specs.Objects.{absent_object, object_of, objects_of}
 use Rattle.overlay_stubs.specs.Jobs.{AreApart, IsJob}
 use Rattle.overlay_stubs.specs.Start.{StartPlan, before_jump, start_at, jump_at, start_bytes, distance, fences, Spares, CanStart}
 use Rattle.overlay_stubs.proofs.WordLemmas.{bytes_are}
-use Rattle.file_at_home.specs.Laws.{IsAccepted}
+use Rattle.result_setups.specs.HomeLaws.{IsAccepted}
 use Rattle.cell_values.proofs.GraphObjects.{object_extends}
-use Rattle.file_at_home.proofs.Words.{code_range, code_even, code_below}
+use Rattle.result_setups.proofs.Words.{code_range, code_even, code_below}
 use Rattle.relocator.specs.declared.places.Places.{Places}
 use Rattle.relocator.specs.Laws.{AreObjectsOff}
-use Rattle.moved_data.specs.Placing.{LiesIn, IsPlacing}
-use Rattle.moved_data.specs.Moved.{start_job, start_plan}
+use Rattle.result_setups.specs.Placing.{LiesIn, IsPlacing}
+use Rattle.result_setups.specs.Moved.{start_job, start_plan}
 use Rattle.relink_core.specs.Faults.{least_patch}
 use Rattle.relink_core.specs.Realises.{data_placing}
 use Rattle.relink_core.specs.Making.{start_place, AreOfGraph, ArePlacesOf, CanMove, start_plan_of}

@@ -6,10 +6,10 @@ use Rattle.std.proofs.lemmas.Bool.Decides.{nat_tests}
 use Rattle.std.proofs.lemmas.List.{length-map, length-append, length-replicate, get_or-map, get_or_default}
 use Rattle.std.proofs.lemmas.List.Elements.{All-map}
 use Rattle.std.proofs.lemmas.List.Folds.{list_any_at}
-use Rattle.fault_order.specs.First.{unless}
-use Rattle.fault_order.proofs.FirstLemmas.{none_at, both_none, holds}
-use Rattle.index_tests.specs.Tests.{meets}
-use Rattle.index_tests.proofs.TestLemmas.{not_true}
+use Rattle.list_checks.specs.First.{unless}
+use Rattle.list_checks.proofs.FirstLemmas.{none_at, both_none, holds}
+use Rattle.list_checks.specs.Tests.{meets}
+use Rattle.list_checks.proofs.TestLemmas.{not_true}
 use Rattle.elf_reader.specs.Layout.{file_header, program_header_count, program_header}
 use Rattle.elf_reader.specs.File.{is_load, segments_at, segments_below, PlainView, view_in}
 use Rattle.elf_reader.specs.HeaderChecks.{size_fault, magic_fault, identification_fault, machine_fault, flags_fault, sizes_fault, header_fault}
@@ -23,14 +23,14 @@ use Rattle.elf_writer.specs.Parts.{NewSegment}
 use Rattle.elf_writer.specs.Conditions.{PatchesLoadedWord, ArePatchesApart, IsClearOf, IsAddable, IsWritable}
 use Rattle.elf_writer.proofs.FitLemmas.{length_written, number_within, table_inside}
 use Rattle.board_config.specs.declared.board.Board.{Board}
-use Rattle.loaded_code.specs.Code.{is_code_word}
+use Rattle.loaded_file.specs.Code.{is_code_word}
 use Rattle.object_graph.specs.LayoutFaults.{segment_meets, patch_overlap_fault}
 use Rattle.object_graph.specs.Graphs.{IsGraph}
 use Rattle.object_graph.specs.declared.parts.Graph.{Graph}
 use Rattle.overlay_stubs.specs.Start.{StartPlan, start_stub, start_bytes}
 use Rattle.overlay_stubs.proofs.WordLemmas.{mean_count}
-use Rattle.file_at_home.specs.Laws.{IsAccepted}
-use Rattle.file_at_home.proofs.Words.{code_range}
+use Rattle.result_setups.specs.HomeLaws.{IsAccepted}
+use Rattle.result_setups.proofs.Words.{code_range}
 use Rattle.relocator.specs.declared.places.Places.{Places}
 use Rattle.relocator.specs.SiteWords.{site_at, is_entry, AreSiteWords}
 use Rattle.relink_core.specs.Faults.{headers_fault}

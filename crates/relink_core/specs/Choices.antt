@@ -14,8 +14,8 @@ use Rattle.placement_programme.specs.Programme.{IsFeasible}
 use Rattle.placement_programme.specs.Rows.{Layout, static_data, off_capacities, off_weights}
 use Rattle.relocator.specs.Slots.{name_at}
 use Rattle.relocator.specs.Space.{datum_of}
-use Rattle.file_at_home.specs.Absolute.{IsAbsolute}
-use Rattle.moved_data.specs.Laws.{KeepsRuns}
+use Rattle.result_setups.specs.Absolute.{IsAbsolute}
+use Rattle.result_setups.specs.MovedLaws.{KeepsRuns}
 use Rattle.relink_core.specs.declared.analysis.Analysis.{Analysis}
 use Rattle.relink_core.specs.Faults.{analyse_fault}
 use Rattle.relink_core.specs.Keeps.{KeepsPaired}

@@ -1,6 +1,6 @@
 -- The faults of an analysis, in their order.
 use Rattle.std.specs.Prelude.{◌≡◌, ◌≢◌, ◌⊎◌, ℕ, ◌==◌, nat_le, Bool, not, if◌then◌else◌, List, Option, Some, None, Result, Ok, Err, option_map}
-use Rattle.fault_order.specs.First.{◌or_else◌, unless}
+use Rattle.list_checks.specs.First.{◌or_else◌, unless}
 use Rattle.elf_reader.specs.Layout.{program_header_count}
 use Rattle.elf_reader.specs.File.{PlainView, view_in}
 use Rattle.elf_reader.specs.Faults.{first_fault}

@@ -4,12 +4,12 @@ use Rattle.word_bits.specs.Words.{plus}
 use Rattle.elf_reader.specs.File.{PlainSegment, PlainSymbol, PlainView}
 use Rattle.elf_reader.specs.Image.{has_byte}
 use Rattle.workload_gen.specs.Pieces.{words_bytes}
-use Rattle.loaded_code.specs.Records.{symbol_at}
+use Rattle.loaded_file.specs.Records.{symbol_at}
 use Rattle.elf_writer.specs.declared.parts.Patch.{Patch}
 use Rattle.elf_writer.specs.declared.parts.SymbolMove.{SymbolMove}
 use Rattle.elf_writer.specs.Parts.{NewSegment}
 use Rattle.board_config.specs.declared.board.Board.{Board}
-use Rattle.object_ranges.specs.Ranges.{has_range}
+use Rattle.loaded_file.specs.Ranges.{has_range}
 use Rattle.object_graph.specs.declared.parts.Graph.{Graph}
 use Rattle.cell_values.specs.Objects.{object_of, objects_of}
 use Rattle.overlay_stubs.specs.Start.{StartPlan, start_at}
@@ -21,8 +21,8 @@ use Rattle.relocator.specs.declared.places.Places.{Places}
 use Rattle.relocator.specs.Placing.{place_at}
 use Rattle.relocator.specs.Slots.{name_at}
 use Rattle.relocator.specs.SiteWords.{row_length, AreSiteWords}
-use Rattle.moved_data.specs.Placing.{IsPlacing}
-use Rattle.moved_data.specs.Moved.{start_job}
+use Rattle.result_setups.specs.Placing.{IsPlacing}
+use Rattle.result_setups.specs.Moved.{start_job}
 use Rattle.relink_core.specs.Faults.{least_patch}
 use Rattle.relink_core.specs.Realises.{data_placing}
 

@@ -10,7 +10,7 @@ use Rattle.elf_writer.specs.Written.{written}
 use Rattle.elf_writer.specs.View.{written_view}
 use Rattle.elf_writer.specs.Conditions.{PatchesLoadedWord, AreOfTwoSymbols}
 use Rattle.board_config.specs.declared.board.Board.{Board}
-use Rattle.object_ranges.specs.Ranges.{is_symbol_of}
+use Rattle.loaded_file.specs.Ranges.{is_symbol_of}
 use Rattle.object_graph.specs.declared.parts.Graph.{Graph}
 use Rattle.cell_values.specs.Objects.{object_of}
 use Rattle.overlay_stubs.specs.Start.{start_at}
@@ -23,8 +23,8 @@ use Rattle.relocator.specs.declared.slots.Slot.{Slot}
 use Rattle.relocator.specs.Slots.{slots_of}
 use Rattle.relocator.specs.Placing.{placed}
 use Rattle.relocator.specs.Space.{datum_of}
-use Rattle.moved_data.specs.Placing.{Placing, IsPlacing}
-use Rattle.moved_data.specs.Moved.{start_plan, IsMovedView}
+use Rattle.result_setups.specs.Placing.{Placing, IsPlacing}
+use Rattle.result_setups.specs.Moved.{start_plan, IsMovedView}
 
 -- ---- where objects stand
 

@@ -1,7 +1,7 @@
 ghost use Rattle.std.specs.Prelude.{◌≡◌, ℕ, List, length, replicate, IfOk};
 ghost use Rattle.elf_reader.specs.File.{PlainView, plain_view};
 ghost use Rattle.elf_writer.specs.Parts.{new_segment};
-ghost use Rattle.loaded_code.specs.Read.{IsRead};
+ghost use Rattle.loaded_file.specs.Read.{IsRead};
 ghost use Rattle.board_config.specs.Board.{IsLawful};
 ghost use Rattle.board_config.specs.declared.board.Board.{Board};
 ghost use Rattle.object_graph.specs.Graphs.{IsGraph};

@@ -6,7 +6,7 @@ ghost use Rattle.elf_writer.specs.Parts.{NewSegment, new_segment};
 ghost use Rattle.cell_values.specs.Objects.{objects_of};
 ghost use Rattle.overlay_stubs.specs.Start.{CanStart, StartPlan, start_at};
 ghost use Rattle.overlay_stubs.specs.Plans.{start_of, AreStartWords, IsStartAlone};
-ghost use Rattle.moved_data.specs.Moved.{start_job};
+ghost use Rattle.result_setups.specs.Moved.{start_job};
 ghost use Rattle.relink_core.specs.Making.{start_place, start_plan_of, HasStarts, AreOfGraph, IsStartSegment};
 
 use crate::taking::start_place;

@@ -1,17 +1,16 @@
 //! The symbols of objects that are moved.
 ghost use Rattle.std.specs.Prelude.{◌≡◌, ℕ, ◌<◌, ◌≤◌, ◌==◌, ◌&&◌, length, OnOk, IfOk, Option, MatchOption, ◌++◌};
 ghost use Rattle.elf_reader.specs.File.{plain_view};
-ghost use Rattle.loaded_code.specs.Marks.{all_loaded};
-ghost use Rattle.loaded_code.specs.Records.{symbol_at};
+ghost use Rattle.loaded_file.specs.Marks.{all_loaded};
+ghost use Rattle.loaded_file.specs.Records.{symbol_at};
 ghost use Rattle.cell_values.specs.Objects.{object_of};
 ghost use Rattle.relink_core.specs.Making.{range_value, symbol_value, move_to, moves_below, HasStarts, AreOfGraph};
 
 use crate::taking::start_place;
 use elf_reader::ElfView;
 use elf_writer::SymbolMove;
-use loaded_code::loaded_sections;
+use loaded_file::{has_range, loaded_sections};
 use object_graph::Graph;
-use object_ranges::has_range;
 use relocator::Places;
 use std::alloc::{AllocError, Global};
 

@@ -1,17 +1,17 @@
 -- A file that is analysed for a board: what its analysis is, and what a run of its program asks.
 use Rattle.std.proofs.Common.{◌≡◌, ℕ, ◌≤◌, ◌==◌, nat_le, option_map, List, length, Bool, true, ◌&&◌, ◌||◌, None, refl, sym, subst, arith}
 use Rattle.std.proofs.lemmas.Bool.Decides.{nat_tests}
-use Rattle.fault_order.specs.First.{unless}
-use Rattle.fault_order.proofs.FirstLemmas.{both_none, holds}
-use Rattle.index_tests.specs.Tests.{any_below}
+use Rattle.list_checks.specs.First.{unless}
+use Rattle.list_checks.proofs.FirstLemmas.{both_none, holds}
+use Rattle.list_checks.specs.Tests.{any_below}
 use Rattle.elf_reader.specs.File.{PlainView, plain_view, view_in, IsFile}
 use Rattle.elf_reader.specs.Loadable.{AreBytes}
 use Rattle.elf_reader.specs.declared.view.ElfView.{ElfView}
 use Rattle.board_config.specs.Board.{IsLawful}
 use Rattle.board_config.specs.declared.board.Board.{Board}
-use Rattle.loaded_code.specs.Code.{is_code_word}
-use Rattle.loaded_code.specs.Read.{IsRead}
-use Rattle.loaded_code.proofs.WordLemmas.{same_view}
+use Rattle.loaded_file.specs.Code.{is_code_word}
+use Rattle.loaded_file.specs.Read.{IsRead}
+use Rattle.loaded_file.proofs.WordLemmas.{same_view}
 use Rattle.object_graph.specs.Graphs.{IsGraph}
 use Rattle.object_graph.specs.LayoutFaults.{layout_fault}
 use Rattle.object_graph.specs.declared.parts.Graph.{Graph}

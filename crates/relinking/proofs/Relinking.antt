@@ -20,7 +20,7 @@ use Rattle.relink_core.specs.declared.fault.AnalyseFault.TheVariants as analyse
 use Rattle.relink_core.proofs.StatedLemmas.{stated_choice}
 use Rattle.profile_runner.specs.Counts.{plain_rows}
 use Rattle.profile_runner.proofs.RunLemmas.{moves_steps}
-use Rattle.file_at_home.specs.Laws.{program_in, source_start}
+use Rattle.result_setups.specs.HomeLaws.{program_in, source_start}
 use Rattle.relinking.specs.Runs.{TellsCounts}
 use Rattle.relinking.specs.StatedRun.{StatesProgramme}
 use Rattle.printed_lines.specs.MovedLines.{moved_lines, start_in}

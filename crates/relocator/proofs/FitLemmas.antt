@@ -9,7 +9,7 @@ use Rattle.board_config.specs.declared.board.Board.{Board}
 use Rattle.object_graph.specs.declared.parts.Graph.{Graph}
 use Rattle.object_graph.specs.Sites.{no_area}
 use Rattle.cell_values.specs.Objects.{IsGrain, object_of, objects_of}
-use Rattle.value_words.specs.Stands.{Fit}
+use Rattle.cell_values.specs.Stands.{Fit}
 use Rattle.placement_programme.specs.Plain.{PlainProgramme, PlainChoice}
 use Rattle.relocator.specs.declared.items.Item.{Item}
 use Rattle.relocator.specs.declared.slots.Slot.{Slot}

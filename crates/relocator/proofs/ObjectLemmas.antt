@@ -1,15 +1,15 @@
 -- The homes of the objects of a graph.
 use Rattle.std.proofs.Common.{◌≡◌, ◌∙◌, ℕ, ◌+◌, ◌-◌, ◌<◌, ◌≤◌, true, false, not, Bool, length, None, refl, arith}
 use Rattle.std.proofs.lemmas.Bool.Decides.{nat_tests}
-use Rattle.fault_order.specs.First.{unless, first_below}
-use Rattle.fault_order.proofs.FirstLemmas.{both_none, none_at}
-use Rattle.index_tests.specs.Tests.{lies_in, meets}
+use Rattle.list_checks.specs.First.{unless, first_below}
+use Rattle.list_checks.proofs.FirstLemmas.{both_none, none_at}
+use Rattle.list_checks.specs.Tests.{lies_in, meets}
 use Rattle.elf_reader.specs.File.{PlainView}
 use Rattle.elf_reader.specs.Loaded.{segment_at}
 use Rattle.elf_reader.proofs.LoadedLemmas.{loaded_found}
 use Rattle.board_config.specs.declared.board.Board.{Board}
-use Rattle.loaded_code.specs.Records.{symbol_at}
-use Rattle.object_ranges.specs.Ranges.{owner_of}
+use Rattle.loaded_file.specs.Records.{symbol_at}
+use Rattle.loaded_file.specs.Ranges.{owner_of}
 use Rattle.object_graph.specs.LayoutFaults.{segment_meets, spm_overlap_fault, patch_overlap_fault, patch_far_fault, spm_meets_patch_fault, spm_at_zero_fault, no_area_fault, places_fault, too_many_fault, layout_fault}
 use Rattle.object_graph.specs.declared.fault.GraphFault.{GraphFault}
 use Rattle.object_graph.specs.declared.fault.GraphFault.TheVariants.{SpmOverlap, SpmAtZero}

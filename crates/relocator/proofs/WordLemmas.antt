@@ -4,16 +4,16 @@ use Rattle.std.proofs.lemmas.Bool.{eqb-true, ltb-true}
 use Rattle.std.proofs.lemmas.Bool.Decides.{nat_tests}
 use Rattle.std.proofs.lemmas.List.{get_or_default}
 use Rattle.std.proofs.lemmas.List.Folds.{list_any_at}
-use Rattle.index_tests.specs.Tests.{any_below, meets}
-use Rattle.index_tests.proofs.TestLemmas.{either, both, not_true, any_found, none_at}
+use Rattle.list_checks.specs.Tests.{any_below, meets}
+use Rattle.list_checks.proofs.TestLemmas.{either, both, not_true, any_found, none_at}
 use Rattle.rv_decode.specs.Fields.{opcode_of, rd_of, rs1_of, rs2_of, u_immediate}
 use Rattle.word_bits.specs.Words.{lower_half}
 use Rattle.rv_decode.specs.declared.instructions.Instr.TheVariants.{Lui, Auipc, Load, Store, OpImm}
 use Rattle.rv_decode.specs.declared.instructions.ImmKind.TheVariants.{Addi}
 use Rattle.elf_reader.specs.File.{PlainView}
 use Rattle.elf_reader.specs.declared.view.Reloc.{Reloc}
-use Rattle.loaded_code.specs.Code.{is_code_word, image_word}
-use Rattle.loaded_code.specs.Records.{reloc_at, counts, target, is_mute, width_of}
+use Rattle.loaded_file.specs.Code.{is_code_word, image_word}
+use Rattle.loaded_file.specs.Records.{reloc_at, counts, target, is_mute, width_of}
 use Rattle.sound_relocations.specs.Sound.{is_meant, displacement, holds_data, cuts_range, changes_word, is_sound_word, is_sound_high, is_sound_low, is_sound_pair, distance, names_high}
 use Rattle.movable_ranges.specs.Fixed.{leads_to}
 use Rattle.object_graph.specs.declared.parts.Object.{Object}

@@ -9,7 +9,7 @@ use Rattle.object_graph.specs.LayoutFaults.{layout_fault}
 use Rattle.object_graph.specs.Graphs.{IsGraph}
 use Rattle.object_graph.specs.declared.parts.Graph.{Graph}
 use Rattle.cell_values.specs.Objects.{IsGrain, object_of, objects_of}
-use Rattle.value_words.specs.Stands.{Fit}
+use Rattle.cell_values.specs.Stands.{Fit}
 use Rattle.placement_programme.specs.declared.variables.VarName.TheVariants.{StaticData}
 use Rattle.placement_programme.specs.Plain.{PlainVar, PlainSide, PlainProgramme, PlainChoice}
 use Rattle.placement_programme.specs.Programme.{side_for, IsFeasible}

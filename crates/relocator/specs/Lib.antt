@@ -1,9 +1,9 @@
 pub use Rattle.rv_decode.specs.Table
-pub use Rattle.loaded_code.specs.Code
+pub use Rattle.loaded_file.specs.Code
 pub use Rattle.object_graph.specs.Graphs
 pub use Rattle.object_graph.specs.LayoutFaults
 pub use Rattle.cell_values.specs.Objects
-pub use Rattle.value_words.specs.Stands
+pub use Rattle.cell_values.specs.Stands
 pub use Rattle.placement_programme.specs.Programme
 pub use Rattle.placement_programme.specs.Rows
 pub mod Slots

@@ -7,7 +7,7 @@ use Rattle.rv_decode.specs.declared.instructions.Instr.{Instr}
 use Rattle.rv_decode.specs.declared.instructions.Instr.TheVariants.{Lui, Auipc, Load, Store, OpImm}
 use Rattle.rv_decode.specs.declared.instructions.ImmKind.TheVariants.{Addi}
 use Rattle.elf_reader.specs.File.{PlainView}
-use Rattle.loaded_code.specs.Code.{image_word}
+use Rattle.loaded_file.specs.Code.{image_word}
 use Rattle.object_graph.specs.declared.parts.SiteKind.{SiteKind}
 use Rattle.object_graph.specs.declared.parts.SiteKind.TheVariants.{Hi, LowI, LowS}
 use Rattle.object_graph.specs.declared.parts.Site.{Site}

@@ -3,9 +3,9 @@ ghost use Rattle.std.specs.List.{list_any};
 ghost use Rattle.word_bits.specs.Words.{plus};
 ghost use Rattle.elf_reader.specs.File.{plain_view};
 ghost use Rattle.board_config.specs.declared.board.Board.{Board};
-ghost use Rattle.loaded_code.specs.Marks.{all_loaded};
-ghost use Rattle.loaded_code.specs.Code.{is_code_word, image_word};
-ghost use Rattle.loaded_code.specs.Read.{IsRead};
+ghost use Rattle.loaded_file.specs.Marks.{all_loaded};
+ghost use Rattle.loaded_file.specs.Code.{is_code_word, image_word};
+ghost use Rattle.loaded_file.specs.Read.{IsRead};
 ghost use Rattle.object_graph.specs.Graphs.{IsGraph};
 ghost use Rattle.object_graph.specs.Gathered.{AreSeparate, AreInOrder};
 ghost use Rattle.relocator.specs.Placing.{place_at};
@@ -15,7 +15,7 @@ ghost use Rattle.relocator.specs.Gathering.{AreOfSites, AreOfWords, address_of, 
 use crate::places::Places;
 use crate::rewriting::new_word;
 use elf_reader::ElfView;
-use loaded_code::{holds_code, loaded_sections, word_in};
+use loaded_file::{holds_code, loaded_sections, word_in};
 use object_graph::Graph;
 use std::alloc::{AllocError, Global};
 

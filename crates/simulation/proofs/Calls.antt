@@ -4,8 +4,8 @@ use Rattle.std.specs.Prelude.{Contains}
 use Rattle.std.proofs.lemmas.Bool.Decides.{nat_tests}
 use Rattle.std.proofs.lemmas.List.{length-take}
 use Rattle.std.proofs.lemmas.List.Elements.{All-take, All-drop}
-use Rattle.fault_order.specs.First.{first_below}
-use Rattle.fault_order.proofs.FirstLemmas.{none_at}
+use Rattle.list_checks.specs.First.{first_below}
+use Rattle.list_checks.proofs.FirstLemmas.{none_at}
 use Rattle.word_bits.specs.Words.{plus}
 use Rattle.word_bits.specs.Memory.{put, put_bytes, bytes_at}
 use Rattle.rv_decode.specs.Table.{Means}
@@ -23,8 +23,8 @@ use Rattle.cell_values.specs.declared.values.Val.TheVariants.{Int}
 use Rattle.cell_values.specs.declared.values.Cell.{Cell}
 use Rattle.cell_values.specs.declared.values.Cell.TheVariants.{Byte}
 use Rattle.cell_values.specs.Laws.{HoldsWord}
-use Rattle.value_words.specs.Makers.{Maker}
-use Rattle.value_words.specs.Stands.{Stands, CellStands}
+use Rattle.cell_values.specs.Makers.{Maker}
+use Rattle.cell_values.specs.Stands.{Stands, CellStands}
 use Rattle.object_machine.specs.Program.{Program, Target}
 use Rattle.object_machine.specs.State.{SourceState, Values, value, wrote, faulted}
 use Rattle.object_machine.specs.Places.{Where, InFixed, InObject, Nowhere, byte_place, read_fault}

@@ -6,9 +6,9 @@ use Rattle.cell_values.specs.Objects.{home_address}
 use Rattle.cell_values.specs.Operations.{same_chunk, low_site}
 use Rattle.cell_values.specs.declared.values.Val.{Val}
 use Rattle.cell_values.specs.declared.values.Val.TheVariants.{Addr, Hi, Unknown}
-use Rattle.value_words.specs.Makers.{Maker, ByLui, ByAuipc, Mixed}
-use Rattle.value_words.specs.Stands.{Stands, address_word, auipc_word, moved_uppers}
-use Rattle.value_words.proofs.Sites.{low_sites_stand, paired_sites_stand}
+use Rattle.cell_values.specs.Makers.{Maker, ByLui, ByAuipc, Mixed}
+use Rattle.cell_values.specs.Stands.{Stands, address_word, auipc_word, moved_uppers}
+use Rattle.cell_values.proofs.Sites.{low_sites_stand, paired_sites_stand}
 use Rattle.object_machine.specs.Program.{Program, Target}
 use Rattle.object_machine.specs.Paired.{finds_named}
 use Rattle.simulation.specs.Setups.{Setup, Sound}

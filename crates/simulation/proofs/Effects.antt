@@ -10,8 +10,8 @@ use Rattle.flat_machine.specs.Step.{performed}
 use Rattle.flat_machine.specs.Sizes.{HasWords}
 use Rattle.cell_values.specs.Laws.{HoldsWord}
 use Rattle.cell_values.specs.declared.values.Val.{Val}
-use Rattle.value_words.specs.Makers.{Maker}
-use Rattle.value_words.specs.Stands.{Stands}
+use Rattle.cell_values.specs.Makers.{Maker}
+use Rattle.cell_values.specs.Stands.{Stands}
 use Rattle.object_machine.specs.Program.{Program, Target}
 use Rattle.object_machine.specs.State.{SourceState, wrote}
 use Rattle.object_machine.specs.Flow.{falls_on, jumps}

@@ -3,7 +3,7 @@ use Rattle.std.proofs.Common.{◌≡◌, ◌⊎◌, inl, inr, ℕ, ◌+◌, ◌*
 use Rattle.std.proofs.lemmas.Grind.{common_steps}
 use Rattle.std.proofs.lemmas.Bool.{cases_eq, cond_both, eqb-true}
 use Rattle.std.proofs.lemmas.Bool.Decides.{nat_tests}
-use Rattle.index_tests.proofs.TestLemmas.{either}
+use Rattle.list_checks.proofs.TestLemmas.{either}
 use Rattle.word_bits.specs.Words.{byte_of}
 use Rattle.word_bits.specs.Memory.{Memory, word_at}
 use Rattle.rv_decode.specs.Table.{Means, IsInRange}
@@ -19,9 +19,9 @@ use Rattle.cell_values.specs.Objects.{Objects}
 use Rattle.cell_values.specs.Laws.{HoldsWord}
 use Rattle.cell_values.specs.declared.values.Val.TheVariants.{Int}
 use Rattle.cell_values.specs.declared.values.Cell.TheVariants.{Byte}
-use Rattle.value_words.specs.Makers.{ByLui}
-use Rattle.value_words.specs.Stands.{Places, Stands, kept_uppers}
-use Rattle.value_words.proofs.Makes.{kept_uppers_make}
+use Rattle.cell_values.specs.Makers.{ByLui}
+use Rattle.cell_values.specs.Stands.{Places, Stands, kept_uppers}
+use Rattle.cell_values.proofs.Makes.{kept_uppers_make}
 use Rattle.object_machine.specs.declared.events.Outcome.TheVariants.{GoesOn}
 use Rattle.object_machine.specs.Program.{Program, Target}
 use Rattle.object_machine.specs.State.{SourceState, value}

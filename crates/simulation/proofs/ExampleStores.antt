@@ -21,9 +21,9 @@ use Rattle.cell_values.specs.Laws.{HoldsWord}
 use Rattle.cell_values.specs.declared.values.Val.{Val}
 use Rattle.cell_values.specs.declared.values.Val.TheVariants.{Int}
 use Rattle.cell_values.specs.declared.values.Cell.TheVariants.{Byte}
-use Rattle.value_words.specs.Makers.{ByLui}
-use Rattle.value_words.specs.Stands.{Places, Fit, Stands, moved_uppers}
-use Rattle.value_words.proofs.Makes.{moved_uppers_make}
+use Rattle.cell_values.specs.Makers.{ByLui}
+use Rattle.cell_values.specs.Stands.{Places, Fit, Stands, moved_uppers}
+use Rattle.cell_values.proofs.Makes.{moved_uppers_make}
 use Rattle.cell_values.specs.Cells.{put_at}
 use Rattle.object_machine.specs.declared.events.Outcome.TheVariants.{GoesOn, Exited}
 use Rattle.object_machine.specs.Program.{Program, Target}

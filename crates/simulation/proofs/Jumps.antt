@@ -13,8 +13,8 @@ use Rattle.cell_values.specs.Operations.{op_imm}
 use Rattle.cell_values.specs.Comparisons.{compare}
 use Rattle.cell_values.specs.declared.values.Val.{Val}
 use Rattle.cell_values.specs.declared.values.Val.TheVariants.{Int}
-use Rattle.value_words.specs.Stands.{Stands}
-use Rattle.value_words.proofs.Branches.{comparisons_stand}
+use Rattle.cell_values.specs.Stands.{Stands}
+use Rattle.cell_values.proofs.Branches.{comparisons_stand}
 use Rattle.object_machine.specs.Program.{Program}
 use Rattle.object_machine.specs.State.{SourceState, value, wrote, trapped, faulted}
 use Rattle.object_machine.specs.Flow.{jumps_by, branches}

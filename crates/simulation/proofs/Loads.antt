@@ -13,10 +13,10 @@ use Rattle.flat_machine.specs.State.{State}
 use Rattle.flat_machine.specs.Step.{performed}
 use Rattle.flat_machine.specs.Sizes.{HasWords}
 use Rattle.cell_values.specs.Laws.{HoldsWord}
-use Rattle.value_words.specs.Makers.{Maker}
-use Rattle.value_words.specs.Stands.{Stands, CellStands, CellHoldsWord}
-use Rattle.value_words.proofs.Loads.{join_stands, pieces_stand, halves_stand}
-use Rattle.value_words.proofs.Keeps.{cells_keep_words}
+use Rattle.cell_values.specs.Makers.{Maker}
+use Rattle.cell_values.specs.Stands.{Stands, CellStands, CellHoldsWord}
+use Rattle.cell_values.proofs.Loads.{join_stands, pieces_stand, halves_stand}
+use Rattle.cell_values.proofs.Keeps.{cells_keep_words}
 use Rattle.cell_values.specs.Cells.{put_at}
 use Rattle.object_machine.specs.Program.{Program, Target}
 use Rattle.object_machine.specs.State.{SourceState, value, wrote, faulted}

@@ -1,7 +1,7 @@
 -- The AUIPC beside an upper part made it, also behind a step.
 use Rattle.std.proofs.Common.{◌≡◌, inl, inr, ℕ, ◌+◌, ◌*◌, ◌/◌, ◌%◌, ◌==◌, nat_lt, Bool, true, false, if◌then◌else◌, slice_index_or, take, List, [], ◌∷◌, ◌++◌, Option, Some, None, ℤ, refl, sym, subst, arith}
 use Rattle.std.proofs.lemmas.Bool.{cases_eq, cond_both}
-use Rattle.fault_order.specs.First.{first_below}
+use Rattle.list_checks.specs.First.{first_below}
 use Rattle.word_bits.specs.Words.{plus, offset}
 use Rattle.rv_decode.specs.Fields.{rd_of}
 use Rattle.rv_decode.specs.Table.{Means}
@@ -19,7 +19,7 @@ use Rattle.cell_values.specs.Cells.{split, put_at, put_cells}
 use Rattle.cell_values.specs.declared.values.Val.{Val}
 use Rattle.cell_values.specs.declared.values.Val.TheVariants.{Int, Unknown}
 use Rattle.cell_values.specs.declared.values.Cell.TheVariants.{Byte, Mist}
-use Rattle.value_words.specs.Makers.{Maker, ByLui, ByAuipc}
+use Rattle.cell_values.specs.Makers.{Maker, ByLui, ByAuipc}
 use Rattle.object_machine.specs.declared.events.Outcome.TheVariants.{GoesOn}
 use Rattle.object_machine.specs.Program.{Program, Target}
 use Rattle.object_machine.specs.State.{Cells, SourceState, value, with_value, wrote, faulted}

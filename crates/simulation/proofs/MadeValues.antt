@@ -2,7 +2,7 @@
 use Rattle.std.proofs.Common.{◌≡◌, inl, inr, ℕ, ◌+◌, ◌-◌, ◌<◌, ◌≤◌, ◌==◌, nat_lt, nat_le, Bool, true, false, ◌&&◌, if◌then◌else◌, slice_index_or, Option, Some, None, ℤ, refl, sym, subst, arith}
 use Rattle.std.specs.Int.{cast_unsigned, w32}
 use Rattle.std.proofs.lemmas.Bool.{cases_lt, cond_both, eqb-true}
-use Rattle.index_tests.proofs.TestLemmas.{both}
+use Rattle.list_checks.proofs.TestLemmas.{both}
 use Rattle.rv_decode.specs.declared.instructions.BranchKind.TheVariants.{Bltu}
 use Rattle.rv_decode.specs.declared.instructions.ImmKind.{ImmKind}
 use Rattle.rv_decode.specs.declared.instructions.RegKind.{RegKind}
@@ -15,8 +15,8 @@ use Rattle.cell_values.specs.declared.values.Val.{Val}
 use Rattle.cell_values.specs.declared.values.Val.TheVariants.{Int, Addr, Hi, Low, Piece, Unknown}
 use Rattle.cell_values.specs.declared.values.Cell.{Cell}
 use Rattle.cell_values.specs.declared.values.Cell.TheVariants.{Byte, Part, Mist}
-use Rattle.value_words.specs.Makers.{Maker, ByLui, ByAuipc, Mixed, same_maker, joined_maker}
-use Rattle.value_words.proofs.Stores.{first_cells}
+use Rattle.cell_values.specs.Makers.{Maker, ByLui, ByAuipc, Mixed, same_maker, joined_maker}
+use Rattle.cell_values.proofs.Stores.{first_cells}
 use Rattle.object_machine.specs.Program.{Program}
 use Rattle.object_machine.specs.State.{Cells}
 use Rattle.simulation.specs.Made.{MakesPart, IsMade, CellIsMade}

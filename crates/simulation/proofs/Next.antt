@@ -1,7 +1,7 @@
 -- A step leads to a unit.
 use Rattle.std.proofs.Common.{◌≡◌, ℕ, ◌+◌, ◌/◌, ◌*◌, ◌%◌, ◌==◌, Bool, true, false, List, ◌++◌, Option, Some, None, ℤ}
 use Rattle.std.proofs.lemmas.Bool.{cond_both}
-use Rattle.fault_order.specs.First.{first_below}
+use Rattle.list_checks.specs.First.{first_below}
 use Rattle.word_bits.specs.Words.{plus, offset}
 use Rattle.rv_decode.specs.Fields.{rd_of}
 use Rattle.rv_decode.specs.declared.instructions.Instr.{Instr}

@@ -1,6 +1,6 @@
 -- Operations on registers and immediates, and fences.
 use Rattle.std.proofs.Common.{◌≡◌, ℕ, true, false, not, ◌&&◌, Option, Some, None, ℤ, refl, ap, subst, arith}
-use Rattle.index_tests.proofs.TestLemmas.{both, not_true}
+use Rattle.list_checks.proofs.TestLemmas.{both, not_true}
 use Rattle.word_bits.specs.Words.{offset}
 use Rattle.rv_decode.specs.Table.{Means, IsImmInRange}
 use Rattle.rv_decode.specs.Acts.{register, with_register, imm_value, reg_value}
@@ -15,10 +15,10 @@ use Rattle.flat_machine.specs.State.{State}
 use Rattle.cell_values.specs.Operations.{operation_of, op_imm, op_reg, low_site}
 use Rattle.cell_values.specs.declared.values.Val.TheVariants.{Int}
 use Rattle.cell_values.proofs.Words.{operations_keep}
-use Rattle.value_words.specs.Makers.{ByLui, takes_low}
-use Rattle.value_words.proofs.Operations.{operations_stand}
-use Rattle.value_words.proofs.Immediates.{immediates_stand}
-use Rattle.value_words.proofs.Keeps.{sites_keep_words}
+use Rattle.cell_values.specs.Makers.{ByLui, takes_low}
+use Rattle.cell_values.proofs.OperationWords.{operations_stand}
+use Rattle.cell_values.proofs.ImmediateWords.{immediates_stand}
+use Rattle.cell_values.proofs.Keeps.{sites_keep_words}
 use Rattle.object_machine.specs.Program.{Program, Target}
 use Rattle.object_machine.specs.State.{SourceState, value}
 use Rattle.object_machine.specs.Step.{Reads, acts, next_state}

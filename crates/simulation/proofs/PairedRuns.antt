@@ -8,7 +8,7 @@ use Rattle.cell_values.specs.Objects.{Objects}
 use Rattle.cell_values.specs.Operations.{operation_of}
 use Rattle.cell_values.specs.declared.values.Val.{Val}
 use Rattle.cell_values.specs.declared.values.Val.TheVariants.{Int, Hi}
-use Rattle.value_words.specs.Makers.{Maker, ByLui, ByAuipc, Mixed, is_by_auipc, takes_low, takes_lows}
+use Rattle.cell_values.specs.Makers.{Maker, ByLui, ByAuipc, Mixed, is_by_auipc, takes_low, takes_lows}
 use Rattle.object_machine.specs.declared.events.Event.{Event}
 use Rattle.object_machine.specs.declared.events.Outcome.{Outcome}
 use Rattle.object_machine.specs.declared.events.Outcome.TheVariants.{GoesOn, Exited, Trapped, AddressFault}

@@ -11,7 +11,7 @@ use Rattle.flat_machine.specs.Step.{performed, event_of}
 use Rattle.cell_values.specs.Laws.{HoldsWord}
 use Rattle.cell_values.specs.declared.values.Val.{Val}
 use Rattle.cell_values.specs.declared.values.Val.TheVariants.{Int, Unknown}
-use Rattle.value_words.specs.Stands.{Stands}
+use Rattle.cell_values.specs.Stands.{Stands}
 use Rattle.object_machine.specs.declared.events.Outcome.TheVariants.{GoesOn}
 use Rattle.object_machine.specs.Program.{Program}
 use Rattle.object_machine.specs.State.{SourceState, wrote}

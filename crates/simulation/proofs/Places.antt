@@ -3,8 +3,8 @@ use Rattle.std.proofs.Common.{◌≡◌, ◌⊎◌, inl, inr, ℕ, zero, suc, �
 use Rattle.std.specs.Prelude.{ℤ}
 use Rattle.std.proofs.lemmas.Bool.{cond_both, eqb-true}
 use Rattle.std.proofs.lemmas.Bool.Decides.{nat_tests}
-use Rattle.fault_order.specs.First.{first_below}
-use Rattle.fault_order.proofs.FirstLemmas.{none_at}
+use Rattle.list_checks.specs.First.{first_below}
+use Rattle.list_checks.proofs.FirstLemmas.{none_at}
 use Rattle.word_bits.specs.Words.{plus, offset}
 use Rattle.rv_decode.specs.Acts.{load_width, store_width}
 use Rattle.rv_decode.specs.declared.instructions.ImmKind.TheVariants.{Addi}
@@ -19,8 +19,8 @@ use Rattle.cell_values.specs.Objects.{IsGrain, home_address}
 use Rattle.cell_values.specs.Operations.{op_imm, low_site}
 use Rattle.cell_values.specs.declared.values.Val.{Val}
 use Rattle.cell_values.specs.declared.values.Val.TheVariants.{Int, Addr, Hi, Low, Piece, Unknown}
-use Rattle.value_words.specs.Makers.{Maker}
-use Rattle.value_words.specs.Stands.{Stands, address_word}
+use Rattle.cell_values.specs.Makers.{Maker}
+use Rattle.cell_values.specs.Stands.{Stands, address_word}
 use Rattle.object_machine.specs.Program.{Program, Target}
 use Rattle.object_machine.specs.Places.{Where, InFixed, InObject, Nowhere, fault_from, in_fixed, located, address_of}
 use Rattle.object_machine.specs.Paired.{finds_named}

@@ -12,7 +12,7 @@ use Rattle.cell_values.specs.declared.values.Val.{Val}
 use Rattle.cell_values.specs.declared.values.Val.TheVariants.{Int, Addr, Hi, Low, Piece, Unknown}
 use Rattle.cell_values.specs.declared.values.Cell.{Cell}
 use Rattle.cell_values.specs.declared.values.Cell.TheVariants.{Mist}
-use Rattle.value_words.specs.Makers.{Maker}
+use Rattle.cell_values.specs.Makers.{Maker}
 use Rattle.object_machine.specs.State.{Cells}
 use Rattle.object_machine.specs.Memory.{stored_cells}
 use Rattle.object_machine.specs.Paired.{put_makers}

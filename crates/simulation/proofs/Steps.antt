@@ -24,8 +24,8 @@ use Rattle.flat_machine.proofs.Words.{step_words}
 use Rattle.cell_values.specs.Laws.{HoldsWord}
 use Rattle.cell_values.specs.declared.values.Val.{Val}
 use Rattle.cell_values.specs.declared.values.Val.TheVariants.{Int}
-use Rattle.value_words.specs.Makers.{Maker}
-use Rattle.value_words.specs.Stands.{Stands}
+use Rattle.cell_values.specs.Makers.{Maker}
+use Rattle.cell_values.specs.Stands.{Stands}
 use Rattle.cell_values.specs.Cells.{put_at}
 use Rattle.object_machine.specs.declared.events.Outcome.TheVariants.{GoesOn, AddressFault}
 use Rattle.object_machine.specs.Program.{Program}

@@ -15,10 +15,10 @@ use Rattle.flat_machine.specs.Sizes.{HasWords}
 use Rattle.cell_values.specs.Cells.{split, put_at, put_cells}
 use Rattle.cell_values.specs.declared.values.Cell.{Cell}
 use Rattle.cell_values.specs.declared.values.Cell.TheVariants.{Mist}
-use Rattle.value_words.specs.Makers.{Maker}
-use Rattle.value_words.specs.Stands.{CellStands, CellHoldsWord}
-use Rattle.value_words.proofs.Stores.{split_stands}
-use Rattle.value_words.proofs.Keeps.{cells_keep_words}
+use Rattle.cell_values.specs.Makers.{Maker}
+use Rattle.cell_values.specs.Stands.{CellStands, CellHoldsWord}
+use Rattle.cell_values.proofs.Stores.{split_stands}
+use Rattle.cell_values.proofs.Keeps.{cells_keep_words}
 use Rattle.object_machine.specs.Program.{Program, Target}
 use Rattle.object_machine.specs.State.{Cells, SourceState, value, faulted}
 use Rattle.object_machine.specs.Places.{Where, InFixed, InObject, Nowhere, write_fault}

@@ -3,8 +3,8 @@ use Rattle.std.proofs.Common.{◌≡◌, ◌⊎◌, inl, inr, ℕ, ◌+◌, ◌-
 use Rattle.std.proofs.lemmas.Bool.{cases_eq, cases_lt}
 use Rattle.word_bits.specs.Memory.{Memory}
 use Rattle.cell_values.specs.declared.values.Cell.{Cell}
-use Rattle.value_words.specs.Makers.{Maker}
-use Rattle.value_words.specs.Stands.{CellStands, CellHoldsWord}
+use Rattle.cell_values.specs.Makers.{Maker}
+use Rattle.cell_values.specs.Stands.{CellStands, CellHoldsWord}
 use Rattle.object_machine.specs.Program.{Program}
 use Rattle.object_machine.specs.State.{Cells}
 use Rattle.simulation.specs.Setups.{Setup, Sound}

@@ -7,8 +7,8 @@ use Rattle.rv_decode.specs.declared.instructions.Instr.{Instr}
 use Rattle.rv_decode.specs.declared.instructions.Instr.TheVariants.{Lui, Auipc}
 use Rattle.flat_machine.specs.State.{State}
 use Rattle.cell_values.specs.declared.values.Val.TheVariants.{Int, Hi}
-use Rattle.value_words.specs.Makers.{ByLui, ByAuipc}
-use Rattle.value_words.specs.Stands.{Is, Stands}
+use Rattle.cell_values.specs.Makers.{ByLui, ByAuipc}
+use Rattle.cell_values.specs.Stands.{Is, Stands}
 use Rattle.cell_values.specs.Cells.{put_at}
 use Rattle.object_machine.specs.Program.{Program, Target}
 use Rattle.object_machine.specs.State.{SourceState}

@@ -1,5 +1,5 @@
 pub use Rattle.flat_machine.specs.Runs
-pub use Rattle.value_words.specs.Stands
+pub use Rattle.cell_values.specs.Stands
 pub use Rattle.object_machine.specs.Paired
 pub mod Setups
 pub mod Made

@@ -6,7 +6,7 @@ use Rattle.cell_values.specs.declared.values.Val.{Val}
 use Rattle.cell_values.specs.declared.values.Val.TheVariants.{Hi, Piece}
 use Rattle.cell_values.specs.declared.values.Cell.{Cell}
 use Rattle.cell_values.specs.declared.values.Cell.TheVariants.{Part}
-use Rattle.value_words.specs.Makers.{Maker, ByLui, ByAuipc, Mixed}
+use Rattle.cell_values.specs.Makers.{Maker, ByLui, ByAuipc, Mixed}
 use Rattle.object_machine.specs.Program.{Program}
 use Rattle.object_machine.specs.State.{SourceState, value}
 use Rattle.object_machine.specs.Paired.{Makers}

@@ -7,7 +7,7 @@ use Rattle.flat_machine.specs.Sizes.{HasWords}
 use Rattle.flat_machine.specs.declared.events.FlatEvent.{FlatEvent}
 use Rattle.flat_machine.specs.declared.events.FlatOutcome as flat
 use Rattle.cell_values.specs.Laws.{HoldsWord}
-use Rattle.value_words.specs.Stands.{Stands, CellStands, CellHoldsWord}
+use Rattle.cell_values.specs.Stands.{Stands, CellStands, CellHoldsWord}
 use Rattle.object_machine.specs.declared.events.Outcome.{Outcome}
 use Rattle.object_machine.specs.declared.events.Outcome.TheVariants.{GoesOn, Exited, Trapped, AddressFault}
 use Rattle.object_machine.specs.Program.{Program}

@@ -4,7 +4,7 @@ use Rattle.std.specs.Prelude.{◌≡◌, ℕ, ◌+◌, ◌<◌, Bool, true, fals
 use Rattle.word_bits.specs.Memory.{Memory}
 use Rattle.board_config.specs.declared.board.Range.{Range}
 use Rattle.flat_machine.specs.Mapping.{is_mapped}
-use Rattle.value_words.specs.Stands.{Places, Uppers, Fit, MakesByLui, AreWords, MixesParts}
+use Rattle.cell_values.specs.Stands.{Places, Uppers, Fit, MakesByLui, AreWords, MixesParts}
 use Rattle.object_machine.specs.Program.{Program, Target}
 
 pub record Setup : Type 0 where

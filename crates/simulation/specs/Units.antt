@@ -10,8 +10,8 @@ use Rattle.rv_decode.specs.declared.instructions.ImmKind.TheVariants.{Addi}
 use Rattle.flat_machine.specs.Mapping.{can_access}
 use Rattle.cell_values.specs.Operations.{low_site}
 use Rattle.cell_values.specs.declared.values.Val.{Val}
-use Rattle.value_words.specs.Makers.{Maker, ByLui, ByAuipc}
-use Rattle.value_words.specs.Stands.{Is, Stands}
+use Rattle.cell_values.specs.Makers.{Maker, ByLui, ByAuipc}
+use Rattle.cell_values.specs.Stands.{Is, Stands}
 use Rattle.object_machine.specs.Program.{Program, Target}
 use Rattle.object_machine.specs.Step.{Reads}
 use Rattle.object_machine.specs.Paired.{finds_named}

@@ -2,12 +2,12 @@
 use Rattle.std.proofs.Common.{◌≡◌, ◌∙◌, ℕ, ◌+◌, ◌<◌, Bool, true, false, not, ◌&&◌, ◌||◌, List, length, refl, ap, arith}
 use Rattle.std.specs.List.{list_any}
 use Rattle.std.proofs.lemmas.Bool.Decides.{nat_tests}
-use Rattle.index_tests.specs.Tests.{any_below, lies_in, meets}
+use Rattle.list_checks.specs.Tests.{any_below, lies_in, meets}
 use Rattle.elf_reader.specs.File.{PlainView}
-use Rattle.loaded_code.specs.Records.{symbol_at}
-use Rattle.object_ranges.specs.Ranges.{has_range}
-use Rattle.object_ranges.proofs.RangeLemmas.{range_parts}
-use Rattle.sorted_numbers.specs.Sorted.{is_inside}
+use Rattle.loaded_file.specs.Records.{symbol_at}
+use Rattle.loaded_file.specs.Ranges.{has_range}
+use Rattle.loaded_file.proofs.RangeLemmas.{range_parts}
+use Rattle.list_checks.specs.Sorted.{is_inside}
 use Rattle.sound_relocations.specs.Sound.{cuts_range}
 use Rattle.sound_relocations.specs.Lists.{passes_with, is_ranged, range_start, range_end, AreListsOf}
 use Rattle.sound_relocations.specs.declared.lists.RelocationLists.{RelocationLists}

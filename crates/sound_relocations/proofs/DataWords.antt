@@ -1,16 +1,16 @@
 -- The words of data stand in their sections' bytes.
 use Rattle.std.proofs.Common.{◌≡◌, ℕ, ◌<◌, ◌==◌, true, not, ◌&&◌, length, slice_index_or}
 use Rattle.std.proofs.lemmas.Bool.{eqb-true}
-use Rattle.index_tests.specs.Tests.{lies_in}
-use Rattle.index_tests.proofs.TestLemmas.{both}
+use Rattle.list_checks.specs.Tests.{lies_in}
+use Rattle.list_checks.proofs.TestLemmas.{both}
 use Rattle.elf_reader.specs.File.{PlainView, plain_section, plain_view}
 use Rattle.elf_reader.specs.Loaded.{section_at, is_loaded}
 use Rattle.elf_reader.specs.declared.view.ElfView.{ElfView}
 use Rattle.elf_reader.specs.declared.view.Section.{Section}
-use Rattle.loaded_code.specs.Code.{image_word}
-use Rattle.loaded_code.specs.Read.{IsRead}
-use Rattle.loaded_code.proofs.WordLemmas.{StandsIn, content_below, content_stands}
-use Rattle.object_ranges.specs.Ranges.{is_executable}
+use Rattle.loaded_file.specs.Code.{image_word}
+use Rattle.loaded_file.specs.Read.{IsRead}
+use Rattle.loaded_file.proofs.WordLemmas.{StandsIn, content_below, content_stands}
+use Rattle.loaded_file.specs.Ranges.{is_executable}
 use Rattle.sound_relocations.specs.Sound.{holds_data}
 
 record HoldsData (v : PlainView) (a k : ℕ) : Type 0 where

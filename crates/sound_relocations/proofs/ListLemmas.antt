@@ -2,13 +2,13 @@
 use Rattle.std.proofs.Common.{◌≡◌, ◌∙◌, ℕ, zero, suc, ◌+◌, ◌<◌, Bool, true, false, ◌&&◌, ◌||◌, if◌then◌else◌, List, [], ◌∷◌, ◌++◌, length, slice_index_or, refl, sym, ap, arith, add-one}
 use Rattle.std.specs.List.{count_by, list_any}
 use Rattle.std.proofs.lemmas.List.{get_or_default}
-use Rattle.index_tests.specs.Tests.{any_below}
+use Rattle.list_checks.specs.Tests.{any_below}
 use Rattle.elf_reader.specs.File.{plain_view}
 use Rattle.elf_reader.specs.declared.view.ElfView.{ElfView}
 use Rattle.elf_reader.specs.declared.view.Reloc.{Reloc}
-use Rattle.loaded_code.specs.Records.{no_reloc, reloc_at}
-use Rattle.sorted_numbers.specs.Sorted.{IsSorted, collected}
-use Rattle.sorted_numbers.proofs.SortedLemmas.{any_collected, count_collected}
+use Rattle.loaded_file.specs.Records.{no_reloc, reloc_at}
+use Rattle.list_checks.specs.Sorted.{IsSorted, collected}
+use Rattle.list_checks.proofs.SortedLemmas.{any_collected, count_collected}
 use Rattle.sound_relocations.specs.Lists.{IsListOf}
 
 -- one more place

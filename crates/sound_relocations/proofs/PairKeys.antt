@@ -5,12 +5,12 @@ use Rattle.std.specs.List.{list_any}
 use Rattle.std.proofs.lemmas.Bool.Decides.{nat_tests}
 use Rattle.word_bits.specs.Words.{upper_half}
 use Rattle.rv_decode.specs.Fields.{opcode_of}
-use Rattle.index_tests.specs.Tests.{any_below}
+use Rattle.list_checks.specs.Tests.{any_below}
 use Rattle.elf_reader.specs.File.{PlainView}
 use Rattle.elf_reader.specs.declared.view.Reloc.{Reloc}
-use Rattle.loaded_code.specs.Code.{is_code_word, image_word}
-use Rattle.loaded_code.specs.Records.{reloc_at, counts, symbol_of, is_call_kind}
-use Rattle.sorted_numbers.specs.Sorted.{is_inside, is_number}
+use Rattle.loaded_file.specs.Code.{is_code_word, image_word}
+use Rattle.loaded_file.specs.Records.{reloc_at, counts, symbol_of, is_call_kind}
+use Rattle.list_checks.specs.Sorted.{is_inside, is_number}
 use Rattle.sound_relocations.specs.Sound.{is_addi, is_load_word, is_store_word, i_low, s_low, distance, is_pair_low, is_paired, is_unpaired, is_call_at, u_high, is_sound_pair}
 use Rattle.sound_relocations.specs.Lists.{passes_with, is_calling, change_start, is_lower, is_upper_pair, form_part, low_part, low_key, AreListsOf}
 use Rattle.sound_relocations.specs.declared.lists.RelocationLists.{RelocationLists}

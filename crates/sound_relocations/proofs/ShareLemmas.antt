@@ -4,11 +4,11 @@ use Rattle.std.proofs.Common.{◌≡◌, ◌∙◌, inl, inr, ℕ, zero, suc, �
 use Rattle.std.specs.List.{count_by}
 use Rattle.std.proofs.lemmas.Bool.{cases_eq}
 use Rattle.std.proofs.lemmas.Bool.Decides.{nat_tests}
-use Rattle.index_tests.specs.Tests.{any_below, meets}
+use Rattle.list_checks.specs.Tests.{any_below, meets}
 use Rattle.elf_reader.specs.File.{PlainView}
-use Rattle.loaded_code.specs.Records.{reloc_at, counts, is_mute, is_call_kind, is_half_kind, is_byte_kind, width_of}
-use Rattle.sorted_numbers.specs.Sorted.{is_under, count_below}
-use Rattle.sorted_numbers.proofs.SortedLemmas.{two_places}
+use Rattle.loaded_file.specs.Records.{reloc_at, counts, is_mute, is_call_kind, is_half_kind, is_byte_kind, width_of}
+use Rattle.list_checks.specs.Sorted.{is_under, count_below}
+use Rattle.list_checks.proofs.SortedLemmas.{two_places}
 use Rattle.sound_relocations.specs.Sound.{changes_word}
 use Rattle.sound_relocations.specs.Lists.{passes_with, is_changing, change_start, change_end, AreListsOf}
 use Rattle.sound_relocations.specs.declared.lists.RelocationLists.{RelocationLists}

@@ -3,7 +3,7 @@ use Rattle.std.proofs.Common.{◌≡◌, ◌∙◌, ℕ, ◌+◌, ◌<◌, Bool,
 use Rattle.elf_reader.specs.File.{PlainView}
 use Rattle.sound_relocations.specs.Sound.{is_sound_kind}
 use Rattle.sound_relocations.specs.Marks.{sound_below, all_sound}
-use Rattle.index_tests.proofs.StepLemmas.{length_built, built_at}
+use Rattle.list_checks.proofs.StepLemmas.{length_built, built_at}
 
 -- the mark of relocation `i`
 pub sound_at : (v : PlainView) (i : ℕ) → i < length v.relocs → slice_index_or (all_sound v) i false ≡ is_sound_kind v i

@@ -3,14 +3,14 @@ use Rattle.std.specs.Prelude.{◌≡◌, ℕ, ◌+◌, ◌*◌, ◌==◌, Bool, 
 use Rattle.std.specs.Int.{cast_unsigned, w32}
 use Rattle.std.specs.List.{count_by, list_any}
 use Rattle.word_bits.specs.Words.{upper_half}
-use Rattle.index_tests.specs.Tests.{any_below}
+use Rattle.list_checks.specs.Tests.{any_below}
 use Rattle.rv_decode.specs.Fields.{opcode_of}
 use Rattle.elf_reader.specs.File.{PlainView}
 use Rattle.elf_reader.specs.declared.view.Reloc.{Reloc}
-use Rattle.loaded_code.specs.Code.{is_code_word, image_word}
-use Rattle.loaded_code.specs.Records.{symbol_at, reloc_at, counts, symbol_of, is_mute, is_call_kind, width_of}
-use Rattle.object_ranges.specs.Ranges.{has_range}
-use Rattle.sorted_numbers.specs.Sorted.{IsSorted, count_below}
+use Rattle.loaded_file.specs.Code.{is_code_word, image_word}
+use Rattle.loaded_file.specs.Records.{symbol_at, reloc_at, counts, symbol_of, is_mute, is_call_kind, width_of}
+use Rattle.loaded_file.specs.Ranges.{has_range}
+use Rattle.list_checks.specs.Sorted.{IsSorted, count_below}
 use Rattle.sound_relocations.specs.Sound.{is_addi, is_load_word, is_store_word, i_low, s_low, u_high, distance, is_pair_low}
 use Rattle.sound_relocations.specs.declared.lists.RelocationLists.{RelocationLists}
 use Rattle.sound_relocations.specs.declared.lists.Listed.{Listed}

@@ -3,14 +3,14 @@
 use Rattle.std.specs.Prelude.{ℕ, ◌+◌, ◌*◌, ◌/◌, ◌%◌, ◌==◌, nat_lt, nat_le, Bool, not, ◌&&◌, ◌||◌, length}
 use Rattle.std.specs.Int.{cast_unsigned, w32}
 use Rattle.word_bits.specs.Words.{minus, upper_half}
-use Rattle.index_tests.specs.Tests.{any_below, lies_in, meets}
+use Rattle.list_checks.specs.Tests.{any_below, lies_in, meets}
 use Rattle.rv_decode.specs.Fields.{opcode_of, rd_of, funct3_of, funct7_of}
 use Rattle.elf_reader.specs.File.{PlainView}
 use Rattle.elf_reader.specs.Loaded.{section_at, is_loaded}
-use Rattle.loaded_code.specs.Code.{is_code_word, image_word}
+use Rattle.loaded_file.specs.Code.{is_code_word, image_word}
 use Rattle.elf_reader.specs.declared.view.Reloc.{Reloc}
-use Rattle.loaded_code.specs.Records.{symbol_at, reloc_at, counts, symbol_of, target, is_mute, is_call_kind, width_of}
-use Rattle.object_ranges.specs.Ranges.{is_executable, has_range, is_of, inside}
+use Rattle.loaded_file.specs.Records.{symbol_at, reloc_at, counts, symbol_of, target, is_mute, is_call_kind, width_of}
+use Rattle.loaded_file.specs.Ranges.{is_executable, has_range, is_of, inside}
 
 -- a relocation means the object of `n` bytes at `home`: by one of its symbols, or by the symbol of a
 -- section (STT_SECTION, 3) and a target inside it

@@ -1,6 +1,6 @@
 // The kinds of relocations (RISC-V psABI, "Relocations").
 ghost use Rattle.std.specs.Prelude.{◌≡◌};
-ghost use Rattle.loaded_code.specs.Records.{is_mute, is_call_kind, is_half_kind, is_byte_kind, width_of};
+ghost use Rattle.loaded_file.specs.Records.{is_mute, is_call_kind, is_half_kind, is_byte_kind, width_of};
 ghost use Rattle.sound_relocations.specs.Sound.{is_pair_low};
 
 use elf_reader::{R_RISCV_PCREL_LO12_I, R_RISCV_PCREL_LO12_S};

@@ -1,8 +1,8 @@
 ghost use Rattle.std.specs.Prelude.{◌≡◌, ◌^◌, ◌<◌, ◌∷◌, [], ◌++◌, if◌then◌else◌, length, IfOk};
 ghost use Rattle.elf_reader.specs.File.{plain_view};
-ghost use Rattle.loaded_code.specs.Marks.{all_loaded};
-ghost use Rattle.loaded_code.specs.Records.{symbol_at};
-ghost use Rattle.loaded_code.specs.Read.{IsRead};
+ghost use Rattle.loaded_file.specs.Marks.{all_loaded};
+ghost use Rattle.loaded_file.specs.Records.{symbol_at};
+ghost use Rattle.loaded_file.specs.Read.{IsRead};
 ghost use Rattle.sound_relocations.specs.Lists.{IsListOf, AreListsOf, count_of, is_listed, number_of, is_ranged, range_start, range_end, is_changing, change_start, change_end, is_calling, is_lower, low_part, low_key};
 
 use crate::fields::{NO_PART, form_part};
@@ -10,9 +10,8 @@ use crate::kinds::{is_call_kind, is_mute, is_pair_low, width_of};
 use crate::lists::{Listed, RelocationLists};
 use crate::standing::code_word;
 use elf_reader::{ElfView, Reloc};
-use loaded_code::counts;
-use object_ranges::has_range;
-use sorted_numbers::arrange;
+use list_checks::arrange;
+use loaded_file::{counts, has_range};
 use std::alloc::{AllocError, Global};
 
 /// How many numbers a key has for each AUIPC.

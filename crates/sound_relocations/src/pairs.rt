@@ -1,9 +1,9 @@
 ghost use Rattle.std.specs.Prelude.{◌≡◌, ◌<◌, not, ◌&&◌, length};
-ghost use Rattle.index_tests.specs.Tests.{any_below};
+ghost use Rattle.list_checks.specs.Tests.{any_below};
 ghost use Rattle.elf_reader.specs.File.{plain_view};
-ghost use Rattle.loaded_code.specs.Marks.{all_loaded};
-ghost use Rattle.loaded_code.specs.Records.{reloc_at};
-ghost use Rattle.loaded_code.specs.Read.{IsRead};
+ghost use Rattle.loaded_file.specs.Marks.{all_loaded};
+ghost use Rattle.loaded_file.specs.Records.{reloc_at};
+ghost use Rattle.loaded_file.specs.Read.{IsRead};
 ghost use Rattle.sound_relocations.specs.Sound.{is_sound_high, is_sound_low, is_sound_pair, distance, is_call_at, is_unpaired};
 ghost use Rattle.sound_relocations.specs.Lists.{is_upper_pair, AreListsOf};
 
@@ -14,8 +14,8 @@ use crate::standing::code_word;
 use elf_reader::{
     ElfView, R_RISCV_HI20, R_RISCV_LO12_I, R_RISCV_LO12_S, R_RISCV_PCREL_HI20, Reloc,
 };
-use loaded_code::target;
-use sorted_numbers::{has, has_inside};
+use list_checks::{has, has_inside};
+use loaded_file::target;
 use word_bits::hi20;
 
 /// A relocation is of a LUI of the upper part of its target.

@@ -1,14 +1,14 @@
 ghost use Rattle.std.specs.Prelude.{◌≡◌, ◌<◌, true, false, length, MatchOption};
-ghost use Rattle.index_tests.specs.Tests.{any_below};
+ghost use Rattle.list_checks.specs.Tests.{any_below};
 ghost use Rattle.elf_reader.specs.File.{plain_view};
 ghost use Rattle.elf_reader.specs.Loaded.{is_loaded};
-ghost use Rattle.loaded_code.specs.Marks.{all_loaded};
-ghost use Rattle.loaded_code.specs.Code.{is_code_word, image_word};
-ghost use Rattle.loaded_code.specs.Read.{IsRead};
+ghost use Rattle.loaded_file.specs.Marks.{all_loaded};
+ghost use Rattle.loaded_file.specs.Code.{is_code_word, image_word};
+ghost use Rattle.loaded_file.specs.Read.{IsRead};
 ghost use Rattle.sound_relocations.specs.Sound.{holds_data};
 
 use elf_reader::{EXECUTABLE_BIT, ElfView, SHT_PROGBITS};
-use loaded_code::{holds_code, word_in};
+use loaded_file::{holds_code, word_in};
 
 /// The word of code at `address`, if one stands there.
 pub(crate) fn code_word(view: &ElfView, loaded: &[bool], address: u32) -> Option<u32>

@@ -1,10 +1,10 @@
 ghost use Rattle.std.specs.Prelude.{◌≡◌, ◌<◌, ◌==◌, not, ◌&&◌, if◌then◌else◌, length};
-ghost use Rattle.index_tests.specs.Tests.{any_below};
+ghost use Rattle.list_checks.specs.Tests.{any_below};
 ghost use Rattle.elf_reader.specs.File.{plain_view};
-ghost use Rattle.loaded_code.specs.Marks.{all_loaded};
-ghost use Rattle.loaded_code.specs.Code.{image_word};
-ghost use Rattle.loaded_code.specs.Records.{reloc_at, target};
-ghost use Rattle.loaded_code.specs.Read.{IsRead};
+ghost use Rattle.loaded_file.specs.Marks.{all_loaded};
+ghost use Rattle.loaded_file.specs.Code.{image_word};
+ghost use Rattle.loaded_file.specs.Records.{reloc_at, target};
+ghost use Rattle.loaded_file.specs.Read.{IsRead};
 ghost use Rattle.sound_relocations.specs.Sound.{holds_data, cuts_range, changes_word, is_sound_word};
 ghost use Rattle.sound_relocations.specs.Lists.{is_changing, AreListsOf};
 
@@ -12,8 +12,8 @@ use crate::listing::{change_start, is_changing};
 use crate::lists::RelocationLists;
 use crate::standing::data_word;
 use elf_reader::{ElfView, R_RISCV_32, Reloc};
-use loaded_code::target;
-use sorted_numbers::{count_under, has_inside};
+use list_checks::{count_under, has_inside};
+use loaded_file::target;
 
 /// Relocation `i` is of a word of data that holds its target, and that nothing else changes.
 pub(crate) fn is_sound_word(

@@ -1,6 +1,6 @@
 use crate::words::number;
 use anyhow::{Context, Result};
-use sorted_numbers::{arrange, arrange_once, count_under, has, has_inside, place_of, repeats};
+use list_checks::{arrange, arrange_once, count_under, has, has_inside, place_of, repeats};
 use std::alloc::Global;
 
 fn numbers(alloc: Global, text: &str) -> Result<Vec<u64>> {

@@ -28,7 +28,7 @@ const NO_NUMBER: u32 = 8;
 
 impl Source {
     ghost use Rattle.std.specs.Prelude.{◌≡◌, ℕ, ◌+◌, ◌<◌, ◌≤◌, ◌++◌, take, drop, length, MatchOption, IfOk, OnOk, OnErr, Some, None};
-    ghost use Rattle.fault_order.specs.First.{first_below};
+    ghost use Rattle.list_checks.specs.First.{first_below};
     ghost use Rattle.object_machine.specs.Flow.{falls_on};
     ghost use Rattle.object_machine.specs.Calls.{a1, a7, answered, exits, plain_bytes, unread, appends, writes_from, writes, unwritten, put_input, with_input, reads_into, reads, taken_count, calls_number, calls_by, a0, a2};
     ghost use Rattle.cell_values.specs.Objects.{IsOfGraph};
@@ -160,7 +160,7 @@ impl Source {
     }
 
     /// Why the first of the `n` bytes at a1 that can't be read can't be.
-    #[tactic(auto, using(fault_order::proofs::FirstLemmas::first_found))]
+    #[tactic(auto, using(list_checks::proofs::FirstLemmas::first_found))]
     fn unread(&self, n: u32) -> Option<u32>
         ensures { result ≡ first_below (unread (seen self.now) (seen_state self.now)) n }
     {
@@ -250,7 +250,7 @@ impl Source {
     }
 
     /// Why the first of the `n` bytes at a1 that can't be written can't be.
-    #[tactic(auto, using(fault_order::proofs::FirstLemmas::first_found))]
+    #[tactic(auto, using(list_checks::proofs::FirstLemmas::first_found))]
     fn unwritten(&self, n: u32) -> Option<u32>
         ensures { result ≡ first_below (unwritten (seen self.now) (seen_state self.now)) n }
     {

@@ -22,7 +22,7 @@ const NOT_WRITABLE: u32 = 9;
 
 impl Source {
     ghost use Rattle.std.specs.Prelude.{◌≡◌, ◌+◌, ◌<◌, ◌≤◌, ◌%◌, ◌==◌, if◌then◌else◌, Some, None, length};
-    ghost use Rattle.fault_order.specs.First.{first_below};
+    ghost use Rattle.list_checks.specs.First.{first_below};
     ghost use Rattle.cell_values.specs.Objects.{IsGrain, IsOfGraph, object_of, objects_of, home_address};
     ghost use Rattle.object_machine.specs.State.{value};
     ghost use Rattle.object_machine.specs.Places.{located, byte_fault, fault_from, in_fixed, byte_place, write_fault, address_of};
@@ -112,7 +112,7 @@ impl Source {
     }
 
     /// Why the first of the `n` bytes from an address that is no fixed memory is none.
-    #[tactic(auto, using(fault_order::proofs::FirstLemmas::first_found))]
+    #[tactic(auto, using(list_checks::proofs::FirstLemmas::first_found))]
     fn fixed_fault(&self, at: u32, n: u32) -> Option<u32>
         requires { at + n ≤ 4294967296 }
         ensures { result ≡ first_below (fault_from (seen self.now) at) n }

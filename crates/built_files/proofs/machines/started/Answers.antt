@@ -1,10 +1,10 @@
 use Rattle.std.proofs.Common.{◌≡◌, ◌==◌, Bool, true, ◌&&◌, ◌||◌, length, map, None, refl, sym, subst, arith}
 use Rattle.std.proofs.lemmas.Bool.Decides.{nat_tests}
-use Rattle.fault_order.specs.First.{◌or_else◌, unless}
-use Rattle.fault_order.proofs.FirstLemmas.{both_none, holds}
-use Rattle.index_tests.specs.Tests.{any_below}
+use Rattle.list_checks.specs.First.{◌or_else◌, unless}
+use Rattle.list_checks.proofs.FirstLemmas.{both_none, holds}
+use Rattle.list_checks.specs.Tests.{any_below}
 use Rattle.elf_reader.specs.File.{PlainView, plain_view}
-use Rattle.loaded_code.specs.Code.{is_code_word}
+use Rattle.loaded_file.specs.Code.{is_code_word}
 use Rattle.code_leaders.specs.Words.{any_code_word}
 use Rattle.code_leaders.specs.Leaders.{is_function_at, makes_address, goes_to, comes_back, pair_goes_to, pair_comes_back, is_leader}
 use Rattle.code_blocks.specs.Blocks.{is_any, code_fault}

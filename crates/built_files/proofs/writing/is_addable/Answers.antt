@@ -1,6 +1,6 @@
 use Rattle.std.proofs.Common.{◌≡◌, ◌<◌, ◌≤◌, ℕ, ◌+◌, false, List, length, subst, arith}
 use Rattle.std.specs.List.{All}
-use Rattle.index_tests.specs.Tests.{meets}
+use Rattle.list_checks.specs.Tests.{meets}
 use Rattle.elf_reader.specs.declared.view.Segment.{Segment}
 use Rattle.elf_writer.specs.Parts.{new_segment}
 use Rattle.built_files.proofs.AllowedLemmas.{clear_map}

@@ -1,6 +1,6 @@
 use Rattle.std.proofs.Common.{◌≡◌, false, arith}
 use Rattle.std.proofs.lemmas.List.Elements.{All-more}
-use Rattle.index_tests.specs.Tests.{meets}
+use Rattle.list_checks.specs.Tests.{meets}
 use Rattle.elf_reader.specs.declared.view.Segment.{Segment}
 use Rattle.elf_writer.proofs.ChangeLemmas.{all_taken}
 use Rattle.built_files.proofs.writing.is_clear.Goals as goal

@@ -1,6 +1,6 @@
 use Rattle.std.proofs.Common.{◌≡◌, false, take}
 use Rattle.std.specs.List.{All}
-use Rattle.index_tests.specs.Tests.{meets}
+use Rattle.list_checks.specs.Tests.{meets}
 use Rattle.built_files.proofs.writing.is_clear.Given as goal
 
 abbrev pub invariant-loop-segment : goal.invariant-loop-segment

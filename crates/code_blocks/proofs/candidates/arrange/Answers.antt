@@ -2,7 +2,7 @@ use Rattle.std.proofs.Common.{◌∙◌, sym}
 use Rattle.std.proofs.lemmas.List.Filters.{dedup_is}
 use Rattle.std.proofs.lemmas.List.Sorted.{list_any-IsPermutation}
 use Rattle.std.proofs.lemmas.Map.Keys.{IsStrictlyIncreasing-dedup}
-use Rattle.sorted_numbers.proofs.SortedLemmas.{any_dedup}
+use Rattle.list_checks.proofs.SortedLemmas.{any_dedup}
 use Rattle.code_blocks.proofs.candidates.arrange.Goals as goal
 
 pub returns-clause-ascending : goal.returns-clause-ascending

@@ -1,6 +1,6 @@
 use Rattle.std.proofs.Common.{◌∙◌, sym, arith}
 use Rattle.elf_reader.specs.File.{plain_section, plain_view}
-use Rattle.loaded_code.proofs.LoadedSections.{found_in, none_after}
+use Rattle.loaded_file.proofs.LoadedSections.{found_in, none_after}
 use Rattle.code_blocks.specs.Functions.{lies_in_range}
 use Rattle.code_blocks.proofs.candidates.lies_in_code.Goals as goal
 

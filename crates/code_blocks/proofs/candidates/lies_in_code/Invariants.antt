@@ -1,5 +1,5 @@
 use Rattle.std.proofs.Common.{◌≡◌, false}
-use Rattle.index_tests.specs.Tests.{any_below}
+use Rattle.list_checks.specs.Tests.{any_below}
 use Rattle.elf_reader.specs.File.{plain_view}
 use Rattle.code_blocks.specs.Functions.{lies_in_range}
 use Rattle.code_blocks.proofs.candidates.lies_in_code.Given as goal

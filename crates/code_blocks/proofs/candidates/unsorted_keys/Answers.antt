@@ -1,7 +1,7 @@
 use Rattle.std.proofs.Common.{◌≡◌, ◌∙◌, ℕ, Bool, ◌||◌, length, map, ap, subst, arith, add-one}
 use Rattle.std.specs.List.{list_any}
 use Rattle.std.proofs.lemmas.List.{length-map}
-use Rattle.index_tests.specs.Tests.{any_below}
+use Rattle.list_checks.specs.Tests.{any_below}
 use Rattle.elf_reader.specs.File.{plain_symbol, plain_view}
 use Rattle.code_blocks.specs.Kept.{passes_key}
 use Rattle.code_blocks.proofs.candidates.unsorted_keys.Goals as goal

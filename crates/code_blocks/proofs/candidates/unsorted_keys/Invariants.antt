@@ -1,6 +1,6 @@
 use Rattle.std.proofs.Common.{◌≡◌, ◌≤◌, ℕ, Bool, length}
 use Rattle.std.specs.List.{list_any}
-use Rattle.index_tests.specs.Tests.{any_below}
+use Rattle.list_checks.specs.Tests.{any_below}
 use Rattle.elf_reader.specs.File.{plain_view}
 use Rattle.code_blocks.specs.Kept.{passes_key}
 use Rattle.code_blocks.proofs.candidates.unsorted_keys.Given as goal

@@ -1,6 +1,6 @@
 use Rattle.std.proofs.Common.{◌≡◌, ◌∙◌, ℕ, ◌<◌, length, map, sym, subst, arith, None, add-one}
 use Rattle.std.proofs.lemmas.List.{length-map}
-use Rattle.fault_order.specs.First.{first_below}
+use Rattle.list_checks.specs.First.{first_below}
 use Rattle.elf_reader.specs.File.{plain_section, plain_view}
 use Rattle.code_blocks.specs.Ends.{range_at}
 use Rattle.code_blocks.proofs.RangeLemmas.{range_found, range_passed, no_range}

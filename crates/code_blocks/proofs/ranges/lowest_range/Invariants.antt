@@ -1,5 +1,5 @@
 use Rattle.std.proofs.Common.{◌≡◌, None}
-use Rattle.fault_order.specs.First.{first_below}
+use Rattle.list_checks.specs.First.{first_below}
 use Rattle.elf_reader.specs.File.{plain_view}
 use Rattle.code_blocks.specs.Ends.{range_at}
 use Rattle.code_blocks.proofs.ranges.lowest_range.Given as goal

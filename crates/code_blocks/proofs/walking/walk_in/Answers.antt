@@ -1,7 +1,7 @@
 use Rattle.std.proofs.Common.{◌∙◌, ◌+◌, ◌-◌, ◌*◌, ◌/◌, ◌<◌, ◌≤◌, refl, sym, arith}
 use Rattle.elf_reader.specs.File.{plain_view}
 use Rattle.elf_reader.specs.Loaded.{section_at}
-use Rattle.loaded_code.proofs.WordLemmas.{word_fits}
+use Rattle.loaded_file.proofs.WordLemmas.{word_fits}
 use Rattle.code_blocks.proofs.RangeLemmas.{word_held}
 use Rattle.code_blocks.proofs.StepLemmas.{walked_none, walked_more, walk_stopped, walk_over, is_unit, no_end}
 use Rattle.code_blocks.proofs.walking.walk_in.Goals as goal

@@ -1,7 +1,7 @@
 use Rattle.std.proofs.Common.{◌≡◌, ℕ, ◌&&◌, ◌||◌}
-use Rattle.index_tests.specs.Tests.{any_below}
+use Rattle.list_checks.specs.Tests.{any_below}
 use Rattle.elf_reader.specs.File.{plain_view}
-use Rattle.loaded_code.specs.Code.{is_code_word}
+use Rattle.loaded_file.specs.Code.{is_code_word}
 use Rattle.code_leaders.specs.Leaders.{makes_address}
 use Rattle.code_leaders.specs.Early.{has}
 use Rattle.code_leaders.proofs.early.add_addresses.Given as goal

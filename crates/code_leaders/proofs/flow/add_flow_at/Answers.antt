@@ -1,4 +1,4 @@
-use Rattle.loaded_code.proofs.WordLemmas.{word_fits}
+use Rattle.loaded_file.proofs.WordLemmas.{word_fits}
 use Rattle.code_leaders.proofs.flow.add_flow_at.Goals as goal
 
 pub add_flow_of-requires-clause-fits : goal.add_flow_of-requires-clause-fits

@@ -1,5 +1,5 @@
 use Rattle.std.proofs.Common.{arith}
-use Rattle.loaded_code.proofs.WordLemmas.{range_ends}
+use Rattle.loaded_file.proofs.WordLemmas.{range_ends}
 use Rattle.code_leaders.proofs.flow.code_word.Goals as goal
 
 pub overflow_cast-result : goal.overflow_cast-result

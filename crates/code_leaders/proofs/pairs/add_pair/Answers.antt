@@ -1,7 +1,7 @@
 use Rattle.std.proofs.Common.{◌≡◌, ◌∙◌, ◌==◌, ◌&&◌, ◌||◌, sym, ap}
 use Rattle.std.proofs.lemmas.List.{get_or_default}
 use Rattle.elf_reader.specs.File.{plain_view}
-use Rattle.loaded_code.specs.Records.{no_reloc, reloc_at}
+use Rattle.loaded_file.specs.Records.{no_reloc, reloc_at}
 use Rattle.code_leaders.specs.Early.{has}
 use Rattle.code_leaders.proofs.PairLemmas.{pair_at, has_push, nothing_added}
 use Rattle.code_leaders.proofs.pairs.add_pair.Goals as goal

@@ -1,8 +1,8 @@
 use Rattle.std.proofs.Common.{◌∙◌, sym, arith}
 use Rattle.elf_reader.specs.File.{plain_section, plain_view}
-use Rattle.loaded_code.specs.Code.{holds_code}
-use Rattle.loaded_code.proofs.LoadedSections.{found_in, none_after}
-use Rattle.loaded_code.proofs.WordLemmas.{word_fits}
+use Rattle.loaded_file.specs.Code.{holds_code}
+use Rattle.loaded_file.proofs.LoadedSections.{found_in, none_after}
+use Rattle.loaded_file.proofs.WordLemmas.{word_fits}
 use Rattle.code_leaders.proofs.pairs.word_in_code.Goals as goal
 
 pub returns-then-holds_code : goal.returns-then-holds_code

@@ -1,6 +1,6 @@
 use Rattle.std.proofs.Common.{arith}
 use Rattle.elf_reader.specs.File.{plain_view}
-use Rattle.loaded_code.specs.Code.{is_code_word}
+use Rattle.loaded_file.specs.Code.{is_code_word}
 use Rattle.code_leaders.specs.Pairs.{returns_to}
 use Rattle.code_leaders.proofs.PairLemmas.{listed_more}
 use Rattle.code_leaders.proofs.strata.add_pair_returns.Goals as goal

@@ -1,7 +1,7 @@
 use Rattle.std.proofs.Common.{◌≡◌, ℕ, ◌&&◌, ◌||◌, take}
 use Rattle.std.specs.List.{list_any}
 use Rattle.elf_reader.specs.File.{plain_view}
-use Rattle.loaded_code.specs.Code.{is_code_word}
+use Rattle.loaded_file.specs.Code.{is_code_word}
 use Rattle.code_leaders.specs.Early.{has}
 use Rattle.code_leaders.specs.Pairs.{returns_to}
 use Rattle.code_leaders.proofs.strata.add_pair_returns.Given as goal

@@ -4,7 +4,7 @@ use Rattle.board_config.specs.Board.{mapped_ranges}
 use Rattle.flat_machine.specs.Start as flat_start
 use Rattle.object_machine.specs.Program.{program_of}
 use Rattle.object_machine.specs.Start.{start_of}
-use Rattle.loaded_code.proofs.WordLemmas.{same_view}
+use Rattle.loaded_file.proofs.WordLemmas.{same_view}
 use Rattle.relinking.proofs.Analysed.{may_run}
 use Rattle.command_line.proofs.Analysing.{board_refused, analysis_refused, compared_refused}
 use Rattle.command_line.proofs.ComparingFiles.{compared_files, has_ending, relinked_refused, comparison_refused, comparison_answered}

@@ -3,7 +3,7 @@ use Rattle.std.proofs.lemmas.List.Elements.{All-from_get_or}
 use Rattle.elf_reader.specs.Loadable.{IsByte, AreBytes}
 use Rattle.std.proofs.lemmas.Result.{err_from_is_err_and}
 use Rattle.elf_reader.specs.File.{plain_view}
-use Rattle.loaded_code.proofs.WordLemmas.{same_view}
+use Rattle.loaded_file.proofs.WordLemmas.{same_view}
 use Rattle.relinking.proofs.Analysed.{analysed}
 use Rattle.command_line.proofs.Analysing.{board_refused, analysis_refused, profiled_refused}
 use Rattle.command_line.proofs.Profiling.{counts_refused, has_lines, profiles_to}

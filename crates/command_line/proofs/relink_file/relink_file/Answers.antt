@@ -3,7 +3,7 @@ use Rattle.std.proofs.lemmas.List.Elements.{All-from_get_or}
 use Rattle.std.proofs.lemmas.Result.{err_from_is_err_and}
 use Rattle.elf_reader.specs.File.{PlainView, plain_view, view_in}
 use Rattle.elf_reader.specs.Loadable.{IsByte, AreBytes}
-use Rattle.loaded_code.proofs.WordLemmas.{same_view}
+use Rattle.loaded_file.proofs.WordLemmas.{same_view}
 use Rattle.placement_programme.specs.Views.{plain_programme, plain_choice}
 use Rattle.energy_model.specs.Stated.{scene_of}
 use Rattle.relinking.specs.FoundChoice.{is_optimal}

@@ -1,7 +1,7 @@
 use Rattle.std.proofs.Common.{◌≡◌, subst}
 use Rattle.std.proofs.lemmas.Result.{err_from_is_err_and}
 use Rattle.elf_reader.specs.File.{PlainView}
-use Rattle.loaded_code.proofs.WordLemmas.{same_view}
+use Rattle.loaded_file.proofs.WordLemmas.{same_view}
 use Rattle.code_blocks.specs.Numbers.{starts_of}
 use Rattle.printed_lines.specs.ShowLines.{show_text}
 use Rattle.command_line.proofs.Analysing.{board_refused, analysis_refused}

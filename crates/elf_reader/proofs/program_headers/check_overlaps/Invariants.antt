@@ -1,5 +1,5 @@
 use Rattle.std.proofs.Common.{◌≡◌, None}
-use Rattle.fault_order.specs.First.{first_below}
+use Rattle.list_checks.specs.First.{first_below}
 use Rattle.elf_reader.specs.ProgramHeaderChecks.{pairs_fault}
 use Rattle.elf_reader.proofs.program_headers.check_overlaps.Given as goal
 

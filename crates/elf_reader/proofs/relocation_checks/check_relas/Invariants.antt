@@ -1,5 +1,5 @@
 use Rattle.std.proofs.Common.{◌≡◌, None}
-use Rattle.fault_order.specs.First.{first_below}
+use Rattle.list_checks.specs.First.{first_below}
 use Rattle.elf_reader.specs.RelocationChecks.{rela_fault}
 use Rattle.elf_reader.proofs.relocation_checks.check_relas.Given as goal
 

@@ -1,6 +1,6 @@
 use Rattle.std.proofs.Common.{◌≡◌, ◌<◌, ◌+◌, ◌∙◌, ℕ, List, Option, sym, subst}
 use Rattle.std.proofs.lemmas.Result.{err_from_is_err_and}
-use Rattle.fault_order.proofs.FirstLemmas.{first_found}
+use Rattle.list_checks.proofs.FirstLemmas.{first_found}
 use Rattle.elf_reader.specs.Layout.{relocation_record}
 use Rattle.elf_reader.specs.Sections.{symbol_count, relocation_count_at, relocation_count_below}
 use Rattle.elf_reader.specs.RelocationChecks.{relocation_fault_of, relocation_fault}

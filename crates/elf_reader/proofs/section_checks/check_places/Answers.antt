@@ -1,6 +1,6 @@
 use Rattle.std.proofs.Common.{rules}
 use Rattle.std.proofs.lemmas.Result.{err_from_is_err_and}
-use Rattle.fault_order.proofs.FirstLemmas.{first_found}
+use Rattle.list_checks.proofs.FirstLemmas.{first_found}
 use Rattle.elf_reader.specs.SectionChecks.{section_place_fault}
 use Rattle.elf_reader.specs.Layout.{section_count}
 use Rattle.elf_reader.proofs.SectionLemmas.{contents_held}

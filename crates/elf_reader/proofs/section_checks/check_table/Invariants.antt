@@ -1,5 +1,5 @@
 use Rattle.std.proofs.Common.{◌≡◌, None}
-use Rattle.fault_order.specs.First.{first_below}
+use Rattle.list_checks.specs.First.{first_below}
 use Rattle.elf_reader.specs.SectionChecks.{header_place_fault}
 use Rattle.elf_reader.proofs.section_checks.check_table.Given as goal
 

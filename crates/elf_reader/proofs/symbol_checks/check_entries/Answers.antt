@@ -1,6 +1,6 @@
 use Rattle.std.proofs.Common.{◌≡◌, ◌<◌, ◌∙◌, ℕ, ap, subst}
 use Rattle.std.proofs.lemmas.Result.{err_from_is_err_and}
-use Rattle.fault_order.proofs.FirstLemmas.{first_found}
+use Rattle.list_checks.proofs.FirstLemmas.{first_found}
 use Rattle.elf_reader.specs.Layout.{section_header}
 use Rattle.elf_reader.specs.Sections.{symbol_count_of}
 use Rattle.elf_reader.specs.SymbolChecks.{symbol_fault}

@@ -1,5 +1,5 @@
 use Rattle.std.proofs.Common.{◌≡◌, None}
-use Rattle.fault_order.specs.First.{first_below}
+use Rattle.list_checks.specs.First.{first_below}
 use Rattle.elf_reader.specs.SymbolChecks.{symbol_fault}
 use Rattle.elf_reader.proofs.symbol_checks.check_entries.Given as goal
 

@@ -1,5 +1,5 @@
 use Rattle.std.proofs.Common.{sym}
-use Rattle.index_tests.proofs.TestLemmas.{any_at}
+use Rattle.list_checks.proofs.TestLemmas.{any_at}
 use Rattle.elf_reader.specs.Layout.{section_count}
 use Rattle.elf_reader.specs.SymbolChecks.{shares_bytes}
 use Rattle.elf_reader.proofs.CheckLemmas.{below_count}

@@ -1,5 +1,5 @@
 use Rattle.std.proofs.Common.{◌≡◌, false}
-use Rattle.index_tests.specs.Tests.{any_below}
+use Rattle.list_checks.specs.Tests.{any_below}
 use Rattle.elf_reader.specs.SymbolChecks.{shares_bytes}
 use Rattle.elf_reader.proofs.symbol_checks.shares_some.Given as goal
 

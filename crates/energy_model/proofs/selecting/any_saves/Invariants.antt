@@ -1,5 +1,5 @@
 use Rattle.std.proofs.Common.{◌≡◌, map}
-use Rattle.index_tests.specs.Tests.{any_below}
+use Rattle.list_checks.specs.Tests.{any_below}
 use Rattle.placement_programme.specs.Plain.{plain_full_var}
 use Rattle.energy_model.specs.Selected.{var_in, saves_by_overlay}
 use Rattle.energy_model.proofs.selecting.any_saves.Given as goal

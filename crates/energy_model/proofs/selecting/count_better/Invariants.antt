@@ -1,5 +1,5 @@
 use Rattle.std.proofs.Common.{◌≡◌, ℕ, ◌≤◌, map}
-use Rattle.sorted_numbers.specs.Sorted.{count_below}
+use Rattle.list_checks.specs.Sorted.{count_below}
 use Rattle.placement_programme.specs.Plain.{plain_full_var}
 use Rattle.energy_model.specs.Selected.{better}
 use Rattle.energy_model.proofs.selecting.count_better.Given as goal

@@ -1,8 +1,8 @@
 use Rattle.std.proofs.Common.{nat_le, rules, arith}
 use Rattle.std.proofs.lemmas.Bool.{leb-true}
 use Rattle.std.proofs.lemmas.List.Sorted.{IsPartitionPoint-from_clause, IsPartitionedBy-leb}
-use Rattle.object_ranges.specs.declared.extents.Extent.{Extent}
-use Rattle.object_ranges.specs.Extents.{no_extent}
+use Rattle.loaded_file.specs.declared.extents.Extent.{Extent}
+use Rattle.loaded_file.specs.Extents.{no_extent}
 use Rattle.movable_ranges.proofs.ApartLemmas.{by_home, above}
 use Rattle.movable_ranges.proofs.apart.count_begun.Goals as goal
 

@@ -1,6 +1,6 @@
 use Rattle.std.proofs.Common.{arith}
 use Rattle.elf_reader.specs.File.{plain_view}
-use Rattle.loaded_code.specs.Records.{target}
+use Rattle.loaded_file.specs.Records.{target}
 use Rattle.movable_ranges.proofs.LeadLemmas.{held_by}
 use Rattle.movable_ranges.proofs.cover.is_covered.Goals as goal
 

@@ -1,5 +1,5 @@
 use Rattle.std.proofs.Common.{◌≡◌, length}
-use Rattle.index_tests.specs.Tests.{any_below}
+use Rattle.list_checks.specs.Tests.{any_below}
 use Rattle.elf_reader.specs.File.{plain_view}
 use Rattle.movable_ranges.specs.Fixed.{stands_in_zeros}
 use Rattle.movable_ranges.specs.Apart.{AddsRule}

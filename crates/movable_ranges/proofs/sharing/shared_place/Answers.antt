@@ -1,7 +1,7 @@
 use Rattle.std.proofs.Common.{sym, subst}
 use Rattle.elf_reader.specs.File.{plain_view}
 use Rattle.elf_reader.specs.declared.view.Reloc.{Reloc}
-use Rattle.loaded_code.specs.Records.{reloc_at, counts}
+use Rattle.loaded_file.specs.Records.{reloc_at, counts}
 use Rattle.sound_relocations.proofs.ListLemmas.{reloc_is}
 use Rattle.movable_ranges.specs.Apart.{Finds}
 use Rattle.movable_ranges.specs.Meant.{leads_inside}

@@ -1,5 +1,5 @@
 use Rattle.elf_reader.specs.File.{plain_view}
-use Rattle.object_ranges.proofs.ExtentLemmas.{ok_then}
+use Rattle.loaded_file.proofs.ExtentLemmas.{ok_then}
 use Rattle.movable_ranges.proofs.UnmarkedLemmas.{kept_first_apart, kept_filled, apart_left, marks_of}
 use Rattle.movable_ranges.proofs.top.apart_ranges.Goals as goal
 

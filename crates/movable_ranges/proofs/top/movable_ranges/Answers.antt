@@ -1,5 +1,5 @@
 use Rattle.elf_reader.specs.File.{plain_view}
-use Rattle.object_ranges.proofs.ExtentLemmas.{ok_then}
+use Rattle.loaded_file.proofs.ExtentLemmas.{ok_then}
 use Rattle.movable_ranges.proofs.UnmarkedLemmas.{kept_still_apart, kept_filled, movable_kept}
 use Rattle.movable_ranges.proofs.top.movable_ranges.Goals as goal
 

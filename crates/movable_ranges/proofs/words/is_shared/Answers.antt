@@ -1,7 +1,7 @@
 use Rattle.std.proofs.Common.{◌∙◌, sym}
 use Rattle.std.proofs.lemmas.List.{get_or_default}
 use Rattle.elf_reader.specs.File.{plain_view}
-use Rattle.loaded_code.specs.Records.{no_reloc}
+use Rattle.loaded_file.specs.Records.{no_reloc}
 use Rattle.movable_ranges.proofs.SiteLemmas.{twice_at}
 use Rattle.movable_ranges.proofs.words.is_shared.Goals as goal
 

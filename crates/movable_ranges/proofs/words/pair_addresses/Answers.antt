@@ -1,5 +1,5 @@
 use Rattle.elf_reader.specs.File.{plain_view}
-use Rattle.index_tests.proofs.StepLemmas.{any_more}
+use Rattle.list_checks.proofs.StepLemmas.{any_more}
 use Rattle.movable_ranges.specs.Shares.{is_high_by}
 use Rattle.movable_ranges.proofs.words.pair_addresses.Goals as goal
 

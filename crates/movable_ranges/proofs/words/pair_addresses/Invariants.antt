@@ -1,6 +1,6 @@
 use Rattle.std.proofs.Common.{◌≡◌, ℕ, Bool}
 use Rattle.std.specs.List.{list_any}
-use Rattle.index_tests.specs.Tests.{any_below}
+use Rattle.list_checks.specs.Tests.{any_below}
 use Rattle.elf_reader.specs.File.{plain_view}
 use Rattle.movable_ranges.specs.Shares.{is_high_by}
 use Rattle.movable_ranges.proofs.words.pair_addresses.Given as goal

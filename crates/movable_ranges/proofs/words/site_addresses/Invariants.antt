@@ -1,6 +1,6 @@
 use Rattle.std.proofs.Common.{◌≡◌, ℕ, Bool}
 use Rattle.std.specs.List.{count_by}
-use Rattle.sorted_numbers.specs.Sorted.{count_below}
+use Rattle.list_checks.specs.Sorted.{count_below}
 use Rattle.elf_reader.specs.File.{plain_view}
 use Rattle.movable_ranges.specs.Shares.{gives_by}
 use Rattle.movable_ranges.proofs.words.site_addresses.Given as goal

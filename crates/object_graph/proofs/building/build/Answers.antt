@@ -1,6 +1,6 @@
 use Rattle.std.proofs.Common.{◌≡◌, List, sym, subst}
 use Rattle.elf_reader.specs.File.{plain_view}
-use Rattle.object_ranges.specs.declared.extents.Extent.{Extent}
+use Rattle.loaded_file.specs.declared.extents.Extent.{Extent}
 use Rattle.object_graph.specs.Gathered.{AreMovableOf}
 use Rattle.object_graph.proofs.building.build.Goals as goal
 

@@ -1,5 +1,5 @@
 use Rattle.std.proofs.Common.{◌≡◌, None}
-use Rattle.fault_order.specs.First.{first_below}
+use Rattle.list_checks.specs.First.{first_below}
 use Rattle.elf_reader.specs.File.{plain_view}
 use Rattle.object_graph.specs.LayoutFaults.{no_area_fault}
 use Rattle.object_graph.proofs.layout.check_areas.Given as goal

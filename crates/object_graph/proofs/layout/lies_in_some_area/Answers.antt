@@ -1,5 +1,5 @@
 use Rattle.std.proofs.Common.{◌∙◌, sym, arith, length}
-use Rattle.index_tests.proofs.TestLemmas.{any_at}
+use Rattle.list_checks.proofs.TestLemmas.{any_at}
 use Rattle.elf_reader.specs.File.{plain_segment}
 use Rattle.object_graph.specs.LayoutFaults.{lies_in_area}
 use Rattle.object_graph.proofs.layout.lies_in_some_area.Goals as goal

@@ -1,5 +1,5 @@
 use Rattle.std.proofs.Common.{◌≡◌, false}
-use Rattle.index_tests.specs.Tests.{any_below}
+use Rattle.list_checks.specs.Tests.{any_below}
 use Rattle.elf_reader.specs.File.{plain_segment}
 use Rattle.object_graph.specs.LayoutFaults.{lies_in_area}
 use Rattle.object_graph.proofs.layout.lies_in_some_area.Given as goal

@@ -1,6 +1,6 @@
 use Rattle.std.proofs.Common.{◌≡◌, ℕ, ◌<◌, length, slice_index_or, None}
 use Rattle.elf_reader.specs.File.{plain_view}
-use Rattle.object_ranges.specs.Extents.{extent_at}
+use Rattle.loaded_file.specs.Extents.{extent_at}
 use Rattle.object_graph.specs.Gathered.{first_symbol}
 use Rattle.object_graph.proofs.objects.first_symbols.Given as goal
 

@@ -1,8 +1,8 @@
 use Rattle.std.proofs.Common.{◌≡◌, ◌∙◌, ◌<◌, ◌≤◌, nat_lt, true, false, length, get_or, sym, ap, arith, rules}
 use Rattle.std.proofs.lemmas.List.{get_or_default}
 use Rattle.std.proofs.lemmas.List.Sorted.{IsPartitionPoint-from_clause}
-use Rattle.object_ranges.specs.declared.extents.Extent.{Extent}
-use Rattle.object_ranges.specs.Extents.{is_extent, no_extent, extent_at}
+use Rattle.loaded_file.specs.declared.extents.Extent.{Extent}
+use Rattle.loaded_file.specs.Extents.{is_extent, no_extent, extent_at}
 use Rattle.object_graph.proofs.SearchLemmas.{home_of, parts, parted_homes, place_none, place_some}
 use Rattle.object_graph.proofs.places.place_of.Goals as goal
 use Rattle.object_graph.proofs.places.place_of.Goals.{then-place-ranges-via-then-place-ranges, then-place-ranges-via-else-place-ranges+then-not-is_extent}

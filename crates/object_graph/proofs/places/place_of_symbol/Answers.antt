@@ -1,5 +1,5 @@
 use Rattle.std.proofs.Common.{◌≡◌, ◌∙◌, ◌==◌, Bool, ◌&&◌, sym, ap}
-use Rattle.object_ranges.specs.Extents.{extent_at}
+use Rattle.loaded_file.specs.Extents.{extent_at}
 use Rattle.object_graph.proofs.GivenLemmas.{equal_turned}
 use Rattle.object_graph.proofs.places.place_of_symbol.Goals as goal
 

@@ -1,7 +1,7 @@
 use Rattle.std.proofs.Common.{◌≡◌, ◌∙◌, true, sym, ap}
 use Rattle.elf_reader.specs.File.{plain_view}
 use Rattle.elf_reader.specs.declared.view.Reloc.{Reloc}
-use Rattle.loaded_code.specs.Records.{symbol_at, symbol_of, reloc_at, counts}
+use Rattle.loaded_file.specs.Records.{symbol_at, symbol_of, reloc_at, counts}
 use Rattle.object_graph.specs.declared.parts.SiteKind.{SiteKind}
 use Rattle.object_graph.specs.Graphs.{makes_part, same_part}
 use Rattle.object_graph.proofs.AlikeLemmas.{site_itself}

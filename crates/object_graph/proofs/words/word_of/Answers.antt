@@ -1,7 +1,7 @@
 use Rattle.std.proofs.Common.{◌≡◌, ◌∙◌, sym, ap}
 use Rattle.elf_reader.specs.File.{plain_view}
 use Rattle.elf_reader.specs.declared.view.Reloc.{Reloc}
-use Rattle.loaded_code.specs.Records.{reloc_at}
+use Rattle.loaded_file.specs.Records.{reloc_at}
 use Rattle.object_graph.proofs.GivenLemmas.{word_found}
 use Rattle.object_graph.proofs.RangeLemmas.{reloc_is}
 use Rattle.object_graph.proofs.words.word_of.Goals as goal

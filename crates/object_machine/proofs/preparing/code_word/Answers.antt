@@ -1,7 +1,7 @@
 use Rattle.std.proofs.Common.{sym, ◌∙◌}
 use Rattle.elf_reader.specs.File.{plain_view}
-use Rattle.loaded_code.specs.Code.{holds_code}
-use Rattle.loaded_code.proofs.LoadedSections.{none_after}
+use Rattle.loaded_file.specs.Code.{holds_code}
+use Rattle.loaded_file.proofs.LoadedSections.{none_after}
 use Rattle.object_machine.proofs.preparing.code_word.Goals as goal
 
 pub loop-k-preserved : goal.loop-k-preserved

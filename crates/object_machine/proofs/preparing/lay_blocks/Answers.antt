@@ -1,6 +1,6 @@
 use Rattle.std.proofs.Common.{◌≡◌, ℕ, ◌<◌, ◌++◌, true, List, length, sym, ◌∙◌, ap, subst, arith}
 use Rattle.elf_reader.specs.File.{plain_view}
-use Rattle.loaded_code.specs.Code.{is_code_word}
+use Rattle.loaded_file.specs.Code.{is_code_word}
 use Rattle.code_blocks.specs.Blocks.{IsBlock}
 use Rattle.code_blocks.specs.declared.parts.Unit.{Unit}
 use Rattle.code_blocks.specs.declared.parts.Block.{Block}

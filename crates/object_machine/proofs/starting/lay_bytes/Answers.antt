@@ -1,4 +1,4 @@
-use Rattle.cell_store.specs.Stored.{cells_of}
+use Rattle.cell_values.specs.Stored.{cells_of}
 use Rattle.object_machine.proofs.StartLemmas.{byte_more}
 use Rattle.object_machine.proofs.starting.lay_bytes.Goals as goal
 

@@ -1,6 +1,6 @@
 use Rattle.std.proofs.Common.{◌≡◌, take}
 use Rattle.cell_values.specs.Cells.{put_cells}
-use Rattle.cell_store.specs.Stored.{cells_of}
+use Rattle.cell_values.specs.Stored.{cells_of}
 use Rattle.object_machine.specs.Machine.{byte_cells}
 use Rattle.object_machine.proofs.starting.lay_bytes.Given as goal
 

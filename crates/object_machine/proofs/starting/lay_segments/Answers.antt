@@ -3,7 +3,7 @@ use Rattle.std.proofs.Math.Nat.{le_of_lt}
 use Rattle.elf_reader.specs.declared.view.Segment.{Segment}
 use Rattle.elf_reader.specs.File.{plain_segment}
 use Rattle.elf_reader.specs.Image.{image_of}
-use Rattle.cell_store.specs.Stored.{cells_of}
+use Rattle.cell_values.specs.Stored.{cells_of}
 use Rattle.object_machine.specs.Starting.{plain_cells}
 use Rattle.object_machine.proofs.MemoryLemmas.{segment_short}
 use Rattle.object_machine.proofs.StartLemmas.{none_left, segment_more}

@@ -1,7 +1,7 @@
 use Rattle.std.proofs.Common.{◌≡◌, drop, map}
 use Rattle.elf_reader.specs.File.{plain_segment}
 use Rattle.elf_reader.specs.Image.{image_of}
-use Rattle.cell_store.specs.Stored.{cells_of}
+use Rattle.cell_values.specs.Stored.{cells_of}
 use Rattle.object_machine.specs.Starting.{plain_cells}
 use Rattle.object_machine.proofs.starting.lay_segments.Given as goal
 

@@ -1,6 +1,6 @@
 use Rattle.std.proofs.Common.{◌≡◌, ℕ, ◌<◌, ◌-◌, List, drop, suc, length, sym, ◌∙◌, ap, subst, arith}
 use Rattle.object_graph.specs.declared.parts.DataWord.{DataWord}
-use Rattle.cell_store.specs.Stored.{cells_of}
+use Rattle.cell_values.specs.Stored.{cells_of}
 use Rattle.object_machine.specs.Start.{first_cell}
 use Rattle.object_machine.proofs.StartLemmas.{none_left, word_more}
 use Rattle.object_machine.proofs.starting.lay_words.Goals as goal

@@ -1,6 +1,6 @@
 use Rattle.std.proofs.Common.{◌≡◌, drop}
 use Rattle.word_bits.specs.Memory.{Memory}
-use Rattle.cell_store.specs.Stored.{cells_of}
+use Rattle.cell_values.specs.Stored.{cells_of}
 use Rattle.object_machine.specs.Start.{first_cell}
 use Rattle.object_machine.specs.Starting.{plain_cells}
 use Rattle.object_machine.proofs.starting.lay_words.Given as goal

@@ -1,5 +1,5 @@
 use Rattle.std.proofs.Common.{◌≡◌, ◌∙◌, ℕ, ◌<◌, ◌+◌, ◌==◌, ◌&&◌, ◌||◌, length, suc, sym, ap, subst, add-one, arith}
-use Rattle.index_tests.specs.Tests.{any_below}
+use Rattle.list_checks.specs.Tests.{any_below}
 use Rattle.region_former.specs.Flow.{block_count}
 use Rattle.region_former.specs.Borders.{bars, region_in, is_border, is_barred}
 use Rattle.region_former.specs.Rows.{truth_at}

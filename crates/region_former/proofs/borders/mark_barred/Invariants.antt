@@ -1,5 +1,5 @@
 use Rattle.std.proofs.Common.{◌≡◌, ℕ, ◌||◌, length}
-use Rattle.index_tests.specs.Tests.{any_below}
+use Rattle.list_checks.specs.Tests.{any_below}
 use Rattle.region_former.specs.Borders.{bars}
 use Rattle.region_former.specs.Rows.{truth_at}
 use Rattle.region_former.proofs.borders.mark_barred.Given as goal

@@ -1,6 +1,6 @@
 use Rattle.std.proofs.Common.{◌<◌, length, Some, sym, arith}
 use Rattle.std.proofs.lemmas.List.{length-map}
-use Rattle.fault_order.proofs.FirstLemmas.{first_found}
+use Rattle.list_checks.proofs.FirstLemmas.{first_found}
 use Rattle.elf_reader.specs.File.{plain_view, plain_symbol}
 use Rattle.region_former.specs.Naming.{named_by}
 use Rattle.region_former.proofs.naming.function_named.Goals as goal

@@ -1,5 +1,5 @@
 use Rattle.std.proofs.Common.{◌≡◌, None}
-use Rattle.fault_order.specs.First.{first_below}
+use Rattle.list_checks.specs.First.{first_below}
 use Rattle.elf_reader.specs.File.{plain_view}
 use Rattle.region_former.specs.Naming.{named_by}
 use Rattle.region_former.proofs.naming.function_named.Given as goal

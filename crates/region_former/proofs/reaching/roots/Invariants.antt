@@ -1,5 +1,5 @@
 use Rattle.std.proofs.Common.{◌≡◌, ℕ, ◌<◌, length}
-use Rattle.index_tests.specs.Tests.{any_below}
+use Rattle.list_checks.specs.Tests.{any_below}
 use Rattle.region_former.specs.Reaching.{driver_calls}
 use Rattle.region_former.specs.Rows.{truth_at}
 use Rattle.region_former.proofs.reaching.roots.Given as goal

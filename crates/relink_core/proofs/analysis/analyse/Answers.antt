@@ -1,5 +1,5 @@
 use Rattle.elf_reader.specs.File.{plain_view, view_in}
-use Rattle.loaded_code.proofs.WordLemmas.{same_view}
+use Rattle.loaded_file.proofs.WordLemmas.{same_view}
 use Rattle.relink_core.proofs.RegionLemmas.{faultless, told_last}
 use Rattle.relink_core.proofs.analysis.analyse.Goals as goal
 

@@ -1,6 +1,6 @@
 use Rattle.elf_reader.specs.File.{plain_view}
 use Rattle.relink_core.specs.Making.{patch_of}
-use Rattle.index_tests.proofs.StepLemmas.{collect_more}
+use Rattle.list_checks.proofs.StepLemmas.{collect_more}
 use Rattle.relink_core.proofs.patching.patches.Goals as goal
 
 pub loop-word-preserved : goal.loop-word-preserved

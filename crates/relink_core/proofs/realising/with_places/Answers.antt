@@ -1,5 +1,5 @@
 use Rattle.elf_reader.specs.File.{plain_view}
-use Rattle.loaded_code.proofs.WordLemmas.{same_view}
+use Rattle.loaded_file.proofs.WordLemmas.{same_view}
 use Rattle.relink_core.proofs.RealiseLemmas.{ready, is_read, graph_of, few_symbols, stub_can_start}
 use Rattle.relink_core.proofs.realising.with_places.Goals as goal
 

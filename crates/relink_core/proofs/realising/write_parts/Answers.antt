@@ -1,6 +1,6 @@
 use Rattle.elf_reader.specs.File.{plain_view}
 use Rattle.elf_writer.specs.Parts.{new_segment}
-use Rattle.loaded_code.proofs.WordLemmas.{same_view}
+use Rattle.loaded_file.proofs.WordLemmas.{same_view}
 use Rattle.relink_core.proofs.RealiseLemmas.{ready, no_fault, made_of, may_be_written, finished}
 use Rattle.relink_core.proofs.realising.write_parts.Goals as goal
 

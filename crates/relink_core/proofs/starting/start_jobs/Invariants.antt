@@ -1,6 +1,6 @@
 use Rattle.std.proofs.Common.{◌≡◌, map, take}
 use Rattle.cell_values.specs.Objects.{objects_of}
-use Rattle.moved_data.specs.Moved.{start_job}
+use Rattle.result_setups.specs.Moved.{start_job}
 use Rattle.relink_core.specs.Making.{start_place}
 use Rattle.relink_core.proofs.starting.start_jobs.Given as goal
 

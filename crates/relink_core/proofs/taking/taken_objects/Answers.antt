@@ -1,7 +1,7 @@
 use Rattle.placement_programme.specs.Views.{plain_programme}
 use Rattle.placement_programme.proofs.AscendLemmas.{number_below}
 use Rattle.relink_core.specs.Making.{taken_object}
-use Rattle.index_tests.proofs.StepLemmas.{collect_more}
+use Rattle.list_checks.proofs.StepLemmas.{collect_more}
 use Rattle.relink_core.proofs.taking.taken_objects.Goals as goal
 
 pub taken_object-requires : goal.taken_object-requires

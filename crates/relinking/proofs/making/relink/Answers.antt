@@ -3,7 +3,7 @@ use Rattle.std.proofs.lemmas.List.Elements.{All-from_get_or}
 use Rattle.std.proofs.lemmas.Result.{err_from_is_err_and}
 use Rattle.elf_reader.specs.File.{plain_view}
 use Rattle.elf_reader.specs.Loadable.{IsByte, AreBytes}
-use Rattle.loaded_code.proofs.WordLemmas.{same_view}
+use Rattle.loaded_file.proofs.WordLemmas.{same_view}
 use Rattle.relinking.proofs.Relinking.{analysis_tells, run_tells}
 use Rattle.relinking.proofs.Analysed.{analysed}
 use Rattle.relinking.proofs.making.relink.Goals as goal

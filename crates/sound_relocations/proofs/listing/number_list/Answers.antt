@@ -1,6 +1,6 @@
 use Rattle.std.proofs.Common.{◌≡◌, ℕ, refl, subst, arith}
 use Rattle.elf_reader.specs.File.{plain_view}
-use Rattle.sorted_numbers.specs.Sorted.{collected}
+use Rattle.list_checks.specs.Sorted.{collected}
 use Rattle.sound_relocations.specs.Lists.{count_of, is_listed, number_of}
 use Rattle.sound_relocations.proofs.ListLemmas.{one_more, list_of}
 use Rattle.sound_relocations.proofs.listing.number_list.Goals as goal

@@ -1,6 +1,6 @@
 use Rattle.std.proofs.Common.{◌≡◌}
 use Rattle.elf_reader.specs.File.{plain_view}
-use Rattle.sorted_numbers.specs.Sorted.{collected}
+use Rattle.list_checks.specs.Sorted.{collected}
 use Rattle.sound_relocations.specs.Lists.{is_listed, number_of}
 use Rattle.sound_relocations.proofs.listing.number_list.Given as goal
 

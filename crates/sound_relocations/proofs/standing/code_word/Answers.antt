@@ -1,8 +1,8 @@
 use Rattle.std.proofs.Common.{◌≡◌, ◌∙◌, ◌%◌, sym, arith}
 use Rattle.std.proofs.lemmas.Bool.{eq-eqb}
 use Rattle.elf_reader.specs.File.{plain_section, plain_view}
-use Rattle.loaded_code.specs.Code.{holds_code}
-use Rattle.loaded_code.proofs.LoadedSections.{found_in, none_after}
+use Rattle.loaded_file.specs.Code.{holds_code}
+use Rattle.loaded_file.proofs.LoadedSections.{found_in, none_after}
 use Rattle.sound_relocations.proofs.ListLemmas.{both_true}
 use Rattle.sound_relocations.proofs.standing.code_word.Goals as goal
 

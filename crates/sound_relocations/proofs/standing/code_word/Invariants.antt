@@ -1,7 +1,7 @@
 use Rattle.std.proofs.Common.{◌≡◌, false}
-use Rattle.index_tests.specs.Tests.{any_below}
+use Rattle.list_checks.specs.Tests.{any_below}
 use Rattle.elf_reader.specs.File.{plain_view}
-use Rattle.loaded_code.specs.Code.{holds_code}
+use Rattle.loaded_file.specs.Code.{holds_code}
 use Rattle.sound_relocations.proofs.standing.code_word.Given as goal
 
 abbrev pub invariant-loop-k : goal.invariant-loop-k

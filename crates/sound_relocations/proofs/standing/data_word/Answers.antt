@@ -1,7 +1,7 @@
 use Rattle.std.proofs.Common.{◌∙◌, sym, arith}
 use Rattle.elf_reader.specs.File.{plain_section, plain_view}
 use Rattle.sound_relocations.specs.Sound.{holds_data}
-use Rattle.loaded_code.proofs.LoadedSections.{found_in, none_after}
+use Rattle.loaded_file.proofs.LoadedSections.{found_in, none_after}
 use Rattle.sound_relocations.proofs.standing.data_word.Goals as goal
 
 pub returns-then-holds_data : goal.returns-then-holds_data

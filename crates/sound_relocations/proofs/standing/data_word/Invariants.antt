@@ -1,5 +1,5 @@
 use Rattle.std.proofs.Common.{◌≡◌, false}
-use Rattle.index_tests.specs.Tests.{any_below}
+use Rattle.list_checks.specs.Tests.{any_below}
 use Rattle.elf_reader.specs.File.{plain_view}
 use Rattle.sound_relocations.specs.Sound.{holds_data}
 use Rattle.sound_relocations.proofs.standing.data_word.Given as goal

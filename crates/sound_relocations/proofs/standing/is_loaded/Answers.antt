@@ -1,4 +1,4 @@
-use Rattle.loaded_code.proofs.LoadedSections.{marks_length, mark_is}
+use Rattle.loaded_file.proofs.LoadedSections.{marks_length, mark_is}
 use Rattle.sound_relocations.proofs.standing.is_loaded.Goals as goal
 
 pub bounds-loaded-k : goal.bounds-loaded-k

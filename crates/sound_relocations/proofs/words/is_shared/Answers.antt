@@ -1,7 +1,7 @@
 use Rattle.std.proofs.Common.{arith, ◌+◌}
 use Rattle.std.proofs.lemmas.List.Sums.{count_by-le-length}
 use Rattle.elf_reader.specs.File.{plain_view}
-use Rattle.sorted_numbers.specs.Sorted.{is_under}
+use Rattle.list_checks.specs.Sorted.{is_under}
 use Rattle.sound_relocations.proofs.ShareLemmas.{shared_by, own_le}
 use Rattle.sound_relocations.proofs.words.is_shared.Goals as goal
 

@@ -1,5 +1,5 @@
 use Rattle.std.proofs.Common.{◌≡◌, None}
-use Rattle.fault_order.specs.First.{first_below}
+use Rattle.list_checks.specs.First.{first_below}
 use Rattle.object_machine.specs.Places.{fault_from}
 use Rattle.object_machine.specs.Machine.{seen}
 use Rattle.object_machine.proofs.machine.Source.fixed_fault.Given as goal

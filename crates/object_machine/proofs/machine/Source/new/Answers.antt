@@ -7,7 +7,7 @@ use Rattle.object_graph.specs.declared.parts.Object.{Object}
 use Rattle.cell_values.specs.Cells.{IsCellOfGraph}
 use Rattle.cell_values.specs.Objects.{object_of}
 use Rattle.cell_values.specs.declared.values.Cell.{Cell}
-use Rattle.cell_store.specs.Stored.{cells_of}
+use Rattle.cell_values.specs.Stored.{cells_of}
 use Rattle.object_machine.specs.declared.events.Outcome.TheVariants.{GoesOn}
 use Rattle.object_machine.specs.Start.{first_cell, where_memory}
 use Rattle.object_machine.specs.Program.{program_of}

@@ -1,5 +1,5 @@
 use Rattle.std.proofs.Common.{◌≡◌, ℕ, ◌+◌, ◌<◌, true, length, refl}
-use Rattle.cell_store.specs.Stored.{cells_of}
+use Rattle.cell_values.specs.Stored.{cells_of}
 use Rattle.object_machine.specs.Layout.{is_in_some}
 use Rattle.object_machine.specs.Machine.{seen_state}
 use Rattle.object_machine.proofs.StoreLemmas.{fixed_with, cells_with, fixed_put, objects_stay, store_of_graph}

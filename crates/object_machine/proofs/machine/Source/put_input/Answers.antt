@@ -1,6 +1,6 @@
 use Rattle.std.proofs.Common.{◌≡◌, ℕ, ◌<◌, List, take, drop, length, None, OnOk, sym, ◌∙◌, ap, subst, arith}
 use Rattle.std.specs.List.{All}
-use Rattle.fault_order.proofs.FirstLemmas.{none_at}
+use Rattle.list_checks.proofs.FirstLemmas.{none_at}
 use Rattle.cell_values.specs.Cells.{IsCellOfGraph}
 use Rattle.cell_values.specs.declared.values.Cell.{Cell}
 use Rattle.cell_values.specs.declared.values.Val.{Val}

@@ -1,6 +1,6 @@
 use Rattle.std.proofs.Common.{◌≡◌, ℕ, ◌+◌, refl, ◌∙◌, ap}
 use Rattle.cell_values.specs.Cells.{put_cells}
-use Rattle.cell_store.specs.Stored.{cells_of}
+use Rattle.cell_values.specs.Stored.{cells_of}
 use Rattle.object_machine.specs.Machine.{seen_state}
 use Rattle.object_machine.proofs.StoreLemmas.{home, fixed_with, cells_with, fixed_stays, object_put, spans_object, store_of_graph}
 use Rattle.object_machine.proofs.machine.Source.put_inside.Goals as goal

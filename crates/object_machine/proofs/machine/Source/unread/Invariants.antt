@@ -1,5 +1,5 @@
 use Rattle.std.proofs.Common.{◌≡◌, None}
-use Rattle.fault_order.specs.First.{first_below}
+use Rattle.list_checks.specs.First.{first_below}
 use Rattle.object_machine.specs.Calls.{unread}
 use Rattle.object_machine.specs.Machine.{seen, seen_state}
 use Rattle.object_machine.proofs.machine.Source.unread.Given as goal

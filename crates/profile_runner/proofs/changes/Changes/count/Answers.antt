@@ -1,7 +1,7 @@
 use Rattle.std.proofs.Common.{sym}
 use Rattle.profile_runner.specs.Counts.{plain_rows}
 use Rattle.profile_runner.specs.Tallies.{is_switch, is_leave, is_enter, is_entry}
-use Rattle.sorted_numbers.specs.Sorted.{is_number}
+use Rattle.list_checks.specs.Sorted.{is_number}
 use Rattle.profile_runner.proofs.CountLemmas.{adds_none, adds_none_in, adds_same, adds_same_in}
 use Rattle.profile_runner.proofs.TestLemmas.{no_switch, no_leave, no_enter, one_switch, one_leave, one_enter}
 use Rattle.profile_runner.proofs.changes.Changes.count.Goals as goal

@@ -1,2 +1,0 @@
-pub use Rattle.cell_values.specs.Cells
-pub mod Stored

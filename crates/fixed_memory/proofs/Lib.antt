@@ -1,4 +1,0 @@
-pub mod LookupLemmas
-pub mod SpanLemmas
-pub mod BoundLemmas
-pub mod KindLemmas

@@ -1,0 +1,4 @@
+pub mod FirstLemmas
+pub mod TestLemmas
+pub mod StepLemmas
+pub mod SortedLemmas

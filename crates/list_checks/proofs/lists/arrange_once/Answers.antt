@@ -1,0 +1,14 @@
+use Rattle.std.proofs.Common.{◌∙◌, sym}
+use Rattle.std.proofs.lemmas.List.Filters.{dedup_is}
+use Rattle.std.proofs.lemmas.List.Sorted.{list_any-IsPermutation}
+use Rattle.std.proofs.lemmas.Map.Keys.{IsStrictlyIncreasing-dedup}
+use Rattle.list_checks.proofs.SortedLemmas.{any_dedup}
+use Rattle.list_checks.proofs.lists.arrange_once.Goals as goal
+
+pub returns-clause-increasing : goal.returns-clause-increasing
+returns-clause-increasing c =
+    rw (dedup_is _ _ _ c.dedup.ensures.filtered) (IsStrictlyIncreasing-dedup _ c.sort_unstable.ensures.sorted)
+
+pub returns-clause-same : goal.returns-clause-same
+returns-clause-same c test =
+    rw (dedup_is _ _ _ c.dedup.ensures.filtered) (any_dedup test _ ∙ sym (list_any-IsPermutation test _ _ c.sort_unstable.ensures.permutation))

@@ -1,2 +1,0 @@
-pub mod LoadedSections
-pub mod WordLemmas

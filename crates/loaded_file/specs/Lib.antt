@@ -1,0 +1,9 @@
+pub use Rattle.elf_reader.specs.File
+pub use Rattle.elf_reader.specs.Loaded
+pub mod Marks
+pub mod Code
+pub mod Records
+pub mod Read
+pub use Rattle.loaded_file.specs.Records
+pub mod Ranges
+pub mod Extents

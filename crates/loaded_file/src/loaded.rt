@@ -1,0 +1,214 @@
+ghost use Rattle.std.specs.Prelude.{◌≡◌, ℕ, ◌+◌, ◌*◌, ◌^◌, ◌<◌, length, slice_index, IfOk};
+ghost use Rattle.list_checks.specs.Tests.{any_below, lies_in};
+ghost use Rattle.elf_reader.specs.Layout.{file_header};
+ghost use Rattle.elf_reader.specs.File.{plain_segment, plain_section, plain_view};
+ghost use Rattle.elf_reader.specs.Loaded.{meets_headers, meets_section, meets_segment, has_own_bytes, is_filled, is_zeroed, loads, is_loaded};
+ghost use Rattle.loaded_file.specs.Marks.{all_loaded};
+ghost use Rattle.elf_reader.specs.Sections.{bit_of, stands_in_file};
+ghost use Rattle.list_checks.specs.Tests.{meets};
+
+use elf_reader::{ElfView, SHT_NOBITS, SHT_NULL, SHT_PROGBITS, Section, Segment};
+use std::alloc::{AllocError, Global};
+
+/// The bytes of a program header and of a section header.
+const PROGRAM_HEADER_SIZE: u128 = 32;
+
+const SECTION_HEADER_SIZE: u128 = 40;
+
+/// `SHF_ALLOC` in `sh_flags`.
+const ALLOC: u32 = 2;
+
+/// Whether each section of a view is loaded, in the order of the sections: it has memory, and some segment
+/// puts its bytes, which no other section, no other segment and no table of headers shares, at its address.
+/// It fails only where no memory was left.
+///
+/// The time grows with the number of sections times that of sections and segments.
+pub fn loaded_sections(alloc: Global, view: &ElfView) -> Result<Vec<bool>, AllocError>
+    ensures { IfOk result (λ marks. marks.items ≡ all_loaded (plain_view view.now)) }
+{
+    let mut marks = Vec::new(alloc);
+    for k in 0..view.sections.len() {
+        marks.push(is_loaded(view, k))?;
+    }
+    Ok(marks)
+}
+
+/// Some segment loads section `k`.
+fn is_loaded(view: &ElfView, k: usize) -> bool
+    requires { k < length view.now.sections.items }
+    ensures { result ≡ is_loaded (plain_view view.now) k }
+{
+    for g in 0..view.segments.len() {
+        if loads(view, k, g) {
+            return true;
+        }
+    }
+    false
+}
+
+/// Segment `g` loads section `k`.
+fn loads(view: &ElfView, k: usize, g: usize) -> bool
+    requires section { k < length view.now.sections.items }
+    requires segment { g < length view.now.segments.items }
+    ensures { result ≡ loads (plain_view view.now) k g }
+{
+    let (section, segment) = (&view.sections[k], &view.segments[g]);
+    is_allocated(section)
+        && lies_in(segment.vaddr, segment.memsz as usize, section)
+        && (is_filled(view, k, g, section, segment) || is_zeroed(section, segment))
+}
+
+/// A section has memory when the program runs.
+fn is_allocated(section: &Section) -> bool
+    ensures { result ≡ bit_of section.now.flags 1 }
+{
+    section.flags / ALLOC % 2 == 1
+}
+
+/// The memory of a section lies in that of `size` bytes from `base`, ends included.
+fn lies_in(base: u32, size: usize, section: &Section) -> bool
+    requires { size < 2 ^ 63 }
+    ensures { result ≡ lies_in base size section.now.addr section.now.size }
+{
+    let end = section.addr as usize + section.size as usize;
+    base <= section.addr && end <= base as usize + size
+}
+
+/// A section with content stands in the file bytes of segment `g` at its address, and has its bytes for
+/// itself.
+fn is_filled(view: &ElfView, k: usize, g: usize, section: &Section, segment: &Segment) -> bool
+    ensures { result ≡ is_filled (plain_view view.now) k g (plain_section section.now) (plain_segment segment.now) }
+{
+    let in_file = u64::from(section.offset) + u64::from(segment.vaddr);
+    let in_memory = u64::from(section.addr) + u64::from(segment.offset);
+    section.kind == SHT_PROGBITS
+        && in_file == in_memory
+        && lies_in(segment.vaddr, segment.bytes.len(), section)
+        && has_own_bytes(view, k, g, section)
+}
+
+/// A section of zeros begins at or behind the end of a segment's file bytes.
+fn is_zeroed(section: &Section, segment: &Segment) -> bool
+    ensures { result ≡ is_zeroed (plain_section section.now) (plain_segment segment.now) }
+{
+    let end = segment.vaddr as usize + segment.bytes.len();
+    section.kind == SHT_NOBITS && end <= section.addr as usize
+}
+
+/// Section `k` shares no byte of the file with a table of headers, another section, or another segment
+/// than `g`.
+fn has_own_bytes(view: &ElfView, k: usize, g: usize, section: &Section) -> bool
+    ensures { result ≡ has_own_bytes (plain_view view.now) k g (plain_section section.now) }
+{
+    !meets_headers(view, section)
+        && !meets_some_section(view, k, section)
+        && !meets_some_segment(view, g, section)
+}
+
+/// The content of a section meets the program headers or the section headers.
+fn meets_headers(view: &ElfView, section: &Section) -> bool
+    ensures { result ≡ meets_headers (plain_view view.now) section.now.offset section.now.size }
+{
+    let (offset, size) = (section.offset, section.size);
+    let program_headers = PROGRAM_HEADER_SIZE * view.ph_count as u128;
+    let section_headers = SECTION_HEADER_SIZE * view.sections.len() as u128;
+    meet(offset, size, view.ph_at, program_headers)
+        || meet(
+            offset,
+            size,
+            section_headers_at(view.bytes),
+            section_headers,
+        )
+}
+
+/// Where the section headers begin in a file (`e_shoff`); a byte behind its end reads as 0.
+#[tactic(auto, unfolding(elf_reader::specs::Layout::file_header))]
+fn section_headers_at(bytes: &[u8]) -> u32
+    ensures { result ≡ (file_header bytes.now).e_shoff }
+{
+    u32::from_le_bytes([
+        byte(bytes, 32),
+        byte(bytes, 33),
+        byte(bytes, 34),
+        byte(bytes, 35),
+    ])
+}
+
+/// The byte at `at`, and 0 behind the end.
+fn byte(bytes: &[u8], at: usize) -> u8
+    ensures { result ≡ slice_index bytes.now at }
+{
+    bytes.get(at).copied().unwrap_or(0)
+}
+
+/// The content of some other section than `k` meets that of `section`.
+fn meets_some_section(view: &ElfView, k: usize, section: &Section) -> bool
+    ensures { result ≡ any_below (meets_section (plain_view view.now) k section.now.offset section.now.size) (length (plain_view view.now).sections) }
+{
+    for j in 0..view.sections.len() {
+        if meets_section(view, k, section, j) {
+            return true;
+        }
+    }
+    false
+}
+
+/// Section `j` is another one than `k`, and its content meets that of `section`.
+fn meets_section(view: &ElfView, k: usize, section: &Section, j: usize) -> bool
+    requires { j < length view.now.sections.items }
+    ensures { result ≡ meets_section (plain_view view.now) k section.now.offset section.now.size j }
+{
+    let other = &view.sections[j];
+    j != k
+        && is_in_file(other.kind)
+        && meet(
+            section.offset,
+            section.size,
+            other.offset,
+            u128::from(other.size),
+        )
+}
+
+/// The file bytes of some other segment than `g` meet those of `section`.
+fn meets_some_segment(view: &ElfView, g: usize, section: &Section) -> bool
+    ensures { result ≡ any_below (meets_segment (plain_view view.now) g section.now.offset section.now.size) (length (plain_view view.now).segments) }
+{
+    for h in 0..view.segments.len() {
+        if meets_segment(view, g, section, h) {
+            return true;
+        }
+    }
+    false
+}
+
+/// Segment `h` is another one than `g`, and its file bytes meet those of `section`.
+fn meets_segment(view: &ElfView, g: usize, section: &Section, h: usize) -> bool
+    requires { h < length view.now.segments.items }
+    ensures { result ≡ meets_segment (plain_view view.now) g section.now.offset section.now.size h }
+{
+    let other = &view.segments[h];
+    h != g
+        && meet(
+            section.offset,
+            section.size,
+            other.offset,
+            other.bytes.len() as u128,
+        )
+}
+
+/// Whether the content of a section of this type stands in the file.
+fn is_in_file(kind: u32) -> bool
+    ensures { result ≡ stands_in_file kind }
+{
+    !(kind == SHT_NULL || kind == SHT_NOBITS)
+}
+
+/// Two ranges, each a first place and a size, share a place.
+fn meet(base: u32, size: u32, other_base: u32, other_size: u128) -> bool
+    requires { other_size < 2 ^ 127 }
+    ensures { result ≡ meets base size other_base other_size }
+{
+    let (start, end) = (u128::from(base), u128::from(base) + u128::from(size));
+    let (other_start, other_end) = (u128::from(other_base), u128::from(other_base) + other_size);
+    size > 0 && other_size > 0 && start < other_end && other_start < end
+}

@@ -1,0 +1,34 @@
+ghost use Rattle.std.specs.Prelude.{◌≡◌};
+ghost use Rattle.elf_reader.specs.File.{plain_view};
+ghost use Rattle.loaded_file.specs.Marks.{all_loaded};
+ghost use Rattle.loaded_file.specs.Records.{symbol_at, counts, target};
+
+use crate::code_ranges::is_loaded;
+use elf_reader::{ElfView, Reloc};
+
+/// A relocation counts: the section that it changes is loaded. `loaded` are the marks of the loaded sections.
+pub fn counts(view: &ElfView, loaded: &[bool], reloc: &Reloc) -> bool
+    requires { loaded.now ≡ all_loaded (plain_view view.now) }
+    ensures { result ≡ counts (plain_view view.now) reloc.now }
+{
+    let section = reloc.section as usize;
+    section < view.sections.len() && is_loaded(view, loaded, section)
+}
+
+/// The address that a relocation leads to: S + A, the value of its symbol and its addend (RISC-V psABI,
+/// "Relocations").
+pub fn target(view: &ElfView, reloc: &Reloc) -> u32
+    ensures { result ≡ target (plain_view view.now) reloc.now }
+{
+    symbol_value(view, reloc.symbol as usize).wrapping_add_signed(reloc.addend)
+}
+
+/// The value of symbol `k`, and 0 behind the last.
+fn symbol_value(view: &ElfView, k: usize) -> u32
+    ensures { result ≡ (symbol_at (plain_view view.now) k).value }
+{
+    match view.symbols.get(k) {
+        Some(symbol) => symbol.value,
+        None => 0,
+    }
+}

@@ -1,0 +1,146 @@
+ghost use Rattle.std.specs.Prelude.{◌≡◌, ℕ, ◌+◌, ◌*◌, ◌<◌, Bool, ◌&&◌, ◌||◌, length, map, IfOk};
+ghost use Rattle.std.specs.List.{list_any};
+ghost use Rattle.list_checks.specs.Tests.{lies_in};
+ghost use Rattle.elf_reader.specs.File.{plain_section, plain_symbol, plain_view};
+ghost use Rattle.elf_reader.specs.Loaded.{is_loaded};
+ghost use Rattle.loaded_file.specs.Marks.{all_loaded};
+ghost use Rattle.loaded_file.specs.Ranges.{is_executable, has_extent, has_owner, has_range, is_range};
+ghost use Rattle.loaded_file.specs.Extents.{key_of, extent_of, is_key_of, has_extent_in, IsAscending, IsFilled};
+
+use crate::extents::Extent;
+use elf_reader::{EXECUTABLE_BIT, ElfView, STT_OBJECT, Section, Symbol};
+use list_checks::arrange_once;
+use std::alloc::{AllocError, Global};
+
+/// How many addresses there are.
+const ADDRESSES: u64 = 0x1_0000_0000;
+
+/// The ranges of the objects of a program, each once, by home and then by size, ascending.
+/// `loaded` says of each section whether it is loaded. It fails only where no memory was left.
+///
+/// The time grows with n log n, where n is the number of symbols.
+pub fn object_ranges(
+    alloc: Global,
+    view: &ElfView,
+    loaded: &[bool],
+) -> Result<Vec<Extent>, AllocError>
+    requires { loaded.now ≡ all_loaded (plain_view view.now) }
+    ensures ascending { IfOk result (λ ranges. IsAscending ranges.items) }
+    ensures exact { IfOk result (λ ranges. (home n : ℕ) → has_extent_in ranges.items home n ≡ is_range (plain_view view.now) home n) }
+    ensures filled { IfOk result (λ ranges. IsFilled ranges.items) }
+{
+    let mut keys = range_keys(alloc, view, loaded)?;
+    arrange_once(&mut keys);
+    extents_of(alloc, &keys)
+}
+
+/// The key of the range of each symbol of an object.
+fn range_keys(alloc: Global, view: &ElfView, loaded: &[bool]) -> Result<Vec<u64>, AllocError>
+    requires { loaded.now ≡ all_loaded (plain_view view.now) }
+    ensures { IfOk result (λ keys. (home n : ℕ) → list_any (is_key_of home n) keys.items ≡ is_range (plain_view view.now) home n) }
+{
+    let mut keys = Vec::new(alloc);
+    for k in 0..view.symbols.len() {
+        push_range(&mut keys, view, loaded, &view.symbols[k])?;
+    }
+    Ok(keys)
+}
+
+/// Adds the key of the range of a symbol, if it is that of an object.
+fn push_range(
+    keys: &mut Vec<u64>,
+    view: &ElfView,
+    loaded: &[bool],
+    symbol: &Symbol,
+) -> Result<(), AllocError>
+    requires { loaded.now ≡ all_loaded (plain_view view.now) }
+    ensures { IfOk result (λ _. (test : ℕ → Bool) → list_any test keys.new.items ≡ (list_any test keys.old.items || (has_range (plain_view view.now) (plain_symbol symbol.now) && test (key_of symbol.now.value symbol.now.size)))) }
+{
+    if has_range(view, loaded, symbol) {
+        keys.push(key_of(symbol.value, symbol.size))?;
+    }
+    Ok(())
+}
+
+/// A range as one number: keys ascend as ranges do by home and then by size.
+fn key_of(home: u32, size: u32) -> u64
+    ensures { result ≡ key_of home size }
+{
+    u64::from(home) * ADDRESSES + u64::from(size)
+}
+
+/// The range of each key.
+fn extents_of(alloc: Global, keys: &[u64]) -> Result<Vec<Extent>, AllocError>
+    ensures { IfOk result (λ ranges. ranges.items ≡ map extent_of keys.now) }
+{
+    let mut ranges = Vec::new(alloc);
+    for key in keys {
+        ranges.push(extent_of(*key))?;
+    }
+    Ok(ranges)
+}
+
+/// The range of a key.
+fn extent_of(key: u64) -> Extent
+    ensures { result ≡ extent_of key }
+{
+    Extent {
+        home: (key / ADDRESSES) as u32,
+        size: (key % ADDRESSES) as u32,
+    }
+}
+
+/// Whether a symbol is that of an object: it has a size and a place, and lies inside a loaded section that
+/// holds no code. `loaded` says of each section whether it is loaded.
+pub fn has_range(view: &ElfView, loaded: &[bool], symbol: &Symbol) -> bool
+    requires { loaded.now ≡ all_loaded (plain_view view.now) }
+    ensures { result ≡ has_range (plain_view view.now) (plain_symbol symbol.now) }
+{
+    symbol.kind == STT_OBJECT && has_extent(symbol) && has_owner(view, loaded, symbol)
+}
+
+/// It has a place and a size that an object can have.
+fn has_extent(symbol: &Symbol) -> bool
+    ensures { result ≡ has_extent (plain_symbol symbol.now) }
+{
+    let end = u64::from(symbol.value) + u64::from(symbol.size);
+    0 < symbol.size && 0 < symbol.value && end < ADDRESSES
+}
+
+/// It lies inside a loaded section that holds no code.
+fn has_owner(view: &ElfView, loaded: &[bool], symbol: &Symbol) -> bool
+    requires { loaded.now ≡ all_loaded (plain_view view.now) }
+    ensures { result ≡ has_owner (plain_view view.now) (plain_symbol symbol.now) }
+{
+    let number = symbol.section as usize;
+    if number >= view.sections.len() {
+        return false;
+    }
+    let owner = &view.sections[number];
+    is_loaded(view, loaded, number) && !is_executable(owner) && lies_in(owner, symbol)
+}
+
+/// Section `number` is loaded.
+fn is_loaded(view: &ElfView, loaded: &[bool], number: usize) -> bool
+    requires marks { loaded.now ≡ all_loaded (plain_view view.now) }
+    requires below { number < length view.now.sections.items }
+    ensures { result ≡ is_loaded (plain_view view.now) number }
+{
+    loaded[number]
+}
+
+/// A section holds code.
+fn is_executable(section: &Section) -> bool
+    ensures { result ≡ is_executable (plain_section section.now) }
+{
+    (section.flags >> EXECUTABLE_BIT) & 1 == 1
+}
+
+/// A symbol lies inside a section, ends included.
+fn lies_in(section: &Section, symbol: &Symbol) -> bool
+    ensures { result ≡ lies_in section.now.addr section.now.size symbol.now.value symbol.now.size }
+{
+    let section_end = u64::from(section.addr) + u64::from(section.size);
+    let symbol_end = u64::from(symbol.value) + u64::from(symbol.size);
+    section.addr <= symbol.value && symbol_end <= section_end
+}

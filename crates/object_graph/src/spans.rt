@@ -1,0 +1,65 @@
+ghost use Rattle.std.specs.Prelude.{◌≡◌, ℕ, ◌||◌, OnOk};
+ghost use Rattle.std.specs.List.{All, list_any};
+ghost use Rattle.object_graph.specs.Sites.{in_range};
+ghost use Rattle.object_graph.specs.Spans.{span_of, IsShort, holds, any_holds, is_left};
+
+use board_config::Range;
+use std::alloc::AllocError;
+
+/// The addresses from `start` on that are below `end`.
+#[derive(Clone, Copy, Debug, PartialEq, Eq)]
+pub(crate) struct Span {
+    pub(crate) start: u64,
+    pub(crate) end: u64,
+}
+
+/// The addresses of a range.
+pub(crate) fn span_of(range: &Range) -> Span
+    ensures span { result ≡ span_of range.now }
+    ensures short { IsShort result }
+{
+    let start = u64::from(range.base);
+    Span {
+        start,
+        end: start + u64::from(range.size),
+    }
+}
+
+/// Appends a span, unless it has no address.
+pub(crate) fn push_span(spans: &mut Vec<Span>, span: Span) -> Result<(), AllocError>
+    ensures held { OnOk result ((a : ℕ) → any_holds spans.new.items a ≡ (any_holds spans.old.items a || holds a span)) }
+    ensures short { All IsShort spans.old.items → IsShort span → OnOk result (All IsShort spans.new.items) }
+{
+    if span.start >= span.end {
+        return Ok(());
+    }
+    spans.push(span)?;
+    Ok(())
+}
+
+/// Appends the spans of ranges.
+pub(crate) fn push_ranges(spans: &mut Vec<Span>, ranges: &[Range]) -> Result<(), AllocError>
+    ensures held { OnOk result ((a : ℕ) → any_holds spans.new.items a ≡ (any_holds spans.old.items a || list_any (λ r. in_range r a) ranges.now)) }
+    ensures short { All IsShort spans.old.items → OnOk result (All IsShort spans.new.items) }
+{
+    for range in ranges {
+        push_span(spans, span_of(range))?;
+    }
+    Ok(())
+}
+
+/// An address lies in one of some spans.
+fn any_holds(spans: &[Span], address: u64) -> bool
+    ensures { result ≡ any_holds spans.now address }
+{
+    spans
+        .iter()
+        .any(|span| span.start <= address && address < span.end)
+}
+
+/// An address lies in a span of `kept` and in none of `cut`.
+pub(crate) fn is_left(kept: &[Span], cut: &[Span], address: u64) -> bool
+    ensures { result ≡ is_left kept.now cut.now address }
+{
+    any_holds(kept, address) && !any_holds(cut, address)
+}

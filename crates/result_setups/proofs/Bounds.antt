@@ -1,0 +1,67 @@
+-- The start stub runs at most six words for each byte of the scratchpad that it fills, and six more.
+use Rattle.std.proofs.Common.{◌≡◌, inl, inr, ℕ, ◌+◌, ◌*◌, ◌/◌, ◌%◌, ◌<◌, ◌≤◌, Bool, true, false, List, [], ◌∷◌, map, length, sym, subst, arith}
+use Rattle.std.specs.Prelude.{All}
+use Rattle.std.proofs.lemmas.List.Elements.{All-head, All-tail}
+use Rattle.std.proofs.lemmas.Nat.{mul-le}
+use Rattle.board_config.specs.declared.board.Board.{Board}
+use Rattle.overlay_stubs.specs.declared.plan.CopyJob.{CopyJob}
+use Rattle.overlay_stubs.specs.Jobs.{unit_bytes, copies_words, job_run}
+use Rattle.overlay_stubs.specs.Start.{StartPlan, fences, jobs_run, start_run}
+use Rattle.cell_values.specs.Objects.{Objects, IsGrain}
+use Rattle.cell_values.specs.Stands.{Places}
+use Rattle.result_setups.specs.Placing.{spans}
+use Rattle.placement_programme.specs.Rows.{rounded_up}
+use Rattle.result_setups.specs.Moved.{start_job}
+use Rattle.result_setups.specs.MovedLaws.{most_steps}
+
+few_turns : (words : Bool) (n : ℕ) → n / unit_bytes words ≤ n
+few_turns true n = omega arith
+few_turns false n = omega arith
+
+job_short : (job : CopyJob) → job_run job ≤ 6 + 5 * job.bytes
+job_short job = let few = few_turns (copies_words job) job.bytes in omega (arith, few)
+
+-- what an object takes is at least its size, and at least 16
+record IsWide (size n : ℕ) : Type 0 where
+  sized : size ≤ n
+  least : 16 ≤ n
+
+span_wide : (grain home size : ℕ) → IsGrain grain → 0 < size → IsWide size (rounded_up grain (home % grain + size))
+span_wide grain home size (inl e) some =
+    subst (λ (g : ℕ). IsWide size (rounded_up g (home % g + size))) (sym e)
+    (record { sized = omega (arith, some); least = omega (arith, some) })
+span_wide grain home size (inr (inl e)) some =
+    subst (λ (g : ℕ). IsWide size (rounded_up g (home % g + size))) (sym e)
+    (record { sized = omega (arith, some); least = omega (arith, some) })
+span_wide grain home size (inr (inr e)) some =
+    subst (λ (g : ℕ). IsWide size (rounded_up g (home % g + size))) (sym e)
+    (record { sized = omega (arith, some); least = omega (arith, some) })
+
+abbrev pub HasBytes : Objects → ℕ → Type 0
+HasBytes os o = 0 < os.size o
+
+pub jobs_short : (os : Objects) (place : Places) (taken : List ℕ) → IsGrain os.grain → All (HasBytes os) taken → jobs_run (map (start_job os place) taken) ≤ 6 * spans os taken
+jobs_short os place [] grain some = omega arith
+jobs_short os place (o ∷ taken) grain some =
+    let first = job_short (start_job os place o) in
+    let wide = span_wide os.grain (os.home o) (os.size o) grain (All-head (HasBytes os) o taken some) in
+    let sized = wide.sized in
+    let least = wide.least in
+    let rest = jobs_short os place taken grain (All-tail (HasBytes os) o taken some) in
+    omega (arith, first, sized, least, rest)
+
+fence_short : (fence : Bool) → length (fences fence) ≤ 1
+fence_short true = omega arith
+fence_short false = omega arith
+
+-- with two steps for each of the program's they are within the bound
+sum_short : (start n size : ℕ) → start ≤ 6 * size + 6 → start + n * 2 ≤ (n + 1) * (12 * size + 256)
+sum_short start n size short =
+    let each : n * 2 ≤ n * (12 * size + 256) = mul-le n 2 n (12 * size + 256) (omega arith) (omega arith) in
+    let more : (n + 1) * (12 * size + 256) ≡ n * (12 * size + 256) + (12 * size + 256) = omega arith in
+    omega (arith, short, each, more)
+
+pub start_short : (plan : StartPlan) (board : Board) (n : ℕ) → jobs_run plan.jobs ≤ 6 * board.spm.size → start_run plan + n * 2 ≤ (n + 1) * most_steps board
+start_short plan board n short =
+    let fence = fence_short plan.fence_i in
+    sum_short (start_run plan) n board.spm.size (omega (arith, short, fence))

@@ -1,0 +1,179 @@
+-- The words of code in a result: those of sites make the addresses of the places, and all others are the file's own.
+use Rattle.std.proofs.Common.{◌≡◌, ◌∙◌, inl, inr, ℕ, ◌+◌, ◌-◌, ◌*◌, ◌/◌, ◌%◌, ◌<◌, ◌≤◌, ◌==◌, true, false, List, [], ◌∷◌, length, slice_index_or, Option, Some, None, refl, sym, subst, arith}
+use Rattle.std.specs.Prelude.{All}
+use Rattle.std.proofs.lemmas.Bool.{cases_lt, both_ways, cond_both, eqb-true}
+use Rattle.std.proofs.lemmas.Bool.Decides.{nat_tests}
+use Rattle.std.proofs.lemmas.List.Elements.{All-head, All-tail}
+use Rattle.std.proofs.lemmas.List.Folds.{list_any_at}
+use Rattle.word_bits.specs.Words.{plus, word_of}
+use Rattle.list_checks.specs.Tests.{meets}
+use Rattle.elf_reader.specs.File.{PlainView, view_in}
+use Rattle.elf_reader.specs.Image.{image_of}
+use Rattle.elf_reader.specs.Loaded.{section_at}
+use Rattle.board_config.specs.declared.board.Board.{Board}
+use Rattle.loaded_file.specs.Code.{is_code_word, image_word}
+use Rattle.loaded_file.specs.Records.{reloc_at}
+use Rattle.object_graph.specs.declared.parts.Site.{Site}
+use Rattle.object_graph.specs.declared.parts.SiteKind.{SiteKind}
+use Rattle.object_graph.specs.declared.parts.DataWord.{DataWord}
+use Rattle.object_graph.specs.declared.parts.Graph.{Graph}
+use Rattle.object_graph.proofs.CodeLemmas.{data_off_code}
+use Rattle.object_graph.proofs.SiteLemmas.{site_code}
+use Rattle.cell_values.specs.Objects.{object_of}
+use Rattle.cell_values.specs.Stands.{Places, address_word}
+use Rattle.object_machine.specs.Program.{Target, target_at}
+use Rattle.result_setups.specs.Home.{is_code_byte}
+use Rattle.result_setups.specs.HomeLaws.{IsAccepted}
+use Rattle.cell_values.proofs.GraphObjects.{object_moves}
+use Rattle.result_setups.proofs.Sites.{SiteBy, by_high, by_wide, by_store, by_pair, by_low, itself, target_found, site_of}
+use Rattle.result_setups.proofs.HomeSound.{loadable}
+use Rattle.result_setups.proofs.HomeStart.{word_given}
+use Rattle.result_setups.proofs.Words.{code_range, code_even, code_below}
+use Rattle.relocator.specs.SiteWords.{IsSiteWord}
+use Rattle.result_setups.specs.Moved.{IsMovedSite, IsOffWord, IsMovedView}
+use Rattle.result_setups.specs.Placing.{Placing}
+use Rattle.result_setups.proofs.Loaded.{IsKept, loaded_kept}
+
+-- ---- sites are words of code
+
+module _ (v : PlainView) (home n offset u : ℕ) where
+  code_there : (j : ℕ) → (reloc_at v j).at ≡ u → is_code_word v (reloc_at v j).at ≡ true → is_code_word v u ≡ true
+  code_there j at code = subst (λ (a : ℕ). is_code_word v a ≡ true) at code
+
+  code_by : SiteBy v home n offset u → is_code_word v u ≡ true
+  code_by (by_high j makes) = code_there j makes.at (site_code v home n j makes.means.below makes.site)
+  code_by (by_wide j makes) = code_there j makes.at (site_code v home n j makes.means.below makes.site)
+  code_by (by_store j makes) = code_there j makes.at (site_code v home n j makes.means.below makes.site)
+  code_by (by_pair j high) = code_there j high.makes.at (site_code v home n j high.makes.means.below high.makes.site)
+  code_by (by_low j i low) = code_there j low.at (site_code v home n j low.below low.site)
+
+-- an address in an aligned word
+in_word : (a u : ℕ) → u % 4 ≡ 0 → u ≤ a → a < u + 4 → a / 4 * 4 ≡ u
+in_word a u even from to = omega (arith, even, from, to)
+
+pub off_or_in : (a at : ℕ) → (at ≤ a → a < at + 4 → ⊥) → IsOffWord a at
+off_or_in a at never =
+    elim (cases_lt a at) [
+      | inl before ↦ inl before
+      | inr from ↦ elim (cases_lt a (at + 4)) [
+        | inl to ↦ absurd (never from to)
+        | inr behind ↦ inr behind
+      ]
+    ]
+
+-- the word of a site, by its address
+abbrev pub HasSiteWord : PlainView → PlainView → Places → ℕ → Target → Type 0
+HasSiteWord v w place u t =
+    (part : SiteKind) × IsSiteWord part (address_word place t.object t.offset) (image_word v u) (image_word w u)
+
+some_same : (t t' : Target) → Some t ≡ Some t' → t ≡ t'
+some_same t t' is = cc
+
+site_word : (v w : PlainView) (place : Places) (sites : List Site) (u : ℕ) (t : Target) → All (IsMovedSite v w place) sites → target_at sites u ≡ Some t → HasSiteWord v w place u t
+site_word v w place [] u t all found = absurd (cc)
+site_word v w place (s ∷ sites) u t all found =
+    cond_both (s.at == u) (Some (record { object = s.object; offset = s.offset })) (target_at sites u)
+    (λ (o : Option Target). o ≡ Some t → HasSiteWord v w place u t)
+    (λ here is.
+    let same = some_same (record { object = s.object; offset = s.offset }) t is in
+    subst (λ (x : Target). HasSiteWord v w place u x) same
+    (subst (λ (x : ℕ). HasSiteWord v w place x (record { object = s.object; offset = s.offset })) (eqb-true s.at u here)
+    (s.kind, All-head (IsMovedSite v w place) s sites all)))
+    (λ other is. site_word v w place sites u t (All-tail (IsMovedSite v w place) s sites all) is)
+    found
+
+module _ (file : List ℕ) (board : Board) (g : Graph) (accepted : IsAccepted file board g) where
+  abbrev v : PlainView
+  v = view_in file
+
+  listed_target : (k : ℕ) (d : Site) → k < length g.sites.items → target_at g.sites.items (slice_index_or g.sites.items k d).at ≡ Some (record { object = (slice_index_or g.sites.items k d).object; offset = (slice_index_or g.sites.items k d).offset })
+  listed_target k d below =
+      let s : Site = slice_index_or g.sites.items k d in
+      target_found g.sites.items s accepted.graph.sites.apart (list_any_at _ g.sites.items k d below (itself s))
+
+  pub target_code : (u : ℕ) (t : Target) → target_at g.sites.items u ≡ Some t → is_code_word v u ≡ true
+  target_code u t at =
+      code_by v (object_of g t.object).home (object_of g t.object).size t.offset u (site_of v g u t accepted.graph.sites at).by
+
+  -- ---- off sites
+
+  -- an address that is none of code
+  pub off_sites : (a : ℕ) → is_code_byte v a ≡ false → All (λ (s : Site). IsOffWord a s.at) g.sites.items
+  off_sites a none k d below =
+      let s : Site = slice_index_or g.sites.items k d in
+      let code = target_code s.at (record { object = s.object; offset = s.offset }) (listed_target k d below) in
+      off_or_in a s.at
+      (λ from to.
+      let here : is_code_byte v a ≡ true =
+      subst (λ (b : ℕ). is_code_word v b ≡ true) (sym (in_word a s.at (code_even v s.at code) from to)) code in
+      both_ways (is_code_byte v a) none here)
+
+  -- one in a word of code that is no site
+  off_others : (u a : ℕ) → is_code_word v u ≡ true → target_at g.sites.items u ≡ None → u ≤ a → a < u + 4 → All (λ (s : Site). IsOffWord a s.at) g.sites.items
+  off_others u a code none above under k d below =
+      let s : Site = slice_index_or g.sites.items k d in
+      let target = listed_target k d below in
+      let there = target_code s.at (record { object = s.object; offset = s.offset }) target in
+      let even = code_even v u code in
+      let even_there = code_even v s.at there in
+      off_or_in a s.at
+      (λ from to.
+      let same : s.at ≡ u = omega (arith, even, even_there, above, under, from, to) in
+      let at : target_at g.sites.items u ≡ Some (record { object = s.object; offset = s.offset }) =
+      subst (λ (b : ℕ). target_at g.sites.items b ≡ Some (record { object = s.object; offset = s.offset })) same target in
+      let wrong : None ≡ Some (record { object = s.object; offset = s.offset }) = sym none ∙ at in
+      absurd (cc))
+
+  -- ---- off words of data
+
+  apart_off : (a u at : ℕ) → meets at 4 u 4 ≡ false → u ≤ a → a < u + 4 → at ≤ a → a < at + 4 → ⊥
+  apart_off a u at apart above under from to = both_ways (meets at 4 u 4) apart (grind (arith, nat_tests, above, under, from, to))
+
+  off_words : (u a : ℕ) → is_code_word v u ≡ true → u ≤ a → a < u + 4 → All (λ (d : DataWord). IsOffWord a d.at) g.data_words.items
+  off_words u a code above under k e below =
+      let d : DataWord = slice_index_or g.data_words.items k e in
+      let given = word_given file board g accepted d k e below refl in
+      let home : ℕ = (object_of g d.object).home in
+      let n : ℕ = (object_of g d.object).size in
+      let moves = object_moves v board g d.object accepted.graph.objects given.1.below in
+      let apart = data_off_code file board home n given.0 u accepted.none moves given.1.means code in
+      let here : meets d.at 4 u 4 ≡ false = subst (λ (x : ℕ). meets x 4 u 4 ≡ false) given.1.at apart in
+      off_or_in a d.at (λ from to. apart_off a u d.at here above under from to)
+
+  -- ---- bytes and words that are kept
+
+  -- a byte of code lies off the scratchpad and the patch range
+  pub code_kept : (u a : ℕ) → is_code_word v u ≡ true → u ≤ a → a < u + 4 → IsKept v board a
+  code_kept u a code above under =
+      let found = code_range v u code in
+      let s = section_at v found.0 in
+      let from = found.1.from in
+      let to = found.1.to in
+      let place : s.addr + (a - s.addr) ≡ a = omega (arith, from, above) in
+      subst (IsKept v board) place
+      (loaded_kept file accepted.none found.0 found.1.loaded (a - s.addr) (omega (arith, from, to, above, under)) board accepted.layout)
+
+  module _ (w : PlainView) (pl : Placing) (is : IsMovedView v w board g pl) where
+    kept_byte : (u a : ℕ) → is_code_word v u ≡ true → target_at g.sites.items u ≡ None → u ≤ a → a < u + 4 → image_of w.segments a ≡ image_of v.segments a
+    kept_byte u a code none above under =
+        let kept = code_kept u a code above under in
+        is.elsewhere a
+        (record {
+          patch = kept.patch;
+          sites = off_others u a code none above under;
+          words = off_words u a code above under;
+          unchanged = kept.unchanged;
+        })
+
+    pub kept_word : (u : ℕ) → is_code_word v u ≡ true → target_at g.sites.items u ≡ None → image_word w u ≡ image_word v u
+    kept_word u code none =
+        let below = code_below v u (loadable file board g accepted) code in
+        λ t.
+        word_of (kept_byte u u code none (omega arith) (omega arith) t)
+        (kept_byte u (plus u 1) code none (omega (arith, below)) (omega (arith, below)) t)
+        (kept_byte u (plus u 2) code none (omega (arith, below)) (omega (arith, below)) t)
+        (kept_byte u (plus u 3) code none (omega (arith, below)) (omega (arith, below)) t)
+
+    -- the word at a site
+    pub moved_word : (u : ℕ) (t : Target) → target_at g.sites.items u ≡ Some t → HasSiteWord v w pl.place u t
+    moved_word u t at = site_word v w pl.place g.sites.items u t is.sites at

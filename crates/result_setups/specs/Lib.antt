@@ -1,0 +1,8 @@
+pub use Rattle.simulation.specs.Laws as SimulationLaws
+pub mod Home
+pub mod HomeLaws
+pub mod Absolute
+pub use Rattle.relocator.specs.SiteWords
+pub mod Placing
+pub mod Moved
+pub mod MovedLaws

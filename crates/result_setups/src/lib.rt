@@ -1,0 +1,12 @@
+//! Where things stand in a result, and that it keeps its program's meaning: a file that is loaded as it is, and one in which
+//! objects stand in the scratchpad. Definitions and laws alone.
+#![tactic(auto)]
+
+mod home_laws;
+mod moved_laws;
+
+pub use home_laws::{
+    absolute_runs_are_paired, file_keeps, home_is_sound, one_graph, one_run, start_is_alike,
+    units_are_home,
+};
+pub use moved_laws::{moved_file_keeps, moved_is_sound, start_leads, units_are_moved};

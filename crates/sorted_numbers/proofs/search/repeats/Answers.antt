@@ -1,5 +1,0 @@
-use Rattle.sorted_numbers.proofs.SortedLemmas.{number_twice}
-use Rattle.sorted_numbers.proofs.search.repeats.Goals as goal
-
-pub returns : goal.returns
-returns c = number_twice _ _ c.args.number c.args.sorted.now c.count_under.ensures c.count_up_to.ensures
