@@ -1,5 +1,5 @@
 //! Tables of the objects that may move, and of the memory that stays.
-ghost use Rattle.std.specs.Prelude.{◌×◌, List, ℕ};
+ghost use Rattle.std.specs.Prelude.{List, ℕ};
 ghost use Rattle.relinking.specs.Runs.{IsAnalysed};
 
 use anyhow::Result;

@@ -1,7 +1,7 @@
 //! Lists what the analyses find in files: the tables that a list asks for, as docs/LISTING.md describes them.
 #![tactic(auto)]
 
-ghost use Rattle.std.specs.Prelude.{◌×◌, List, ℕ};
+ghost use Rattle.std.specs.Prelude.{List, ℕ};
 ghost use Rattle.board_config.specs.Board.{IsLawful};
 ghost use Rattle.relinking.specs.Runs.{IsAnalysed};
 

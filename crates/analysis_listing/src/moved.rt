@@ -1,5 +1,5 @@
 //! The place of the first object in the scratchpad, and the words that lead to it there.
-ghost use Rattle.std.specs.Prelude.{◌≡◌, ◌×◌, ℕ, ◌<◌, List, length, IfOk, IfSome};
+ghost use Rattle.std.specs.Prelude.{◌≡◌, ℕ, ◌<◌, List, length, IfOk, IfSome};
 ghost use Rattle.elf_reader.specs.File.{PlainView, plain_view};
 ghost use Rattle.board_config.specs.Board.{IsLawful};
 ghost use Rattle.loaded_file.specs.Read.{IsRead};

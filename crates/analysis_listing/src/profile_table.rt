@@ -1,5 +1,5 @@
 //! The table of a run's counts.
-ghost use Rattle.std.specs.Prelude.{◌×◌, List, ℕ};
+ghost use Rattle.std.specs.Prelude.{List, ℕ};
 ghost use Rattle.relinking.specs.Runs.{IsAnalysed};
 
 use crate::printing::print_numbers;
