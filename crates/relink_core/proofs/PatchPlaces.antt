@@ -8,7 +8,7 @@ use Rattle.list_checks.specs.Tests.{any_below, lies_in, meets}
 use Rattle.list_checks.proofs.TestLemmas.{both, any_at, any_found}
 use Rattle.elf_reader.specs.Sections.{bit_of, stands_in_file}
 use Rattle.elf_reader.specs.File.{PlainSegment, PlainSection, PlainView, section_of, view_in}
-use Rattle.list_checks.proofs.FirstLemmas.{both_none}
+use Rattle.list_checks.proofs.FirstLemmas.{both_none, holds as holds_test}
 use Rattle.elf_reader.specs.HeaderChecks.{size_fault, header_fault}
 use Rattle.elf_reader.specs.Faults.{first_fault}
 use Rattle.elf_reader.specs.Image.{has_byte}

@@ -20,7 +20,7 @@ use Rattle.simulation.specs.Made.{IsAuipcAt}
 use Rattle.simulation.proofs.AtHome.{made_at_start}
 use Rattle.simulation.proofs.PairedRuns.{IsLuiAt, HasLuisAlone, all_paired}
 use Rattle.result_setups.specs.Absolute.{IsAbsolute, AbsoluteRunsArePaired}
-use Rattle.result_setups.proofs.Objects.{object_moves}
+use Rattle.cell_values.proofs.GraphObjects.{object_moves}
 use Rattle.result_setups.proofs.Sites.{Makes, SiteBy, by_high, by_wide, by_store, by_pair, by_low, site_of}
 use Rattle.result_setups.proofs.Named.{Names, named_found, auipc_by}
 

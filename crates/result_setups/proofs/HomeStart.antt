@@ -43,6 +43,7 @@ use Rattle.cell_values.specs.declared.values.Cell.{Cell}
 use Rattle.cell_values.specs.declared.values.Cell.TheVariants.{Part}
 use Rattle.cell_values.specs.Makers.{ByLui}
 use Rattle.cell_values.specs.Stands.{Places, Stands, CellStands, CellHoldsWord, address_word, kept_uppers}
+use Rattle.cell_values.proofs.Stores.{first_cells as each_of_four}
 use Rattle.object_machine.specs.State.{value}
 use Rattle.object_machine.specs.Start.{in_word, first_cell, where_memory}
 use Rattle.object_machine.specs.Paired.{at_start}
