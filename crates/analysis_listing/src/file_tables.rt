@@ -22,7 +22,7 @@ pub(crate) fn print_sections(rt: &(impl Print + AllocGlobal), view: &ElfView) ->
     for k in 0..view.sections.len() {
         if is_code_range(view, &loaded, k) {
             println!(rt; "section {k} code")?;
-        } else if loaded[k] {
+        } else if loaded.get(k).copied().unwrap_or(false) {
             println!(rt; "section {k} data")?;
         }
     }

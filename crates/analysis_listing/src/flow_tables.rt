@@ -46,7 +46,7 @@ fn print_dead(rt: &impl Print, live: &LiveTable, leader: u32) -> Result<()> {
 /// For each of the first blocks the registers that may hold addresses of objects, and which; and the objects that
 /// escape.
 pub(crate) fn print_points(rt: &impl Print, analysis: &Analysis<'_>, most: usize) -> Result<()> {
-    let objects = analysis.graph.objects.len() as u32;
+    let objects = u32::try_from(analysis.graph.objects.len()).unwrap_or(u32::MAX);
     for block in analysis.code.blocks.iter().take(most) {
         print!(rt; "points {:#010x}", block.start)?;
         for register in 0..32u8 {

@@ -91,31 +91,42 @@ fn list_program_table(
     }
 }
 
-/// Lists tables of a program that is analysed for a board, or the fault of its analysis. A table is `NAME`, or
-/// `NAME=N` for the first N blocks.
+/// Lists tables of an analysed program. A table is `NAME`, or `NAME=N` for the first N blocks.
+fn list_tables(
+    rt: &(impl Print + AllocGlobal),
+    tables: &str,
+    analysis: &Analysis<'_>,
+    board: &Board,
+) -> Result<()>
+    requires lawful { IsLawful board.now }
+    requires analysed { (file : List ℕ) × IsAnalysed file board.now analysis.now }
+{
+    for table in tables.split(',') {
+        let (name, most) = match table.split_once('=') {
+            Some((name, most)) => (name, most.parse::<usize>().context("no number of blocks")?),
+            None => (table, usize::MAX),
+        };
+        list_program_table(rt, name, most, analysis, board)?;
+    }
+    Ok(())
+}
+
+/// Lists tables of a program that is analysed for a board, or the fault of its analysis.
 fn list_program(
     rt: &(impl Print + AllocGlobal),
     tables: &str,
     bytes: &[u8],
     board: &Board,
 ) -> Result<()>
-    requires { IsLawful board.now }
+    requires lawful { IsLawful board.now }
 {
-    let analysis = match analyse(rt.alloc(), bytes, board) {
-        Ok(analysis) => analysis,
+    match analyse(rt.alloc(), bytes, board) {
+        Ok(analysis) => list_tables(rt, tables, &analysis, board),
         Err(fault) => {
             println!(rt; "fault: {fault}")?;
-            return Ok(());
+            Ok(())
         }
-    };
-    for table in tables.split(',') {
-        let (name, most) = match table.split_once('=') {
-            Some((name, most)) => (name, most.parse::<usize>().context("no number of blocks")?),
-            None => (table, usize::MAX),
-        };
-        list_program_table(rt, name, most, &analysis, board)?;
     }
-    Ok(())
 }
 
 /// The bytes of a file by its name.
