@@ -59,7 +59,7 @@ put_bytes_bytes (x ∷ bytes) mem at a all small =
     one : x < 256 → (b : ℕ) → put mem at x b < 256
     one h b = let r = small b in grind (arith, nat_tests)
 
-answered_words : (s : State) (value : ℕ) → value < 4294967296 → HasWords s → HasWords (answered s value)
+pub answered_words : (s : State) (value : ℕ) → value < 4294967296 → HasWords s → HasWords (answered s value)
 unfolding put
 answered_words s value small h = record {
   hart = record {

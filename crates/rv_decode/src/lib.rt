@@ -1,6 +1,7 @@
 //! The instructions of RV32IM: what each word means, and what each instruction does.
 #![tactic(auto)]
 
+mod calls;
 mod decoding;
 mod encoding;
 mod fields;
@@ -9,6 +10,7 @@ mod laws;
 mod operations;
 mod registers;
 
+pub use calls::{A0, A1, A2, A7, CALL_EXIT, CALL_READ, CALL_WRITE, NO_CALL};
 pub use decoding::decode;
 pub use encoding::encode;
 pub use fields::{b_imm, funct3, i_imm, j_imm, opcode, rd, rs1, u_imm};

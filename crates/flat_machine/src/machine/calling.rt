@@ -2,25 +2,8 @@ use crate::events::FlatOutcome;
 use crate::machine::Flat;
 use crate::mapping::has_move;
 use paged_store::{ByteStore, append_span};
+use rv_decode::{A0, A1, A2, A7, CALL_EXIT, CALL_READ, CALL_WRITE, NO_CALL};
 use std::alloc::AllocError;
-
-// the arguments a0 to a2 of a call, and its number in a7
-const A0: u8 = 10;
-
-const A1: u8 = 11;
-
-const A2: u8 = 12;
-
-const A7: u8 = 17;
-
-// the numbers of the calls, and the answer to any other: -38, "not implemented"
-const READ: u32 = 63;
-
-const WRITE: u32 = 64;
-
-const EXIT: u32 = 93;
-
-const NO_CALL: u32 = 0xffff_ffda;
 
 impl<S: ByteStore> Flat<S> {
     ghost use Rattle.std.specs.Prelude.{◌≡◌, OnOk, OnErr};
@@ -37,9 +20,9 @@ impl<S: ByteStore> Flat<S> {
         ensures err { OnErr result (state_of S.byte_at self.new ≡ state_of S.byte_at self.old) }
     {
         match self.register(A7) {
-            EXIT => self.exit(),
-            WRITE => self.write_out()?,
-            READ => self.read_in()?,
+            CALL_EXIT => self.exit(),
+            CALL_WRITE => self.write_out()?,
+            CALL_READ => self.read_in()?,
             _ => self.write(A0, NO_CALL),
         }
         Ok(())
