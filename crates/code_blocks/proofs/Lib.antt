@@ -9,3 +9,4 @@ pub mod OwnerLemmas
 pub mod TextLemmas
 pub mod NumberLemmas
 pub mod CodeLemmas
+pub mod EntryLemmas

@@ -66,6 +66,7 @@ pub record IsPair (v : PlainView) (p : ℕ) : Type 0 where
   pub behind : is_code_word v (p + 4) ≡ true
   pub words : is_pair_of_words v p ≡ true
   pub reloc : any_below (is_call_by v p) (length v.relocs) ≡ true
+  pub goes : is_code_word v (pair_target v p) ≡ true
   pub not_early : is_early v (p + 4) ≡ false
   pub not_called : any_below (calls v (p + 4)) (length v.relocs) ≡ false
 
@@ -89,6 +90,7 @@ pair_parts v p pair =
       behind = two.1;
       words = three.1;
       reloc = four.1;
+      goes = five.1;
       not_early = not_true early six.1;
       not_called = not_true called seven.1;
     }

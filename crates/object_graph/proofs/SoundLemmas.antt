@@ -90,7 +90,7 @@ pub record IsWord (v : PlainView) (i : ℕ) (r : Reloc) : Type 0 where
   pub holds : (k : ℕ) × HoldsData v r.at k
   pub word : image_word v r.at ≡ target v r
 
-word_parts : (v : PlainView) (i : ℕ) (r : Reloc) → is_sound_word v i r ≡ true → IsWord v i r
+pub word_parts : (v : PlainView) (i : ℕ) (r : Reloc) → is_sound_word v i r ≡ true → IsWord v i r
 word_parts v i r sound =
     let holds = any_below (holds_data v r.at) (length v.sections) in
     let cuts = any_below (cuts_range v r.at) (length v.symbols) in

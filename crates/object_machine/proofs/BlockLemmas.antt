@@ -1,10 +1,7 @@
 -- The prepared units of a block tell what the program says of their addresses.
-use Rattle.std.proofs.Common.{◌≡◌, ◌⊎◌, inl, inr, ℕ, zero, suc, ◌+◌, ◌*◌, ◌<◌, ◌≤◌, ◌==◌, nat_lt, Bool, true, false, not, ◌&&◌, ◌||◌, if◌then◌else◌, List, length, map, slice_index_or, is_some, Option, Some, None, MatchOption, refl, sym, ◌∙◌, ap, subst, arith}
-use Rattle.std.specs.List.{All, list_any}
-use Rattle.std.proofs.lemmas.Bool.{eqb-true, cases_Bool}
+use Rattle.std.proofs.Common.{◌≡◌, ◌⊎◌, inl, inr, ℕ, suc, ◌+◌, ◌*◌, ◌<◌, nat_lt, Bool, true, false, not, ◌&&◌, ◌||◌, if◌then◌else◌, List, length, map, slice_index_or, is_some, Option, Some, None, MatchOption, refl, sym, ◌∙◌, ap, subst, arith}
 use Rattle.std.proofs.lemmas.Bool.Decides.{nat_tests}
-use Rattle.std.proofs.lemmas.List.{length-map, get_or-map, get_or_default}
-use Rattle.list_checks.proofs.TestLemmas.{either, both, neither}
+use Rattle.std.proofs.lemmas.List.{length-map, get_or-map}
 use Rattle.rv_decode.specs.Table.{Means, MeansNothing}
 use Rattle.rv_decode.specs.declared.instructions.Instr.{Instr}
 use Rattle.elf_reader.specs.File.{PlainView, plain_view}
@@ -29,11 +26,11 @@ use Rattle.object_machine.specs.declared.units.Pair.{Pair}
 use Rattle.object_machine.specs.declared.units.Prepared.{Prepared}
 use Rattle.object_machine.specs.Program.{program_of, target_at, falls_from}
 use Rattle.object_machine.specs.Step.{Reads}
-use Rattle.object_machine.specs.Units.{unit_in, target_of, fits_read, fits_pair, fits_site, FitsSite, is_fit, leads_on, may_lead, may_fall, IsUnitAt}
+use Rattle.object_machine.specs.Units.{target_of, fits_read, fits_pair, fits_site, FitsSite, is_fit, may_lead, may_fall}
 use Rattle.object_machine.specs.Tells.{IsCallOf, TellsAt, Tells}
-use Rattle.object_machine.specs.Preparing.{IsPairOf, IsPreparedOf, ArePrepared}
+use Rattle.object_machine.specs.Preparing.{IsPairOf, IsPreparedOf}
 use Rattle.object_machine.proofs.ChainLemmas.{chain, is_chain, chain_some, chain_at, chain_below, chain_ends}
-use Rattle.object_machine.proofs.RangeLemmas.{HasLeft, left_at, left_further, one_less, left_below}
+use Rattle.object_machine.proofs.RangeLemmas.{left_at, some_left, left_further, one_less, left_below}
 use Rattle.object_machine.proofs.MeaningLemmas.{means_fits, LeadsOn, leads_further}
 
 -- ---- what a unit reads
@@ -215,3 +212,27 @@ is_pair_unit v u unit other = two_words (is_call_pair v u.at) u.words unit.words
 
 pub no_pair_of : (v : PlainView) (u : Unit) → IsUnit v u → u.words ≡ 1 → IsPairOf v u.at None
 no_pair_of v u unit one = record { is = one_word (is_call_pair v u.at) u.words unit.words one; call = tt }
+
+-- ---- how many units a block has, and where each is
+
+pub unit_count : (v : PlainView) (b : Block) (functions : List Function) → IsBlock v functions b → length b.units.items ≡ length (unit_addresses v b.start (words_left v b.start))
+unit_count v b functions block = sym (length-map b.units.items unit_at) ∙ ap length block.addresses
+
+pub unit_address : (v : PlainView) (b : Block) (functions : List Function) (k : ℕ) (d : Unit) → IsBlock v functions b → k < length b.units.items → (slice_index_or b.units.items k d).at ≡ b.start + 4 * k
+unit_address v b functions k d block below =
+    let count = unit_count v b functions block in
+    let same = is_chain v b.start (words_left v b.start) in
+    let here : slice_index_or (map unit_at b.units.items) k 0 ≡ (slice_index_or b.units.items k d).at = get_or-map unit_at b.units.items k d 0 below in
+    sym here
+    ∙ (ap (λ (xs : List ℕ). slice_index_or xs k 0) (block.addresses ∙ same)
+    ∙ chain_at (goes_on v) b.start (words_left v b.start) k (omega (arith, below, count, ap length same)))
+
+pub some_units : (view : ElfView) (b : Block) (functions : List Function) → IsRead view → is_code_word (plain_view view) b.start ≡ true → IsBlock (plain_view view) functions b → 0 < length b.units.items
+some_units view b functions read code block =
+    let v = plain_view view in
+    let (range, has_left) = left_at view b.start read code in
+    let some = some_left view b.start range has_left in
+    let same = ap length (is_chain v b.start (words_left v b.start)) in
+    let one = chain_some (goes_on v) b.start (words_left v b.start) some in
+    let count = unit_count v b functions block in
+    omega (arith, count, same, one)

@@ -1,31 +1,28 @@
 -- Where the objects and the words of data of a graph lie.
-use Rattle.std.proofs.Common.{◌≡◌, ◌⊎◌, inl, inr, ℕ, zero, suc, ◌+◌, ◌<◌, ◌≤◌, ◌==◌, nat_le, nat_lt, Bool, true, false, not, ◌&&◌, ◌||◌, List, length, map, slice_index_or, None, refl, sym, ◌∙◌, ap, subst, arith}
-use Rattle.std.specs.List.{All, AllPairs, list_any}
+use Rattle.std.proofs.Common.{◌≡◌, inl, inr, ℕ, ◌+◌, ◌<◌, ◌≤◌, ◌==◌, nat_lt, Bool, true, false, not, ◌&&◌, ◌||◌, List, length, slice_index_or, sym, ◌∙◌, subst, arith}
+use Rattle.std.specs.List.{list_any}
 use Rattle.std.proofs.lemmas.Bool.{eqb-true, cases_lt, cases_order}
 use Rattle.std.proofs.lemmas.Bool.Decides.{nat_tests}
-use Rattle.std.proofs.lemmas.List.{get_or_default}
 use Rattle.std.proofs.Math.ListN.{get_or-eq_default}
 use Rattle.std.proofs.lemmas.List.Folds.{list_any_at}
-use Rattle.list_checks.specs.Tests.{any_below, lies_in}
-use Rattle.list_checks.proofs.TestLemmas.{either, both, not_true, neither, any_found, any_at, none_at}
-use Rattle.elf_reader.specs.File.{PlainView, plain_view}
+use Rattle.list_checks.specs.Tests.{any_below}
+use Rattle.list_checks.proofs.TestLemmas.{both, any_found, any_at}
+use Rattle.elf_reader.specs.File.{PlainView}
 use Rattle.elf_reader.specs.Loaded.{section_at, is_loaded}
-use Rattle.elf_reader.specs.declared.view.ElfView.{ElfView}
 use Rattle.board_config.specs.declared.board.Board.{Board}
-use Rattle.loaded_file.specs.Code.{image_word}
-use Rattle.loaded_file.specs.Read.{IsRead}
-use Rattle.loaded_file.specs.Records.{symbol_at, reloc_at, target}
-use Rattle.loaded_file.specs.Ranges.{is_of, has_range, inside, is_executable, is_symbol_of}
-use Rattle.loaded_file.proofs.RangeLemmas.{IsOf, HasExtent, extent_of}
-use Rattle.sound_relocations.specs.Sound.{displacement, holds_data, cuts_range, changes_word, is_sound_word}
+use Rattle.loaded_file.specs.Records.{symbol_at, reloc_at}
+use Rattle.loaded_file.specs.Ranges.{has_range, inside}
+use Rattle.loaded_file.proofs.RangeLemmas.{HasExtent, extent_of}
+use Rattle.sound_relocations.specs.Sound.{displacement, is_sound_word}
 use Rattle.movable_ranges.specs.Fixed.{leads_to, is_movable}
 use Rattle.object_graph.specs.declared.parts.Object.{Object}
 use Rattle.object_graph.specs.declared.parts.DataWord.{DataWord}
 use Rattle.object_graph.specs.declared.parts.Graph.{Graph}
-use Rattle.object_graph.specs.Graphs.{is_object_of, has_object, IsObjects, object_at, same_word, gives_word, is_word_of_list, IsWords, IsGraph}
+use Rattle.object_graph.specs.Graphs.{is_object_of, has_object, object_at, same_word, gives_word, is_word_of_list, IsGraph}
 use Rattle.object_graph.specs.Sites.{in_range, in_area, in_code_range, in_object, holds_changed_byte, is_fixed_memory}
-use Rattle.object_graph.proofs.MovableLemmas.{Moves, movable_parts}
+use Rattle.object_graph.proofs.MovableLemmas.{movable_parts}
 use Rattle.cell_values.specs.Objects.{absent_object, object_of}
+use Rattle.object_graph.proofs.SoundLemmas.{word_parts}
 use Rattle.object_machine.specs.Layout.{EndBelow, LieApart}
 
 -- ---- objects
@@ -129,32 +126,9 @@ word_named v board g k d is below =
     let less = (both (nat_lt w.object (length g.objects.items)) (any_below (gives_word v g.objects.items w) (length v.relocs)) (word_given v board g k d is below)).0 in
     grind (arith, nat_tests, less)
 
--- the section that holds a sound word
-sound_place : (v : PlainView) (i : ℕ) → is_sound_word v i (reloc_at v i) ≡ true → any_below (holds_data v (reloc_at v i).at) (length v.sections) ≡ true
-sound_place v i sound =
-    let r = reloc_at v i in
-    let holds = any_below (holds_data v r.at) (length v.sections) in
-    let cuts = any_below (cuts_range v r.at) (length v.symbols) in
-    let same = image_word v r.at == target v r in
-    let changes = any_below (changes_word v i r.at) (length v.relocs) in
-    let whole = both ((r.kind == 1) && holds && not cuts && same) (not changes) sound in
-    let front = both ((r.kind == 1) && holds && not cuts) same whole.0 in
-    let third = both ((r.kind == 1) && holds) (not cuts) front.0 in
-    (both (r.kind == 1) holds third.0).1
-
 pub record HeldIn (v : PlainView) (at k : ℕ) : Type 0 where
   pub loaded : is_loaded v k ≡ true
   pub to : at + 4 ≤ (section_at v k).addr + (section_at v k).size
-
-held_in : (v : PlainView) (at k : ℕ) → holds_data v at k ≡ true → HeldIn v at k
-held_in v at k holds =
-    let s = section_at v k in
-    let lies = lies_in s.addr s.size at 4 in
-    let whole = both (is_loaded v k && (s.kind == 1) && not (is_executable s)) lies holds in
-    let plain = both (is_loaded v k && (s.kind == 1)) (not (is_executable s)) whole.0 in
-    let front = both (is_loaded v k) (s.kind == 1) plain.0 in
-    let inside = whole.1 in
-    record { loaded = front.0; to = grind (arith, nat_tests, inside) }
 
 pub word_held : (v : PlainView) (board : Board) (g : Graph) (k : ℕ) (d : DataWord) → IsGraph v board g → k < length g.data_words.items → (j : ℕ) × HeldIn v (slice_index_or g.data_words.items k d).at j
 word_held v board g k d is below =
@@ -168,5 +142,6 @@ word_held v board g k d is below =
     let front = both ((r.at == w.at) && leads_to v o.home o.size j) (is_sound_word v j r) whole.0 in
     let first = both (r.at == w.at) (leads_to v o.home o.size j) front.0 in
     let at = eqb-true r.at w.at first.0 in
-    let (section, short, held) = any_found (holds_data v r.at) (length v.sections) (sound_place v j front.1) in
-    (section, subst (λ (a : ℕ). HeldIn v a section) at (held_in v r.at section held))
+    let (section, held) = (word_parts v j r front.1).holds in
+    let lies = held.lies in
+    (section, subst (λ (a : ℕ). HeldIn v a section) at (record { loaded = held.loaded; to = grind (arith, nat_tests, lies) }))

@@ -1,30 +1,26 @@
 -- Units of blocks put one behind the other.
-use Rattle.std.proofs.Common.{◌≡◌, ◌⊎◌, inl, inr, ℕ, zero, suc, ◌+◌, ◌-◌, ◌*◌, ◌<◌, ◌≤◌, nat_lt, Bool, true, false, List, [], ◌∷◌, ◌++◌, map, take, length, slice_index, slice_index_or, length-append, refl, sym, ◌∙◌, ap, subst, arith}
-use Rattle.std.specs.List.{All}
+use Rattle.std.proofs.Common.{◌≡◌, inl, inr, ℕ, ◌+◌, ◌-◌, ◌*◌, ◌<◌, nat_lt, true, List, [], ◌∷◌, ◌++◌, map, take, length, slice_index, slice_index_or, length-append, sym, ◌∙◌, ap, subst, arith}
 use Rattle.std.proofs.Math.ListN.{get_or-append}
 use Rattle.std.proofs.lemmas.Bool.{cases_lt}
 use Rattle.std.proofs.lemmas.Bool.Decides.{nat_tests}
-use Rattle.std.proofs.lemmas.List.{get_or-append-add, map-append, take_more, length-map, get_or-map, get_or_default}
+use Rattle.std.proofs.lemmas.List.{get_or-append-add, map-append, take_more, get_or_default}
 use Rattle.elf_reader.specs.File.{PlainView, plain_view}
 use Rattle.elf_reader.specs.declared.view.ElfView.{ElfView}
 use Rattle.board_config.specs.declared.board.Board.{Board}
 use Rattle.loaded_file.specs.Code.{is_code_word}
 use Rattle.loaded_file.specs.Read.{IsRead}
 use Rattle.object_graph.specs.declared.parts.Graph.{Graph}
-use Rattle.code_blocks.specs.Ends.{words_left}
-use Rattle.code_blocks.specs.Blocks.{unit_at, start_of, unit_addresses, goes_on, IsUnit, IsBlock}
+use Rattle.code_blocks.specs.Blocks.{start_of, IsBlock}
 use Rattle.code_blocks.specs.declared.parts.Unit.{Unit}
 use Rattle.code_blocks.specs.declared.parts.Block.{Block}
 use Rattle.code_blocks.specs.declared.parts.Function.{Function}
 use Rattle.object_machine.specs.declared.units.Prepared.{Prepared}
 use Rattle.object_machine.specs.declared.preparing.Laid.{Laid}
 use Rattle.object_machine.specs.Program.{program_of}
-use Rattle.object_machine.specs.Units.{no_unit, unit_in, is_fit, AreFit, AreJoined, AreStarts, IsUnitAt}
+use Rattle.object_machine.specs.Units.{no_unit, unit_in, is_fit, AreJoined, AreStarts, IsUnitAt}
 use Rattle.object_machine.specs.Tells.{Tells}
 use Rattle.object_machine.specs.Preparing.{absent_unit, IsPreparedOf, ArePrepared, AreTold, IsPiece, IsLaid}
-use Rattle.object_machine.proofs.ChainLemmas.{chain, is_chain, chain_some, chain_at}
-use Rattle.object_machine.proofs.RangeLemmas.{left_at, some_left}
-use Rattle.object_machine.proofs.BlockLemmas.{IsNth, nth_unit, IsTold, told}
+use Rattle.object_machine.proofs.BlockLemmas.{IsNth, nth_unit, IsTold, told, unit_count, unit_address, some_units}
 
 -- ---- lists of units, one behind the other
 
@@ -106,32 +102,20 @@ starts_more xs ys starts places start same begun first k below =
 
 -- ---- the units of a block are a piece
 
-piece_count : (v : PlainView) (b : Block) (functions : List Function) → IsBlock v functions b → length b.units.items ≡ length (unit_addresses v b.start (words_left v b.start))
-piece_count v b functions block = sym (length-map b.units.items unit_at) ∙ ap length block.addresses
-
-nth_at : (v : PlainView) (b : Block) (functions : List Function) (k : ℕ) (d : Unit) → IsBlock v functions b → k < length b.units.items → (slice_index_or b.units.items k d).at ≡ b.start + 4 * k
-nth_at v b functions k d block below =
-    let count = piece_count v b functions block in
-    let same = is_chain v b.start (words_left v b.start) in
-    let here : slice_index_or (map unit_at b.units.items) k 0 ≡ (slice_index_or b.units.items k d).at = get_or-map unit_at b.units.items k d 0 below in
-    sym here
-    ∙ (ap (λ (xs : List ℕ). slice_index_or xs k 0) (block.addresses ∙ same)
-    ∙ chain_at (goes_on v) b.start (words_left v b.start) k (omega (arith, below, count, ap length same)))
-
 pub piece_of : (view : ElfView) (board : Board) (g : Graph) (functions : List Function) (b : Block) (rs : List Prepared) → IsRead view → is_code_word (plain_view view) b.start ≡ true → IsBlock (plain_view view) functions b → ArePrepared (plain_view view) g b.units.items (length b.units.items) rs → IsPiece (plain_view view) board g b.start rs
 piece_of view board g functions b rs read code block are =
     let v = plain_view view in
     let units = b.units.items in
-    let count = piece_count v b functions block in
+    let count = unit_count v b functions block in
     let n = are.count in
     let known : (k : ℕ) → k < length rs → IsTold v board g (unit_in rs k) = λ k below.
     let within : k < length units = omega (arith, below, n) in
     let u = slice_index_or units k absent_unit in
     let nth = subst (λ (c : ℕ). IsNth v (b.start + 4 * k) k c) (sym count) (nth_unit view b.start k read code (omega (arith, within, count))) in
-    told view board g (b.start + 4 * k) k (length units) u (unit_in rs k) read nth within (block.units k absent_unit within) (nth_at v b functions k absent_unit block within) (are.each k within) in
+    told view board g (b.start + 4 * k) k (length units) u (unit_in rs k) read nth within (block.units k absent_unit within) (unit_address v b functions k absent_unit block within) (are.each k within) in
     let at : (k : ℕ) → k < length rs → (unit_in rs k).at ≡ b.start + 4 * k = λ k below.
     let within : k < length units = omega (arith, below, n) in
-    (are.each k within).at ∙ nth_at v b functions k absent_unit block within in
+    (are.each k within).at ∙ unit_address v b functions k absent_unit block within in
     record {
       told = record {
         fit = λ k below. (known k below).fit;
@@ -145,11 +129,8 @@ piece_of view board g functions b rs read code block are =
         told = λ k below. (known k below).tells;
       };
       first =
-          let (range, has) = left_at view b.start read code in
-          let some = some_left view b.start range has in
-          let same = ap length (is_chain v b.start (words_left v b.start)) in
-          let one = chain_some (goes_on v) b.start (words_left v b.start) some in
-          let begins : 0 < length rs = omega (arith, n, count, same, one) in
+          let some = some_units view b functions read code block in
+          let begins : 0 < length rs = omega (arith, n, some) in
           let here = at 0 begins in
           (begins, omega (arith, here));
     }

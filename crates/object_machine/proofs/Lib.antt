@@ -4,6 +4,7 @@ pub mod CallLemmas
 pub mod ChainLemmas
 pub mod GraphLemmas
 pub mod LaidLemmas
+pub mod LeadLemmas
 pub mod LinkLemmas
 pub mod MeaningLemmas
 pub mod MemoryLemmas

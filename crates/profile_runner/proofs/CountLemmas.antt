@@ -144,7 +144,7 @@ count_few f (suc n) = one_at_most (f n) n (count_below f n) (count_few f n)
 
 -- ---- sums of counts of which one grows
 
-sum_same : (f g : ℕ → ℕ) (n : ℕ) → ((k : ℕ) → k < n → g k ≡ f k) → sum_below g n ≡ sum_below f n
+pub sum_same : (f g : ℕ → ℕ) (n : ℕ) → ((k : ℕ) → k < n → f k ≡ g k) → sum_below f n ≡ sum_below g n
 sum_same f g zero same = refl
 sum_same f g (suc n) same =
     let earlier = sum_same f g n (λ k below. same k (omega (arith, below))) in
@@ -171,7 +171,7 @@ sum_more f g b r (suc n) below more =
           omega (arith, here, sum, not_here)
       | inr last ↦
           let same : r ≡ n = omega (arith, last, below) in
-          let rest = sum_same f g n (λ k inside.
+          let rest = sum_same g f n (λ k inside.
           let now = more k (omega (arith, inside)) in
           let not_now = passes_not b r k (λ is. absurd (omega (arith, is, inside, last))) in
           omega (arith, now, not_now)) in

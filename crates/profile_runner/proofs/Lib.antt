@@ -6,7 +6,6 @@ pub mod TallyLemmas
 pub mod JoinLemmas
 pub mod FillLemmas
 pub mod RoomLemmas
-pub mod LeadLemmas
 pub mod RunLemmas
 pub mod StepLemmas
 pub mod FindLemmas

@@ -18,7 +18,7 @@ use Rattle.profile_runner.specs.Running.{IsMachineOf, IsComing, WhileGoing, IsSo
 use Rattle.profile_runner.specs.declared.tally.Tally.{Tally}
 use Rattle.profile_runner.proofs.MoveLemmas.{one_longer}
 use Rattle.profile_runner.proofs.TallyLemmas.{IsOneMore, tally_more}
-use Rattle.profile_runner.proofs.LeadLemmas.{performs_lead}
+use Rattle.object_machine.proofs.LeadLemmas.{performs_lead}
 use Rattle.profile_runner.proofs.RunLemmas.{step_move, performed, same_outcome, moves_more}
 
 -- ---- what is known while the machine goes on

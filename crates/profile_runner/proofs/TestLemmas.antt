@@ -1,6 +1,7 @@
 -- Tests of what a step counts.
 use Rattle.std.proofs.Common.{◌≡◌, ◌∙◌, inl, inr, ℕ, suc, ◌<◌, ◌==◌, nat_lt, Bool, true, false, not, ◌&&◌, ◌||◌, if◌then◌else◌, List, [], ◌∷◌, length, Option, Some, None, refl, sym, arith}
-use Rattle.std.proofs.lemmas.Bool.{cases_eq}
+use Rattle.std.proofs.Math.Bool.{and-false}
+use Rattle.std.proofs.lemmas.Bool.{cases_eq, eqb-true}
 use Rattle.std.proofs.lemmas.Bool.Decides.{nat_tests}
 use Rattle.list_checks.specs.Sorted.{is_number}
 use Rattle.object_machine.specs.declared.events.Access.{Access}
@@ -15,10 +16,6 @@ eq_refl a = grind (arith, nat_tests)
 pub eq_not : (a b : ℕ) → (a ≡ b → ⊥) → (a == b) ≡ false
 eq_not a b differs = grind (arith, nat_tests, differs)
 
-and_false : (b : Bool) → b && false ≡ false
-and_false true = refl
-and_false false = refl
-
 and_true : (b : Bool) → b && true ≡ b
 and_true true = refl
 and_true false = refl
@@ -32,16 +29,16 @@ no_switch b s r =
       | inl same ↦ rw (same, eq_refl r) refl
       | inr differs ↦
           elim (cases_eq b s) [
-            | inl here ↦ rw (here, eq_not s r differs, and_false (s == s)) refl
+            | inl here ↦ rw (here, eq_not s r differs, and-false (s == s)) refl
             | inr apart_there ↦ rw (eq_not b s apart_there, eq_not s r differs) refl
           ]
     ]
 
 pub no_leave : (b s : ℕ) → is_leave b b s ≡ false
-no_leave b s = rw (eq_refl b) (and_false (b == s))
+no_leave b s = rw (eq_refl b) (and-false (b == s))
 
 pub no_enter : (b r : ℕ) → is_enter b b r ≡ false
-no_enter b r = rw (eq_refl b) (and_false (b == r))
+no_enter b r = rw (eq_refl b) (and-false (b == r))
 
 pub one_switch : (b a : ℕ) → (b ≡ a → ⊥) → (s r : ℕ) → is_entry b a s r ≡ is_switch b a s r
 one_switch b a differs s r =
@@ -50,8 +47,8 @@ one_switch b a differs s r =
           elim (cases_eq b s) [
             | inl here ↦
                 let elsewhere : (a == r) ≡ false = eq_not a r (λ is. differs (here ∙ (same ∙ sym is))) in
-                rw (elsewhere, and_false (b == s), and_false (not (s == r))) refl
-            | inr apart_there ↦ rw (eq_not b s apart_there, and_false (not (s == r))) refl
+                rw (elsewhere, and-false (b == s), and-false (not (s == r))) refl
+            | inr apart_there ↦ rw (eq_not b s apart_there, and-false (not (s == r))) refl
           ]
       | inr apart ↦ rw (eq_not s r apart) refl
     ]
@@ -80,27 +77,21 @@ no_access write a region other o r = other_way (a.object == o) (region == r) (sa
 
 -- ---- changes by where they lead, and by where they begin
 
+-- of the two orders in which the tests of a change stand, where the regions that they name are those
+two_orders : (x y z w : Bool) → (x ≡ true → y ≡ true → z ≡ w) → (z && (x && y) ≡ (x && w) && y) × (z && (x && y) ≡ (y && w) && x)
+two_orders true true z w same = let is = same refl refl in rw is (refl, refl)
+two_orders true false z w same = (and-false z ∙ sym (and-false w), and-false z)
+two_orders false true z w same = (and-false z, and-false z ∙ sym (and-false w))
+two_orders false false z w same = (and-false z, and-false z)
+
+regions_differ : (b a s r : ℕ) → (b == s) ≡ true → (a == r) ≡ true → not (s == r) ≡ not (b == a)
+regions_differ b a s r first second = rw (eqb-true b s first, eqb-true a r second) refl
+
 pub switch_leave : (b a s r : ℕ) → is_switch b a s r ≡ (is_leave b a s && (a == r))
-switch_leave b a s r =
-    elim (cases_eq b s) [
-      | inl here ↦
-          elim (cases_eq a r) [
-            | inl there ↦ rw (here, there, eq_refl s, eq_refl r) refl
-            | inr apart ↦ rw (eq_not a r apart, and_false (b == s), and_false (not (s == r)), and_false ((b == s) && not (b == a))) refl
-          ]
-      | inr apart ↦ rw (eq_not b s apart, and_false (not (s == r))) refl
-    ]
+switch_leave b a s r = (two_orders (b == s) (a == r) (not (s == r)) (not (b == a)) (regions_differ b a s r)).0
 
 pub switch_enter : (b a s r : ℕ) → is_switch b a s r ≡ (is_enter b a r && (b == s))
-switch_enter b a s r =
-    elim (cases_eq b s) [
-      | inl here ↦
-          elim (cases_eq a r) [
-            | inl there ↦ rw (here, there, eq_refl s, eq_refl r) refl
-            | inr apart ↦ rw (eq_not a r apart, and_false (b == s), and_false (not (s == r))) refl
-          ]
-      | inr apart ↦ rw (eq_not b s apart, and_false (not (s == r)), and_false ((a == r) && not (b == a))) refl
-    ]
+switch_enter b a s r = (two_orders (b == s) (a == r) (not (s == r)) (not (b == a)) (regions_differ b a s r)).1
 
 -- ---- which block begins
 
@@ -141,7 +132,7 @@ less_is a b less = grind (arith, nat_tests, less)
 pub led_test : (starts : List ℕ) (goes_on : Bool) (x block a b : ℕ) (next : Option ℕ) → b < length starts → IsNext starts goes_on x next → (goes_on && (block == a) && (nat_lt b (length starts) && (number_of starts x == b))) ≡ is_led block next a b
 led_test starts true x block a b None below to =
     let other : (length starts == b) ≡ false = eq_not (length starts) b (λ is. absurd (omega (arith, is, below))) in
-    rw (no_number starts x to, other, and_false (nat_lt b (length starts)), and_false (block == a)) refl
+    rw (no_number starts x to, other, and-false (nat_lt b (length starts)), and-false (block == a)) refl
 led_test starts true x block a b (Some k) below to =
     let number = to.1 in let less = less_is b (length starts) below in rw (number, less) refl
 led_test starts false x block a b None below to = refl

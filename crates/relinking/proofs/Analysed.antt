@@ -1,25 +1,21 @@
 -- A file that is analysed for a board: what its analysis is, and what a run of its program asks.
-use Rattle.std.proofs.Common.{◌≡◌, ℕ, ◌≤◌, ◌==◌, nat_le, option_map, List, length, Bool, true, ◌&&◌, ◌||◌, None, refl, sym, subst, arith}
+use Rattle.std.proofs.Common.{◌≡◌, ℕ, ◌≤◌, nat_le, option_map, List, true, None, sym, subst, arith}
 use Rattle.std.proofs.lemmas.Bool.Decides.{nat_tests}
-use Rattle.list_checks.specs.First.{unless}
 use Rattle.list_checks.proofs.FirstLemmas.{both_none, holds}
-use Rattle.list_checks.specs.Tests.{any_below}
 use Rattle.elf_reader.specs.File.{PlainView, plain_view, view_in, IsFile}
 use Rattle.elf_reader.specs.Loadable.{AreBytes}
 use Rattle.elf_reader.specs.declared.view.ElfView.{ElfView}
 use Rattle.board_config.specs.Board.{IsLawful}
 use Rattle.board_config.specs.declared.board.Board.{Board}
-use Rattle.loaded_file.specs.Code.{is_code_word}
 use Rattle.loaded_file.specs.Read.{IsRead}
 use Rattle.loaded_file.proofs.WordLemmas.{same_view}
 use Rattle.object_graph.specs.Graphs.{IsGraph}
 use Rattle.object_graph.specs.LayoutFaults.{layout_fault}
 use Rattle.object_graph.specs.declared.parts.Graph.{Graph}
-use Rattle.code_leaders.specs.Words.{any_code_word}
-use Rattle.code_leaders.specs.Leaders.{is_function_at, makes_address, goes_to, comes_back, pair_goes_to, pair_comes_back, is_leader}
-use Rattle.code_blocks.specs.Blocks.{IsCode, is_any, code_fault}
+use Rattle.code_leaders.specs.Leaders.{is_leader}
+use Rattle.code_blocks.proofs.EntryLemmas.{entry_leads}
+use Rattle.code_blocks.specs.Blocks.{IsCode, code_fault}
 use Rattle.code_blocks.specs.declared.parts.Code.{Code}
-use Rattle.code_blocks.specs.declared.fault.CodeFault.TheVariants.{NoText, EntryNotLeader}
 use Rattle.relink_core.specs.Faults.{IsFaultless, file_fault, least_patch, patch_fault, places_fault, view_fault, analyse_fault}
 use Rattle.relink_core.specs.Regions.{AreRegions}
 use Rattle.relink_core.specs.declared.analysis.Analysis.{Analysis}
@@ -28,18 +24,6 @@ use Rattle.relink_core.proofs.KeepsLemmas.{passes}
 use Rattle.relinking.specs.Runs.{IsAnalysed}
 
 -- ---- what a run asks
-
-named_code : (code same b c d e f g : Bool) → code ≡ true → same ≡ true → code && (same || b || c || d || e) || code && (f || g) ≡ true
-named_code code same b c d e f g is_code is_same = rw (is_code, is_same) refl
-
--- the entry of a program whose code has no fault is a leader
-entry_leads : (v : PlainView) → code_fault v ≡ None → is_leader v v.entry ≡ true
-entry_leads v none =
-    let behind = both_none (unless (any_code_word v is_any) NoText) _ none in
-    let entry = both_none (unless (is_code_word v v.entry) EntryNotLeader) _ behind.1 in
-    let code = holds (is_code_word v v.entry) EntryNotLeader entry.0 in
-    let same : (v.entry == v.entry) ≡ true = grind (arith, nat_tests) in
-    named_code (is_code_word v v.entry) (v.entry == v.entry) (any_below (is_function_at v v.entry) (length v.symbols)) (any_below (makes_address v v.entry) (length v.relocs)) (any_code_word v (goes_to v v.entry)) (any_code_word v (comes_back v v.entry)) (any_code_word v (pair_goes_to v v.entry)) (any_code_word v (pair_comes_back v v.entry)) code same
 
 pub record MayRun (view : ElfView) (board : Board) (g : Graph) (c : Code) : Type 0 where
   pub read : IsRead view

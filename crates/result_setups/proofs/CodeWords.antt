@@ -25,7 +25,8 @@ use Rattle.object_machine.specs.Program.{Target, target_at}
 use Rattle.result_setups.specs.Home.{is_code_byte}
 use Rattle.result_setups.specs.HomeLaws.{IsAccepted}
 use Rattle.cell_values.proofs.GraphObjects.{object_moves}
-use Rattle.result_setups.proofs.Sites.{SiteBy, by_high, by_wide, by_store, by_pair, by_low, itself, target_found, site_of}
+use Rattle.object_machine.proofs.SiteLemmas.{found_target}
+use Rattle.result_setups.proofs.Sites.{SiteBy, by_high, by_wide, by_store, by_pair, by_low, itself, site_of}
 use Rattle.result_setups.proofs.HomeSound.{loadable}
 use Rattle.result_setups.proofs.HomeStart.{word_given}
 use Rattle.result_setups.proofs.Words.{code_range, code_even, code_below}
@@ -89,7 +90,7 @@ module _ (file : List ℕ) (board : Board) (g : Graph) (accepted : IsAccepted fi
   listed_target : (k : ℕ) (d : Site) → k < length g.sites.items → target_at g.sites.items (slice_index_or g.sites.items k d).at ≡ Some (record { object = (slice_index_or g.sites.items k d).object; offset = (slice_index_or g.sites.items k d).offset })
   listed_target k d below =
       let s : Site = slice_index_or g.sites.items k d in
-      target_found g.sites.items s accepted.graph.sites.apart (list_any_at _ g.sites.items k d below (itself s))
+      found_target g.sites.items s.at s accepted.graph.sites.apart (list_any_at _ g.sites.items k d below (itself s)) refl
 
   pub target_code : (u : ℕ) (t : Target) → target_at g.sites.items u ≡ Some t → is_code_word v u ≡ true
   target_code u t at =

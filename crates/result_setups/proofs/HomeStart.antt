@@ -1,15 +1,13 @@
 -- Both machines start alike: words of data hold the addresses of homes, and other bytes are the file's.
-use Rattle.std.proofs.Common.{◌≡◌, ◌∙◌, ℕ, ◌+◌, ◌-◌, ◌<◌, ◌≤◌, ◌==◌, nat_lt, nat_le, Bool, true, false, ◌&&◌, ◌||◌, List, [], ◌∷◌, length, slice_index_or, refl, sym, ap, subst, arith}
+use Rattle.std.proofs.Common.{◌≡◌, ◌∙◌, ℕ, ◌+◌, ◌-◌, ◌<◌, ◌≤◌, ◌==◌, nat_lt, nat_le, Bool, true, false, ◌&&◌, List, [], ◌∷◌, length, slice_index_or, refl, sym, ap, subst, arith}
 use Rattle.std.specs.List.{All}
 use Rattle.std.proofs.lemmas.Bool.{cond_both, eqb-true, ltb-true}
 use Rattle.std.proofs.lemmas.Bool.Decides.{nat_tests}
 use Rattle.std.proofs.lemmas.List.Elements.{All-head, All-tail}
 use Rattle.std.proofs.lemmas.List.Folds.{list_any_at}
-use Rattle.list_checks.proofs.FirstLemmas.{both_none, holds}
 use Rattle.word_bits.specs.Words.{plus, word_of, byte_of}
 use Rattle.word_bits.specs.Memory.{Memory, zeros, word_at}
 use Rattle.rv_decode.specs.Acts.{register}
-use Rattle.list_checks.specs.Tests.{any_below}
 use Rattle.list_checks.proofs.TestLemmas.{both, any_found}
 use Rattle.elf_reader.specs.File.{PlainView, view_in}
 use Rattle.elf_reader.specs.Image.{image_of}
@@ -18,7 +16,7 @@ use Rattle.elf_reader.specs.Loaded.{section_at}
 use Rattle.board_config.specs.Board.{mapped_ranges}
 use Rattle.board_config.specs.declared.board.Board.{Board}
 use Rattle.flat_machine.proofs.Words.{start_words}
-use Rattle.loaded_file.specs.Code.{is_code_word, image_word}
+use Rattle.loaded_file.specs.Code.{image_word}
 use Rattle.loaded_file.specs.Records.{reloc_at}
 use Rattle.loaded_file.proofs.WordLemmas.{lies_to}
 use Rattle.sound_relocations.specs.Sound.{displacement, is_sound_word}
@@ -30,12 +28,9 @@ use Rattle.object_graph.specs.declared.parts.DataWord.{DataWord}
 use Rattle.object_graph.specs.declared.parts.Graph.{Graph}
 use Rattle.object_graph.proofs.LeadLemmas.{data_words_lead}
 use Rattle.object_graph.proofs.SoundLemmas.{sound_word}
-use Rattle.code_leaders.specs.Words.{any_code_word}
-use Rattle.code_leaders.specs.Leaders.{is_function_at, makes_address, is_named, goes_to, comes_back, is_early, is_leader}
-use Rattle.code_leaders.proofs.LeaderLemmas.{left_passes, both_pass}
-use Rattle.code_blocks.specs.declared.fault.CodeFault.TheVariants.{EntryNotLeader, NoText}
-use Rattle.code_blocks.specs.Blocks.{is_any}
-use Rattle.list_checks.specs.First.{unless}
+use Rattle.code_leaders.specs.Leaders.{is_leader}
+use Rattle.code_leaders.proofs.LeaderLemmas.{both_pass, leader_is_code}
+use Rattle.code_blocks.proofs.EntryLemmas.{entry_leads}
 use Rattle.cell_values.specs.Laws.{HoldsWord}
 use Rattle.cell_values.specs.Objects.{object_of, objects_of}
 use Rattle.cell_values.specs.declared.values.Val.TheVariants.{Int}
@@ -198,21 +193,8 @@ module _ (file : List ℕ) (board : Board) (g : Graph) (accepted : IsAccepted fi
 
   -- ---- the entry
 
-  entry_code : is_code_word v v.entry ≡ true
-  entry_code =
-      let rest = (both_none (unless (any_code_word v is_any) NoText) _ accepted.code).1 in
-      holds (is_code_word v v.entry) EntryNotLeader (both_none (unless (is_code_word v v.entry) EntryNotLeader) _ rest).0
-
-  entry_leads : is_leader v v.entry ≡ true
-  entry_leads =
-      let named : is_named v v.entry ≡ true =
-      left_passes ((v.entry == v.entry) || any_below (is_function_at v v.entry) (length v.symbols)) (any_below (makes_address v v.entry) (length v.relocs))
-      (left_passes (v.entry == v.entry) (any_below (is_function_at v v.entry) (length v.symbols)) (same_number v.entry)) in
-      let early : is_early v v.entry ≡ true =
-      both_pass (is_code_word v v.entry) _ entry_code
-      (left_passes (is_named v v.entry || any_code_word v (goes_to v v.entry)) (any_code_word v (comes_back v v.entry))
-      (left_passes (is_named v v.entry) (any_code_word v (goes_to v v.entry)) named)) in
-      left_passes (is_early v v.entry) _ early
+  entry_begins : is_leader v v.entry ≡ true
+  entry_begins = entry_leads v accepted.code
 
   -- ---- registers
 
@@ -248,13 +230,13 @@ module _ (file : List ℕ) (board : Board) (g : Graph) (accepted : IsAccepted fi
         map = refl;
         going = refl;
         source_going = refl;
-        words = let below = code_below v v.entry (loadable file board g accepted) entry_code in start_words v.entry v.segments (mapped_ranges board) input (omega (arith, below)) (loadable file board g accepted) bytes;
+        words = let below = code_below v v.entry (loadable file board g accepted) (leader_is_code v v.entry entry_begins) in start_words v.entry v.segments (mapped_ranges board) input (omega (arith, below)) (loadable file board g accepted) bytes;
         input = refl;
         output = refl;
       }
 
   pub entry_unit : IsUnit (program_in file board g) v.entry
-  entry_unit = OfBlock v.entry entry_leads
+  entry_unit = OfBlock v.entry entry_begins
 
 pub start_is_alike : StartIsAlike
 start_is_alike file board g input accepted bytes =

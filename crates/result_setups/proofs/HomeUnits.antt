@@ -1,8 +1,7 @@
 -- Each unit stands at its home, with its own word.
-use Rattle.std.proofs.Common.{◌≡◌, ◌⊎◌, inl, inr, ℕ, ◌+◌, ◌*◌, ◌<◌, ◌==◌, true, not, ◌&&◌, ◌||◌, List, length, Option, Some, None, refl, sym, ap, subst, arith}
+use Rattle.std.proofs.Common.{◌≡◌, ◌⊎◌, inl, inr, ℕ, ◌+◌, ◌*◌, ◌<◌, ◌==◌, true, ◌&&◌, ◌||◌, List, Option, Some, None, refl, sym, ap, subst, arith}
 use Rattle.std.proofs.lemmas.Bool.{eqb-true, ltb-true}
 use Rattle.word_bits.specs.Words.{plus, offset}
-use Rattle.list_checks.specs.Tests.{any_below}
 use Rattle.list_checks.proofs.TestLemmas.{either, both}
 use Rattle.rv_decode.specs.Fields.{opcode_of, rd_of, funct3_of, rs1_of, u_immediate, i_immediate}
 use Rattle.rv_decode.specs.Table.{Means}
@@ -15,7 +14,6 @@ use Rattle.board_config.specs.declared.board.Board.{Board}
 use Rattle.loaded_file.specs.Code.{is_code_word, image_word}
 use Rattle.object_graph.specs.declared.parts.Graph.{Graph}
 use Rattle.code_leaders.specs.Words.{is_jalr, is_auipc, links, pair_target}
-use Rattle.code_leaders.specs.Leaders.{is_early, calls, is_pair_of_words, is_call_by, is_call_pair}
 use Rattle.code_leaders.proofs.PairLemmas.{pair_parts}
 use Rattle.object_machine.specs.Program.{Program, Target}
 use Rattle.object_machine.specs.Step.{Reads}
@@ -57,20 +55,6 @@ call_words first second words =
       ];
     }
 
--- a call of two words goes to a word of code
-goes_to_code : (v : PlainView) (u : ℕ) → is_call_pair v u ≡ true → is_code_word v (pair_target v u) ≡ true
-goes_to_code v u pair =
-    let code = is_code_word v u in
-    let behind = is_code_word v (u + 4) in
-    let words = is_pair_of_words v u in
-    let reloc = any_below (is_call_by v u) (length v.relocs) in
-    let goes = is_code_word v (pair_target v u) in
-    let early = is_early v (u + 4) in
-    let called = any_below (calls v (u + 4)) (length v.relocs) in
-    let seven = both (code && behind && words && reloc && goes && not early) (not called) pair in
-    let six = both (code && behind && words && reloc && goes) (not early) seven.0 in
-    (both (code && behind && words && reloc) goes six.0).1
-
 turned : (a b : ℕ) → plus a (b * 4096) ≡ plus a (4096 * b)
 turned a b = omega arith
 
@@ -104,7 +88,7 @@ module _ (file : List ℕ) (board : Board) (g : Graph) (accepted : IsAccepted fi
   pair_home u pair =
       let parts = pair_parts v u pair in
       let words = call_words (image_word v u) (image_word v (u + 4)) parts.words in
-      let even = code_even v (pair_target v u) (goes_to_code v u pair) in
+      let even = code_even v (pair_target v u) parts.goes in
       let ends = code_below v (u + 4) (loadable file board g accepted) parts.behind in
       record {
         first = image_word v u;

@@ -1,6 +1,7 @@
 -- The objects, the sites and the words of data of a view on a board are one list each.
 use Rattle.std.proofs.Common.{◌≡◌, ◌∙◌, inl, inr, ℕ, ◌+◌, ◌<◌, ◌≤◌, ◌==◌, Bool, true, not, ◌&&◌, List, slice_index_or, refl, sym, ap, subst, arith}
-use Rattle.std.specs.Prelude.{All}
+use Rattle.std.specs.Prelude.{All, AllPairs}
+use Rattle.std.specs.List.{list_any}
 use Rattle.std.proofs.lemmas.Bool.{both_ways, cases_order, eqb-true}
 use Rattle.std.proofs.lemmas.List.Folds.{list_any_at}
 use Rattle.list_checks.specs.Tests.{any_below}
@@ -92,6 +93,21 @@ one_objects v board objects others first second =
     (record { pairs = second.apart; fit = objects_full v board others second })
     (λ o. first.exact o.home o.size ∙ sym (second.exact o.home o.size))
 
+-- ---- lists of what stands four bytes apart, of which a test tells each
+
+apart_lists : {A : Type 0} (at : A → ℕ) (same : A → A → Bool) → ((a : A) → same a a ≡ true) → ((a b : A) → same a b ≡ true → a ≡ b) → (xs ys : List A) → AllPairs (λ (a b : A). at a + 4 ≤ at b) xs → AllPairs (λ (a b : A). at a + 4 ≤ at b) ys → ((a : A) → list_any (same a) xs ≡ list_any (same a) ys) → xs ≡ ys
+apart_lists {A = A} at same itself one xs ys first second exact =
+    same_lists (λ (a : A). Unit {0}) (λ (a b : A). at a + 4 ≤ at b) same
+    (record {
+      itself = itself;
+      one = λ a b c _ _ here there. sym (one a b here) ∙ one a c there;
+      strict = λ a b _ before behind. omega (arith, before, behind);
+    })
+    xs ys
+    (record { pairs = first; fit = λ k d below. tt })
+    (record { pairs = second; fit = λ k d below. tt })
+    exact
+
 -- ---- sites
 
 one_part : (k l : SiteKind) → same_part k l ≡ true → k ≡ l
@@ -116,19 +132,9 @@ one_site s t same =
     let offset = eqb-true s.offset t.offset three.1 in
     λ i. record { at = at i; kind = kind i; object = object i; offset = offset i }
 
-sites_tell : Tells (λ (s : Site). Unit {0}) (λ a b. a.at + 4 ≤ b.at) same_site
-sites_tell =
-    record {
-      itself = itself;
-      one = λ s t u _ _ first second. sym (one_site s t first) ∙ one_site s u second;
-      strict = λ s t _ before behind. omega (arith, before, behind);
-    }
-
 pub one_sites : (v : PlainView) (objects others : List Object) (sites more : List Site) → objects ≡ others → IsSites v objects sites → IsSites v others more → sites ≡ more
 one_sites v objects others sites more same first second =
-    same_lists (λ (s : Site). Unit {0}) (λ (a b : Site). a.at + 4 ≤ b.at) same_site sites_tell sites more
-    (record { pairs = first.apart; fit = λ k d below. tt })
-    (record { pairs = second.apart; fit = λ k d below. tt })
+    apart_lists (λ (s : Site). s.at) same_site itself one_site sites more first.apart second.apart
     (λ s. first.exact s ∙ ap (λ (all : List Object). is_site_of_list v all s) same ∙ sym (second.exact s))
 
 -- ---- words of data
@@ -142,17 +148,7 @@ one_word d e same =
     let offset = eqb-true d.offset e.offset two.1 in
     λ i. record { at = at i; object = object i; offset = offset i }
 
-words_tell : Tells (λ (d : DataWord). Unit {0}) (λ a b. a.at + 4 ≤ b.at) same_word
-words_tell =
-    record {
-      itself = word_itself;
-      one = λ d e f _ _ first second. sym (one_word d e first) ∙ one_word d f second;
-      strict = λ d e _ before behind. omega (arith, before, behind);
-    }
-
 pub one_words : (v : PlainView) (objects others : List Object) (words more : List DataWord) → objects ≡ others → IsWords v objects words → IsWords v others more → words ≡ more
 one_words v objects others words more same first second =
-    same_lists (λ (d : DataWord). Unit {0}) (λ (a b : DataWord). a.at + 4 ≤ b.at) same_word words_tell words more
-    (record { pairs = first.apart; fit = λ k d below. tt })
-    (record { pairs = second.apart; fit = λ k d below. tt })
+    apart_lists (λ (d : DataWord). d.at) same_word word_itself one_word words more first.apart second.apart
     (λ d. first.exact d ∙ ap (λ (all : List Object). is_word_of_list v all d) same ∙ sym (second.exact d))

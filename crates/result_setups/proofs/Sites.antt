@@ -1,7 +1,6 @@
 -- The sites of a graph: which relocation gives each.
-use Rattle.std.proofs.Common.{◌≡◌, ◌∙◌, inl, inr, ℕ, suc, ◌+◌, ◌<◌, ◌≤◌, ◌==◌, nat_lt, nat_le, true, false, ◌&&◌, ◌||◌, List, [], ◌∷◌, length, slice_index_or, Some, refl, sym, ap, subst, arith}
+use Rattle.std.proofs.Common.{◌≡◌, ◌∙◌, inl, inr, ℕ, ◌<◌, ◌==◌, nat_lt, nat_le, true, ◌&&◌, ◌||◌, List, [], ◌∷◌, length, Some, refl, sym, ap, subst, arith}
 use Rattle.std.specs.List.{list_any}
-use Rattle.std.specs.Prelude.{AllPairs}
 use Rattle.std.proofs.lemmas.Bool.{cond_both, eqb-true, ltb-true}
 use Rattle.std.proofs.lemmas.Bool.Decides.{nat_tests}
 use Rattle.list_checks.specs.Tests.{any_below}
@@ -21,8 +20,9 @@ use Rattle.object_graph.proofs.SoundLemmas.{high_parts, low_parts, pair_parts}
 use Rattle.code_leaders.proofs.LeaderLemmas.{left_passes, right_passes, both_pass}
 use Rattle.cell_values.specs.Objects.{absent_object, object_of}
 use Rattle.object_machine.specs.Program.{Target, target_at}
+use Rattle.object_machine.proofs.SiteLemmas.{found_target}
 use Rattle.result_setups.proofs.Numbers.{same_number}
-use Rattle.result_setups.proofs.Lists.{element_found, same_element, later_pairs}
+use Rattle.result_setups.proofs.Lists.{same_element}
 
 -- ---- sites in their list
 
@@ -73,43 +73,6 @@ site_found (s ∷ sites) u t found =
       offset = later.offset;
     })
     found
-
--- what two same sites share
-pub record AreSame (s t : Site) : Type 0 where
-  pub at : s.at ≡ t.at
-  pub object : s.object ≡ t.object
-  pub offset : s.offset ≡ t.offset
-
-same_parts : (s t : Site) → same_site s t ≡ true → AreSame s t
-same_parts s t same =
-    let three = both ((s.at == t.at) && same_part s.kind t.kind && (s.object == t.object)) (s.offset == t.offset) same in
-    let two = both ((s.at == t.at) && same_part s.kind t.kind) (s.object == t.object) three.0 in
-    let one = both (s.at == t.at) (same_part s.kind t.kind) two.0 in
-    record {
-      at = eqb-true s.at t.at one.0;
-      object = eqb-true s.object t.object two.1;
-      offset = eqb-true s.offset t.offset three.1;
-    }
-
--- the target at a site of the list: no other site stands at its address
-pub target_found : (sites : List Site) (s : Site) → AllPairs (λ a b. a.at + 4 ≤ b.at) sites → list_any (same_site s) sites ≡ true → target_at sites s.at ≡ Some (record { object = s.object; offset = s.offset })
-target_found [] s apart found = absurd (cc)
-target_found (first ∷ sites) s apart found =
-    elim (either (same_site s first) (list_any (same_site s) sites) found) [
-      | inl here ↦
-          let same = same_parts s first here in
-          let at : (first.at == s.at) ≡ true = let is = same.at in grind (arith, nat_tests, is) in
-          let object = sym same.object in
-          let offset = sym same.offset in
-          rw (at, object, offset) refl
-      | inr later ↦
-          let there = element_found (same_site s) sites s later in
-          let below = there.1.0 in
-          let same = same_parts s (slice_index_or sites there.0 s) there.1.1 in
-          let order : first.at + 4 ≤ (slice_index_or sites there.0 s).at = apart 0 (suc there.0) s (omega arith) (omega (arith, below)) in
-          let at : (first.at == s.at) ≡ false = let is = same.at in grind (arith, nat_tests, is, order) in
-          rw at (target_found sites s (later_pairs (λ (a b : Site). a.at + 4 ≤ b.at) first sites apart) later)
-    ]
 
 -- ---- relocations
 
@@ -277,4 +240,4 @@ high_target v g t i is below high =
     both_pass ((r.at == r.at) && makes_part Hi r.kind) _ (both_pass (r.at == r.at) (makes_part Hi r.kind) (same_number r.at) kind) as_at in
     let listed : is_site_of_list v g.objects.items s ≡ true =
     both_pass (nat_lt t.object (length g.objects.items)) _ (grind (arith, nat_tests, below)) (any_at (gives_site v g.objects.items s) (length v.relocs) i high.makes.means.below passes) in
-    target_found g.sites.items s is.apart (is.exact s ∙ listed)
+    found_target g.sites.items s.at s is.apart (is.exact s ∙ listed) refl

@@ -25,6 +25,7 @@ use Rattle.object_machine.specs.Calls.{a0, a1, a2, a7, answered, exits, and_byte
 use Rattle.object_machine.specs.Step.{loads_from, stores_to, load_place, store_place, acts, one_word, next_state}
 use Rattle.object_machine.specs.Paired.{at_start, is_paired_site, uses_base, is_paired_by, is_paired_step}
 use Rattle.result_setups.specs.Moved.{unnamed}
+use Rattle.std.proofs.Math.Bool.{and-false, or-true}
 
 module _ (p : Program) where
   abbrev q : Program
@@ -161,16 +162,8 @@ module _ (p : Program) where
     plain (Hi o d) = refl
     plain x = refl
 
-    and_false : (b : Bool) → b && false ≡ false
-    and_false true = refl
-    and_false false = refl
-
-    or_true : (b : Bool) → b || true ≡ true
-    or_true true = refl
-    or_true false = refl
-
     takes_none : (os : Objects) (kind : RegKind) (x y : Val) → takes_low os kind ByLui x ByLui y ≡ false
-    takes_none os kind x y = rw (plain x, plain y) (and_false (takes_lows kind))
+    takes_none os kind x y = rw (plain x, plain y) (and-false (takes_lows kind))
 
     site_paired : (rs1 : ℕ) (site : Option Target) → is_paired_site q s at_start rs1 site ≡ true
     site_paired rs1 None = refl
@@ -189,5 +182,5 @@ module _ (p : Program) where
     by_paired i = refl
 
     pub paired : (read : Option Instr) → is_paired_step q s at_start read ≡ true
-    paired (Some i) = ap (λ b. p.is_pair s.pc || b) (by_paired i) ∙ or_true (p.is_pair s.pc)
+    paired (Some i) = ap (λ b. p.is_pair s.pc || b) (by_paired i) ∙ or-true (p.is_pair s.pc)
     paired None = refl

@@ -9,7 +9,7 @@ use Rattle.word_bits.specs.Words.{plus}
 use Rattle.word_bits.specs.Memory.{Memory, put, put_bytes}
 use Rattle.elf_reader.specs.Loadable.{IsByte, AreBytes}
 use Rattle.board_config.specs.declared.board.Range.{Range}
-use Rattle.flat_machine.specs.Mapping.{is_mapped, all_mapped, can_move}
+use Rattle.flat_machine.specs.Mapping.{is_mapped, can_move}
 use Rattle.cell_values.specs.declared.values.Val.{Val}
 use Rattle.cell_values.specs.declared.values.Val.TheVariants.{Int, Addr}
 use Rattle.cell_values.specs.declared.values.Cell.{Cell}
@@ -24,6 +24,7 @@ use Rattle.object_machine.specs.Memory.{cell_at, stored_at}
 use Rattle.object_machine.specs.Calls.{put_input}
 use Rattle.object_machine.specs.Paired.{Makers, maker_at}
 use Rattle.simulation.specs.Setups.{Setup, Sound}
+use Rattle.simulation.proofs.Places.{all_mapped_each}
 
 -- what `Alike` says of memory
 pub record MemoryAlike (p : Program) (l : Setup) (r : ℕ) (s : SourceState) (m : Makers) (mem : Memory) : Type 0 where
@@ -102,13 +103,6 @@ read_too p (InObject o d) free = refl
 read_too p (Nowhere why) free = free
 
 -- bytes that are mapped and below 2 ^ 32 can be moved
-bytes_mapped : (map : List Range) (w n : ℕ) → ((i : ℕ) → i < n → is_mapped map (w + i) ≡ true) → all_mapped map w n ≡ true
-bytes_mapped map w zero each = refl
-bytes_mapped map w (suc n) each =
-    let earlier = bytes_mapped map w n (λ i before. each i (omega arith)) in
-    let last = each n (omega arith) in
-    rw (earlier, last) refl
-
 bytes_below : (w n : ℕ) → w < 4294967296 → ((i : ℕ) → i < n → w + i < 4294967296) → w + n ≤ 4294967296
 bytes_below w zero word each = omega arith
 bytes_below w (suc n) word each = let last = each n (omega arith) in omega arith
@@ -116,7 +110,7 @@ bytes_below w (suc n) word each = let last = each n (omega arith) in omega arith
 pub moves : (map : List Range) (w n : ℕ) → w < 4294967296 → ((i : ℕ) → i < n → w + i < 4294967296) → ((i : ℕ) → i < n → is_mapped map (w + i) ≡ true) → can_move map w n ≡ true
 moves map w n word below mapped =
     let ends = bytes_below w n word below in
-    let all = bytes_mapped map w n mapped in
+    let all = all_mapped_each map w n mapped in
     grind (arith, nat_tests)
 
 -- ---- bytes of memory

@@ -7,7 +7,7 @@ use Rattle.std.proofs.lemmas.List.Elements.{All-take, All-drop}
 use Rattle.list_checks.specs.First.{first_below}
 use Rattle.list_checks.proofs.FirstLemmas.{none_at}
 use Rattle.word_bits.specs.Words.{plus}
-use Rattle.word_bits.specs.Memory.{put, put_bytes, bytes_at}
+use Rattle.word_bits.specs.Memory.{put_bytes, bytes_at}
 use Rattle.rv_decode.specs.Table.{Means}
 use Rattle.rv_decode.specs.Acts.{register, with_register, used, defined}
 use Rattle.rv_decode.specs.declared.instructions.Instr.{Instr}
@@ -15,7 +15,6 @@ use Rattle.rv_decode.specs.declared.instructions.Instr.TheVariants.{Ecall}
 use Rattle.elf_reader.specs.Loadable.{IsByte, AreBytes}
 use Rattle.flat_machine.specs.declared.events.FlatOutcome as flat_outcome
 use Rattle.flat_machine.specs.Mapping.{can_move}
-use Rattle.flat_machine.specs.Sizes.{HasWords}
 use Rattle.flat_machine.specs.State.{State, trap}
 use Rattle.flat_machine.specs.Calls as flat
 use Rattle.cell_values.specs.declared.values.Val.{Val}
@@ -32,6 +31,7 @@ use Rattle.object_machine.specs.Memory.{cell_at, stored_at}
 use Rattle.object_machine.specs.Calls.{a0, a1, a2, a7, answered, exits, and_byte, plain_bytes, appends, unread, writes_from, writes, taken_count, unwritten, put_input, with_input, reads_into, reads, calls_number, calls_by}
 use Rattle.object_machine.specs.Paired.{Makers, maker_at}
 use Rattle.object_machine.specs.Step.{Reads, acts}
+use Rattle.flat_machine.proofs.Words.{answered_words}
 use Rattle.simulation.specs.Setups.{Setup}
 use Rattle.simulation.specs.Units.{StandsFor}
 use Rattle.simulation.specs.Relation.{Alike, After}
@@ -48,18 +48,6 @@ a0_alone k other has = found has.0 has.1 has.2
     found : (j : ℕ) → j < 1 → slice_index_or (10 ∷ []) j k ≡ k → ⊥
     found zero below same = other (sym same)
     found (suc j) below same = absurd (omega arith)
-
--- registers hold words behind an answer
-answered_words : (v : State) (n : ℕ) → n < 4294967296 → HasWords v → HasWords (flat.answered v n)
-unfolding put
-answered_words v n word words = record {
-  hart = record {
-    pc = omega arith;
-    regs = λ k. let before = words.hart.regs k in grind (arith, nat_tests);
-    mem = words.hart.mem;
-  };
-  input = words.input;
-}
 
 -- ---- what putting bytes leaves
 

@@ -1,5 +1,5 @@
 -- Branches and jumps, and what traps.
-use Rattle.std.proofs.Common.{◌≡◌, ℕ, ◌+◌, ◌*◌, ◌/◌, Bool, true, false, if◌then◌else◌, Option, Some, None, ℤ, refl, ap, subst, arith}
+use Rattle.std.proofs.Common.{◌≡◌, ◌∙◌, ℕ, ◌+◌, ◌*◌, ◌/◌, Bool, true, false, if◌then◌else◌, Option, Some, None, ℤ, refl, ap, subst, arith}
 use Rattle.std.proofs.lemmas.Bool.{cond_both}
 use Rattle.word_bits.specs.Words.{plus, offset}
 use Rattle.rv_decode.specs.Table.{Means}
@@ -17,7 +17,7 @@ use Rattle.cell_values.specs.Stands.{Stands}
 use Rattle.cell_values.proofs.Branches.{comparisons_stand}
 use Rattle.object_machine.specs.Program.{Program}
 use Rattle.object_machine.specs.State.{SourceState, value, wrote, trapped, faulted}
-use Rattle.object_machine.specs.Flow.{jumps_by, branches}
+use Rattle.object_machine.specs.Flow.{jumps, jumps_by, branches}
 use Rattle.object_machine.specs.Step.{Reads, acts, next_state}
 use Rattle.object_machine.specs.Paired.{Makers, makers_after}
 use Rattle.simulation.specs.Setups.{Setup}
@@ -30,32 +30,29 @@ use Rattle.simulation.proofs.Effects.{itself, no_writes, jumps_both, lands_both}
 module _ (p : Program) (l : Setup) (live arrive : ℕ → ℕ → Type 0) (r : ℕ) (s : SourceState) (m : Makers) (t : State) where
   -- ---- branches
 
+  -- one of which is known whether it is taken, and so where both machines go
+  branch_known : (kind : BranchKind) (rs1 rs2 : ℕ) (off : ℤ) → Ready p l live arrive r s m t → p.is_pair s.pc ≡ false → Reads (p.word s.pc) (Some (Branch kind rs1 rs2 off)) → Operand p l r rs1 s m t → Operand p l r rs2 s m t → (code : ℕ) → StandsAt l r s.pc code → Means code (Branch kind rs1 rs2 off) → (taken : Bool) (to : ℕ) → compare p.objects kind (value s.regs rs1) (value s.regs rs2) ≡ Some taken → branches p s off (Some taken) ≡ jumps p s to s → (if taken then offset t.hart.pc off else plus t.hart.pc 4) ≡ to → Leads 2 p l live arrive r (next_state p s (Some (Branch kind rs1 rs2 off))) (makers_after p s m (Some (Branch kind rs1 rs2 off))) t
+  branch_known kind rs1 rs2 off ready single reads first second code stands means taken to known leads lands =
+      let alike : is_taken kind (register t.hart.regs rs1) (register t.hart.regs rs2) ≡ taken =
+      comparisons_stand p.objects (l.place r) (l.upper r) ready.sound.fit kind (m.regs rs1) (m.regs rs2)
+      (value s.regs rs1) (value s.regs rs2) (register t.hart.regs rs1) (register t.hart.regs rs2) taken first.holds
+      second.holds known first.stands second.stands in
+      let c : ℕ =
+      if is_taken kind (register t.hart.regs rs1) (register t.hart.regs rs2) then offset t.hart.pc off else plus t.hart.pc 4 in
+      let same : c ≡ to = rw alike lands in
+      jumps_both p l live arrive r s m t (Branch kind rs1 rs2 off) ready single reads 0 0 (Int 0) m.regs code
+      (Branch kind rs1 rs2 off) t.hart.regs (λ k has. absurd (none_written k has)) (λ k other. refl) refl stands means
+      (no_writes t.hart.regs) refl (omega arith) to c (ap (branches p s off) known ∙ leads) refl same
+
   branch_at : (kind : BranchKind) (rs1 rs2 : ℕ) (off : ℤ) → Ready p l live arrive r s m t → p.is_pair s.pc ≡ false → Reads (p.word s.pc) (Some (Branch kind rs1 rs2 off)) → Operand p l r rs1 s m t → Operand p l r rs2 s m t → (code : ℕ) → StandsAt l r s.pc code → Means code (Branch kind rs1 rs2 off) → (known : Option Bool) → compare p.objects kind (value s.regs rs1) (value s.regs rs2) ≡ known → Leads 2 p l live arrive r (next_state p s (Some (Branch kind rs1 rs2 off))) (makers_after p s m (Some (Branch kind rs1 rs2 off))) t
   branch_at kind rs1 rs2 off ready single reads first second code stands means None known =
       faults_both p l live arrive r s m t (Branch kind rs1 rs2 off) ready single reads 7 (ap (branches p s off) known)
   branch_at kind rs1 rs2 off ready single reads first second code stands means (Some true) known =
-      let taken : is_taken kind (register t.hart.regs rs1) (register t.hart.regs rs2) ≡ true =
-      comparisons_stand p.objects (l.place r) (l.upper r) ready.sound.fit kind (m.regs rs1) (m.regs rs2)
-      (value s.regs rs1) (value s.regs rs2) (register t.hart.regs rs1) (register t.hart.regs rs2) true first.holds
-      second.holds known first.stands second.stands in
-      let c : ℕ =
-      if is_taken kind (register t.hart.regs rs1) (register t.hart.regs rs2) then offset t.hart.pc off else plus t.hart.pc 4 in
-      let same : c ≡ offset s.pc off = rw taken (ap (λ a. offset a off) ready.at) in
-      jumps_both p l live arrive r s m t (Branch kind rs1 rs2 off) ready single reads 0 0 (Int 0) m.regs code
-      (Branch kind rs1 rs2 off) t.hart.regs (λ k has. absurd (none_written k has)) (λ k other. refl) refl stands means
-      (no_writes t.hart.regs) refl (omega arith) (offset s.pc off) c (ap (branches p s off) known) refl same
+      branch_known kind rs1 rs2 off ready single reads first second code stands means true (offset s.pc off) known refl
+      (ap (λ a. offset a off) ready.at)
   branch_at kind rs1 rs2 off ready single reads first second code stands means (Some false) known =
-      let taken : is_taken kind (register t.hart.regs rs1) (register t.hart.regs rs2) ≡ false =
-      comparisons_stand p.objects (l.place r) (l.upper r) ready.sound.fit kind (m.regs rs1) (m.regs rs2)
-      (value s.regs rs1) (value s.regs rs2) (register t.hart.regs rs1) (register t.hart.regs rs2) false first.holds
-      second.holds known first.stands second.stands in
-      let c : ℕ =
-      if is_taken kind (register t.hart.regs rs1) (register t.hart.regs rs2) then offset t.hart.pc off else plus t.hart.pc 4 in
-      let same : c ≡ s.pc + 4 =
-      rw taken (next_pc p l live arrive r s m t (Branch kind rs1 rs2 off) ready single reads) in
-      jumps_both p l live arrive r s m t (Branch kind rs1 rs2 off) ready single reads 0 0 (Int 0) m.regs code
-      (Branch kind rs1 rs2 off) t.hart.regs (λ k has. absurd (none_written k has)) (λ k other. refl) refl stands means
-      (no_writes t.hart.regs) refl (omega arith) (s.pc + 4) c (ap (branches p s off) known) refl same
+      branch_known kind rs1 rs2 off ready single reads first second code stands means false (s.pc + 4) known refl
+      (next_pc p l live arrive r s m t (Branch kind rs1 rs2 off) ready single reads)
 
   pub branch_steps : (kind : BranchKind) (rs1 rs2 : ℕ) (off : ℤ) → StepsAs p l live arrive r s m t (Branch kind rs1 rs2 off)
   branch_steps kind rs1 rs2 off single ready reads paired =

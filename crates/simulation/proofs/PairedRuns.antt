@@ -1,5 +1,5 @@
 -- Runs of paired steps are runs, and so are their first steps; and where each upper part is a LUI's, all runs are paired.
-use Rattle.std.proofs.Common.{◌≡◌, ◌⊎◌, inl, inr, ℕ, zero, suc, ◌≤◌, Bool, true, false, not, ◌&&◌, ◌||◌, Option, Some, None, refl, sym, ◌∙◌, ap, subst, arith}
+use Rattle.std.proofs.Common.{◌≡◌, ◌⊎◌, inl, inr, ℕ, zero, suc, ◌≤◌, true, false, not, ◌&&◌, ◌||◌, Option, Some, None, refl, sym, ◌∙◌, ap, subst, arith}
 use Rattle.rv_decode.specs.Table.{OneInstruction, Means}
 use Rattle.rv_decode.specs.declared.instructions.Instr.{Instr}
 use Rattle.rv_decode.specs.declared.instructions.Instr.TheVariants.{Lui, Load, Store, OpImm, OpReg}
@@ -20,6 +20,7 @@ use Rattle.object_machine.specs.Paired.{Makers, makers_after, is_paired_site, us
 use Rattle.object_machine.proofs.RunLemmas.{ended_steps, ended_any_steps, one_run}
 use Rattle.simulation.specs.Made.{IsAuipcAt, IsMade, AreMade}
 use Rattle.simulation.proofs.MadeSteps.{next_made}
+use Rattle.std.proofs.Math.Bool.{and-false, or-true}
 
 -- ---- paired runs are runs
 
@@ -73,14 +74,6 @@ pub record HasLuisAlone (p : Program) : Type 0 where
   pub uppers : (a : ℕ) (t : Target) → p.site a ≡ Some t → IsAuipcAt p a → ⊥
   pub lows : (a : ℕ) (t : Target) → p.site a ≡ Some t → IsLuiAt p a ⊎ (p.named a ≡ None)
 
-and_false : (b : Bool) → b && false ≡ false
-and_false true = refl
-and_false false = refl
-
-or_true : (b : Bool) → b || true ≡ true
-or_true true = refl
-or_true false = refl
-
 ended_pairs : (o : Outcome) (rest : SourceState → Makers → SourceState → Type 0) (p : Program) (s t : SourceState) (m : Makers) → HasEnded o → t ≡ s → PairedFrom o rest p s m t
 ended_pairs GoesOn rest p s t m ended stays = absurd ended
 ended_pairs (Exited code) rest p s t m ended stays = stays
@@ -99,7 +92,7 @@ module _ (one : OneInstruction) (p : Program) (alone : HasLuisAlone p) where
   by_lui maker x made = refl
 
   takes_none : (os : Objects) (kind : RegKind) (m n : Maker) (x y : Val) → is_by_auipc m x ≡ false → is_by_auipc n y ≡ false → takes_low os kind m x n y ≡ false
-  takes_none os kind m n x y first second = rw (first, second) (and_false (takes_lows kind))
+  takes_none os kind m n x y first second = rw (first, second) (and-false (takes_lows kind))
 
   module _ (s : SourceState) (m : Makers) (made : AreMade p s m) where
     own : (k : ℕ) → is_by_auipc (m.regs k) (value s.regs k) ≡ false
@@ -134,7 +127,7 @@ module _ (one : OneInstruction) (p : Program) (alone : HasLuisAlone p) where
     by_paired i means = refl
 
     step_paired : (read : Option Instr) → Reads (p.word s.pc) read → is_paired_step p s m read ≡ true
-    step_paired (Some i) reads = ap (λ b. p.is_pair s.pc || b) (by_paired i reads) ∙ or_true (p.is_pair s.pc)
+    step_paired (Some i) reads = ap (λ b. p.is_pair s.pc || b) (by_paired i reads) ∙ or-true (p.is_pair s.pc)
     step_paired None reads = refl
 
   -- behind a step: the machine goes on, or stays

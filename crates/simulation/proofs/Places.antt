@@ -84,7 +84,7 @@ same_aligned width (inr (inr is)) place home d same aligned = rw is (let other =
 
 -- ---- where an address goes
 
-all_mapped_each : (map : List Range) (at n : ℕ) → ((i : ℕ) → i < n → is_mapped map (at + i) ≡ true) → all_mapped map at n ≡ true
+pub all_mapped_each : (map : List Range) (at n : ℕ) → ((i : ℕ) → i < n → is_mapped map (at + i) ≡ true) → all_mapped map at n ≡ true
 all_mapped_each map at zero each = refl
 all_mapped_each map at (suc n) each =
     let before = all_mapped_each map at n (λ i below. each i (omega arith)) in
