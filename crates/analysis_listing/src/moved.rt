@@ -8,7 +8,7 @@ ghost use Rattle.placement_programme.specs.Rows.{data_span, rounded_up};
 ghost use Rattle.placement_programme.specs.Views.{plain_side};
 ghost use Rattle.relocator.specs.declared.slots.Slot.{Slot};
 ghost use Rattle.relocator.specs.Placing.{rows_of, IsTable};
-ghost use Rattle.relocator.specs.Space.{datum_of};
+ghost use Rattle.cell_values.specs.Objects.{datum_of};
 ghost use Rattle.relocator.specs.Examples.{table_side};
 ghost use Rattle.relinking.specs.Runs.{IsAnalysed};
 

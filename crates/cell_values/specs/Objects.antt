@@ -3,6 +3,7 @@ use Rattle.std.specs.Prelude.{◌≡◌, ◌⊎◌, ℕ, ◌%◌, ◌<◌, Bool,
 use Rattle.word_bits.specs.Words.{plus}
 use Rattle.object_graph.specs.declared.parts.Object.{Object}
 use Rattle.object_graph.specs.declared.parts.Graph.{Graph}
+use Rattle.placement_programme.specs.Rows.{Datum}
 use Rattle.cell_values.specs.declared.values.Val.{Val}
 use Rattle.cell_values.specs.declared.values.Val.TheVariants.{Int, Addr, Hi, Low, Piece, Unknown}
 
@@ -24,6 +25,16 @@ absent_object = record { name = 0; home = 64; size = 0; writable = false }
 
 abbrev pub object_of : Graph → ℕ → Object
 object_of g o = slice_index_or g.objects.items o absent_object
+
+-- the same as a datum of a placement programme
+abbrev pub datum_of : Graph → ℕ → Datum
+datum_of g o =
+    record {
+      number = o;
+      home = (object_of g o).home;
+      size = (object_of g o).size;
+      writable = (object_of g o).writable;
+    }
 
 -- the objects of a graph
 abbrev pub objects_of : Graph → Objects

@@ -1,7 +1,7 @@
 -- The energy of a run where objects alone are taken.
 use Rattle.std.proofs.Common.{◌≡◌, ◌∙◌, inl, inr, ℕ, zero, suc, ◌+◌, ◌*◌, ◌<◌, ◌≤◌, ◌==◌, Bool, true, false, ◌&&◌, ◌||◌, if◌then◌else◌, List, [], ◌∷◌, length, map, is_some, Option, Some, None, refl, ap, arith}
 use Rattle.std.specs.List.{All}
-use Rattle.std.proofs.lemmas.Bool.{cases_eq, cases_lt}
+use Rattle.std.proofs.lemmas.Bool.{cases_eq}
 use Rattle.std.proofs.lemmas.Bool.Decides.{nat_tests}
 use Rattle.list_checks.specs.Sorted.{count_below}
 use Rattle.rv_decode.specs.declared.instructions.Instr.{Instr}
@@ -12,14 +12,14 @@ use Rattle.placement_programme.specs.declared.variables.VarName.{VarName}
 use Rattle.placement_programme.specs.declared.variables.VarName.TheVariants.{StaticData}
 use Rattle.profile_runner.specs.Move.{Move, move_at}
 use Rattle.profile_runner.specs.Standing.{number_of, begins, region_of, entered, current}
-use Rattle.profile_runner.specs.Counts.{same_direction, is_access_to, accesses_of}
-use Rattle.energy_model.specs.Forms.{Body, unit_in, sum_below}
-use Rattle.energy_model.specs.Energy.{Scene, Taken, Piece, piece_of, is_fast, starts_of, block_in, block_at, unit_number, region_with, form_words, fetch_price, words_price, read_price, write_price, is_fast_access, data_price, access_price, comes_from_outside, arrival_price, way_price, step_energy, steps_energy}
-use Rattle.energy_model.specs.Stated.{nothing_taken}
+use Rattle.profile_runner.specs.Counts.{same_direction, is_access_to, accesses_of, sum_below}
+use Rattle.profile_runner.proofs.CountLemmas.{sum_same, sum_more as grown_by}
+use Rattle.energy_model.specs.Forms.{Body, unit_in}
+use Rattle.energy_model.specs.Energy.{Scene, Taken, Piece, piece_of, is_fast, starts_of, block_in, block_at, unit_number, region_with, form_words, fetch_price, words_price, read_price, write_price, is_fast_access, data_price, access_price, comes_from_outside, arrival_price, way_price, step_energy, steps_energy, nothing_taken}
 use Rattle.energy_model.specs.Priced.{price_at, direction_price, touch_price, touches_price}
 use Rattle.energy_model.proofs.StepLemmas.{IsAccessOf}
 use Rattle.energy_model.proofs.SceneLemmas.{unit_of_move, Follows}
-use Rattle.energy_model.proofs.SumLemmas.{sum_same, sum_two, block_sum, blocks_sum, moves_sum, ran}
+use Rattle.energy_model.proofs.SumLemmas.{sum_zero, sum_two, block_sum, blocks_sum, moves_sum, ran}
 
 -- ---- a step where objects alone are taken
 
@@ -172,43 +172,12 @@ touches_are w ms fast o = touches_below w.board.prices ms fast o (length ms)
 
 -- ---- by regions
 
-in_region : (b : Bool) (r k : ℕ) → (r ≡ k → ⊥) → ◌≡◌ {A = ℕ} (if b && (r == k) then 1 else 0) 0
-in_region true r k differs = let test : (r == k) ≡ false = grind (arith, nat_tests, differs) in rw test refl
-in_region false r k differs = refl
-
-in_this : (b : Bool) (r k : ℕ) → r ≡ k → ◌≡◌ {A = ℕ} (if b && (r == k) then 1 else 0) (if b then 1 else 0)
-in_this true r k same = let test : (r == k) ≡ true = grind (arith, nat_tests, same) in rw test refl
-in_this false r k same = refl
-
-one_place : (f g : ℕ → ℕ) (b : Bool) (r n : ℕ) → r < n → ((k : ℕ) → g k ≡ f k + (if b && (r == k) then 1 else 0)) → sum_below g n ≡ sum_below f n + (if b then 1 else 0)
-one_place f g b r zero below more = absurd (omega (arith, below))
-one_place f g b r (suc n) below more =
-    let here = more n in
-    elim (cases_lt r n) [
-      | inl earlier ↦
-          let sum = one_place f g b r n earlier more in
-          let not_here = in_region b r n (λ same. absurd (omega (arith, same, earlier))) in
-          omega (arith, here, sum, not_here)
-      | inr last ↦
-          let same : r ≡ n = omega (arith, last, below) in
-          let rest = sum_same g f n (λ k inside.
-          let now = more k in
-          let not_now = in_region b r k (λ is. absurd (omega (arith, is, inside, last))) in
-          omega (arith, now, not_now)) in
-          let now = in_this b r n same in
-          omega (arith, here, rest, now)
-    ]
-
-sum_nothing : (n : ℕ) → sum_below (λ r. 0) n ≡ 0
-sum_nothing zero = refl
-sum_nothing (suc n) = let earlier = sum_nothing n in omega (arith, earlier)
-
 split_below : (test : ℕ → Bool) (now : ℕ → ℕ) (last n : ℕ) → ((i : ℕ) → now i ≤ last) → sum_below (λ r. count_below (λ i. test i && (now i == r)) n) (suc last) ≡ count_below test n
-split_below test now last zero within = sum_nothing (suc last)
+split_below test now last zero within = sum_zero (λ r. 0) (suc last) (λ r below. refl)
 split_below test now last (suc n) within =
     let earlier = split_below test now last n within in
     let at = within n in
-    let more = one_place (λ r. count_below (λ i. test i && (now i == r)) n) (λ r. count_below (λ i. test i && (now i == r)) (suc n)) (test n) (now n) (suc last) (omega (arith, at)) (λ r. refl) in
+    let more = grown_by (λ r. count_below (λ i. test i && (now i == r)) n) (λ r. count_below (λ i. test i && (now i == r)) (suc n)) (test n) (now n) (suc last) (omega (arith, at)) (λ r below. refl) in
     omega (arith, earlier, more)
 
 region_fits : (regions : List ℕ) (last k : ℕ) → All (λ r. r ≤ last) regions → region_of regions k ≤ last

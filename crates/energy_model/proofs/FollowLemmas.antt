@@ -22,25 +22,22 @@ use Rattle.code_leaders.proofs.LeaderLemmas.{leader_is_code, indirect_is_leader}
 use Rattle.code_leaders.proofs.MeaningLemmas.{passes_test, row_of}
 use Rattle.code_leaders.proofs.SearchLemmas.{has_at}
 use Rattle.code_blocks.specs.Ends.{words_left}
-use Rattle.code_blocks.specs.Blocks.{goes_on, unit_addresses, unit_at, start_of, IsUnit, IsBlock, IsCode}
+use Rattle.code_blocks.specs.Blocks.{goes_on, start_of, IsUnit, IsBlock, IsCode}
 use Rattle.code_blocks.specs.declared.parts.Unit.{Unit}
 use Rattle.code_blocks.specs.declared.parts.Block.{Block}
 use Rattle.code_blocks.specs.declared.parts.Function.{Function}
 use Rattle.code_blocks.specs.declared.parts.Code.{Code}
-use Rattle.object_machine.specs.declared.events.Outcome.{Outcome}
-use Rattle.object_machine.specs.declared.events.Outcome.TheVariants.{GoesOn, Exited, Trapped, AddressFault}
+use Rattle.object_machine.specs.declared.events.Outcome.TheVariants.{GoesOn}
 use Rattle.object_machine.specs.Program.{Program, program_of, falls_from}
 use Rattle.object_machine.specs.State.{SourceState}
 use Rattle.object_machine.specs.Step.{Reads, next_state}
-use Rattle.object_machine.specs.Runs.{HasEnded}
 use Rattle.object_machine.specs.Units.{leads_on}
-use Rattle.object_machine.proofs.ChainLemmas.{chain, is_chain, chain_some, chain_at}
-use Rattle.object_machine.proofs.RangeLemmas.{left_at, some_left}
+use Rattle.object_machine.proofs.ChainLemmas.{chain, is_chain}
 use Rattle.object_machine.proofs.MeaningLemmas.{LeadsOn, leads_further}
-use Rattle.object_machine.proofs.BlockLemmas.{nth_unit}
+use Rattle.object_machine.proofs.BlockLemmas.{nth_unit, unit_count, some_units}
 use Rattle.profile_runner.specs.Move.{Move, move_at}
 use Rattle.profile_runner.specs.Standing.{number_of, block_of, units_run}
-use Rattle.energy_model.proofs.LeadLemmas.{Leads, leads_read, straight, next_leads}
+use Rattle.object_machine.proofs.LeadLemmas.{Leads, leads_read, straight, next_leads, not_ended}
 use Rattle.energy_model.proofs.StepLemmas.{StepAt}
 
 -- ---- units that lead to the next word
@@ -182,28 +179,6 @@ number_found (x ∷ xs) a d found =
 
 -- ---- the units of a block
 
-pub unit_count : (v : PlainView) (b : Block) (functions : List Function) → IsBlock v functions b → length b.units.items ≡ length (unit_addresses v b.start (words_left v b.start))
-unit_count v b functions block = sym (length-map b.units.items unit_at) ∙ ap length block.addresses
-
-pub unit_address : (v : PlainView) (b : Block) (functions : List Function) (k : ℕ) (d : Unit) → IsBlock v functions b → k < length b.units.items → (slice_index_or b.units.items k d).at ≡ b.start + 4 * k
-unit_address v b functions k d block below =
-    let count = unit_count v b functions block in
-    let same = is_chain v b.start (words_left v b.start) in
-    let here : slice_index_or (map unit_at b.units.items) k 0 ≡ (slice_index_or b.units.items k d).at = get_or-map unit_at b.units.items k d 0 below in
-    sym here
-    ∙ (ap (λ (xs : List ℕ). slice_index_or xs k 0) (block.addresses ∙ same)
-    ∙ chain_at (goes_on v) b.start (words_left v b.start) k (omega (arith, below, count, ap length same)))
-
-some_units : (view : ElfView) (b : Block) (functions : List Function) → IsRead view → is_code_word (plain_view view) b.start ≡ true → IsBlock (plain_view view) functions b → 0 < length b.units.items
-some_units view b functions read code block =
-    let v = plain_view view in
-    let (range, has_left) = left_at view b.start read code in
-    let some = some_left view b.start range has_left in
-    let same = ap length (is_chain v b.start (words_left v b.start)) in
-    let one = chain_some (goes_on v) b.start (words_left v b.start) some in
-    let count = unit_count v b functions block in
-    omega (arith, count, same, one)
-
 -- inside a block a unit goes on
 goes_inside : (v : PlainView) (b : Block) (functions : List Function) (k : ℕ) → IsBlock v functions b → suc k < length b.units.items → goes_on v (b.start + 4 * k) ≡ true
 goes_inside v b functions k block more =
@@ -228,12 +203,6 @@ falls_out view board g b functions k read is_read code block last reads leads fa
     ]
 
 -- ---- where a step leads that goes on
-
-not_ended : (o : Outcome) → o ≡ GoesOn → HasEnded o → ⊥
-not_ended GoesOn is ended = ended
-not_ended (Exited code) is ended = cc
-not_ended (Trapped pc) is ended = cc
-not_ended (AddressFault pc why) is ended = cc
 
 leads_next : (p : Program) (s t : SourceState) (l : Bool) → l ≡ true → t.outcome ≡ GoesOn → Leads l p s t → (t.pc ≡ s.pc + 4) × (p.falls s.pc ≡ true)
 leads_next p s t true is going (inl ended) = absurd (not_ended t.outcome going ended)

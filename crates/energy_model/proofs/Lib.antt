@@ -1,13 +1,7 @@
-pub mod LeadLemmas
 pub mod StepLemmas
 pub mod FollowLemmas
 pub mod SceneLemmas
 pub mod SumLemmas
 pub mod EnergyLemmas
-pub mod LimitLemmas
-pub mod SpanLemmas
-pub mod CountedLemmas
-pub mod StatedLemmas
-pub mod SelectLemmas
-pub mod AddingLemmas
-pub mod ChoiceLemmas
+pub mod PriceLemmas
+pub mod BaseLemmas

@@ -13,15 +13,16 @@ use Rattle.code_blocks.specs.declared.parts.Block.{Block}
 use Rattle.code_blocks.specs.declared.parts.Code.{Code}
 use Rattle.object_machine.specs.Program.{Program, program_of}
 use Rattle.object_machine.specs.Step.{next_state, access_of}
+use Rattle.object_machine.proofs.BlockLemmas.{unit_address}
 use Rattle.region_former.specs.declared.table.RegionTable.{RegionTable}
 use Rattle.profile_runner.specs.declared.counts.Profile.{Profile}
 use Rattle.profile_runner.specs.Move.{Move, is_going, move_at}
 use Rattle.profile_runner.specs.Standing.{begins, units_run}
 use Rattle.energy_model.specs.Forms.{Body, body_of, unit_in, no_unit}
 use Rattle.energy_model.specs.Energy.{Scene, starts_of, no_body, block_in, block_at, unit_number}
-use Rattle.energy_model.specs.Stated.{scene_of, IsOfOneFile}
+use Rattle.energy_model.specs.Scenes.{scene_of, IsOfOneFile}
 use Rattle.energy_model.proofs.StepLemmas.{StepAt, step_at, first_move, IsAccessOf, access_is}
-use Rattle.energy_model.proofs.FollowLemmas.{IsRunIn, IsPlaced, placed, whole, unit_address, unit_reads, unit_words, few_units}
+use Rattle.energy_model.proofs.FollowLemmas.{IsRunIn, IsPlaced, placed, whole, unit_reads, unit_words, few_units}
 
 -- the unit of move `i`
 abbrev pub unit_of_move : Scene → List Move → ℕ → Unit

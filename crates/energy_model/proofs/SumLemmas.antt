@@ -5,18 +5,12 @@ use Rattle.std.proofs.lemmas.Bool.Decides.{nat_tests}
 use Rattle.list_checks.specs.Sorted.{count_below}
 use Rattle.profile_runner.specs.Move.{Move, move_at}
 use Rattle.profile_runner.specs.Standing.{number_of, begins, units_run}
-use Rattle.energy_model.specs.Forms.{sum_below}
+use Rattle.profile_runner.specs.Counts.{sum_below}
+use Rattle.profile_runner.proofs.CountLemmas.{sum_same}
 use Rattle.energy_model.specs.Energy.{Scene, starts_of, block_in, block_at, unit_number}
 use Rattle.energy_model.proofs.SceneLemmas.{Follows}
 
 -- ---- sums
-
-pub sum_same : (f g : ℕ → ℕ) (n : ℕ) → ((k : ℕ) → k < n → f k ≡ g k) → sum_below f n ≡ sum_below g n
-sum_same f g zero same = refl
-sum_same f g (suc n) same =
-    let earlier = sum_same f g n (λ k below. same k (omega (arith, below))) in
-    let here = same n (omega arith) in
-    omega (arith, earlier, here)
 
 pub sum_zero : (f : ℕ → ℕ) (n : ℕ) → ((k : ℕ) → k < n → f k ≡ 0) → sum_below f n ≡ 0
 sum_zero f zero none = refl
@@ -36,6 +30,18 @@ sum_more f k (suc n) le =
       | inl less ↦ let earlier = sum_more f k n (omega (arith, less)) in omega (arith, earlier)
       | inr all ↦ let same : k ≡ suc n = omega (arith, all, le) in rw same (omega arith)
     ]
+
+-- a term of a sum
+pub term_small : (f : ℕ → ℕ) (k n bound : ℕ) → k < n → sum_below f n < bound → sum_below f k + f k < bound
+term_small f k n bound below small = let more = sum_more f (suc k) n below in omega (arith, more, small)
+
+pub sum_small : (f : ℕ → ℕ) (bound n : ℕ) → ((k : ℕ) → k < n → f k ≤ bound) → sum_below f n ≤ n * bound
+sum_small f bound zero each = omega arith
+sum_small f bound (suc n) each =
+    let earlier = sum_small f bound n (λ k below. each k (omega (arith, below))) in
+    let here = each n (omega arith) in
+    let times : suc n * bound ≡ n * bound + bound = grind arith in
+    omega (arith, earlier, here, times)
 
 -- one more at place `k`
 one_more : (c d x : ℕ) → d ≡ c + 1 → d * x ≡ c * x + x

@@ -17,7 +17,8 @@ use Rattle.placement_programme.specs.declared.variables.VarName.{VarName}
 use Rattle.placement_programme.specs.declared.variables.VarName.TheVariants.{StaticData, StaticCode, OverlayData, OverlayCode}
 use Rattle.profile_runner.specs.Move.{Move, move_at}
 use Rattle.profile_runner.specs.Standing.{number_of, begins, block_of, units_run, current}
-use Rattle.energy_model.specs.Forms.{Body, body_of, kind_of, unit_in, copied_words, fall_out_words, displaced_words, block_size, sum_below, is_last}
+use Rattle.profile_runner.specs.Counts.{sum_below}
+use Rattle.energy_model.specs.Forms.{Body, body_of, kind_of, unit_in, copied_words, fall_out_words, displaced_words, block_size, is_last}
 
 -- ---- what a choice is about
 
@@ -34,6 +35,10 @@ pub record Scene : Type 0 where
 pub record Taken : Type 0 where
   pub on : Bool
   pub names : List VarName
+
+-- nothing is taken
+abbrev pub nothing_taken : Taken
+nothing_taken = record { on = false; names = [] }
 
 -- ---- where things stand under a choice
 

@@ -1,12 +1,13 @@
 -- How many words run for a unit: at its home, in a copy of its block, or displaced from the start of its block to
 -- make room for a jump. A copy may stand anywhere, so what is relative to the pc takes more words there.
-use Rattle.std.specs.Prelude.{ℕ, zero, suc, ◌+◌, ◌==◌, Bool, not, ◌&&◌, ◌||◌, if◌then◌else◌, List, length, slice_index_or, Option, Some, None}
+use Rattle.std.specs.Prelude.{ℕ, suc, ◌+◌, ◌==◌, Bool, not, ◌&&◌, ◌||◌, if◌then◌else◌, List, length, slice_index_or, Option, Some, None}
 use Rattle.rv_decode.specs.declared.instructions.Instr.{Instr}
 use Rattle.rv_decode.specs.declared.instructions.Instr.TheVariants.{Auipc, Ebreak}
 use Rattle.code_blocks.specs.declared.parts.Unit.{Unit}
 use Rattle.code_blocks.specs.declared.parts.Block.{Block}
 use Rattle.code_blocks.specs.declared.ends.End.{End}
 use Rattle.code_blocks.specs.declared.ends.End.TheVariants as end
+use Rattle.profile_runner.specs.Counts.{sum_below}
 
 -- ---- the units of a block, and how it ends
 
@@ -115,10 +116,6 @@ abbrev pub fall_out_size : (ℕ → Bool) → End → ℕ
 fall_out_size inside (end.Fall behind) = if inside behind then 0 else 2
 fall_out_size inside (end.Branch target behind) = if inside behind then 0 else 2
 fall_out_size inside other = 0
-
-abbrev pub sum_below : (ℕ → ℕ) → ℕ → ℕ
-sum_below f zero = 0
-sum_below f (suc n) = sum_below f n + f n
 
 abbrev pub block_size : (ℕ → Bool) → (ℕ → Bool) → Body → ℕ
 block_size is_site inside b =

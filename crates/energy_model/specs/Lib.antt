@@ -1,11 +1,8 @@
 pub use Rattle.object_machine.specs.Machine
 pub use Rattle.placement_programme.specs.Rows
-pub use Rattle.placement_programme.specs.Views
 pub use Rattle.profile_runner.specs.Moves
 pub mod Forms
 pub mod Energy
-pub mod Stated
+pub mod Scenes
 pub mod Priced
-pub mod Counted
-pub mod Selected
-pub mod Adding
+pub mod Base

@@ -5,7 +5,8 @@ use Rattle.code_leaders.specs.Early.{has}
 use Rattle.code_blocks.specs.declared.parts.Unit.{Unit}
 use Rattle.object_machine.specs.declared.events.Access.{Access}
 use Rattle.profile_runner.specs.Move.{Move, move_at}
-use Rattle.energy_model.specs.Forms.{unit_in, no_unit, sum_below}
+use Rattle.profile_runner.specs.Counts.{sum_below}
+use Rattle.energy_model.specs.Forms.{unit_in, no_unit}
 use Rattle.energy_model.specs.Energy.{Scene, block_in, read_price, write_price, data_price}
 
 -- ---- units

@@ -1,5 +1,5 @@
 ghost use Rattle.std.specs.Prelude.{◌≡◌, ◌+◌, ◌-◌, ◌*◌, ◌^◌, ◌<◌, ◌≤◌, length, slice_index_or};
-ghost use Rattle.energy_model.specs.Counted.{body_in, body_price, arrived_price, part_price, CountsEnergy, IsCounted};
+ghost use Rattle.energy_model.specs.Base.{body_in, body_price, arrived_price, part_price, CountsEnergy, IsCounted};
 
 use crate::units::{block_price, part_price};
 use board_config::Prices;
@@ -57,7 +57,7 @@ fn difference(whole: u128, part: u128, last: u128) -> u128
 /// What a run costs with all code and data in main memory, by its profile.
 ///
 /// Each block ran whole as often as it began, but the last one, whose last unit may have ended the run.
-pub(crate) fn base_of(blocks: &[Block], profile: &Profile, prices: &Prices) -> u128
+pub fn base_of(blocks: &[Block], profile: &Profile, prices: &Prices) -> u128
     requires { CountsEnergy prices.now blocks.now profile.now }
     ensures { IsCounted prices.now blocks.now profile.now result }
 {

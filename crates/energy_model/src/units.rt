@@ -2,7 +2,7 @@ ghost use Rattle.std.specs.Prelude.{◌≡◌, ◌+◌, ◌*◌, ◌<◌, ◌≤
 ghost use Rattle.energy_model.specs.Forms.{unit_in};
 ghost use Rattle.energy_model.specs.Energy.{data_price};
 ghost use Rattle.energy_model.specs.Priced.{unit_price, units_price};
-ghost use Rattle.energy_model.specs.Counted.{body_in, body_price, ended_price, part_price};
+ghost use Rattle.energy_model.specs.Base.{body_in, body_price, ended_price, part_price};
 
 use board_config::Prices;
 use code_blocks::{Block, Unit};

@@ -5,7 +5,7 @@ use Rattle.std.proofs.lemmas.List.{get_or-map, length-map}
 use Rattle.std.proofs.lemmas.List.Sums.{sum_by-cons}
 use Rattle.board_config.specs.declared.board.Board.{Board}
 use Rattle.object_graph.specs.declared.parts.Graph.{Graph}
-use Rattle.cell_values.specs.Objects.{objects_of}
+use Rattle.cell_values.specs.Objects.{objects_of, datum_of}
 use Rattle.placement_programme.specs.declared.variables.VarName.{VarName}
 use Rattle.placement_programme.specs.declared.variables.VarName.TheVariants.{StaticData, StaticCode, OverlayData, OverlayCode}
 use Rattle.placement_programme.specs.Plain.{PlainVar, PlainSide, PlainProgramme, PlainChoice}
@@ -14,7 +14,7 @@ use Rattle.placement_programme.specs.Programme.{weight_in, weights_at, weight_at
 use Rattle.placement_programme.specs.Rows.{Layout, Candidate, static_data, data_span, off_weights, off_capacities}
 use Rattle.relocator.specs.Slots.{region_of, no_var, name_at, item_at, items_in, vars_for, slots_of}
 use Rattle.relocator.specs.Placing.{chosen_slots}
-use Rattle.relocator.specs.Space.{datum_of, IsVariable, HoldsIn, HasSpace, IsSpaceOf}
+use Rattle.relocator.specs.Space.{IsVariable, HoldsIn, HasSpace, IsSpaceOf}
 use Rattle.relocator.specs.Laws.{CanLayOut}
 use Rattle.result_setups.specs.Placing.{spans, AreTwo}
 use Rattle.relink_core.specs.Faults.{least_patch}

@@ -16,9 +16,10 @@ use Rattle.placement_programme.specs.Plain.{PlainVar, PlainChoice, PlainFullVar}
 use Rattle.placement_programme.specs.Programme.{Fits, side_for, IsFeasible}
 use Rattle.placement_programme.specs.Rows.{Layout, static_data, off_weights}
 use Rattle.energy_model.specs.Energy.{Scene}
-use Rattle.energy_model.specs.Stated.{scene_of, layout_of, data_var, data_vars}
-use Rattle.energy_model.specs.Selected.{no_var, var_in, is_kept, plain_kept, kept_below, stated}
-use Rattle.relocator.specs.Space.{datum_of}
+use Rattle.energy_model.specs.Scenes.{scene_of, layout_of}
+use Rattle.placement_candidates.specs.Stated.{data_var, data_vars}
+use Rattle.placement_candidates.specs.Selected.{no_var, var_in, is_kept, plain_kept, kept_below, stated}
+use Rattle.cell_values.specs.Objects.{datum_of}
 use Rattle.relink_core.specs.Choices.{StandsBefore, AreInOrder, IsDataSide, IsDataChoice}
 
 module _ (board : Board) (g : Graph) (c : Code) (t : RegionTable) (moves : List Move) where

@@ -13,7 +13,7 @@ use Rattle.placement_programme.specs.Plain.{PlainVar, PlainSide, PlainProgramme,
 use Rattle.placement_programme.specs.Programme.{IsFeasible}
 use Rattle.placement_programme.specs.Rows.{Layout, static_data, off_capacities, off_weights}
 use Rattle.relocator.specs.Slots.{name_at}
-use Rattle.relocator.specs.Space.{datum_of}
+use Rattle.cell_values.specs.Objects.{datum_of}
 use Rattle.result_setups.specs.Absolute.{IsAbsolute}
 use Rattle.result_setups.specs.MovedLaws.{KeepsRuns}
 use Rattle.relink_core.specs.declared.analysis.Analysis.{Analysis}

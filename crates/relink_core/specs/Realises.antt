@@ -12,7 +12,7 @@ use Rattle.elf_writer.specs.Conditions.{PatchesLoadedWord, AreOfTwoSymbols}
 use Rattle.board_config.specs.declared.board.Board.{Board}
 use Rattle.loaded_file.specs.Ranges.{is_symbol_of}
 use Rattle.object_graph.specs.declared.parts.Graph.{Graph}
-use Rattle.cell_values.specs.Objects.{object_of}
+use Rattle.cell_values.specs.Objects.{object_of, datum_of}
 use Rattle.overlay_stubs.specs.Start.{start_at}
 use Rattle.overlay_stubs.specs.Plans.{AreStartWords}
 use Rattle.placement_programme.specs.declared.variables.VarName.{VarName}
@@ -22,7 +22,6 @@ use Rattle.relocator.specs.declared.items.Item.{Item}
 use Rattle.relocator.specs.declared.slots.Slot.{Slot}
 use Rattle.relocator.specs.Slots.{slots_of}
 use Rattle.relocator.specs.Placing.{placed}
-use Rattle.relocator.specs.Space.{datum_of}
 use Rattle.result_setups.specs.Placing.{Placing, IsPlacing}
 use Rattle.result_setups.specs.Moved.{start_plan, IsMovedView}
 

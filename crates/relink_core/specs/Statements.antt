@@ -7,8 +7,8 @@ use Rattle.region_former.specs.declared.table.RegionTable.{RegionTable}
 use Rattle.profile_runner.specs.Move.{Move}
 use Rattle.placement_programme.specs.Plain.{PlainChoice}
 use Rattle.placement_programme.specs.Programme.{IsFeasible}
-use Rattle.energy_model.specs.Stated.{scene_of, layout_of}
-use Rattle.energy_model.specs.Selected.{stated}
+use Rattle.energy_model.specs.Scenes.{scene_of, layout_of}
+use Rattle.placement_candidates.specs.Selected.{stated}
 use Rattle.relink_core.specs.Choices.{IsDataChoice}
 
 -- a feasible choice of the programme that the moves of a run state for static data can be realised: its side is the

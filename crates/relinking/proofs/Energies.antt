@@ -17,16 +17,16 @@ use Rattle.object_machine.specs.Start.{start_of}
 use Rattle.region_former.specs.declared.table.RegionTable.{RegionTable}
 use Rattle.std.proofs.lemmas.Int.{ints}
 use Rattle.placement_programme.specs.Programme.{IsFeasible, gain}
-use Rattle.energy_model.specs.Adding.{taken_by}
+use Rattle.placement_candidates.specs.Adding.{taken_by}
 use Rattle.placement_programme.specs.Plain.{PlainProgramme, PlainChoice}
 use Rattle.profile_runner.specs.Move.{Move}
 use Rattle.profile_runner.specs.Running.{Profiles}
 use Rattle.profile_runner.specs.declared.counts.Profile.{Profile}
 use Rattle.rv_decode.proofs.Meaning.{same_instruction}
 use Rattle.energy_model.specs.Energy.{Scene, energy}
-use Rattle.energy_model.specs.Selected.{stated}
-use Rattle.energy_model.specs.Stated.{scene_of, layout_of, IsOfOneFile}
-use Rattle.energy_model.proofs.ChoiceLemmas.{is_of_the_run}
+use Rattle.placement_candidates.specs.Selected.{stated}
+use Rattle.energy_model.specs.Scenes.{scene_of, layout_of, IsOfOneFile}
+use Rattle.placement_candidates.proofs.ChoiceLemmas.{is_of_the_run}
 use Rattle.relink_core.specs.Faults.{least_patch}
 use Rattle.relinking.specs.StatedRun.{EnergiesAreOf}
 

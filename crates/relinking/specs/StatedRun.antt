@@ -16,9 +16,9 @@ use Rattle.profile_runner.specs.Move.{Move}
 use Rattle.profile_runner.specs.Moves.{Moves}
 use Rattle.profile_runner.specs.declared.fault.ProfileFault.{ProfileFault}
 use Rattle.energy_model.specs.Energy.{Scene, energy}
-use Rattle.energy_model.specs.Adding.{taken_by}
-use Rattle.energy_model.specs.Selected.{stated}
-use Rattle.energy_model.specs.Stated.{scene_of, layout_of}
+use Rattle.placement_candidates.specs.Adding.{taken_by}
+use Rattle.placement_candidates.specs.Selected.{stated}
+use Rattle.energy_model.specs.Scenes.{scene_of, layout_of}
 use Rattle.printed_lines.specs.Endings.{IsAddressFault}
 use Rattle.relinking.specs.Runs.{TellsCounts}
 

@@ -4,8 +4,8 @@ ghost use Rattle.relinking.specs.Runs.{IsAnalysed, TellsCounts};
 ghost use Rattle.relinking.specs.StatedRun.{TellsProgramme};
 
 use board_config::Board;
-use energy_model::programme;
 use object_machine::Source;
+use placement_candidates::programme;
 use placement_programme::Programme;
 use profile_runner::{Profile, ProfileFault, profile};
 use relink_core::Analysis;

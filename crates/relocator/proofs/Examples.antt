@@ -9,7 +9,8 @@ use Rattle.placement_programme.specs.Rows.{Layout, static_data}
 use Rattle.relocator.specs.declared.slots.Slot.{Slot}
 use Rattle.relocator.specs.declared.places.Places.{Places}
 use Rattle.relocator.specs.Placing.{rows_of, IsTable}
-use Rattle.relocator.specs.Space.{datum_of, IsVariable}
+use Rattle.cell_values.specs.Objects.{datum_of}
+use Rattle.relocator.specs.Space.{IsVariable}
 use Rattle.relocator.specs.SiteWords.{HasPlaces}
 use Rattle.relocator.specs.Examples.{table_side, TableHasSpace}
 

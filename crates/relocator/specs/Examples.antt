@@ -5,7 +5,8 @@ use Rattle.object_graph.specs.declared.parts.Graph.{Graph}
 use Rattle.placement_programme.specs.declared.variables.VarName.TheVariants.{StaticData}
 use Rattle.placement_programme.specs.Plain.{PlainSide}
 use Rattle.placement_programme.specs.Rows.{data_span, job_bytes}
-use Rattle.relocator.specs.Space.{datum_of, IsSpaceOf}
+use Rattle.cell_values.specs.Objects.{datum_of}
+use Rattle.relocator.specs.Space.{IsSpaceOf}
 
 -- its side without overlay; its gain plays no part
 abbrev pub table_side : Graph → Board → PlainSide

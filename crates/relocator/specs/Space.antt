@@ -3,7 +3,7 @@ use Rattle.std.specs.Prelude.{◌≡◌, ◌≢◌, ℕ, ◌<◌, ◌≤◌, Boo
 use Rattle.std.specs.List.{All, AllPairs}
 use Rattle.board_config.specs.declared.board.Board.{Board}
 use Rattle.object_graph.specs.declared.parts.Graph.{Graph}
-use Rattle.cell_values.specs.Objects.{object_of}
+use Rattle.cell_values.specs.Objects.{datum_of}
 use Rattle.placement_programme.specs.Plain.{PlainVar, PlainSide}
 use Rattle.placement_programme.specs.Programme.{weight_in}
 use Rattle.placement_programme.specs.Rows.{Layout, Datum, Candidate, static_data, static_code, overlay_data, overlay_code, name_of, space_row, off_space_row, object_row, weights, IsOfSide, IsRegionOf}
@@ -20,16 +20,6 @@ IsObjectRow false l row = ⊥
 IsObjectRow true l row = (o : ℕ) × ((r : ℕ) × ((o < l.objects) × IsRegionOf l r × (row ≡ object_row l o r)))
 
 -- ---- the variables
-
--- object `o` of a graph, as what may be taken
-abbrev pub datum_of : Graph → ℕ → Datum
-datum_of g o =
-    record {
-      number = o;
-      home = (object_of g o).home;
-      size = (object_of g o).size;
-      writable = (object_of g o).writable;
-    }
 
 abbrev pub IsDatumOf : Graph → Layout → Datum → Type 0
 IsDatumOf g l d = (d.number < l.objects) × (d ≡ datum_of g d.number)

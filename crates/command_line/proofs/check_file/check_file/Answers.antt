@@ -5,7 +5,7 @@ use Rattle.std.proofs.lemmas.Result.{err_from_is_err_and}
 use Rattle.elf_reader.specs.File.{plain_view}
 use Rattle.placement_programme.specs.Views.{plain_programme}
 use Rattle.loaded_file.proofs.WordLemmas.{same_view}
-use Rattle.energy_model.specs.Stated.{scene_of}
+use Rattle.energy_model.specs.Scenes.{scene_of}
 use Rattle.relinking.proofs.Analysed.{analysed}
 use Rattle.command_line.proofs.Analysing.{board_refused, analysis_refused, profiled_refused}
 use Rattle.command_line.proofs.Profiling.{counts_refused}

@@ -5,7 +5,7 @@ use Rattle.elf_reader.specs.File.{PlainView, plain_view, view_in}
 use Rattle.elf_reader.specs.Loadable.{IsByte, AreBytes}
 use Rattle.loaded_file.proofs.WordLemmas.{same_view}
 use Rattle.placement_programme.specs.Views.{plain_programme, plain_choice}
-use Rattle.energy_model.specs.Stated.{scene_of}
+use Rattle.energy_model.specs.Scenes.{scene_of}
 use Rattle.relinking.specs.FoundChoice.{is_optimal}
 use Rattle.relinking.specs.Report.{IsRelinkReport}
 use Rattle.command_line.proofs.Analysing.{board_refused, analysis_refused, profiled_refused}

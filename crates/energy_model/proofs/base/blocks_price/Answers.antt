@@ -1,6 +1,6 @@
 use Rattle.std.proofs.Common.{◌*◌, ℕ, length, slice_index_or, arith}
-use Rattle.energy_model.specs.Counted.{body_in, body_price}
-use Rattle.energy_model.proofs.CountedLemmas.{term_small}
+use Rattle.energy_model.specs.Base.{body_in, body_price}
+use Rattle.energy_model.proofs.SumLemmas.{term_small}
 use Rattle.energy_model.proofs.base.blocks_price.Goals as goal
 
 pub started_price-total-requires-clause-small : goal.started_price-total-requires-clause-small

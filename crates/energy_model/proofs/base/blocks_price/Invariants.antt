@@ -1,5 +1,5 @@
 use Rattle.std.proofs.Common.{◌≡◌}
-use Rattle.energy_model.specs.Counted.{arrived_price}
+use Rattle.energy_model.specs.Base.{arrived_price}
 use Rattle.energy_model.proofs.base.blocks_price.Given as goal
 
 abbrev pub invariant-loop-k : goal.invariant-loop-k

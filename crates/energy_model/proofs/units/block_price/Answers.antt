@@ -1,7 +1,7 @@
 use Rattle.std.proofs.Common.{◌∙◌, List, length, ap, sym}
 use Rattle.code_blocks.specs.declared.parts.Unit.{Unit}
 use Rattle.energy_model.specs.Priced.{units_price}
-use Rattle.energy_model.proofs.CountedLemmas.{units_here}
+use Rattle.energy_model.proofs.PriceLemmas.{units_here}
 use Rattle.energy_model.proofs.units.block_price.Goals as goal
 
 pub returns : goal.returns

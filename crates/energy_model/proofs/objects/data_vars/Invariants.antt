@@ -1,7 +1,0 @@
-use Rattle.std.proofs.Common.{◌≡◌, map}
-use Rattle.placement_programme.specs.Plain.{plain_full_var}
-use Rattle.energy_model.specs.Counted.{counted_vars}
-use Rattle.energy_model.proofs.objects.data_vars.Given as goal
-
-abbrev pub invariant-loop-k : goal.invariant-loop-k
-invariant-loop-k l = map plain_full_var l.vars.items ≡ counted_vars l.board.prices l.profile l.graph l.board.grain l.k

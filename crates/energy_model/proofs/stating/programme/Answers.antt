@@ -1,7 +1,0 @@
-use Rattle.std.proofs.Common.{◌∙◌, ap}
-use Rattle.energy_model.specs.Selected.{selected}
-use Rattle.energy_model.proofs.stating.programme.Goals as goal
-
-pub returns-in-Ok : goal.returns-in-Ok
-returns-in-Ok c = λ view moves given.
-    c.in-Ok.ensures ∙ ap selected (c.in_ok-full.ensures view moves given).is

@@ -1,0 +1,13 @@
+//! What may be taken into the scratchpad, what it gains, and the programme that a run states.
+#![tactic(auto)]
+
+mod adding;
+mod counting;
+mod objects;
+mod selecting;
+mod stating;
+
+pub use adding::data_energy_adds_up;
+pub use counting::full;
+pub use selecting::select;
+pub use stating::programme;

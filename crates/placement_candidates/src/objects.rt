@@ -1,0 +1,170 @@
+ghost use Rattle.std.specs.Prelude.{◌≡◌, ℕ, ◌+◌, ◌-◌, ◌*◌, ◌/◌, ◌%◌, ◌^◌, ◌<◌, ◌≤◌, ◌∷◌, ◌++◌, [], pos, ◌-ℤ◌, map, length, IfOk, OnOk};
+ghost use Rattle.cell_values.specs.Objects.{object_of};
+ghost use Rattle.placement_programme.specs.Plain.{plain_full_var};
+ghost use Rattle.placement_programme.specs.Rows.{rounded_up};
+ghost use Rattle.energy_model.specs.Energy.{into_price, object_rounds};
+ghost use Rattle.placement_candidates.specs.Counted.{total, reads_of, writes_of, home_price, moved_price, counted_var, counted_vars, CountsAccesses};
+
+use board_config::{Board, Prices};
+use object_graph::{Graph, Object};
+use placement_programme::{FullVar, VarName};
+use profile_runner::Profile;
+use std::alloc::{AllocError, Global};
+
+/// The patch bytes of a copy job.
+const JOB_BYTES: u64 = 44;
+
+/// The counts of a row, summed.
+fn total(row: &[u64]) -> u128
+    ensures sum { result ≡ total row.now }
+    ensures small { result ≤ length row.now * 18446744073709551615 }
+{
+    let mut total: u128 = 0;
+    for count in row {
+        total += u128::from(*count);
+    }
+    total
+}
+
+/// How many rounds the loop has that copies an object: by words, where its home and size allow that.
+fn rounds(object: &Object) -> u32
+    ensures { result ≡ object_rounds object.now }
+{
+    if object.home % 4 == 0 && object.size % 4 == 0 {
+        object.size / 4
+    } else {
+        object.size
+    }
+}
+
+/// What it costs to copy an object into the scratchpad.
+fn job_price(object: &Object, prices: &Prices) -> u128
+    ensures sum { result ≡ into_price prices.now (object_rounds object.now) }
+    ensures small { result < 2 ^ 70 }
+{
+    let rounds = u128::from(rounds(object));
+    let fetches = (6 + 5 * rounds) * u128::from(prices.main_fetch);
+    let reads = rounds * u128::from(prices.main_read);
+    let writes = rounds * u128::from(prices.spm_write);
+    fetches + reads + writes
+}
+
+/// What so many reads and writes cost, at these prices.
+fn accesses_price(reads: u128, writes: u128, read: u32, write: u32) -> u128
+    requires reads { reads ≤ 1000000000 }
+    requires writes { writes ≤ 1000000000 }
+    ensures sum { result ≡ reads * read + writes * write }
+    ensures small { result < 2 ^ 70 }
+{
+    reads * u128::from(read) + writes * u128::from(write)
+}
+
+/// What an object with so many reads and writes saves in the scratchpad, less the price of its copy.
+fn gain(reads: u128, writes: u128, object: &Object, prices: &Prices) -> i128
+    requires reads { reads ≤ 1000000000 }
+    requires writes { writes ≤ 1000000000 }
+    ensures { result ≡ pos (home_price prices.now reads writes) -ℤ pos (moved_price prices.now reads writes object.now) }
+{
+    let home = accesses_price(reads, writes, prices.main_read, prices.main_write);
+    let moved = accesses_price(reads, writes, prices.spm_read, prices.spm_write);
+    home as i128 - (moved + job_price(object, prices)) as i128
+}
+
+/// The bytes of the scratchpad that an object takes, with those before it in its first chunk.
+fn span(object: &Object, grain: u32) -> u64
+    requires { 0 < grain }
+    ensures { result ≡ rounded_up grain (object.now.home % grain + object.now.size) }
+{
+    let bytes = u64::from(object.home % grain) + u64::from(object.size);
+    let chunks = (bytes + (u64::from(grain) - 1)) / u64::from(grain);
+    chunks * u64::from(grain)
+}
+
+/// How often object `k` was read.
+fn reads_of(profile: &Profile, k: usize) -> u128
+    requires { k < length profile.now.reads.items }
+    ensures { result ≡ reads_of profile.now k }
+{
+    total(&profile.reads[k])
+}
+
+/// How often object `k` was written.
+fn writes_of(profile: &Profile, k: usize) -> u128
+    requires { k < length profile.now.writes.items }
+    ensures { result ≡ writes_of profile.now k }
+{
+    total(&profile.writes[k])
+}
+
+fn object_at(graph: &Graph, k: usize) -> Object
+    requires { k < length graph.now.objects.items }
+    ensures { result ≡ object_of graph.now k }
+{
+    graph.objects[k]
+}
+
+/// The variable of object `k`.
+fn var_of(
+    alloc: Global,
+    profile: &Profile,
+    graph: &Graph,
+    k: usize,
+    board: &Board,
+) -> Result<FullVar, AllocError>
+    requires inside { k < length graph.now.objects.items }
+    requires accesses { CountsAccesses graph.now profile.now }
+    requires grain { 0 < board.now.grain }
+    ensures { IfOk result (λ v. plain_full_var v ≡ counted_var board.now.prices profile.now graph.now board.now.grain k) }
+{
+    let object = object_at(graph, k);
+    let reads = reads_of(profile, k);
+    let writes = writes_of(profile, k);
+    let gain = gain(reads, writes, &object, &board.prices);
+    let weights = vec![in alloc; (0, span(&object, board.grain)), (1, JOB_BYTES)]?;
+    let name = VarName::StaticData { object: k as u32 };
+    Ok(FullVar {
+        name,
+        gain,
+        weights,
+    })
+}
+
+/// The variable of object `k` behind those before it.
+fn push_var(
+    alloc: Global,
+    vars: &mut Vec<FullVar>,
+    profile: &Profile,
+    graph: &Graph,
+    k: usize,
+    board: &Board,
+) -> Result<(), AllocError>
+    requires inside { k < length graph.now.objects.items }
+    requires accesses { CountsAccesses graph.now profile.now }
+    requires grain { 0 < board.now.grain }
+    ensures { OnOk result (map plain_full_var vars.new.items ≡ map plain_full_var vars.old.items ++ counted_var board.now.prices profile.now graph.now board.now.grain k ∷ []) }
+{
+    let var = var_of(alloc, profile, graph, k, board)?;
+    match vars.push(var) {
+        Ok(()) => Ok(()),
+        Err(error) => Err(error.into()),
+    }
+}
+
+/// The variables of all objects, by home.
+pub(crate) fn data_vars(
+    alloc: Global,
+    profile: &Profile,
+    graph: &Graph,
+    board: &Board,
+) -> Result<Vec<FullVar>, AllocError>
+    requires accesses { CountsAccesses graph.now profile.now }
+    requires grain { 0 < board.now.grain }
+    ensures { IfOk result (λ vars. map plain_full_var vars.items ≡ counted_vars board.now.prices profile.now graph.now board.now.grain (length graph.now.objects.items)) }
+{
+    let count = graph.objects.len();
+    let mut vars = Vec::new(alloc);
+    for k in 0..count {
+        push_var(alloc, &mut vars, profile, graph, k, board)?;
+    }
+    Ok(vars)
+}

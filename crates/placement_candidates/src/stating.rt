@@ -1,0 +1,37 @@
+ghost use Rattle.std.specs.Prelude.{◌≡◌, List, IfOk};
+ghost use Rattle.elf_reader.specs.declared.view.ElfView.{ElfView};
+ghost use Rattle.placement_programme.specs.Views.{plain_programme};
+ghost use Rattle.profile_runner.specs.Move.{Move};
+ghost use Rattle.energy_model.specs.Scenes.{scene_of, layout_of, IsOfOneFile};
+ghost use Rattle.placement_candidates.specs.Selected.{stated};
+
+use crate::counting::full;
+use crate::selecting::select;
+use board_config::Board;
+use code_blocks::Code;
+use object_graph::Graph;
+use placement_programme::Programme;
+use profile_runner::Profile;
+use region_former::RegionTable;
+use std::alloc::{AllocError, Global};
+
+/// The programme that a run states for static data: what may be taken and saves something.
+///
+/// The conditions are those of `full`. It fails only where no memory was left.
+pub fn programme(
+    alloc: Global,
+    profile: &Profile,
+    graph: &Graph,
+    code: &Code,
+    regions: &RegionTable,
+    board: &Board,
+) -> Result<Programme, AllocError>
+    requires { (view : ElfView) × ((moves : List Move) × IsOfOneFile view board.now graph.now code.now regions.now profile.now moves) }
+    ensures { IfOk result (λ p. (view : ElfView) (moves : List Move) → IsOfOneFile view board.now graph.now code.now regions.now profile.now moves → plain_programme p ≡ stated (scene_of graph.now code.now regions.now board.now) (layout_of graph.now code.now regions.now board.now) moves) }
+{
+    let full = full(alloc, profile, graph, code, regions, board)?;
+    match select(alloc, &full) {
+        Ok(programme) => Ok(programme),
+        Err(error) => Err(error),
+    }
+}
