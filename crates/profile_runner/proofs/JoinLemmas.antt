@@ -1,7 +1,6 @@
 -- The edges of all blocks, one behind the other.
-use Rattle.std.proofs.Common.{◌≡◌, ◌∙◌, inl, inr, ℕ, zero, suc, ◌-◌, ◌<◌, ◌≤◌, ◌==◌, nat_lt, Bool, true, false, ◌&&◌, if◌then◌else◌, List, [], ◌∷◌, ◌++◌, length, slice_index_or, refl, arith, length-append}
+use Rattle.std.proofs.Common.{◌≡◌, ◌∙◌, inl, inr, ℕ, zero, suc, ◌-◌, ◌<◌, ◌≤◌, ◌==◌, nat_lt, Bool, true, false, ◌&&◌, ◌||◌, if◌then◌else◌, List, [], ◌∷◌, ◌++◌, length, slice_index_or, refl, arith, length-append}
 use Rattle.std.specs.List.{All, AllPairs}
-use Rattle.std.proofs.Math.Bool.{or-true}
 use Rattle.std.proofs.lemmas.Bool.{cases_lt}
 use Rattle.std.proofs.lemmas.Bool.Decides.{nat_tests}
 use Rattle.std.proofs.lemmas.List.{get_or_append_left, get_or-append_right}
@@ -22,11 +21,15 @@ edge_at low a size most (suc k) (e ∷ row) d are below = edge_at (suc e.to) a s
 later_block : (d e : Edge) → d.from < e.from → precedes d e ≡ true
 later_block d e less = let test : nat_lt d.from e.from ≡ true = grind (arith, nat_tests, less) in rw test refl
 
+or_true : (b : Bool) → b || true ≡ true
+or_true true = refl
+or_true false = refl
+
 same_block : (d e : Edge) (a : ℕ) → d.from ≡ a → e.from ≡ a → d.to < e.to → precedes d e ≡ true
 same_block d e a first second less =
     let test : (d.from == e.from) ≡ true = grind (arith, nat_tests, first, second) in
     let lower : nat_lt d.to e.to ≡ true = grind (arith, nat_tests, less) in
-    rw (test, lower) (or-true (nat_lt d.from e.from))
+    rw (test, lower) (or_true (nat_lt d.from e.from))
 
 row_ordered : (a size most : ℕ) (row : List Edge) → AreFrom 0 a size most row → AllPairs (λ d e. precedes d e ≡ true) row
 row_ordered a size most row are i j d less below =
