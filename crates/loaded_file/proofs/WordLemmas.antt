@@ -17,7 +17,7 @@ use Rattle.elf_reader.specs.Loadable.{HasSegments}
 use Rattle.elf_reader.specs.Placed.{HasContent}
 use Rattle.elf_reader.specs.Image.{image_of}
 use Rattle.elf_reader.specs.Loaded.{no_section, section_at, no_segment, segment_at, is_loaded}
-use Rattle.loaded_file.specs.Code.{is_code_range, holds_code, image_word}
+use Rattle.loaded_file.specs.Code.{is_code_range, holds_code, has_content, image_word}
 use Rattle.elf_reader.specs.declared.view.ElfView.{ElfView}
 use Rattle.elf_reader.specs.declared.view.Section.{Section}
 use Rattle.elf_reader.proofs.SegmentLemmas.{segments_held, none_of_headers}
@@ -25,6 +25,7 @@ use Rattle.elf_reader.proofs.SectionLemmas.{none_of_sections, section_contents_h
 use Rattle.elf_reader.proofs.LoadedLemmas.{loaded_found, loaded_below, loaded_bytes, length_sections, section_is}
 use Rattle.list_checks.proofs.FirstLemmas.{both_none}
 use Rattle.loaded_file.specs.Read.{IsRead}
+use Rattle.loaded_file.proofs.ExtentLemmas.{both_made}
 
 -- a view of a file says what the file says
 pub same_view : (file : List ℕ) (view : ElfView) → IsFile file view → plain_view view ≡ view_in file
@@ -142,20 +143,26 @@ stands_in v k a has =
     }
 
 -- a section that is loaded and has content has the words that lie in it
-has_content : (view : ElfView) (k a : ℕ) → IsRead view → is_loaded (plain_view view) k ≡ true → (section_at (plain_view view) k).kind ≡ 1 → lies_in (section_at (plain_view view) k).addr (section_at (plain_view view) k).size a 4 ≡ true → HasWord (plain_view view) k a
-has_content view k a read loaded kind lies =
+content_has : (view : ElfView) (k a : ℕ) → IsRead view → has_content (plain_view view) a k ≡ true → HasWord (plain_view view) k a
+content_has view k a read has =
+    let v = plain_view view in
+    let s = section_at v k in
+    let parts = both (is_loaded v k && (s.kind == 1)) (lies_in s.addr s.size a 4) has in
+    let front = both (is_loaded v k) (s.kind == 1) parts.0 in
     let (file, is, none) = read in
     let same = same_view file view is in
-    subst (λ (v : PlainView). is_loaded v k ≡ true → (section_at v k).kind ≡ 1 → lies_in (section_at v k).addr (section_at v k).size a 4 ≡ true → HasWord v k a) (sym same) (word_of_file file k a none) loaded kind lies
+    subst (λ (v : PlainView). is_loaded v k ≡ true → (section_at v k).kind ≡ 1 → lies_in (section_at v k).addr (section_at v k).size a 4 ≡ true → HasWord v k a) (sym same) (word_of_file file k a none) front.0 (eqb-true s.kind 1 front.1) parts.1
 
-has_word : (view : ElfView) (k a : ℕ) → IsRead view → holds_code (plain_view view) a k ≡ true → HasWord (plain_view view) k a
-has_word view k a read holds =
-    let v = plain_view view in
+-- a code range has content
+pub code_content : (v : PlainView) (k a : ℕ) → holds_code v a k ≡ true → has_content v a k ≡ true
+code_content v k a holds =
     let s = section_at v k in
     let parts = both (is_code_range v k) (lies_in s.addr s.size a 4) holds in
     let range = both (is_loaded v k && (s.kind == 1)) (bit_of s.flags 2) parts.0 in
-    let front = both (is_loaded v k) (s.kind == 1) range.0 in
-    has_content view k a read front.0 (eqb-true s.kind 1 front.1) parts.1
+    both_made _ _ range.0 parts.1
+
+has_word : (view : ElfView) (k a : ℕ) → IsRead view → holds_code (plain_view view) a k ≡ true → HasWord (plain_view view) k a
+has_word view k a read holds = content_has view k a read (code_content (plain_view view) k a holds)
 
 -- the address behind a word of a code range is below 2 ^ 32
 pub word_fits : (view : ElfView) (k a : ℕ) → IsRead view → holds_code (plain_view view) a k ≡ true → a + 4 < 4294967296
@@ -180,17 +187,9 @@ word_in_section view k a s has is =
 pub range_below : (view : ElfView) (k a : ℕ) → IsRead view → holds_code (plain_view view) a k ≡ true → k < length view.sections.items
 range_below view k a read holds = word_below view k a (has_word view k a read holds)
 
--- the section of a code range has its words
-pub word_stands : (view : ElfView) (k a : ℕ) (s : Section) → IsRead view → holds_code (plain_view view) a k ≡ true → s ≡ slice_index_or view.sections.items k s → StandsIn (plain_section s) a (image_word (plain_view view) a)
-word_stands view k a s read holds is = word_in_section view k a s (has_word view k a read holds) is
-
--- so has any loaded section with content
-pub content_below : (view : ElfView) (k a : ℕ) → IsRead view → is_loaded (plain_view view) k ≡ true → (section_at (plain_view view) k).kind ≡ 1 → lies_in (section_at (plain_view view) k).addr (section_at (plain_view view) k).size a 4 ≡ true → k < length view.sections.items
-content_below view k a read loaded kind lies = word_below view k a (has_content view k a read loaded kind lies)
-
-pub content_stands : (view : ElfView) (k a : ℕ) (s : Section) → IsRead view → is_loaded (plain_view view) k ≡ true → (section_at (plain_view view) k).kind ≡ 1 → lies_in (section_at (plain_view view) k).addr (section_at (plain_view view) k).size a 4 ≡ true → s ≡ slice_index_or view.sections.items k s → StandsIn (plain_section s) a (image_word (plain_view view) a)
-content_stands view k a s read loaded kind lies is =
-    word_in_section view k a s (has_content view k a read loaded kind lies) is
+-- the words that a section's content has stand in its bytes
+pub content_stands : (view : ElfView) (k a : ℕ) (s : Section) → IsRead view → has_content (plain_view view) a k ≡ true → s ≡ slice_index_or view.sections.items k s → StandsIn (plain_section s) a (image_word (plain_view view) a)
+content_stands view k a s read has is = word_in_section view k a s (content_has view k a read has) is
 
 -- the memory of a code range ends below 2 ^ 32
 pub range_ends : (view : ElfView) (k : ℕ) (s : Section) → IsRead view → is_code_range (plain_view view) k ≡ true → k < length view.sections.items → s ≡ slice_index_or view.sections.items k s → s.addr + s.size < 4294967296

@@ -19,6 +19,11 @@ holds_code v a k = is_code_range v k && lies_in (section_at v k).addr (section_a
 abbrev pub is_code_word : PlainView → ℕ → Bool
 is_code_word v a = (a % 4 == 0) && any_below (holds_code v a) (length v.sections)
 
+-- section `k` is loaded, and its content has the four bytes from `a`
+abbrev pub has_content : PlainView → ℕ → ℕ → Bool
+has_content v a k =
+    is_loaded v k && ((section_at v k).kind == 1) && lies_in (section_at v k).addr (section_at v k).size a 4
+
 -- the word that stands at `a` when the program starts
 abbrev pub image_word : PlainView → ℕ → ℕ
 image_word v a = word_at (image_of v.segments) a

@@ -21,7 +21,7 @@ pub fn is_code_range(view: &ElfView, loaded: &[bool], k: usize) -> bool
 }
 
 /// Whether section `k` of `view` is loaded, by the marks of its sections.
-pub(crate) fn is_loaded(view: &ElfView, loaded: &[bool], k: usize) -> bool
+pub fn is_loaded(view: &ElfView, loaded: &[bool], k: usize) -> bool
     requires marks { loaded.now ≡ all_loaded (plain_view view.now) }
     requires below { k < length view.now.sections.items }
     ensures { result ≡ is_loaded (plain_view view.now) k }

@@ -9,10 +9,10 @@ mod overlaps;
 mod records;
 mod symbol_ranges;
 
-pub use code_ranges::{holds_code, is_code_range, is_code_word};
-pub use code_words::word_in;
+pub use code_ranges::{holds_code, is_code_range, is_code_word, is_loaded};
+pub use code_words::{content_word, word_in};
 pub use extents::Extent;
 pub use loaded::loaded_sections;
 pub use overlaps::overlapped;
-pub use records::{counts, target};
+pub use records::{counts, symbol_value, target};
 pub use symbol_ranges::{has_range, object_ranges};

@@ -24,7 +24,7 @@ pub fn target(view: &ElfView, reloc: &Reloc) -> u32
 }
 
 /// The value of symbol `k`, and 0 behind the last.
-fn symbol_value(view: &ElfView, k: usize) -> u32
+pub fn symbol_value(view: &ElfView, k: usize) -> u32
     ensures { result ≡ (symbol_at (plain_view view.now) k).value }
 {
     match view.symbols.get(k) {

@@ -1,12 +1,12 @@
-ghost use Rattle.std.specs.Prelude.{◌≡◌, ℕ, ◌+◌, ◌*◌, ◌<◌, Bool, ◌&&◌, ◌||◌, length, map, IfOk};
+ghost use Rattle.std.specs.Prelude.{◌≡◌, ℕ, ◌+◌, ◌*◌, ◌<◌, Bool, ◌&&◌, ◌||◌, map, IfOk};
 ghost use Rattle.std.specs.List.{list_any};
 ghost use Rattle.list_checks.specs.Tests.{lies_in};
 ghost use Rattle.elf_reader.specs.File.{plain_section, plain_symbol, plain_view};
-ghost use Rattle.elf_reader.specs.Loaded.{is_loaded};
 ghost use Rattle.loaded_file.specs.Marks.{all_loaded};
 ghost use Rattle.loaded_file.specs.Ranges.{is_executable, has_extent, has_owner, has_range, is_range};
 ghost use Rattle.loaded_file.specs.Extents.{key_of, extent_of, is_key_of, has_extent_in, IsAscending, IsFilled};
 
+use crate::code_ranges::is_loaded;
 use crate::extents::Extent;
 use elf_reader::{EXECUTABLE_BIT, ElfView, STT_OBJECT, Section, Symbol};
 use list_checks::arrange_once;
@@ -118,15 +118,6 @@ fn has_owner(view: &ElfView, loaded: &[bool], symbol: &Symbol) -> bool
     }
     let owner = &view.sections[number];
     is_loaded(view, loaded, number) && !is_executable(owner) && lies_in(owner, symbol)
-}
-
-/// Section `number` is loaded.
-fn is_loaded(view: &ElfView, loaded: &[bool], number: usize) -> bool
-    requires marks { loaded.now ≡ all_loaded (plain_view view.now) }
-    requires below { number < length view.now.sections.items }
-    ensures { result ≡ is_loaded (plain_view view.now) number }
-{
-    loaded[number]
 }
 
 /// A section holds code.

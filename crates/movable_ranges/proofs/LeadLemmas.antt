@@ -18,7 +18,8 @@ use Rattle.sound_relocations.specs.Sound.{is_meant, displacement}
 use Rattle.list_checks.specs.Sorted.{is_under, count_below}
 use Rattle.movable_ranges.specs.Fixed.{leads_to}
 use Rattle.movable_ranges.specs.declared.cover.Cover.{Cover}
-use Rattle.movable_ranges.specs.Shares.{begins_by, ends_by, holds_address, IsCover, leads_by, leads_some}
+use Rattle.movable_ranges.specs.declared.cover.Bound.TheVariants.{Home, End}
+use Rattle.movable_ranges.specs.Shares.{bounds_by, holds_address, IsCover, leads_by, leads_some}
 
 pub or_left : (a b : Bool) → a ≡ true → (a || b) ≡ true
 or_left true b passes = refl
@@ -37,7 +38,7 @@ cover_step true h n a begun ended within filled sum =
 cover_step false h n a begun ended within filled sum = omega (arith, sum)
 
 -- of the objects that begin at or before an address, those that don't end there hold it
-covered_below : (v : PlainView) (a n : ℕ) → count_below (begins_by v (is_under (a + 1))) n ≡ count_below (ends_by v (is_under (a + 1))) n + count_below (holds_address v a) n
+covered_below : (v : PlainView) (a n : ℕ) → count_below (bounds_by v Home (is_under (a + 1))) n ≡ count_below (bounds_by v End (is_under (a + 1))) n + count_below (holds_address v a) n
 covered_below v a zero = refl
 covered_below v a (suc n) =
     let s = symbol_at v n in
@@ -62,8 +63,8 @@ below_sum all lower some sum = grind (arith, nat_tests, sum)
 
 pub held : (v : PlainView) (cover : Cover) (a ended begun : ℕ) → IsCover v cover → ended ≡ count_by (is_under (a + 1)) cover.ends.items → begun ≡ count_by (is_under (a + 1)) cover.homes.items → nat_lt ended begun ≡ any_below (holds_address v a) (length v.symbols)
 held v cover a ended begun is ends homes =
-    let first : begun ≡ count_below (begins_by v (is_under (a + 1))) (length v.symbols) = homes ∙ is.homes (is_under (a + 1)) in
-    let last : ended ≡ count_below (ends_by v (is_under (a + 1))) (length v.symbols) = ends ∙ is.ends (is_under (a + 1)) in
+    let first : begun ≡ count_below (bounds_by v Home (is_under (a + 1))) (length v.symbols) = homes ∙ is.homes (is_under (a + 1)) in
+    let last : ended ≡ count_below (bounds_by v End (is_under (a + 1))) (length v.symbols) = ends ∙ is.ends (is_under (a + 1)) in
     let parts = covered_below v a (length v.symbols) in
     below_sum begun ended (count_below (holds_address v a) (length v.symbols)) (omega (arith, first, last, parts))
     ∙ sym (any_counted (holds_address v a) (length v.symbols))

@@ -1,5 +1,4 @@
 pub mod ApartLemmas
-pub mod SoundLemmas
 pub mod NameLemmas
 pub mod StrayLemmas
 pub mod LeadLemmas

@@ -11,16 +11,20 @@ use Rattle.sound_relocations.specs.Sound.{displacement, is_sound_pair, is_pair_l
 use Rattle.list_checks.specs.Sorted.{IsSorted, count_below}
 use Rattle.movable_ranges.specs.Meant.{leads_inside, is_direct}
 use Rattle.movable_ranges.specs.declared.cover.Cover.{Cover}
+use Rattle.movable_ranges.specs.declared.cover.Bound.{Bound}
+use Rattle.movable_ranges.specs.declared.cover.Bound.TheVariants.{Home, End}
 use Rattle.movable_ranges.specs.declared.words.SharedWords.{SharedWords}
 
 -- ---- objects at an address
 
--- symbol `k` is of an object whose home passes a test, and whose end does
-abbrev pub begins_by : PlainView → (ℕ → Bool) → ℕ → Bool
-begins_by v test k = has_range v (symbol_at v k) && test (symbol_at v k).value
+-- where the object of a symbol begins, and where it ends
+abbrev pub bound_of : Bound → PlainSymbol → ℕ
+bound_of Home s = s.value
+bound_of End s = s.value + s.size
 
-abbrev pub ends_by : PlainView → (ℕ → Bool) → ℕ → Bool
-ends_by v test k = has_range v (symbol_at v k) && test ((symbol_at v k).value + (symbol_at v k).size)
+-- symbol `k` is of an object of which a bound passes a test
+abbrev pub bounds_by : PlainView → Bound → (ℕ → Bool) → ℕ → Bool
+bounds_by v bound test k = has_range v (symbol_at v k) && test (bound_of bound (symbol_at v k))
 
 -- an address lies in the range of symbol `k`
 abbrev pub holds_address : PlainView → ℕ → ℕ → Bool
@@ -30,8 +34,8 @@ holds_address v a k = has_range v (symbol_at v k) && inside (symbol_at v k).valu
 pub record IsCover (v : PlainView) (cover : Cover) : Type 0 where
   pub homes_sorted : IsSorted cover.homes.items
   pub ends_sorted : IsSorted cover.ends.items
-  pub homes : (test : ℕ → Bool) → count_by test cover.homes.items ≡ count_below (begins_by v test) (length v.symbols)
-  pub ends : (test : ℕ → Bool) → count_by test cover.ends.items ≡ count_below (ends_by v test) (length v.symbols)
+  pub homes : (test : ℕ → Bool) → count_by test cover.homes.items ≡ count_below (bounds_by v Home test) (length v.symbols)
+  pub ends : (test : ℕ → Bool) → count_by test cover.ends.items ≡ count_below (bounds_by v End test) (length v.symbols)
 
 -- ---- sites of any object
 

@@ -12,5 +12,5 @@ mod straying;
 mod top;
 mod words;
 
-pub use meaning::meant_range;
+pub use meaning::{meant_range, place_of_symbol};
 pub use top::movable_ranges;

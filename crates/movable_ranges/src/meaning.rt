@@ -70,8 +70,10 @@ fn place_by_symbol(
     }
 }
 
-/// The range of a symbol.
-pub(crate) fn place_of_symbol(
+/// The place of a symbol's range in such a list, if it stands there.
+///
+/// The time grows with the logarithm of the number of ranges.
+pub fn place_of_symbol(
     view: &ElfView,
     loaded: &[bool],
     ranges: &[Extent],

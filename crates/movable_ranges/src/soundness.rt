@@ -1,10 +1,10 @@
-ghost use Rattle.std.specs.Prelude.{◌≡◌, ℕ, ◌<◌, ◌&&◌, not, nat_le, length};
+ghost use Rattle.std.specs.Prelude.{◌≡◌, ◌<◌, ◌&&◌, not, nat_le, length};
 ghost use Rattle.elf_reader.specs.File.{plain_view};
 ghost use Rattle.loaded_file.specs.Marks.{all_loaded};
 ghost use Rattle.loaded_file.specs.Records.{reloc_at};
-ghost use Rattle.loaded_file.specs.Extents.{extent_at, IsFilled};
+ghost use Rattle.loaded_file.specs.Extents.{IsFilled};
 ghost use Rattle.sound_relocations.specs.Marks.{all_sound};
-ghost use Rattle.sound_relocations.specs.Sound.{displacement, is_meant, is_sound_kind, is_sound_pair};
+ghost use Rattle.sound_relocations.specs.Sound.{displacement, is_meant, is_sound_pair};
 ghost use Rattle.movable_ranges.specs.Fixed.{is_unsound_by, is_unsound};
 ghost use Rattle.movable_ranges.specs.Apart.{IsApart, IsBelow, Finds, AddsRule};
 ghost use Rattle.movable_ranges.specs.Meant.{is_direct, is_site_kind, leads_inside};
@@ -13,7 +13,7 @@ use crate::marks::mark;
 use crate::meaning::place_meant;
 use elf_reader::{ElfView, R_RISCV_PCREL_HI20, Reloc};
 use loaded_file::{Extent, counts, target};
-use sound_relocations::is_mute;
+use sound_relocations::{is_mute, is_sound};
 
 /// Marks the ranges that a relocation means that isn't sound.
 pub(crate) fn mark_unsound(
@@ -106,16 +106,7 @@ fn leads_into(view: &ElfView, range: &Extent, reloc: &Reloc) -> bool
     target(view, reloc).wrapping_sub(range.home) <= range.size
 }
 
-/// The kind of relocation `i` is sound.
-fn is_sound(view: &ElfView, sound: &[bool], i: usize) -> bool
-    requires sound { sound.now ≡ all_sound (plain_view view.now) }
-    requires below { i < length view.now.relocs.items }
-    ensures { result ≡ is_sound_kind (plain_view view.now) i }
-{
-    sound[i]
-}
-
-/// It is, and gives a site at the instruction that it changes.
+/// Relocation `i` is of a sound kind, and gives a site at the instruction that it changes.
 pub(crate) fn is_direct(view: &ElfView, sound: &[bool], i: usize) -> bool
     requires sound { sound.now ≡ all_sound (plain_view view.now) }
     requires below { i < length view.now.relocs.items }
@@ -131,7 +122,7 @@ fn is_site_kind(kind: u32) -> bool
     matches!(kind, R_RISCV_PCREL_HI20 | 26..=28)
 }
 
-/// It is, and it changes an AUIPC.
+/// It is of a sound kind, and it changes an AUIPC.
 pub(crate) fn is_pair(view: &ElfView, sound: &[bool], i: usize) -> bool
     requires sound { sound.now ≡ all_sound (plain_view view.now) }
     requires below { i < length view.now.relocs.items }

@@ -15,7 +15,7 @@ use crate::marks::{is_marked, mark, no_marks};
 use crate::meaning::place_of_symbol;
 use elf_reader::{ElfView, STT_SECTION, Symbol};
 use list_checks::{arrange, has_inside};
-use loaded_file::{Extent, counts, has_range, target};
+use loaded_file::{Extent, counts, has_range, symbol_value, target};
 use std::alloc::{AllocError, Global};
 
 /// The symbol to which the global pointer is set (RISC-V psABI, "Global-pointer").
@@ -86,16 +86,6 @@ fn tells_of_none(view: &ElfView, loaded: &[bool], symbol: &Symbol) -> bool
     ensures { result ≡ is_stray (plain_view view.now) (plain_symbol symbol.now) }
 {
     !has_range(view, loaded, symbol) && symbol.kind != STT_SECTION && symbol.name != GLOBAL_POINTER
-}
-
-/// The value of symbol `k`, and 0 behind the last.
-pub(crate) fn symbol_value(view: &ElfView, k: usize) -> u32
-    ensures { result ≡ (symbol_at (plain_view view.now) k).value }
-{
-    match view.symbols.get(k) {
-        Some(symbol) => symbol.value,
-        None => 0,
-    }
 }
 
 /// Marks the section of each object into which one strays.

@@ -10,10 +10,9 @@ ghost use Rattle.movable_ranges.specs.Shares.{IsCover, leads_some, leads_by, is_
 
 use crate::cover::{Cover, is_covered, object_cover};
 use crate::soundness::{is_direct, is_pair};
-use crate::straying::symbol_value;
 use elf_reader::{ElfView, Reloc, STT_SECTION, Symbol};
 use list_checks::{arrange, has, repeats};
-use loaded_file::{counts, has_range, target};
+use loaded_file::{counts, has_range, symbol_value, target};
 use sound_relocations::is_pair_low;
 use std::alloc::{AllocError, Global};
 

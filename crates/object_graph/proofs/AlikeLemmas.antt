@@ -1,7 +1,6 @@
 -- Sites and words of data that are the same.
-use Rattle.std.proofs.Common.{◌≡◌, ◌≢◌, ◌∙◌, ℕ, ◌<◌, ◌==◌, Bool, true, ◌&&◌, List, length, get_or, refl, sym, ap, arith}
+use Rattle.std.proofs.Common.{◌≡◌, ◌==◌, Bool, true, ◌&&◌, refl, arith}
 use Rattle.std.proofs.lemmas.Bool.{eqb-true, eq-eqb}
-use Rattle.std.proofs.lemmas.List.{get_or_default}
 use Rattle.list_checks.proofs.TestLemmas.{both}
 use Rattle.object_graph.specs.declared.parts.Site.{Site}
 use Rattle.object_graph.specs.declared.parts.DataWord.{DataWord}
@@ -33,10 +32,3 @@ site_itself s =
 pub word_itself : (d : DataWord) → same_word d d ≡ true
 word_itself d =
     three_true (d.at == d.at) (d.object == d.object) (d.offset == d.offset) (eq-eqb _ _ refl) (eq-eqb _ _ refl) (eq-eqb _ _ refl)
-
--- the address of an element, read with any default
-pub site_alike_read : (xs : List Site) (k a : ℕ) (d e : Site) → k < length xs → (get_or xs k d).at ≢ a → site_place (get_or xs k e) ≢ a
-site_alike_read xs k a d e below other same = other (ap site_place (get_or_default xs k d e below) ∙ same)
-
-pub word_alike_read : (xs : List DataWord) (k a : ℕ) (d e : DataWord) → k < length xs → (get_or xs k d).at ≢ a → word_place (get_or xs k e) ≢ a
-word_alike_read xs k a d e below other same = other (ap word_place (get_or_default xs k d e below) ∙ same)

@@ -1,9 +1,9 @@
 -- Lists that are gathered from a table, place by place.
-use Rattle.std.proofs.Common.{◌≡◌, ◌∙◌, ℕ, suc, ◌+◌, ◌<◌, Bool, true, false, ◌||◌, List, [], ◌∷◌, ◌++◌, length, get_or, Option, Some, None, refl, sym, ap, subst, arith, rules, add-one}
+use Rattle.std.proofs.Common.{◌≡◌, ◌∙◌, ℕ, ◌+◌, ◌<◌, Bool, true, false, ◌||◌, List, [], ◌∷◌, ◌++◌, get_or, Option, Some, None, refl, sym, ap, subst, rules, add-one}
 use Rattle.std.specs.List.{list_any}
 use Rattle.std.proofs.lemmas.List.Folds.{list_any-append, list_any_at}
 use Rattle.std.proofs.lemmas.List.Quantifiers.{all_pairs_push}
-use Rattle.list_checks.specs.Tests.{any_below, meets}
+use Rattle.list_checks.specs.Tests.{meets}
 use Rattle.list_checks.proofs.TestLemmas.{any_found}
 use Rattle.object_graph.specs.Gathered.{listed, HasGiven, GivesJust, AreSeparate}
 
@@ -17,7 +17,7 @@ any_listed test xs x = list_any-append test xs (x ∷ []) ∙ ap (λ (b : Bool).
 one_more : (old new here earlier now : Bool) → new ≡ old || here → old ≡ earlier → here ≡ now → new ≡ earlier || now
 one_more old new here earlier now more was is = cc
 
-pub has_more : {X : Type 0} (same : X → X → Bool) (test : X → ℕ → Bool) (xs : List X) (o : Option X) (i : ℕ) → HasGiven same test xs i → GivesJust same test o i → HasGiven same test (xs ++ listed o) (i + 1)
+has_more : {X : Type 0} (same : X → X → Bool) (test : X → ℕ → Bool) (xs : List X) (o : Option X) (i : ℕ) → HasGiven same test xs i → GivesJust same test o i → HasGiven same test (xs ++ listed o) (i + 1)
 has_more same test xs None i has given x =
     rw (add-one i)
     (list_any-append (same x) xs []
@@ -34,7 +34,7 @@ abbrev pub GivesApart : {X : Type 0} → (X → ℕ) → (X → ℕ → Bool) �
 GivesApart {X} at test i =
     (x y : X) (j : ℕ) → j < i → test x j ≡ true → test y i ≡ true → meets (at x) 4 (at y) 4 ≡ false
 
-pub separate_more : {X : Type 0} (at : X → ℕ) (same : X → X → Bool) (test : X → ℕ → Bool) → ((x : X) → same x x ≡ true) → (xs : List X) (o : Option X) (i : ℕ) → HasGiven same test xs i → GivesJust same test o i → GivesApart at test i → AreSeparate at xs → AreSeparate at (xs ++ listed o)
+separate_more : {X : Type 0} (at : X → ℕ) (same : X → X → Bool) (test : X → ℕ → Bool) → ((x : X) → same x x ≡ true) → (xs : List X) (o : Option X) (i : ℕ) → HasGiven same test xs i → GivesJust same test o i → GivesApart at test i → AreSeparate at xs → AreSeparate at (xs ++ listed o)
 separate_more at same test itself xs None i has given apart separate =
     let whole : xs ++ [] ≡ xs = search rules in
     rw whole separate
@@ -46,11 +46,12 @@ separate_more {X} at same test itself xs (Some y) i has given apart separate =
     let (j, before, passes) = any_found (test x) i (sym (has x) ∙ found) in
     apart x y j before passes (sym (given y) ∙ itself y))
 
--- one step of a loop that gathers
-pub gathered_more : {X : Type 0} (same : X → X → Bool) (test : X → ℕ → Bool) (xs ys : List X) (o : Option X) (i : ℕ) → ys ≡ xs ++ listed o → HasGiven same test xs i → GivesJust same test o i → HasGiven same test ys (i + 1)
-gathered_more {X} same test xs ys o i is has given =
-    subst (λ (zs : List X). HasGiven same test zs (i + 1)) (sym is) (has_more same test xs o i has given)
+-- what a loop has gathered before place i: just what the places give, and no two meet
+abbrev pub HasGathered : {X : Type 0} → (X → ℕ) → (X → X → Bool) → (X → ℕ → Bool) → List X → ℕ → Type 0
+HasGathered at same test xs i = HasGiven same test xs i × AreSeparate at xs
 
-pub apart_more : {X : Type 0} (at : X → ℕ) (same : X → X → Bool) (test : X → ℕ → Bool) → ((x : X) → same x x ≡ true) → (xs ys : List X) (o : Option X) (i : ℕ) → ys ≡ xs ++ listed o → HasGiven same test xs i → GivesJust same test o i → GivesApart at test i → AreSeparate at xs → AreSeparate at ys
-apart_more {X} at same test itself xs ys o i is has given apart separate =
-    subst (λ (zs : List X). AreSeparate at zs) (sym is) (separate_more at same test itself xs o i has given apart separate)
+-- one step of such a loop
+pub gather_more : {X : Type 0} (at : X → ℕ) (same : X → X → Bool) (test : X → ℕ → Bool) → ((x : X) → same x x ≡ true) → (xs ys : List X) (o : Option X) (i : ℕ) → ys ≡ xs ++ listed o → HasGathered at same test xs i → GivesJust same test o i → GivesApart at test i → HasGathered at same test ys (i + 1)
+gather_more {X} at same test itself xs ys o i is has given apart =
+    subst (λ (zs : List X). HasGathered at same test zs (i + 1)) (sym is)
+    (has_more same test xs o i has.0 given, separate_more at same test itself xs o i has.0 given apart has.1)

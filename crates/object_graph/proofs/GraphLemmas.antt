@@ -60,15 +60,19 @@ objects_of v board ranges objects same m named =
 
 -- ---- sites and words of data
 
+-- what places of a table give to object k is what they give to its range, if there is such an object
+any_of_object : (objects : List Object) (k : ℕ) (test : Extent → ℕ → Bool) (n : ℕ) → any_below (λ j. nat_lt k (length (map range_of objects)) && test (extent_at (map range_of objects) k) j) n ≡ nat_lt k (length objects) && any_below (test (range_of (object_at objects k))) n
+any_of_object objects k test n =
+    any_gated (nat_lt k (length (map range_of objects))) (test (extent_at (map range_of objects) k)) n
+    ∙ ap (λ (m : ℕ). nat_lt k m && any_below (test (extent_at (map range_of objects) k)) n) (length-map objects range_of)
+    ∙ ap (λ (e : Extent). nat_lt k (length objects) && any_below (test e) n) (range_is objects k)
+
 sites_are : (v : PlainView) (objects : List Object) (sites : List Site) → AreSites v (map range_of objects) sites → IsSites v objects sites
 sites_are v objects sites are = record {
   apart = are.apart;
   exact = λ s.
       let test = λ (e : Extent) (j : ℕ). ((reloc_at v j).at == s.at) && makes_part s.kind (reloc_at v j).kind && gives_offset v e.home e.size s.offset j in
-      are.exact s
-      ∙ any_gated (nat_lt s.object (length (map range_of objects))) (test (extent_at (map range_of objects) s.object)) (length v.relocs)
-      ∙ ap (λ (n : ℕ). nat_lt s.object n && any_below (test (extent_at (map range_of objects) s.object)) (length v.relocs)) (length-map objects range_of)
-      ∙ ap (λ (e : Extent). nat_lt s.object (length objects) && any_below (test e) (length v.relocs)) (range_is objects s.object);
+      are.exact s ∙ any_of_object objects s.object test (length v.relocs);
 }
 
 pub sites_of : (v : PlainView) (ranges : List Extent) (objects : List Object) (sites : List Site) → map range_of objects ≡ ranges → AreSites v ranges sites → IsSites v objects sites
@@ -80,10 +84,7 @@ words_are v objects words are = record {
   apart = are.apart;
   exact = λ d.
       let test = λ (e : Extent) (j : ℕ). ((reloc_at v j).at == d.at) && leads_to v e.home e.size j && is_sound_word v j (reloc_at v j) && (displacement v e.home (reloc_at v j) == d.offset) in
-      are.exact d
-      ∙ any_gated (nat_lt d.object (length (map range_of objects))) (test (extent_at (map range_of objects) d.object)) (length v.relocs)
-      ∙ ap (λ (n : ℕ). nat_lt d.object n && any_below (test (extent_at (map range_of objects) d.object)) (length v.relocs)) (length-map objects range_of)
-      ∙ ap (λ (e : Extent). nat_lt d.object (length objects) && any_below (test e) (length v.relocs)) (range_is objects d.object);
+      are.exact d ∙ any_of_object objects d.object test (length v.relocs);
 }
 
 pub words_of : (v : PlainView) (ranges : List Extent) (objects : List Object) (words : List DataWord) → map range_of objects ≡ ranges → AreWords v ranges words → IsWords v objects words

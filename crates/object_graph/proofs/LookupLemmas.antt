@@ -104,26 +104,15 @@ none_inside objects a c laid parted bound last k below =
 
 -- ---- sites and words
 
-pub found_site : (sites : List Site) (a : ℕ) (o : Option Site) → ((s : Site) → gives same_site s o ≡ list_any (same_site s) sites && (s.at == a)) → MatchOption o (list_any (stands_at a) sites ≡ false) (λ s. (list_any (same_site s) sites ≡ true) × (s.at ≡ a))
-found_site sites a None found =
-    list_any_none (stands_at a) sites (λ k d below.
-    none_stands (list_any (same_site (get_or sites k d)) sites) ((get_or sites k d).at == a)
-    (list_any_at (same_site (get_or sites k d)) sites k d below (site_itself (get_or sites k d))) (found (get_or sites k d)))
+-- what is found by a number is in the list, and has it; else none of the list has it
+pub found_one : {X : Type 0} (at : X → ℕ) (same : X → X → Bool) → ((x : X) → same x x ≡ true) → (xs : List X) (a : ℕ) (o : Option X) → ((x : X) → gives same x o ≡ list_any (same x) xs && (at x == a)) → MatchOption o (list_any (λ x. at x == a) xs ≡ false) (λ x. (list_any (same x) xs ≡ true) × (at x ≡ a))
+found_one {X} at same itself xs a None found =
+    list_any_none (λ x. at x == a) xs (λ k d below.
+    let x = get_or xs k d in
+    none_stands (list_any (same x) xs) (at x == a) (list_any_at (same x) xs k d below (itself x)) (found x))
   where
     none_stands : (listed stands : Bool) → listed ≡ true → false ≡ listed && stands → stands ≡ false
     none_stands listed stands first none = grind (arith, first, none)
-found_site sites a (Some t) found =
-    let parts = both (list_any (same_site t) sites) (t.at == a) (sym (found t) ∙ site_itself t) in
-    (parts.0, eqb-true t.at a parts.1)
-
-pub found_word : (words : List DataWord) (a : ℕ) (o : Option DataWord) → ((d : DataWord) → gives same_word d o ≡ list_any (same_word d) words && (d.at == a)) → MatchOption o (list_any (begins_at a) words ≡ false) (λ d. (list_any (same_word d) words ≡ true) × (d.at ≡ a))
-found_word words a None found =
-    list_any_none (begins_at a) words (λ k d below.
-    none_begins (list_any (same_word (get_or words k d)) words) ((get_or words k d).at == a)
-    (list_any_at (same_word (get_or words k d)) words k d below (word_itself (get_or words k d))) (found (get_or words k d)))
-  where
-    none_begins : (listed stands : Bool) → listed ≡ true → false ≡ listed && stands → stands ≡ false
-    none_begins listed stands first none = grind (arith, first, none)
-found_word words a (Some t) found =
-    let parts = both (list_any (same_word t) words) (t.at == a) (sym (found t) ∙ word_itself t) in
-    (parts.0, eqb-true t.at a parts.1)
+found_one at same itself xs a (Some y) found =
+    let parts = both (list_any (same y) xs) (at y == a) (sym (found y) ∙ itself y) in
+    (parts.0, eqb-true (at y) a parts.1)

@@ -1,7 +1,6 @@
 -- Why a search by first addresses tells whether an address lies in one of some ranges.
 use Rattle.std.proofs.Common.{◌≡◌, ◌∙◌, ◌⊎◌, inl, inr, ℕ, ◌+◌, ◌-◌, ◌<◌, ◌≤◌, nat_lt, nat_le, true, false, ◌&&◌, List, length, slice_index_or, sym, ap, arith}
 use Rattle.std.specs.List.{AllPairs, list_any}
-use Rattle.std.specs.List.Sorted.{IsNonDecreasingBy}
 use Rattle.std.proofs.lemmas.Bool.{cases_lt, cases_eq}
 use Rattle.std.proofs.lemmas.Bool.Decides.{nat_tests}
 use Rattle.std.proofs.lemmas.List.{get_or_default}
@@ -9,21 +8,6 @@ use Rattle.std.proofs.lemmas.List.Folds.{Any-from_list_any, list_any_at, list_an
 use Rattle.list_checks.proofs.TestLemmas.{same_tests}
 use Rattle.board_config.specs.declared.board.Range.{Range}
 use Rattle.object_graph.specs.Sites.{in_range, no_area}
-
--- first addresses don't fall
-pub by_base : (ranges : List Range) → AllPairs (λ r q. r.base + r.size ≤ q.base) ranges → IsNonDecreasingBy (λ r. r.base) ranges
-by_base ranges apart i j d order below =
-    elim (cases_lt i j) [
-      | inl before ↦
-          let ends = apart i j d before below in
-          omega (arith, ends)
-      | inr behind ↦
-          let same : i ≡ j = omega (arith, order, behind) in
-          rw same (omega arith)
-    ]
-
-pub above : (base a : ℕ) → nat_le base a ≡ false → a < base
-above base a not_up_to = grind (arith, nat_tests, not_up_to)
 
 -- of some ranges `begun` begin at or before an address, and `last` is the last of these
 pub record IsLast (ranges : List Range) (a begun last : ℕ) : Type 0 where

@@ -20,14 +20,17 @@ use Rattle.object_graph.specs.Graphs.{makes_part, gives_directly, gives_low_of, 
 
 -- ---- what one step gives
 
--- as a list, and whether it is some value
+-- as a list, whether it passes a test, and whether it is some value
 abbrev pub listed : {X : Type 0} → Option X → List X
 listed None = []
 listed (Some x) = x ∷ []
 
+abbrev pub passes : {X : Type 0} → (X → Bool) → Option X → Bool
+passes test None = false
+passes test (Some x) = test x
+
 abbrev pub gives : {X : Type 0} → (X → X → Bool) → X → Option X → Bool
-gives same x None = false
-gives same x (Some y) = same x y
+gives same x o = passes (same x) o
 
 -- a list has just what the places below n of a table give
 abbrev pub HasGiven : {X : Type 0} → (X → X → Bool) → (X → ℕ → Bool) → List X → ℕ → Type 0

@@ -11,6 +11,8 @@ use Rattle.board_config.specs.declared.board.Range.{Range}
 use Rattle.loaded_file.specs.Ranges.{has_range}
 use Rattle.movable_ranges.specs.Fixed.{is_movable}
 use Rattle.object_graph.specs.Sites.{no_area}
+use Rattle.object_graph.specs.declared.layout.Reserved.{Reserved}
+use Rattle.object_graph.specs.declared.layout.Reserved.TheVariants.{Scratchpad, Patch}
 use Rattle.object_graph.specs.declared.fault.GraphFault.{GraphFault}
 use Rattle.object_graph.specs.declared.fault.GraphFault.TheVariants.{SpmOverlap, PatchOverlap, PatchFar, SpmMeetsPatch, SpmAtZero, NoArea, TooManyObjects}
 
@@ -30,6 +32,11 @@ spm_overlap_fault v board g =
 abbrev pub patch_overlap_fault : PlainView → Board → ℕ → Option GraphFault
 patch_overlap_fault v board g =
     unless (not (segment_meets (segment_at v g) board.patch)) (PatchOverlap (segment_at v g).index)
+
+-- segment `g` meets a reserved range
+abbrev pub overlap_fault : Reserved → PlainView → Board → ℕ → Option GraphFault
+overlap_fault Scratchpad = spm_overlap_fault
+overlap_fault Patch = patch_overlap_fault
 
 -- section `k` is a code range with at least a byte
 abbrev pub has_code : PlainView → ℕ → Bool

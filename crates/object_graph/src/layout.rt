@@ -3,7 +3,7 @@ ghost use Rattle.list_checks.specs.First.{◌or_else◌, Tells, TellsUnless, fir
 ghost use Rattle.list_checks.specs.Tests.{any_below};
 ghost use Rattle.elf_reader.specs.File.{plain_segment, plain_view};
 ghost use Rattle.loaded_file.specs.Marks.{all_loaded};
-ghost use Rattle.object_graph.specs.LayoutFaults.{segment_meets, spm_overlap_fault, patch_overlap_fault, has_code, least_below, greatest_below, span_of, patch_far_fault, spm_meets_patch_fault, spm_at_zero_fault, segment_lies_in, lies_in_area, no_area_fault, places_fault};
+ghost use Rattle.object_graph.specs.LayoutFaults.{segment_meets, overlap_fault, has_code, least_below, greatest_below, span_of, patch_far_fault, spm_meets_patch_fault, spm_at_zero_fault, segment_lies_in, lies_in_area, no_area_fault, places_fault};
 
 use crate::code::range_of;
 use crate::fault::GraphFault;
@@ -38,8 +38,8 @@ pub(crate) fn check_places(view: &ElfView, board: &Board, loaded: &[bool]) -> Re
     requires { loaded.now ≡ all_loaded (plain_view view.now) }
     ensures { Tells result (places_fault (plain_view view.now) board.now) }
 {
-    check_spm_overlaps(view, board)?;
-    check_patch_overlaps(view, board)?;
+    check_overlaps(view, board, Reserved::Scratchpad)?;
+    check_overlaps(view, board, Reserved::Patch)?;
     check_ranges(view, board, loaded)
 }
 
@@ -54,50 +54,45 @@ fn check_ranges(view: &ElfView, board: &Board, loaded: &[bool]) -> Result<(), Gr
     check_areas(view, board)
 }
 
+/// A range of the board in which no segment may lie.
+#[derive(Clone, Copy)]
+pub(crate) enum Reserved {
+    Scratchpad,
+    Patch,
+}
+
+/// No segment meets a reserved range.
 #[tactic(auto, using(crate::proofs::ViewLemmas::found_first))]
-fn check_spm_overlaps(view: &ElfView, board: &Board) -> Result<(), GraphFault>
-    ensures { Tells result (first_below (spm_overlap_fault (plain_view view.now) board.now) (length (plain_view view.now).segments)) }
+fn check_overlaps(view: &ElfView, board: &Board, reserved: Reserved) -> Result<(), GraphFault>
+    ensures { Tells result (first_below (overlap_fault reserved (plain_view view.now) board.now) (length (plain_view view.now).segments)) }
 {
     for g in 0..view.segments.len() {
-        check_spm_overlap(view, board, g)?;
+        check_overlap(view, board, reserved, g)?;
     }
     Ok(())
 }
 
-fn check_spm_overlap(view: &ElfView, board: &Board, g: usize) -> Result<(), GraphFault>
+/// Segment `g` doesn't meet it.
+fn check_overlap(
+    view: &ElfView,
+    board: &Board,
+    reserved: Reserved,
+    g: usize,
+) -> Result<(), GraphFault>
     requires { g < length view.now.segments.items }
-    ensures { Tells result (spm_overlap_fault (plain_view view.now) board.now g) }
+    ensures { Tells result (overlap_fault reserved (plain_view view.now) board.now g) }
 {
-    let segment = &view.segments[g];
-    if segment_meets(segment, &board.spm) {
-        return Err(GraphFault::SpmOverlap {
-            segment: segment.index,
-        });
+    let s = &view.segments[g];
+    let segment = s.index;
+    match reserved {
+        Reserved::Scratchpad if segment_meets(s, &board.spm) => {
+            Err(GraphFault::SpmOverlap { segment })
+        }
+        Reserved::Patch if segment_meets(s, &board.patch) => {
+            Err(GraphFault::PatchOverlap { segment })
+        }
+        _ => Ok(()),
     }
-    Ok(())
-}
-
-#[tactic(auto, using(crate::proofs::ViewLemmas::found_first))]
-fn check_patch_overlaps(view: &ElfView, board: &Board) -> Result<(), GraphFault>
-    ensures { Tells result (first_below (patch_overlap_fault (plain_view view.now) board.now) (length (plain_view view.now).segments)) }
-{
-    for g in 0..view.segments.len() {
-        check_patch_overlap(view, board, g)?;
-    }
-    Ok(())
-}
-
-fn check_patch_overlap(view: &ElfView, board: &Board, g: usize) -> Result<(), GraphFault>
-    requires { g < length view.now.segments.items }
-    ensures { Tells result (patch_overlap_fault (plain_view view.now) board.now g) }
-{
-    let segment = &view.segments[g];
-    if segment_meets(segment, &board.patch) {
-        return Err(GraphFault::PatchOverlap {
-            segment: segment.index,
-        });
-    }
-    Ok(())
 }
 
 /// The memory of a segment meets a range.

@@ -13,7 +13,7 @@ mod lookups;
 mod mapped_memory;
 mod objects;
 mod parts;
-mod places;
+mod placed;
 mod ranges;
 mod remaining_spans;
 mod sites;

@@ -8,6 +8,7 @@ ghost use Rattle.object_graph.specs.Lookups.{AreLaidOut};
 ghost use Rattle.object_graph.specs.Gathered.{gives, AreInOrder, site_place, word_place};
 
 use crate::parts::{DataWord, Graph, Object, Site};
+use crate::placed::find_placed;
 
 impl Graph {
     ghost use Rattle.std.specs.Prelude.{◌≡◌, ℕ, ◌<◌, ◌==◌, true, false, length, MatchOption};
@@ -67,11 +68,7 @@ pub(crate) fn find_site(sites: &[Site], address: u32) -> Option<Site>
     requires { AreInOrder site_place sites.now }
     ensures { (s : Site) → gives same_site s result ≡ (list_any (same_site s) sites.now && (s.at == address)) }
 {
-    let place = sites.partition_point(|site| site.at < address);
-    if place == sites.len() || sites[place].at != address {
-        return None;
-    }
-    Some(sites[place])
+    find_placed(sites, address)
 }
 
 /// The word of data at `address`, if there is one. The words stand by address, and no two meet.
@@ -79,9 +76,5 @@ pub(crate) fn find_word(words: &[DataWord], address: u32) -> Option<DataWord>
     requires { AreInOrder word_place words.now }
     ensures { (d : DataWord) → gives same_word d result ≡ (list_any (same_word d) words.now && (d.at == address)) }
 {
-    let place = words.partition_point(|word| word.at < address);
-    if place == words.len() || words[place].at != address {
-        return None;
-    }
-    Some(words[place])
+    find_placed(words, address)
 }

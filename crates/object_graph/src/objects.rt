@@ -10,9 +10,9 @@ ghost use Rattle.object_graph.specs.Graphs.{is_writable, IsNamed};
 ghost use Rattle.object_graph.specs.Gathered.{AreMovable, range_of, symbol_if, first_symbol};
 
 use crate::parts::Object;
-use crate::places::place_of_symbol;
 use elf_reader::ElfView;
 use loaded_file::Extent;
+use movable_ranges::place_of_symbol;
 use std::alloc::{AllocError, Global};
 
 /// The objects of these ranges, in their order. `loaded` are the marks of the loaded sections. It fails only

@@ -1,21 +1,21 @@
-ghost use Rattle.std.specs.Prelude.{◌≡◌, ℕ, ◌<◌, ◌≤◌, ◌==◌, Bool, true, ◌||◌, ◌++◌, length, IfOk};
-ghost use Rattle.std.specs.List.{list_any};
+ghost use Rattle.std.specs.Prelude.{◌≡◌, ◌<◌, ◌≤◌, ◌==◌, true, ◌||◌, length, IfOk};
 ghost use Rattle.elf_reader.specs.File.{plain_view};
 ghost use Rattle.loaded_file.specs.Marks.{all_loaded};
-ghost use Rattle.loaded_file.specs.Records.{symbol_at, reloc_at};
-ghost use Rattle.sound_relocations.specs.Sound.{is_pair_low, is_sound_kind};
+ghost use Rattle.loaded_file.specs.Records.{reloc_at};
+ghost use Rattle.sound_relocations.specs.Sound.{is_pair_low};
 ghost use Rattle.sound_relocations.specs.Marks.{all_sound};
 ghost use Rattle.object_graph.specs.declared.parts.SiteKind.{SiteKind};
 ghost use Rattle.object_graph.specs.declared.parts.Site.{Site};
 ghost use Rattle.object_graph.specs.Graphs.{makes_part, same_part, same_site};
-ghost use Rattle.object_graph.specs.Gathered.{listed, gives, GivesJust, AreSeparate, AreInOrder, AreMovable, gives_alone, gives_high, gives_low, is_site_in, site_place, AreHighs, AreSites};
+ghost use Rattle.object_graph.specs.Gathered.{gives, GivesJust, AreMovable, gives_alone, gives_high, gives_low, is_site_in, AreHighs, AreSites};
 
 use crate::leads::lead_of;
 use crate::lookups::find_site;
 use crate::parts::{Site, SiteKind};
+use crate::placed::{push_some, sort_placed};
 use elf_reader::{ElfView, R_RISCV_PCREL_HI20};
-use loaded_file::{Extent, counts};
-use sound_relocations::is_pair_low;
+use loaded_file::{Extent, counts, symbol_value};
+use sound_relocations::{is_pair_low, is_sound};
 use std::alloc::{AllocError, Global};
 
 /// The sites of the objects of these ranges, by address. `loaded` and `sound` are the marks of the loaded
@@ -39,9 +39,9 @@ pub(crate) fn sites(
     let mut sites = Vec::new(alloc);
     for i in 0..view.relocs.len() {
         let site = site_of(view, loaded, ranges, sound, &highs, i);
-        push_site(&mut sites, site)?;
+        push_some(&mut sites, site)?;
     }
-    sort_sites(&mut sites);
+    sort_placed(&mut sites);
     Ok(sites)
 }
 
@@ -62,29 +62,10 @@ fn high_sites(
     let mut sites = Vec::new(alloc);
     for i in 0..view.relocs.len() {
         let site = high_site(view, loaded, ranges, sound, i);
-        push_site(&mut sites, site)?;
+        push_some(&mut sites, site)?;
     }
-    sort_sites(&mut sites);
+    sort_placed(&mut sites);
     Ok(sites)
-}
-
-/// Adds a site, if there is one.
-fn push_site(sites: &mut Vec<Site>, site: Option<Site>) -> Result<(), AllocError>
-    ensures { IfOk result (λ _. sites.new.items ≡ sites.old.items ++ listed site) }
-{
-    if let Some(found) = site {
-        sites.push(found)?;
-    }
-    Ok(())
-}
-
-/// Puts sites, of which no two meet, in the order of their addresses.
-fn sort_sites(sites: &mut Vec<Site>)
-    requires { AreSeparate site_place sites.old.items }
-    ensures apart { AreInOrder site_place sites.new.items }
-    ensures same { (test : Site → Bool) → list_any test sites.new.items ≡ list_any test sites.old.items }
-{
-    sites.sort_unstable_by_key(|site| site.at);
 }
 
 /// The site that relocation `i` gives, if it gives one.
@@ -196,25 +177,6 @@ fn low_site(
         }),
         None => None,
     }
-}
-
-/// The value of symbol `k`, and 0 behind the last.
-fn symbol_value(view: &ElfView, k: usize) -> u32
-    ensures { result ≡ (symbol_at (plain_view view.now) k).value }
-{
-    match view.symbols.get(k) {
-        Some(symbol) => symbol.value,
-        None => 0,
-    }
-}
-
-/// Relocation `i` is of a sound kind.
-pub(crate) fn is_sound(view: &ElfView, sound: &[bool], i: usize) -> bool
-    requires sound { sound.now ≡ all_sound (plain_view view.now) }
-    requires below { i < length view.now.relocs.items }
-    ensures { result ≡ is_sound_kind (plain_view view.now) i }
-{
-    sound[i]
 }
 
 /// Which part of an address a relocation of this kind makes, if it makes one.

@@ -1,17 +1,17 @@
-ghost use Rattle.std.specs.Prelude.{◌≡◌, ◌<◌, ◌≤◌, Bool, ◌++◌, length, IfOk};
-ghost use Rattle.std.specs.List.{list_any};
+ghost use Rattle.std.specs.Prelude.{◌≡◌, ◌<◌, ◌≤◌, length, IfOk};
 ghost use Rattle.elf_reader.specs.File.{plain_view};
 ghost use Rattle.loaded_file.specs.Marks.{all_loaded};
 ghost use Rattle.sound_relocations.specs.Marks.{all_sound};
 ghost use Rattle.object_graph.specs.declared.parts.DataWord.{DataWord};
 ghost use Rattle.object_graph.specs.Graphs.{same_word};
-ghost use Rattle.object_graph.specs.Gathered.{listed, GivesJust, AreSeparate, AreInOrder, AreMovable, is_word_in, word_place, AreWords};
+ghost use Rattle.object_graph.specs.Gathered.{GivesJust, AreMovable, is_word_in, AreWords};
 
 use crate::leads::lead_of;
 use crate::parts::DataWord;
-use crate::sites::is_sound;
+use crate::placed::{push_some, sort_placed};
 use elf_reader::{ElfView, R_RISCV_32};
 use loaded_file::Extent;
+use sound_relocations::is_sound;
 use std::alloc::{AllocError, Global};
 
 /// The words of data that lead to the objects of these ranges, by address. `loaded` and `sound` are the marks
@@ -34,29 +34,10 @@ pub(crate) fn data_words(
     let mut words = Vec::new(alloc);
     for i in 0..view.relocs.len() {
         let word = word_of(view, loaded, ranges, sound, i);
-        push_word(&mut words, word)?;
+        push_some(&mut words, word)?;
     }
-    sort_words(&mut words);
+    sort_placed(&mut words);
     Ok(words)
-}
-
-/// Adds a word of data, if there is one.
-fn push_word(words: &mut Vec<DataWord>, word: Option<DataWord>) -> Result<(), AllocError>
-    ensures { IfOk result (λ _. words.new.items ≡ words.old.items ++ listed word) }
-{
-    if let Some(found) = word {
-        words.push(found)?;
-    }
-    Ok(())
-}
-
-/// Puts words, of which no two meet, in the order of their addresses.
-fn sort_words(words: &mut Vec<DataWord>)
-    requires { AreSeparate word_place words.old.items }
-    ensures apart { AreInOrder word_place words.new.items }
-    ensures same { (test : DataWord → Bool) → list_any test words.new.items ≡ list_any test words.old.items }
-{
-    words.sort_unstable_by_key(|word| word.at);
 }
 
 /// The word of data that relocation `i` gives, if it gives one.

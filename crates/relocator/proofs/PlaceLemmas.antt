@@ -1,5 +1,5 @@
 -- Slots and places of a feasible choice.
-use Rattle.std.proofs.Common.{◌≡◌, ◌∙◌, ℕ, zero, suc, ◌+◌, ◌<◌, ◌≤◌, ◌==◌, Bool, true, false, if◌then◌else◌, List, length, get_or, Option, Some, None, refl, subst, arith}
+use Rattle.std.proofs.Common.{◌≡◌, ◌∙◌, ℕ, zero, suc, ◌+◌, ◌<◌, ◌≤◌, ◌==◌, Bool, true, false, if◌then◌else◌, List, length, get_or, Option, Some, None, refl, sym, subst, arith}
 use Rattle.std.specs.Prelude.{IsSomeAnd}
 use Rattle.std.specs.List.{All}
 use Rattle.std.proofs.lemmas.Bool.Decides.{nat_tests}
@@ -90,7 +90,7 @@ slots_within g regions r items fit k d below =
 spm_ends : (board : Board) → IsLawful board → board.spm.base + board.spm.size ≤ 4294967295
 spm_ends board lawful = (lawful.ranges 1 no_area (omega arith)).within
 
-pub items_roomy : (g : Graph) (regions : ℕ) (board : Board) (items : List Item) → IsLawful board → AreFitting g regions board.spm.size items → AreRoomy board.spm.base items
+items_roomy : (g : Graph) (regions : ℕ) (board : Board) (items : List Item) → IsLawful board → AreFitting g regions board.spm.size items → AreRoomy board.spm.base items
 items_roomy g regions board items lawful fit =
     let ends = spm_ends board lawful in
     let static = fit.static in
@@ -99,7 +99,7 @@ items_roomy g regions board items lawful fit =
       slots = λ k d below. let to = (slots_within g regions board.spm items fit k d below).to in omega (arith, ends, to);
     }
 
-pub items_of_regions : (g : Graph) (regions size : ℕ) (items : List Item) → AreFitting g regions size items → AreOfRegions regions items
+items_of_regions : (g : Graph) (regions size : ℕ) (items : List Item) → AreFitting g regions size items → AreOfRegions regions items
 items_of_regions g regions size items fit k d below = (fit.sized k d below).region
 
 can_put : (g : Graph) (regions at span : ℕ) (name : VarName) → IsSized g regions name span → at + span < 4294967296 → CanPut g regions at name
@@ -108,8 +108,25 @@ can_put g regions at span (StaticCode first last) sized ends = tt
 can_put g regions at span (OverlayData region object) sized ends = let room = sized.room.room in (sized.region, (sized.room.below, omega (arith, room, ends)))
 can_put g regions at span (OverlayCode region first last) sized ends = tt
 
-pub slots_put : (g : Graph) (regions : ℕ) (board : Board) (items : List Item) → IsLawful board → AreFitting g regions board.spm.size items → CanPutAll g regions (slots_of board.spm.base items)
+slots_put : (g : Graph) (regions : ℕ) (board : Board) (items : List Item) → IsLawful board → AreFitting g regions board.spm.size items → CanPutAll g regions (slots_of board.spm.base items)
 slots_put g regions board items lawful fit k d below =
     let s = get_or (slots_of board.spm.base items) k d in
     let sized = slot_keeps (λ name span. IsSized g regions name span) (first_slots board.spm.base items) items fit.sized k d below in
     can_put g regions s.at s.span s.name sized ((items_roomy g regions board items lawful fit).slots k d below)
+
+-- all that a layout asks of its items
+pub record CanBeLaid (g : Graph) (regions : ℕ) (board : Board) (items : List Item) : Type 0 where
+  pub roomy : AreRoomy board.spm.base items
+  pub in_regions : AreOfRegions regions items
+  pub put : CanPutAll g regions (slots_of board.spm.base items)
+
+pub choice_laid : (g : Graph) (regions : ℕ) (board : Board) (p : PlainProgramme) (c : PlainChoice) → IsLawful board → g.grain ≡ board.grain → CanLayOut g regions board p c → CanBeLaid g regions board (items_of p c)
+choice_laid g regions board p c lawful same can =
+    let items = items_of p c in
+    let grain = subst IsGrain (sym same) lawful.grain in
+    let fit = choice_fits g regions board p c grain can in
+    record {
+      roomy = items_roomy g regions board items lawful fit;
+      in_regions = items_of_regions g regions board.spm.size items fit;
+      put = slots_put g regions board items lawful fit;
+    }

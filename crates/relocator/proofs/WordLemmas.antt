@@ -16,6 +16,7 @@ use Rattle.loaded_file.specs.Code.{is_code_word, image_word}
 use Rattle.loaded_file.specs.Records.{reloc_at, counts, target, is_mute, width_of}
 use Rattle.sound_relocations.specs.Sound.{is_meant, displacement, holds_data, cuts_range, changes_word, is_sound_word, is_sound_high, is_sound_low, is_sound_pair, distance, names_high}
 use Rattle.movable_ranges.specs.Fixed.{leads_to}
+use Rattle.loaded_file.proofs.ExtentLemmas.{both_made}
 use Rattle.object_graph.specs.declared.parts.Object.{Object}
 use Rattle.object_graph.specs.declared.parts.SiteKind.{SiteKind}
 use Rattle.object_graph.specs.declared.parts.SiteKind.TheVariants.{Hi, LowI, LowS}
@@ -148,9 +149,6 @@ rewrites v part home n offset j below makes gives =
 same_number : (n : ℕ) → (n == n) ≡ true
 same_number n = grind (arith, nat_tests)
 
-both_true : (a b : Bool) → a ≡ true → b ≡ true → a && b ≡ true
-both_true a b first second = rw (first, second) refl
-
 same_kind : (k : SiteKind) → same_part k k ≡ true
 same_kind Hi = refl
 same_kind LowI = refl
@@ -158,9 +156,9 @@ same_kind LowS = refl
 
 itself : (s : Site) → same_site s s ≡ true
 itself s =
-    both_true ((s.at == s.at) && same_part s.kind s.kind && (s.object == s.object)) (s.offset == s.offset)
-    (both_true ((s.at == s.at) && same_part s.kind s.kind) (s.object == s.object)
-    (both_true (s.at == s.at) (same_part s.kind s.kind) (same_number s.at) (same_kind s.kind)) (same_number s.object))
+    both_made ((s.at == s.at) && same_part s.kind s.kind && (s.object == s.object)) (s.offset == s.offset)
+    (both_made ((s.at == s.at) && same_part s.kind s.kind) (s.object == s.object)
+    (both_made (s.at == s.at) (same_part s.kind s.kind) (same_number s.at) (same_kind s.kind)) (same_number s.object))
     (same_number s.offset)
 
 -- a site of the list, and the relocation that gives it
@@ -193,8 +191,8 @@ site_listed v objects sites k is below =
 
 word_itself : (d : DataWord) → same_word d d ≡ true
 word_itself d =
-    both_true ((d.at == d.at) && (d.object == d.object)) (d.offset == d.offset)
-    (both_true (d.at == d.at) (d.object == d.object) (same_number d.at) (same_number d.object)) (same_number d.offset)
+    both_made ((d.at == d.at) && (d.object == d.object)) (d.offset == d.offset)
+    (both_made (d.at == d.at) (d.object == d.object) (same_number d.at) (same_number d.object)) (same_number d.offset)
 
 -- a word of data of the list: the relocation that gives it is of a kind of its own, and no other changes it
 pub record IsWordListed (v : PlainView) (count : ℕ) (d : DataWord) : Type 0 where

@@ -45,10 +45,6 @@ pub first_fails : (a b whole : Bool) → a ≡ false → (a || b) ≡ whole → 
 first_fails true b whole fails is = cc
 first_fails false b whole fails is = is
 
-pub both_true : (a b : Bool) → a ≡ true → b ≡ true → (a && b) ≡ true
-both_true true b first second = second
-both_true false b first second = first
-
 -- the same of two tests that both pass
 pub both_first : (a b whole : Bool) → a ≡ true → (a && b) ≡ whole → b ≡ whole
 both_first true b whole passes is = is

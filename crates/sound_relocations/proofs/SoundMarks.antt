@@ -1,5 +1,5 @@
 -- The list of marks of relocations: there is one for each, and it tells whether that is of a sound kind.
-use Rattle.std.proofs.Common.{◌≡◌, ◌∙◌, ℕ, ◌+◌, ◌<◌, Bool, false, List, [], ◌∷◌, ◌++◌, length, slice_index_or, refl, ap, add-one}
+use Rattle.std.proofs.Common.{◌≡◌, ◌∙◌, ℕ, ◌+◌, ◌<◌, Bool, false, List, [], ◌∷◌, ◌++◌, length, slice_index_or, refl, ap, arith, add-one}
 use Rattle.elf_reader.specs.File.{PlainView}
 use Rattle.sound_relocations.specs.Sound.{is_sound_kind}
 use Rattle.sound_relocations.specs.Marks.{sound_below, all_sound}
@@ -17,3 +17,13 @@ length_sound v = length_built (sound_below v) (is_sound_kind v) refl (λ n. refl
 pub marks_more : (v : PlainView) (i : ℕ) (old new : List Bool) (mark : Bool) → old ≡ sound_below v i → new ≡ old ++ mark ∷ [] → mark ≡ is_sound_kind v i → new ≡ sound_below v (i + 1)
 marks_more v i old new mark earlier more is =
     rw (add-one i) (more ∙ ap (λ xs. xs ++ mark ∷ []) earlier ∙ ap (λ b. sound_below v i ++ b ∷ []) is)
+
+-- marks that are these
+pub marks_length : (v : PlainView) (marks : List Bool) (i : ℕ) → marks ≡ all_sound v → i < length v.relocs → i < length marks
+marks_length v marks i is below =
+    let count = length_sound v in
+    rw is (omega (arith, count, below))
+
+pub mark_is : (v : PlainView) (marks : List Bool) (i : ℕ) → marks ≡ all_sound v → i < length v.relocs → slice_index_or marks i false ≡ is_sound_kind v i
+mark_is v marks i is below =
+    ap (λ (ms : List Bool). slice_index_or ms i false) is ∙ sound_at v i below

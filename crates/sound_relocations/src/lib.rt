@@ -11,4 +11,4 @@ mod standing;
 mod words;
 
 pub use kinds::{is_mute, is_pair_low};
-pub use marks::sound_kinds;
+pub use marks::{is_sound, sound_kinds};

@@ -1,7 +1,6 @@
 ghost use Rattle.std.specs.Prelude.{◌≡◌, ◌^◌, ◌<◌, ◌∷◌, [], ◌++◌, if◌then◌else◌, length, IfOk};
 ghost use Rattle.elf_reader.specs.File.{plain_view};
 ghost use Rattle.loaded_file.specs.Marks.{all_loaded};
-ghost use Rattle.loaded_file.specs.Records.{symbol_at};
 ghost use Rattle.loaded_file.specs.Read.{IsRead};
 ghost use Rattle.sound_relocations.specs.Lists.{IsListOf, AreListsOf, count_of, is_listed, number_of, is_ranged, range_start, range_end, is_changing, change_start, change_end, is_calling, is_lower, low_part, low_key};
 
@@ -11,7 +10,7 @@ use crate::lists::{Listed, RelocationLists};
 use crate::standing::code_word;
 use elf_reader::{ElfView, Reloc};
 use list_checks::arrange;
-use loaded_file::{counts, has_range};
+use loaded_file::{counts, has_range, symbol_value};
 use std::alloc::{AllocError, Global};
 
 /// How many numbers a key has for each AUIPC.
@@ -207,16 +206,6 @@ fn low_key(view: &ElfView, loaded: &[bool], j: usize) -> u64
     let reloc = &view.relocs[j];
     let named = symbol_value(view, reloc.symbol as usize);
     u64::from(named) * KEYS + u64::from(low_part(view, loaded, reloc))
-}
-
-/// The value of symbol `k`, and 0 behind the last.
-fn symbol_value(view: &ElfView, k: usize) -> u32
-    ensures { result ≡ (symbol_at (plain_view view.now) k).value }
-{
-    match view.symbols.get(k) {
-        Some(symbol) => symbol.value,
-        None => 0,
-    }
 }
 
 /// The twelve bits that the instruction of a pair's low relocation takes, if it takes them without more.

@@ -32,6 +32,15 @@ pub fn sound_kinds(alloc: Global, view: &ElfView, loaded: &[bool]) -> Result<Vec
     Ok(marks)
 }
 
+/// By these marks, relocation `i` is of a sound kind.
+pub fn is_sound(view: &ElfView, sound: &[bool], i: usize) -> bool
+    requires sound { sound.now ≡ all_sound (plain_view view.now) }
+    requires below { i < length view.now.relocs.items }
+    ensures { result ≡ is_sound_kind (plain_view view.now) i }
+{
+    sound[i]
+}
+
 /// Relocation `i` is of a sound kind.
 fn is_sound_kind(view: &ElfView, loaded: &[bool], lists: &RelocationLists, i: usize) -> bool
     requires read { IsRead view.now }

@@ -1,14 +1,13 @@
 ghost use Rattle.std.specs.Prelude.{◌≡◌, ◌<◌, true, false, length, MatchOption};
 ghost use Rattle.list_checks.specs.Tests.{any_below};
 ghost use Rattle.elf_reader.specs.File.{plain_view};
-ghost use Rattle.elf_reader.specs.Loaded.{is_loaded};
 ghost use Rattle.loaded_file.specs.Marks.{all_loaded};
 ghost use Rattle.loaded_file.specs.Code.{is_code_word, image_word};
 ghost use Rattle.loaded_file.specs.Read.{IsRead};
 ghost use Rattle.sound_relocations.specs.Sound.{holds_data};
 
 use elf_reader::{EXECUTABLE_BIT, ElfView, SHT_PROGBITS};
-use loaded_file::{holds_code, word_in};
+use loaded_file::{content_word, holds_code, is_loaded, word_in};
 
 /// The word of code at `address`, if one stands there.
 pub(crate) fn code_word(view: &ElfView, loaded: &[bool], address: u32) -> Option<u32>
@@ -35,7 +34,7 @@ pub(crate) fn data_word(view: &ElfView, loaded: &[bool], address: u32) -> Option
 {
     for k in 0..view.sections.len() {
         if holds_data(view, loaded, address, k) {
-            return Some(data_word_in(view, k, address));
+            return Some(content_word(view, k, address));
         }
     }
     None
@@ -54,29 +53,4 @@ fn holds_data(view: &ElfView, loaded: &[bool], address: u32, k: usize) -> bool
         && (section.flags >> EXECUTABLE_BIT) & 1 != 1
         && start <= at
         && at + 4 <= start + u64::from(section.size)
-}
-
-/// Section `k` is loaded, by the marks of the sections.
-fn is_loaded(view: &ElfView, loaded: &[bool], k: usize) -> bool
-    requires marks { loaded.now ≡ all_loaded (plain_view view.now) }
-    requires below { k < length view.now.sections.items }
-    ensures { result ≡ is_loaded (plain_view view.now) k }
-{
-    loaded[k]
-}
-
-/// The word at `address` when the program starts, which section `k` holds.
-fn data_word_in(view: &ElfView, k: usize, address: u32) -> u32
-    requires read { IsRead view.now }
-    requires holds { holds_data (plain_view view.now) address k ≡ true }
-    ensures { result ≡ image_word (plain_view view.now) address }
-{
-    let section = &view.sections[k];
-    let at = (address - section.addr) as usize;
-    u32::from_le_bytes([
-        section.bytes[at],
-        section.bytes[at + 1],
-        section.bytes[at + 2],
-        section.bytes[at + 3],
-    ])
 }

@@ -1,33 +1,6 @@
-use Rattle.std.proofs.Common.{arith}
-use Rattle.loaded_file.proofs.WordLemmas.{word_stands}
+use Rattle.elf_reader.specs.File.{plain_view}
+use Rattle.loaded_file.proofs.WordLemmas.{code_content}
 use Rattle.loaded_file.proofs.code_words.word_in.Goals as goal
 
-pub overflow_sub-at : goal.overflow_sub-at
-overflow_sub-at c =
-    (word_stands c.args.view.now c.args.k c.args.address c.index-section.result.now c.requires.read c.requires.holds c.index-section.ensures).from
-
-pub bounds-section-at : goal.bounds-section-at
-bounds-section-at c =
-    let inside = (word_stands c.args.view.now c.args.k c.args.address c.index-section.result.now c.requires.read c.requires.holds c.index-section.ensures).inside in
-    omega (arith, inside)
-
-pub bounds-section-at-2 : goal.bounds-section-at-2
-bounds-section-at-2 c =
-    let inside = (word_stands c.args.view.now c.args.k c.args.address c.index-section.result.now c.requires.read c.requires.holds c.index-section.ensures).inside in
-    omega (arith, inside)
-
-pub bounds-section-at-3 : goal.bounds-section-at-3
-bounds-section-at-3 c =
-    let inside = (word_stands c.args.view.now c.args.k c.args.address c.index-section.result.now c.requires.read c.requires.holds c.index-section.ensures).inside in
-    omega (arith, inside)
-
-pub bounds-section-at-4 : goal.bounds-section-at-4
-bounds-section-at-4 c =
-    let inside = (word_stands c.args.view.now c.args.k c.args.address c.index-section.result.now c.requires.read c.requires.holds c.index-section.ensures).inside in
-    omega (arith, inside)
-
-pub returns : goal.returns
-returns c =
-    let is = (word_stands c.args.view.now c.args.k c.args.address c.index-section.result.now c.requires.read c.requires.holds c.index-section.ensures).is in
-    let made = c.from_le_bytes.ensures in
-    omega (arith, is, made)
+pub content_word-requires-clause-has : goal.content_word-requires-clause-has
+content_word-requires-clause-has c = code_content (plain_view c.args.view.now) c.args.k c.args.address c.requires.holds

@@ -3,17 +3,12 @@ use Rattle.elf_reader.specs.File.{plain_view}
 use Rattle.object_graph.specs.Graphs.{same_site}
 use Rattle.object_graph.specs.Gathered.{gives_high, site_place}
 use Rattle.object_graph.proofs.AlikeLemmas.{site_itself}
-use Rattle.object_graph.proofs.GatherLemmas.{gathered_more, apart_more}
+use Rattle.object_graph.proofs.GatherLemmas.{gather_more}
 use Rattle.object_graph.proofs.SeparateLemmas.{highs_separate}
 use Rattle.object_graph.proofs.sites.high_sites.Goals as goal
 
 pub loop-i-preserved : goal.loop-i-preserved
 loop-i-preserved c =
     let v = plain_view c.args.view.now in
-    let test = gives_high v c.args.ranges.now in
-    let held = c.loop-i.invariant in
-    let more = c.in_ok-push_site.ensures in
-    record {
-      exact = gathered_more same_site test _ _ c.high_site-site.result c.loop-i.i more held.exact c.high_site-site.ensures;
-      apart = apart_more site_place same_site test site_itself _ _ c.high_site-site.result c.loop-i.i more held.exact c.high_site-site.ensures (highs_separate v c.args.ranges.now c.requires.movable c.loop-i.i (omega arith)) held.apart;
-    }
+    let apart = highs_separate v c.args.ranges.now c.requires.movable c.loop-i.i (omega arith) in
+    gather_more site_place same_site (gives_high v c.args.ranges.now) site_itself _ _ c.high_site-site.result c.loop-i.i c.in_ok-push_some.ensures c.loop-i.invariant c.high_site-site.ensures apart

@@ -2,9 +2,9 @@ use Rattle.std.proofs.Common.{◌≡◌, ℕ, Bool}
 use Rattle.std.specs.List.{count_by}
 use Rattle.list_checks.specs.Sorted.{count_below}
 use Rattle.elf_reader.specs.File.{plain_view}
-use Rattle.movable_ranges.specs.Shares.{begins_by}
-use Rattle.movable_ranges.proofs.cover.homes.Given as goal
+use Rattle.movable_ranges.specs.Shares.{bounds_by}
+use Rattle.movable_ranges.proofs.cover.bounds.Given as goal
 
 abbrev pub invariant-loop-k : goal.invariant-loop-k
 invariant-loop-k l =
-    (test : ℕ → Bool) → count_by test l.homes.items ≡ count_below (begins_by (plain_view l.view) test) l.k
+    (test : ℕ → Bool) → count_by test l.bounds.items ≡ count_below (bounds_by (plain_view l.view) l.bound test) l.k

@@ -1,8 +1,0 @@
-use Rattle.std.proofs.Common.{◌≡◌, None}
-use Rattle.list_checks.specs.First.{first_below}
-use Rattle.elf_reader.specs.File.{plain_view}
-use Rattle.object_graph.specs.LayoutFaults.{spm_overlap_fault}
-use Rattle.object_graph.proofs.layout.check_spm_overlaps.Given as goal
-
-abbrev pub invariant-loop-g : goal.invariant-loop-g
-invariant-loop-g l = first_below (spm_overlap_fault (plain_view l.view) l.board) l.g ≡ None
