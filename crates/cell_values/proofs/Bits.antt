@@ -52,25 +52,25 @@ and_high =
 abbrev pub ChangesSmall : (ℕ → ℕ → ℕ) → ℕ → Type 0
 ChangesSmall op g = (w m : ℕ) → m < g → op w m + w % g ≡ w + op (w % g) m
 
-or_small_at : (e : ℕ) → ChangesSmall bit_or (2 ^ e)
-or_small_at e w m small =
+-- an operation on bits takes numbers apart at a power of two
+abbrev pub TakesApart : (ℕ → ℕ → ℕ) → Type 0
+TakesApart op = (e a b r s : ℕ) → r < 2 ^ e → s < 2 ^ e → op (a * 2 ^ e + r) (b * 2 ^ e + s) ≡ op a b * 2 ^ e + op r s
+
+small_at : (op : ℕ → ℕ → ℕ) → TakesApart op → ((a : ℕ) → op a 0 ≡ a) → (e : ℕ) → ChangesSmall op (2 ^ e)
+small_at op block zero_right e w m small =
     let whole = mod-add-div' w (2 ^ e) in
     let left : w / 2 ^ e * 2 ^ e + w % 2 ^ e ≡ w = omega arith in
     let right : 0 * 2 ^ e + m ≡ m = omega arith in
-    let above = or_zero_r (w / 2 ^ e) in
-    let parts = or_block e (w / 2 ^ e) 0 (w % 2 ^ e) m (mod-lt w (pow_pos e)) small in
+    let above = zero_right (w / 2 ^ e) in
+    let parts = block e (w / 2 ^ e) 0 (w % 2 ^ e) m (mod-lt w (pow_pos e)) small in
     let joined = rw (left, right, above) at parts in
     omega arith
 
+or_small_at : (e : ℕ) → ChangesSmall bit_or (2 ^ e)
+or_small_at = small_at bit_or or_block or_zero_r
+
 xor_small_at : (e : ℕ) → ChangesSmall bit_xor (2 ^ e)
-xor_small_at e w m small =
-    let whole = mod-add-div' w (2 ^ e) in
-    let left : w / 2 ^ e * 2 ^ e + w % 2 ^ e ≡ w = omega arith in
-    let right : 0 * 2 ^ e + m ≡ m = omega arith in
-    let above = xor_zero_r (w / 2 ^ e) in
-    let parts = xor_block e (w / 2 ^ e) 0 (w % 2 ^ e) m (mod-lt w (pow_pos e)) small in
-    let joined = rw (left, right, above) at parts in
-    omega arith
+xor_small_at = small_at bit_xor xor_block xor_zero_r
 
 pub or_small : (g : ℕ) → IsGrain g → ChangesSmall bit_or g
 or_small = at_grain (ChangesSmall bit_or) (or_small_at 4) (or_small_at 5) (or_small_at 6)

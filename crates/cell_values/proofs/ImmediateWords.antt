@@ -1,11 +1,11 @@
 -- Operations with immediates are those with registers that hold them.
-use Rattle.std.proofs.Common.{◌≡◌, ℕ, ◌<◌, false, ℤ, pos, negsuc, refl, arith}
-use Rattle.std.proofs.lemmas.Int.{ints}
+use Rattle.std.proofs.Common.{◌≡◌, ℕ, ◌<◌, false, ℤ, refl}
 use Rattle.std.specs.Int.{cast_unsigned, w32}
-use Rattle.rv_decode.specs.Table.{IsWithin, IsImmInRange}
+use Rattle.rv_decode.specs.Table.{IsImmInRange}
 use Rattle.rv_decode.specs.Acts.{imm_value, reg_value}
 use Rattle.rv_decode.specs.declared.instructions.ImmKind.{ImmKind}
 use Rattle.rv_decode.specs.declared.instructions.ImmKind.TheVariants.{Addi, Slti, Sltiu, Xori, Ori, Andi, Slli, Srli, Srai}
+use Rattle.rv_decode.proofs.Words.{fitting, imm_fits}
 use Rattle.cell_values.specs.Objects.{Objects}
 use Rattle.cell_values.specs.Operations.{operation_of, op_reg}
 use Rattle.cell_values.specs.declared.values.Val.{Val}
@@ -16,24 +16,8 @@ use Rattle.cell_values.specs.WordLaws.{ImmediatesStand}
 use Rattle.cell_values.proofs.OperationWords.{operations_stand}
 
 -- the word of an immediate
-small_word : (imm : ℤ) → IsWithin 2048 imm → cast_unsigned w32 imm < 4294967296
-small_word (pos n) range = omega arith
-small_word (negsuc n) range = omega arith
-
-shift_word : (imm : ℤ) → IsImmInRange Slli imm → cast_unsigned w32 imm < 4294967296
-shift_word (pos n) range = omega (arith, ints)
-shift_word (negsuc n) range = omega (arith, ints)
-
 imm_word : (kind : ImmKind) (imm : ℤ) → IsImmInRange kind imm → cast_unsigned w32 imm < 4294967296
-imm_word Addi imm range = small_word imm range
-imm_word Slti imm range = small_word imm range
-imm_word Sltiu imm range = small_word imm range
-imm_word Xori imm range = small_word imm range
-imm_word Ori imm range = small_word imm range
-imm_word Andi imm range = small_word imm range
-imm_word Slli imm range = shift_word imm range
-imm_word Srli imm range = shift_word imm range
-imm_word Srai imm range = shift_word imm range
+imm_word kind imm range = fitting imm (imm_fits kind imm range)
 
 -- what is left of a word and an immediate is what is left of the word and the immediate's word. Of the
 -- comparison with sign this is not needed: it knows numbers alone

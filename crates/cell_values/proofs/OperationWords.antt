@@ -137,22 +137,10 @@ module _ (os : Objects) (place : Places) (up : Uppers) (fit : Fit os place) (mak
       lows_stand os place up fit makes kind m n k x y w z changes.takes apart first second
 
   changes_or : Changes Or os.grain
-  changes_or =
-      record {
-        takes = refl;
-        either_order = or_comm;
-        word = λ a b first second. or_lt 32 a b first second;
-        small = or_small os.grain fit.grain;
-      }
+  changes_or = record { takes = refl; either_order = or_comm; word = or_lt 32; small = or_small os.grain fit.grain }
 
   changes_xor : Changes Xor os.grain
-  changes_xor =
-      record {
-        takes = refl;
-        either_order = xor_comm;
-        word = λ a b first second. xor_lt 32 a b first second;
-        small = xor_small os.grain fit.grain;
-      }
+  changes_xor = record { takes = refl; either_order = xor_comm; word = xor_lt 32; small = xor_small os.grain fit.grain }
 
   -- ---- others
 

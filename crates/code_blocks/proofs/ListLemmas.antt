@@ -1,29 +1,22 @@
 -- Tests over lists of numbers.
-use Rattle.std.proofs.Common.{◌≡◌, ◌∙◌, inl, inr, ℕ, ◌<◌, ◌==◌, Bool, true, false, ◌||◌, List, [], ◌∷◌, map, length, slice_index_or, refl, sym, ap}
+use Rattle.std.proofs.Common.{◌≡◌, ◌∙◌, inl, inr, ℕ, ◌<◌, ◌==◌, Bool, true, ◌||◌, List, [], ◌∷◌, map, length, slice_index_or, refl, sym, ap}
 use Rattle.std.specs.List.{list_any}
 use Rattle.std.proofs.lemmas.Bool.{eqb-true, eq-eqb}
 use Rattle.std.proofs.lemmas.List.Folds.{list_any_at}
 use Rattle.list_checks.proofs.TestLemmas.{either}
 use Rattle.code_leaders.specs.Early.{has}
+use Rattle.code_leaders.proofs.LeaderLemmas.{left_passes, right_passes}
 
 -- a list passes a test where the list that it is made from passes the test of what is made
 pub any_map : {A B : Type 0} (f : A → B) (test : B → Bool) (xs : List A) → list_any test (map f xs) ≡ list_any (λ x. test (f x)) xs
 any_map f test [] = refl
 any_map f test (x ∷ xs) = ap (λ (b : Bool). test (f x) || b) (any_map f test xs)
 
-left_or : (a b : Bool) → a ≡ true → a || b ≡ true
-left_or true b is = refl
-left_or false b is = cc
-
-right_or : (a b : Bool) → b ≡ true → a || b ≡ true
-right_or true b is = refl
-right_or false b is = is
-
 pub has_first : (x : ℕ) (xs : List ℕ) → has (x ∷ xs) x ≡ true
-has_first x xs = left_or (x == x) (has xs x) (eq-eqb x x refl)
+has_first x xs = left_passes (x == x) (has xs x) (eq-eqb x x refl)
 
 pub has_later : (x : ℕ) (xs : List ℕ) (a : ℕ) → has xs a ≡ true → has (x ∷ xs) a ≡ true
-has_later x xs a found = right_or (a == x) (has xs a) found
+has_later x xs a found = right_passes (a == x) (has xs a) found
 
 -- tests that are the same at each number of a list
 pub any_same_in : (t u : ℕ → Bool) (xs : List ℕ) → ((x : ℕ) → has xs x ≡ true → t x ≡ u x) → list_any t xs ≡ list_any u xs
@@ -38,8 +31,8 @@ pub any_in : (test : ℕ → Bool) (xs : List ℕ) (x : ℕ) → has xs x ≡ tr
 any_in test [] x found passes = cc
 any_in test (y ∷ xs) x found passes =
     elim (either (x == y) (has xs x) found) [
-      | inl here ↦ left_or (test y) (list_any test xs) (ap test (sym (eqb-true x y here)) ∙ passes)
-      | inr later ↦ right_or (test y) (list_any test xs) (any_in test xs x later passes)
+      | inl here ↦ left_passes (test y) (list_any test xs) (ap test (sym (eqb-true x y here)) ∙ passes)
+      | inr later ↦ right_passes (test y) (list_any test xs) (any_in test xs x later passes)
     ]
 
 -- the number at a place is in the list

@@ -84,6 +84,9 @@ word_held v k a i holds below =
     let parts = both (is_code_range v k) (lies_in s.addr s.size a 4) holds in
     both_pass (is_code_range v k) (lies_in s.addr s.size (a + 4 * i) 4) parts.0 (lies_behind s.addr s.size a i parts.1 below)
 
+pub word_held_fits : (view : ElfView) (k a i : ℕ) → IsRead view → holds_code (plain_view view) a k ≡ true → i < ((section_at (plain_view view) k).addr + (section_at (plain_view view) k).size - a) / 4 → a + 4 * i + 4 < 4294967296
+word_held_fits view k a i read holds below = word_fits view k (a + 4 * i) read (word_held (plain_view view) k a i holds below)
+
 -- the address behind a word of code is below 2 ^ 32
 pub code_fits : (view : ElfView) (a : ℕ) → IsRead view → is_code_word (plain_view view) a ≡ true → a + 4 < 4294967296
 code_fits view a read code =

@@ -7,7 +7,7 @@ ghost use Rattle.loaded_file.specs.Code.{is_code_word};
 ghost use Rattle.loaded_file.specs.Read.{IsRead};
 ghost use Rattle.code_leaders.specs.Words.{any_code_word};
 ghost use Rattle.code_leaders.specs.AllLeaders.{IsLeaders};
-ghost use Rattle.code_blocks.specs.Blocks.{start_of, IsBlock, IsCode, is_any, block_count, code_fault};
+ghost use Rattle.code_blocks.specs.Blocks.{start_of, IsBlock, IsFunctionOf, IsCode, is_any, block_count, code_fault};
 ghost use Rattle.code_blocks.specs.Kept.{AreKept, AreApart};
 
 use crate::fault::CodeFault;
@@ -149,6 +149,18 @@ fn block_from(
         start,
         units: walk.units,
         end: walk.end,
-        function: function_of(functions, start),
+        function: owner_of(functions, start),
     })
+}
+
+/// The number of the function in whose range an address lies.
+fn owner_of(functions: &[Function], address: u32) -> Option<u32>
+    requires apart { AreApart functions.now }
+    requires few { length functions.now < 2 ^ 32 }
+    ensures { IsFunctionOf functions.now address result }
+{
+    match function_of(functions, address) {
+        Some(place) => Some(place as u32),
+        None => None,
+    }
 }

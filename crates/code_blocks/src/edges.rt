@@ -45,8 +45,8 @@ fn two_addresses(alloc: Global, first: u32, second: u32) -> SmallVec<u32, 2>
 }
 
 impl Code {
-    ghost use Rattle.std.specs.Prelude.{ℕ, ◌+◌, ◌<◌, ◌≤◌, List, ◌++◌, length};
-    ghost use Rattle.std.specs.List.Sorted.{IsStrictlyIncreasing};
+    ghost use Rattle.std.specs.Prelude.{ℕ, ◌+◌, ◌<◌, ◌≤◌, nat_lt, true, false, List, ◌++◌, length};
+    ghost use Rattle.std.specs.List.Sorted.{IsStrictlyIncreasing, IsPartitionPoint};
     ghost use Rattle.smallvec.specs.SmallVec.{HasRoomFor};
     ghost use Rattle.code_blocks.specs.Edges.{successors};
     ghost use Rattle.code_blocks.specs.Numbers.{starts_of, end_at, IsNumberAt, AreNumbersAt};
@@ -56,7 +56,7 @@ impl Code {
         requires { IsStrictlyIncreasing (starts_of self.now) }
         ensures { IsNumberAt self.now leader result }
     {
-        let count = self.blocks.partition_point(|block| block.start < leader);
+        let count = self.blocks_before(leader);
         if count == self.blocks.len() {
             return None;
         }
@@ -65,6 +65,15 @@ impl Code {
         } else {
             None
         }
+    }
+
+    /// How many blocks begin before an address.
+    fn blocks_before(&self, address: u32) -> usize
+        requires { IsStrictlyIncreasing (starts_of self.now) }
+        ensures bound { result ≤ length self.now.blocks.items }
+        ensures point { IsPartitionPoint (λ b. nat_lt b.start address ≡ true) (λ b. nat_lt b.start address ≡ false) self.now.blocks.items result }
+    {
+        self.blocks.partition_point(|block| block.start < address)
     }
 
     /// The numbers of the blocks to which direct edges lead from block `block`: of those that begin where its

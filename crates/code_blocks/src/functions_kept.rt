@@ -1,5 +1,6 @@
-ghost use Rattle.std.specs.Prelude.{◌≡◌, ℕ, ◌+◌, ◌++◌, ◌∷◌, [], ◌^◌, ◌<◌, ◌≤◌, nat_lt, true, false, length, map, IfOk, MatchOption, slice_index_or};
+ghost use Rattle.std.specs.Prelude.{◌≡◌, ℕ, ◌+◌, ◌++◌, ◌∷◌, [], ◌<◌, ◌≤◌, nat_lt, nat_le, true, false, length, map, IfOk, MatchOption, slice_index_or};
 ghost use Rattle.std.specs.List.{All, list_any};
+ghost use Rattle.std.specs.List.Sorted.{IsPartitionPoint};
 ghost use Rattle.elf_reader.specs.File.{plain_view};
 ghost use Rattle.loaded_file.specs.Marks.{all_loaded};
 ghost use Rattle.loaded_file.specs.Records.{symbol_at};
@@ -72,20 +73,28 @@ fn keep(
     Ok(u64::from(symbol.value) + u64::from(symbol.size))
 }
 
-/// The function in whose range an address lies: its place among those that are kept.
-pub(crate) fn function_of(functions: &[Function], address: u32) -> Option<u32>
-    requires apart { AreApart functions.now }
-    requires few { length functions.now < 2 ^ 32 }
+/// The function in whose range an address lies, by binary search: its place among functions that are apart.
+pub fn function_of(functions: &[Function], address: u32) -> Option<usize>
+    requires { AreApart functions.now }
     ensures { IsFunctionOf functions.now address result }
 {
-    let count = functions.partition_point(|function| function.start <= address);
+    let count = begun_functions(functions, address);
     if count == 0 {
         return None;
     }
     let last = &functions[count - 1];
     if address - last.start < last.size {
-        Some((count - 1) as u32)
+        Some(count - 1)
     } else {
         None
     }
+}
+
+/// How many functions begin at an address or before it.
+fn begun_functions(functions: &[Function], address: u32) -> usize
+    requires { AreApart functions.now }
+    ensures bound { result ≤ length functions.now }
+    ensures point { IsPartitionPoint (λ f. nat_le f.start address ≡ true) (λ f. nat_le f.start address ≡ false) functions.now result }
+{
+    functions.partition_point(|function| function.start <= address)
 }

@@ -16,4 +16,5 @@ mod walking;
 pub use building::blocks;
 pub use ends::End;
 pub use fault::CodeFault;
+pub use functions_kept::function_of;
 pub use parts::{Block, Code, Function, Unit};

@@ -123,15 +123,7 @@ fn pair_end(view: &ElfView, loaded: &[bool], address: u32, word: u32) -> End
 {
     let second = code_word(view, loaded, address + 4);
     let target = pair_target(address, word, second);
-    if links(second) {
-        End::Call {
-            target,
-            back: address + 8,
-            link: rd(second),
-        }
-    } else {
-        End::Tail { target }
-    }
+    call_or(second, target, address + 8, End::Tail { target })
 }
 
 /// The end of a JAL at `address`.
@@ -140,14 +132,21 @@ fn jal_end(address: u32, word: u32) -> End
     ensures { result ≡ (if links word then End.Call (offset address (j_immediate word)) (address + 4) (rd_of word) else End.Jump (offset address (j_immediate word))) }
 {
     let target = jal_target(address, word);
-    if links(word) {
+    call_or(word, target, address + 4, End::Jump { target })
+}
+
+/// A call by a jump that links, and `plain` by one that does not.
+fn call_or(jump: u32, target: u32, back: u32, plain: End) -> End
+    ensures { result ≡ (if links jump then End.Call target back (rd_of jump) else plain) }
+{
+    if links(jump) {
         End::Call {
             target,
-            back: address + 4,
-            link: rd(word),
+            back,
+            link: rd(jump),
         }
     } else {
-        End::Jump { target }
+        plain
     }
 }
 

@@ -9,23 +9,12 @@ use elf_reader::ElfView;
 /// The type of a function's symbol (`STT_FUNC`).
 const STT_FUNC: u8 = 2;
 
-/// The function in whose range an address lies, by binary search: its place among those of the code.
+/// The function in whose range an address lies: its place among those of the code.
 pub(crate) fn function_of(code: &Code, address: u32) -> Option<usize>
     requires { AreOrdered code.now.functions.items }
     ensures { IsFunctionOf code.now.functions.items address result }
 {
-    let count = code
-        .functions
-        .partition_point(|function| function.start <= address);
-    if count == 0 {
-        return None;
-    }
-    let last = &code.functions[count - 1];
-    if address - last.start < last.size {
-        Some(count - 1)
-    } else {
-        None
-    }
+    code_blocks::function_of(&code.functions, address)
 }
 
 /// The function that starts at an address.

@@ -23,7 +23,7 @@ use Rattle.rv_decode.specs.declared.instructions.RegKind.TheVariants.{Add, Sub, 
 
 -- ---- signed numbers as words
 
-fitting : (z : ℤ) → FitsSigned w32 z → cast_unsigned w32 z < 4294967296
+pub fitting : (z : ℤ) → FitsSigned w32 z → cast_unsigned w32 z < 4294967296
 fitting (pos n) fits = omega arith
 fitting (negsuc n) fits = omega arith
 

@@ -12,7 +12,7 @@ overflow_add-address c =
 pub code_word-second-requires-clause-code : goal.code_word-second-requires-clause-code
 code_word-second-requires-clause-code c = (pair_is_code (plain_view c.args.view.now) c.args.address c.requires.pair).1
 
-pub overflow_add-result : goal.overflow_add-result
-overflow_add-result c =
+pub overflow_add-address-2 : goal.overflow_add-address-2
+overflow_add-address-2 c =
     let fits = code_fits c.args.view.now (c.args.address + 4) c.requires.read (pair_is_code (plain_view c.args.view.now) c.args.address c.requires.pair).1 in
     omega (arith, fits)

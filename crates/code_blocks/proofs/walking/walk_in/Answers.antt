@@ -1,8 +1,7 @@
 use Rattle.std.proofs.Common.{◌∙◌, ◌+◌, ◌-◌, ◌*◌, ◌/◌, ◌<◌, ◌≤◌, refl, sym, arith}
 use Rattle.elf_reader.specs.File.{plain_view}
 use Rattle.elf_reader.specs.Loaded.{section_at}
-use Rattle.loaded_file.proofs.WordLemmas.{word_fits}
-use Rattle.code_blocks.proofs.RangeLemmas.{word_held}
+use Rattle.code_blocks.proofs.RangeLemmas.{word_held, word_held_fits}
 use Rattle.code_blocks.proofs.StepLemmas.{walked_none, walked_more, walk_stopped, walk_over, is_unit, no_end}
 use Rattle.code_blocks.proofs.walking.walk_in.Goals as goal
 
@@ -13,33 +12,21 @@ loop-i-init c =
 
 pub overflow_mul-address : goal.overflow_mul-address
 overflow_mul-address c =
-    let v = plain_view c.args.view.now in
-    let n = ((section_at v c.args.k).addr + (section_at v c.args.k).size - c.args.start) / 4 in
-    let below : c.loop-i.i < n = omega (arith, c.words_from-i-end.ensures, c.loop-i-test.true) in
-    let fits = word_fits c.args.view.now c.args.k (c.args.start + 4 * c.loop-i.i) c.requires.read (word_held v c.args.k c.args.start c.loop-i.i c.requires.holds below) in
+    let fits = word_held_fits c.args.view.now c.args.k c.args.start c.loop-i.i c.requires.read c.requires.holds (omega (arith, c.words_from-i-end.ensures, c.loop-i-test.true)) in
     omega (arith, fits)
 
 pub overflow_add-address : goal.overflow_add-address
 overflow_add-address c =
-    let v = plain_view c.args.view.now in
-    let n = ((section_at v c.args.k).addr + (section_at v c.args.k).size - c.args.start) / 4 in
-    let below : c.loop-i.i < n = omega (arith, c.words_from-i-end.ensures, c.loop-i-test.true) in
-    let fits = word_fits c.args.view.now c.args.k (c.args.start + 4 * c.loop-i.i) c.requires.read (word_held v c.args.k c.args.start c.loop-i.i c.requires.holds below) in
+    let fits = word_held_fits c.args.view.now c.args.k c.args.start c.loop-i.i c.requires.read c.requires.holds (omega (arith, c.words_from-i-end.ensures, c.loop-i-test.true)) in
     omega (arith, fits)
 
 pub word_in-word-requires-clause-holds : goal.word_in-word-requires-clause-holds
 word_in-word-requires-clause-holds c =
-    let v = plain_view c.args.view.now in
-    let n = ((section_at v c.args.k).addr + (section_at v c.args.k).size - c.args.start) / 4 in
-    let below : c.loop-i.i < n = omega (arith, c.words_from-i-end.ensures, c.loop-i-test.true) in
-    word_held v c.args.k c.args.start c.loop-i.i c.requires.holds below
+    word_held (plain_view c.args.view.now) c.args.k c.args.start c.loop-i.i c.requires.holds (omega (arith, c.words_from-i-end.ensures, c.loop-i-test.true))
 
 pub end_behind-requires-clause-fits : goal.end_behind-requires-clause-fits
 end_behind-requires-clause-fits c =
-    let v = plain_view c.args.view.now in
-    let n = ((section_at v c.args.k).addr + (section_at v c.args.k).size - c.args.start) / 4 in
-    let below : c.loop-i.i < n = omega (arith, c.words_from-i-end.ensures, c.loop-i-test.true) in
-    word_fits c.args.view.now c.args.k (c.args.start + 4 * c.loop-i.i) c.requires.read (word_held v c.args.k c.args.start c.loop-i.i c.requires.holds below)
+    word_held_fits c.args.view.now c.args.k c.args.start c.loop-i.i c.requires.read c.requires.holds (omega (arith, c.words_from-i-end.ensures, c.loop-i-test.true))
 
 pub returns-in-Some : goal.returns-in-Some
 returns-in-Some c =
