@@ -1,5 +1,5 @@
 -- The way to a node, while a tree is read from its text.
-use Rattle.std.proofs.Common.{◌≡◌, ◌∙◌, ◌≢◌, inl, inr, ℕ, zero, suc, ◌+◌, ◌-◌, ◌*◌, ◌/◌, ◌%◌, ◌^◌, ◌<◌, ◌≤◌, Bool, true, false, List, [], ◌∷◌, length, length-append, get_or, slice_index, slice_set, Result, Ok, Err, refl, sym, ap, subst, get_or-set_other, get_or-set_same, arith}
+use Rattle.std.proofs.Common.{◌≡◌, ◌∙◌, ◌≢◌, inl, inr, ℕ, zero, suc, ◌+◌, ◌-◌, ◌*◌, ◌^◌, ◌<◌, ◌≤◌, Bool, true, false, List, [], ◌∷◌, length, length-append, slice_set, Result, Ok, Err, refl, sym, ap, subst, get_or-set_other, get_or-set_same, arith}
 use Rattle.std.proofs.Common.{replicate}
 use Rattle.std.proofs.lemmas.List.{set-get_or}
 use Rattle.placement_programme.specs.Plain.{PlainSide}
@@ -9,9 +9,10 @@ use Rattle.certificate_checker.specs.Shows.{all_free, in_32_bits}
 use Rattle.certificate_checker.specs.Walks.{IsAt, FailsIn, Walks}
 use Rattle.certificate_checker.specs.Reading.{◌>>=◌, number_in, tree_at}
 use Rattle.certificate_checker.specs.Loading.{behind_of, both_of}
-use Rattle.certificate_checker.specs.Ways.{Step, to_zero, to_one, marks_at, node_at, HeldBefore, Completes, resumed, step_number, child_of, HasWay, HasChildren, HoldsSoFar, SoFar, HoldsWith, Behind, TreeText, text_of, IsBefore, IsBehind, MayMark, marked, StandsAt, IfEnded, CanRise}
+use Rattle.certificate_checker.specs.Ways.{Step, to_zero, to_one, marks_at, node_at, HeldBefore, Completes, resumed, written_step, step_to_one, step_in, HasWay, HoldsSoFar, SoFar, HoldsWith, Behind, TreeText, text_of, IsBefore, IsBehind, MayMark, marked, StandsAt, IfEnded, CanRise}
 use Rattle.certificate_checker.specs.declared.fault.CertFault.{CertFault}
 use Rattle.certificate_checker.specs.declared.fields.Part.TheVariants.{Node}
+use Rattle.certificate_checker.specs.declared.steps.PathStep.{PathStep}
 use Rattle.certificate_checker.specs.declared.walking.Failing.{Failing}
 use Rattle.certificate_checker.proofs.Failures.{root_fails, set_twice, marks_one}
 use Rattle.certificate_checker.specs.Digits.{number_of}
@@ -24,37 +25,19 @@ use Rattle.certificate_checker.proofs.TreeLaws.{tree_takes}
 use Rattle.certificate_checker.proofs.StreamLemmas.{var_broken}
 
 -- an entry behind a way may change
-way_kept : (path : List ℕ) (way : List Step) (k n : ℕ) → length way ≤ k → HasWay path way → HasWay (slice_set path k n) way
-way_kept path [] k n past has = tt
-way_kept path (step ∷ way) k n past has =
+way_kept : (path : List PathStep) (way : List Step) (k : ℕ) (step : PathStep) → length way ≤ k → HasWay path way → HasWay (slice_set path k step) way
+way_kept path [] k step past has = tt
+way_kept path (last ∷ way) k step past has =
     let apart : length way ≢ k = omega (arith, past) in
-    (get_or-set_other path k (length way) n 0 apart ∙ has.0, way_kept path way k n (omega (arith, past)) has.1)
+    (get_or-set_other path k (length way) step (written_step (to_zero 0)) apart ∙ has.0, way_kept path way k step (omega (arith, past)) has.1)
 
-children_kept : (path : List ℕ) (way : List Step) (k n : ℕ) → length way ≤ k → HasChildren path way → HasChildren (slice_set path k n) way
-children_kept path [] k n past has = tt
-children_kept path (step ∷ way) k n past has =
-    let apart : length way ≢ k = omega (arith, past) in
-    (ap (λ m. m % 2) (get_or-set_other path k (length way) n 0 apart) ∙ has.0, children_kept path way k n (omega (arith, past)) has.1)
+way_pushed : (path : List PathStep) (last : Step) (way : List Step) (k : ℕ) (step : PathStep) → length way ≡ k → k < length path → step ≡ written_step last → HasWay path way → HasWay (slice_set path k step) (last ∷ way)
+way_pushed path last way k step long inside is has =
+    (ap (step_in (slice_set path k step)) long ∙ (get_or-set_same path k step (written_step (to_zero 0)) inside ∙ is), way_kept path way k step (omega (arith, long)) has)
 
-way_pushed : (path : List ℕ) (step : Step) (way : List Step) (k n : ℕ) → length way ≡ k → k < length path → n ≡ step_number step → HasWay path way → HasWay (slice_set path k n) (step ∷ way)
-way_pushed path step way k n long inside is has =
-    (ap (λ i. get_or (slice_set path k n) i 0) long ∙ (get_or-set_same path k n 0 inside ∙ is), way_kept path way k n (omega (arith, long)) has)
-
-children_pushed : (path : List ℕ) (step : Step) (way : List Step) (k n : ℕ) → length way ≡ k → k < length path → n % 2 ≡ child_of step → HasChildren path way → HasChildren (slice_set path k n) (step ∷ way)
-children_pushed path step way k n long inside is has =
-    (ap (λ i. get_or (slice_set path k n) i 0 % 2) long ∙ (ap (λ m. m % 2) (get_or-set_same path k n 0 inside) ∙ is), children_kept path way k n (omega (arith, long)) has)
-
-child_is : (n : ℕ) (step : Step) → n ≡ step_number step → n % 2 ≡ child_of step
-child_is n (to_zero j) is = omega (arith, is)
-child_is n (to_one j l) is = omega (arith, is)
-
-children_of : (path : List ℕ) (way : List Step) → HasWay path way → HasChildren path way
-children_of path [] has = tt
-children_of path (step ∷ way) has = (child_is (slice_index path (length way)) step has.0, children_of path way has.1)
-
-behind_children : (s : PlainSide) (best : ℕ) (way : List Step) (t : PlainTree) (path : List ℕ) (marks : List Fixing) (o : Result ℕ Failing) → Behind s best way t path marks o → HasChildren path way
-behind_children s best way t path marks (Ok next) b = children_of path way b.written
-behind_children s best way t path marks (Err f) b = b.0
+behind_way : (s : PlainSide) (best : ℕ) (way : List Step) (t : PlainTree) (path : List PathStep) (marks : List Fixing) (o : Result ℕ Failing) → Behind s best way t path marks o → HasWay path way
+behind_way s best way t path marks (Ok next) b = b.written
+behind_way s best way t path marks (Err f) b = b.0
 
 -- a variable that a branch fixed to one is free again
 freed : (s : PlainSide) (way : List Step) (j : ℕ) (marks : List Fixing) → BranchHolds s (marks_at s way) j → marks ≡ slice_set (marks_at s way) j One → slice_set marks j Free ≡ marks_at s way
@@ -82,7 +65,7 @@ read_err total levels [] e = refl
 read_err total levels (to_zero j ∷ way) e = read_err total levels way e
 read_err total levels (to_one j l ∷ way) e = read_err total levels way e
 
-pub read_fault : (x : TreeText) (path : List ℕ) (marks : List Fixing) (depth : ℕ) (o : Result ℕ Failing) (rest : List ℕ) (e : CertFault) → IsBefore x path marks depth o rest → tree_at x.total (x.levels - depth) rest ≡ Err e → tree_at x.total x.levels x.bytes ≡ Err e
+pub read_fault : (x : TreeText) (path : List PathStep) (marks : List Fixing) (depth : ℕ) (o : Result ℕ Failing) (rest : List ℕ) (e : CertFault) → IsBefore x path marks depth o rest → tree_at x.total (x.levels - depth) rest ≡ Err e → tree_at x.total x.levels x.bytes ≡ Err e
 read_fault x path marks depth o rest e before is =
     sym before.read ∙ (ap (resumed x.total x.levels before.way) is ∙ read_err x.total x.levels before.way e)
 
@@ -94,7 +77,7 @@ branch_read : (total levels : ℕ) (bytes : List ℕ) (var : ℕ) (rest : List �
 unfolding tree_at
 branch_read total levels bytes var rest is = rw is refl
 
-pub entered : (x : TreeText) (path : List ℕ) (marks : List Fixing) (newer : List ℕ) (fixed : List Fixing) (depth next : ℕ) (o p : Result ℕ Failing) (bytes : List ℕ) (var : ℕ) (rest : List ℕ) → depth < x.levels → next ≡ depth + 1 → number_in Node 0 4294967295 x.total bytes ≡ Ok (var, rest) → (before : IsBefore x path marks depth o (0 ∷ bytes)) → SoFar x.side x.best (to_zero var ∷ before.way) newer fixed p → IsBefore x newer fixed next p rest
+pub entered : (x : TreeText) (path : List PathStep) (marks : List Fixing) (newer : List PathStep) (fixed : List Fixing) (depth next : ℕ) (o p : Result ℕ Failing) (bytes : List ℕ) (var : ℕ) (rest : List ℕ) → depth < x.levels → next ≡ depth + 1 → number_in Node 0 4294967295 x.total bytes ≡ Ok (var, rest) → (before : IsBefore x path marks depth o (0 ∷ bytes)) → SoFar x.side x.best (to_zero var ∷ before.way) newer fixed p → IsBefore x newer fixed next p rest
 entered x path marks newer fixed depth next o p bytes var rest deep is_next is before after =
     let way = before.way in
     let long = before.long in
@@ -110,9 +93,9 @@ entered x path marks newer fixed depth next o p bytes var rest deep is_next is b
       so_far = after;
     }
 
-pub enters_failed : (s : PlainSide) (best : ℕ) (way : List Step) (path : List ℕ) (marks : List Fixing) (depth var : ℕ) (f : Failing) → length way ≡ depth → depth < length path → SoFar s best way path marks (Err f) → SoFar s best (to_zero var ∷ way) (slice_set path depth 0) marks (Err f)
+pub enters_failed : (s : PlainSide) (best : ℕ) (way : List Step) (path : List PathStep) (marks : List Fixing) (depth var : ℕ) (f : Failing) → length way ≡ depth → depth < length path → SoFar s best way path marks (Err f) → SoFar s best (to_zero var ∷ way) (slice_set path depth (written_step (to_zero var))) marks (Err f)
 enters_failed s best way path marks depth var f long inside before =
-    (children_pushed path (to_zero var) way depth 0 long inside (omega arith) before.0, λ t whole c. before.1 (branch var t c.0) whole c.1)
+    (way_pushed path (to_zero var) way depth (written_step (to_zero var)) long inside refl before.0, λ t whole c. before.1 (branch var t c.0) whole c.1)
 
 number_flat : (n : ℕ) → n < 2 ^ 32 → n ≡ in_32_bits n
 unfolding in_32_bits
@@ -125,10 +108,10 @@ number_on a b node next first second = omega arith
 number_zero : (n k : ℕ) → k ≡ in_32_bits n → k ≡ in_32_bits (0 + n)
 number_zero n k is = let same : n ≡ 0 + n = omega arith in is ∙ ap in_32_bits same
 
-pub enters_wrong : (s : PlainSide) (best : ℕ) (way : List Step) (path : List ℕ) (marks : List Fixing) (depth node var : ℕ) (f : Failing) → length way ≡ depth → depth < length path → depth < 2 ^ 32 → f.node ≡ node → f.depth ≡ depth → (BranchHolds s marks var → ⊥) → SoFar s best way path marks (Ok node) → SoFar s best (to_zero var ∷ way) (slice_set path depth 0) marks (Err f)
+pub enters_wrong : (s : PlainSide) (best : ℕ) (way : List Step) (path : List PathStep) (marks : List Fixing) (depth node var : ℕ) (f : Failing) → length way ≡ depth → depth < length path → depth < 2 ^ 32 → f.node ≡ node → f.depth ≡ depth → (BranchHolds s marks var → ⊥) → SoFar s best way path marks (Ok node) → SoFar s best (to_zero var ∷ way) (slice_set path depth (written_step (to_zero var))) marks (Err f)
 enters_wrong s best way path marks depth node var f long inside small is_node is_depth broken before =
     let missed : BranchHolds s (marks_at s way) var → ⊥ = subst (λ (ms : List Fixing). BranchHolds s ms var → ⊥) before.fixed broken in (
-      children_pushed path (to_zero var) way depth 0 long inside (omega arith) (children_of path way before.written),
+      way_pushed path (to_zero var) way depth (written_step (to_zero var)) long inside refl before.written,
       λ t whole c. (
         node_at way,
         (
@@ -142,17 +125,17 @@ enters_wrong s best way path marks depth node var f long inside small is_node is
       ),
     )
 
-pub enters_held : (s : PlainSide) (best : ℕ) (way : List Step) (path : List ℕ) (marks : List Fixing) (depth node next step var : ℕ) → length way ≡ depth → depth < length path → step ≡ 2 * var → next ≡ in_32_bits (node + 1) → BranchHolds s marks var → SoFar s best way path marks (Ok node) → SoFar s best (to_zero var ∷ way) (slice_set path depth step) (slice_set marks var Zero) (Ok next)
-enters_held s best way path marks depth node next step var long inside is_step is_next rule before =
+pub enters_held : (s : PlainSide) (best : ℕ) (way : List Step) (path : List PathStep) (marks : List Fixing) (depth node next var : ℕ) → length way ≡ depth → depth < length path → next ≡ in_32_bits (node + 1) → BranchHolds s marks var → SoFar s best way path marks (Ok node) → SoFar s best (to_zero var ∷ way) (slice_set path depth (written_step (to_zero var))) (slice_set marks var Zero) (Ok next)
+enters_held s best way path marks depth node next var long inside is_next rule before =
     record {
-      written = way_pushed path (to_zero var) way depth step long inside is_step before.written;
+      written = way_pushed path (to_zero var) way depth (written_step (to_zero var)) long inside refl before.written;
       fixed = ap (λ (ms : List Fixing). slice_set ms var Zero) before.fixed;
       number = number_on (node_at way) 1 node next before.number is_next;
       held = (subst (λ (ms : List Fixing). BranchHolds s ms var) before.fixed rule, before.held);
     }
 
 -- a tree that is one node is read
-pub joined : (s : PlainSide) (best : ℕ) (way : List Step) (t : PlainTree) (path : List ℕ) (marks : List Fixing) (node depth : ℕ) (o p : Result ℕ Failing) → length way ≡ depth → node ≡ behind_of o → SoFar s best way path marks o → Walks s best marks t node depth p → Behind s best way t path marks (both_of o p)
+pub joined : (s : PlainSide) (best : ℕ) (way : List Step) (t : PlainTree) (path : List PathStep) (marks : List Fixing) (node depth : ℕ) (o p : Result ℕ Failing) → length way ≡ depth → node ≡ behind_of o → SoFar s best way path marks o → Walks s best marks t node depth p → Behind s best way t path marks (both_of o p)
 joined s best way t path marks node depth (Err f) p long is before walks = (before.0, λ whole c. before.1 t whole c)
 joined s best way t path marks node depth (Ok k) (Ok next) long is before walks =
     record {
@@ -166,7 +149,7 @@ joined s best way t path marks node depth (Ok k) (Err f) long is before walks =
     let n = walks.0 in
     let d = walks.1.0 in
     let wrong = subst (λ (ms : List Fixing). FirstWrong s best ms t n d) before.fixed walks.1.1.0 in (
-      children_of path way before.written,
+      before.written,
       λ whole c. (
         node_at way + n,
         (
@@ -179,7 +162,7 @@ joined s best way t path marks node depth (Ok k) (Err f) long is before walks =
       ),
     )
 
-pub single_read : (x : TreeText) (path : List ℕ) (marks : List Fixing) (node depth : ℕ) (o p : Result ℕ Failing) (bytes rest : List ℕ) (t : PlainTree) → node ≡ behind_of o → tree_at x.total (x.levels - depth) bytes ≡ Ok (t, rest) → Walks x.side x.best marks t node depth p → IsBefore x path marks depth o bytes → IsBehind x path marks depth (both_of o p) rest
+pub single_read : (x : TreeText) (path : List PathStep) (marks : List Fixing) (node depth : ℕ) (o p : Result ℕ Failing) (bytes rest : List ℕ) (t : PlainTree) → node ≡ behind_of o → tree_at x.total (x.levels - depth) bytes ≡ Ok (t, rest) → Walks x.side x.best marks t node depth p → IsBefore x path marks depth o bytes → IsBehind x path marks depth (both_of o p) rest
 single_read x path marks node depth o p bytes rest t is is_read walks before =
     record {
       way = before.way;
@@ -189,18 +172,11 @@ single_read x path marks node depth o p bytes rest t is is_read walks before =
       so_far = joined x.side x.best before.way t path marks node depth o p before.long is before.so_far walks;
     }
 
--- the number of a step's variable
-half_even : (n j : ℕ) → n ≡ 2 * j → n / 2 ≡ j
-half_even n j is = omega (arith, is)
-
-half_odd : (n j : ℕ) → n ≡ 2 * j + 1 → n / 2 ≡ j
-half_odd n j is = omega (arith, is)
-
 -- from the child for one the way goes up to its branch
-rises : (s : PlainSide) (best : ℕ) (j : ℕ) (l : PlainTree) (way : List Step) (t : PlainTree) (path : List ℕ) (marks : List Fixing) (last : ℕ) (o : Result ℕ Failing) → length way ≡ last → Behind s best (to_one j l ∷ way) t path marks o → Behind s best way (branch j l t) path (marked marks (slice_index path last / 2) Free o) o
+rises : (s : PlainSide) (best : ℕ) (j : ℕ) (l : PlainTree) (way : List Step) (t : PlainTree) (path : List PathStep) (marks : List Fixing) (last : ℕ) (o : Result ℕ Failing) → length way ≡ last → Behind s best (to_one j l ∷ way) t path marks o → Behind s best way (branch j l t) path (marked marks (step_in path last).var Free o) o
 rises s best j l way t path marks last (Err f) long b = (b.0.1, λ whole c. b.1 whole c)
 rises s best j l way t path marks last (Ok next) long b =
-    let var : slice_index path last / 2 ≡ j = half_odd (slice_index path last) j (ap (λ (i : ℕ). slice_index path i) (sym long) ∙ b.written.0) in
+    let var : (step_in path last).var ≡ j = ap (λ (i : ℕ). (step_in path i).var) (sym long) ∙ ap (λ (step : PathStep). step.var) b.written.0 in
     let same : node_at way + (1 + size l) + size t ≡ node_at way + (1 + size l + size t) = omega arith in
     record {
       written = b.written.1;
@@ -211,41 +187,43 @@ rises s best j l way t path marks last (Ok next) long b =
     }
 
 -- from the child for zero the way turns to that for one
-turns : (s : PlainSide) (best : ℕ) (j : ℕ) (way : List Step) (t : PlainTree) (path : List ℕ) (marks : List Fixing) (last : ℕ) (o : Result ℕ Failing) → length way ≡ last → last < length path → Behind s best (to_zero j ∷ way) t path marks o → SoFar s best (to_one j t ∷ way) (slice_set path last (slice_index path last + 1)) (marked marks (slice_index path last / 2) One o) o
+turns : (s : PlainSide) (best : ℕ) (j : ℕ) (way : List Step) (t : PlainTree) (path : List PathStep) (marks : List Fixing) (last : ℕ) (o : Result ℕ Failing) → length way ≡ last → last < length path → Behind s best (to_zero j ∷ way) t path marks o → SoFar s best (to_one j t ∷ way) (slice_set path last (step_to_one (step_in path last))) (marked marks (step_in path last).var One o) o
 turns s best j way t path marks last (Err f) long inside b =
-    let even : slice_index path last % 2 ≡ 0 = ap (λ (i : ℕ). slice_index path i % 2) (sym long) ∙ b.0.0 in
-    (children_pushed path (to_one j t) way last (slice_index path last + 1) long inside (omega (arith, even)) b.0.1, λ r whole c. b.1 whole (r, c))
+    let other = ap (λ (i : ℕ). step_to_one (step_in path i)) (sym long) ∙ ap step_to_one b.0.0 in
+    (way_pushed path (to_one j t) way last (step_to_one (step_in path last)) long inside other b.0.1, λ r whole c. b.1 whole (r, c))
 turns s best j way t path marks last (Ok next) long inside b =
-    let step : slice_index path last ≡ 2 * j = ap (λ (i : ℕ). slice_index path i) (sym long) ∙ b.written.0 in
-    let var = half_even (slice_index path last) j step in
+    let step : step_in path last ≡ written_step (to_zero j) = ap (step_in path) (sym long) ∙ b.written.0 in
+    let var = ap (λ (step : PathStep). step.var) step in
     let same : node_at way + 1 + size t ≡ node_at way + (1 + size t) = omega arith in
     record {
-      written = way_pushed path (to_one j t) way last (slice_index path last + 1) long inside (ap (λ (n : ℕ). n + 1) step) b.written.1;
+      written = way_pushed path (to_one j t) way last (step_to_one (step_in path last)) long inside (ap step_to_one step) b.written.1;
       fixed = ap (λ (k : ℕ). slice_set marks k One) var ∙ marks_one (marks_at s way) marks j b.fixed;
       number = b.number ∙ ap in_32_bits same;
       held = (b.held.0, b.tree, b.held.1);
     }
 
-pub risen : (x : TreeText) (path : List ℕ) (marks : List Fixing) (depth last : ℕ) (o : Result ℕ Failing) (rest : List ℕ) → depth ≡ suc last → slice_index path last % 2 ≡ 1 → IsBehind x path marks depth o rest → IsBehind x path (marked marks (slice_index path last / 2) Free o) last o rest
-risen x path marks depth last o rest is odd b = at b.way b.tree b.long b.read b.so_far
+pub risen : (x : TreeText) (path : List PathStep) (marks : List Fixing) (depth last : ℕ) (o : Result ℕ Failing) (rest : List ℕ) → depth ≡ suc last → (step_in path last).taken ≡ true → IsBehind x path marks depth o rest → IsBehind x path (marked marks (step_in path last).var Free o) last o rest
+risen x path marks depth last o rest is taken b = at b.way b.tree b.long b.read b.so_far
   where
-    at : (way : List Step) (t : PlainTree) → length way ≡ depth → resumed x.total x.levels way (Ok (t, rest)) ≡ tree_at x.total x.levels x.bytes → Behind x.side x.best way t path marks o → IsBehind x path (marked marks (slice_index path last / 2) Free o) last o rest
+    at : (way : List Step) (t : PlainTree) → length way ≡ depth → resumed x.total x.levels way (Ok (t, rest)) ≡ tree_at x.total x.levels x.bytes → Behind x.side x.best way t path marks o → IsBehind x path (marked marks (step_in path last).var Free o) last o rest
     at [] t long read b = absurd (omega (arith, long, is))
     at (to_zero j ∷ way) t long read b =
-        let even : slice_index path last % 2 ≡ 0 = ap (λ (i : ℕ). slice_index path i % 2) (omega (arith, long, is)) ∙ (behind_children x.side x.best (to_zero j ∷ way) t path marks o b).0 in
-        absurd (omega (arith, even, odd))
+        let last_is : last ≡ length way = omega (arith, long, is) in
+        let left_out : (step_in path last).taken ≡ false = ap (λ (i : ℕ). (step_in path i).taken) last_is ∙ ap (λ (step : PathStep). step.taken) (behind_way x.side x.best (to_zero j ∷ way) t path marks o b).0 in
+        absurd (let is_taken = taken in cc)
     at (to_one j l ∷ way) t long read b =
         let shorter : length way ≡ last = omega (arith, long, is) in
         record { way = way; tree = branch j l t; long = shorter; read = read; so_far = rises x.side x.best j l way t path marks last o shorter b }
 
-pub turned : (x : TreeText) (path : List ℕ) (marks : List Fixing) (depth last : ℕ) (o : Result ℕ Failing) (rest : List ℕ) → depth ≡ suc last → last < length path → (slice_index path last % 2 ≡ 1 → ⊥) → IsBehind x path marks depth o rest → IsBefore x (slice_set path last (slice_index path last + 1)) (marked marks (slice_index path last / 2) One o) depth o rest
-turned x path marks depth last o rest is inside even b = at b.way b.tree b.long b.read b.so_far
+pub turned : (x : TreeText) (path : List PathStep) (marks : List Fixing) (depth last : ℕ) (o : Result ℕ Failing) (rest : List ℕ) → depth ≡ suc last → last < length path → (step_in path last).taken ≡ false → IsBehind x path marks depth o rest → IsBefore x (slice_set path last (step_to_one (step_in path last))) (marked marks (step_in path last).var One o) depth o rest
+turned x path marks depth last o rest is inside left_out b = at b.way b.tree b.long b.read b.so_far
   where
-    at : (way : List Step) (t : PlainTree) → length way ≡ depth → resumed x.total x.levels way (Ok (t, rest)) ≡ tree_at x.total x.levels x.bytes → Behind x.side x.best way t path marks o → IsBefore x (slice_set path last (slice_index path last + 1)) (marked marks (slice_index path last / 2) One o) depth o rest
+    at : (way : List Step) (t : PlainTree) → length way ≡ depth → resumed x.total x.levels way (Ok (t, rest)) ≡ tree_at x.total x.levels x.bytes → Behind x.side x.best way t path marks o → IsBefore x (slice_set path last (step_to_one (step_in path last))) (marked marks (step_in path last).var One o) depth o rest
     at [] t long read b = absurd (omega (arith, long, is))
     at (to_one j l ∷ way) t long read b =
-        let odd : slice_index path last % 2 ≡ 1 = ap (λ (i : ℕ). slice_index path i % 2) (omega (arith, long, is)) ∙ (behind_children x.side x.best (to_one j l ∷ way) t path marks o b).0 in
-        absurd (even odd)
+        let last_is : last ≡ length way = omega (arith, long, is) in
+        let taken : (step_in path last).taken ≡ true = ap (λ (i : ℕ). (step_in path i).taken) last_is ∙ ap (λ (step : PathStep). step.taken) (behind_way x.side x.best (to_one j l ∷ way) t path marks o b).0 in
+        absurd (let is_left_out = left_out in cc)
     at (to_zero j ∷ way) t long read b =
         let shorter : length way ≡ last = omega (arith, long, is) in
         record {
@@ -256,23 +234,24 @@ turned x path marks depth last o rest is inside even b = at b.way b.tree b.long 
         }
 
 -- the variable of the last step is one of the side
-pub last_marked : (x : TreeText) (path : List ℕ) (marks : List Fixing) (depth : ℕ) (o : Result ℕ Failing) (rest : List ℕ) → 1 ≤ depth → length x.side.vars ≤ length marks → IsBehind x path marks depth o rest → MayMark marks (slice_index path (depth - 1) / 2) o
+pub last_marked : (x : TreeText) (path : List PathStep) (marks : List Fixing) (depth : ℕ) (o : Result ℕ Failing) (rest : List ℕ) → 1 ≤ depth → length x.side.vars ≤ length marks → IsBehind x path marks depth o rest → MayMark marks (step_in path (depth - 1)).var o
 last_marked x path marks depth (Err f) rest some wide b = tt
 last_marked x path marks depth (Ok next) rest some wide b = at b.way b.tree b.long b.so_far
   where
-    at : (way : List Step) (t : PlainTree) → length way ≡ depth → HoldsWith x.side x.best way t path marks next → slice_index path (depth - 1) / 2 < length marks
+    marked_last : (j before : ℕ) → depth - 1 ≡ before → (step_in path before).var ≡ j → j < length x.side.vars → (step_in path (depth - 1)).var < length marks
+    marked_last j before is var below =
+        let here : (step_in path (depth - 1)).var ≡ j = ap (λ (i : ℕ). (step_in path i).var) is ∙ var in
+        omega (arith, here, below, wide)
+
+    at : (way : List Step) (t : PlainTree) → length way ≡ depth → HoldsWith x.side x.best way t path marks next → (step_in path (depth - 1)).var < length marks
     at [] t long b = absurd (omega (arith, long, some))
     at (to_zero j ∷ way) t long b =
-        let step : slice_index path (depth - 1) ≡ 2 * j = ap (λ (i : ℕ). slice_index path i) (omega (arith, long, some)) ∙ b.written.0 in
-        let below = b.held.0.inside in
-        omega (arith, half_even (slice_index path (depth - 1)) j step, below, wide)
+        marked_last j (length way) (omega (arith, long, some)) (ap (λ (step : PathStep). step.var) b.written.0) b.held.0.inside
     at (to_one j l ∷ way) t long b =
-        let step : slice_index path (depth - 1) ≡ 2 * j + 1 = ap (λ (i : ℕ). slice_index path i) (omega (arith, long, some)) ∙ b.written.0 in
-        let below = b.held.0.inside in
-        omega (arith, half_odd (slice_index path (depth - 1)) j step, below, wide)
+        marked_last j (length way) (omega (arith, long, some)) (ap (λ (step : PathStep). step.var) b.written.0) b.held.0.inside
 
 -- the walk begins at the root, and ends behind it
-pub at_root : (s : PlainSide) (best total levels : ℕ) (bytes path : List ℕ) (marks : List Fixing) → marks ≡ all_free s → IsBefore (text_of s best total levels bytes) path marks 0 (Ok 0) bytes
+pub at_root : (s : PlainSide) (best total levels : ℕ) (bytes : List ℕ) (path : List PathStep) (marks : List Fixing) → marks ≡ all_free s → IsBefore (text_of s best total levels bytes) path marks 0 (Ok 0) bytes
 at_root s best total levels bytes path marks unfixed =
     let all : levels - 0 ≡ levels = omega arith in
     record {
@@ -282,7 +261,7 @@ at_root s best total levels bytes path marks unfixed =
       so_far = record { written = tt; fixed = unfixed; number = number_flat 0 (omega arith); held = tt };
     }
 
-pub whole_read : (x : TreeText) (path : List ℕ) (marks : List Fixing) (depth : ℕ) (o : Result ℕ Failing) (rest : List ℕ) → depth ≡ 0 → IsBehind x path marks depth o rest → (t : PlainTree) × ((tree_at x.total x.levels x.bytes ≡ Ok (t, rest)) × Walks x.side x.best (all_free x.side) t 0 0 o)
+pub whole_read : (x : TreeText) (path : List PathStep) (marks : List Fixing) (depth : ℕ) (o : Result ℕ Failing) (rest : List ℕ) → depth ≡ 0 → IsBehind x path marks depth o rest → (t : PlainTree) × ((tree_at x.total x.levels x.bytes ≡ Ok (t, rest)) × Walks x.side x.best (all_free x.side) t 0 0 o)
 whole_read x path marks depth o rest none b = at b.way b.tree b.long b.read o b.so_far
   where
     at : (way : List Step) (t : PlainTree) → length way ≡ depth → resumed x.total x.levels way (Ok (t, rest)) ≡ tree_at x.total x.levels x.bytes → (o : Result ℕ Failing) → Behind x.side x.best way t path marks o → (t : PlainTree) × ((tree_at x.total x.levels x.bytes ≡ Ok (t, rest)) × Walks x.side x.best (all_free x.side) t 0 0 o)
@@ -291,7 +270,7 @@ whole_read x path marks depth o rest none b = at b.way b.tree b.long b.read o b.
     at [] t long read (Err f) b = (t, (sym read, b.1 t refl))
 
 -- a step forward can be taken as long as the walk isn't done
-pub can_advance : (x : TreeText) (path : List ℕ) (marks : List Fixing) (depth : ℕ) (ended : Bool) (o : Result ℕ Failing) (rest : List ℕ) → length x.side.vars ≤ length marks → ((ended ≡ true) × (depth ≡ 0) → ⊥) → StandsAt x path marks depth ended o rest → IfEnded ended (CanRise path marks depth o)
+pub can_advance : (x : TreeText) (path : List PathStep) (marks : List Fixing) (depth : ℕ) (ended : Bool) (o : Result ℕ Failing) (rest : List ℕ) → length x.side.vars ≤ length marks → ((ended ≡ true) × (depth ≡ 0) → ⊥) → StandsAt x path marks depth ended o rest → IfEnded ended (CanRise path marks depth o)
 can_advance x path marks depth false o rest wide going b = tt
 can_advance x path marks depth true o rest wide going b =
     let some : 1 ≤ depth = above_none depth (λ none. going (refl, none)) in
@@ -318,7 +297,7 @@ tree_shorter total levels bytes t rest all is =
     let parts = (tree_takes total levels bytes (t, rest) all is).0.parts in
     omega (arith, ap length parts, length-append (tree_text t) rest, tree_some t)
 
-pub branch_fault : (x : TreeText) (path : List ℕ) (marks : List Fixing) (depth : ℕ) (o : Result ℕ Failing) (bytes : List ℕ) (e : CertFault) → depth < x.levels → number_in Node 0 4294967295 x.total bytes ≡ Err e → IsBefore x path marks depth o (0 ∷ bytes) → tree_at x.total x.levels x.bytes ≡ Err e
+pub branch_fault : (x : TreeText) (path : List PathStep) (marks : List Fixing) (depth : ℕ) (o : Result ℕ Failing) (bytes : List ℕ) (e : CertFault) → depth < x.levels → number_in Node 0 4294967295 x.total bytes ≡ Err e → IsBefore x path marks depth o (0 ∷ bytes) → tree_at x.total x.levels x.bytes ≡ Err e
 branch_fault x path marks depth o bytes e deep is before =
     read_fault x path marks depth o (0 ∷ bytes) e before
     (ap (λ (n : ℕ). tree_at x.total n (0 ∷ bytes)) (levels_left x.levels depth deep) ∙ var_broken x.total (x.levels - suc depth) bytes e is)

@@ -1,5 +1,5 @@
 -- The way from the root of a tree to a node, while the tree is read from its text.
-use Rattle.std.specs.Prelude.{◌≡◌, ℕ, suc, ◌+◌, ◌-◌, ◌*◌, ◌/◌, ◌%◌, ◌<◌, ◌≤◌, Bool, true, false, if◌then◌else◌, List, [], ◌∷◌, length, slice_index, slice_set, Result, Ok, Err}
+use Rattle.std.specs.Prelude.{◌≡◌, ℕ, suc, ◌+◌, ◌-◌, ◌*◌, ◌<◌, ◌≤◌, Bool, true, false, if◌then◌else◌, List, [], ◌∷◌, length, slice_index_or, slice_set, Result, Ok, Err}
 use Rattle.std.specs.Borrow.{Bor}
 use Rattle.placement_programme.specs.Plain.{PlainSide}
 use Rattle.certificate_checker.specs.Nodes.{PlainTree, branch, size}
@@ -9,6 +9,7 @@ use Rattle.certificate_checker.specs.Walks.{FailsIn}
 use Rattle.certificate_checker.specs.Reading.{◌>>=◌, tree_at}
 use Rattle.certificate_checker.specs.declared.fault.CertFault.{CertFault}
 use Rattle.certificate_checker.specs.declared.walking.Failing.{Failing}
+use Rattle.certificate_checker.specs.declared.steps.PathStep.{PathStep}
 use Rattle.certificate_checker.specs.declared.steps.Progress.{Progress}
 use Rattle.certificate_checker.specs.declared.fixings.Fixing.{Fixing}
 use Rattle.certificate_checker.specs.declared.fixings.Fixing.TheVariants.{Zero, One}
@@ -54,41 +55,39 @@ resumed total levels (to_zero j ∷ way) read =
 resumed total levels (to_one j l ∷ way) read =
     resumed total levels way (read >>= λ second. Ok (branch j l second.0, second.1))
 
--- a step as a number
-abbrev pub step_number : Step → ℕ
-step_number (to_zero j) = 2 * j
-step_number (to_one j l) = 2 * j + 1
+-- how a step is written in a path
+abbrev pub written_step : Step → PathStep
+written_step (to_zero j) = record { var = j; taken = false }
+written_step (to_one j l) = record { var = j; taken = true }
 
--- the child that a step goes to
-abbrev pub child_of : Step → ℕ
-child_of (to_zero j) = 0
-child_of (to_one j l) = 1
+-- the step to the child for one of the same branch
+abbrev pub step_to_one : PathStep → PathStep
+step_to_one step = record { var = step.var; taken = true }
+
+-- the step of a path at a depth
+abbrev pub step_in : List PathStep → ℕ → PathStep
+step_in path depth = slice_index_or path depth (written_step (to_zero 0))
 
 -- the path has the steps of a way, the first at 0
-abbrev pub HasWay : List ℕ → List Step → Type 0
+abbrev pub HasWay : List PathStep → List Step → Type 0
 HasWay path [] = Unit {0}
-HasWay path (step ∷ way) = (slice_index path (length way) ≡ step_number step) × HasWay path way
-
--- the path tells the child of each step, and maybe another variable
-abbrev pub HasChildren : List ℕ → List Step → Type 0
-HasChildren path [] = Unit {0}
-HasChildren path (step ∷ way) = (slice_index path (length way) % 2 ≡ child_of step) × HasChildren path way
+HasWay path (step ∷ way) = (step_in path (length way) ≡ written_step step) × HasWay path way
 
 -- all nodes before the end of the way hold
-pub record HoldsSoFar (s : PlainSide) (best : ℕ) (way : List Step) (path : List ℕ) (marks : List Fixing) (node : ℕ) : Type 0 where
+pub record HoldsSoFar (s : PlainSide) (best : ℕ) (way : List Step) (path : List PathStep) (marks : List Fixing) (node : ℕ) : Type 0 where
   pub written : HasWay path way
   pub fixed : marks ≡ marks_at s way
   pub number : node ≡ in_32_bits (node_at way)
   pub held : HeldBefore s best way
 
 -- what is known before the tree at the end of a way is read: all nodes hold, or the first that fails
-abbrev pub SoFar : PlainSide → ℕ → List Step → List ℕ → List Fixing → Result ℕ Failing → Type 0
+abbrev pub SoFar : PlainSide → ℕ → List Step → List PathStep → List Fixing → Result ℕ Failing → Type 0
 SoFar s best way path marks (Ok node) = HoldsSoFar s best way path marks node
 SoFar s best way path marks (Err f) =
-    HasChildren path way × ((t whole : PlainTree) → Completes way t whole → FailsIn s best (all_free s) whole 0 0 f)
+    HasWay path way × ((t whole : PlainTree) → Completes way t whole → FailsIn s best (all_free s) whole 0 0 f)
 
 -- all nodes of the tree at the end of the way hold too
-pub record HoldsWith (s : PlainSide) (best : ℕ) (way : List Step) (t : PlainTree) (path : List ℕ) (marks : List Fixing) (next : ℕ) : Type 0 where
+pub record HoldsWith (s : PlainSide) (best : ℕ) (way : List Step) (t : PlainTree) (path : List PathStep) (marks : List Fixing) (next : ℕ) : Type 0 where
   pub written : HasWay path way
   pub fixed : marks ≡ marks_at s way
   pub number : next ≡ in_32_bits (node_at way + size t)
@@ -96,10 +95,10 @@ pub record HoldsWith (s : PlainSide) (best : ℕ) (way : List Step) (t : PlainTr
   pub held : HeldBefore s best way
 
 -- the same behind that tree
-abbrev pub Behind : PlainSide → ℕ → List Step → PlainTree → List ℕ → List Fixing → Result ℕ Failing → Type 0
+abbrev pub Behind : PlainSide → ℕ → List Step → PlainTree → List PathStep → List Fixing → Result ℕ Failing → Type 0
 Behind s best way t path marks (Ok next) = HoldsWith s best way t path marks next
 Behind s best way t path marks (Err f) =
-    HasChildren path way × ((whole : PlainTree) → Completes way t whole → FailsIn s best (all_free s) whole 0 0 f)
+    HasWay path way × ((whole : PlainTree) → Completes way t whole → FailsIn s best (all_free s) whole 0 0 f)
 
 -- a tree of at most so many levels that is read: `bytes` begin with it, and end a text of `total` bytes
 pub record TreeText : Type 0 where
@@ -113,30 +112,30 @@ abbrev pub text_of : PlainSide → ℕ → ℕ → ℕ → List ℕ → TreeText
 text_of s best total levels bytes = record { side = s; best = best; total = total; levels = levels; bytes = bytes }
 
 -- a tree at this depth is to be read from the rest
-pub record IsBefore (x : TreeText) (path : List ℕ) (marks : List Fixing) (depth : ℕ) (answer : Result ℕ Failing) (rest : List ℕ) : Type 0 where
+pub record IsBefore (x : TreeText) (path : List PathStep) (marks : List Fixing) (depth : ℕ) (answer : Result ℕ Failing) (rest : List ℕ) : Type 0 where
   pub way : List Step
   pub long : length way ≡ depth
   pub read : resumed x.total x.levels way (tree_at x.total (x.levels - depth) rest) ≡ tree_at x.total x.levels x.bytes
   pub so_far : SoFar x.side x.best way path marks answer
 
 -- a tree at this depth was read, and the rest stands behind it
-pub record IsBehind (x : TreeText) (path : List ℕ) (marks : List Fixing) (depth : ℕ) (answer : Result ℕ Failing) (rest : List ℕ) : Type 0 where
+pub record IsBehind (x : TreeText) (path : List PathStep) (marks : List Fixing) (depth : ℕ) (answer : Result ℕ Failing) (rest : List ℕ) : Type 0 where
   pub way : List Step
   pub tree : PlainTree
   pub long : length way ≡ depth
   pub read : resumed x.total x.levels way (Ok (tree, rest)) ≡ tree_at x.total x.levels x.bytes
   pub so_far : Behind x.side x.best way tree path marks answer
 
-abbrev pub StandsAt : TreeText → List ℕ → List Fixing → ℕ → Bool → Result ℕ Failing → List ℕ → Type 0
+abbrev pub StandsAt : TreeText → List PathStep → List Fixing → ℕ → Bool → Result ℕ Failing → List ℕ → Type 0
 StandsAt x path marks depth false answer rest = IsBefore x path marks depth answer rest
 StandsAt x path marks depth true answer rest = IsBehind x path marks depth answer rest
 
 -- how far the walk over the text of a tree has come
-abbrev pub Stands : TreeText → List ℕ → List Fixing → Progress → List ℕ → Type 0
+abbrev pub Stands : TreeText → List PathStep → List Fixing → Progress → List ℕ → Type 0
 Stands x path marks progress rest = StandsAt x path marks progress.depth progress.ended progress.so_far rest
 
 -- what one step forward leaves: a place further on, or the text's fault
-abbrev pub Advances : TreeText → List ℕ → List Fixing → Result (Progress × Bor (List ℕ)) CertFault → Type 0
+abbrev pub Advances : TreeText → List PathStep → List Fixing → Result (Progress × Bor (List ℕ)) CertFault → Type 0
 Advances x path marks (Ok r) = Stands x path marks r.0 r.1.now
 Advances x path marks (Err e) = tree_at x.total x.levels x.bytes ≡ Err e
 
@@ -151,16 +150,16 @@ marked marks j f (Ok node) = slice_set marks j f
 marked marks j f (Err e) = marks
 
 -- the last step of a path can be taken back
-pub record CanRise (path : List ℕ) (marks : List Fixing) (depth : ℕ) (answer : Result ℕ Failing) : Type 0 where
+pub record CanRise (path : List PathStep) (marks : List Fixing) (depth : ℕ) (answer : Result ℕ Failing) : Type 0 where
   pub some : 1 ≤ depth
-  pub inside : MayMark marks (slice_index path (depth - 1) / 2) answer
+  pub inside : MayMark marks (step_in path (depth - 1)).var answer
 
 abbrev pub IfEnded : Bool → Type 0 → Type 0
 IfEnded false P = Unit {0}
 IfEnded true P = P
 
 -- a step forward can be taken
-abbrev pub CanAdvance : List ℕ → List Fixing → Progress → Type 0
+abbrev pub CanAdvance : List PathStep → List Fixing → Progress → Type 0
 CanAdvance path marks progress = IfEnded progress.ended (CanRise path marks progress.depth progress.so_far)
 
 -- what is left to do, in units that each step forward uses up

@@ -9,8 +9,8 @@ ghost use Rattle.certificate_checker.specs.Parts.{kept_part, moved_part, SumsHol
 
 use crate::columns::{gain_of_var, var_count, weights_of_var};
 use crate::fixings::{Fixing, fixing_of};
-use crate::multipliers::{Multipliers, are_rows, bounded, priced};
-use placement_programme::Side;
+use crate::multipliers::{Multipliers, bounded, priced};
+use placement_programme::{Side, rows_ascend};
 
 /// What a variable adds to the left and to the right side of a dual node's rule.
 #[derive(Drop)]
@@ -117,7 +117,7 @@ pub fn dual_holds(
     requires marked { length (plain_side side.now).vars ≤ length marks.now }
     ensures { IsTrue result ↔ DualHolds (plain_side side.now) best marks.now scale multipliers.now }
 {
-    if scale == 0 || scale > 65536 || !are_rows(multipliers, side.rows.len()) {
+    if scale == 0 || scale > 65536 || !rows_ascend(multipliers, side.rows.len()) {
         return false;
     }
     let bound = bounded(&side.rows, multipliers);

@@ -36,6 +36,7 @@ pub use laws::{one_answer, one_certificate, one_text, reads_spelled, shown_is_le
 pub use reading::read_tree;
 pub use rooms::Room;
 pub use rules::{branch_holds, keeps_rule};
+pub use steps::PathStep;
 pub use text_checking::check_text;
 pub use trees::{Certificate, Tree, branch_on};
 pub use verdict::Verdict;

@@ -2,6 +2,7 @@ ghost use Rattle.std.specs.Prelude.{◌≡◌, ◌≤◌, length, option_map, If
 ghost use Rattle.certificate_checker.specs.Rooms.{RoomFits, IsRoomOf, most_of};
 
 use crate::fixings::Fixing;
+use crate::steps::PathStep;
 use placement_programme::{Choice, Programme};
 use std::alloc::{AllocError, Global};
 
@@ -11,7 +12,7 @@ pub struct Room {
     /// A mark for each variable of the longer side.
     pub marks: Vec<Fixing>,
     /// A step for each depth, 4,097, with which the way from the root to a node is told.
-    pub path: Vec<u32>,
+    pub path: Vec<PathStep>,
     /// A multiplier for each row of the side with more rows.
     pub multipliers: Vec<u64>,
     /// The choice of the certificate that was read last.
@@ -50,12 +51,14 @@ fn numbers_of(alloc: Global, count: usize) -> Result<Vec<u64>, AllocError>
     Ok(numbers)
 }
 
-fn steps_of(alloc: Global, count: usize) -> Result<Vec<u32>, AllocError>
+fn steps_of(alloc: Global, count: usize) -> Result<Vec<PathStep>, AllocError>
     ensures { IfOk result (λ v. length v.items ≡ count) }
 {
-    let mut steps = Vec::new(alloc);
-    steps.resize(count, 0)?;
-    Ok(steps)
+    let first = PathStep {
+        var: 0,
+        taken: false,
+    };
+    vec![in alloc; first; count]
 }
 
 impl Room {

@@ -9,6 +9,7 @@ use crate::fault::CertFault;
 use crate::fields::{Part, number_in};
 use crate::fixings::Fixing;
 use crate::rooms::Room;
+use crate::steps::PathStep;
 use crate::text_walk::{Task, walk_text};
 use crate::walking::Failing;
 use placement_programme::{Programme, Side};
@@ -30,7 +31,7 @@ fn first_node() -> Result<(), Failing>
 fn walk_side<'a>(
     task: &Task,
     marks: &mut [Fixing],
-    path: &mut [u32],
+    path: &mut [PathStep],
     multipliers: &mut [u64],
     bytes: &'a [u8],
 ) -> Result<(Result<(), Failing>, &'a [u8]), CertFault>

@@ -19,7 +19,7 @@ use crate::loading::{Loaded, load_entries};
 use crate::multipliers::Multipliers;
 use crate::reading::below_all;
 use crate::rules::{branch_holds, leaf_holds, over_holds};
-use crate::steps::{Progress, enter, is_done, leave};
+use crate::steps::{PathStep, Progress, enter, is_done, leave};
 use crate::walking::{Failing, next_number};
 use placement_programme::Side;
 
@@ -175,7 +175,7 @@ fn first_byte(total: usize, bytes: &[u8]) -> Result<(u8, &[u8]), CertFault>
 fn read_branch<'a>(
     task: &Task,
     marks: &mut [Fixing],
-    path: &mut [u32],
+    path: &mut [PathStep],
     progress: Progress,
     bytes: &'a [u8],
 ) -> Result<(Progress, &'a [u8]), CertFault>
@@ -203,7 +203,7 @@ fn read_branch<'a>(
 fn read_single<'a>(
     task: &Task,
     marks: &[Fixing],
-    path: &[u32],
+    path: &[PathStep],
     multipliers: &mut [u64],
     progress: Progress,
     bytes: &'a [u8],
@@ -234,7 +234,7 @@ fn read_single<'a>(
 fn read_node<'a>(
     task: &Task,
     marks: &mut [Fixing],
-    path: &mut [u32],
+    path: &mut [PathStep],
     multipliers: &mut [u64],
     progress: Progress,
     bytes: &'a [u8],
@@ -264,7 +264,7 @@ fn read_node<'a>(
 fn advance<'a>(
     task: &Task,
     marks: &mut [Fixing],
-    path: &mut [u32],
+    path: &mut [PathStep],
     multipliers: &mut [u64],
     progress: Progress,
     bytes: &'a [u8],
@@ -291,7 +291,7 @@ fn advance<'a>(
 pub(crate) fn walk_text<'a>(
     task: &Task,
     marks: &mut [Fixing],
-    path: &mut [u32],
+    path: &mut [PathStep],
     multipliers: &mut [u64],
     bytes: &'a [u8],
 ) -> Result<Walked<'a>, CertFault>

@@ -5,13 +5,11 @@ use Rattle.std.specs.List.Sorted.{IsNonDecreasingBy}
 use Rattle.std.proofs.lemmas.Bool.{cases_lt}
 use Rattle.std.proofs.lemmas.Bool.Decides.{nat_tests}
 use Rattle.std.proofs.lemmas.List.{get_or-map, length-map}
-use Rattle.std.proofs.lemmas.List.Elements.{All-map}
-use Rattle.placement_programme.specs.Plain.{PlainVar, plain_var, plain_full_var}
+use Rattle.placement_programme.specs.Plain.{PlainVar, plain_var}
 use Rattle.placement_programme.specs.declared.variables.Var.{Var}
-use Rattle.placement_programme.specs.declared.variables.FullVar.{FullVar}
-use Rattle.placement_programme.specs.Bounds.{RowsWithin, AreWeights, row_of, value_of}
+use Rattle.placement_programme.specs.Bounds.{AscendWithin, RowsWithin, AreWeights, row_of, value_of}
 use Rattle.placement_programme.specs.Programme.{gain_at, weights_at, weight_in}
-use Rattle.placement_programme.proofs.AscendLemmas.{rows_rise, row_at_least}
+use Rattle.placement_programme.proofs.AscendLemmas.{number_below, rows_rise, row_at_least}
 
 pub by_row : (high : ℕ) (ws : List (ℕ × ℕ)) → RowsWithin 0 high ws → IsNonDecreasingBy row_of ws
 by_row high ws all i j d order inside =
@@ -50,6 +48,10 @@ gain_at_is [] k d inside = absurd (omega arith)
 gain_at_is (v ∷ vs) zero d inside = refl
 gain_at_is (v ∷ vs) (suc k) d inside = gain_at_is vs k d (omega arith)
 
+-- the gain of the variable of a taken number
+pub taken_gain : (vs : List Var) (ks : List ℕ) (i : ℕ) (var : Var) → AscendWithin 0 (length vs) ks → i < length ks → gain_at (map plain_var vs) (get_or ks i 0) ≡ (get_or vs (get_or ks i 0) var).gain
+taken_gain vs ks i var numbers inside = gain_at_is vs (get_or ks i 0) var (number_below 0 (length vs) ks i 0 numbers inside)
+
 pub weights_at_is : (vs : List Var) (k : ℕ) (d : Var) → k < length vs → weights_at (map plain_var vs) k ≡ (get_or vs k d).weights.items
 weights_at_is [] k d inside = absurd (omega arith)
 weights_at_is (v ∷ vs) zero d inside = refl
@@ -60,22 +62,11 @@ weights_are count [] k all inside = absurd (omega arith)
 weights_are count (v ∷ vs) zero all inside = all 0 v (omega arith)
 weights_are count (v ∷ vs) (suc k) all inside = weights_are count vs k (λ j d below. all (suc j) d (omega arith)) (omega arith)
 
--- what holds of the variables holds of the plain ones, and back
-pub to_plain : (count : ℕ) (vs : List Var) → All (λ v. AreWeights count v.weights.items) vs → All (λ v. AreWeights count v.weights) (map plain_var vs)
-to_plain count vs all = All-map (λ v. AreWeights count v.weights) plain_var vs all
-
-pub from_plain : (count : ℕ) (vs : List Var) → All (λ v. AreWeights count v.weights) (map plain_var vs) → All (λ v. AreWeights count v.weights.items) vs
-from_plain count vs all k d inside =
-    let here = all k (plain_var d) (rw (length-map vs plain_var) inside) in
-    rw (get_or-map plain_var vs k d (plain_var d) inside) at here
-
-pub to_plain_full : (count : ℕ) (vs : List FullVar) → All (λ v. AreWeights count v.weights.items) vs → All (λ v. AreWeights count v.weights) (map plain_full_var vs)
-to_plain_full count vs all = All-map (λ v. AreWeights count v.weights) plain_full_var vs all
-
-pub from_plain_full : (count : ℕ) (vs : List FullVar) → All (λ v. AreWeights count v.weights) (map plain_full_var vs) → All (λ v. AreWeights count v.weights.items) vs
-from_plain_full count vs all k d inside =
-    let here = all k (plain_full_var d) (rw (length-map vs plain_full_var) inside) in
-    rw (get_or-map plain_full_var vs k d (plain_full_var d) inside) at here
+-- what holds of all that a list is mapped to holds of what they are mapped from; `All-map` is the other way
+pub all_mapped : {X Y : Type 0} (P : X → Type 0) (f : Y → X) (ys : List Y) → All P (map f ys) → All (λ y. P (f y)) ys
+all_mapped P f ys all k d inside =
+    let here = all k (f d) (rw (length-map ys f) inside) in
+    rw (get_or-map f ys k d (f d) inside) at here
 
 -- the weights of a variable, which stands at a place of the vector
 pub at_place : (vs : List Var) (k : ℕ) (var : Var) → k < length vs → var ≡ get_or vs k var → weights_at (map plain_var vs) k ≡ var.weights.items

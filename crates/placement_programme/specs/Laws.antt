@@ -40,19 +40,23 @@ FewerFit =
     (side : PlainSide) (some more : List ℕ) → Fits side more → AscendWithin 0 (length side.vars) some
     → ((k : ℕ) → takes some k ≡ true → takes more k ≡ true) → Fits side some
 
--- an example: six blocks and one object of 256 bytes at 0x11000, with a scratchpad of 256 bytes
-abbrev pub example_layout : Layout
-example_layout =
+-- the layouts of the examples: a patch range of 65536 bytes, no FENCE.I and a grain of 16
+abbrev pub layout_with : (scratchpad blocks objects regions : ℕ) → List ℕ → Layout
+layout_with scratchpad blocks objects regions displaced =
     record {
-      scratchpad = 256;
+      scratchpad = scratchpad;
       patch = 65536;
       fence_i = false;
-      blocks = 6;
-      objects = 1;
-      regions = 0;
-      displaced = [];
+      blocks = blocks;
+      objects = objects;
+      regions = regions;
+      displaced = displaced;
       grain = 16;
     }
+
+-- an example: six blocks and one object of 256 bytes at 0x11000, with a scratchpad of 256 bytes
+abbrev pub example_layout : Layout
+example_layout = layout_with 256 6 1 0 []
 
 abbrev pub example_table : Candidate
 example_table = static_data record { number = 0; home = 69632; size = 256; writable = true }
@@ -65,17 +69,7 @@ ExampleWeights = weights false example_layout example_table ≡ (0, 256) ∷ (1,
 
 -- an example with two regions: three blocks, two border entries of two and three displaced words, and two objects
 abbrev pub region_layout : Layout
-region_layout =
-    record {
-      scratchpad = 1024;
-      patch = 65536;
-      fence_i = false;
-      blocks = 3;
-      objects = 2;
-      regions = 2;
-      displaced = 2 ∷ 3 ∷ [];
-      grain = 16;
-    }
+region_layout = layout_with 1024 3 2 2 (2 ∷ 3 ∷ [])
 
 abbrev pub first_table : Datum
 first_table = record { number = 0; home = 69632; size = 1020; writable = false }

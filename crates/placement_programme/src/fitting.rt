@@ -7,18 +7,9 @@ ghost use Rattle.placement_programme.specs.Programme.{weight_in, weights_at, loa
 
 use crate::choices::Choice;
 use crate::limits::ascend_below;
+use crate::rows::value_in;
 use crate::sides::{Programme, Side};
 use crate::variables::Var;
-
-/// How many of some weights stand in rows before `row`, by binary search.
-fn count_before(weights: &[(u32, u64)], row: u32) -> usize
-    requires { (count : ℕ) × AreWeights count weights.now }
-    ensures bound { result ≤ length weights.now }
-    ensures before { (k : ℕ) → k < result → row_of (slice_index_or weights.now k (0, 0)) < row }
-    ensures behind { (k : ℕ) → result ≤ k → k < length weights.now → row ≤ row_of (slice_index_or weights.now k (0, 0)) }
-{
-    weights.partition_point(|entry| entry.0 < row)
-}
 
 /// The weight in a row, 0 where the weights don't name it. The time grows with the logarithm of their number.
 pub fn weight_of(weights: &[(u32, u64)], row: u32) -> u64
@@ -26,12 +17,7 @@ pub fn weight_of(weights: &[(u32, u64)], row: u32) -> u64
     ensures value { result ≡ weight_in weights.now row }
     ensures small { result < 2 ^ 32 }
 {
-    let place = count_before(weights, row);
-    if place < weights.len() && weights[place].0 == row {
-        weights[place].1
-    } else {
-        0
-    }
+    value_in(weights, row)
 }
 
 /// The weights of the taken variables in a row, summed.

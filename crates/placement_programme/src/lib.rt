@@ -10,6 +10,7 @@ mod full_sides;
 mod gains;
 mod laws;
 mod limits;
+mod rows;
 mod sides;
 mod variables;
 
@@ -21,5 +22,6 @@ pub use laws::{
     example_rows, example_weights, fewer_fit, more_load, nothing_fits, nothing_is_feasible,
     region_rows, region_weights, weights_are_in_rows,
 };
+pub use rows::{rows_ascend, value_in};
 pub use sides::{Programme, Side};
 pub use variables::{FullVar, Var, VarName};

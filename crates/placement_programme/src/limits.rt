@@ -3,6 +3,7 @@ ghost use Rattle.std.specs.List.{All, sum_by};
 ghost use Rattle.placement_programme.specs.Plain.{plain_var, plain_full_var};
 ghost use Rattle.placement_programme.specs.Bounds.{AscendWithin, AreWeights, IsWithinBounds, IsWithinFullBounds, RowsWithin, row_of, value_of};
 
+use crate::rows::rows_ascend;
 use crate::variables::{FullVar, Var};
 
 /// Energies and sums of gains stay below this.
@@ -25,21 +26,6 @@ pub(crate) fn ascend_below(numbers: &[u32], count: usize) -> bool
             return false;
         }
         least = place + 1;
-    }
-    true
-}
-
-/// Whether the rows of some weights ascend, each once, below `count`.
-fn rows_ascend(weights: &[(u32, u64)], count: usize) -> bool
-    ensures { IsTrue result ↔ RowsWithin 0 count weights.now }
-{
-    let mut least = 0;
-    for entry in weights {
-        let row = entry.0 as usize;
-        if row < least || row >= count {
-            return false;
-        }
-        least = row + 1;
     }
     true
 }

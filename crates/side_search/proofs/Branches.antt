@@ -21,10 +21,8 @@ pub back_twice : (ms first second : List Fixing) (k : ℕ) (a b old : Fixing) �
 back_twice ms first second k a b old is_first is_second is_old =
     back_once ms second k b old (is_second ∙ (ap (λ l. slice_set l k b) is_first ∙ set_twice ms k a b)) is_old
 
--- the child one was shown first, then the child zero with a best that is no less
-pub both_shown : (s : PlainSide) (between best : ℕ) (marks first : List Fixing) (j : ℕ) (zero_tree one_tree tree : PlainTree) → between ≤ best → BranchHolds s marks j → first ≡ slice_set marks j One → Holds s between (slice_set marks j One) one_tree → Holds s best (slice_set first j Zero) zero_tree → tree ≡ branch j zero_tree one_tree → Holds s best marks tree
-both_shown s between best marks first j zero_tree one_tree tree order rule is_first ones zeros is_tree =
-    let at_zero : slice_set first j Zero ≡ slice_set marks j Zero = ap (λ l. slice_set l j Zero) is_first ∙ set_twice marks j One Zero in
-    let left : Holds s best (slice_set marks j Zero) zero_tree = subst (λ m. Holds s best m zero_tree) at_zero zeros in
+-- both children are shown, that for one with a best that is no greater
+pub both_shown : (s : PlainSide) (between best : ℕ) (marks : List Fixing) (j : ℕ) (zero_tree one_tree tree : PlainTree) → between ≤ best → BranchHolds s marks j → Holds s between (slice_set marks j One) one_tree → Holds s best (slice_set marks j Zero) zero_tree → tree ≡ branch j zero_tree one_tree → Holds s best marks tree
+both_shown s between best marks j zero_tree one_tree tree order rule ones zeros is =
     let right : Holds s best (slice_set marks j One) one_tree = holds_more s between best (slice_set marks j One) one_tree order ones in
-    subst (λ t. Holds s best marks t) (sym is_tree) (rule, left, right)
+    subst (λ t. Holds s best marks t) (sym is) (rule, zeros, right)

@@ -1,3 +1,4 @@
 pub mod Greater
 pub mod Branches
 pub mod Ranges
+pub mod Certified

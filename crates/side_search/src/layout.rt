@@ -63,27 +63,45 @@ fn sort_in(layout: &mut Layout, number: u32) -> Result<(), AllocError> {
     Ok(())
 }
 
+/// The layout of a side, into which no variable is sorted yet.
+fn unsorted(alloc: Global, side: &Side, scale: u32) -> Result<Layout, AllocError> {
+    let is_knapsack = knapsack_rows(alloc, side)?;
+    let columns = columns_of(alloc, side, scale, &is_knapsack)?;
+    let knapsack = set_rows(alloc, &is_knapsack)?;
+    let capacities = copy_of(alloc, &side.rows)?;
+    let ending = empty_lists(alloc, side.rows.len())?;
+    Ok(Layout {
+        scale,
+        capacities,
+        columns,
+        knapsack,
+        is_knapsack,
+        ending,
+        loose: Vec::new(alloc),
+        by_gain: Vec::new(alloc),
+    })
+}
+
+fn sort_all(layout: &mut Layout) -> Result<(), AllocError> {
+    for number in 0..numbered(layout.columns.len()) {
+        sort_in(layout, number)?;
+    }
+    layout.by_gain.sort_unstable();
+    Ok(())
+}
+
+fn sorted(alloc: Global, side: &Side, scale: u32) -> Result<Layout, AllocError> {
+    let mut layout = unsorted(alloc, side, scale)?;
+    sort_all(&mut layout)?;
+    Ok(layout)
+}
+
 impl Layout {
     /// Of a side, None where its gains are too large for the bound.
     pub(crate) fn of(alloc: Global, side: &Side) -> Result<Option<Layout>, AllocError> {
-        let Some(scale) = scale_for(side) else {
-            return Ok(None);
-        };
-        let is_knapsack = knapsack_rows(alloc, side)?;
-        let mut layout = Layout {
-            scale,
-            capacities: copy_of(alloc, &side.rows)?,
-            columns: columns_of(alloc, side, scale, &is_knapsack)?,
-            knapsack: set_rows(alloc, &is_knapsack)?,
-            is_knapsack,
-            ending: empty_lists(alloc, side.rows.len())?,
-            loose: Vec::new(alloc),
-            by_gain: Vec::new(alloc),
-        };
-        for number in 0..numbered(layout.columns.len()) {
-            sort_in(&mut layout, number)?;
+        match scale_for(side) {
+            Some(scale) => Ok(Some(sorted(alloc, side, scale)?)),
+            None => Ok(None),
         }
-        layout.by_gain.sort_unstable();
-        Ok(Some(layout))
     }
 }

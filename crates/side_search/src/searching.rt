@@ -1,5 +1,6 @@
-ghost use Rattle.std.specs.Prelude.{◌≡◌, ◌^◌, ◌≤◌, length, IfOk, OnOk};
+ghost use Rattle.std.specs.Prelude.{◌≡◌, ◌^◌, ◌<◌, ◌≤◌, suc, length, slice_set, IfOk, OnOk};
 ghost use Rattle.placement_programme.specs.Views.{plain_side, plain_programme};
+ghost use Rattle.certificate_checker.specs.Rules.{BranchHolds};
 ghost use Rattle.side_search.specs.Incumbents.{IsSound};
 ghost use Rattle.side_search.specs.Visits.{ShownBelow, IsVisited};
 
@@ -17,6 +18,21 @@ pub(crate) struct Task<'a> {
     pub programme: &'a Programme,
     pub side: &'a Side,
     pub on: bool,
+}
+
+/// A branch on a variable, with trees of at most so many levels below it.
+#[derive(Clone, Copy, Drop)]
+struct Branch {
+    var: u32,
+    levels: u32,
+}
+
+/// A child of a branch, which fixes its variable.
+#[derive(Clone, Copy, Drop)]
+struct Child {
+    var: u32,
+    fixing: Fixing,
+    levels: u32,
 }
 
 /// Takes a choice for the incumbent where it is feasible and gains more.
@@ -77,6 +93,7 @@ fn visit(
 
 /// Searches below these fixings, the child one before the child zero, with a tree of at most so many levels. None where these
 /// or the nodes that are left don't suffice.
+#[cycle(search)]
 pub(crate) fn search(
     alloc: Global,
     task: &Task,
@@ -93,33 +110,82 @@ pub(crate) fn search(
     ensures spends { OnOk result (best.new.left ≤ best.old.left) }
     ensures shown { IfOk result (ShownBelow (plain_side task.now.side.now) best.new.gain marks.old levels) }
 {
-    if best.left == 0 {
-        return Ok(None);
-    }
-    if levels == 0 {
+    if best.left == 0 || levels == 0 {
         return Ok(None);
     }
     best.left -= 1;
-    let below = levels - 1;
     match visit(alloc, task, bound, marks, best)? {
         Visit::Closed(tree) => Ok(Some(tree)),
         Visit::Stuck => Ok(None),
         Visit::Open(var) => {
-            let place = var as usize;
-            let old = fixing_of(marks, place);
-            marks[place] = Fixing::One;
-            let Some(one) = search(alloc, task, bound, marks, below, best)? else {
-                marks[place] = old;
-                return Ok(None);
-            };
-            marks[place] = Fixing::Zero;
-            let Some(zero) = search(alloc, task, bound, marks, below, best)? else {
-                marks[place] = old;
-                return Ok(None);
-            };
-            marks[place] = old;
-            let tree = branch_on(alloc, var, zero, one)?;
-            Ok(Some(tree))
+            let levels = levels - 1;
+            search_children(alloc, task, bound, marks, Branch { var, levels }, best)
         }
     }
+}
+
+/// Searches both children of a branch, the child one before the child zero.
+#[cycle(search)]
+fn search_children(
+    alloc: Global,
+    task: &Task,
+    bound: &mut DualBound,
+    marks: &mut [Fixing],
+    branch: Branch,
+    best: &mut Incumbent,
+) -> Result<Option<Tree>, AllocError>
+    requires marked { length (plain_side task.now.side.now).vars ≤ length marks.old }
+    requires branch { BranchHolds (plain_side task.now.side.now) marks.old branch.var }
+    requires sound { IsSound (plain_programme task.now.programme.now) best.old }
+    ensures kept { OnOk result (marks.new ≡ marks.old) }
+    ensures sound { OnOk result (IsSound (plain_programme task.now.programme.now) best.new) }
+    ensures grows { OnOk result (best.old.gain ≤ best.new.gain) }
+    ensures spends { OnOk result (best.new.left ≤ best.old.left) }
+    ensures shown { IfOk result (ShownBelow (plain_side task.now.side.now) best.new.gain marks.old (suc branch.levels)) }
+{
+    let child = Child {
+        var: branch.var,
+        fixing: Fixing::One,
+        levels: branch.levels,
+    };
+    let Some(one) = search_child(alloc, task, bound, marks, child, best)? else {
+        return Ok(None);
+    };
+    let child = Child {
+        var: branch.var,
+        fixing: Fixing::Zero,
+        levels: branch.levels,
+    };
+    let Some(zero) = search_child(alloc, task, bound, marks, child, best)? else {
+        return Ok(None);
+    };
+    let tree = branch_on(alloc, branch.var, zero, one)?;
+    Ok(Some(tree))
+}
+
+/// Searches a child of a branch. Behind it the branch's variable is fixed as it was.
+#[cycle(search)]
+fn search_child(
+    alloc: Global,
+    task: &Task,
+    bound: &mut DualBound,
+    marks: &mut [Fixing],
+    child: Child,
+    best: &mut Incumbent,
+) -> Result<Option<Tree>, AllocError>
+    requires inside { child.var < length marks.old }
+    requires marked { length (plain_side task.now.side.now).vars ≤ length marks.old }
+    requires sound { IsSound (plain_programme task.now.programme.now) best.old }
+    ensures kept { OnOk result (marks.new ≡ marks.old) }
+    ensures sound { OnOk result (IsSound (plain_programme task.now.programme.now) best.new) }
+    ensures grows { OnOk result (best.old.gain ≤ best.new.gain) }
+    ensures spends { OnOk result (best.new.left ≤ best.old.left) }
+    ensures shown { IfOk result (ShownBelow (plain_side task.now.side.now) best.new.gain (slice_set marks.old child.var child.fixing) child.levels) }
+{
+    let place = child.var as usize;
+    let old = fixing_of(marks, place);
+    marks[place] = child.fixing;
+    let found = search(alloc, task, bound, marks, child.levels, best)?;
+    marks[place] = old;
+    Ok(found)
 }

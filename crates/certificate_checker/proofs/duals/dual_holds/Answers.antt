@@ -13,6 +13,6 @@ returns c =
     let deref_len = c.deref.ensures.len in
     let value_len = ap length c.deref.ensures.value in
     let same : c.len.result ≡ length side.rows.items = omega (arith, len, deref_len, value_len) in
-    let rows = subst (λ n. RowsWithin 0 n ms) same (c.are_rows.ensures.0 c.if-not-are_rows.false) in
+    let rows = subst (λ n. RowsWithin 0 n ms) same (c.rows_ascend.ensures.0 c.if-not-rows_ascend.false) in
     let total = c.bounded-bound.ensures.value ∙ ap (λ rs. sum_by (λ (m : ℕ × ℕ). value_of m * slice_index rs (row_of m)) ms) c.deref.ensures.value in
     dual_tested (plain_side side) c.args.best c.args.marks.now c.args.scale c.bounded-bound.result ms c.sums_hold.result side.bounds rows (omega arith) (omega arith) total c.sums_hold.ensures

@@ -1,6 +1,6 @@
-use Rattle.std.proofs.Common.{Err, Ok, ◌∷◌, slice_set, sym, subst, refl, arith}
+use Rattle.std.proofs.Common.{Err, Ok, subst, refl, arith}
 use Rattle.placement_programme.specs.Views.{plain_side}
-use Rattle.certificate_checker.specs.Ways.{to_zero, SoFar}
+use Rattle.certificate_checker.specs.Ways.{SoFar}
 use Rattle.certificate_checker.specs.declared.walking.Failing.{Failing}
 use Rattle.certificate_checker.proofs.WayLemmas.{enters_failed, enters_wrong, enters_held}
 use Rattle.certificate_checker.proofs.steps.enter.Goals as goal
@@ -9,8 +9,7 @@ pub returns-in-Err : goal.returns-in-Err
 returns-in-Err c best way long before =
     let s = plain_side c.args.side.now in
     let so_far = subst (λ o. SoFar s best way c.args.path.now c.args.marks.now o) c.in-Err.is before in
-    subst (λ n. SoFar s best (to_zero c.args.var ∷ way) (slice_set c.args.path.now c.args.depth n) c.args.marks.now (Err c.in-Err.failing)) (sym c.step_to_zero.ensures)
-    (enters_failed s best way c.args.path.now c.args.marks.now c.args.depth c.args.var c.in-Err.failing long c.requires.inside so_far)
+    enters_failed s best way c.args.path.now c.args.marks.now c.args.depth c.args.var c.in-Err.failing long c.requires.inside so_far
 
 pub returns-then-not-branch_holds : goal.returns-then-not-branch_holds
 returns-then-not-branch_holds c best way long before =
@@ -18,12 +17,11 @@ returns-then-not-branch_holds c best way long before =
     let so_far = subst (λ o. SoFar s best way c.args.path.now c.args.marks.now o) c.in-Ok.is before in
     let f : Failing = record { node = c.in-Ok.node; depth = c.args.depth } in
     let depth = c.ranges.depth.fits in
-    subst (λ n. SoFar s best (to_zero c.args.var ∷ way) (slice_set c.args.path.now c.args.depth n) c.args.marks.now (Err f)) (sym c.step_to_zero-then-not-branch_holds.ensures)
-    (enters_wrong s best way c.args.path.now c.args.marks.now c.args.depth c.in-Ok.node c.args.var f long c.requires.inside (omega (arith, depth)) refl refl
-    (λ rule. let found = c.branch_holds.ensures.1 rule in let missed = c.if-not-branch_holds.true in cc) so_far)
+    enters_wrong s best way c.args.path.now c.args.marks.now c.args.depth c.in-Ok.node c.args.var f long c.requires.inside (omega (arith, depth)) refl refl
+    (λ rule. let found = c.branch_holds.ensures.1 rule in let missed = c.if-not-branch_holds.true in cc) so_far
 
 pub returns-else-not-branch_holds : goal.returns-else-not-branch_holds
 returns-else-not-branch_holds c best way long before =
     let s = plain_side c.args.side.now in
     let so_far = subst (λ o. SoFar s best way c.args.path.now c.args.marks.now o) c.in-Ok.is before in
-    enters_held s best way c.args.path.now c.args.marks.now c.args.depth c.in-Ok.node c.next_number.result c.step_to_zero-in-Ok.result c.args.var long c.requires.inside c.step_to_zero-in-Ok.ensures c.next_number.ensures (c.branch_holds.ensures.0 c.if-not-branch_holds.false) so_far
+    enters_held s best way c.args.path.now c.args.marks.now c.args.depth c.in-Ok.node c.next_number.result c.args.var long c.requires.inside c.next_number.ensures (c.branch_holds.ensures.0 c.if-not-branch_holds.false) so_far
