@@ -1,10 +1,14 @@
 //! Tables of what holds where blocks begin: live and dead registers, addresses of objects in registers, regions.
+ghost use Rattle.std.specs.Prelude.{ℕ, List};
+ghost use Rattle.board_config.specs.declared.board.Board.{Board};
+ghost use Rattle.relinking.specs.Runs.{IsAnalysed};
+
 use anyhow::Result;
 use code_blocks::Code;
 use liveness::LiveTable;
 use points_to::PointsTable;
 use region_former::RegionTable;
-use relink_core::Analysis;
+use relink_core::{Analysis, points_of};
 use rv_decode::RegSet;
 
 /// How many dead registers are told.
@@ -45,18 +49,25 @@ fn print_dead(rt: &impl Print, live: &LiveTable, leader: u32) -> Result<()> {
 
 /// For each of the first blocks the registers that may hold addresses of objects, and which; and the objects that
 /// escape.
-pub(crate) fn print_points(rt: &impl Print, analysis: &Analysis<'_>, most: usize) -> Result<()> {
+pub(crate) fn print_points(
+    rt: &(impl Print + AllocGlobal),
+    analysis: &Analysis<'_>,
+    most: usize,
+) -> Result<()>
+    requires { (file : List ℕ) × (board : Board) × IsAnalysed file board analysis.now }
+{
+    let points = points_of(rt.alloc(), analysis)?;
     let objects = u32::try_from(analysis.graph.objects.len()).unwrap_or(u32::MAX);
     for block in analysis.code.blocks.iter().take(most) {
         print!(rt; "points {:#010x}", block.start)?;
         for register in 0..32u8 {
-            print_held(rt, &analysis.points, block.start, register, objects)?;
+            print_held(rt, &points, block.start, register, objects)?;
         }
         println!(rt; "")?;
     }
     print!(rt; "escape")?;
     for object in 0..objects {
-        if analysis.points.escapes(object) {
+        if points.escapes(object) {
             print!(rt; " {object}")?;
         }
     }

@@ -27,8 +27,9 @@ use anyhow::{Context, Result, bail};
 use board_config::{Board, read_board};
 use elf_reader::read;
 use relink_core::{Analysis, analyse};
+use std::fs;
 use std::rt::Files;
-use std::{env, fs};
+use text_lines::named_texts;
 
 /// The name of the program that is made rather than read.
 const LARGE: &str = "large";
@@ -157,8 +158,7 @@ fn list_line(rt: &(impl Files + Print + AllocGlobal), line: &str) -> Result<()> 
 }
 
 /// Lists what each line of a list asks for. A line that is empty or begins with `#` is left aside.
-fn list_all(rt: &(impl Files + Print + AllocGlobal), name: &str) -> Result<()> {
-    let list = fs::read_to_string(rt, name)?;
+fn list_all(rt: &(impl Files + Print + AllocGlobal), list: &str) -> Result<()> {
     for line in list.lines() {
         if !line.is_empty() && !line.starts_with('#') {
             list_line(rt, line)?;
@@ -168,8 +168,8 @@ fn list_all(rt: &(impl Files + Print + AllocGlobal), name: &str) -> Result<()> {
 }
 
 fn main(rt: HostRuntime) -> Result<()> {
-    for name in env::args(&rt)?.skip(1) {
-        list_all(&rt, &name)?;
+    for list in &named_texts(&rt)? {
+        list_all(&rt, list)?;
     }
     Ok(())
 }

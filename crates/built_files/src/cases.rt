@@ -1,7 +1,7 @@
 use anyhow::{Context, Result, bail};
 use elf_reader::Reloc;
-use num_traits::Num;
 use std::alloc::Global;
+use text_lines::{number, numbers};
 use workload_gen::{FileSpec, SectionSpec, SymbolSpec, build};
 
 /// A file to be built, the bytes behind it, and the input of its runs.
@@ -10,24 +10,6 @@ pub(crate) struct Case {
     spec: FileSpec,
     behind: Vec<u8>,
     pub(crate) input: Vec<u8>,
-}
-
-/// A number in decimal, or with `0x` before it in hexadecimal.
-pub(crate) fn number(word: &str) -> Result<u32> {
-    let (digits, radix) = match word.strip_prefix("0x") {
-        Some(digits) => (digits, 16),
-        None => (word, 10),
-    };
-    <u32 as Num>::from_str_radix(digits, radix).context("a word is no number")
-}
-
-/// The numbers of a text.
-pub(crate) fn numbers(alloc: Global, text: &str) -> Result<Vec<u32>> {
-    let mut numbers = Vec::new(alloc);
-    for word in text.split_whitespace() {
-        numbers.push(number(word)?)?;
-    }
-    Ok(numbers)
 }
 
 /// Appends words, each least byte first.

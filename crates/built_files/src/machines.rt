@@ -1,6 +1,6 @@
 ghost use Rattle.board_config.specs.Board.{IsLawful};
 
-use crate::cases::{Case, number};
+use crate::cases::Case;
 use anyhow::Result;
 use board_config::{Board, read_board};
 use code_blocks::blocks;
@@ -10,6 +10,7 @@ use object_graph::graph;
 use object_machine::Source;
 use paged_store::PageStore;
 use std::alloc::Global;
+use text_lines::number;
 
 /// Runs a file on the flat machine: `step` tells the event of one step, and a number the outcome after as many steps, and
 /// the pc; then what was written is told.

@@ -9,8 +9,7 @@ mod writing;
 
 use crate::cases::Case;
 use anyhow::{Context, Result};
-use std::rt::Files;
-use std::{env, fs};
+use text_lines::named_texts;
 
 /// Takes a line into a case, or tells what it asks for.
 fn tell_line(rt: &(impl Print + AllocGlobal), case: &mut Case, line: &str) -> Result<()> {
@@ -30,9 +29,8 @@ fn tell_line(rt: &(impl Print + AllocGlobal), case: &mut Case, line: &str) -> Re
     Ok(())
 }
 
-/// Tells of the lines of a file.
-fn tell_file(rt: &(impl Files + Print + AllocGlobal), name: &str) -> Result<()> {
-    let text = fs::read_to_string(rt, name)?;
+/// Tells of the lines of a text.
+fn tell_text(rt: &(impl Print + AllocGlobal), text: &str) -> Result<()> {
     let mut case = Case::empty(rt.alloc());
     for line in text.lines() {
         tell_line(rt, &mut case, line).context("a line does not read")?;
@@ -41,8 +39,8 @@ fn tell_file(rt: &(impl Files + Print + AllocGlobal), name: &str) -> Result<()> 
 }
 
 fn main(rt: HostRuntime) -> Result<()> {
-    for name in env::args(&rt)?.skip(1) {
-        tell_file(&rt, &name)?;
+    for text in &named_texts(&rt)? {
+        tell_text(&rt, text)?;
     }
     Ok(())
 }

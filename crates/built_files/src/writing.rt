@@ -6,12 +6,13 @@ ghost use Rattle.loaded_file.specs.Marks.{all_loaded};
 ghost use Rattle.elf_writer.specs.Parts.{new_segment};
 ghost use Rattle.elf_writer.specs.Conditions.{is_loaded_word, IsAddable, IsWritable};
 
-use crate::cases::{Case, numbers};
+use crate::cases::Case;
 use anyhow::{Result, bail};
 use elf_reader::{ElfView, Section, Segment, read};
 use elf_writer::{Patch, SegmentBytes, SymbolMove, write};
 use loaded_file::loaded_sections;
 use std::alloc::Global;
+use text_lines::numbers;
 
 /// The most bytes of a new segment that these tests let pass.
 const SEGMENT_LIMIT: usize = 0x1000_0000;

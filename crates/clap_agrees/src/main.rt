@@ -7,8 +7,7 @@ use clap::{Arg, ArgAction, Command, Error};
 use command_line::run;
 use shelf_io::{MemShelf, MemSink};
 use std::alloc::{AllocError, Global};
-use std::rt::Files;
-use std::{env, fs};
+use text_lines::named_texts;
 
 /// The commands as `clap` has them: subcommands with required positional words.
 fn commands<'a>(alloc: Global) -> Result<Command<'a>, Error> {
@@ -73,18 +72,11 @@ fn tell_line(rt: &(impl Print + AllocGlobal), line: &str) -> Result<()> {
     Ok(())
 }
 
-/// Tells of the lines of a file.
-fn tell_file(rt: &(impl Files + Print + AllocGlobal), name: &str) -> Result<()> {
-    let text = fs::read_to_string(rt, name)?;
-    for line in text.lines() {
-        tell_line(rt, line)?;
-    }
-    Ok(())
-}
-
 fn main(rt: HostRuntime) -> Result<()> {
-    for name in env::args(&rt)?.skip(1) {
-        tell_file(&rt, &name)?;
+    for text in &named_texts(&rt)? {
+        for line in text.lines() {
+            tell_line(&rt, line)?;
+        }
     }
     Ok(())
 }

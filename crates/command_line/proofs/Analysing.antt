@@ -1,24 +1,29 @@
 -- A board and a file that is analysed for it: what refuses them, and what a run of the file's program asks.
 use Rattle.std.proofs.Common.{◌≡◌, ◌⊎◌, inl, inr, ℕ, List, Some, None, refl}
+use Rattle.elf_reader.specs.File.{plain_view, view_in}
 use Rattle.board_config.specs.Board.{IsBoard}
 use Rattle.board_config.specs.Faults.{plain_fault}
 use Rattle.board_config.specs.Keys.{first_key}
 use Rattle.board_config.specs.declared.board.Board.{Board}
 use Rattle.board_config.specs.declared.board.BoardFault.{BoardFault}
 use Rattle.board_config.specs.declared.board.BoardFault.TheVariants as board
-use Rattle.object_graph.specs.declared.parts.Graph.{Graph}
-use Rattle.code_blocks.specs.declared.parts.Code.{Code}
+use Rattle.loaded_file.proofs.WordLemmas.{same_view}
 use Rattle.relink_core.specs.Faults.{IsFirst}
 use Rattle.relink_core.specs.declared.fault.AnalyseFault.{AnalyseFault}
 use Rattle.relink_core.specs.declared.fault.AnalyseFault.TheVariants as analyse
 use Rattle.command_line.specs.FaultLine.{parts_of, board_refusal, analyse_refusal}
-use Rattle.command_line.specs.Analysed.{RefusesAnalysed, of_board, of_analysis}
+use Rattle.command_line.specs.Analysed.{IsOpened, RefusesAnalysed, of_board, of_analysis}
 use Rattle.command_line.specs.ProgramRun.{RefusesProfiled}
 use Rattle.command_line.specs.ProgramRun as program
 use Rattle.command_line.specs.CompareFiles.{RefusesCompared}
 use Rattle.command_line.specs.CompareFiles as compared
+use Rattle.command_line.specs.declared.opening.Opened.{Opened}
 use Rattle.command_line.specs.declared.faults.Refusal.{Refusal}
 use Rattle.command_line.specs.declared.faults.Refusal.TheVariants as refusal
+
+-- the view of a file that was opened
+abbrev pub opened_view : (board_text file : List ℕ) (o : Opened) → IsOpened board_text file o → plain_view o.analysis.view ≡ view_in file
+opened_view board_text file o is = same_view file o.analysis.view is.analysed.analysis.is_file
 
 -- ---- refusals
 

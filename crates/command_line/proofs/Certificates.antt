@@ -2,12 +2,8 @@
 use Rattle.std.proofs.Common.{◌≡◌, inl, inr, ℕ, Bool, true, false, List, None, Ok, Err, refl, sym, subst}
 use Rattle.placement_programme.specs.Plain.{PlainProgramme, PlainChoice}
 use Rattle.placement_programme.specs.Programme.{IsFeasible}
-use Rattle.elf_reader.specs.File.{PlainView, view_in}
+use Rattle.elf_reader.specs.File.{PlainView, plain_view}
 use Rattle.board_config.specs.declared.board.Board.{Board}
-use Rattle.object_graph.specs.Graphs.{IsGraph}
-use Rattle.object_graph.specs.declared.parts.Graph.{Graph}
-use Rattle.code_blocks.specs.Blocks.{IsCode}
-use Rattle.code_blocks.specs.declared.parts.Code.{Code}
 use Rattle.certificate_checker.specs.Nodes.{PlainCertificate}
 use Rattle.certificate_checker.specs.Reading.{certificate_of}
 use Rattle.certificate_checker.specs.Spelling.{AreBytes}
@@ -20,14 +16,15 @@ use Rattle.certificate_checker.specs.declared.fault.CertFault.TheVariants as cer
 use Rattle.certificate_checker.proofs.Least.{shown_is_least}
 use Rattle.certificate_checker.proofs.TextLaws.{certificate_takes}
 use Rattle.command_line.specs.FaultLine.{parts_of, cert_refusal}
-use Rattle.command_line.specs.Analysed.{Accepts}
-use Rattle.command_line.specs.ProgramRun.{RefusesProfiled}
-use Rattle.region_former.specs.declared.table.RegionTable.{RegionTable}
-use Rattle.relink_core.specs.Regions.{AreRegions}
+use Rattle.command_line.specs.Analysed.{Accepts, IsOpened}
+use Rattle.command_line.specs.ProgramRun.{StatesOf, RefusesProfiled}
 use Rattle.relinking.specs.StatedRun.{StatesProgramme}
 use Rattle.printed_lines.specs.ReportText.{IsReport}
-use Rattle.command_line.specs.CheckFile.{StatesOf, answer_of, ReportsText, told_of, TellsText, unspelled, answered, of_run, of_certificate, RefusesChecked, RefusesText, MayReport, ReportsAnswer, RefusesAnswer}
+use Rattle.command_line.specs.CheckFile.{answer_of, ReportsText, told_of, TellsText, unspelled, answered, of_run, of_certificate, RefusesChecked, RefusesText, MayReport, ReportsAnswer, RefusesAnswer}
+use Rattle.command_line.specs.declared.opening.Opened.{Opened}
 use Rattle.command_line.specs.declared.faults.Refusal.{Refusal}
+use Rattle.relinking.proofs.Analysed.{findings}
+use Rattle.command_line.proofs.Analysing.{opened_view}
 
 -- ---- an answer
 
@@ -114,17 +111,12 @@ certificate_told board_text file input text board p fault accepts states (inl me
 certificate_told board_text file input text board p fault accepts states (inr told) = inr (of_certificate board p accepts states told)
 
 -- what a view states, its file states
-pub states_of : (file : List ℕ) (board : Board) (input : List ℕ) (p : PlainProgramme) (v : PlainView) (g : Graph) (c : Code) (t : RegionTable)
-    → v ≡ view_in file → IsGraph (view_in file) board g → IsCode (view_in file) c → AreRegions (view_in file) c board t
-    → StatesProgramme v board g c t input p
-    → StatesOf file board input p
-states_of file board input p v g c t same is_graph is_code are_regions states =
+pub states_of : (board_text file input : List ℕ) (o : Opened) (p : PlainProgramme) → IsOpened board_text file o
+    → StatesProgramme (plain_view o.analysis.view) o.board o.analysis.graph o.analysis.code o.analysis.regions input p
+    → StatesOf file o.board input p
+states_of board_text file input o p is states =
+    let a = o.analysis in
     record {
-      graph = g;
-      is_graph = is_graph;
-      code = c;
-      is_code = is_code;
-      regions = t;
-      are_regions = are_regions;
-      states = subst (λ (u : PlainView). StatesProgramme u board g c t input p) same states;
+      found = findings file o.board a is.analysed;
+      states = subst (λ (u : PlainView). StatesProgramme u o.board a.graph a.code a.regions input p) (opened_view board_text file o is) states;
     }

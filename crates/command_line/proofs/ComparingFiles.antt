@@ -1,6 +1,6 @@
 -- A file and the file that it was relinked to, compared.
 use Rattle.std.proofs.Common.{◌≡◌, ◌⊎◌, inl, inr, ℕ, List, Some, None, refl, sym, subst}
-use Rattle.elf_reader.specs.File.{PlainView, view_in}
+use Rattle.elf_reader.specs.File.{PlainView, plain_view, view_in}
 use Rattle.elf_reader.specs.Faults.{first_fault}
 use Rattle.elf_reader.specs.declared.fault.ElfFault.{ElfFault}
 use Rattle.elf_reader.specs.declared.fault.ElfFault.TheVariants as elf
@@ -9,8 +9,6 @@ use Rattle.board_config.specs.declared.board.Board.{Board}
 use Rattle.flat_machine.specs.State.{State}
 use Rattle.flat_machine.specs.Start as flat_start
 use Rattle.flat_machine.specs.declared.events.FlatOutcome.{FlatOutcome}
-use Rattle.object_graph.specs.Graphs.{IsGraph}
-use Rattle.object_graph.specs.declared.parts.Graph.{Graph}
 use Rattle.object_machine.specs.declared.events.Outcome.{Outcome}
 use Rattle.object_machine.specs.declared.events.Outcome.TheVariants.{GoesOn, Exited, Trapped, AddressFault}
 use Rattle.object_machine.specs.Program.{Program, program_of}
@@ -21,24 +19,31 @@ use Rattle.compare_runner.specs.Comparing.{Judges, Tells, JudgesRun, Compares}
 use Rattle.compare_runner.specs.declared.comparing.Comparison.{Comparison}
 use Rattle.compare_runner.specs.declared.comparing.Comparison.TheVariants.{Same, Differs, SourceFault}
 use Rattle.command_line.specs.FaultLine.{elf_refusal}
-use Rattle.command_line.specs.Analysed.{Accepts}
+use Rattle.command_line.specs.Analysed.{Accepts, IsOpened}
 use Rattle.printed_lines.specs.Endings.{IsAddressFault}
 use Rattle.command_line.specs.CompareFiles.{Compared, ComparesTo, HasEnding, AnswersComparison, RefusesComparison, RefusesCompared, of_relinked, of_comparison}
+use Rattle.command_line.specs.declared.opening.Opened.{Opened}
 use Rattle.command_line.specs.declared.faults.Refusal.{Refusal}
 use Rattle.command_line.specs.declared.faults.Refusal.TheVariants as refusal
+use Rattle.command_line.proofs.Analysing.{opened_view}
 
 -- the comparison of two views is that of their files
-pub compared_files : (file relinked : List ℕ) (board : Board) (g : Graph) (input : List ℕ) (c : Comparison) (v w : PlainView)
-    → v ≡ view_in file → w ≡ view_in relinked → IsGraph (view_in file) board g
-    → Compares (program_of v board g) board board.steps (start_of v (program_of v board g) g input) (flat_start.start_of w.entry w.segments (mapped_ranges board) input) c
-    → Compared file relinked board input c
-compared_files file relinked board g input c v w same_file same_relinked is_graph compares =
+pub compared_files : (board_text file relinked input : List ℕ) (o : Opened) (c : Comparison) (w : PlainView) → IsOpened board_text file o → w ≡ view_in relinked
+    → (
+    let v = plain_view o.analysis.view in
+    let p = program_of v o.board o.analysis.graph in
+    Compares p o.board o.board.steps (start_of v p o.analysis.graph input) (flat_start.start_of w.entry w.segments (mapped_ranges o.board) input) c
+    )
+    → Compared file relinked o.board input c
+compared_files board_text file relinked input o c w is same_relinked compares =
+    let board = o.board in
+    let g = o.analysis.graph in
     record {
       graph = g;
-      is_graph = is_graph;
+      is_graph = is.analysed.analysis.graph;
       compares =
           subst (λ (u : PlainView). Compares (program_in file board g) board board.steps (source_start file board g input) (flat_start.start_of u.entry u.segments (mapped_ranges board) input) c) same_relinked
-          (subst (λ (u : PlainView). Compares (program_of u board g) board board.steps (start_of u (program_of u board g) g input) (flat_start.start_of w.entry w.segments (mapped_ranges board) input) c) same_file compares);
+          (subst (λ (u : PlainView). Compares (program_of u board g) board board.steps (start_of u (program_of u board g) g input) (flat_start.start_of w.entry w.segments (mapped_ranges board) input) c) (opened_view board_text file o is) compares);
     }
 
 -- ---- where both do the same, it is no address fault that they do

@@ -41,7 +41,7 @@ yields_first command inputs outputs text (runs f b i o file board input output i
     run_first f b i o file board input is are (sym ran.sound)
 yields_first command inputs outputs text (relinks f b i o c file board input certificate out is are outs made) =
     relink_first f b i o c file board input is are
-    (of_none made.board made.states.last.outcome made.accepts (relinked_runs file board input certificate out text made) made.states.no_address_fault refl)
+    (of_none made.board made.states.states.last.outcome made.accepts (relinked_runs file board input certificate out text made) made.states.states.no_address_fault refl)
 yields_first command inputs outputs text (profiles f b i file board input is are outs made) =
     profile_first f b i file board input is are
     (of_none made.board made.last.outcome made.accepts (profile_runs file board input text made) made.no_address_fault refl)

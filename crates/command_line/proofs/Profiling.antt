@@ -1,11 +1,10 @@
 -- A profile of the program of a file, and its address fault.
 use Rattle.std.proofs.Common.{◌≡◌, inl, inr, ℕ, List, length, Ok, Err, refl, sym, subst, ◌∙◌}
 use Rattle.std.proofs.lemmas.List.{length-map}
-use Rattle.elf_reader.specs.File.{PlainView, view_in}
+use Rattle.elf_reader.specs.File.{PlainView, plain_view}
 use Rattle.board_config.specs.declared.board.Board.{Board}
-use Rattle.object_graph.specs.Graphs.{IsGraph}
 use Rattle.object_graph.specs.declared.parts.Graph.{Graph}
-use Rattle.code_blocks.specs.Blocks.{IsCode, start_of}
+use Rattle.code_blocks.specs.Blocks.{start_of}
 use Rattle.code_blocks.specs.Numbers.{starts_of}
 use Rattle.code_blocks.specs.declared.parts.Code.{Code}
 use Rattle.result_setups.specs.HomeLaws.{program_in, source_start}
@@ -14,10 +13,12 @@ use Rattle.profile_runner.proofs.RunLemmas.{moves_steps}
 use Rattle.profile_runner.specs.declared.counts.Profile.{Profile}
 use Rattle.profile_runner.specs.declared.fault.ProfileFault.{ProfileFault}
 use Rattle.profile_runner.specs.declared.fault.ProfileFault.TheVariants.{AddressFault as FaultAt, Memory}
-use Rattle.relink_core.specs.Regions.{AreRegions}
+use Rattle.relinking.proofs.Analysed.{findings}
 use Rattle.relinking.proofs.Counting.{faulted, unfaulted}
 use Rattle.command_line.specs.FaultLine.{profile_refusal}
-use Rattle.command_line.specs.Analysed.{Accepts}
+use Rattle.command_line.specs.Analysed.{IsOpened}
+use Rattle.command_line.specs.declared.opening.Opened.{Opened}
+use Rattle.command_line.proofs.Analysing.{opened_view}
 use Rattle.relinking.specs.Runs.{RunsProgram}
 use Rattle.printed_lines.specs.Endings.{IsAddressFault}
 use Rattle.command_line.specs.ProgramRun.{RefusesProfiled, of_run}
@@ -26,21 +27,22 @@ use Rattle.relinking.specs.Runs.{TellsCounts}
 use Rattle.command_line.specs.ProfileFile.{ProfilesTo}
 
 -- an address fault refuses the command
-pub counts_refused : (board_text file input : List ℕ) (board : Board) (v : PlainView) (g : Graph) (c : Code) (t : RegionTable) (fault : ProfileFault)
-    → v ≡ view_in file → Accepts board_text file board → IsGraph (view_in file) board g → TellsCounts v board g c t input (Err fault)
+pub counts_refused : (board_text file input : List ℕ) (o : Opened) (fault : ProfileFault) → IsOpened board_text file o
+    → TellsCounts (plain_view o.analysis.view) o.board o.analysis.graph o.analysis.code o.analysis.regions input (Err fault)
     → RefusesProfiled board_text file input (profile_refusal fault)
-counts_refused board_text file input board v g c t (FaultAt pc why) same accepts is_graph told =
-    let (last, meets) = subst (λ (u : PlainView). TellsCounts u board g c t input (Err (FaultAt pc why))) same told in
-    inr (of_run board pc why accepts
+counts_refused board_text file input o (FaultAt pc why) is told =
+    let g = o.analysis.graph in
+    let (last, meets) = subst (λ (u : PlainView). TellsCounts u o.board g o.analysis.code o.analysis.regions input (Err (FaultAt pc why))) (opened_view board_text file o is) told in
+    inr (of_run o.board pc why is.accepts
     (record {
       graph = g;
-      is_graph = is_graph;
+      is_graph = is.analysed.analysis.graph;
       last = last;
-      taken = moves_steps (program_in file board g) board.steps (source_start file board g input) last meets.moves meets.run;
+      taken = moves_steps (program_in file o.board g) o.board.steps (source_start file o.board g input) last meets.moves meets.run;
       outcome_is = sym (faulted last.outcome pc why meets.fault);
     })
     refl)
-counts_refused board_text file input board v g c t Memory same accepts is_graph told = inl refl
+counts_refused board_text file input o Memory is told = inl refl
 
 -- what printing a profile asks of it
 pub record HasLines (g : Graph) (c : Code) (q : Profile) : Type 0 where
@@ -61,36 +63,34 @@ has_lines v board g c t input q told =
     }
 
 -- the lines of a profile of the program of a view tell what the program of its file does
-pub profiles_to : (file board_text input text : List ℕ) (board : Board) (v : PlainView) (g : Graph) (c : Code) (t : RegionTable) (q : Profile)
-    → v ≡ view_in file → Accepts board_text file board → IsGraph (view_in file) board g → IsCode (view_in file) c → AreRegions (view_in file) c board t
-    → TellsCounts v board g c t input (Ok q) → text ≡ profile_text v g.objects.items (starts_of c) q → ProfilesTo file board_text input text
-profiles_to file board_text input text board v g c t q same accepts is_graph is_code are_regions told text_is =
-    let (last, made) = subst (λ (u : PlainView). TellsCounts u board g c t input (Ok q)) same told in
+pub profiles_to : (file board_text input text : List ℕ) (o : Opened) (q : Profile) → IsOpened board_text file o
+    → TellsCounts (plain_view o.analysis.view) o.board o.analysis.graph o.analysis.code o.analysis.regions input (Ok q)
+    → text ≡ profile_text (plain_view o.analysis.view) o.analysis.graph.objects.items (starts_of o.analysis.code) q
+    → ProfilesTo file board_text input text
+profiles_to file board_text input text o q is told text_is =
+    let a = o.analysis in
+    let same = opened_view board_text file o is in
+    let (last, made) = subst (λ (u : PlainView). TellsCounts u o.board a.graph a.code a.regions input (Ok q)) same told in
     record {
-      board = board;
-      accepts = accepts;
-      graph = g;
-      is_graph = is_graph;
-      code = c;
-      is_code = is_code;
-      regions = t;
-      are_regions = are_regions;
+      board = o.board;
+      accepts = is.accepts;
+      found = findings file o.board a is.analysed;
       moves = made.moves;
       last = last;
       run = made.run;
       no_address_fault = unfaulted last.outcome made.no_fault;
       profile = q;
       is_profile = made.profile;
-      text_is = subst (λ (u : PlainView). text ≡ profile_text u g.objects.items (starts_of c) q) same text_is;
+      text_is = subst (λ (u : PlainView). text ≡ profile_text u a.graph.objects.items (starts_of a.code) q) same text_is;
     }
 
 -- a run that is done ran the program
 pub profile_runs : (file board_text input text : List ℕ) (made : ProfilesTo file board_text input text) → RunsProgram file made.board input made.last.outcome
 profile_runs file board_text input text made =
     record {
-      graph = made.graph;
-      is_graph = made.is_graph;
+      graph = made.found.graph;
+      is_graph = made.found.is_graph;
       last = made.last;
-      taken = moves_steps (program_in file made.board made.graph) made.board.steps (source_start file made.board made.graph input) made.last made.moves made.run;
+      taken = moves_steps (program_in file made.board made.found.graph) made.board.steps (source_start file made.board made.found.graph input) made.last made.moves made.run;
       outcome_is = refl;
     }

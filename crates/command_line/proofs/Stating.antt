@@ -6,12 +6,12 @@ use Rattle.relinking.specs.Runs.{RunsProgram}
 use Rattle.command_line.specs.RelinkFile.{RelinksTo}
 
 pub relinked_runs : (file board_text input certificate out report : List ℕ) (made : RelinksTo file board_text input certificate out report)
-    → RunsProgram file made.board input made.states.last.outcome
+    → RunsProgram file made.board input made.states.states.last.outcome
 relinked_runs file board_text input certificate out report made =
     record {
-      graph = made.graph;
-      is_graph = made.is_graph;
-      last = made.states.last;
-      taken = moves_steps (program_in file made.board made.graph) made.board.steps (source_start file made.board made.graph input) made.states.last made.states.moves made.states.run;
+      graph = made.states.found.graph;
+      is_graph = made.states.found.is_graph;
+      last = made.states.states.last;
+      taken = moves_steps (program_in file made.board made.states.found.graph) made.board.steps (source_start file made.board made.states.found.graph input) made.states.states.last made.states.states.moves made.states.states.run;
       outcome_is = refl;
     }

@@ -6,7 +6,9 @@ use Rattle.board_config.specs.Keys.{first_key}
 use Rattle.board_config.specs.declared.board.Board.{Board}
 use Rattle.relink_core.specs.Faults.{IsFaultless, IsFirst}
 use Rattle.relink_core.specs.declared.fault.AnalyseFault.{AnalyseFault}
+use Rattle.relinking.specs.Runs.{IsAnalysed}
 use Rattle.command_line.specs.FaultLine.{Parts, board_parts, analyse_parts, parts_of}
+use Rattle.command_line.specs.declared.opening.Opened.{Opened}
 use Rattle.command_line.specs.declared.faults.Refusal.{Refusal}
 use Rattle.command_line.specs.declared.faults.Refusal.TheVariants as refusal
 
@@ -23,6 +25,11 @@ pub data TellsAnalysed (board_text file : List ℕ) (told : Parts) : Type 0 wher
   of_analysis : (board : Board) (fault : AnalyseFault) → IsBoard board_text board → first_key board_text ≡ None
       → IsFirst file board fault → told ≡ analyse_parts fault
       → TellsAnalysed board_text file told
+
+-- they were opened: the text is that of the board, and the analysis is that of the file for it
+pub record IsOpened (board_text file : List ℕ) (o : Opened) : Type 0 where
+  pub accepts : Accepts board_text file o.board
+  pub analysed : IsAnalysed file o.board o.analysis
 
 -- a computation on both was refused: for want of memory, or by the first fault
 abbrev pub RefusesAnalysed : List ℕ → List ℕ → Refusal → Type 0

@@ -1,13 +1,6 @@
 -- What `check` tells of a file, a board, an input and a certificate.
 use Rattle.std.specs.Prelude.{◌≡◌, ◌⊎◌, ℕ, Bool, true, false, List, Option, Some, None, Err}
-use Rattle.elf_reader.specs.File.{view_in}
 use Rattle.board_config.specs.declared.board.Board.{Board}
-use Rattle.object_graph.specs.Graphs.{IsGraph}
-use Rattle.object_graph.specs.declared.parts.Graph.{Graph}
-use Rattle.code_blocks.specs.Blocks.{IsCode}
-use Rattle.code_blocks.specs.declared.parts.Code.{Code}
-use Rattle.region_former.specs.declared.table.RegionTable.{RegionTable}
-use Rattle.relink_core.specs.Regions.{AreRegions}
 use Rattle.placement_programme.specs.Plain.{PlainProgramme, PlainChoice}
 use Rattle.placement_programme.specs.Programme.{IsFeasible}
 use Rattle.certificate_checker.specs.Nodes.{PlainCertificate}
@@ -17,22 +10,11 @@ use Rattle.certificate_checker.specs.Shows.{PlainVerdict, optimal, best_found, b
 use Rattle.certificate_checker.specs.declared.fault.CertFault.{CertFault}
 use Rattle.command_line.specs.FaultLine.{Parts, cert_parts, choice_parts, tree_parts, parts_of}
 use Rattle.command_line.specs.Analysed.{Accepts}
-use Rattle.command_line.specs.ProgramRun.{TellsProfiled}
-use Rattle.relinking.specs.StatedRun.{StatesProgramme}
+use Rattle.command_line.specs.ProgramRun.{StatesOf, TellsProfiled}
 use Rattle.printed_lines.specs.ReportText.{IsReport}
 use Rattle.relinking.specs.FoundChoice.{IsLeast}
 use Rattle.command_line.specs.declared.faults.Refusal.{Refusal}
 use Rattle.command_line.specs.declared.faults.Refusal.TheVariants as refusal
-
--- the run of a file's program on an input states this programme
-pub record StatesOf (file : List ℕ) (board : Board) (input : List ℕ) (p : PlainProgramme) : Type 0 where
-  pub graph : Graph
-  pub is_graph : IsGraph (view_in file) board graph
-  pub code : Code
-  pub is_code : IsCode (view_in file) code
-  pub regions : RegionTable
-  pub are_regions : AreRegions (view_in file) code board regions
-  pub states : StatesProgramme (view_in file) board graph code regions input p
 
 -- the answers of which a report is made: that the choice is best, and that no tree says so
 abbrev pub answer_of : Bool → PlainVerdict

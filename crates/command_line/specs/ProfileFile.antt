@@ -2,19 +2,14 @@
 use Rattle.std.specs.Prelude.{◌≡◌, ℕ, List, length}
 use Rattle.elf_reader.specs.File.{view_in}
 use Rattle.board_config.specs.declared.board.Board.{Board}
-use Rattle.object_graph.specs.Graphs.{IsGraph}
-use Rattle.object_graph.specs.declared.parts.Graph.{Graph}
-use Rattle.code_blocks.specs.Blocks.{IsCode}
 use Rattle.code_blocks.specs.Numbers.{starts_of}
-use Rattle.code_blocks.specs.declared.parts.Code.{Code}
 use Rattle.object_machine.specs.State.{SourceState}
 use Rattle.result_setups.specs.HomeLaws.{program_in, source_start}
-use Rattle.region_former.specs.declared.table.RegionTable.{RegionTable}
 use Rattle.profile_runner.specs.Move.{Move}
 use Rattle.profile_runner.specs.Moves.{Moves}
 use Rattle.profile_runner.specs.Counts.{IsProfile}
 use Rattle.profile_runner.specs.declared.counts.Profile.{Profile}
-use Rattle.relink_core.specs.Regions.{AreRegions}
+use Rattle.relink_core.specs.Findings.{Findings}
 use Rattle.command_line.specs.Analysed.{Accepts}
 use Rattle.printed_lines.specs.Endings.{IsAddressFault}
 use Rattle.printed_lines.specs.ProfileLines.{profile_text}
@@ -24,16 +19,11 @@ use Rattle.printed_lines.specs.ProfileLines.{profile_text}
 pub record ProfilesTo (file board_text input text : List ℕ) : Type 0 where
   pub board : Board
   pub accepts : Accepts board_text file board
-  pub graph : Graph
-  pub is_graph : IsGraph (view_in file) board graph
-  pub code : Code
-  pub is_code : IsCode (view_in file) code
-  pub regions : RegionTable
-  pub are_regions : AreRegions (view_in file) code board regions
+  pub found : Findings file board
   pub moves : List Move
   pub last : SourceState
-  pub run : Moves (program_in file board graph) board.steps (source_start file board graph input) moves last
+  pub run : Moves (program_in file board found.graph) board.steps (source_start file board found.graph input) moves last
   pub no_address_fault : IsAddressFault last.outcome → ⊥
   pub profile : Profile
-  pub is_profile : IsProfile (starts_of code) regions.of_block.items regions.count (length graph.objects.items) moves last.outcome profile
-  pub text_is : text ≡ profile_text (view_in file) graph.objects.items (starts_of code) profile
+  pub is_profile : IsProfile (starts_of found.code) found.regions.of_block.items found.regions.count (length found.graph.objects.items) moves last.outcome profile
+  pub text_is : text ≡ profile_text (view_in file) found.graph.objects.items (starts_of found.code) profile

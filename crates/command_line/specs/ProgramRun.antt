@@ -1,14 +1,23 @@
--- The first fault of a command that runs the program of a file to measure it.
+-- What a command that runs the program of a file measures by it, and its first fault.
 use Rattle.std.specs.Prelude.{◌≡◌, ◌⊎◌, ℕ, List, Option, Some, None}
+use Rattle.elf_reader.specs.File.{view_in}
 use Rattle.board_config.specs.declared.board.Board.{Board}
 use Rattle.object_machine.specs.declared.events.Outcome.{Outcome}
 use Rattle.object_machine.specs.declared.events.Outcome.TheVariants.{AddressFault}
+use Rattle.placement_programme.specs.Plain.{PlainProgramme}
+use Rattle.relink_core.specs.Findings.{Findings}
 use Rattle.printed_lines.specs.Endings.{IsAddressFault}
 use Rattle.relinking.specs.Runs.{RunsProgram}
+use Rattle.relinking.specs.StatedRun.{StatesProgramme}
 use Rattle.command_line.specs.FaultLine.{Parts, address_parts, parts_of}
 use Rattle.command_line.specs.Analysed.{Accepts, TellsAnalysed}
 use Rattle.command_line.specs.declared.faults.Refusal.{Refusal}
 use Rattle.command_line.specs.declared.faults.Refusal.TheVariants as refusal
+
+-- the run of a file's program on an input states this programme
+pub record StatesOf (file : List ℕ) (board : Board) (input : List ℕ) (p : PlainProgramme) : Type 0 where
+  pub found : Findings file board
+  pub states : StatesProgramme (view_in file) board found.graph found.code found.regions input p
 
 -- what is told of the first fault, if there is one: those of the board and the file come before the run
 pub data TellsProfiled (board_text file input : List ℕ) (told : Option Parts) : Type 0 where

@@ -2,13 +2,8 @@
 use Rattle.std.specs.Prelude.{◌≡◌, ℕ, List, Option, Some, None}
 use Rattle.elf_reader.specs.File.{view_in}
 use Rattle.board_config.specs.declared.board.Board.{Board}
-use Rattle.object_graph.specs.Graphs.{IsGraph}
-use Rattle.object_graph.specs.declared.parts.Graph.{Graph}
-use Rattle.code_blocks.specs.Blocks.{IsCode}
 use Rattle.code_blocks.specs.Numbers.{starts_of}
-use Rattle.code_blocks.specs.declared.parts.Code.{Code}
-use Rattle.region_former.specs.declared.table.RegionTable.{RegionTable}
-use Rattle.relink_core.specs.Regions.{AreRegions}
+use Rattle.relink_core.specs.Findings.{Findings}
 use Rattle.command_line.specs.FaultLine.{Parts}
 use Rattle.command_line.specs.Analysed.{Accepts, TellsAnalysed}
 use Rattle.printed_lines.specs.ShowLines.{show_text}
@@ -17,14 +12,9 @@ use Rattle.printed_lines.specs.ShowLines.{show_text}
 pub record ShowsTo (file board_text text : List ℕ) : Type 0 where
   pub board : Board
   pub accepts : Accepts board_text file board
-  pub graph : Graph
-  pub is_graph : IsGraph (view_in file) board graph
-  pub code : Code
-  pub is_code : IsCode (view_in file) code
-  pub regions : RegionTable
-  pub are_regions : AreRegions (view_in file) code board regions
+  pub found : Findings file board
   pub text_is :
-      text ≡ show_text (view_in file) graph.objects.items code.functions.items (starts_of code) regions.of_block.items
+      text ≡ show_text (view_in file) found.graph.objects.items found.code.functions.items (starts_of found.code) found.regions.of_block.items
 
 -- what is told of the first fault, if there is one: those of the board and the file are all
 pub data TellsShown (board_text file : List ℕ) (told : Option Parts) : Type 0 where

@@ -6,11 +6,10 @@ ghost use Rattle.certificate_checker.specs.Views.{plain_verdict};
 ghost use Rattle.command_line.specs.CheckFile.{ChecksTo, RefusesChecked, ReportsText, RefusesText, MayReport, ReportsAnswer, RefusesAnswer};
 
 use crate::faults::Refusal;
-use board_config::read_board;
+use crate::opening::open;
 use certificate_checker::{Room, Verdict, check_text};
 use placement_programme::{Choice, Programme};
 use printed_lines::choice_report;
-use relink_core::analyse;
 use relinking::stated_run;
 use std::alloc::Global;
 
@@ -30,10 +29,9 @@ pub fn check_file(
     ensures ok { IfOk result (λ text. ChecksTo file.now board.now input.now cert.now text.items) }
     ensures err { IfErr result (RefusesChecked board.now file.now input.now cert.now) }
 {
-    let board = read_board(alloc, board)?;
-    let analysis = analyse(alloc, file, &board)?;
-    let programme = stated_run(alloc, &analysis, &board, input)?;
-    match checked(alloc, &programme, board.nodes, cert) {
+    let opened = open(alloc, file, board)?;
+    let programme = stated_run(alloc, &opened.analysis, &opened.board, input)?;
+    match checked(alloc, &programme, opened.board.nodes, cert) {
         Ok(report) => Ok(report.into_bytes()),
         Err(fault) => Err(fault),
     }

@@ -3,11 +3,10 @@ ghost use Rattle.printed_lines.specs.Endings.{IsAddressFault};
 ghost use Rattle.command_line.specs.CompareFiles.{ComparesTo, RefusesCompared, HasEnding, AnswersComparison, RefusesComparison, same_text};
 
 use crate::faults::Refusal;
-use board_config::read_board;
+use crate::opening::open;
 use compare_runner::{Comparison, compare};
 use object_machine::Outcome;
 use printed_lines::ending_line;
-use relink_core::analyse;
 use std::alloc::{AllocError, Global};
 
 /// Runs the program of a file and a file that it was relinked to, each on its machine, on one input. Where they do the
@@ -25,10 +24,16 @@ pub fn compare_files(
     ensures ok { IfOk result (λ text. ComparesTo file.now relinked.now board.now input.now text.items) }
     ensures err { IfErr result (RefusesCompared board.now file.now relinked.now input.now) }
 {
-    let board = read_board(alloc, board)?;
-    let analysis = analyse(alloc, file, &board)?;
+    let opened = open(alloc, file, board)?;
     let view = elf_reader::read(alloc, relinked)?;
-    let comparison = compare(alloc, &analysis, &view, &board, input, board.steps)?;
+    let comparison = compare(
+        alloc,
+        &opened.analysis,
+        &view,
+        &opened.board,
+        input,
+        opened.board.steps,
+    )?;
     match answer(alloc, comparison) {
         Ok(text) => Ok(text),
         Err(fault) => Err(fault),

@@ -8,6 +8,7 @@ mod compare_files;
 mod delivery;
 mod faults;
 mod hex_files;
+mod opening;
 mod outcomes;
 mod performing;
 mod printing;

@@ -3,9 +3,8 @@ ghost use Rattle.command_line.specs.ProgramRun.{RefusesProfiled};
 ghost use Rattle.command_line.specs.ProfileFile.{ProfilesTo};
 
 use crate::faults::Refusal;
-use board_config::read_board;
+use crate::opening::open;
 use printed_lines::profile_lines;
-use relink_core::analyse;
 use relinking::counted;
 use std::alloc::Global;
 
@@ -22,14 +21,13 @@ pub fn profile_file(
     ensures ok { IfOk result (λ text. ProfilesTo file.now board.now input.now text.items) }
     ensures err { IfErr result (RefusesProfiled board.now file.now input.now) }
 {
-    let board = read_board(alloc, board)?;
-    let analysis = analyse(alloc, file, &board)?;
-    let counts = counted(alloc, &analysis, &board, input)?;
+    let opened = open(alloc, file, board)?;
+    let counts = counted(alloc, &opened.analysis, &opened.board, input)?;
     Ok(profile_lines(
         alloc,
-        &analysis.view,
-        &analysis.graph,
-        &analysis.code,
+        &opened.analysis.view,
+        &opened.analysis.graph,
+        &opened.analysis.code,
         &counts,
     )?)
 }

@@ -3,8 +3,7 @@ ghost use Rattle.command_line.specs.ProgramRun.{RefusesProfiled};
 ghost use Rattle.command_line.specs.RelinkFile.{RelinksTo};
 
 use crate::faults::Refusal;
-use board_config::read_board;
-use relink_core::analyse;
+use crate::opening::open;
 use relinking::{relink_analysed, relink_report};
 use std::alloc::Global;
 
@@ -32,13 +31,12 @@ pub fn relink_file(
     ensures ok { IfOk result (λ r. RelinksTo file.now board.now input.now r.certificate.items r.file.items r.report.items) }
     ensures err { IfErr result (RefusesProfiled board.now file.now input.now) }
 {
-    let board = read_board(alloc, board)?;
-    let analysis = analyse(alloc, file, &board)?;
-    let relinked = relink_analysed(alloc, &analysis, &board, input)?;
-    let report = relink_report(alloc, &analysis, &board, &relinked)?;
+    let opened = open(alloc, file, board)?;
+    let relinked = relink_analysed(alloc, &opened.analysis, &opened.board, input)?;
+    let report = relink_report(alloc, &opened.analysis, &opened.board, &relinked)?;
     Ok(RelinkedFile {
         certificate: relinked.certificate,
-        file: relinked.bytes,
+        file: relinked.result.bytes,
         report,
     })
 }

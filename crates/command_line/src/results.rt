@@ -29,64 +29,50 @@ pub fn make_ready<'a>(
     ensures err { IfErr result (RefusesInputs (plain_command command.now) (contents texts.now)) }
 {
     match *command {
-        Command::Run { out, .. } => {
-            match ready_run(alloc, out, &texts[0], &texts[1], &texts[2]) {
-                Ok(ready) => Ok(ready),
-                Err(fault) => Err(fault),
-            }
-        }
-        Command::Relink { out, cert, .. } => {
-            match ready_relink(alloc, out, cert, &texts[0], &texts[1], &texts[2]) {
-                Ok(ready) => Ok(ready),
-                Err(fault) => Err(fault),
-            }
-        }
-        Command::Profile { .. } => match ready_profile(alloc, &texts[0], &texts[1], &texts[2]) {
+        Command::Run { out, .. } => match ready_run(alloc, out, texts) {
             Ok(ready) => Ok(ready),
             Err(fault) => Err(fault),
         },
-        Command::Compare { .. } => {
-            match ready_compare(alloc, &texts[0], &texts[1], &texts[2], &texts[3]) {
-                Ok(ready) => Ok(ready),
-                Err(fault) => Err(fault),
-            }
-        }
-        Command::Check { .. } => {
-            match ready_check(alloc, &texts[0], &texts[1], &texts[2], &texts[3]) {
-                Ok(ready) => Ok(ready),
-                Err(fault) => Err(fault),
-            }
-        }
-
-        Command::Show { .. } => match ready_show(alloc, &texts[0], &texts[1]) {
+        Command::Relink { out, cert, .. } => match ready_relink(alloc, out, cert, texts) {
+            Ok(ready) => Ok(ready),
+            Err(fault) => Err(fault),
+        },
+        Command::Profile { .. } => match ready_profile(alloc, texts) {
+            Ok(ready) => Ok(ready),
+            Err(fault) => Err(fault),
+        },
+        Command::Compare { .. } => match ready_compare(alloc, texts) {
+            Ok(ready) => Ok(ready),
+            Err(fault) => Err(fault),
+        },
+        Command::Check { .. } => match ready_check(alloc, texts) {
+            Ok(ready) => Ok(ready),
+            Err(fault) => Err(fault),
+        },
+        Command::Show { .. } => match ready_show(alloc, texts) {
             Ok(ready) => Ok(ready),
             Err(fault) => Err(fault),
         },
         Command::Gen { seed, kernels, out } => ready_gen(alloc, seed, kernels, out),
-        Command::Hex { out, .. } => match ready_hex(alloc, out, &texts[0]) {
+        Command::Hex { out, .. } => match ready_hex(alloc, out, texts) {
             Ok(ready) => Ok(ready),
             Err(fault) => Err(fault),
         },
-        Command::HexCheck { .. } => match ready_hex_check(alloc, &texts[0], &texts[1]) {
+        Command::HexCheck { .. } => match ready_hex_check(alloc, texts) {
             Ok(ready) => Ok(ready),
             Err(fault) => Err(fault),
         },
     }
 }
 
-fn ready_run<'a>(
-    alloc: Global,
-    out: &'a str,
-    file: &[u8],
-    board: &[u8],
-    input: &[u8],
-) -> Result<Ready<'a>, Refusal>
+fn ready_run<'a>(alloc: Global, out: &'a str, texts: &[Vec<u8>]) -> Result<Ready<'a>, Refusal>
+    requires { length texts.now ≡ 3 }
     ensures ok { IfOk result (λ ready. (f b i : List ℕ)
-        → IsReadyFor (run_command f b i out.now) (file.now ∷ board.now ∷ input.now ∷ []) ready) }
+        → IsReadyFor (run_command f b i out.now) (contents texts.now) ready) }
     ensures err { IfErr result (λ fault. (f b i : List ℕ)
-        → RefusesInputs (run_command f b i out.now) (file.now ∷ board.now ∷ input.now ∷ []) fault) }
+        → RefusesInputs (run_command f b i out.now) (contents texts.now) fault) }
 {
-    match run_file(alloc, file, board, input) {
+    match run_file(alloc, &texts[0], &texts[1], &texts[2]) {
         Ok(run) => Ok(Ready::written(alloc, 4, out, run.output, run.line.into_bytes())?),
         Err(fault) => Err(fault),
     }
@@ -96,16 +82,15 @@ fn ready_relink<'a>(
     alloc: Global,
     out: &'a str,
     cert: &'a str,
-    file: &[u8],
-    board: &[u8],
-    input: &[u8],
+    texts: &[Vec<u8>],
 ) -> Result<Ready<'a>, Refusal>
+    requires { length texts.now ≡ 3 }
     ensures ok { IfOk result (λ ready. (f b i : List ℕ)
-        → IsReadyFor (relink_command f b i out.now cert.now) (file.now ∷ board.now ∷ input.now ∷ []) ready) }
+        → IsReadyFor (relink_command f b i out.now cert.now) (contents texts.now) ready) }
     ensures err { IfErr result (λ fault. (f b i : List ℕ)
-        → RefusesInputs (relink_command f b i out.now cert.now) (file.now ∷ board.now ∷ input.now ∷ []) fault) }
+        → RefusesInputs (relink_command f b i out.now cert.now) (contents texts.now) fault) }
 {
-    match relink_file(alloc, file, board, input) {
+    match relink_file(alloc, &texts[0], &texts[1], &texts[2]) {
         Ok(relinked) => {
             let first = Output::new(alloc, 5, cert, relinked.certificate)?;
             let second = Output::new(alloc, 4, out, relinked.file)?;
@@ -115,66 +100,53 @@ fn ready_relink<'a>(
     }
 }
 
-fn ready_profile<'a>(
-    alloc: Global,
-    file: &[u8],
-    board: &[u8],
-    input: &[u8],
-) -> Result<Ready<'a>, Refusal>
+fn ready_profile<'a>(alloc: Global, texts: &[Vec<u8>]) -> Result<Ready<'a>, Refusal>
+    requires { length texts.now ≡ 3 }
     ensures ok { IfOk result (λ ready. (f b i : List ℕ)
-        → IsReadyFor (profile_command f b i) (file.now ∷ board.now ∷ input.now ∷ []) ready) }
+        → IsReadyFor (profile_command f b i) (contents texts.now) ready) }
     ensures err { IfErr result (λ fault. (f b i : List ℕ)
-        → RefusesInputs (profile_command f b i) (file.now ∷ board.now ∷ input.now ∷ []) fault) }
+        → RefusesInputs (profile_command f b i) (contents texts.now) fault) }
 {
-    match profile_file(alloc, file, board, input) {
+    match profile_file(alloc, &texts[0], &texts[1], &texts[2]) {
         Ok(text) => Ok(Ready::printed(alloc, text)?),
         Err(fault) => Err(fault),
     }
 }
 
-fn ready_compare<'a>(
-    alloc: Global,
-    file: &[u8],
-    relinked: &[u8],
-    board: &[u8],
-    input: &[u8],
-) -> Result<Ready<'a>, Refusal>
+fn ready_compare<'a>(alloc: Global, texts: &[Vec<u8>]) -> Result<Ready<'a>, Refusal>
+    requires { length texts.now ≡ 4 }
     ensures ok { IfOk result (λ ready. (f r b i : List ℕ)
-        → IsReadyFor (compare_command f r b i) (file.now ∷ relinked.now ∷ board.now ∷ input.now ∷ []) ready) }
+        → IsReadyFor (compare_command f r b i) (contents texts.now) ready) }
     ensures err { IfErr result (λ fault. (f r b i : List ℕ)
-        → RefusesInputs (compare_command f r b i) (file.now ∷ relinked.now ∷ board.now ∷ input.now ∷ []) fault) }
+        → RefusesInputs (compare_command f r b i) (contents texts.now) fault) }
 {
-    match compare_files(alloc, file, relinked, board, input) {
+    match compare_files(alloc, &texts[0], &texts[1], &texts[2], &texts[3]) {
         Ok(text) => Ok(Ready::printed(alloc, text)?),
         Err(fault) => Err(fault),
     }
 }
 
-fn ready_check<'a>(
-    alloc: Global,
-    file: &[u8],
-    board: &[u8],
-    input: &[u8],
-    cert: &[u8],
-) -> Result<Ready<'a>, Refusal>
+fn ready_check<'a>(alloc: Global, texts: &[Vec<u8>]) -> Result<Ready<'a>, Refusal>
+    requires { length texts.now ≡ 4 }
     ensures ok { IfOk result (λ ready. (f b i c : List ℕ)
-        → IsReadyFor (check_command f b i c) (file.now ∷ board.now ∷ input.now ∷ cert.now ∷ []) ready) }
+        → IsReadyFor (check_command f b i c) (contents texts.now) ready) }
     ensures err { IfErr result (λ fault. (f b i c : List ℕ)
-        → RefusesInputs (check_command f b i c) (file.now ∷ board.now ∷ input.now ∷ cert.now ∷ []) fault) }
+        → RefusesInputs (check_command f b i c) (contents texts.now) fault) }
 {
-    match check_file(alloc, file, board, input, cert) {
+    match check_file(alloc, &texts[0], &texts[1], &texts[2], &texts[3]) {
         Ok(text) => Ok(Ready::printed(alloc, text)?),
         Err(fault) => Err(fault),
     }
 }
 
-fn ready_show<'a>(alloc: Global, file: &[u8], board: &[u8]) -> Result<Ready<'a>, Refusal>
+fn ready_show<'a>(alloc: Global, texts: &[Vec<u8>]) -> Result<Ready<'a>, Refusal>
+    requires { length texts.now ≡ 2 }
     ensures ok { IfOk result (λ ready. (f b : List ℕ)
-        → IsReadyFor (show_command f b) (file.now ∷ board.now ∷ []) ready) }
+        → IsReadyFor (show_command f b) (contents texts.now) ready) }
     ensures err { IfErr result (λ fault. (f b : List ℕ)
-        → RefusesInputs (show_command f b) (file.now ∷ board.now ∷ []) fault) }
+        → RefusesInputs (show_command f b) (contents texts.now) fault) }
 {
-    match show_file(alloc, file, board) {
+    match show_file(alloc, &texts[0], &texts[1]) {
         Ok(text) => Ok(Ready::printed(alloc, text)?),
         Err(fault) => Err(fault),
     }
@@ -198,25 +170,27 @@ fn kernels_line(alloc: Global, kernels: u32) -> Result<String, AllocError>
     format!(in alloc; "kernels {kernels}\n")
 }
 
-fn ready_hex<'a>(alloc: Global, out: &'a str, file: &[u8]) -> Result<Ready<'a>, Refusal>
+fn ready_hex<'a>(alloc: Global, out: &'a str, texts: &[Vec<u8>]) -> Result<Ready<'a>, Refusal>
+    requires { length texts.now ≡ 1 }
     ensures ok { IfOk result (λ ready. (f : List ℕ)
-        → IsReadyFor (hex_command f out.now) (file.now ∷ []) ready) }
+        → IsReadyFor (hex_command f out.now) (contents texts.now) ready) }
     ensures err { IfErr result (λ fault. (f : List ℕ)
-        → RefusesInputs (hex_command f out.now) (file.now ∷ []) fault) }
+        → RefusesInputs (hex_command f out.now) (contents texts.now) fault) }
 {
-    match hex_file(alloc, file) {
+    match hex_file(alloc, &texts[0]) {
         Ok(hex) => Ok(Ready::written(alloc, 2, out, hex.text, hex.line.into_bytes())?),
         Err(fault) => Err(fault),
     }
 }
 
-fn ready_hex_check<'a>(alloc: Global, file: &[u8], hex: &[u8]) -> Result<Ready<'a>, Refusal>
+fn ready_hex_check<'a>(alloc: Global, texts: &[Vec<u8>]) -> Result<Ready<'a>, Refusal>
+    requires { length texts.now ≡ 2 }
     ensures ok { IfOk result (λ ready. (f h : List ℕ)
-        → IsReadyFor (hex_check_command f h) (file.now ∷ hex.now ∷ []) ready) }
+        → IsReadyFor (hex_check_command f h) (contents texts.now) ready) }
     ensures err { IfErr result (λ fault. (f h : List ℕ)
-        → RefusesInputs (hex_check_command f h) (file.now ∷ hex.now ∷ []) fault) }
+        → RefusesInputs (hex_check_command f h) (contents texts.now) fault) }
 {
-    match check_hex(alloc, file, hex) {
+    match check_hex(alloc, &texts[0], &texts[1]) {
         Ok(()) => {
             let text = String::from_str(alloc, "same\n")?;
             Ok(Ready::printed(alloc, text.into_bytes())?)

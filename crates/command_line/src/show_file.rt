@@ -3,9 +3,8 @@ ghost use Rattle.command_line.specs.Analysed.{RefusesAnalysed};
 ghost use Rattle.command_line.specs.ShowFile.{ShowsTo};
 
 use crate::faults::Refusal;
-use board_config::read_board;
+use crate::opening::open;
 use printed_lines::show_lines;
-use relink_core::analyse;
 use std::alloc::Global;
 
 /// Tells in lines what of the program of a file may move on a board, and the regions of its functions.
@@ -16,13 +15,12 @@ pub fn show_file(alloc: Global, file: &[u8], board: &[u8]) -> Result<Vec<u8>, Re
     ensures ok { IfOk result (λ text. ShowsTo file.now board.now text.items) }
     ensures err { IfErr result (RefusesAnalysed board.now file.now) }
 {
-    let board = read_board(alloc, board)?;
-    let analysis = analyse(alloc, file, &board)?;
+    let opened = open(alloc, file, board)?;
     Ok(show_lines(
         alloc,
-        &analysis.view,
-        &analysis.graph,
-        &analysis.code,
-        &analysis.regions,
+        &opened.analysis.view,
+        &opened.analysis.graph,
+        &opened.analysis.code,
+        &opened.analysis.regions,
     )?)
 }

@@ -19,6 +19,10 @@ hex_digits (suc k) n others = hex_digits k (n / 16) (digit_glyph false (n % 16) 
 abbrev pub address_text : ℕ → List ℕ
 address_text a = codes "0x" ++ hex_digits 8 a []
 
+-- a line that ends in a name
+abbrev pub named_line : List ℕ → List ℕ → List ℕ
+named_line head name = head ++ (name ++ 10 ∷ [])
+
 -- the first of several lines, one after the other
 abbrev pub lines_below : (ℕ → List ℕ) → ℕ → List ℕ
 lines_below line zero = []

@@ -1,5 +1,5 @@
 -- The lines that show what of a program may move, and in which region its functions are.
-use Rattle.std.specs.Prelude.{ℕ, if◌then◌else◌, List, [], ◌∷◌, ◌++◌, codes, length, slice_index_or}
+use Rattle.std.specs.Prelude.{ℕ, if◌then◌else◌, List, ◌++◌, codes, length, slice_index_or}
 use Rattle.std.specs.Fmt.{decimal}
 use Rattle.elf_reader.specs.File.{PlainView}
 use Rattle.loaded_file.specs.Records.{symbol_at}
@@ -9,11 +9,7 @@ use Rattle.code_leaders.specs.Early.{has}
 use Rattle.code_blocks.specs.Blocks.{no_function}
 use Rattle.code_blocks.specs.declared.parts.Function.{Function}
 use Rattle.profile_runner.specs.Standing.{number_of, region_of}
-use Rattle.printed_lines.specs.ProfileLines.{address_text, lines_below}
-
--- a line that ends in a name
-abbrev pub named_line : List ℕ → List ℕ → List ℕ
-named_line head name = head ++ (name ++ 10 ∷ [])
+use Rattle.printed_lines.specs.ProfileLines.{address_text, named_line, lines_below}
 
 -- `object 0xHOME SIZE NAME`
 abbrev pub movable_head : ℕ → ℕ → List ℕ

@@ -2,9 +2,9 @@ ghost use Rattle.std.specs.Prelude.{◌≡◌, ◌<◌, ◌++◌, length, OnOk, 
 ghost use Rattle.std.specs.List.{All};
 ghost use Rattle.elf_reader.specs.File.{plain_view};
 ghost use Rattle.profile_runner.specs.Counts.{plain_rows};
-ghost use Rattle.printed_lines.specs.MovedLines.{moved_head, line_of_moved, moved_line, moved_lines, start_in};
+ghost use Rattle.printed_lines.specs.MovedLines.{moved_head, moved_line, moved_lines, start_in};
 
-use crate::parts::{address_text, symbol_name};
+use crate::parts::{address_text, push_named, symbol_name};
 use elf_reader::ElfView;
 use object_graph::Graph;
 use std::alloc::{AllocError, Global};
@@ -43,24 +43,8 @@ fn push_moved(
     let moved = &graph.objects[object as usize];
     let place = start_of(places, object);
     let name = symbol_name(view, moved.name);
-    push_line(alloc, text, place, moved.size, name)?;
-    Ok(())
-}
-
-/// Adds the line of an object of this place, size and name.
-fn push_line(
-    alloc: Global,
-    text: &mut Vec<u8>,
-    place: u32,
-    size: u32,
-    name: &[u8],
-) -> Result<(), AllocError>
-    ensures { OnOk result (text.new.items ≡ text.old.items ++ line_of_moved place size name.now) }
-{
-    let head = moved_head(alloc, place, size)?;
-    text.extend_from_slice(head.as_bytes())?;
-    text.extend_from_slice(name)?;
-    text.push(b'\n')?;
+    let head = moved_head(alloc, place, moved.size)?;
+    push_named(text, head.as_bytes(), name)?;
     Ok(())
 }
 

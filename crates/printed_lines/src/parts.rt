@@ -1,7 +1,7 @@
-ghost use Rattle.std.specs.Prelude.{◌≡◌, IfOk, string_bytes};
+ghost use Rattle.std.specs.Prelude.{◌≡◌, ◌++◌, IfOk, OnOk, string_bytes};
 ghost use Rattle.elf_reader.specs.File.{plain_view};
 ghost use Rattle.loaded_file.specs.Records.{symbol_at};
-ghost use Rattle.printed_lines.specs.ProfileLines.{address_text};
+ghost use Rattle.printed_lines.specs.ProfileLines.{address_text, named_line};
 
 use elf_reader::ElfView;
 use std::alloc::{AllocError, Global};
@@ -12,6 +12,16 @@ pub(crate) fn address_text(alloc: Global, address: u32) -> Result<String, AllocE
     ensures { IfOk result (λ text. string_bytes text ≡ address_text address) }
 {
     format!(in alloc; "0x{address:08x}")
+}
+
+/// Adds a line of a beginning and a name.
+pub(crate) fn push_named(text: &mut Vec<u8>, head: &[u8], name: &[u8]) -> Result<(), AllocError>
+    ensures { OnOk result (text.new.items ≡ text.old.items ++ named_line head.now name.now) }
+{
+    text.extend_from_slice(head)?;
+    text.extend_from_slice(name)?;
+    text.push(b'\n')?;
+    Ok(())
 }
 
 /// The name of a symbol by its number.

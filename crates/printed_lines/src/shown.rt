@@ -2,9 +2,9 @@ ghost use Rattle.std.specs.Prelude.{◌≡◌, ◌++◌, IfOk, OnOk, length, str
 ghost use Rattle.std.specs.List.Sorted.{IsStrictlyIncreasing};
 ghost use Rattle.elf_reader.specs.File.{plain_view};
 ghost use Rattle.code_blocks.specs.Numbers.{starts_of};
-ghost use Rattle.printed_lines.specs.ShowLines.{named_line, movable_head, function_head, movable_text, movable_lines, function_text, region_at, function_lines, show_text};
+ghost use Rattle.printed_lines.specs.ShowLines.{movable_head, function_head, movable_text, movable_lines, function_text, region_at, function_lines, show_text};
 
-use crate::parts::{address_text, symbol_name};
+use crate::parts::{address_text, push_named, symbol_name};
 use code_blocks::Code;
 use elf_reader::ElfView;
 use object_graph::Graph;
@@ -68,16 +68,6 @@ fn movable_head(alloc: Global, home: u32, size: u32) -> Result<String, AllocErro
 {
     let address = address_text(alloc, home)?;
     format!(in alloc; "object {address} {size} ")
-}
-
-/// Adds a line of a beginning and a name.
-fn push_named(text: &mut Vec<u8>, head: &[u8], name: &[u8]) -> Result<(), AllocError>
-    ensures { OnOk result (text.new.items ≡ text.old.items ++ named_line head.now name.now) }
-{
-    text.extend_from_slice(head)?;
-    text.extend_from_slice(name)?;
-    text.push(b'\n')?;
-    Ok(())
 }
 
 /// Adds a line for each function.

@@ -142,12 +142,12 @@ pub record IsMade (v : PlainView) (board : Board) (g : Graph) (places : Places) 
   pub segment : IsStartSegment (start_plan_of v board g places taken) s
   pub all : moves ≡ moves_below v g places taken (length v.symbols)
 
-pub made_of : (view : ElfView) (board : Board) (g : Graph) (places : Places) (taken : List ℕ) (patches : List Patch) (s : NewSegment) (moves : List SymbolMove) → ArePatchesFor (plain_view view) g places patches → IsStartSegment (start_plan_of (plain_view view) board g places taken) s → moves ≡ moves_below (plain_view view) g places taken (length view.symbols.items) → IsMade (plain_view view) board g places taken patches s moves
-made_of view board g places taken patches s moves for segment all =
+pub made_of : (view : ElfView) (board : Board) (g : Graph) (places : Places) (taken : List ℕ) (patches given : List Patch) (s : NewSegment) (moves listed : List SymbolMove) → patches ≡ given → moves ≡ listed → ArePatchesFor (plain_view view) g places given → IsStartSegment (start_plan_of (plain_view view) board g places taken) s → listed ≡ moves_below (plain_view view) g places taken (length view.symbols.items) → IsMade (plain_view view) board g places taken patches s moves
+made_of view board g places taken patches given s moves listed same_patches same_moves for segment all =
     record {
-      for = for;
+      for = subst (ArePatchesFor (plain_view view) g places) (sym same_patches) for;
       segment = segment;
-      all = all ∙ ap (moves_below (plain_view view) g places taken) (sym (length-map view.symbols.items plain_symbol));
+      all = same_moves ∙ all ∙ ap (moves_below (plain_view view) g places taken) (sym (length-map view.symbols.items plain_symbol));
     }
 
 addable : (file : List ℕ) (board : Board) (g : Graph) (places : Places) (taken : List ℕ) (patches : List Patch) (s : NewSegment) (moves : List SymbolMove) → IsReady file board g → ArePlacesOf board g taken places → CanMove board g taken → IsMade (view_in file) board g places taken patches s moves → (0 < length s.content) × (length s.content ≤ board.patch.size)

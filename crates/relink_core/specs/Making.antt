@@ -16,7 +16,7 @@ use Rattle.overlay_stubs.specs.Start.{StartPlan, start_at}
 use Rattle.overlay_stubs.specs.Plans.{AreStartWords}
 use Rattle.placement_programme.specs.declared.variables.VarName.{VarName}
 use Rattle.placement_programme.specs.declared.variables.VarName.TheVariants.{StaticData, StaticCode, OverlayData, OverlayCode}
-use Rattle.placement_programme.specs.Plain.{PlainVar}
+use Rattle.placement_programme.specs.Plain.{PlainVar, PlainProgramme, PlainChoice}
 use Rattle.relocator.specs.declared.places.Places.{Places}
 use Rattle.relocator.specs.Placing.{place_at}
 use Rattle.relocator.specs.Slots.{name_at}
@@ -56,6 +56,11 @@ pub record HasStarts (g : Graph) (places : Places) : Type 0 where
 pub record ArePlacesOf (board : Board) (g : Graph) (taken : List ℕ) (places : Places) : Type 0 where
   pub starts : HasStarts g places
   pub exact : (o : ℕ) → o < length g.objects.items → start_place places o ≡ (data_placing board g taken).place o
+
+-- what a choice takes, and where objects stand with it
+pub record ArePlaced (board : Board) (g : Graph) (p : PlainProgramme) (c : PlainChoice) (objects : List ℕ) (places : Places) : Type 0 where
+  pub taken : objects ≡ taken_objects p.off.vars c.take
+  pub at : ArePlacesOf board g (taken_objects p.off.vars c.take) places
 
 -- objects may be moved: they may stand there, and the patch range has room for their jobs
 pub record CanMove (board : Board) (g : Graph) (taken : List ℕ) : Type 0 where

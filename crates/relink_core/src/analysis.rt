@@ -6,6 +6,7 @@ ghost use Rattle.elf_reader.specs.File.{IsFile, plain_view, view_in};
 ghost use Rattle.board_config.specs.Board.{IsLawful};
 ghost use Rattle.loaded_file.specs.Read.{IsRead};
 ghost use Rattle.object_graph.specs.Graphs.{IsGraph};
+ghost use Rattle.object_graph.specs.Lookups.{IsSomeGraph};
 ghost use Rattle.code_blocks.specs.Blocks.{IsCode, code_fault};
 ghost use Rattle.code_blocks.specs.Numbers.{starts_of};
 ghost use Rattle.liveness.specs.Tables.{IsTableOf};
@@ -49,8 +50,6 @@ pub struct Analysis<'a> {
     pub code: Code,
     /// The registers that are live where blocks begin.
     pub live: LiveTable,
-    /// The registers that may hold addresses of objects where blocks begin, and the objects that escape.
-    pub points: PointsTable,
     /// The regions of the blocks.
     pub regions: RegionTable,
 }
@@ -84,24 +83,31 @@ pub fn analyse<'a>(
     ensures graph { IfOk result (λ a. IsGraph (view_in bytes.now) board.now a.graph) }
     ensures code { IfOk result (λ a. IsCode (view_in bytes.now) a.code) }
     ensures live { IfOk result (λ a. IsTableOf a.code a.live) }
-    ensures points { IfOk result (λ a. IsPointsOf a.code a.graph a.points) }
     ensures regions { IfOk result (λ a. AreRegions (view_in bytes.now) a.code board.now a.regions) }
     ensures inner { IfErr result IsOutermost }
 {
     let parts = parts_of(alloc, bytes, board)?;
     let live = live(alloc, &parts.code)?;
-    let points = points(alloc, &parts.code, &parts.graph)?;
     match regions_of(alloc, &parts.view, board, &parts.code, &live) {
         Ok(regions) => Ok(Analysis {
             view: parts.view,
             graph: parts.graph,
             code: parts.code,
             live,
-            points,
             regions,
         }),
         Err(fault) => Err(fault),
     }
+}
+
+/// Which registers may hold addresses of an object where blocks begin, and which objects escape. It takes most of the
+/// time of all analyses, so a command that doesn't read it doesn't make it. It fails only where no memory was left.
+pub fn points_of(alloc: Global, analysis: &Analysis) -> Result<PointsTable, AllocError>
+    requires ascending { IsStrictlyIncreasing (starts_of analysis.now.code) }
+    requires graph { IsSomeGraph analysis.now.graph }
+    ensures { IfOk result (IsPointsOf analysis.now.code analysis.now.graph) }
+{
+    points(alloc, &analysis.code, &analysis.graph)
 }
 
 /// The view, the graph and the code of a program.

@@ -10,8 +10,7 @@ mod starting;
 mod symbol_moves;
 mod taking;
 
-pub use analysis::{Analysis, analyse};
+pub use analysis::{Analysis, analyse, points_of};
 pub use fault::AnalyseFault;
 pub use laws::{absolute_keeps_runs, stated_is_realisable, unmoved_file_keeps};
-pub use realising::{realise, start_places};
-pub use taking::taken_objects;
+pub use realising::{Realised, realise};

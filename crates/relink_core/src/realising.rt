@@ -1,13 +1,12 @@
 ghost use Rattle.std.specs.Prelude.{◌≡◌, ℕ, List, length, replicate, IfOk};
 ghost use Rattle.elf_reader.specs.File.{PlainView, plain_view};
-ghost use Rattle.elf_writer.specs.Parts.{new_segment};
 ghost use Rattle.loaded_file.specs.Read.{IsRead};
 ghost use Rattle.board_config.specs.Board.{IsLawful};
 ghost use Rattle.board_config.specs.declared.board.Board.{Board};
 ghost use Rattle.object_graph.specs.Graphs.{IsGraph};
 ghost use Rattle.placement_programme.specs.Views.{plain_programme, plain_choice};
 ghost use Rattle.relink_core.specs.Choices.{IsAnalysisOf, IsDataChoice, taken_names, KeepsMeaning};
-ghost use Rattle.relink_core.specs.Making.{taken_objects, HasStarts, ArePlacesOf, CanMove, ArePatchesFor, start_plan_of, IsStartSegment, moves_below};
+ghost use Rattle.relink_core.specs.Making.{taken_objects, HasStarts, ArePlacesOf, ArePlaced, CanMove, ArePatchesFor};
 ghost use Rattle.relink_core.specs.Realises.{MovesData, Realises};
 
 use crate::analysis::Analysis;
@@ -17,11 +16,22 @@ use crate::symbol_moves::symbol_moves;
 use crate::taking::taken_objects;
 use board_config::Board;
 use elf_reader::ElfView;
-use elf_writer::{Patch, SegmentBytes, SymbolMove, write};
+use elf_writer::{Patch, write};
 use object_graph::Graph;
 use placement_programme::{Choice, Programme};
 use relocator::{Places, layout, site_words};
 use std::alloc::{AllocError, Global};
+
+/// The result of a program for a choice, with what the choice takes.
+#[derive(Drop)]
+pub struct Realised {
+    /// The result, an ELF file.
+    pub bytes: Vec<u8>,
+    /// The objects that are taken, in order.
+    pub objects: Vec<u32>,
+    /// Where objects stand: those that are taken in the scratchpad, and any other one at home.
+    pub places: Places,
+}
 
 /// The result of a program for a choice of a programme that is made for it: an ELF file in which what is taken
 /// stands in the scratchpad, and which does the same.
@@ -34,20 +44,31 @@ pub fn realise(
     board: &Board,
     p: &Programme,
     c: &Choice,
-) -> Result<Vec<u8>, AllocError>
+) -> Result<Realised, AllocError>
     requires analysis { (file : List ℕ) × IsAnalysisOf file board.now a.now }
     requires choice { IsDataChoice board.now a.now.graph (plain_programme p.now) (plain_choice c.now) }
-    ensures realises { IfOk result (λ out. (file : List ℕ) → IsAnalysisOf file board.now a.now → Realises file board.now a.now.graph (taken_names (plain_programme p.now) (plain_choice c.now)) out.items) }
-    ensures keeps { IfOk result (λ out. (file : List ℕ) → IsAnalysisOf file board.now a.now → KeepsMeaning (taken_names (plain_programme p.now) (plain_choice c.now)) file out.items board.now) }
+    ensures realises { IfOk result (λ r. (file : List ℕ) → IsAnalysisOf file board.now a.now → Realises file board.now a.now.graph (taken_names (plain_programme p.now) (plain_choice c.now)) r.bytes.items) }
+    ensures keeps { IfOk result (λ r. (file : List ℕ) → IsAnalysisOf file board.now a.now → KeepsMeaning (taken_names (plain_programme p.now) (plain_choice c.now)) file r.bytes.items board.now) }
+    ensures placed { IfOk result (λ r. ArePlaced board.now a.now.graph (plain_programme p.now) (plain_choice c.now) r.objects.items r.places) }
 {
+    let objects = taken_objects(alloc, p, &c.take)?;
+    let places = start_places(alloc, &a.graph, board, p, c)?;
     if c.take.is_empty() {
         match copied(alloc, a.view.bytes) {
-            Ok(file) => Ok(file),
+            Ok(bytes) => Ok(Realised {
+                bytes,
+                objects,
+                places,
+            }),
             Err(error) => Err(error),
         }
     } else {
-        match moved(alloc, a, board, p, c) {
-            Ok(out) => Ok(out),
+        match with_places(alloc, a, board, &places, &objects) {
+            Ok(bytes) => Ok(Realised {
+                bytes,
+                objects,
+                places,
+            }),
             Err(error) => Err(error),
         }
     }
@@ -60,29 +81,9 @@ fn copied(alloc: Global, bytes: &[u8]) -> Result<Vec<u8>, AllocError>
     bytes.to_vec(alloc)
 }
 
-/// The result in which the objects that are taken are moved.
-fn moved(
-    alloc: Global,
-    a: &Analysis,
-    board: &Board,
-    p: &Programme,
-    c: &Choice,
-) -> Result<Vec<u8>, AllocError>
-    requires analysis { (file : List ℕ) × IsAnalysisOf file board.now a.now }
-    requires choice { IsDataChoice board.now a.now.graph (plain_programme p.now) (plain_choice c.now) }
-    ensures { IfOk result (λ out. (file : List ℕ) → IsAnalysisOf file board.now a.now → MovesData file board.now a.now.graph (taken_objects (plain_programme p.now).off.vars c.now.take.items) out.items) }
-{
-    let places = start_places(alloc, &a.graph, board, p, c)?;
-    let objects = taken_objects(alloc, p, &c.take)?;
-    match with_places(alloc, a, board, &places, &objects) {
-        Ok(out) => Ok(out),
-        Err(error) => Err(error),
-    }
-}
-
 /// Where objects stand with a choice of static data: those that it takes in the scratchpad, and any other one at home.
 /// It fails only where no memory was left.
-pub fn start_places(
+fn start_places(
     alloc: Global,
     graph: &Graph,
     board: &Board,
@@ -116,32 +117,7 @@ fn with_places(
     let patches = place_patches(alloc, &a.view, &a.graph, places)?;
     let segment = start_segment(alloc, &a.view, board, &a.graph, places, objects)?;
     let moves = symbol_moves(alloc, &a.view, &a.graph, places, objects)?;
-    match write_parts(alloc, a, board, places, objects, &patches, &segment, &moves) {
-        Ok(out) => Ok(out),
-        Err(error) => Err(error),
-    }
-}
-
-/// The result that is made of these parts.
-fn write_parts(
-    alloc: Global,
-    a: &Analysis,
-    board: &Board,
-    places: &Places,
-    objects: &[u32],
-    patches: &[Patch],
-    segment: &SegmentBytes,
-    moves: &[SymbolMove],
-) -> Result<Vec<u8>, AllocError>
-    requires analysis { (file : List ℕ) × IsAnalysisOf file board.now a.now }
-    requires places { ArePlacesOf board.now a.now.graph objects.now places.now }
-    requires can { CanMove board.now a.now.graph objects.now }
-    requires patches { ArePatchesFor (plain_view a.now.view) a.now.graph places.now patches.now }
-    requires segment { IsStartSegment (start_plan_of (plain_view a.now.view) board.now a.now.graph places.now objects.now) (new_segment segment.now) }
-    requires moves { moves.now ≡ moves_below (plain_view a.now.view) a.now.graph places.now objects.now (length a.now.view.symbols.items) }
-    ensures { IfOk result (λ out. (file : List ℕ) → IsAnalysisOf file board.now a.now → MovesData file board.now a.now.graph objects.now out.items) }
-{
-    match write(alloc, &a.view, patches, Some(segment), moves) {
+    match write(alloc, &a.view, &patches, Some(&segment), &moves) {
         Ok(out) => Ok(out),
         Err(error) => Err(error),
     }

@@ -36,7 +36,11 @@ fn taken_object(p: &Programme, k: u32) -> u32
 }
 
 /// The objects of the variables that are taken, in order. It fails only where no memory was left.
-pub fn taken_objects(alloc: Global, p: &Programme, take: &[u32]) -> Result<Vec<u32>, AllocError>
+pub(crate) fn taken_objects(
+    alloc: Global,
+    p: &Programme,
+    take: &[u32],
+) -> Result<Vec<u32>, AllocError>
     requires { AscendWithin 0 (length p.now.off.vars.items) take.now }
     ensures { IfOk result (λ objects. objects.items ≡ taken_objects (plain_programme p.now).off.vars take.now) }
 {

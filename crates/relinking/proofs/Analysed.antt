@@ -17,6 +17,7 @@ use Rattle.code_blocks.proofs.EntryLemmas.{entry_leads}
 use Rattle.code_blocks.specs.Blocks.{IsCode, code_fault}
 use Rattle.code_blocks.specs.declared.parts.Code.{Code}
 use Rattle.relink_core.specs.Faults.{IsFaultless, file_fault, least_patch, patch_fault, places_fault, view_fault, analyse_fault}
+use Rattle.relink_core.specs.Findings.{Findings}
 use Rattle.relink_core.specs.Regions.{AreRegions}
 use Rattle.relink_core.specs.declared.analysis.Analysis.{Analysis}
 use Rattle.relink_core.specs.declared.fault.AnalyseFault.TheVariants as analyse
@@ -76,4 +77,16 @@ analysed file board a bytes lawful is_file no_fault is_graph is_code are_regions
       analysis = record { bytes = bytes; is_file = is_file; passes = no_fault.before; lawful = lawful; graph = is_graph };
       code = is_code;
       regions = are_regions;
+    }
+
+-- what was found of a file that is analysed
+abbrev pub findings : (file : List ℕ) (board : Board) (a : Analysis) → IsAnalysed file board a → Findings file board
+findings file board a is =
+    record {
+      graph = a.graph;
+      is_graph = is.analysis.graph;
+      code = a.code;
+      is_code = is.code;
+      regions = a.regions;
+      are_regions = is.regions;
     }

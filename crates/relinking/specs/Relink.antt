@@ -3,9 +3,7 @@
 use Rattle.std.specs.Prelude.{ℕ, Bool, List}
 use Rattle.elf_reader.specs.File.{view_in}
 use Rattle.board_config.specs.declared.board.Board.{Board}
-use Rattle.object_graph.specs.Graphs.{IsGraph}
 use Rattle.object_graph.specs.declared.parts.Graph.{Graph}
-use Rattle.code_blocks.specs.Blocks.{IsCode}
 use Rattle.code_blocks.specs.declared.parts.Code.{Code}
 use Rattle.object_machine.specs.declared.events.Outcome.TheVariants.{AddressFault}
 use Rattle.region_former.specs.declared.table.RegionTable.{RegionTable}
@@ -15,8 +13,9 @@ use Rattle.profile_runner.specs.declared.fault.ProfileFault.{ProfileFault}
 use Rattle.profile_runner.specs.declared.fault.ProfileFault.TheVariants as profile
 use Rattle.relink_core.specs.Choices.{taken_names, KeepsMeaning}
 use Rattle.relink_core.specs.Faults.{IsFaultless, IsFirst}
+use Rattle.relink_core.specs.Findings.{Findings}
+use Rattle.relink_core.specs.Making.{ArePlaced}
 use Rattle.relink_core.specs.Realises.{Realises}
-use Rattle.relink_core.specs.Regions.{AreRegions}
 use Rattle.relink_core.specs.declared.fault.AnalyseFault.{AnalyseFault}
 use Rattle.relink_core.specs.declared.fault.AnalyseFault.TheVariants as analyse
 use Rattle.relinking.specs.FoundChoice.{is_optimal, IsFound}
@@ -33,21 +32,18 @@ pub record IsResult (file : List ℕ) (board : Board) (g : Graph) (p : PlainProg
   pub realises : Realises file board g (taken_names p choice) out
   pub keeps : KeepsMeaning (taken_names p choice) file out board
 
--- the file's run on the input states the programme, by this graph, code and table of regions, and the result is one for it
+-- the file's run on the input states the programme, by this graph, code and table of regions, and the result is one for
+-- it, in which the objects that the choice takes stand at their places
 pub record RelinksBy (file : List ℕ) (board : Board) (g : Graph) (c : Code) (t : RegionTable) (input : List ℕ) (r : Relinked) : Type 0 where
   pub states : StatesProgramme (view_in file) board g c t input (plain_programme r.programme)
-  pub result : IsResult file board g (plain_programme r.programme) (plain_choice r.found.choice) (is_optimal r.found.status) r.certificate.items r.bytes.items
+  pub result : IsResult file board g (plain_programme r.programme) (plain_choice r.found.choice) (is_optimal r.found.status) r.certificate.items r.result.bytes.items
+  pub placed : ArePlaced board g (plain_programme r.programme) (plain_choice r.found.choice) r.result.objects.items r.result.places
 
 -- a file that has no fault is relinked by its own graph, code and regions
 pub record Relinks (file : List ℕ) (board : Board) (input : List ℕ) (r : Relinked) : Type 0 where
   pub no_fault : IsFaultless file board
-  pub graph : Graph
-  pub is_graph : IsGraph (view_in file) board graph
-  pub code : Code
-  pub is_code : IsCode (view_in file) code
-  pub regions : RegionTable
-  pub are_regions : AreRegions (view_in file) code board regions
-  pub relinks : RelinksBy file board graph code regions input r
+  pub found : Findings file board
+  pub relinks : RelinksBy file board found.graph found.code found.regions input r
 
 -- why a file is not relinked: the first fault of its analysis, or, where that has none, the address fault of its run
 abbrev pub TellsRelink : List ℕ → Board → List ℕ → RelinkFault → Type 0

@@ -11,15 +11,15 @@ use board_config::Board;
 use branch_bound::Found;
 use placement_programme::Programme;
 use profile_runner::ProfileFault;
-use relink_core::{AnalyseFault, Analysis, analyse, realise};
+use relink_core::{AnalyseFault, Analysis, Realised, analyse, realise};
 use std::alloc::Global;
 use thiserror::Error;
 
 /// A file that was relinked.
 #[derive(Drop)]
 pub struct Relinked {
-    /// The result, an ELF file.
-    pub bytes: Vec<u8>,
+    /// The result, an ELF file, and what has moved in it.
+    pub result: Realised,
     /// What the run of the program states.
     pub programme: Programme,
     /// The choice that was found of it.
@@ -107,9 +107,9 @@ pub fn relink_analysed(
 {
     let programme = stated_run(alloc, analysis, board, input)?;
     let solution = find_choice(alloc, &programme, board.nodes)?;
-    let bytes = realise(alloc, analysis, board, &programme, &solution.found.choice)?;
+    let result = realise(alloc, analysis, board, &programme, &solution.found.choice)?;
     Ok(Relinked {
-        bytes,
+        result,
         programme,
         found: solution.found,
         certificate: solution.certificate,

@@ -6,8 +6,7 @@ mod objects;
 mod words;
 
 use anyhow::{Result, bail};
-use std::rt::Files;
-use std::{env, fs};
+use text_lines::named_texts;
 
 /// Tells what a line asks for. A line that begins with `#` is told as it is.
 fn tell_line(rt: &(impl Print + AllocGlobal), line: &str) -> Result<()> {
@@ -25,18 +24,11 @@ fn tell_line(rt: &(impl Print + AllocGlobal), line: &str) -> Result<()> {
     Ok(())
 }
 
-/// Tells of the lines of a file.
-fn tell_file(rt: &(impl Files + Print + AllocGlobal), name: &str) -> Result<()> {
-    let text = fs::read_to_string(rt, name)?;
-    for line in text.lines() {
-        tell_line(rt, line)?;
-    }
-    Ok(())
-}
-
 fn main(rt: HostRuntime) -> Result<()> {
-    for name in env::args(&rt)?.skip(1) {
-        tell_file(&rt, &name)?;
+    for text in &named_texts(&rt)? {
+        for line in text.lines() {
+            tell_line(&rt, line)?;
+        }
     }
     Ok(())
 }

@@ -1,7 +1,7 @@
-use crate::words::number;
 use anyhow::{Context, Result};
 use list_checks::{arrange, arrange_once, count_under, has, has_inside, place_of, repeats};
 use std::alloc::Global;
+use text_lines::number;
 
 fn numbers(alloc: Global, text: &str) -> Result<Vec<u64>> {
     let mut numbers = Vec::new(alloc);

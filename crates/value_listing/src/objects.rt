@@ -1,12 +1,12 @@
 ghost use Rattle.std.specs.Prelude.{◌≡◌, IfOk, IfSome, IsTrue, ◌↔◌, OnOk};
 ghost use Rattle.cell_values.specs.Objects.{IsOfGraph, IsGrain};
 
-use crate::words::number;
 use anyhow::{Context, Result, bail};
 use cell_values::{Val, compare, join, low_site, op_imm, op_reg, split};
 use object_graph::{Graph, Object};
 use rv_decode::{Instr, decode};
 use std::alloc::{AllocError, Global};
+use text_lines::number;
 
 /// The graph of two objects. Object 0 has 40 bytes from 0x11038, which is 8 modulo 16 and 56 modulo 64; object 1 has
 /// 64 bytes from 0x11064, which is 4 modulo 16 and 36 modulo 64.

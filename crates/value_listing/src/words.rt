@@ -1,16 +1,7 @@
 use anyhow::{Context, Result};
-use num_traits::Num;
 use rv_decode::{decode, defs, encode, uses};
+use text_lines::number;
 use word_bits::{bytes4, hi20, lo12, sext, word4};
-
-/// A number in decimal, or with `0x` before it in hexadecimal.
-pub(crate) fn number(word: &str) -> Result<u32> {
-    let (digits, radix) = match word.strip_prefix("0x") {
-        Some(digits) => (digits, 16),
-        None => (word, 10),
-    };
-    <u32 as Num>::from_str_radix(digits, radix).context("a word is no number")
-}
 
 /// The halves and the bytes of a word, and the instruction that it is: what that is encoded to, and the registers that
 /// it reads and writes, a bit for each.

@@ -1,17 +1,22 @@
-use Rattle.std.proofs.Common.{[], refl}
-use Rattle.command_line.specs.Meaning.{shows}
+use Rattle.std.proofs.Common.{[], refl, ℕ, List, sym, subst}
+use Rattle.command_line.specs.Command.{show_command}
+use Rattle.command_line.specs.Meaning.{RefusesInputs, shows}
 use Rattle.command_line.proofs.Refusals.{show_refused}
+use Rattle.command_line.proofs.Readings.{contents_of_two}
 use Rattle.command_line.proofs.results.ready_show.Goals as goal
 
 pub returns-in_ok-printed-in-Ok-clause-ok : goal.returns-in_ok-printed-in-Ok-clause-ok
 returns-in_ok-printed-in-Ok-clause-ok c f b =
+    let are = contents_of_two c.args.texts.now c.index-texts-0.result c.index-texts-1.result _ _ c.requires c.index-texts-0.is c.index-texts-1.is c.deref.ensures.value c.deref-2.ensures.value in
     let made = c.in_ok-printed-in-Ok.ensures in
     record {
       outputs = [];
-      yields = rw made.text (shows f b _ _ refl refl refl c.in-Ok.ensures.ok);
+      yields = rw made.text (shows f b _ _ refl (sym are) refl c.in-Ok.ensures.ok);
       ready_outputs = made.outputs;
       print_fault = made.print_fault;
     }
 
 pub returns-in-Err-clause-err : goal.returns-in-Err-clause-err
-returns-in-Err-clause-err c f b = show_refused _ _ _ c.in-Err.ensures.err f b
+returns-in-Err-clause-err c f b =
+    let are = contents_of_two c.args.texts.now c.index-texts-0.result c.index-texts-1.result _ _ c.requires c.index-texts-0.is c.index-texts-1.is c.deref.ensures.value c.deref-2.ensures.value in
+    subst (λ (ts : List (List ℕ)). RefusesInputs (show_command f b) ts c.in-Err.fault) are (show_refused _ _ _ c.in-Err.ensures.err f b)

@@ -1,10 +1,7 @@
-use Rattle.elf_reader.specs.File.{plain_view, view_in}
+use Rattle.elf_reader.specs.File.{plain_view}
 use Rattle.loaded_file.proofs.WordLemmas.{same_view}
 use Rattle.relink_core.proofs.RegionLemmas.{faultless, told_last}
 use Rattle.relink_core.proofs.analysis.analyse.Goals as goal
-
-pub points-requires-clause-graph : goal.points-requires-clause-graph
-points-requires-clause-graph c = (view_in c.args.bytes.now, c.args.board.now, c.in_ok-parts.ensures.graph)
 
 pub returns-in-Ok-clause-fault : goal.returns-in-Ok-clause-fault
 returns-in-Ok-clause-fault c =

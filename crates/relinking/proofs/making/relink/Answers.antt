@@ -5,7 +5,7 @@ use Rattle.elf_reader.specs.File.{plain_view}
 use Rattle.elf_reader.specs.Loadable.{IsByte, AreBytes}
 use Rattle.loaded_file.proofs.WordLemmas.{same_view}
 use Rattle.relinking.proofs.Relinking.{analysis_tells, run_tells}
-use Rattle.relinking.proofs.Analysed.{analysed}
+use Rattle.relinking.proofs.Analysed.{analysed, findings}
 use Rattle.relinking.proofs.making.relink.Goals as goal
 
 pub returns-in_err-analysis-clause-err : goal.returns-in_err-analysis-clause-err
@@ -23,19 +23,12 @@ relink_analysed-requires c =
 pub returns-in-Ok-clause-ok : goal.returns-in-Ok-clause-ok
 returns-in-Ok-clause-ok c =
     let file = c.args.elf.now in
+    let board = c.args.board.now in
     let found = c.in_ok-analysis.ensures in
     let analysis = c.in_ok-analysis.analysis in
     let bytes : AreBytes file = All-from_get_or IsByte file 0 (λ k below. let fits = c.type_inv.elf k in omega (arith, fits)) in
-    record {
-      no_fault = found.fault;
-      graph = analysis.graph;
-      is_graph = found.graph;
-      code = analysis.code;
-      is_code = found.code;
-      regions = analysis.regions;
-      are_regions = found.regions;
-      relinks = c.in-Ok.ensures.ok file (analysed file c.args.board.now analysis bytes c.requires.lawful found.file found.fault found.graph found.code found.regions);
-    }
+    let is = analysed file board analysis bytes c.requires.lawful found.file found.fault found.graph found.code found.regions in
+    record { no_fault = found.fault; found = findings file board analysis is; relinks = c.in-Ok.ensures.ok file is }
 
 pub returns-clause-err : goal.returns-clause-err
 returns-clause-err c =

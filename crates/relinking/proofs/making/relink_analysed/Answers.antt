@@ -25,9 +25,9 @@ realise-requires-clause-choice c =
     states_data (plain_view a.view) c.args.board.now a.graph a.code a.regions c.args.input.now (plain_programme c.in_ok-programme.programme)
     (plain_choice c.in_ok-solution.solution.found.choice) c.in_ok-programme.ensures c.in_ok-solution.ensures.feasible
 
-pub returns-in_err-bytes-clause-err : goal.returns-in_err-bytes-clause-err
-returns-in_err-bytes-clause-err c =
-    let q = err_from_is_err_and c.from_residual-in_err-bytes.result c.from_residual-in_err-bytes.ensures.1 in
+pub returns-in_err-result-clause-err : goal.returns-in_err-result-clause-err
+returns-in_err-result-clause-err c =
+    let q = err_from_is_err_and c.from_residual-in_err-result.result c.from_residual-in_err-result.ensures.1 in
     rw (q.1, q.2) (no_memory (plain_view c.args.analysis.now.view) c.args.board.now c.args.analysis.now.graph c.args.analysis.now.code c.args.analysis.now.regions c.args.input.now)
 
 pub returns-clause-ok : goal.returns-clause-ok
@@ -39,7 +39,8 @@ returns-clause-ok c = λ file is.
           (same_view file a.view is.analysis.is_file) c.in_ok-programme.ensures;
       result = record {
         found = c.in_ok-solution.ensures;
-        realises = c.in_ok-bytes.ensures.realises file is.analysis;
-        keeps = c.in_ok-bytes.ensures.keeps file is.analysis;
+        realises = c.in_ok-result.ensures.realises file is.analysis;
+        keeps = c.in_ok-result.ensures.keeps file is.analysis;
       };
+      placed = c.in_ok-result.ensures.placed;
     }

@@ -1,0 +1,27 @@
+ghost use Rattle.std.specs.Prelude.{IfOk, IfErr};
+ghost use Rattle.command_line.specs.Analysed.{IsOpened, RefusesAnalysed};
+
+use crate::faults::Refusal;
+use board_config::{Board, read_board};
+use relink_core::{Analysis, analyse};
+use std::alloc::Global;
+
+/// A board, and a file that is analysed for it.
+#[derive(Drop)]
+pub struct Opened<'a> {
+    pub board: Board,
+    pub analysis: Analysis<'a>,
+}
+
+/// Reads a board, and analyses a file for it.
+///
+/// The error is the first fault of the board's text, of the file, of where it lies, of its code, or of its regions.
+/// `Memory` comes only where no memory was left.
+pub fn open<'a>(alloc: Global, file: &'a [u8], board: &[u8]) -> Result<Opened<'a>, Refusal>
+    ensures ok { IfOk result (IsOpened board.now file.now) }
+    ensures err { IfErr result (RefusesAnalysed board.now file.now) }
+{
+    let board = read_board(alloc, board)?;
+    let analysis = analyse(alloc, file, &board)?;
+    Ok(Opened { board, analysis })
+}
