@@ -1,5 +1,6 @@
 use anyhow::{Context, Result, bail};
 use elf_reader::Reloc;
+use elf_writer::push_words;
 use std::alloc::Global;
 use text_lines::{number, numbers};
 use workload_gen::{FileSpec, SectionSpec, SymbolSpec, build};
@@ -10,14 +11,6 @@ pub(crate) struct Case {
     spec: FileSpec,
     behind: Vec<u8>,
     pub(crate) input: Vec<u8>,
-}
-
-/// Appends words, each least byte first.
-fn push_words(bytes: &mut Vec<u8>, words: &[u32]) -> Result<()> {
-    for word in words {
-        bytes.extend_from_slice(&word.to_le_bytes())?;
-    }
-    Ok(())
 }
 
 /// `NAME ADDRESS FLAGS`: a section that has no words yet.
@@ -89,13 +82,30 @@ impl Case {
         Ok(file)
     }
 
+    /// Tells how many bytes the file has, and those from one place up to another.
+    pub(crate) fn tell_built(&self, rt: &(impl Print + AllocGlobal), text: &str) -> Result<()> {
+        let file = self.built(rt.alloc())?;
+        let places = numbers(rt.alloc(), text)?;
+        let &[from, to] = places.as_slice() else {
+            bail!("a range has two ends");
+        };
+        let range = file
+            .get(from as usize..to as usize)
+            .context("the file has no such bytes")?;
+        println!(rt; "built: {} bytes, and from {from} to {to}", file.len())?;
+        for line in range.chunks(16) {
+            println!(rt; "  {line:?}")?;
+        }
+        Ok(())
+    }
+
     /// The section whose lines are being read.
     fn last_section(&mut self) -> Result<&mut SectionSpec> {
         self.spec.sections.last_mut().context("no section")
     }
 
-    /// Takes a line of a file: its `entry`, a `section`, `words` and relocations (`reloc`) of the last section, a
-    /// `symbol`, a byte `behind` all of the file, or the `input` of its runs.
+    /// Takes a line of a file: its `entry`, a `section`, `words`, relocations (`reloc`) and the size in memory of the last section
+    /// where it is `empty`, a `symbol`, a byte `behind` all of the file, or the `input` of its runs.
     pub(crate) fn take_line(&mut self, alloc: Global, key: &str, rest: &str) -> Result<()> {
         match key {
             "entry" => self.spec.entry = number(rest)?,
@@ -107,6 +117,7 @@ impl Case {
                 let words = numbers(alloc, rest)?;
                 push_words(&mut self.last_section()?.bytes, &words)?;
             }
+            "empty" => self.last_section()?.empty = number(rest)?,
             "reloc" => {
                 let reloc = reloc(alloc, rest)?;
                 self.last_section()?.relocs.push(reloc)?;

@@ -20,6 +20,7 @@ fn tell_line(rt: &(impl Print + AllocGlobal), case: &mut Case, line: &str) -> Re
             println!(rt; "{line}")?;
             *case = Case::empty(rt.alloc());
         }
+        "built" => case.tell_built(rt, rest)?,
         "flat" => machines::tell_flat(rt, case, rest)?,
         "object" => machines::tell_object(rt, case, rest)?,
         "write" => writing::tell_written(rt, case, rest)?,

@@ -31,8 +31,8 @@ use Rattle.elf_writer.specs.declared.parts.Patch.{Patch}
 use Rattle.elf_writer.specs.declared.parts.SymbolMove.{SymbolMove}
 use Rattle.elf_writer.specs.Parts.{NewSegment, no_symbol, nth_symbol, content_place}
 use Rattle.elf_writer.specs.Written.{place_among, new_number, new_record, record_place, new_table, all_changes, appended, written}
-use Rattle.workload_gen.specs.Pieces.{zero_bytes, padding}
-use Rattle.workload_gen.proofs.ByteLemmas.{length-zero_bytes}
+use Rattle.elf_writer.specs.Pieces.{zero_bytes, padding}
+use Rattle.elf_writer.proofs.ZeroLemmas.{length-zero_bytes}
 use Rattle.elf_writer.specs.Changes.{changed}
 use Rattle.elf_writer.proofs.ChangeLemmas.{length-changed}
 use Rattle.elf_writer.specs.Fits.{PatchFits, MoveFits, SegmentFits, WriteFits}

@@ -1,5 +1,7 @@
 pub mod ChangeLemmas
 pub mod PieceLemmas
+pub mod ZeroLemmas
+pub mod Standing
 pub mod FitLemmas
 pub mod WrittenLemmas
 pub mod AlikeLemmas

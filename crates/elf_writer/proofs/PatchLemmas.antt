@@ -6,7 +6,7 @@ use Rattle.std.proofs.lemmas.Bool.Decides.{nat_tests}
 use Rattle.std.proofs.lemmas.List.Elements.{All-append}
 use Rattle.list_checks.specs.Tests.{any_below, meets}
 use Rattle.list_checks.proofs.TestLemmas.{neither, none_at}
-use Rattle.workload_gen.specs.Pieces.{word_bytes}
+use Rattle.elf_writer.specs.Pieces.{word_bytes}
 use Rattle.elf_reader.specs.Layout.{section_count, section_header}
 use Rattle.elf_reader.specs.Sections.{stands_in_file}
 use Rattle.elf_reader.specs.File.{PlainSegment, PlainSection, PlainView, view_in}

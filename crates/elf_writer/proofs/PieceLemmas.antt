@@ -1,7 +1,7 @@
 -- Pieces that are appended one behind the other.
 use Rattle.std.proofs.Common.{◌≡◌, ℕ, ◌+◌, ◌*◌, List, [], ◌∷◌, ◌++◌, slice_range, append_assoc, subst, length, Some, Result, Ok, Err, IfOk, Vec, refl, ap, ◌∙◌}
 use Rattle.std.specs.declared.alloc.Global.{Global}
-use Rattle.workload_gen.specs.Pieces.{words_bytes}
+use Rattle.elf_writer.specs.Pieces.{words_bytes}
 use Rattle.elf_reader.specs.File.{PlainView}
 use Rattle.elf_writer.specs.Parts.{NewSegment, content_changes, header_changes, content_place}
 use Rattle.elf_writer.specs.Written.{new_number, new_record, new_table, all_changes, appended, written}

@@ -6,7 +6,7 @@ use Rattle.std.proofs.lemmas.Bool.Decides.{nat_tests}
 use Rattle.std.proofs.lemmas.List.{map-append}
 use Rattle.std.proofs.lemmas.List.Elements.{All-nil, All-head, All-tail, All-push, All-map}
 use Rattle.list_checks.proofs.FirstLemmas.{both_none}
-use Rattle.workload_gen.proofs.Standing.{stands_range}
+use Rattle.elf_writer.proofs.Standing.{stands_range}
 use Rattle.elf_reader.specs.Layout.{program_header_count, program_header, program_header_in}
 use Rattle.elf_reader.specs.File.{PlainSegment, view_in, is_load, segment_of, segments_at, segments_below, load_segments}
 use Rattle.elf_reader.specs.Faults.{first_fault}

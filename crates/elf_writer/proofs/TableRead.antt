@@ -3,9 +3,9 @@ use Rattle.std.proofs.Common.{◌≡◌, ◌∙◌, ℕ, ◌+◌, ◌-◌, ◌*�
 use Rattle.std.specs.List.{All}
 use Rattle.std.proofs.lemmas.List.Elements.{All-nil, All-append}
 use Rattle.list_checks.specs.Tests.{meets}
-use Rattle.workload_gen.specs.Pieces.{zero_bytes, padding}
-use Rattle.workload_gen.proofs.ByteLemmas.{length-zero_bytes}
-use Rattle.workload_gen.proofs.Standing.{Stands, stands_whole, stands_first, stands_behind, byte_there, words_there}
+use Rattle.elf_writer.specs.Pieces.{zero_bytes, padding}
+use Rattle.elf_writer.proofs.ZeroLemmas.{length-zero_bytes}
+use Rattle.elf_writer.proofs.Standing.{Stands, stands_whole, stands_first, stands_behind, byte_there, words_there}
 use Rattle.elf_reader.specs.Layout.{file_header, program_header_count, program_header_in, program_header, section_count, section_header}
 use Rattle.elf_reader.specs.File.{PlainSection, PlainView, view_in}
 use Rattle.elf_reader.specs.Faults.{first_fault}

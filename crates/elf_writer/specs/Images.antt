@@ -1,7 +1,7 @@
 -- What the segments of a file that is written put into memory.
 use Rattle.std.specs.Prelude.{◌≡◌, ℕ, ◌+◌, ◌-◌, ◌<◌, ◌≤◌, ◌==◌, nat_lt, Bool, true, false, ◌&&◌, ◌||◌, List, length, slice_index, slice_index_or, Option, Some, None, All}
 use Rattle.list_checks.specs.Tests.{any_below}
-use Rattle.workload_gen.specs.Pieces.{word_bytes}
+use Rattle.elf_writer.specs.Pieces.{word_bytes}
 use Rattle.elf_reader.specs.File.{PlainView, view_in}
 use Rattle.elf_reader.specs.Faults.{first_fault}
 use Rattle.elf_reader.specs.Image.{has_byte, image_of}

@@ -1,7 +1,7 @@
 pub use Rattle.elf_reader.specs.File
 pub use Rattle.elf_reader.specs.Loaded
 pub use Rattle.elf_reader.specs.Faults
-pub use Rattle.workload_gen.specs.Pieces
+pub mod Pieces
 pub mod Changes
 pub mod Parts
 pub mod Written

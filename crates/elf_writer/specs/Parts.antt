@@ -1,7 +1,7 @@
 -- What is written into a file: words, moved symbols, and a segment.
 use Rattle.std.specs.Prelude.{ℕ, ◌+◌, ◌*◌, List, [], ◌∷◌, ◌++◌, map, length, slice_index_or}
 use Rattle.elf_reader.specs.File.{PlainSymbol, PlainView}
-use Rattle.workload_gen.specs.Pieces.{half_bytes, word_bytes, padding}
+use Rattle.elf_writer.specs.Pieces.{half_bytes, word_bytes, padding}
 use Rattle.elf_writer.specs.declared.parts.Patch.{Patch}
 use Rattle.elf_writer.specs.declared.parts.SegmentBytes.{SegmentBytes}
 use Rattle.elf_writer.specs.declared.parts.SymbolMove.{SymbolMove}

@@ -1,7 +1,7 @@
 -- The bytes of a file that is written.
 use Rattle.std.specs.Prelude.{ℕ, ◌+◌, ◌*◌, nat_lt, if◌then◌else◌, List, [], ◌∷◌, ◌++◌, length, slice_range, Option, Some, None}
 use Rattle.elf_reader.specs.File.{PlainSegment, PlainView}
-use Rattle.workload_gen.specs.Pieces.{words_bytes, zero_bytes, padding}
+use Rattle.elf_writer.specs.Pieces.{words_bytes, zero_bytes, padding}
 use Rattle.elf_writer.specs.declared.parts.Patch.{Patch}
 use Rattle.elf_writer.specs.declared.parts.SymbolMove.{SymbolMove}
 use Rattle.elf_writer.specs.Changes.{Change, changed}

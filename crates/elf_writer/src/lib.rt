@@ -4,6 +4,7 @@
 mod changing;
 mod laws;
 mod parts;
+mod pieces;
 mod program_headers;
 mod writing;
 
@@ -13,4 +14,5 @@ pub use laws::{
     written_is_file, written_reads_back, zeros_loaded,
 };
 pub use parts::{Patch, SegmentBytes, SymbolMove};
+pub use pieces::{padding_after, push_words, push_zeros};
 pub use writing::write;

@@ -1,11 +1,12 @@
 //! The program headers of a file with one more segment.
 ghost use Rattle.std.specs.Prelude.{◌≡◌, ℕ, ◌+◌, ◌*◌, ◌<◌, ◌≤◌, ◌++◌, ◌∷◌, [], map, length, OnOk};
 ghost use Rattle.elf_reader.specs.File.{plain_segment, plain_view};
-ghost use Rattle.workload_gen.specs.Pieces.{words_bytes, word_bytes};
+ghost use Rattle.elf_writer.specs.Pieces.{words_bytes};
 ghost use Rattle.elf_writer.specs.Parts.{new_segment, content_place};
 ghost use Rattle.elf_writer.specs.Written.{place_among, new_number, new_record, new_table};
 
 use crate::parts::SegmentBytes;
+use crate::pieces::push_words;
 use elf_reader::{ElfView, Segment};
 use std::alloc::AllocError;
 
@@ -31,16 +32,6 @@ fn place_of(segments: &[Segment], count: u32, base: u32) -> u32
         }
     }
     count
-}
-
-/// Appends words, each least byte first.
-fn push_words(out: &mut Vec<u8>, words: &[u32]) -> Result<(), AllocError>
-    ensures { OnOk result (out.new.items ≡ out.old.items ++ words_bytes words.now) }
-{
-    for word in words {
-        out.extend_from_slice(&word.to_le_bytes())?;
-    }
-    Ok(())
 }
 
 /// Appends the program header of the new segment, whose bytes stand at `content`.

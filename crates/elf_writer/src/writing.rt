@@ -1,7 +1,7 @@
 ghost use Rattle.std.specs.Prelude.{◌≡◌, ℕ, ◌+◌, ◌*◌, ◌<◌, ◌≤◌, ◌++◌, ◌∷◌, [], List, Option, Some, None, map, length, option_map, OnOk, IfOk, All};
 ghost use Rattle.elf_reader.specs.File.{IsFile, plain_symbol, plain_view, view_in};
 ghost use Rattle.elf_reader.specs.Faults.{first_fault};
-ghost use Rattle.workload_gen.specs.Pieces.{half_bytes, word_bytes};
+ghost use Rattle.elf_writer.specs.Pieces.{half_bytes, word_bytes};
 ghost use Rattle.elf_writer.specs.Changes.{Change, changed};
 ghost use Rattle.elf_writer.specs.Parts.{new_segment, patch_change, moves_changes, content_changes, table_place, header_changes};
 ghost use Rattle.elf_writer.specs.Written.{appended, written};
@@ -11,10 +11,10 @@ ghost use Rattle.elf_writer.specs.View.{written_view};
 
 use crate::changing::{put_half, put_moves, put_patches, put_word};
 use crate::parts::{Patch, SegmentBytes, SymbolMove};
+use crate::pieces::{padding_after, push_zeros};
 use crate::program_headers::{PROGRAM_HEADER_SIZE, push_table};
 use elf_reader::{ElfView, Symbol};
 use std::alloc::{AllocError, Global};
-use workload_gen::push_zeros;
 
 // Where fields stand in the ELF header (ELF, "ELF Header": `Elf32_Ehdr`).
 const E_ENTRY: usize = 24;
@@ -78,7 +78,7 @@ fn with_segment(
     ensures new { IfOk result (λ new. new.items ≡ changed (header_changes (plain_view base.now) (new_segment segment.now)) 0 out.items ++ appended (plain_view base.now) (Some (new_segment segment.now))) }
 {
     let size = base.bytes.len();
-    let table = size + (4 - size % 4) % 4;
+    let table = size + padding_after(size);
     put_header(
         &mut out,
         segment.entry,

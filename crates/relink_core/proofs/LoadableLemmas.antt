@@ -6,7 +6,7 @@ use Rattle.std.proofs.lemmas.List.Elements.{All-nil, All-cons, All-head, All-tai
 use Rattle.word_bits.specs.Words.{byte_of}
 use Rattle.elf_reader.specs.File.{PlainSegment, PlainView}
 use Rattle.elf_reader.specs.Loadable.{IsByte, AreBytes, IsLoadable, AreLoadable}
-use Rattle.workload_gen.specs.Pieces.{half_bytes, word_bytes, words_bytes}
+use Rattle.elf_writer.specs.Pieces.{half_bytes, word_bytes, words_bytes}
 use Rattle.elf_writer.specs.declared.parts.Patch.{Patch}
 use Rattle.elf_writer.specs.declared.parts.SymbolMove.{SymbolMove}
 use Rattle.elf_writer.specs.Changes.{Change, changes_place, byte_after, byte_changed, changed}

@@ -10,7 +10,7 @@ use Rattle.word_bits.specs.Memory.{Memory, word_at}
 use Rattle.list_checks.proofs.TestLemmas.{both}
 use Rattle.elf_reader.specs.File.{PlainView, view_in}
 use Rattle.elf_reader.specs.Image.{image_of}
-use Rattle.workload_gen.specs.Pieces.{word_bytes, words_bytes}
+use Rattle.elf_writer.specs.Pieces.{word_bytes, words_bytes}
 use Rattle.elf_writer.specs.declared.parts.Patch.{Patch}
 use Rattle.elf_writer.specs.declared.parts.SymbolMove.{SymbolMove}
 use Rattle.elf_writer.specs.Parts.{NewSegment}

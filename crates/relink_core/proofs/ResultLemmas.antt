@@ -7,7 +7,7 @@ use Rattle.elf_reader.specs.File.{PlainView, view_in}
 use Rattle.elf_reader.specs.Image.{image_of}
 use Rattle.elf_reader.specs.Loadable.{AreBytes, AreLoadable}
 use Rattle.elf_reader.proofs.SegmentLemmas.{none_of_headers, load_segments_loadable}
-use Rattle.workload_gen.specs.Pieces.{words_bytes}
+use Rattle.elf_writer.specs.Pieces.{words_bytes}
 use Rattle.elf_writer.specs.declared.parts.Patch.{Patch}
 use Rattle.elf_writer.specs.declared.parts.SymbolMove.{SymbolMove}
 use Rattle.elf_writer.specs.Parts.{NewSegment}

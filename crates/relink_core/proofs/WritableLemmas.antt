@@ -17,7 +17,7 @@ use Rattle.elf_reader.specs.Faults.{first_fault}
 use Rattle.elf_reader.specs.Loaded.{no_segment, segment_at}
 use Rattle.elf_reader.specs.declared.fault.ElfFault.TheVariants as elf
 use Rattle.elf_reader.proofs.LoadedLemmas.{loaded_found}
-use Rattle.workload_gen.specs.Pieces.{words_bytes, padding}
+use Rattle.elf_writer.specs.Pieces.{words_bytes, padding}
 use Rattle.elf_writer.specs.declared.parts.Patch.{Patch}
 use Rattle.elf_writer.specs.Parts.{NewSegment}
 use Rattle.elf_writer.specs.Conditions.{PatchesLoadedWord, ArePatchesApart, IsClearOf, IsAddable, IsWritable}

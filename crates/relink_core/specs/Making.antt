@@ -3,7 +3,7 @@ use Rattle.std.specs.Prelude.{◌≡◌, ℕ, zero, suc, ◌+◌, ◌*◌, ◌-�
 use Rattle.word_bits.specs.Words.{plus}
 use Rattle.elf_reader.specs.File.{PlainSegment, PlainSymbol, PlainView}
 use Rattle.elf_reader.specs.Image.{has_byte}
-use Rattle.workload_gen.specs.Pieces.{words_bytes}
+use Rattle.elf_writer.specs.Pieces.{words_bytes}
 use Rattle.loaded_file.specs.Records.{symbol_at}
 use Rattle.elf_writer.specs.declared.parts.Patch.{Patch}
 use Rattle.elf_writer.specs.declared.parts.SymbolMove.{SymbolMove}

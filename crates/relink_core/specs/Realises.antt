@@ -2,7 +2,7 @@
 use Rattle.std.specs.Prelude.{◌≡◌, ℕ, ◌==◌, ◌<◌, nat_lt, Bool, ◌&&◌, List, [], map, length, Some, All}
 use Rattle.std.specs.List.{AllPairs, list_any}
 use Rattle.elf_reader.specs.File.{PlainView, view_in}
-use Rattle.workload_gen.specs.Pieces.{words_bytes}
+use Rattle.elf_writer.specs.Pieces.{words_bytes}
 use Rattle.elf_writer.specs.declared.parts.Patch.{Patch}
 use Rattle.elf_writer.specs.declared.parts.SymbolMove.{SymbolMove}
 use Rattle.elf_writer.specs.Parts.{NewSegment}

@@ -1,7 +1,7 @@
 //! The new segment of a result: control words and the start stub.
-ghost use Rattle.std.specs.Prelude.{◌≡◌, ℕ, ◌<◌, List, length, ◌++◌, map, OnOk, IfOk, All};
+ghost use Rattle.std.specs.Prelude.{◌≡◌, ℕ, ◌<◌, List, length, map, IfOk, All};
 ghost use Rattle.elf_reader.specs.File.{plain_view};
-ghost use Rattle.workload_gen.specs.Pieces.{words_bytes};
+ghost use Rattle.elf_writer.specs.Pieces.{words_bytes};
 ghost use Rattle.elf_writer.specs.Parts.{NewSegment, new_segment};
 ghost use Rattle.cell_values.specs.Objects.{objects_of};
 ghost use Rattle.overlay_stubs.specs.Start.{CanStart, StartPlan, start_at};
@@ -12,7 +12,7 @@ ghost use Rattle.relink_core.specs.Making.{start_place, start_plan_of, HasStarts
 use crate::taking::start_place;
 use board_config::Board;
 use elf_reader::ElfView;
-use elf_writer::SegmentBytes;
+use elf_writer::{SegmentBytes, push_words};
 use object_graph::Graph;
 use overlay_stubs::{CopyJob, StubPlan, stubs};
 use relocator::Places;
@@ -58,15 +58,6 @@ fn bytes_of(alloc: Global, words: &[u32]) -> Result<Vec<u8>, AllocError>
     let mut bytes = Vec::new(alloc);
     push_words(&mut bytes, words)?;
     Ok(bytes)
-}
-
-fn push_words(bytes: &mut Vec<u8>, words: &[u32]) -> Result<(), AllocError>
-    ensures { OnOk result (bytes.new.items ≡ bytes.old.items ++ words_bytes words.now) }
-{
-    for word in words {
-        bytes.extend_from_slice(&word.to_le_bytes())?;
-    }
-    Ok(())
 }
 
 /// What the patch range is to hold: a start stub that copies objects from their homes to their places.

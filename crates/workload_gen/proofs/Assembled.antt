@@ -8,10 +8,10 @@ use Rattle.elf_reader.specs.Sections.{section_content, section_names, symbol_nam
 use Rattle.elf_reader.specs.File.{PlainSection, PlainSymbol, segments_below, load_segments, sections_below, all_sections, section_of, symbol_of, symbols_below, symbols_in, all_symbols, relocations_below, all_relocations}
 use Rattle.elf_reader.specs.declared.view.Reloc.{Reloc}
 use Rattle.workload_gen.specs.Plan.{SectionPlan, SymbolPlan}
-use Rattle.workload_gen.specs.Pieces.{zero_bytes, padded, padding, ended_names}
+use Rattle.elf_writer.specs.Pieces.{zero_bytes, padded, padding, ended_names}
 use Rattle.workload_gen.specs.Built.{Planned, planned_name, symbol_name, asked, contents, program_headers, section_headers, symbols_bytes, relocation_sections}
 use Rattle.workload_gen.specs.Readable.{IsSection, IsSymbol, null_section, null_symbol, segments_from, sections_from, symbols_from, relocations_from}
-use Rattle.workload_gen.proofs.Standing.{Stands, stands_whole, stands_first, stands_behind}
+use Rattle.elf_writer.proofs.Standing.{Stands, stands_whole, stands_first, stands_behind}
 use Rattle.workload_gen.proofs.Records.{section_header_there}
 use Rattle.workload_gen.proofs.Layouts.{content_place, headers_place, IsLaidOut, length-contents}
 use Rattle.workload_gen.proofs.SectionsRead.{IsPlanned, IsSectionAt, AreSections, section_is, sections_there, sections_are, sections_behind, sections_first}

@@ -1,19 +1,9 @@
--- Zeros, one more at a time, and words of which the low 32 bits are known.
-use Rattle.std.proofs.Common.{◌≡◌, ℕ, zero, suc, ◌+◌, ◌%◌, ◌<◌, ◌≤◌, List, [], ◌∷◌, ◌++◌, length, get_or, drop, refl, ap, sym, add-one, arith, length-append, append_assoc}
+-- Padded bytes, words of which the low 32 bits are known, and pieces that are appended.
+use Rattle.std.proofs.Common.{◌≡◌, ℕ, ◌+◌, ◌%◌, ◌<◌, ◌≤◌, List, [], ◌∷◌, ◌++◌, length, get_or, drop, refl, ap, sym, arith, length-append, append_assoc}
 use Rattle.std.proofs.lemmas.List.{at_drop_more, at_drop_all, append-nil}
 use Rattle.word_bits.specs.Words.{byte_of}
-use Rattle.workload_gen.specs.Pieces.{word_bytes, zero_bytes, padding, padded, ended_names, string_table}
-
-zero_suc : (n : ℕ) → zero_bytes n ++ 0 ∷ [] ≡ zero_bytes (suc n)
-zero_suc zero = refl
-zero_suc (suc n) = ap (λ bytes. 0 ∷ bytes) (zero_suc n)
-
-pub zero_pushed : (out : List ℕ) (n : ℕ) → out ++ zero_bytes n ++ 0 ∷ [] ≡ out ++ zero_bytes (n + 1)
-zero_pushed out n = rw (append_assoc, add-one, zero_suc)
-
-pub length-zero_bytes : (n : ℕ) → length (zero_bytes n) ≡ n
-length-zero_bytes zero = refl
-length-zero_bytes (suc n) = ap suc (length-zero_bytes n)
+use Rattle.elf_writer.specs.Pieces.{word_bytes, padding, padded, ended_names, string_table}
+use Rattle.elf_writer.proofs.ZeroLemmas.{length-zero_bytes}
 
 pub length_padded : (bytes : List ℕ) → length (padded bytes) ≡ length bytes + padding (length bytes)
 length_padded bytes = rw (length-append, length-zero_bytes)

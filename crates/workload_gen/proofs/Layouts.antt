@@ -2,10 +2,9 @@
 use Rattle.std.proofs.Common.{◌≡◌, ℕ, ◌+◌, ◌*◌, ◌<◌, ◌≤◌, List, [], ◌∷◌, ◌++◌, length, refl, ap, sym, subst, ◌∙◌, arith, inl, inr, length-append}
 use Rattle.std.proofs.lemmas.Bool.{cases_Bool}
 use Rattle.workload_gen.specs.Plan.{SectionPlan}
-use Rattle.workload_gen.specs.Pieces.{zero_bytes, padded}
+use Rattle.elf_writer.specs.Pieces.{IsWord, zero_bytes, padded}
 use Rattle.workload_gen.specs.Built.{Planned, contents, file_header_bytes, program_headers, section_headers, has_relocations, relocation_sections}
-use Rattle.workload_gen.specs.Readable.{IsWord}
-use Rattle.workload_gen.proofs.Standing.{Stands, stands_whole, stands_first, stands_behind}
+use Rattle.elf_writer.proofs.Standing.{Stands, stands_whole, stands_first, stands_behind}
 use Rattle.workload_gen.proofs.Records.{IsFileHeader, file_header_there}
 
 -- where the first content and the section headers stand, with these sections asked for and these in the file

@@ -1,7 +1,6 @@
 pub mod ByteLemmas
 pub mod PlaceLemmas
 pub mod KernelLemmas
-pub mod Standing
 pub mod Records
 pub mod Layouts
 pub mod Steps

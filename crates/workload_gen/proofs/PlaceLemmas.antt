@@ -1,7 +1,7 @@
 -- Of a place in the file, and of a place in a string table, the low 32 bits decide what is written.
 use Rattle.std.proofs.Common.{◌≡◌, ℕ, ◌+◌, ◌%◌, List, [], ◌∷◌, length, refl, arith}
 use Rattle.workload_gen.specs.Plan.{SectionPlan, SymbolPlan}
-use Rattle.workload_gen.specs.Pieces.{word_bytes, padded, name_size}
+use Rattle.elf_writer.specs.Pieces.{word_bytes, padded, name_size}
 use Rattle.workload_gen.specs.Built.{Planned, symbols_bytes, program_headers, section_headers}
 use Rattle.workload_gen.proofs.ByteLemmas.{same_word, low_word}
 

@@ -4,9 +4,10 @@ use Rattle.std.specs.List.{All}
 use Rattle.std.proofs.lemmas.Bool.{cases_Bool, cond_both, ltb-true}
 use Rattle.std.proofs.lemmas.List.Elements.{All-head, All-tail, All-nil, All-cons, All-append, All-map, All-from_recursion}
 use Rattle.elf_reader.specs.Sections.{stands_in_file}
+use Rattle.elf_writer.specs.Pieces.{IsWord, IsName}
 use Rattle.workload_gen.specs.Plan.{SectionPlan, FilePlan}
 use Rattle.workload_gen.specs.Built.{Planned, kind_of, memory_size, asked, symbol_table_of, names_of, relocations_of, has_relocations, relocation_sections}
-use Rattle.workload_gen.specs.Readable.{IsWord, IsName, IsSection}
+use Rattle.workload_gen.specs.Readable.{IsSection}
 use Rattle.workload_gen.proofs.SectionsRead.{IsPlanned}
 use Rattle.workload_gen.proofs.TableFound.{IsOther}
 

@@ -6,10 +6,10 @@ use Rattle.elf_reader.specs.Sections.{kind_of_info, symbol_of_info}
 use Rattle.elf_reader.specs.declared.view.Reloc.{Reloc}
 use Rattle.std.proofs.lemmas.Int.{ints}
 use Rattle.workload_gen.specs.Plan.{SectionPlan}
-use Rattle.workload_gen.specs.Pieces.{half_bytes, words_bytes, zero_bytes}
+use Rattle.elf_writer.specs.Pieces.{IsWord, half_bytes, words_bytes, zero_bytes}
 use Rattle.workload_gen.specs.Built.{Planned, memory_size, segment_flags, section_header_bytes, program_header_bytes, relocation_bytes, file_header_bytes}
-use Rattle.workload_gen.specs.Readable.{IsWord, IsRelocation}
-use Rattle.workload_gen.proofs.Standing.{Stands, stands_first, stands_behind, byte_there, half_there, words_there}
+use Rattle.workload_gen.specs.Readable.{IsRelocation}
+use Rattle.elf_writer.proofs.Standing.{Stands, stands_first, stands_behind, byte_there, half_there, words_there}
 
 -- ---- section headers
 

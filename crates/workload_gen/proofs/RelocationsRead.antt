@@ -9,10 +9,10 @@ use Rattle.elf_reader.specs.Sections.{bit_of, is_read, relocation_count_at}
 use Rattle.elf_reader.specs.File.{relocation_of, relocations_within, relocations_below}
 use Rattle.elf_reader.specs.declared.view.Reloc.{Reloc}
 use Rattle.workload_gen.specs.Plan.{SectionPlan}
-use Rattle.workload_gen.specs.Pieces.{padded}
+use Rattle.elf_writer.specs.Pieces.{padded}
 use Rattle.workload_gen.specs.Built.{Planned, asked, relocation_bytes, relocations_bytes, relocations_of, has_relocations, relocation_sections}
 use Rattle.workload_gen.specs.Readable.{IsRelocation, IsSection, relocation_in, relocations_from}
-use Rattle.workload_gen.proofs.Standing.{Stands, stands_first, stands_behind}
+use Rattle.elf_writer.proofs.Standing.{Stands, stands_first, stands_behind}
 use Rattle.workload_gen.proofs.Records.{IsEntry, relocation_there}
 use Rattle.workload_gen.proofs.SectionsRead.{IsSectionAt, AreSections}
 use Rattle.workload_gen.proofs.TableFound.{IsOther}

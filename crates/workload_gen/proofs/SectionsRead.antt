@@ -5,10 +5,10 @@ use Rattle.std.proofs.lemmas.List.Elements.{All-head, All-tail}
 use Rattle.elf_reader.specs.Layout.{section_header_at, section_header}
 use Rattle.elf_reader.specs.Sections.{stands_in_file, section_content, section_names, name_in}
 use Rattle.elf_reader.specs.File.{PlainSection, section_of, sections_below}
-use Rattle.workload_gen.specs.Pieces.{zero_bytes, padded, padding, ended_names, name_size}
+use Rattle.elf_writer.specs.Pieces.{IsWord, IsName, zero_bytes, padded, padding, ended_names, name_size}
 use Rattle.workload_gen.specs.Built.{Planned, planned_name, contents, section_header_bytes, section_headers}
-use Rattle.workload_gen.specs.Readable.{IsWord, IsName, sections_from}
-use Rattle.workload_gen.proofs.Standing.{Stands, stands_first, stands_behind, stands_range, name_there, next_name_there}
+use Rattle.workload_gen.specs.Readable.{sections_from}
+use Rattle.elf_writer.proofs.Standing.{Stands, stands_first, stands_behind, stands_range, name_there, next_name_there}
 use Rattle.workload_gen.proofs.Records.{HasWords, IsHeader, section_header_there}
 use Rattle.workload_gen.proofs.Steps.{grown_none, grown_more}
 

@@ -6,10 +6,10 @@ use Rattle.std.proofs.lemmas.List.Elements.{All-head, All-tail}
 use Rattle.elf_reader.specs.Layout.{program_header_at, program_header}
 use Rattle.elf_reader.specs.File.{PlainSegment, is_load, segment_of, segments_at, segments_below}
 use Rattle.workload_gen.specs.Plan.{SectionPlan}
-use Rattle.workload_gen.specs.Pieces.{zero_bytes, padded, padding}
+use Rattle.elf_writer.specs.Pieces.{IsWord, zero_bytes, padded, padding}
 use Rattle.workload_gen.specs.Built.{memory_size, asked, contents, segment_flags, program_header_bytes, program_headers}
-use Rattle.workload_gen.specs.Readable.{IsWord, IsSection, segments_from}
-use Rattle.workload_gen.proofs.Standing.{Stands, stands_first, stands_behind, stands_range}
+use Rattle.workload_gen.specs.Readable.{IsSection, segments_from}
+use Rattle.elf_writer.proofs.Standing.{Stands, stands_first, stands_behind, stands_range}
 use Rattle.workload_gen.proofs.Records.{IsProgram, program_header_there}
 use Rattle.workload_gen.proofs.Steps.{grown_none, grown_more}
 

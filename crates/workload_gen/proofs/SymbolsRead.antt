@@ -6,10 +6,10 @@ use Rattle.elf_reader.specs.Layout.{symbol_at, symbol_record}
 use Rattle.elf_reader.specs.Sections.{name_in, symbol_names}
 use Rattle.elf_reader.specs.File.{PlainSymbol, symbol_of, symbols_below}
 use Rattle.workload_gen.specs.Plan.{SymbolPlan}
-use Rattle.workload_gen.specs.Pieces.{zero_bytes, ended_names, name_size}
+use Rattle.elf_writer.specs.Pieces.{IsWord, zero_bytes, ended_names, name_size}
 use Rattle.workload_gen.specs.Built.{symbol_bytes, symbols_bytes, symbol_name}
-use Rattle.workload_gen.specs.Readable.{IsWord, IsSymbol, null_symbol, symbols_from}
-use Rattle.workload_gen.proofs.Standing.{Stands, stands_first, stands_behind, name_there, next_name_there}
+use Rattle.workload_gen.specs.Readable.{IsSymbol, null_symbol, symbols_from}
+use Rattle.elf_writer.proofs.Standing.{Stands, stands_first, stands_behind, name_there, next_name_there}
 use Rattle.workload_gen.proofs.Records.{IsRecord, symbol_there}
 use Rattle.workload_gen.proofs.Steps.{grown_none, grown_more}
 

@@ -4,7 +4,7 @@ use Rattle.std.specs.List.{All}
 use Rattle.std.proofs.lemmas.List.Elements.{All-head, All-tail}
 use Rattle.elf_reader.specs.Layout.{section_header, section_count}
 use Rattle.elf_reader.specs.Sections.{table_at, symbol_table_below, symbol_table}
-use Rattle.workload_gen.specs.Pieces.{padded}
+use Rattle.elf_writer.specs.Pieces.{padded}
 use Rattle.workload_gen.specs.Built.{Planned}
 use Rattle.workload_gen.proofs.SectionsRead.{IsSectionAt, AreSections}
 

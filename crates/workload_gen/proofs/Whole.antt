@@ -5,9 +5,9 @@ use Rattle.std.proofs.lemmas.List.{length-map, map-append}
 use Rattle.std.proofs.lemmas.List.Elements.{All-from_recursion}
 use Rattle.elf_reader.specs.File.{view_in}
 use Rattle.workload_gen.specs.Plan.{SectionPlan, SymbolPlan, FilePlan}
-use Rattle.workload_gen.specs.Pieces.{padded, ended_names, string_table}
+use Rattle.elf_writer.specs.Pieces.{IsWord, padded, ended_names, string_table}
 use Rattle.workload_gen.specs.Built.{Planned, planned_name, symbol_name, asked, contents, symbol_table_number, symbol_table_of, names_of, relocation_sections, named_sections, section_names_name, planned_sections, first_place, built}
-use Rattle.workload_gen.specs.Readable.{IsWord, IsSection, IsSymbol, null_section, null_symbol, segments_from, sections_from, symbols_from, relocations_from, sections_size, symbol_table_place, ReadsBack}
+use Rattle.workload_gen.specs.Readable.{IsSection, IsSymbol, null_section, null_symbol, segments_from, sections_from, symbols_from, relocations_from, sections_size, symbol_table_place, ReadsBack}
 use Rattle.workload_gen.proofs.Layouts.{content_place, IsLaidOut, laid_out, few_relocation_sections}
 use Rattle.workload_gen.proofs.SectionsRead.{IsPlanned}
 use Rattle.workload_gen.proofs.SymbolsRead.{length-symbols}

@@ -5,7 +5,7 @@ use Rattle.std.specs.Prelude.{ℕ, ◌+◌, ◌*◌, ◌/◌, ◌%◌, nat_lt, B
 use Rattle.std.specs.Int.{cast_unsigned, w32}
 use Rattle.elf_reader.specs.declared.view.Reloc.{Reloc}
 use Rattle.workload_gen.specs.Plan.{SectionPlan, SymbolPlan, FilePlan}
-use Rattle.workload_gen.specs.Pieces.{half_bytes, words_bytes, zero_bytes, padded, string_table, name_size}
+use Rattle.elf_writer.specs.Pieces.{half_bytes, words_bytes, zero_bytes, padded, string_table, name_size}
 
 -- a section of the file, without its place and the place of its name
 pub record Planned : Type 0 where
@@ -78,10 +78,9 @@ symbol_table_of f =
       content = content;
     }
 
--- a section that holds names
-abbrev pub names_of : List ℕ → List (List ℕ) → Planned
-names_of name names =
-    let content = string_table names in
+-- a string table of which the bytes are known
+abbrev pub names_section_of : List ℕ → List ℕ → Planned
+names_section_of name content =
     record {
       name = name;
       kind = 3;
@@ -94,6 +93,10 @@ names_of name names =
       entsize = 0;
       content = content;
     }
+
+-- a section that holds names
+abbrev pub names_of : List ℕ → List (List ℕ) → Planned
+names_of name names = names_section_of name (string_table names)
 
 -- a relocation
 abbrev pub relocation_bytes : Reloc → List ℕ

@@ -1,7 +1,7 @@
 -- The kernels of the workload, as they are drawn, and what each puts into the file.
 use Rattle.std.specs.Prelude.{ℕ, zero, suc, ◌+◌, ◌*◌, ◌/◌, ◌%◌, ◌<◌, ◌≤◌, List, [], ◌∷◌, ◌++◌}
 use Rattle.workload_gen.specs.Plan.{SymbolPlan}
-use Rattle.workload_gen.specs.Workload.{next_state, table_words, passes, table_start, table_below, numbered, lui, addi, lw, add, bne_back, minus_one, ret}
+use Rattle.workload_gen.specs.Workload.{next_state, table_words, passes, table_start, table_below, numbered, kernel_loop}
 use Rattle.workload_gen.specs.declared.kernels.Kernel.{Kernel}
 
 -- kernel i of a seed
@@ -36,19 +36,7 @@ pub record IsSmall (k : Kernel) : Type 0 where
 
 -- its instructions
 abbrev pub kernel_code : Kernel → List ℕ
-kernel_code k =
-    addi 14 0 k.pass_count
-    ∷ lui 10 k.table_at
-    ∷ addi 10 10 k.table_at
-    ∷ addi 11 10 (4 * k.word_count)
-    ∷ lw 13 10
-    ∷ add 9 9 13
-    ∷ addi 10 10 4
-    ∷ bne_back 10 11 12
-    ∷ addi 14 14 minus_one
-    ∷ bne_back 14 0 32
-    ∷ ret
-    ∷ []
+kernel_code k = kernel_loop k.pass_count k.table_at k.word_count
 
 -- its table
 abbrev pub kernel_table : Kernel → List ℕ

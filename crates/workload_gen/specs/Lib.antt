@@ -1,8 +1,8 @@
 pub use Rattle.elf_reader.specs.Layout
 pub use Rattle.elf_reader.specs.Sections
 pub use Rattle.elf_reader.specs.File
+pub use Rattle.elf_writer.specs.Pieces
 pub mod Plan
-pub mod Pieces
 pub mod Built
 pub mod Planned
 pub mod Readable

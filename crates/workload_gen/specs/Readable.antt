@@ -1,11 +1,11 @@
 -- The view of a file that is built of a plan.
-use Rattle.std.specs.Prelude.{◌≡◌, ℕ, ◌+◌, ◌<◌, ◌≤◌, if◌then◌else◌, List, [], ◌∷◌, ◌++◌, length, map, All, ◌⊎◌, ◌≢◌}
+use Rattle.std.specs.Prelude.{◌≡◌, ℕ, ◌+◌, ◌<◌, ◌≤◌, if◌then◌else◌, List, [], ◌∷◌, ◌++◌, length, map, All, ◌⊎◌}
 use Rattle.std.specs.Int.{cast_signed, cast_unsigned, w32}
 use Rattle.elf_reader.specs.File.{PlainSegment, PlainSection, PlainSymbol, PlainView, view_in}
 use Rattle.elf_reader.specs.Sections.{bit_of}
 use Rattle.elf_reader.specs.declared.view.Reloc.{Reloc}
 use Rattle.workload_gen.specs.Plan.{SectionPlan, SymbolPlan, FilePlan}
-use Rattle.workload_gen.specs.Pieces.{padded}
+use Rattle.elf_writer.specs.Pieces.{IsWord, IsName, padded}
 use Rattle.workload_gen.specs.Built.{Planned, memory_size, segment_flags, planned_sections, first_place, built}
 
 -- the segments, the first being number `k` and standing at `place`
@@ -84,13 +84,6 @@ planned_view f =
       symbols = null_symbol (symbol_table_place f) ∷ symbols_from (symbol_table_place f + 16) f.symbols;
       relocs = relocations_from 1 f.sections;
     }
-
-abbrev pub IsWord : ℕ → Type 0
-IsWord n = n < 4294967296
-
--- a name without a zero byte
-abbrev pub IsName : List ℕ → Type 0
-IsName name = All (λ byte. byte ≢ 0) name
 
 -- a relocation whose kind and symbol fit into r_info, and whose addend is a 32-bit number
 pub record IsRelocation (r : Reloc) : Type 0 where

@@ -3,8 +3,8 @@
 use Rattle.std.specs.Prelude.{ℕ, pos, zero, suc, ◌+◌, ◌-◌, ◌*◌, ◌/◌, ◌%◌, List, [], ◌∷◌, ◌++◌, codes, decimal}
 use Rattle.elf_reader.specs.declared.view.Reloc.{Reloc}
 use Rattle.word_bits.specs.Words.{upper_half}
-use Rattle.workload_gen.specs.Plan.{SymbolPlan, FilePlan}
-use Rattle.workload_gen.specs.Pieces.{words_bytes}
+use Rattle.workload_gen.specs.Plan.{SectionPlan, SymbolPlan, FilePlan}
+use Rattle.elf_writer.specs.Pieces.{words_bytes}
 
 -- the state of the generator behind one that is `x`: a linear congruence modulo 2 ^ 32
 abbrev pub next_state : ℕ → ℕ
@@ -107,15 +107,10 @@ abbrev pub calls_below : ℕ → ℕ → List ℕ
 calls_below k zero = []
 calls_below k (suc i) = calls_below k i ++ jal 1 (kernel_start k i - (text_start + 8 + 4 * i)) ∷ []
 
--- ten rounds of all calls; x9 is stored at `out`, and its four bytes are written (call 64); exit with 0
--- (call 93)
-abbrev pub main_words : ℕ → List ℕ
-main_words k =
-    addi 8 0 10
-    ∷ addi 9 0 0
-    ∷ []
-    ++ calls_below k k
-    ++ addi 8 8 minus_one
+-- the end of main
+abbrev pub main_end : ℕ → List ℕ
+main_end k =
+    addi 8 8 minus_one
     ∷ bne_back 8 0 (4 * (k + 1))
     ∷ lui 11 out_start
     ∷ addi 11 11 out_start
@@ -129,13 +124,23 @@ main_words k =
     ∷ jal 0 0
     ∷ []
 
+-- ten rounds of all calls; x9 is stored at `out`, and its four bytes are written (call 64); exit with 0
+-- (call 93)
+abbrev pub main_words : ℕ → List ℕ
+main_words k =
+    addi 8 0 10
+    ∷ addi 9 0 0
+    ∷ []
+    ++ calls_below k k
+    ++ main_end k
+
 -- a kernel: x14 counts the passes; x10 goes through the table to its end, x11; each word is added to x9
-abbrev pub kernel_words : ℕ → ℕ → List ℕ
-kernel_words seed i =
-    addi 14 0 (passes seed i)
-    ∷ lui 10 (table_start seed i)
-    ∷ addi 10 10 (table_start seed i)
-    ∷ addi 11 10 (4 * table_words seed i)
+abbrev pub kernel_loop : ℕ → ℕ → ℕ → List ℕ
+kernel_loop pass_count table_at word_count =
+    addi 14 0 pass_count
+    ∷ lui 10 table_at
+    ∷ addi 10 10 table_at
+    ∷ addi 11 10 (4 * word_count)
     ∷ lw 13 10
     ∷ add 9 9 13
     ∷ addi 10 10 4
@@ -144,6 +149,9 @@ kernel_words seed i =
     ∷ bne_back 14 0 32
     ∷ ret
     ∷ []
+
+abbrev pub kernel_words : ℕ → ℕ → List ℕ
+kernel_words seed i = kernel_loop (passes seed i) (table_start seed i) (table_words seed i)
 
 abbrev pub kernels_below : ℕ → ℕ → List ℕ
 kernels_below seed zero = []
@@ -185,11 +193,15 @@ text_relocations k =
 abbrev pub numbered : ℕ → ℕ → List ℕ
 numbered letter i = letter ∷ decimal i
 
+-- the symbol of kernel i of k
+abbrev pub kernel_symbol_plan : ℕ → ℕ → SymbolPlan
+kernel_symbol_plan k i =
+    record { name = numbered 107 i; value = kernel_start k i; size = kernel_size; kind = 2; section = 1 }
+
 abbrev pub kernel_symbols_below : ℕ → ℕ → List SymbolPlan
 kernel_symbols_below k zero = []
 kernel_symbols_below k (suc i) =
-    kernel_symbols_below k i
-    ++ record { name = numbered 107 i; value = kernel_start k i; size = kernel_size; kind = 2; section = 1 } ∷ []
+    kernel_symbols_below k i ++ kernel_symbol_plan k i ∷ []
 
 abbrev pub table_symbols_below : ℕ → ℕ → List SymbolPlan
 table_symbols_below seed zero = []
@@ -207,36 +219,27 @@ workload_symbols seed k =
     ++ record { name = codes "out"; value = out_start; size = 4; kind = 1; section = 3 }
     ∷ []
 
+-- a section of words
+abbrev pub words_plan : List ℕ → ℕ → ℕ → List ℕ → List Reloc → SectionPlan
+words_plan name addr flags words relocs =
+    record { name = name; addr = addr; flags = flags; content = words_bytes words; empty = 0; relocs = relocs }
+
+-- the section of the instructions, of the tables, and of the sum
+abbrev pub text_plan : ℕ → List ℕ → SectionPlan
+text_plan k words = words_plan (codes ".text") text_start 6 words (text_relocations k)
+
+abbrev pub tables_plan : List ℕ → SectionPlan
+tables_plan words = words_plan (codes ".rodata") tables_start 2 words []
+
+abbrev pub out_plan : SectionPlan
+out_plan = words_plan (codes ".data") out_start 3 (0 ∷ []) []
+
 -- the plan of the workload of `k` kernels
 abbrev pub workload_plan : ℕ → ℕ → FilePlan
 workload_plan seed k =
     record {
       entry = text_start;
       sections =
-          record {
-            name = codes ".text";
-            addr = text_start;
-            flags = 6;
-            content = words_bytes (main_words k ++ kernels_below seed k);
-            empty = 0;
-            relocs = text_relocations k;
-          }
-          ∷ record {
-            name = codes ".rodata";
-            addr = tables_start;
-            flags = 2;
-            content = words_bytes (tables_below seed k);
-            empty = 0;
-            relocs = [];
-          }
-          ∷ record {
-            name = codes ".data";
-            addr = out_start;
-            flags = 3;
-            content = 0 ∷ 0 ∷ 0 ∷ 0 ∷ [];
-            empty = 0;
-            relocs = [];
-          }
-          ∷ [];
+          text_plan k (main_words k ++ kernels_below seed k) ∷ tables_plan (tables_below seed k) ∷ out_plan ∷ [];
       symbols = workload_symbols seed k;
     }

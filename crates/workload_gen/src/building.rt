@@ -11,7 +11,7 @@ use crate::planned::{
     PlannedSection, asked_section, relocation_section, section_names, symbol_names, symbol_table,
 };
 use crate::spec::{FileSpec, SectionSpec};
-use crate::writing::push_zeros;
+use elf_writer::push_zeros;
 use std::alloc::{AllocError, Global};
 
 /// An executable ELF file of 32-bit RISC-V with these sections and symbols (ELF, "ELF Header", "Sections",

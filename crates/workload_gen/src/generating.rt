@@ -1,10 +1,10 @@
 ghost use Rattle.std.specs.Prelude.{◌≡◌, ℕ, ◌+◌, ◌^◌, ◌<◌, ◌≤◌, ◌++◌, map, length, All, IfOk, OnOk};
 ghost use Rattle.workload_gen.specs.Plan.{section_plan, symbol_plan, file_plan};
-ghost use Rattle.workload_gen.specs.Pieces.{words_bytes};
+ghost use Rattle.elf_writer.specs.Pieces.{words_bytes};
 ghost use Rattle.workload_gen.specs.Built.{built};
-ghost use Rattle.workload_gen.specs.Workload.{address_relocations, kernel_relocations_below, kernel_symbols_below, text_relocations, workload_plan};
+ghost use Rattle.workload_gen.specs.Workload.{address_relocations, kernel_relocations_below, kernel_symbols_below, text_relocations, workload_plan, text_plan, tables_plan, out_plan, kernel_symbol_plan};
 ghost use Rattle.workload_gen.specs.Kernels.{IsSmall};
-ghost use Rattle.workload_gen.specs.Parts.{text_plan, tables_plan, out_plan, kernel_symbol_plan, symbol_plans};
+ghost use Rattle.workload_gen.specs.Parts.{symbol_plans};
 
 use crate::building::build;
 use crate::kernels::{

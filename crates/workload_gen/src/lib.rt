@@ -16,7 +16,3 @@ pub use building::build;
 pub use generating::workload;
 pub use laws::reads_back;
 pub use spec::{FileSpec, SectionSpec, SymbolSpec};
-pub use writing::push_zeros;
-
-#[cfg(test)]
-mod tests;

@@ -1,7 +1,6 @@
 //! The main function of the workload.
 ghost use Rattle.std.specs.Prelude.{◌≡◌, ℕ, ◌+◌, ◌*◌, ◌<◌, ◌≤◌, ◌++◌, OnOk};
 ghost use Rattle.workload_gen.specs.Workload as workload;
-ghost use Rattle.workload_gen.specs.Parts.{main_end};
 
 use crate::instructions::{addi, bne_back, jal, lui, sw};
 use crate::kernels::{MAX_KERNELS, MINUS_ONE};
@@ -52,7 +51,7 @@ pub(crate) fn push_main(words: &mut Vec<u32>, kernels: u32) -> Result<(), AllocE
 /// written (call 64), and main exits with 0 (call 93).
 fn push_end(words: &mut Vec<u32>, kernels: u32) -> Result<(), AllocError>
     requires { kernels ≤ MAX_KERNELS }
-    ensures { OnOk result (words.new.items ≡ words.old.items ++ main_end kernels) }
+    ensures { OnOk result (words.new.items ≡ words.old.items ++ workload.main_end kernels) }
 {
     words.extend_from_slice(&[
         addi(8, 8, MINUS_ONE),

@@ -1,7 +1,8 @@
-//! Numbers and zeros at the end of a file that is being written.
+//! Numbers and padded bytes at the end of a file that is being written.
 ghost use Rattle.std.specs.Prelude.{◌≡◌, ◌++◌, length, OnOk};
-ghost use Rattle.workload_gen.specs.Pieces.{half_bytes, word_bytes, words_bytes, zero_bytes, padding, padded};
+ghost use Rattle.elf_writer.specs.Pieces.{half_bytes, word_bytes, words_bytes, padded};
 
+use elf_writer::{padding_after, push_zeros};
 use std::alloc::AllocError;
 
 /// Appends the low 16 bits of `n`, least byte first.
@@ -28,30 +29,12 @@ pub(crate) fn push_words(out: &mut Vec<u8>, numbers: &[u64]) -> Result<(), Alloc
     Ok(())
 }
 
-/// Appends `n` zero bytes.
-#[tactic(auto, using(crate::proofs::ByteLemmas::zero_pushed))]
-pub fn push_zeros(out: &mut Vec<u8>, n: usize) -> Result<(), AllocError>
-    ensures { OnOk result (out.new.items ≡ out.old.items ++ zero_bytes n) }
-{
-    for _ in 0..n {
-        out.push(0)?;
-    }
-    Ok(())
-}
-
 /// Appends bytes, with zeros up to a multiple of 4 bytes.
 pub(crate) fn push_padded(out: &mut Vec<u8>, bytes: &[u8]) -> Result<(), AllocError>
     ensures { OnOk result (out.new.items ≡ out.old.items ++ padded bytes.now) }
 {
     out.extend_from_slice(bytes)?;
     push_zeros(out, padding_after(bytes.len()))
-}
-
-/// How many bytes lead from `n` to the next multiple of 4.
-pub(crate) fn padding_after(n: usize) -> usize
-    ensures { result ≡ padding n }
-{
-    (4 - n % 4) % 4
 }
 
 /// How many bytes `push_padded` appends.

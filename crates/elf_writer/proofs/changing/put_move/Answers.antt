@@ -1,5 +1,5 @@
 use Rattle.std.proofs.Common.{ap, ◌∙◌, ◌+◌, [], ◌∷◌, sym}
-use Rattle.workload_gen.specs.Pieces.{half_bytes, word_bytes}
+use Rattle.elf_writer.specs.Pieces.{half_bytes, word_bytes}
 use Rattle.elf_writer.specs.Changes.{Change, changed}
 use Rattle.elf_writer.proofs.ChangeLemmas.{changed-cons}
 use Rattle.elf_writer.proofs.changing.put_move.Goals as goal

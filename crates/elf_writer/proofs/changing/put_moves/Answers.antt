@@ -1,6 +1,6 @@
 use Rattle.std.proofs.Common.{◌∙◌, ◌+◌, ◌∷◌, [], map, get_or, refl, ap, sym}
 use Rattle.elf_reader.specs.File.{PlainSymbol, plain_symbol}
-use Rattle.workload_gen.specs.Pieces.{half_bytes, word_bytes}
+use Rattle.elf_writer.specs.Pieces.{half_bytes, word_bytes}
 use Rattle.elf_writer.specs.Changes.{changed}
 use Rattle.elf_writer.specs.Parts.{move_changes, moves_changes}
 use Rattle.elf_writer.proofs.ChangeLemmas.{changes_step, changes_end, all_taken}

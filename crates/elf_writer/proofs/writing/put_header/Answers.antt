@@ -1,5 +1,5 @@
 use Rattle.std.proofs.Common.{◌∷◌, []}
-use Rattle.workload_gen.specs.Pieces.{half_bytes, word_bytes}
+use Rattle.elf_writer.specs.Pieces.{half_bytes, word_bytes}
 use Rattle.elf_writer.specs.Changes.{Change}
 use Rattle.elf_writer.proofs.ChangeLemmas.{changed_twice}
 use Rattle.elf_writer.proofs.writing.put_header.Goals as goal

@@ -1,6 +1,6 @@
 use Rattle.std.proofs.Common.{ℕ, ◌<◌, ◌∙◌, List, ap, subst, refl}
 use Rattle.std.specs.List.{All}
-use Rattle.workload_gen.specs.Pieces.{words_bytes}
+use Rattle.elf_writer.specs.Pieces.{words_bytes}
 use Rattle.relink_core.proofs.starting.segment_of.Goals as goal
 
 pub returns : goal.returns

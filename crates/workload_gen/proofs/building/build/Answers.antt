@@ -3,7 +3,7 @@ use Rattle.std.proofs.lemmas.List.{length-map}
 use Rattle.workload_gen.specs.declared.planned.PlannedSection.{PlannedSection}
 use Rattle.workload_gen.specs.declared.spec.SectionSpec.{SectionSpec}
 use Rattle.workload_gen.specs.Plan.{FilePlan, file_plan, section_plan}
-use Rattle.workload_gen.specs.Pieces.{word_bytes, zero_bytes}
+use Rattle.elf_writer.specs.Pieces.{word_bytes, zero_bytes}
 use Rattle.workload_gen.specs.Built.{Planned, contents, program_headers, section_headers, first_place, file_header_bytes}
 use Rattle.workload_gen.specs.Planned.{plain_planned}
 use Rattle.workload_gen.proofs.ByteLemmas.{same_word}

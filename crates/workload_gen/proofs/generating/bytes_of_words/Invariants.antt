@@ -1,5 +1,5 @@
 use Rattle.std.proofs.Common.{◌≡◌, ◌++◌, drop}
-use Rattle.workload_gen.specs.Pieces.{words_bytes}
+use Rattle.elf_writer.specs.Pieces.{words_bytes}
 use Rattle.workload_gen.proofs.generating.bytes_of_words.Given as goal
 
 abbrev pub invariant-loop-word : goal.invariant-loop-word

@@ -4,9 +4,9 @@ use Rattle.workload_gen.specs.declared.spec.SectionSpec.{SectionSpec}
 use Rattle.workload_gen.specs.declared.spec.SymbolSpec.{SymbolSpec}
 use Rattle.workload_gen.specs.declared.kernels.Kernel.{Kernel}
 use Rattle.workload_gen.specs.Plan.{FilePlan, section_plan, symbol_plan}
-use Rattle.workload_gen.specs.Workload.{main_words, kernels_below, tables_below, workload_symbols, workload_plan, text_start}
+use Rattle.workload_gen.specs.Workload.{main_words, kernels_below, tables_below, workload_symbols, workload_plan, text_start, text_plan, tables_plan, out_plan}
 use Rattle.workload_gen.specs.Kernels.{kernel_code, kernel_table, drawn_kernels}
-use Rattle.workload_gen.specs.Parts.{text_plan, tables_plan, out_plan, symbol_plans}
+use Rattle.workload_gen.specs.Parts.{symbol_plans}
 use Rattle.workload_gen.proofs.KernelLemmas.{drawn_code, drawn_tables, drawn_symbols}
 use Rattle.workload_gen.proofs.generating.workload_spec.Goals as goal
 

@@ -1,5 +1,5 @@
 use Rattle.std.proofs.Common.{◌+◌, [], ◌∷◌, ◌++◌}
-use Rattle.workload_gen.specs.Pieces.{half_bytes, words_bytes, zero_bytes}
+use Rattle.elf_writer.specs.Pieces.{half_bytes, words_bytes, zero_bytes}
 use Rattle.workload_gen.proofs.ByteLemmas.{eight_pushed}
 use Rattle.workload_gen.proofs.headers.push_file_header.Goals as goal
 

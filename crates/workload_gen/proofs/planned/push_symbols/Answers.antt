@@ -23,35 +23,8 @@ symbol_step symbols i symbol name_at size out next whole below is is_size pushed
     let split : symbols_bytes name_at (map symbol_plan (symbol ∷ drop (i + 1) symbols))
     ≡ symbol_bytes name_at (symbol_plan symbol) ++ rest =
     rw (symbols_wrap (name_at + size) (map symbol_plan (drop (i + 1) symbols)), is_size) in
-    piece_step
-    (λ (ss : List SymbolSpec). symbols_bytes name_at (map symbol_plan ss))
-    symbols
-    i
-    symbol
-    out
-    next
-    (symbol_bytes name_at (symbol_plan symbol))
-    rest
-    whole
-    below
-    is
-    split
-    pushed
-    so_far
+    piece_step (λ (ss : List SymbolSpec). symbols_bytes name_at (map symbol_plan ss)) symbols i symbol out next (symbol_bytes name_at (symbol_plan symbol)) rest whole below is split pushed so_far
 
 pub loop-symbol-preserved : goal.loop-symbol-preserved
 loop-symbol-preserved c =
-    symbol_step
-    c.args.symbols.now
-    c.loop-symbol.symbol-index
-    c.symbol-item.result
-    c.loop-symbol.name_at
-    c.name_size-name_at.result
-    c.loop-symbol.out.items
-    c.push_symbol.new.out.items
-    _
-    c.loop-symbol-test.true
-    c.symbol-item.is
-    (cc)
-    c.in_ok-push_symbol.ensures
-    c.loop-symbol.invariant
+    symbol_step c.args.symbols.now c.loop-symbol.symbol-index c.symbol-item.result c.loop-symbol.name_at c.name_size-name_at.result c.loop-symbol.out.items c.push_symbol.new.out.items _ c.loop-symbol-test.true c.symbol-item.is (cc) c.in_ok-push_symbol.ensures c.loop-symbol.invariant

@@ -1,8 +1,8 @@
 use Rattle.std.proofs.Common.{◌≡◌, ℕ, List, [], ◌∷◌, ◌++◌, map, ap, refl, ◌∙◌, arith}
 use Rattle.workload_gen.specs.declared.planned.PlannedSection.{PlannedSection}
-use Rattle.workload_gen.specs.Pieces.{ended_names, string_table}
-use Rattle.workload_gen.specs.Built.{names_of, section_names_name, planned_name}
-use Rattle.workload_gen.specs.Planned.{plain_planned, names_section_of}
+use Rattle.elf_writer.specs.Pieces.{ended_names, string_table}
+use Rattle.workload_gen.specs.Built.{names_of, section_names_name, planned_name, names_section_of}
+use Rattle.workload_gen.specs.Planned.{plain_planned}
 use Rattle.workload_gen.proofs.ByteLemmas.{name_pushed, piece_end}
 use Rattle.workload_gen.proofs.planned.section_names.Goals as goal
 

@@ -1,5 +1,5 @@
 use Rattle.std.proofs.Common.{◌≡◌, ◌++◌, map, drop}
-use Rattle.workload_gen.specs.Pieces.{ended_names, string_table}
+use Rattle.elf_writer.specs.Pieces.{ended_names, string_table}
 use Rattle.workload_gen.specs.Built.{planned_name}
 use Rattle.workload_gen.specs.Planned.{plain_planned}
 use Rattle.workload_gen.proofs.planned.section_names.Given as goal

@@ -1,6 +1,6 @@
 use Rattle.std.proofs.Common.{◌≡◌, ◌++◌, map, drop}
 use Rattle.workload_gen.specs.Plan.{symbol_plan}
-use Rattle.workload_gen.specs.Pieces.{ended_names, string_table}
+use Rattle.elf_writer.specs.Pieces.{ended_names, string_table}
 use Rattle.workload_gen.specs.Built.{symbol_name}
 use Rattle.workload_gen.proofs.planned.symbol_name_table.Given as goal
 

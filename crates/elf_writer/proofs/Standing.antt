@@ -9,8 +9,7 @@ use Rattle.std.specs.List.{take_while}
 use Rattle.word_bits.specs.Words.{byte_of, half_of, word_of}
 use Rattle.elf_reader.specs.Layout.{half_in, word_in}
 use Rattle.elf_reader.specs.Sections.{is_zero, name_in}
-use Rattle.workload_gen.specs.Pieces.{half_bytes, word_bytes, words_bytes, name_size}
-use Rattle.workload_gen.specs.Readable.{IsWord, IsName}
+use Rattle.elf_writer.specs.Pieces.{IsWord, IsName, half_bytes, word_bytes, words_bytes, name_size}
 
 -- from byte `at` on the file has these bytes, and some others behind them
 pub record Stands (file : List ℕ) (at : ℕ) (piece : List ℕ) : Type 0 where

@@ -1,5 +1,5 @@
 -- Numbers, tables of names and padding, as bytes of a file.
-use Rattle.std.specs.Prelude.{ℕ, zero, suc, ◌+◌, ◌-◌, ◌%◌, List, [], ◌∷◌, ◌++◌, length}
+use Rattle.std.specs.Prelude.{ℕ, zero, suc, ◌+◌, ◌-◌, ◌%◌, ◌<◌, ◌≢◌, List, [], ◌∷◌, ◌++◌, length, All}
 use Rattle.word_bits.specs.Words.{byte_of}
 
 -- a halfword and a word, least byte first; of a greater number the low part
@@ -8,6 +8,10 @@ half_bytes n = byte_of n 0 ∷ byte_of n 1 ∷ []
 
 abbrev pub word_bytes : ℕ → List ℕ
 word_bytes n = byte_of n 0 ∷ byte_of n 1 ∷ byte_of n 2 ∷ byte_of n 3 ∷ []
+
+-- a number of 32 bits, which its word gives back
+abbrev pub IsWord : ℕ → Type 0
+IsWord n = n < 4294967296
 
 -- words, one behind the other
 abbrev pub words_bytes : List ℕ → List ℕ
@@ -25,6 +29,10 @@ padding n = (4 - n % 4) % 4
 -- bytes, with zeros up to a multiple of 4
 abbrev pub padded : List ℕ → List ℕ
 padded bytes = bytes ++ zero_bytes (padding (length bytes))
+
+-- a name without a zero byte
+abbrev pub IsName : List ℕ → Type 0
+IsName name = All (λ byte. byte ≢ 0) name
 
 -- names, each ended by a zero byte
 abbrev pub ended_names : List (List ℕ) → List ℕ

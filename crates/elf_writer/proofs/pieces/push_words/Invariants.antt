@@ -1,6 +1,6 @@
 use Rattle.std.proofs.Common.{◌≡◌, ◌++◌, drop}
-use Rattle.workload_gen.specs.Pieces.{words_bytes}
-use Rattle.elf_writer.proofs.program_headers.push_words.Given as goal
+use Rattle.elf_writer.specs.Pieces.{words_bytes}
+use Rattle.elf_writer.proofs.pieces.push_words.Given as goal
 
 abbrev pub invariant-loop-word : goal.invariant-loop-word
 invariant-loop-word l =
