@@ -4,7 +4,7 @@ use Rattle.std.specs.declared.alloc.Global.{Global}
 use Rattle.elf_reader.specs.File.{plain_view, view_in}
 use Rattle.placement_programme.specs.Plain.{PlainProgramme, PlainChoice}
 use Rattle.placement_programme.specs.Views.{plain_programme, plain_choice}
-use Rattle.energy_model.specs.Stated.{scene_of}
+use Rattle.energy_model.specs.Scenes.{scene_of}
 use Rattle.profile_runner.specs.Counts.{plain_rows}
 use Rattle.relink_core.specs.Making.{taken_objects, AreOfGraph}
 use Rattle.relink_core.proofs.DataChoices.{choice_takes}
