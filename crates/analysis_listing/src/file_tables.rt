@@ -3,17 +3,17 @@ ghost use Rattle.std.specs.Prelude.{◌≡◌};
 ghost use Rattle.elf_reader.specs.File.{plain_view};
 ghost use Rattle.loaded_file.specs.Read.{IsRead};
 ghost use Rattle.loaded_file.specs.Marks.{all_loaded};
-ghost use Rattle.loaded_file.specs.Extents.{IsFilled};
-ghost use Rattle.movable_ranges.specs.Apart.{IsApart};
+ghost use Rattle.loaded_file.specs.ByteRanges.{IsFilled};
+ghost use Rattle.movable_ranges.specs.Disjoint.{IsDisjoint};
 
 use crate::printing::print_addresses;
 use anyhow::Result;
 use board_config::Board;
 use code_leaders::{early_leaders, leaders};
 use elf_reader::ElfView;
-use loaded_file::{Extent, is_code_range, loaded_sections, object_ranges, overlapped};
+use loaded_file::{ByteRange, is_code_range, loaded_sections, object_ranges, overlapped};
 use movable_ranges::{meant_range, movable_ranges};
-use sound_relocations::sound_kinds;
+use rewritable_relocations::rewritable_kinds;
 
 /// A line for each section that is loaded, and whether it is a code range.
 pub(crate) fn print_sections(rt: &(impl Print + AllocGlobal), view: &ElfView) -> Result<()> {
@@ -41,14 +41,14 @@ pub(crate) fn print_ranges(rt: &(impl Print + AllocGlobal), view: &ElfView) -> R
     Ok(())
 }
 
-/// A line for each relocation, and whether it is sound.
+/// A line for each relocation, and whether it is rewritable.
 pub(crate) fn print_relocations(rt: &(impl Print + AllocGlobal), view: &ElfView) -> Result<()>
     requires { IsRead view.now }
 {
     let loaded = loaded_sections(rt.alloc(), view)?;
-    let sound = sound_kinds(rt.alloc(), view, &loaded)?;
+    let sound = rewritable_kinds(rt.alloc(), view, &loaded)?;
     for (reloc, sound) in view.relocs.iter().zip(&sound) {
-        let how = if *sound { "sound" } else { "unsound" };
+        let how = if *sound { "rewritable" } else { "unrewritable" };
         println!(rt; "relocation {:#010x} {} {how}", reloc.at, reloc.kind)?;
     }
     Ok(())
@@ -63,7 +63,7 @@ pub(crate) fn print_movable(
     requires { IsRead view.now }
 {
     let loaded = loaded_sections(rt.alloc(), view)?;
-    let sound = sound_kinds(rt.alloc(), view, &loaded)?;
+    let sound = rewritable_kinds(rt.alloc(), view, &loaded)?;
     let ranges = movable_ranges(rt.alloc(), view, board, &loaded, &sound)?;
     for (k, range) in ranges.iter().enumerate() {
         println!(rt; "movable {k} {:#010x} {}", range.home, range.size)?;
@@ -72,9 +72,9 @@ pub(crate) fn print_movable(
 }
 
 /// A line for each relocation that means one of the ranges.
-fn print_meanings(rt: &impl Print, view: &ElfView, loaded: &[bool], ranges: &[Extent]) -> Result<()>
+fn print_meanings(rt: &impl Print, view: &ElfView, loaded: &[bool], ranges: &[ByteRange]) -> Result<()>
     requires marks { loaded.now ≡ all_loaded (plain_view view.now) }
-    requires apart { IsApart ranges.now }
+    requires disjoint { IsDisjoint ranges.now }
     requires filled { IsFilled ranges.now }
 {
     for i in 0..view.relocs.len() {

@@ -8,7 +8,7 @@ use board_config::Board;
 use object_machine::Outcome;
 use profile_runner::Profile;
 use relink_core::Analysis;
-use relinking::counted;
+use relinking::profile_of_run;
 
 /// The counts of a run without input for the board's steps, or its fault.
 pub(crate) fn print_profile(
@@ -18,7 +18,7 @@ pub(crate) fn print_profile(
 ) -> Result<()>
     requires { (file : List ℕ) × IsAnalysed file board.now analysis.now }
 {
-    match counted(rt.alloc(), analysis, board, b"") {
+    match profile_of_run(rt.alloc(), analysis, board, b"") {
         Ok(profile) => print_counts(rt, &profile),
         Err(fault) => {
             println!(rt; "fault: {fault}")?;

@@ -20,15 +20,15 @@ use Rattle.board_config.proofs.Elements.{parts_of}
 
 -- ---- what holds of each value that is in its range holds of the value of a key
 
-range_meets : {A : Type 0} (key : ℕ) (P : A → Type 0) (ranged : Option A) (v : A)
+range_overlaps : {A : Type 0} (key : ℕ) (P : A → Type 0) (ranged : Option A) (v : A)
     → ((a : A) → ranged ≡ Some a → P a) → in_range key ranged ≡ Ok v → P v
-range_meets key P None v step e = absurd (cc)
-range_meets key P (Some a) v step e = let same : a ≡ v = cc in subst P same (step a refl)
+range_overlaps key P None v step e = absurd (cc)
+range_overlaps key P (Some a) v step e = let same : a ≡ v = cc in subst P same (step a refl)
 
 typed_meets : {A B : Type 0} (key : ℕ) (ranged : B → Option A) (P : A → Type 0) (typed : Option B) (v : A)
     → ((b : B) (a : A) → ranged b ≡ Some a → P a) → typed_value key ranged typed ≡ Ok v → P v
 typed_meets key ranged P None v step e = absurd (cc)
-typed_meets key ranged P (Some b) v step e = range_meets key P (ranged b) v (step b) e
+typed_meets key ranged P (Some b) v step e = range_overlaps key P (ranged b) v (step b) e
 
 key_meets : {A B : Type 0} (key : ℕ) (default : A) (typed : Data → Option B) (ranged : B → Option A) (P : A → Type 0) (at_key : Option Data) (v : A)
     → P default → ((b : B) (a : A) → ranged b ≡ Some a → P a) → key_value key default typed ranged at_key ≡ Ok v → P v
@@ -155,8 +155,8 @@ main_meets table board has =
 board_grain : (table : Members) (board : Board) → HasKeys table board → IsGrain board.grain
 board_grain table board has = key_meets 8 16 as_integer grain_from IsGrain (get_member (codes "grain") table) board.grain (inl refl) grain_meets has.grain
 
-spm_meets : (table : Members) (board : Board) → HasKeys table board → IsMeasured board.grain 16777216 board.spm
-spm_meets table board has =
+spm_overlaps : (table : Members) (board : Board) → HasKeys table board → IsMeasured board.grain 16777216 board.spm
+spm_overlaps table board has =
     let unit : result_unwrap_or (grain_of table) 16 ≡ board.grain = ap (λ (g : Result ℕ Fault). result_unwrap_or g 16) has.grain in
     let is_grain : IsGrain (result_unwrap_or (grain_of table) 16) = subst IsGrain (sym unit) (board_grain table board has) in
     let found =
@@ -164,8 +164,8 @@ spm_meets table board has =
     (get_member (codes "spm") table) board.spm (default_spm (result_unwrap_or (grain_of table) 16) is_grain) (measured (result_unwrap_or (grain_of table) 16) 16777216) has.spm in
     subst (λ (u : ℕ). IsMeasured u 16777216 board.spm) unit found
 
-patch_meets : (table : Members) (board : Board) → HasKeys table board → IsMeasured 64 1048576 board.patch
-patch_meets table board has =
+patch_overlaps : (table : Members) (board : Board) → HasKeys table board → IsMeasured 64 1048576 board.patch
+patch_overlaps table board has =
     key_meets 3 (range 589824 65536) pair_of (aligned_range 64 1048576) (IsMeasured 64 1048576) (get_member (codes "patch") table) board.patch
     (record { lawful = record { some = omega arith; within = omega arith }; aligned = record { base = refl; size = refl; most_size = omega arith } })
     (measured 64 1048576) has.patch
@@ -188,8 +188,8 @@ nodes_meet table board has =
 
 pub board_is_lawful : (table : Members) (board : Board) → HasKeys table board → IsLawful board
 board_is_lawful table board has =
-    let spm = spm_meets table board has in
-    let patch = patch_meets table board has in
+    let spm = spm_overlaps table board has in
+    let patch = patch_overlaps table board has in
     let areas = areas_are table board has in
     let steps = steps_meet table board has in
     let nodes = nodes_meet table board has in

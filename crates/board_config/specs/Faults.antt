@@ -31,11 +31,11 @@ ReadsAs plain (Ok value) read = read ≡ Ok (plain value)
 ReadsAs plain (Err fault) read = (fault ≡ board.Memory) ⊎ (read ≡ Err (plain_fault fault))
 
 -- a result tells of the first check that fails: Ok exactly where there is none, and else its fault
-abbrev pub TellsFault : {T : Type 0} → Result T BoardFault → Option Fault → Type 0
-TellsFault (Ok value) first = first ≡ None
-TellsFault (Err fault) first = first ≡ Some (plain_fault fault)
+abbrev pub ReportsFault : {T : Type 0} → Result T BoardFault → Option Fault → Type 0
+ReportsFault (Ok value) first = first ≡ None
+ReportsFault (Err fault) first = first ≡ Some (plain_fault fault)
 
 -- the same, or that no memory was left
-abbrev pub TellsFirst : {T : Type 0} → Result T BoardFault → Option Fault → Type 0
-TellsFirst (Ok value) first = first ≡ None
-TellsFirst (Err fault) first = (fault ≡ board.Memory) ⊎ (first ≡ Some (plain_fault fault))
+abbrev pub ReportsFirst : {T : Type 0} → Result T BoardFault → Option Fault → Type 0
+ReportsFirst (Ok value) first = first ≡ None
+ReportsFirst (Err fault) first = (fault ≡ board.Memory) ⊎ (first ≡ Some (plain_fault fault))

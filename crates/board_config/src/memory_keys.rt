@@ -1,6 +1,6 @@
 ghost use Rattle.std.specs.Prelude.{◌≡◌, ◌<◌, IfOk};
 ghost use Rattle.toml.specs.View.{table_view};
-ghost use Rattle.board_config.specs.Faults.{Reads, ReadsAs, TellsFirst};
+ghost use Rattle.board_config.specs.Faults.{Reads, ReadsAs, ReportsFirst};
 ghost use Rattle.board_config.specs.Values.{data_of, pair_of, pairs_of};
 ghost use Rattle.board_config.specs.Limits.{range_of, aligned_range, area_ranges};
 ghost use Rattle.board_config.specs.Keys.{key_value, main_of, spm_of, patch_of, areas_of, memory_fault};
@@ -40,7 +40,7 @@ pub struct MemoryKeys {
 /// Reads keys 1 to 4.
 #[tactic(auto, unfolding(crate::specs::Keys::memory_fault))]
 pub fn read_memory(alloc: Global, table: &Table) -> Result<MemoryKeys, BoardFault>
-    ensures fault { TellsFirst result (memory_fault (table_view table.now)) }
+    ensures fault { ReportsFirst result (memory_fault (table_view table.now)) }
     ensures values { IfOk result (HasMemory (table_view table.now)) }
 {
     let main = main_key(table)?;

@@ -1,7 +1,7 @@
 ghost use Rattle.std.specs.Prelude.{◌≡◌, ◌<◌, IfOk, false};
 ghost use Rattle.toml.specs.Data.{as_bool};
 ghost use Rattle.toml.specs.View.{table_view};
-ghost use Rattle.board_config.specs.Faults.{Reads, ReadsAs, TellsFirst};
+ghost use Rattle.board_config.specs.Faults.{Reads, ReadsAs, ReportsFirst};
 ghost use Rattle.board_config.specs.Values.{data_of};
 ghost use Rattle.board_config.specs.Keys.{any_value, key_value, fix_of, bss_of, grain_of, fence_i_of, moving_fault};
 ghost use Rattle.board_config.specs.Board.{plain_texts};
@@ -25,7 +25,7 @@ pub struct MovingKeys {
 /// Reads keys 6 to 9.
 #[tactic(auto, unfolding(crate::specs::Keys::moving_fault))]
 pub fn read_moving(alloc: Global, table: &Table) -> Result<MovingKeys, BoardFault>
-    ensures fault { TellsFirst result (moving_fault (table_view table.now)) }
+    ensures fault { ReportsFirst result (moving_fault (table_view table.now)) }
     ensures values { IfOk result (HasMoving (table_view table.now)) }
 {
     let fix = fix_key(alloc, table)?;

@@ -1,6 +1,6 @@
 ghost use Rattle.std.specs.Prelude.{◌≡◌, IfOk, Some};
 ghost use Rattle.toml.specs.View.{table_view};
-ghost use Rattle.board_config.specs.Faults.{Reads, TellsFault};
+ghost use Rattle.board_config.specs.Faults.{Reads, ReportsFault};
 ghost use Rattle.board_config.specs.Values.{members_of};
 ghost use Rattle.board_config.specs.Keys.{price_at, prices_in, price_table_fault, main_prices_fault, spm_prices_fault, prices_fault};
 ghost use Rattle.board_config.specs.Board.{ArePrices};
@@ -23,7 +23,7 @@ pub struct AccessPrices {
 /// The table of prices, key 5.
 #[tactic(auto, unfolding(crate::specs::Keys::price_table_fault))]
 pub fn price_table(table: &Table) -> Result<Option<&Table>, BoardFault>
-    ensures fault { TellsFault result (price_table_fault (table_view table.now)) }
+    ensures fault { ReportsFault result (price_table_fault (table_view table.now)) }
     ensures value { IfOk result (λ prices. members_of prices ≡ prices_in (table_view table.now)) }
 {
     let Some(value) = find(table, "price") else {
@@ -38,7 +38,7 @@ pub fn price_table(table: &Table) -> Result<Option<&Table>, BoardFault>
 /// Reads keys 10 to 15 of the table of prices, if there is one.
 #[tactic(auto, unfolding(crate::specs::Keys::prices_fault))]
 pub fn read_prices(prices: Option<&Table>) -> Result<Prices, BoardFault>
-    ensures fault { TellsFault result (prices_fault (members_of prices.entry)) }
+    ensures fault { ReportsFault result (prices_fault (members_of prices.entry)) }
     ensures values { IfOk result (ArePrices (members_of prices.entry)) }
 {
     let main = read_main_prices(prices)?;
@@ -55,7 +55,7 @@ pub fn read_prices(prices: Option<&Table>) -> Result<Prices, BoardFault>
 
 #[tactic(auto, unfolding(crate::specs::Keys::main_prices_fault))]
 fn read_main_prices(prices: Option<&Table>) -> Result<AccessPrices, BoardFault>
-    ensures fault { TellsFault result (main_prices_fault (members_of prices.entry)) }
+    ensures fault { ReportsFault result (main_prices_fault (members_of prices.entry)) }
     ensures values { IfOk result (AreMainPrices (members_of prices.entry)) }
 {
     let fetch = price(prices, 10, "main_fetch", 10)?;
@@ -66,7 +66,7 @@ fn read_main_prices(prices: Option<&Table>) -> Result<AccessPrices, BoardFault>
 
 #[tactic(auto, unfolding(crate::specs::Keys::spm_prices_fault))]
 fn read_spm_prices(prices: Option<&Table>) -> Result<AccessPrices, BoardFault>
-    ensures fault { TellsFault result (spm_prices_fault (members_of prices.entry)) }
+    ensures fault { ReportsFault result (spm_prices_fault (members_of prices.entry)) }
     ensures values { IfOk result (AreSpmPrices (members_of prices.entry)) }
 {
     let fetch = price(prices, 13, "spm_fetch", 2)?;

@@ -1,6 +1,6 @@
 ghost use Rattle.std.specs.Prelude.{◌≡◌, ◌⊎◌, IfOk, IfErr};
 ghost use Rattle.toml.specs.View.{table_view};
-ghost use Rattle.board_config.specs.Faults.{TellsFirst};
+ghost use Rattle.board_config.specs.Faults.{ReportsFirst};
 ghost use Rattle.board_config.specs.Keys.{table_of, table_fault, first_key};
 ghost use Rattle.board_config.specs.Board.{HasKeys, IsBoard, IsLawful};
 
@@ -18,7 +18,7 @@ use toml::Table;
 /// `NotToml`, then key by key, in the order of their numbers, `Missing`, `WrongType` and `OutOfRange`, and
 /// then `UnknownKey` with the least unknown name, at the top and then in the table of prices.
 pub fn read_board(alloc: Global, text: &[u8]) -> Result<Board, BoardFault>
-    ensures fault { TellsFirst result (first_key text.now) }
+    ensures fault { ReportsFirst result (first_key text.now) }
     ensures board { IfOk result (IsBoard text.now) }
     ensures lawful { IfOk result IsLawful }
 {
@@ -43,7 +43,7 @@ fn parse(alloc: Global, text: &[u8]) -> Result<Table, BoardFault>
 
 /// The board that a table describes.
 fn board_of(alloc: Global, table: &Table) -> Result<Board, BoardFault>
-    ensures fault { TellsFirst result (table_fault (table_view table.now)) }
+    ensures fault { ReportsFirst result (table_fault (table_view table.now)) }
     ensures board { IfOk result (HasKeys (table_view table.now)) }
 {
     let memory = read_memory(alloc, table)?;

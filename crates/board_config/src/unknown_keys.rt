@@ -1,6 +1,6 @@
 ghost use Rattle.std.specs.Prelude.{◌≡◌, map, option_copied};
 ghost use Rattle.toml.specs.View.{table_view};
-ghost use Rattle.board_config.specs.Faults.{TellsFirst};
+ghost use Rattle.board_config.specs.Faults.{ReportsFirst};
 ghost use Rattle.board_config.specs.Values.{members_of};
 ghost use Rattle.board_config.specs.Keys.{prices_in, is_among, least_unknown, names_fault, unknown_fault};
 
@@ -26,7 +26,7 @@ const PRICE_NAMES: [&str; 6] = [
 #[tactic(auto, unfolding(crate::specs::Keys::unknown_fault))]
 pub fn check_names(alloc: Global, table: &Table, prices: Option<&Table>) -> Result<(), BoardFault>
     requires { members_of prices ≡ prices_in (table_view table.now) }
-    ensures { TellsFirst result (unknown_fault (table_view table.now)) }
+    ensures { ReportsFirst result (unknown_fault (table_view table.now)) }
 {
     check_known(alloc, table, &TOP_NAMES)?;
     match prices {
@@ -36,7 +36,7 @@ pub fn check_names(alloc: Global, table: &Table, prices: Option<&Table>) -> Resu
 }
 
 fn check_known(alloc: Global, table: &Table, known: &[&str]) -> Result<(), BoardFault>
-    ensures { TellsFirst result (names_fault (map (λ name. name.now) known.now) (table_view table.now)) }
+    ensures { ReportsFirst result (names_fault (map (λ name. name.now) known.now) (table_view table.now)) }
 {
     match unknown_name(table, known) {
         Some(name) => Err(BoardFault::UnknownKey {

@@ -1,7 +1,7 @@
 ghost use Rattle.std.specs.Prelude.{◌≡◌, IfOk, string_bytes};
 ghost use Rattle.toml.specs.Data.{as_integer};
 ghost use Rattle.toml.specs.View.{view, table_view};
-ghost use Rattle.board_config.specs.Faults.{Reads, ReadsAs, TellsFirst};
+ghost use Rattle.board_config.specs.Faults.{Reads, ReadsAs, ReportsFirst};
 ghost use Rattle.board_config.specs.Values.{data_of};
 ghost use Rattle.board_config.specs.Limits.{within};
 ghost use Rattle.board_config.specs.Keys.{typed_value, key_value, driver_of, regions_of, steps_of, nodes_of, twins_of, work_fault};
@@ -28,7 +28,7 @@ pub struct WorkKeys {
 /// Reads keys 16 to 20.
 #[tactic(auto, unfolding(crate::specs::Keys::work_fault))]
 pub fn read_work(alloc: Global, table: &Table) -> Result<WorkKeys, BoardFault>
-    ensures fault { TellsFirst result (work_fault (table_view table.now)) }
+    ensures fault { ReportsFirst result (work_fault (table_view table.now)) }
     ensures values { IfOk result (HasWork (table_view table.now)) }
 {
     let driver = driver_key(alloc, table)?;

@@ -32,13 +32,13 @@ weight_here low high (w ∷ ws) (suc i) row d all inside is =
     let other : row_of w ≢ row = omega (arith, later, is) in
     grind (arith, nat_tests, rest, other)
 
-pub weight_apart : (ws : List (ℕ × ℕ)) (i row : ℕ) (d : ℕ × ℕ) → i < length ws → row ≢ row_of (get_or ws i d) → weight_in (take (suc i) ws) row ≡ weight_in (take i ws) row
-weight_apart [] i row d inside apart = absurd (omega arith)
-weight_apart (w ∷ ws) zero row d inside apart =
-    let other : row_of w ≢ row = λ same. apart (sym same) in
+pub weight_disjoint : (ws : List (ℕ × ℕ)) (i row : ℕ) (d : ℕ × ℕ) → i < length ws → row ≢ row_of (get_or ws i d) → weight_in (take (suc i) ws) row ≡ weight_in (take i ws) row
+weight_disjoint [] i row d inside disjoint = absurd (omega arith)
+weight_disjoint (w ∷ ws) zero row d inside disjoint =
+    let other : row_of w ≢ row = λ same. disjoint (sym same) in
     grind (arith, nat_tests, other)
-weight_apart (w ∷ ws) (suc i) row d inside apart =
-    let rest = weight_apart ws i row d (omega arith) apart in
+weight_disjoint (w ∷ ws) (suc i) row d inside disjoint =
+    let rest = weight_disjoint ws i row d (omega arith) disjoint in
     elim (cases_eq (row_of w) row) [
       | inl same ↦ grind (arith, nat_tests, same)
       | inr other ↦ grind (arith, nat_tests, other, rest)
@@ -56,9 +56,9 @@ added_more high ws old now i next at value d all is_next inside room is_row is_v
           let now_at = so_far at in
           let at_row : slice_index (slice_set now at (slice_index now at + value)) at ≡ slice_index old at + weight_in (take (suc i) ws) at = omega (arith, kept, before, here, now_at, is_value) in
           subst (λ r. slice_index (slice_set now at (slice_index now at + value)) r ≡ slice_index old r + weight_in (take (suc i) ws) r) (sym same) at_row
-      | inr apart ↦
-          let kept : slice_index (slice_set now at (slice_index now at + value)) row ≡ slice_index now row = get_or-set_other now at row (slice_index now at + value) 0 apart in
-          let other = weight_apart ws i row d inside (λ same. apart (same ∙ sym is_row)) in
+      | inr disjoint ↦
+          let kept : slice_index (slice_set now at (slice_index now at + value)) row ≡ slice_index now row = get_or-set_other now at row (slice_index now at + value) 0 disjoint in
+          let other = weight_disjoint ws i row d inside (λ same. disjoint (same ∙ sym is_row)) in
           let before = so_far row in
           omega (arith, kept, other, before)
     ] in

@@ -88,6 +88,6 @@ sum_one f marks n next total now is_next is so_far more =
     subst (λ m. now ≡ sum_below m (λ j. if_one (fixing_of marks j) (f j))) (sym is_next) (omega (arith, here, so_far, more))
 
 pub sum_other : (f : ℕ → ℕ) (marks : List Fixing) (n next total now : ℕ) → next ≡ suc n → (fixing_of marks n ≡ One → ⊥) → total ≡ sum_below n (λ j. if_one (fixing_of marks j) (f j)) → now ≡ total → now ≡ sum_below next (λ j. if_one (fixing_of marks j) (f j))
-sum_other f marks n next total now is_next apart so_far same =
-    let here = other_adds (fixing_of marks n) (f n) apart in
+sum_other f marks n next total now is_next disjoint so_far same =
+    let here = other_adds (fixing_of marks n) (f n) disjoint in
     subst (λ m. now ≡ sum_below m (λ j. if_one (fixing_of marks j) (f j))) (sym is_next) (omega (arith, here, so_far, same))

@@ -97,7 +97,7 @@ ones_single (suc n) j marks inside is others =
           let here : fixing_of marks n ≡ One = subst (λ k. fixing_of marks k ≡ One) same is in
           rw (rest, here, same) refl
       | inr before ↦
-          let rest = ones_single n j marks (omega (arith, inside, before)) is (λ k below apart. others k (omega (arith, below)) apart) in
+          let rest = ones_single n j marks (omega (arith, inside, before)) is (λ k below disjoint. others k (omega (arith, below)) disjoint) in
           let here = others n (omega arith) (λ same. before (sym same)) in
           rw (rest, here) refl
     ]
@@ -107,7 +107,7 @@ single_taken s j inside =
     let long : length (all_free s) ≡ length s.vars = length-replicate {A = Fixing} (length s.vars) Free in
     ones_single (length s.vars) j (slice_set (all_free s) j One) inside
     (mark_same (all_free s) j One (omega (arith, inside, long)))
-    (λ k below apart. mark_other (all_free s) j One k apart ∙ free_at s k below)
+    (λ k below disjoint. mark_other (all_free s) j One k disjoint ∙ free_at s k below)
 
 pub nothing_taken : (s : PlainSide) → taken s (all_free s) ≡ []
 nothing_taken s = ones_none (length s.vars) (all_free s) (λ k below. free_at s k below)

@@ -18,8 +18,8 @@ use Rattle.branch_bound.specs.Assignments.{taken}
 use Rattle.branch_bound.specs.Greedy.{Grows, IsStart}
 use Rattle.branch_bound.specs.Growing.{CannotGrow}
 use Rattle.branch_bound.specs.Entries.{StatedFrom, StatedOn, IsStated, Each, takes_on, GainsAtMost, Reaches}
-use Rattle.branch_bound.specs.Searching.{EntryBelow, Tells, Closes, HasLevels, IsIncumbent, choice_of}
-use Rattle.branch_bound.specs.Solving.{TellsOn, ClosesSide, ClosesOn, LacksTree, AreTreesOf, FailsSome, Searched, ReachesFirst, EndsWithin}
+use Rattle.branch_bound.specs.Searching.{EntryBelow, Reports, Closes, HasLevels, IsIncumbent, choice_of}
+use Rattle.branch_bound.specs.Solving.{ReportsOn, ClosesSide, ClosesOn, LacksTree, AreTreesOf, FailsSome, Searched, ReachesFirst, EndsWithin}
 use Rattle.branch_bound.specs.declared.outcomes.Trees.{Trees}
 use Rattle.branch_bound.specs.declared.incumbents.Incumbent.{Incumbent}
 use Rattle.certificate_checker.specs.Fixings.{is_free}
@@ -34,7 +34,7 @@ use Rattle.branch_bound.proofs.IncumbentLemmas.{same_side, new_incumbent}
 use Rattle.branch_bound.proofs.TellLemmas.{levels_more}
 
 -- the entries that the budget allows
-pub tells_entries : (s : PlainSide) (start best more left after : ℕ) (tree : Option Tree) (es : List (List Fixing)) → best ≤ more → Tells s start (all_free s) best left after tree → StatedFrom s start (all_free s) es → Each (EntryBelow s more) (take left es)
+pub tells_entries : (s : PlainSide) (start best more left after : ℕ) (tree : Option Tree) (es : List (List Fixing)) → best ≤ more → Reports s start (all_free s) best left after tree → StatedFrom s start (all_free s) es → Each (EntryBelow s more) (take left es)
 tells_entries s start best more left after (Some tree) es order tells stated =
     each_less (EntryBelow s more) left es
     (finished s start more (all_free s) (plain_tree tree) es (holds_more s best more (all_free s) (plain_tree tree) order tells.0) stated)
@@ -42,7 +42,7 @@ tells_entries s start best more left after None es order tells stated =
     each_more (EntryBelow s best) (EntryBelow s more) (take left es) (λ e below. entry_more s best more e order below) (tells es stated).0
 
 -- what is left of the budget behind a side's list
-rest_left : (s : PlainSide) (start best left after : ℕ) (tree : Option Tree) (es : List (List Fixing)) → Tells s start (all_free s) best left after tree → StatedFrom s start (all_free s) es → left - length es ≤ after
+rest_left : (s : PlainSide) (start best left after : ℕ) (tree : Option Tree) (es : List (List Fixing)) → Reports s start (all_free s) best left after tree → StatedFrom s start (all_free s) es → left - length es ≤ after
 rest_left s start best left after (Some tree) es tells stated = let used = tells.1 es stated in omega (arith, used)
 rest_left s start best left after None es tells stated = let short = (tells es stated).1 in omega (arith, short)
 
@@ -57,14 +57,14 @@ EntryOn side best marks =
 on_most : (s : PlainSide) (best : ℕ) (marks : List Fixing) → EntryBelow s best marks → EntryOn (Some s) best marks
 on_most s best marks below fits = let most = below fits in omega (arith, ints, most)
 
-on_entries : (side : Option PlainSide) (start best more n left after : ℕ) (tree : Option Tree) (es : List (List Fixing)) → best ≤ more → n ≤ left → TellsOn side start best left after tree → StatedOn side start es → Each (EntryOn side more) (take n es)
+on_entries : (side : Option PlainSide) (start best more n left after : ℕ) (tree : Option Tree) (es : List (List Fixing)) → best ≤ more → n ≤ left → ReportsOn side start best left after tree → StatedOn side start es → Each (EntryOn side more) (take n es)
 on_entries None start best more n left after tree es order few tells stated =
     subst (λ l. Each (EntryOn None more) (take n l)) (sym stated) (each_less (EntryOn None more) n [] tt)
 on_entries (Some s) start best more n left after tree es order few tells stated =
     each_fewer (EntryOn (Some s) more) n left es few
     (each_more (EntryBelow s more) (EntryOn (Some s) more) (take left es) (λ e below. on_most s more e below) (tells_entries s start best more left after tree es order tells stated))
 
-pub reaches : (p : PlainProgramme) (n start first second best left after : ℕ) (off_tree on_tree : Option Tree) (off on : List (List Fixing)) → start ≤ best → first ≤ best → second ≤ best → Tells p.off start (all_free p.off) first n left off_tree → TellsOn p.on start second left after on_tree → IsStated p start off on → Reaches p n best start off on
+pub reaches : (p : PlainProgramme) (n start first second best left after : ℕ) (off_tree on_tree : Option Tree) (off on : List (List Fixing)) → start ≤ best → first ≤ best → second ≤ best → Reports p.off start (all_free p.off) first n left off_tree → ReportsOn p.on start second left after on_tree → IsStated p start off on → Reaches p n best start off on
 reaches p n start first second best left after off_tree on_tree off on from order next by_off by_on stated =
     record {
       from_start = from;
@@ -73,16 +73,16 @@ reaches p n start first second best left after off_tree on_tree off on from orde
     }
 
 -- a budget that ended had fewer nodes than the list has entries
-off_lacks : (s : PlainSide) (start best left after : ℕ) (tree : Option Tree) (es : List (List Fixing)) → tree ≡ None → Tells s start (all_free s) best left after tree → StatedFrom s start (all_free s) es → left < length es
+off_lacks : (s : PlainSide) (start best left after : ℕ) (tree : Option Tree) (es : List (List Fixing)) → tree ≡ None → Reports s start (all_free s) best left after tree → StatedFrom s start (all_free s) es → left < length es
 off_lacks s start best left after tree es none tells stated =
-    let there = subst (λ o. Tells s start (all_free s) best left after o) none tells in
+    let there = subst (λ o. Reports s start (all_free s) best left after o) none tells in
     (there es stated).1
 
-on_lacks : (side : Option PlainSide) (start best left after : ℕ) (tree : Option Tree) (es : List (List Fixing)) → LacksTree side tree → TellsOn side start best left after tree → StatedOn side start es → left < length es
+on_lacks : (side : Option PlainSide) (start best left after : ℕ) (tree : Option Tree) (es : List (List Fixing)) → LacksTree side tree → ReportsOn side start best left after tree → StatedOn side start es → left < length es
 on_lacks None start best left after tree es lacks tells stated = absurd lacks
 on_lacks (Some s) start best left after tree es lacks tells stated = off_lacks s start best left after tree es lacks tells stated
 
-pub more_entries : (p : PlainProgramme) (n start first second left after : ℕ) (off_tree on_tree : Option Tree) (off on : List (List Fixing)) → (off_tree ≡ None) ⊎ LacksTree p.on on_tree → Tells p.off start (all_free p.off) first n left off_tree → TellsOn p.on start second left after on_tree → IsStated p start off on → n < length off + length on
+pub more_entries : (p : PlainProgramme) (n start first second left after : ℕ) (off_tree on_tree : Option Tree) (off on : List (List Fixing)) → (off_tree ≡ None) ⊎ LacksTree p.on on_tree → Reports p.off start (all_free p.off) first n left off_tree → ReportsOn p.on start second left after on_tree → IsStated p start off on → n < length off + length on
 more_entries p n start first second left after off_tree on_tree off on (inl none) by_off by_on stated =
     let short = off_lacks p.off start first n left off_tree off none by_off stated.off_list in
     omega (arith, short)
@@ -92,11 +92,11 @@ more_entries p n start first second left after off_tree on_tree off on (inr lack
     omega (arith, rest, short)
 
 -- trees close their sides with a greater best, too
-pub closes_side : (s : PlainSide) (start best more left after : ℕ) (tree : Option Tree) → best ≤ more → Tells s start (all_free s) best left after tree → ClosesSide s more tree
+pub closes_side : (s : PlainSide) (start best more left after : ℕ) (tree : Option Tree) → best ≤ more → Reports s start (all_free s) best left after tree → ClosesSide s more tree
 closes_side s start best more left after (Some tree) order tells = holds_more s best more (all_free s) (plain_tree tree) order tells.0
 closes_side s start best more left after None order tells = tt
 
-pub closes_on : (side : Option PlainSide) (start best more left after : ℕ) (tree : Option Tree) → best ≤ more → TellsOn side start best left after tree → ClosesOn side more tree
+pub closes_on : (side : Option PlainSide) (start best more left after : ℕ) (tree : Option Tree) → best ≤ more → ReportsOn side start best left after tree → ClosesOn side more tree
 closes_on None start best more left after tree order tells = tt
 closes_on (Some s) start best more left after tree order tells = closes_side s start best more left after tree order tells
 

@@ -9,7 +9,7 @@ use Rattle.certificate_checker.specs.Views.{plain_tree}
 use Rattle.certificate_checker.specs.declared.trees.Tree.{Tree}
 use Rattle.branch_bound.specs.Assignments.{FailsEveryLeafRule, IsGreatestFree}
 use Rattle.branch_bound.specs.Entries.{StatedFrom, Each}
-use Rattle.branch_bound.specs.Searching.{EntryBelow, Tells, HasLevels}
+use Rattle.branch_bound.specs.Searching.{EntryBelow, Reports, HasLevels}
 use Rattle.certificate_checker.specs.Fixings.{fixing_of, is_free}
 use Rattle.certificate_checker.specs.declared.fixings.Fixing.{Fixing}
 use Rattle.certificate_checker.specs.declared.fixings.Fixing.TheVariants.{Zero, One, Free}
@@ -18,13 +18,13 @@ use Rattle.branch_bound.proofs.MarkLemmas.{fewer_free}
 use Rattle.branch_bound.proofs.EntryLemmas.{entry_more, each_more, each_first, each_second, finished, some_entry, TwoLists, two_lists}
 
 -- no budget
-pub tells_out : (s : PlainSide) (start : ℕ) (marks : List Fixing) (best left after : ℕ) → left ≡ 0 → Tells s start marks best left after None
+pub tells_out : (s : PlainSide) (start : ℕ) (marks : List Fixing) (best left after : ℕ) → left ≡ 0 → Reports s start marks best left after None
 tells_out s start marks best left after none entries stated =
     let some = some_entry s start marks entries stated in
     subst (λ n. Each (EntryBelow s best) (take n entries) × (n < length entries)) (sym none) (tt, some)
 
 -- a node that is closed
-pub tells_closed : (s : PlainSide) (start : ℕ) (marks : List Fixing) (best left after : ℕ) (tree : Tree) → left ≤ after + 1 → Holds s best marks (plain_tree tree) → Tells s start marks best left after (Some tree)
+pub tells_closed : (s : PlainSide) (start : ℕ) (marks : List Fixing) (best left after : ℕ) (tree : Tree) → left ≤ after + 1 → Holds s best marks (plain_tree tree) → Reports s start marks best left after (Some tree)
 tells_closed s start marks best left after tree used holds =
     (holds, λ entries stated. let some = some_entry s start marks entries stated in omega (arith, used, some))
 
@@ -36,7 +36,7 @@ pub record Branches (s : PlainSide) (start : ℕ) (marks : List Fixing) (j best 
   pub here : EntryBelow s best marks
 
 -- the budget ends under the child that fixes the variable to one
-pub tells_first : (s : PlainSide) (start : ℕ) (marks : List Fixing) (j best more left middle after : ℕ) → Branches s start marks j best → best ≤ more → left ≡ suc middle → Tells s start (slice_set marks j One) more middle after None → Tells s start marks more left after None
+pub tells_first : (s : PlainSide) (start : ℕ) (marks : List Fixing) (j best more left middle after : ℕ) → Branches s start marks j best → best ≤ more → left ≡ suc middle → Reports s start (slice_set marks j One) more middle after None → Reports s start marks more left after None
 tells_first s start marks j best more left middle after branches order used first entries stated =
     let lists = two_lists s start best marks j entries branches.from_start branches.fails branches.greatest stated in
     let under = first lists.ones lists.by_one in
@@ -49,7 +49,7 @@ tells_first s start marks j best more left middle after branches order used firs
     (subst (λ n. Each (EntryBelow s more) (take n (marks ∷ (lists.ones ++ lists.zeroes))) × (n < length (marks ∷ (lists.ones ++ lists.zeroes)))) (sym used) whole)
 
 -- it ends under the other child
-pub tells_second : (s : PlainSide) (start : ℕ) (marks : List Fixing) (j best between more left middle second after : ℕ) (tree : Tree) → Branches s start marks j best → best ≤ between → between ≤ more → left ≡ suc middle → Tells s start (slice_set marks j One) between middle second (Some tree) → Tells s start (slice_set marks j Zero) more second after None → Tells s start marks more left after None
+pub tells_second : (s : PlainSide) (start : ℕ) (marks : List Fixing) (j best between more left middle second after : ℕ) (tree : Tree) → Branches s start marks j best → best ≤ between → between ≤ more → left ≡ suc middle → Reports s start (slice_set marks j One) between middle second (Some tree) → Reports s start (slice_set marks j Zero) more second after None → Reports s start marks more left after None
 tells_second s start marks j best between more left middle second after tree branches order next used first last entries stated =
     let lists = two_lists s start best marks j entries branches.from_start branches.fails branches.greatest stated in
     let ones = finished s start more (slice_set marks j One) (plain_tree tree) lists.ones (holds_more s between more (slice_set marks j One) (plain_tree tree) next first.0) lists.by_one in
@@ -64,7 +64,7 @@ tells_second s start marks j best between more left middle second after tree bra
     (subst (λ n. Each (EntryBelow s more) (take n (marks ∷ (lists.ones ++ lists.zeroes))) × (n < length (marks ∷ (lists.ones ++ lists.zeroes)))) (sym used) whole)
 
 -- both children are finished
-pub tells_both : (s : PlainSide) (start : ℕ) (marks : List Fixing) (j best between more left middle second after : ℕ) (one_tree zero_tree tree : Tree) → Branches s start marks j best → between ≤ more → left ≡ suc middle → Tells s start (slice_set marks j One) between middle second (Some one_tree) → Tells s start (slice_set marks j Zero) more second after (Some zero_tree) → plain_tree tree ≡ branch j (plain_tree zero_tree) (plain_tree one_tree) → Tells s start marks more left after (Some tree)
+pub tells_both : (s : PlainSide) (start : ℕ) (marks : List Fixing) (j best between more left middle second after : ℕ) (one_tree zero_tree tree : Tree) → Branches s start marks j best → between ≤ more → left ≡ suc middle → Reports s start (slice_set marks j One) between middle second (Some one_tree) → Reports s start (slice_set marks j Zero) more second after (Some zero_tree) → plain_tree tree ≡ branch j (plain_tree zero_tree) (plain_tree one_tree) → Reports s start marks more left after (Some tree)
 tells_both s start marks j best between more left middle second after one_tree zero_tree tree branches next used first last is =
     let held : Holds s more marks (branch j (plain_tree zero_tree) (plain_tree one_tree)) = (
       record { inside = branches.greatest.inside; free_there = branches.greatest.holds },

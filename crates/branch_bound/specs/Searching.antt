@@ -22,11 +22,11 @@ EntryBelow s best marks = Fits s (taken s marks) → taken_gains s (taken s mark
 
 -- a finished subtree is closed by its tree, and had no more nodes than its stated list has entries; where the budget of
 -- `left` nodes ends within it, none of so many entries of its list gains more than `best`, and there are more of them
-abbrev pub Tells : PlainSide → ℕ → List Fixing → ℕ → ℕ → ℕ → Option Tree → Type 0
-Tells s start marks best left after (Some tree) =
+abbrev pub Reports : PlainSide → ℕ → List Fixing → ℕ → ℕ → ℕ → Option Tree → Type 0
+Reports s start marks best left after (Some tree) =
     Holds s best marks (plain_tree tree)
     × ((entries : List (List Fixing)) → StatedFrom s start marks entries → left ≤ after + length entries)
-Tells s start marks best left after None =
+Reports s start marks best left after None =
     (entries : List (List Fixing)) → StatedFrom s start marks entries → Each (EntryBelow s best) (take left entries) × (left < length entries)
 
 -- a tree of one node closes an assignment

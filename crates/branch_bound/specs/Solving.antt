@@ -10,16 +10,16 @@ use Rattle.certificate_checker.specs.Views.{plain_tree}
 use Rattle.certificate_checker.specs.declared.trees.Tree.{Tree}
 use Rattle.branch_bound.specs.Greedy.{IsStart}
 use Rattle.branch_bound.specs.Entries.{IsStated, Reaches, FailsFirst}
-use Rattle.branch_bound.specs.Searching.{Tells, HasLevels}
+use Rattle.branch_bound.specs.Searching.{Reports, HasLevels}
 use Rattle.branch_bound.specs.declared.outcomes.Trees.{Trees}
 use Rattle.branch_bound.specs.declared.outcomes.Status.{Status}
 use Rattle.branch_bound.specs.declared.outcomes.Status.TheVariants.{Optimal, BestFound}
 use Rattle.certificate_checker.specs.declared.fixings.Fixing.{Fixing}
 
 -- what the search of a side tells; a side that isn't there has no tree
-abbrev pub TellsOn : Option PlainSide → ℕ → ℕ → ℕ → ℕ → Option Tree → Type 0
-TellsOn None start best left after tree = tree ≡ None
-TellsOn (Some s) start best left after tree = Tells s start (all_free s) best left after tree
+abbrev pub ReportsOn : Option PlainSide → ℕ → ℕ → ℕ → ℕ → Option Tree → Type 0
+ReportsOn None start best left after tree = tree ≡ None
+ReportsOn (Some s) start best left after tree = Reports s start (all_free s) best left after tree
 
 -- the tree of a side closes it, where there is one
 abbrev pub ClosesSide : PlainSide → ℕ → Option Tree → Type 0
@@ -52,8 +52,8 @@ pub record Searched (p : PlainProgramme) (n start first second best left after :
   pub from : start ≤ best
   pub off_order : first ≤ best
   pub on_order : second ≤ best
-  pub by_off : Tells p.off start (all_free p.off) first n left off_tree
-  pub by_on : TellsOn p.on start second left after on_tree
+  pub by_off : Reports p.off start (all_free p.off) first n left off_tree
+  pub by_on : ReportsOn p.on start second left after on_tree
 
 -- a choice gains no less than the start and than what any of the first n entries of the stated list gains
 abbrev pub ReachesFirst : PlainProgramme → ℕ → PlainChoice → Type 0

@@ -4,7 +4,7 @@ ghost use Rattle.placement_programme.specs.Programme.{Fits};
 ghost use Rattle.placement_programme.specs.Views.{plain_side};
 ghost use Rattle.certificate_checker.specs.Fixings.{is_free};
 ghost use Rattle.branch_bound.specs.Assignments.{taken, IsGreatestFree};
-ghost use Rattle.branch_bound.specs.Searching.{EntryBelow, Tells, Visits, HasLevels, KeepsIncumbent};
+ghost use Rattle.branch_bound.specs.Searching.{EntryBelow, Reports, Visits, HasLevels, KeepsIncumbent};
 
 use crate::closing::plain_dual;
 use crate::greedy::greatest_free;
@@ -97,7 +97,7 @@ pub(crate) fn search(
     ensures small { run.new.best.gain ≤ 2 ^ 104 }
     ensures keeps { OnOk result (KeepsIncumbent on (plain_side side.now) run.old.best run.new.best) }
     ensures levels { IfOk result (HasLevels (suc (count_by is_free marks.old))) }
-    ensures tells { IfOk result (λ tree. (start : ℕ) → start ≤ run.old.best.gain → Tells (plain_side side.now) start marks.old run.new.best.gain run.old.left run.new.left tree) }
+    ensures tells { IfOk result (λ tree. (start : ℕ) → start ≤ run.old.best.gain → Reports (plain_side side.now) start marks.old run.new.best.gain run.old.left run.new.left tree) }
 {
     if run.left == 0 {
         return Ok(None);

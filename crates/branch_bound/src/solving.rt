@@ -8,8 +8,8 @@ ghost use Rattle.certificate_checker.specs.Views.{plain_certificate};
 ghost use Rattle.branch_bound.specs.Entries.{all_vars};
 ghost use Rattle.branch_bound.specs.declared.outcomes.Status.TheVariants.{Optimal};
 ghost use Rattle.branch_bound.specs.Growing.{CannotGrow};
-ghost use Rattle.branch_bound.specs.Searching.{Tells, HasLevels, KeepsIncumbent, IsIncumbent, choice_of};
-ghost use Rattle.branch_bound.specs.Solving.{TellsOn, ReachesFirst, EndsWithin, AreTreesOf, Certifies};
+ghost use Rattle.branch_bound.specs.Searching.{Reports, HasLevels, KeepsIncumbent, IsIncumbent, choice_of};
+ghost use Rattle.branch_bound.specs.Solving.{ReportsOn, ReachesFirst, EndsWithin, AreTreesOf, Certifies};
 
 use crate::certifying::trees_of;
 use crate::finishing::{choice_from, finish};
@@ -39,7 +39,7 @@ fn search_side(
     ensures small { IfOk result (λ o. o.best.gain ≤ 2 ^ 104) }
     ensures keeps { IfOk result (λ o. KeepsIncumbent on (plain_side side.now) best o.best) }
     ensures levels { IfOk result (λ o. HasLevels most_levels o.tree) }
-    ensures tells { IfOk result (λ o. (start : ℕ) → start ≤ best.gain → Tells (plain_side side.now) start (all_free (plain_side side.now)) o.best.gain left o.left o.tree) }
+    ensures tells { IfOk result (λ o. (start : ℕ) → start ≤ best.gain → Reports (plain_side side.now) start (all_free (plain_side side.now)) o.best.gain left o.left o.tree) }
 {
     let mut marks = free_marks(alloc, side)?;
     let mut run = Running { best, left };
@@ -61,7 +61,7 @@ fn search_on(
     ensures small { IfOk result (λ o. o.best.gain ≤ 2 ^ 104) }
     ensures incumbent { IfOk result (λ o. IsIncumbent (plain_programme p.now) o.best) }
     ensures levels { IfOk result (λ o. HasLevels most_levels o.tree) }
-    ensures tells { IfOk result (λ o. (start : ℕ) → start ≤ best.gain → TellsOn (plain_programme p.now).on start o.best.gain left o.left o.tree) }
+    ensures tells { IfOk result (λ o. (start : ℕ) → start ≤ best.gain → ReportsOn (plain_programme p.now).on start o.best.gain left o.left o.tree) }
 {
     match &p.on {
         None => Ok(Outcome {

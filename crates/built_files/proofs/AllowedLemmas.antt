@@ -3,7 +3,7 @@ use Rattle.std.proofs.Common.{◌≡◌, ◌∙◌, ℕ, zero, suc, ◌+◌, ◌
 use Rattle.std.specs.List.{All, AllPairs}
 use Rattle.std.proofs.lemmas.List.{get_or-map, length-map}
 use Rattle.std.proofs.lemmas.Bool.{leb-true}
-use Rattle.list_checks.specs.Tests.{lies_in, meets}
+use Rattle.list_checks.specs.Tests.{lies_in, ranges_overlap}
 use Rattle.list_checks.proofs.TestLemmas.{any_at}
 use Rattle.list_checks.proofs.FirstLemmas.{both_none, holds}
 use Rattle.elf_reader.specs.File.{IsFile, PlainView, plain_segment, plain_section, plain_view, view_in}
@@ -20,7 +20,7 @@ use Rattle.elf_writer.specs.declared.parts.SymbolMove.{SymbolMove}
 use Rattle.elf_writer.specs.Changes.{changed}
 use Rattle.elf_writer.specs.Parts.{NewSegment}
 use Rattle.elf_writer.specs.Written.{all_changes, written}
-use Rattle.elf_writer.specs.Conditions.{has_word, is_loaded_word, PatchesLoadedWord, ArePatchesApart, HasSymbol, AreOfTwoSymbols, IsClearOf, IsAddable, IsWritable}
+use Rattle.elf_writer.specs.Conditions.{has_word, is_loaded_word, PatchesLoadedWord, ArePatchesDisjoint, HasSymbol, AreOfTwoSymbols, IsClearOf, IsAddable, IsWritable}
 use Rattle.elf_writer.proofs.ChangeLemmas.{length-changed}
 use Rattle.elf_writer.proofs.FitLemmas.{table_inside, number_within, length_written}
 use Rattle.loaded_file.proofs.WordLemmas.{same_view}
@@ -57,7 +57,7 @@ one : {X : Type 0} (P : X → Type 0) (x : X) → P x → All P (x ∷ [])
 one P x is zero d below = is
 one P x is (suc k) d below = absurd (omega (arith, below))
 
-pub clear_map : (segments : List Segment) (s : NewSegment) → All (λ t. meets t.vaddr t.memsz s.base (length s.content) ≡ false) segments → All (IsClearOf s) (map plain_segment segments)
+pub clear_map : (segments : List Segment) (s : NewSegment) → All (λ t. ranges_overlap t.vaddr t.memsz s.base (length s.content) ≡ false) segments → All (IsClearOf s) (map plain_segment segments)
 clear_map segments s all k d below =
     let within : k < length segments = rw length-map at below in
     let e : Segment = record { index = 0; offset = 0; vaddr = 0; memsz = 0; flags = 0; bytes = record { ref_ptr = (0, 0); now = [] } } in
@@ -82,7 +82,7 @@ patch_allowed file p none word =
     let size = written_small (view_in file) (p ∷ []) in
     record {
       patched = one (PatchesLoadedWord (view_in file)) p word;
-      apart = pairs_of_one ArePatchesApart p;
+      disjoint = pairs_of_one ArePatchesDisjoint p;
       symbols = λ k d below. absurd (omega (arith, below));
       distinct = λ i j d before below. absurd (omega (arith, below));
       allowed = tt;
@@ -101,7 +101,7 @@ added_allowed file p s m none patch symbol addable short =
     let count = addable.to_limit in
     record {
       patched = patch.patched;
-      apart = patch.apart;
+      disjoint = patch.disjoint;
       symbols = one (HasSymbol (view_in file)) m symbol;
       distinct = pairs_of_one AreOfTwoSymbols m;
       allowed = addable;

@@ -14,7 +14,7 @@ abbrev pub one : StartPlan
 one = record { base = 589824; entry = 65536; fence_i = false; jobs = image ∷ [] }
 
 image_is : IsJob image
-image_is = record { some = omega arith; source = omega arith; target = omega arith; apart = inl (omega arith) }
+image_is = record { some = omega arith; source = omega arith; target = omega arith; disjoint = inl (omega arith) }
 
 pub one_starts : CanStart one
 unfolding copying
@@ -39,10 +39,10 @@ abbrev pub two : StartPlan
 two = record { base = 589824; entry = 65536; fence_i = true; jobs = table ∷ pair ∷ [] }
 
 table_is : IsJob table
-table_is = record { some = omega arith; source = omega arith; target = omega arith; apart = inl (omega arith) }
+table_is = record { some = omega arith; source = omega arith; target = omega arith; disjoint = inl (omega arith) }
 
 pair_is : IsJob pair
-pair_is = record { some = omega arith; source = omega arith; target = omega arith; apart = inl (omega arith) }
+pair_is = record { some = omega arith; source = omega arith; target = omega arith; disjoint = inl (omega arith) }
 
 pub two_start : CanStart two
 unfolding copying

@@ -1,7 +1,7 @@
 ghost use Rattle.std.specs.Prelude.{◌≡◌, ℕ, ◌<◌, ◌≤◌, ◌*◌, ◌∷◌, [], true, false, None, Some, map, length, All};
 ghost use Rattle.elf_reader.specs.File.{IsFile, plain_view};
 ghost use Rattle.elf_reader.specs.Faults.{first_fault};
-ghost use Rattle.list_checks.specs.Tests.{lies_in, meets};
+ghost use Rattle.list_checks.specs.Tests.{lies_in, ranges_overlap};
 ghost use Rattle.loaded_file.specs.Marks.{all_loaded};
 ghost use Rattle.elf_writer.specs.Parts.{new_segment};
 ghost use Rattle.elf_writer.specs.Conditions.{is_loaded_word, IsAddable, IsWritable};
@@ -41,8 +41,8 @@ fn has_word(view: &ElfView, loaded: &Vec<bool>, at: u32, k: usize) -> bool
 }
 
 /// Two ranges share no byte.
-fn are_apart(start: u32, size: u32, other: u32, other_size: u32) -> bool
-    ensures { result ≡ true → meets start size other other_size ≡ false }
+fn are_disjoint(start: u32, size: u32, other: u32, other_size: u32) -> bool
+    ensures { result ≡ true → ranges_overlap start size other other_size ≡ false }
 {
     let (end, other_end) = (
         u64::from(start) + u64::from(size),
@@ -53,10 +53,10 @@ fn are_apart(start: u32, size: u32, other: u32, other_size: u32) -> bool
 
 /// No segment shares an address with a new one of `size` bytes.
 fn is_clear(base: u32, size: u32, segments: &[Segment]) -> bool
-    ensures { result ≡ true → All (λ s. meets s.vaddr s.memsz base size ≡ false) segments.now }
+    ensures { result ≡ true → All (λ s. ranges_overlap s.vaddr s.memsz base size ≡ false) segments.now }
 {
     for segment in segments {
-        if !are_apart(segment.vaddr, segment.memsz, base, size) {
+        if !are_disjoint(segment.vaddr, segment.memsz, base, size) {
             return false;
         }
     }

@@ -53,10 +53,10 @@ abbrev pub ChangesSmall : (ℕ → ℕ → ℕ) → ℕ → Type 0
 ChangesSmall op g = (w m : ℕ) → m < g → op w m + w % g ≡ w + op (w % g) m
 
 -- an operation on bits takes numbers apart at a power of two
-abbrev pub TakesApart : (ℕ → ℕ → ℕ) → Type 0
-TakesApart op = (e a b r s : ℕ) → r < 2 ^ e → s < 2 ^ e → op (a * 2 ^ e + r) (b * 2 ^ e + s) ≡ op a b * 2 ^ e + op r s
+abbrev pub TakesDisjoint : (ℕ → ℕ → ℕ) → Type 0
+TakesDisjoint op = (e a b r s : ℕ) → r < 2 ^ e → s < 2 ^ e → op (a * 2 ^ e + r) (b * 2 ^ e + s) ≡ op a b * 2 ^ e + op r s
 
-small_at : (op : ℕ → ℕ → ℕ) → TakesApart op → ((a : ℕ) → op a 0 ≡ a) → (e : ℕ) → ChangesSmall op (2 ^ e)
+small_at : (op : ℕ → ℕ → ℕ) → TakesDisjoint op → ((a : ℕ) → op a 0 ≡ a) → (e : ℕ) → ChangesSmall op (2 ^ e)
 small_at op block zero_right e w m small =
     let whole = mod-add-div' w (2 ^ e) in
     let left : w / 2 ^ e * 2 ^ e + w % 2 ^ e ≡ w = omega arith in
@@ -81,23 +81,23 @@ xor_small = at_grain (ChangesSmall bit_xor) (xor_small_at 4) (xor_small_at 5) (x
 -- ---- all
 
 -- the low bits of an operation are told by the low bits of its operands
-abbrev pub LowTells : (ℕ → ℕ → ℕ) → ℕ → Type 0
-LowTells op g = (w z a b : ℕ) → w % g ≡ a % g → z % g ≡ b % g → op w z % g ≡ op a b % g
+abbrev pub LowReports : (ℕ → ℕ → ℕ) → ℕ → Type 0
+LowReports op g = (w z a b : ℕ) → w % g ≡ a % g → z % g ≡ b % g → op w z % g ≡ op a b % g
 
-and_low_at : (e : ℕ) → LowTells bit_and (2 ^ e)
+and_low_at : (e : ℕ) → LowReports bit_and (2 ^ e)
 and_low_at e w z a b first second = let one = and_mod w z e in let other = and_mod a b e in cc
 
-or_low_at : (e : ℕ) → LowTells bit_or (2 ^ e)
+or_low_at : (e : ℕ) → LowReports bit_or (2 ^ e)
 or_low_at e w z a b first second = let one = or_mod w z e in let other = or_mod a b e in cc
 
-xor_low_at : (e : ℕ) → LowTells bit_xor (2 ^ e)
+xor_low_at : (e : ℕ) → LowReports bit_xor (2 ^ e)
 xor_low_at e w z a b first second = let one = xor_mod w z e in let other = xor_mod a b e in cc
 
-pub and_low : (g : ℕ) → IsGrain g → LowTells bit_and g
-and_low = at_grain (LowTells bit_and) (and_low_at 4) (and_low_at 5) (and_low_at 6)
+pub and_low : (g : ℕ) → IsGrain g → LowReports bit_and g
+and_low = at_grain (LowReports bit_and) (and_low_at 4) (and_low_at 5) (and_low_at 6)
 
-pub or_low : (g : ℕ) → IsGrain g → LowTells bit_or g
-or_low = at_grain (LowTells bit_or) (or_low_at 4) (or_low_at 5) (or_low_at 6)
+pub or_low : (g : ℕ) → IsGrain g → LowReports bit_or g
+or_low = at_grain (LowReports bit_or) (or_low_at 4) (or_low_at 5) (or_low_at 6)
 
-pub xor_low : (g : ℕ) → IsGrain g → LowTells bit_xor g
-xor_low = at_grain (LowTells bit_xor) (xor_low_at 4) (xor_low_at 5) (xor_low_at 6)
+pub xor_low : (g : ℕ) → IsGrain g → LowReports bit_xor g
+xor_low = at_grain (LowReports bit_xor) (xor_low_at 4) (xor_low_at 5) (xor_low_at 6)

@@ -11,7 +11,7 @@ use Rattle.cell_values.specs.Comparisons.{known_if, within, same_object, other_o
 use Rattle.cell_values.specs.Laws.{HoldsWord}
 use Rattle.cell_values.specs.declared.values.Val.{Val}
 use Rattle.cell_values.specs.declared.values.Val.TheVariants.{Int, Addr}
-use Rattle.cell_values.specs.Makers.{Maker}
+use Rattle.cell_values.specs.Origins.{Origin}
 use Rattle.cell_values.specs.Stands.{Places, Fit, Uppers, Stands, address_word}
 use Rattle.cell_values.specs.WordLaws.{ComparisonsStand}
 
@@ -49,23 +49,23 @@ same_numbers Bgeu p size d e taken below words known =
 same_numbers Blt p size d e taken below words known = cc
 same_numbers Bge p size d e taken below words known = cc
 
-abbrev pub IsApart : ℕ → ℕ → ℕ → ℕ → ℕ → ℕ → Type 0
-IsApart p size d q extent e = d < size → e < extent → p + d ≡ q + e → ⊥
+abbrev pub IsDisjoint : ℕ → ℕ → ℕ → ℕ → ℕ → ℕ → Type 0
+IsDisjoint p size d q byte_range e = d < size → e < byte_range → p + d ≡ q + e → ⊥
 
-differ : (p size d q extent e : ℕ) → p + size < 4294967296 → q + extent < 4294967296 → IsApart p size d q extent e → nat_lt d size && nat_lt e extent ≡ true → (plus p d == plus q e) ≡ false
-differ p size d q extent e first second apart inside = grind (arith, nat_tests)
+differ : (p size d q byte_range e : ℕ) → p + size < 4294967296 → q + byte_range < 4294967296 → IsDisjoint p size d q byte_range e → nat_lt d size && nat_lt e byte_range ≡ true → (plus p d == plus q e) ≡ false
+differ p size d q byte_range e first second disjoint inside = grind (arith, nat_tests)
 
-other_numbers : (kind : BranchKind) (p size d q extent e : ℕ) (taken : Bool) → p + size < 4294967296 → q + extent < 4294967296 → IsApart p size d q extent e → other_object (nat_lt d size && nat_lt e extent) kind ≡ Some taken → is_taken kind (plus p d) (plus q e) ≡ taken
-other_numbers Beq p size d q extent e taken first second apart known =
-    let parts = answer (nat_lt d size && nat_lt e extent) false taken known in
-    rw (differ p size d q extent e first second apart parts.0) parts.1
-other_numbers Bne p size d q extent e taken first second apart known =
-    let parts = answer (nat_lt d size && nat_lt e extent) true taken known in
-    rw (differ p size d q extent e first second apart parts.0) parts.1
-other_numbers Blt p size d q extent e taken first second apart known = cc
-other_numbers Bge p size d q extent e taken first second apart known = cc
-other_numbers Bltu p size d q extent e taken first second apart known = cc
-other_numbers Bgeu p size d q extent e taken first second apart known = cc
+other_numbers : (kind : BranchKind) (p size d q byte_range e : ℕ) (taken : Bool) → p + size < 4294967296 → q + byte_range < 4294967296 → IsDisjoint p size d q byte_range e → other_object (nat_lt d size && nat_lt e byte_range) kind ≡ Some taken → is_taken kind (plus p d) (plus q e) ≡ taken
+other_numbers Beq p size d q byte_range e taken first second disjoint known =
+    let parts = answer (nat_lt d size && nat_lt e byte_range) false taken known in
+    rw (differ p size d q byte_range e first second disjoint parts.0) parts.1
+other_numbers Bne p size d q byte_range e taken first second disjoint known =
+    let parts = answer (nat_lt d size && nat_lt e byte_range) true taken known in
+    rw (differ p size d q byte_range e first second disjoint parts.0) parts.1
+other_numbers Blt p size d q byte_range e taken first second disjoint known = cc
+other_numbers Bge p size d q byte_range e taken first second disjoint known = cc
+other_numbers Bltu p size d q byte_range e taken first second disjoint known = cc
+other_numbers Bgeu p size d q byte_range e taken first second disjoint known = cc
 
 -- an address up to the end of its object is above 0
 above : (p size d n : ℕ) → 0 < p → p + size < 4294967296 → (n == 0) && nat_le d size ≡ true → nat_lt n (plus p d) ≡ true
@@ -132,9 +132,9 @@ module _ (os : Objects) (place : Places) (up : Uppers) (fit : Fit os place) wher
       (same_numbers kind (place o) (os.size o) d e taken (fit.below o) words known))
       (λ other. λ known.
       other_numbers kind (place o) (os.size o) d (place p) (os.size p) e taken (fit.below o) (fit.below p)
-      (fit.apart o p d e (eqb-false o p other)) known)
+      (fit.disjoint o p d e (eqb-false o p other)) known)
 
-  pub compare_stands : (kind : BranchKind) (m n : Maker) (x y : Val) (w z : ℕ) (taken : Bool) → AreComparable kind x y → compare os kind x y ≡ Some taken → Stands os place up m x w → Stands os place up n y z → is_taken kind w z ≡ taken
+  pub compare_stands : (kind : BranchKind) (m n : Origin) (x y : Val) (w z : ℕ) (taken : Bool) → AreComparable kind x y → compare os kind x y ≡ Some taken → Stands os place up m x w → Stands os place up n y z → is_taken kind w z ≡ taken
   compare_stands kind m n (Int a) (Int b) w z taken words known first second = cc
   compare_stands kind m n (Addr o d) (Addr p e) w z taken words known first second =
       rw (first, second) (addresses kind o d p e taken words known)

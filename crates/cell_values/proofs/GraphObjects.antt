@@ -7,7 +7,7 @@ use Rattle.std.proofs.lemmas.List.Folds.{list_any_at}
 use Rattle.elf_reader.specs.File.{PlainView}
 use Rattle.board_config.specs.declared.board.Board.{Board}
 use Rattle.loaded_file.specs.Records.{symbol_at}
-use Rattle.loaded_file.proofs.RangeLemmas.{extent_of}
+use Rattle.loaded_file.proofs.RangeLemmas.{byte_range_of}
 use Rattle.movable_ranges.specs.Fixed.{is_movable}
 use Rattle.object_graph.specs.Graphs.{is_object_of, IsObjects}
 use Rattle.object_graph.specs.declared.parts.Object.{Object}
@@ -26,8 +26,8 @@ object_below g o i inside =
           absurd (omega (arith, none, inside))
     ]
 
-same_extent : (home n : ℕ) → (home == home) && (n == n) ≡ true
-same_extent home n = grind (arith, nat_tests)
+same_byte_range : (home n : ℕ) → (home == home) && (n == n) ≡ true
+same_byte_range home n = grind (arith, nat_tests)
 
 -- an object of the graph may move
 pub object_moves : (v : PlainView) (board : Board) (g : Graph) (o : ℕ) → IsObjects v board g.objects.items → o < length g.objects.items → is_movable v board (object_of g o).home (object_of g o).size ≡ true
@@ -35,7 +35,7 @@ object_moves v board g o is below =
     let home : ℕ = (object_of g o).home in
     let n : ℕ = (object_of g o).size in
     sym (is.exact home n)
-    ∙ list_any_at (is_object_of home n) g.objects.items o absent_object below (same_extent home n)
+    ∙ list_any_at (is_object_of home n) g.objects.items o absent_object below (same_byte_range home n)
 
 -- each begins behind address 0 and ends below 2 ^ 32
 pub record Extends (g : Graph) (o : ℕ) : Type 0 where
@@ -49,9 +49,9 @@ object_extends v board g o is =
           let home : ℕ = (object_of g o).home in
           let n : ℕ = (object_of g o).size in
           let moves = movable_parts v board home n (object_moves v board g o is below) in
-          let extent = extent_of v home n (symbol_at v moves.symbol) moves.of in
-          let ends = extent.ends in
-          record { placed = extent.placed; ends = omega (arith, ends) }
+          let byte_range = byte_range_of v home n (symbol_at v moves.symbol) moves.of in
+          let ends = byte_range.ends in
+          record { placed = byte_range.placed; ends = omega (arith, ends) }
       | inr behind ↦
           let past = get_or_past g.objects.items o absent_object behind in
           let home : (object_of g o).home ≡ 64 = ap (λ (x : Object). x.home) past in
@@ -69,11 +69,11 @@ objects_differ v board g o p i j is other inside inside_other same =
       | inr order ↦ elim order [
         | inl before ↦
             let ends : (object_of g o).home + (object_of g o).size ≤ (object_of g p).home =
-            is.apart o p absent_object before below_other in
+            is.disjoint o p absent_object before below_other in
             omega (arith, ends, inside, same)
         | inr behind ↦
             let ends : (object_of g p).home + (object_of g p).size ≤ (object_of g o).home =
-            is.apart p o absent_object behind below in
+            is.disjoint p o absent_object behind below in
             omega (arith, ends, inside_other, same)
       ]
     ]

@@ -10,7 +10,7 @@ use Rattle.cell_values.specs.Objects.{Objects}
 use Rattle.cell_values.specs.Operations.{operation_of, op_reg}
 use Rattle.cell_values.specs.declared.values.Val.{Val}
 use Rattle.cell_values.specs.declared.values.Val.TheVariants.{Int}
-use Rattle.cell_values.specs.Makers.{Maker, ByLui, takes_low}
+use Rattle.cell_values.specs.Origins.{Origin, ByLui, takes_low}
 use Rattle.cell_values.specs.Stands.{Places, Fit, Uppers, MakesByLui, Stands}
 use Rattle.cell_values.specs.WordLaws.{ImmediatesStand}
 use Rattle.cell_values.proofs.OperationWords.{operations_stand}
@@ -24,29 +24,29 @@ imm_word kind imm range = fitting imm (imm_fits kind imm range)
 abbrev pub IsByRegisters : ImmKind → Type 0
 IsByRegisters kind = (w : ℕ) (imm : ℤ) → imm_value kind w imm ≡ reg_value (operation_of kind) w (cast_unsigned w32 imm)
 
-by_registers : (kind : ImmKind) → IsByRegisters kind → (os : Objects) (place : Places) (up : Uppers) → Fit os place → MakesByLui place up → (m k : Maker) (x : Val) (imm : ℤ) (w : ℕ) → w < 4294967296 → IsImmInRange kind imm → takes_low os (operation_of kind) m x ByLui (Int 0) ≡ false → Stands os place up m x w → Stands os place up k (op_reg os (operation_of kind) x (Int (cast_unsigned w32 imm))) (imm_value kind w imm)
-by_registers kind same os place up fit makes m k x imm w word range apart stands =
+by_registers : (kind : ImmKind) → IsByRegisters kind → (os : Objects) (place : Places) (up : Uppers) → Fit os place → MakesByLui place up → (m k : Origin) (x : Val) (imm : ℤ) (w : ℕ) → w < 4294967296 → IsImmInRange kind imm → takes_low os (operation_of kind) m x ByLui (Int 0) ≡ false → Stands os place up m x w → Stands os place up k (op_reg os (operation_of kind) x (Int (cast_unsigned w32 imm))) (imm_value kind w imm)
+by_registers kind same os place up fit makes m k x imm w word range disjoint stands =
     let fits = imm_word kind imm range in
     rw (same w imm)
     (operations_stand os place up fit makes (operation_of kind) m ByLui k x (Int (cast_unsigned w32 imm)) w
-    (cast_unsigned w32 imm) word fits apart stands refl)
+    (cast_unsigned w32 imm) word fits disjoint stands refl)
 
 pub immediates_stand : ImmediatesStand
-immediates_stand os place up fit makes kind m k (Int n) imm w word range apart stands = cc
-immediates_stand os place up fit makes Slti m k x imm w word range apart stands = tt
-immediates_stand os place up fit makes Addi m k x imm w word range apart stands =
-    by_registers Addi (λ a i. refl) os place up fit makes m k x imm w word range apart stands
-immediates_stand os place up fit makes Sltiu m k x imm w word range apart stands =
-    by_registers Sltiu (λ a i. refl) os place up fit makes m k x imm w word range apart stands
-immediates_stand os place up fit makes Xori m k x imm w word range apart stands =
-    by_registers Xori (λ a i. refl) os place up fit makes m k x imm w word range apart stands
-immediates_stand os place up fit makes Ori m k x imm w word range apart stands =
-    by_registers Ori (λ a i. refl) os place up fit makes m k x imm w word range apart stands
-immediates_stand os place up fit makes Andi m k x imm w word range apart stands =
-    by_registers Andi (λ a i. refl) os place up fit makes m k x imm w word range apart stands
-immediates_stand os place up fit makes Slli m k x imm w word range apart stands =
-    by_registers Slli (λ a i. refl) os place up fit makes m k x imm w word range apart stands
-immediates_stand os place up fit makes Srli m k x imm w word range apart stands =
-    by_registers Srli (λ a i. refl) os place up fit makes m k x imm w word range apart stands
-immediates_stand os place up fit makes Srai m k x imm w word range apart stands =
-    by_registers Srai (λ a i. refl) os place up fit makes m k x imm w word range apart stands
+immediates_stand os place up fit makes kind m k (Int n) imm w word range disjoint stands = cc
+immediates_stand os place up fit makes Slti m k x imm w word range disjoint stands = tt
+immediates_stand os place up fit makes Addi m k x imm w word range disjoint stands =
+    by_registers Addi (λ a i. refl) os place up fit makes m k x imm w word range disjoint stands
+immediates_stand os place up fit makes Sltiu m k x imm w word range disjoint stands =
+    by_registers Sltiu (λ a i. refl) os place up fit makes m k x imm w word range disjoint stands
+immediates_stand os place up fit makes Xori m k x imm w word range disjoint stands =
+    by_registers Xori (λ a i. refl) os place up fit makes m k x imm w word range disjoint stands
+immediates_stand os place up fit makes Ori m k x imm w word range disjoint stands =
+    by_registers Ori (λ a i. refl) os place up fit makes m k x imm w word range disjoint stands
+immediates_stand os place up fit makes Andi m k x imm w word range disjoint stands =
+    by_registers Andi (λ a i. refl) os place up fit makes m k x imm w word range disjoint stands
+immediates_stand os place up fit makes Slli m k x imm w word range disjoint stands =
+    by_registers Slli (λ a i. refl) os place up fit makes m k x imm w word range disjoint stands
+immediates_stand os place up fit makes Srli m k x imm w word range disjoint stands =
+    by_registers Srli (λ a i. refl) os place up fit makes m k x imm w word range disjoint stands
+immediates_stand os place up fit makes Srai m k x imm w word range disjoint stands =
+    by_registers Srai (λ a i. refl) os place up fit makes m k x imm w word range disjoint stands

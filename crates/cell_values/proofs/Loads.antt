@@ -8,7 +8,7 @@ use Rattle.cell_values.specs.Objects.{Objects}
 use Rattle.cell_values.specs.Cells.{is_part, whole_word, join}
 use Rattle.cell_values.specs.declared.values.Cell.{Cell}
 use Rattle.cell_values.specs.declared.values.Cell.TheVariants.{Byte, Part, Mist}
-use Rattle.cell_values.specs.Makers.{Maker, ByLui, ByAuipc, Mixed, same_maker, joined_maker}
+use Rattle.cell_values.specs.Origins.{Origin, ByLui, ByAuipc, Mixed, same_origin, joined_origin}
 use Rattle.cell_values.specs.Stands.{Places, Uppers, AreWords, MixesParts, IsByte, Is, whole, Stands, CellStands, address_word}
 use Rattle.cell_values.specs.WordLaws.{JoinStands, PiecesStand, HalvesStand}
 
@@ -32,33 +32,33 @@ halves_stand os place up m n k c d w x first second = (tt, tt)
 
 -- ---- words of four cells
 
-same_makers : (a b : Maker) → same_maker a b ≡ true → a ≡ b
-same_makers ByLui ByLui same = refl
-same_makers (ByAuipc a) (ByAuipc b) same = let one = eqb-true a b same in cc
-same_makers Mixed Mixed same = refl
-same_makers a b same = cc
+same_origins : (a b : Origin) → same_origin a b ≡ true → a ≡ b
+same_origins ByLui ByLui same = refl
+same_origins (ByAuipc a) (ByAuipc b) same = let one = eqb-true a b same in cc
+same_origins Mixed Mixed same = refl
+same_origins a b same = cc
 
--- what the maker of four parts makes each of their makers makes
-mixed_makes : (up : Uppers) → MixesParts up → (m : Maker) (o d x : ℕ) → up Mixed o d ≡ Some x → up m o d ≡ Some x
+-- what the origin of four parts makes each of their origins makes
+mixed_makes : (up : Uppers) → MixesParts up → (m : Origin) (o d x : ℕ) → up Mixed o d ≡ Some x → up m o d ≡ Some x
 mixed_makes up mixes m o d x made = elim (mixes m o d) [ inl any ↦ cc | inr same ↦ cc ]
 
-pub record MakesAll (up : Uppers) (o d x : ℕ) (a b c d' : Maker) : Type 0 where
+pub record MakesAll (up : Uppers) (o d x : ℕ) (a b c d' : Origin) : Type 0 where
   pub first : up a o d ≡ Some x
   pub second : up b o d ≡ Some x
   pub third : up c o d ≡ Some x
   pub fourth : up d' o d ≡ Some x
 
-joined_makes : (up : Uppers) → MixesParts up → (a b c e : Maker) (o d x : ℕ) → up (joined_maker a b c e) o d ≡ Some x → MakesAll up o d x a b c e
+joined_makes : (up : Uppers) → MixesParts up → (a b c e : Origin) (o d x : ℕ) → up (joined_origin a b c e) o d ≡ Some x → MakesAll up o d x a b c e
 joined_makes up mixes a b c e o d x =
     cond_both _ _ _ (λ m. up m o d ≡ Some x → MakesAll up o d x a b c e)
     (λ same. λ made.
-    let parts = both (same_maker a b && same_maker a c) (same_maker a e) same in
-    let others = both (same_maker a b) (same_maker a c) parts.0 in
+    let parts = both (same_origin a b && same_origin a c) (same_origin a e) same in
+    let others = both (same_origin a b) (same_origin a c) parts.0 in
     record {
       first = made;
-      second = subst (λ m. up m o d ≡ Some x) (same_makers a b others.0) made;
-      third = subst (λ m. up m o d ≡ Some x) (same_makers a c others.1) made;
-      fourth = subst (λ m. up m o d ≡ Some x) (same_makers a e parts.1) made;
+      second = subst (λ m. up m o d ≡ Some x) (same_origins a b others.0) made;
+      third = subst (λ m. up m o d ≡ Some x) (same_origins a c others.1) made;
+      fourth = subst (λ m. up m o d ≡ Some x) (same_origins a e parts.1) made;
     })
     (λ other. λ made.
     record {
@@ -79,7 +79,7 @@ same_part o p d e j k is =
     (eqb-true o p others.0, eqb-true d e others.1, eqb-true j k parts.1)
 
 -- a cell that passes the test of a part stands for a byte of the word of parts
-part_stands : (place : Places) (up : Uppers) (m : Maker) (hi : Bool) (o d j : ℕ) (cell : Cell) (b : ℕ) → is_part hi o d j cell ≡ true → CellStands place up m cell b → IsByte (whole place up m hi o d) j b
+part_stands : (place : Places) (up : Uppers) (m : Origin) (hi : Bool) (o d j : ℕ) (cell : Cell) (b : ℕ) → is_part hi o d j cell ≡ true → CellStands place up m cell b → IsByte (whole place up m hi o d) j b
 part_stands place up m true o d j (Part true p e k) b is stands =
     let parts = same_part o p d e j k is in
     rw (parts.0, parts.1, parts.2) stands
@@ -89,23 +89,23 @@ part_stands place up m false o d j (Part false p e k) b is stands =
 part_stands place up m hi o d j cell b is stands = cc
 
 -- the upper part that four parts make
-upper_joined : (up : Uppers) → AreWords up → MixesParts up → (a b c e : Maker) (o d w x y z : ℕ) → IsByte (up a o d) 0 w → IsByte (up b o d) 1 x → IsByte (up c o d) 2 y → IsByte (up e o d) 3 z → (known : Option ℕ) → up (joined_maker a b c e) o d ≡ known → Is known (word_of w x y z)
+upper_joined : (up : Uppers) → AreWords up → MixesParts up → (a b c e : Origin) (o d w x y z : ℕ) → IsByte (up a o d) 0 w → IsByte (up b o d) 1 x → IsByte (up c o d) 2 y → IsByte (up e o d) 3 z → (known : Option ℕ) → up (joined_origin a b c e) o d ≡ known → Is known (word_of w x y z)
 upper_joined up words mixes a b c e o d w x y z first second third fourth (Some v) made =
     let all = joined_makes up mixes a b c e o d v made in
-    bytes_make v w x y z (words (joined_maker a b c e) o d v made) (rw all.first at first) (rw all.second at second)
+    bytes_make v w x y z (words (joined_origin a b c e) o d v made) (rw all.first at first) (rw all.second at second)
     (rw all.third at third) (rw all.fourth at fourth)
 upper_joined up words mixes a b c e o d w x y z first second third fourth None made = tt
 
 module _ (os : Objects) (place : Places) (up : Uppers) (words : AreWords up) (mixes : MixesParts up) where
-  word_joined : (hi : Bool) (a b c e : Maker) (o d w x y z : ℕ) → IsByte (whole place up a hi o d) 0 w → IsByte (whole place up b hi o d) 1 x → IsByte (whole place up c hi o d) 2 y → IsByte (whole place up e hi o d) 3 z → Stands os place up (joined_maker a b c e) (whole_word hi o d) (word_of w x y z)
+  word_joined : (hi : Bool) (a b c e : Origin) (o d w x y z : ℕ) → IsByte (whole place up a hi o d) 0 w → IsByte (whole place up b hi o d) 1 x → IsByte (whole place up c hi o d) 2 y → IsByte (whole place up e hi o d) 3 z → Stands os place up (joined_origin a b c e) (whole_word hi o d) (word_of w x y z)
   word_joined true a b c e o d w x y z first second third fourth =
-      upper_joined up words mixes a b c e o d w x y z first second third fourth (up (joined_maker a b c e) o d) refl
+      upper_joined up words mixes a b c e o d w x y z first second third fourth (up (joined_origin a b c e) o d) refl
   word_joined false a b c e o d w x y z first second third fourth =
       bytes_make (address_word place o d) w x y z (omega arith) first second third fourth
 
-  parts_joined : (a b c e : Maker) (hi : Bool) (o d k : ℕ) (q r s : Cell) (w x y z : ℕ) → IsByte (whole place up a hi o d) k w → CellStands place up b q x → CellStands place up c r y → CellStands place up e s z → Stands os place up (joined_maker a b c e) (join (Part hi o d k) q r s) (word_of w x y z)
+  parts_joined : (a b c e : Origin) (hi : Bool) (o d k : ℕ) (q r s : Cell) (w x y z : ℕ) → IsByte (whole place up a hi o d) k w → CellStands place up b q x → CellStands place up c r y → CellStands place up e s z → Stands os place up (joined_origin a b c e) (join (Part hi o d k) q r s) (word_of w x y z)
   parts_joined a b c e hi o d k q r s w x y z first second third fourth =
-      cond_both _ _ _ (λ v. Stands os place up (joined_maker a b c e) v (word_of w x y z))
+      cond_both _ _ _ (λ v. Stands os place up (joined_origin a b c e) v (word_of w x y z))
       (λ all.
       let at_3 = both ((k == 0) && is_part hi o d 1 q && is_part hi o d 2 r) (is_part hi o d 3 s) all in
       let at_2 = both ((k == 0) && is_part hi o d 1 q) (is_part hi o d 2 r) at_3.0 in

@@ -1,6 +1,6 @@
 -- Both ways of making upper parts make words, and a LUI makes the upper part of the place.
 use Rattle.std.proofs.Common.{◌≡◌, inl, inr, ℕ, ◌<◌, Some, refl, arith}
-use Rattle.cell_values.specs.Makers.{ByLui, ByAuipc, Mixed}
+use Rattle.cell_values.specs.Origins.{ByLui, ByAuipc, Mixed}
 use Rattle.cell_values.specs.Stands.{Places, AreWords, upper_word, auipc_word, kept_uppers}
 use Rattle.cell_values.specs.WordLaws.{KeptUppersMake, MovedUppersMake}
 

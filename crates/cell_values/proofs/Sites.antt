@@ -6,7 +6,7 @@ use Rattle.word_bits.specs.Words.{offset, lower_half}
 use Rattle.cell_values.specs.Objects.{Objects, home_address}
 use Rattle.cell_values.specs.Operations.{same_chunk, low_site}
 use Rattle.cell_values.specs.declared.values.Val.TheVariants.{Hi}
-use Rattle.cell_values.specs.Makers.{Maker}
+use Rattle.cell_values.specs.Origins.{Origin}
 use Rattle.cell_values.specs.Stands.{Places, Fit, Uppers, Stands, address_word, upper_word}
 use Rattle.cell_values.specs.WordLaws.{LowSitesStand, PairedSitesStand}
 use Rattle.cell_values.proofs.Sums.{chunk_stays, chunk_upper, halves_make, halves_lead}
@@ -19,7 +19,7 @@ module _ (os : Objects) (place : Places) (up : Uppers) (fit : Fit os place) wher
       let upper = chunk_upper os.grain fit.grain (address_word place o d) (address_word place o e) stays in
       rw upper (halves_make (address_word place o e) (omega arith))
 
-  site_stands : (k : Maker) (p d o e : ℕ) → Stands os place up k (low_site os (Hi p d) o e) (offset (upper_word place p d) (lower_half (address_word place o e)))
+  site_stands : (k : Origin) (p d o e : ℕ) → Stands os place up k (low_site os (Hi p d) o e) (offset (upper_word place p d) (lower_half (address_word place o e)))
   site_stands k p d o e =
       cond_both _ _ _ (λ v. Stands os place up k v (offset (upper_word place p d) (lower_half (address_word place o e))))
       (λ near.

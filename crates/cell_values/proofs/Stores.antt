@@ -6,7 +6,7 @@ use Rattle.cell_values.specs.Cells.{split}
 use Rattle.cell_values.specs.declared.values.Val.{Val}
 use Rattle.cell_values.specs.declared.values.Val.TheVariants.{Int, Addr, Hi, Low, Piece, Unknown}
 use Rattle.cell_values.specs.declared.values.Cell.TheVariants.{Mist}
-use Rattle.cell_values.specs.Makers.{Maker}
+use Rattle.cell_values.specs.Origins.{Origin}
 use Rattle.cell_values.specs.Stands.{Places, Uppers, IsByte, Is, Stands, CellStands, address_word}
 use Rattle.cell_values.specs.WordLaws.{SplitStands}
 
@@ -23,7 +23,7 @@ parts_stand : (known : Option ℕ) (w k : ℕ) → Is known w → IsByte known k
 parts_stand (Some x) w k is = rw is refl
 parts_stand None w k is = tt
 
-split_at : (os : Objects) (place : Places) (up : Uppers) (m : Maker) (x : Val) (w : ℕ) → w < 4294967296 → Stands os place up m x w → (k : ℕ) → k < 4 → CellStands place up m (slice_index_or (split x) k Mist) (byte_of w k)
+split_at : (os : Objects) (place : Places) (up : Uppers) (m : Origin) (x : Val) (w : ℕ) → w < 4294967296 → Stands os place up m x w → (k : ℕ) → k < 4 → CellStands place up m (slice_index_or (split x) k Mist) (byte_of w k)
 split_at os place up m (Int n) w word stands =
     first_cells (λ k. CellStands place up m (slice_index_or (split (Int n)) k Mist) (byte_of w k))
     (rw stands refl) (rw stands refl) (rw stands refl) (rw stands refl)

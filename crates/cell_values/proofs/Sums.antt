@@ -3,19 +3,19 @@ use Rattle.std.proofs.Common.{◌≡◌, ℕ, ◌*◌, ◌/◌, ◌%◌, ◌<◌
 use Rattle.std.proofs.lemmas.Bool.Decides.{nat_tests}
 use Rattle.word_bits.specs.Words.{plus, minus, offset, upper_half, lower_half}
 use Rattle.cell_values.specs.Objects.{IsGrain}
-use Rattle.cell_values.proofs.Bits.{at_grain, LowTells}
+use Rattle.cell_values.proofs.Bits.{at_grain, LowReports}
 
 -- sums and differences wrap at a multiple of the grain
-pub sum_low : (g : ℕ) → IsGrain g → LowTells plus g
+pub sum_low : (g : ℕ) → IsGrain g → LowReports plus g
 sum_low =
-    at_grain (LowTells plus)
+    at_grain (LowReports plus)
     (λ w z a b first second. omega arith)
     (λ w z a b first second. omega arith)
     (λ w z a b first second. omega arith)
 
-pub difference_low : (g : ℕ) → IsGrain g → LowTells minus g
+pub difference_low : (g : ℕ) → IsGrain g → LowReports minus g
 difference_low =
-    at_grain (LowTells minus)
+    at_grain (LowReports minus)
     (λ w z a b first second. omega arith)
     (λ w z a b first second. omega arith)
     (λ w z a b first second. omega arith)

@@ -8,7 +8,7 @@ pub use Rattle.cell_values.specs.Objects
 pub use Rattle.cell_values.specs.Operations
 pub use Rattle.cell_values.specs.Cells
 pub use Rattle.cell_values.specs.Laws as CellLaws
-pub mod Makers
+pub mod Origins
 pub mod Stands
 pub mod WordLaws
 pub mod Stored

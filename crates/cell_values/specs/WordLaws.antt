@@ -15,14 +15,14 @@ use Rattle.cell_values.specs.declared.values.Val.{Val}
 use Rattle.cell_values.specs.declared.values.Val.TheVariants.{Int}
 use Rattle.cell_values.specs.declared.values.Cell.{Cell}
 use Rattle.cell_values.specs.declared.values.Cell.TheVariants.{Mist}
-use Rattle.cell_values.specs.Makers.{Maker, ByLui, joined_maker, takes_low}
+use Rattle.cell_values.specs.Origins.{Origin, ByLui, joined_origin, takes_low}
 use Rattle.cell_values.specs.Stands.{Places, Fit, Uppers, MakesByLui, AreWords, MixesParts, Stands, CellStands, CellHoldsWord, address_word, auipc_word, kept_uppers, moved_uppers}
 
--- an operation on two registers. What it leaves is no upper part, so any maker may stand beside it
+-- an operation on two registers. What it leaves is no upper part, so any origin may stand beside it
 abbrev pub OperationsStand : Type 0
 OperationsStand =
     (os : Objects) (place : Places) (up : Uppers) → Fit os place → MakesByLui place up
-    → (kind : RegKind) (m n k : Maker) (x y : Val) (w z : ℕ) → w < 4294967296 → z < 4294967296
+    → (kind : RegKind) (m n k : Origin) (x y : Val) (w z : ℕ) → w < 4294967296 → z < 4294967296
     → takes_low os kind m x n y ≡ false
     → Stands os place up m x w → Stands os place up n y z
     → Stands os place up k (op_reg os kind x y) (reg_value kind w z)
@@ -31,7 +31,7 @@ OperationsStand =
 abbrev pub ImmediatesStand : Type 0
 ImmediatesStand =
     (os : Objects) (place : Places) (up : Uppers) → Fit os place → MakesByLui place up
-    → (kind : ImmKind) (m k : Maker) (x : Val) (imm : ℤ) (w : ℕ) → w < 4294967296 → IsImmInRange kind imm
+    → (kind : ImmKind) (m k : Origin) (x : Val) (imm : ℤ) (w : ℕ) → w < 4294967296 → IsImmInRange kind imm
     → takes_low os (operation_of kind) m x ByLui (Int 0) ≡ false
     → Stands os place up m x w
     → Stands os place up k (op_imm os kind x imm) (imm_value kind w imm)
@@ -40,7 +40,7 @@ ImmediatesStand =
 abbrev pub ComparisonsStand : Type 0
 ComparisonsStand =
     (os : Objects) (place : Places) (up : Uppers) → Fit os place
-    → (kind : BranchKind) (m n : Maker) (x y : Val) (w z : ℕ) (taken : Bool)
+    → (kind : BranchKind) (m n : Origin) (x y : Val) (w z : ℕ) (taken : Bool)
     → HoldsWord x → HoldsWord y
     → compare os kind x y ≡ Some taken
     → Stands os place up m x w → Stands os place up n y z
@@ -50,7 +50,7 @@ ComparisonsStand =
 abbrev pub LowSitesStand : Type 0
 LowSitesStand =
     (os : Objects) (place : Places) (up : Uppers) → Fit os place → MakesByLui place up
-    → (k : Maker) (x : Val) (o d w : ℕ) → w < 4294967296
+    → (k : Origin) (x : Val) (o d w : ℕ) → w < 4294967296
     → Stands os place up ByLui x w
     → Stands os place up k (low_site os x o d) (offset w (lower_half (address_word place o d)))
 
@@ -63,29 +63,29 @@ PairedSitesStand =
 -- stores: each cell of a value is a byte of its word
 abbrev pub SplitStands : Type 0
 SplitStands =
-    (os : Objects) (place : Places) (up : Uppers) (m : Maker) (x : Val) (w k : ℕ) → w < 4294967296 → k < 4
+    (os : Objects) (place : Places) (up : Uppers) (m : Origin) (x : Val) (w k : ℕ) → w < 4294967296 → k < 4
     → Stands os place up m x w → CellStands place up m (slice_index_or (split x) k Mist) (byte_of w k)
 
 -- loads: the word of four bytes is the value of their cells
 abbrev pub JoinStands : Type 0
 JoinStands =
     (os : Objects) (place : Places) (up : Uppers) → AreWords up → MixesParts up
-    → (a b c d : Maker) (p q r s : Cell) (w x y z : ℕ) → w < 256 → x < 256 → y < 256 → z < 256
+    → (a b c d : Origin) (p q r s : Cell) (w x y z : ℕ) → w < 256 → x < 256 → y < 256 → z < 256
     → CellStands place up a p w → CellStands place up b q x → CellStands place up c r y → CellStands place up d s z
-    → Stands os place up (joined_maker a b c d) (join p q r s) (word_of w x y z)
+    → Stands os place up (joined_origin a b c d) (join p q r s) (word_of w x y z)
 
 -- byte loads, without and with sign: a byte is the value of its cell
 abbrev pub PiecesStand : Type 0
 PiecesStand =
-    (os : Objects) (place : Places) (up : Uppers) (m : Maker) (c : Cell) (b : ℕ) → b < 256
+    (os : Objects) (place : Places) (up : Uppers) (m : Origin) (c : Cell) (b : ℕ) → b < 256
     → CellStands place up m c b
     → Stands os place up m (byte_value (λ n. n) c) b
     × Stands os place up m (byte_value (λ n. sign_extended n 8) c) (sign_extended b 8)
 
--- halfword loads: only plain bytes tell the halfword, so the makers say nothing
+-- halfword loads: only plain bytes tell the halfword, so the origins say nothing
 abbrev pub HalvesStand : Type 0
 HalvesStand =
-    (os : Objects) (place : Places) (up : Uppers) (m n k : Maker) (c d : Cell) (w x : ℕ)
+    (os : Objects) (place : Places) (up : Uppers) (m n k : Origin) (c d : Cell) (w x : ℕ)
     → CellStands place up m c w → CellStands place up n d x
     → Stands os place up k (half_value (λ h. h) c d) (half_of w x)
     × Stands os place up k (half_value (λ h. sign_extended h 16) c d) (sign_extended (half_of w x) 16)

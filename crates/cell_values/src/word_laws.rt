@@ -58,7 +58,7 @@ pub fn kept_uppers_make()
     ensures { KeptUppersMake }
 {}
 
-/// The same where each site is a LUI: all makers make the upper part of the place.
+/// The same where each site is a LUI: all origins make the upper part of the place.
 pub fn moved_uppers_make()
     ensures { MovedUppersMake }
 {}

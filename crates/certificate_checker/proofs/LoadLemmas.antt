@@ -33,15 +33,15 @@ weight_other (k ∷ ms) row m other differ =
     let rest = weight_other ms row m other differ in
     elim (cases_eq (row_of k) other) [
       | inl same ↦ grind (arith, nat_tests, same)
-      | inr apart ↦ grind (arith, nat_tests, apart, rest)
+      | inr disjoint ↦ grind (arith, nat_tests, disjoint, rest)
     ]
 
 weight_last : (low : ℕ) (ms : List (ℕ × ℕ)) (row m : ℕ) → RowsWithin low row ms → weight_in (ms ++ (row, m) ∷ []) row ≡ m
 weight_last low [] row m rows = grind (arith, nat_tests)
 weight_last low (k ∷ ms) row m rows =
     let rest = weight_last (suc (row_of k)) ms row m rows.2 in
-    let apart : row_of k ≢ row = omega (arith, rows.1) in
-    grind (arith, nat_tests, apart, rest)
+    let disjoint : row_of k ≢ row = omega (arith, rows.1) in
+    grind (arith, nat_tests, disjoint, rest)
 
 rows_wider : (low high wide : ℕ) (ms : List (ℕ × ℕ)) → high ≤ wide → RowsWithin low high ms → RowsWithin low wide ms
 rows_wider low high wide [] order rows = tt
@@ -65,12 +65,12 @@ zeroes_at n row =
     ]
 
 -- a row that there isn't
-pub loaded_past : (rows dense : List ℕ) (reach bound row m next : ℕ) (ms : List (ℕ × ℕ)) → IsLoaded rows dense reach bound ms → reach ≤ row → length rows ≤ row → next ≡ row + 1 → IsLoaded rows dense next bound (ms ++ (row, m) ∷ [])
-loaded_past rows dense reach bound row m next ms loaded past out is =
+pub loaded_past : (rows dense : List ℕ) (row_end bound row m next : ℕ) (ms : List (ℕ × ℕ)) → IsLoaded rows dense row_end bound ms → row_end ≤ row → length rows ≤ row → next ≡ row + 1 → IsLoaded rows dense next bound (ms ++ (row, m) ∷ [])
+loaded_past rows dense row_end bound row m next ms loaded past out is =
     let small = loaded.small in
     let most = loaded.most in
     record {
-      ascending = subst (λ n. RowsWithin 0 n (ms ++ (row, m) ∷ [])) (sym is) (rows_push 0 reach ms row m (omega arith) loaded.ascending past);
+      ascending = subst (λ n. RowsWithin 0 n (ms ++ (row, m) ∷ [])) (sym is) (rows_push 0 row_end ms row m (omega arith) loaded.ascending past);
       tight = λ high all. let last = rows_last 0 high ms row m all in omega (arith, last, is);
       values = λ other inside. loaded.values other inside ∙ sym (weight_other ms row m other (omega (arith, inside, out)));
       bound = λ within. absurd (omega (arith, within, out, is));
@@ -79,27 +79,27 @@ loaded_past rows dense reach bound row m next ms loaded past out is =
     }
 
 -- a row that there is
-pub loaded_here : (rows dense : List ℕ) (reach bound row m next more : ℕ) (ms : List (ℕ × ℕ)) → IsLoaded rows dense reach bound ms → reach ≤ row → row < length rows → length rows ≤ length dense → next ≡ row + 1 → more ≡ bound + m * slice_index rows row → m * slice_index rows row < 2 ^ 96 → IsLoaded rows (slice_set dense row m) next more (ms ++ (row, m) ∷ [])
-loaded_here rows dense reach bound row m next more ms loaded past inside room is is_more fits =
+pub loaded_here : (rows dense : List ℕ) (row_end bound row m next more : ℕ) (ms : List (ℕ × ℕ)) → IsLoaded rows dense row_end bound ms → row_end ≤ row → row < length rows → length rows ≤ length dense → next ≡ row + 1 → more ≡ bound + m * slice_index rows row → m * slice_index rows row < 2 ^ 96 → IsLoaded rows (slice_set dense row m) next more (ms ++ (row, m) ∷ [])
+loaded_here rows dense row_end bound row m next more ms loaded past inside room is is_more fits =
     let small = loaded.small in
     let values : (other : ℕ) → other < length rows → slice_index (slice_set dense row m) other ≡ weight_in (ms ++ (row, m) ∷ []) other =
     λ other within.
     elim (cases_eq other row) [
       | inl same ↦
           let kept = get_or-set_same dense row m 0 (omega (arith, inside, room)) in
-          let last = weight_last 0 ms row m (rows_wider 0 reach row ms past loaded.ascending) in
+          let last = weight_last 0 ms row m (rows_wider 0 row_end row ms past loaded.ascending) in
           subst (λ k. slice_index (slice_set dense row m) k ≡ weight_in (ms ++ (row, m) ∷ []) k) (sym same) (kept ∙ sym last)
-      | inr apart ↦
-          get_or-set_other dense row other m 0 apart ∙ (loaded.values other within ∙ sym (weight_other ms row m other (λ same. apart (sym same))))
+      | inr disjoint ↦
+          get_or-set_other dense row other m 0 disjoint ∙ (loaded.values other within ∙ sym (weight_other ms row m other (λ same. disjoint (sym same))))
     ] in
-    let summed : reach ≤ length rows → more ≡ sum_by (λ k. value_of k * slice_index rows (row_of k)) (ms ++ (row, m) ∷ []) =
+    let summed : row_end ≤ length rows → more ≡ sum_by (λ k. value_of k * slice_index rows (row_of k)) (ms ++ (row, m) ∷ []) =
     λ within.
     let so_far = loaded.bound within in
     let added = sum_by-append (λ (k : ℕ × ℕ). value_of k * slice_index rows (row_of k)) ms ((row, m) ∷ []) in
     let one = sum_by-cons (λ (k : ℕ × ℕ). value_of k * slice_index rows (row_of k)) (row, m) [] in
     omega (arith, so_far, added, one, is_more) in
     record {
-      ascending = subst (λ n. RowsWithin 0 n (ms ++ (row, m) ∷ [])) (sym is) (rows_push 0 reach ms row m (omega arith) loaded.ascending past);
+      ascending = subst (λ n. RowsWithin 0 n (ms ++ (row, m) ∷ [])) (sym is) (rows_push 0 row_end ms row m (omega arith) loaded.ascending past);
       tight = λ high all. let last = rows_last 0 high ms row m all in omega (arith, last, is);
       values = values;
       bound = λ within. summed (omega (arith, past, inside));

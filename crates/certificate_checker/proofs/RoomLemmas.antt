@@ -33,22 +33,22 @@ ascend_last low high (n ∷ ks) k all = ascend_last (suc n) high ks k all.2
 pub taken_none : (limit : ℕ) → AreTaken limit 0 [] []
 taken_none limit = record { ascending = tt; tight = λ high all. omega arith; all = λ within. refl; few = omega arith; room = omega arith }
 
-pub taken_past : (limit reach k next : ℕ) (taken ks : List ℕ) → AreTaken limit reach taken ks → reach ≤ k → limit ≤ k → next ≡ k + 1 → AreTaken limit next taken (ks ++ k ∷ [])
-taken_past limit reach k next taken ks so_far past out is =
+pub taken_past : (limit row_end k next : ℕ) (taken ks : List ℕ) → AreTaken limit row_end taken ks → row_end ≤ k → limit ≤ k → next ≡ k + 1 → AreTaken limit next taken (ks ++ k ∷ [])
+taken_past limit row_end k next taken ks so_far past out is =
     let few = so_far.few in
     record {
-      ascending = subst (λ n. AscendWithin 0 n (ks ++ k ∷ [])) (sym is) (ascend_push 0 reach ks k (omega arith) so_far.ascending past);
+      ascending = subst (λ n. AscendWithin 0 n (ks ++ k ∷ [])) (sym is) (ascend_push 0 row_end ks k (omega arith) so_far.ascending past);
       tight = λ high all. let last = ascend_last 0 high ks k all in omega (arith, last, is);
       all = λ within. absurd (omega (arith, within, out, is));
       few = omega (arith, few, past, is);
       room = so_far.room;
     }
 
-pub taken_here : (limit reach k next : ℕ) (taken more ks : List ℕ) → AreTaken limit reach taken ks → reach ≤ k → k < limit → next ≡ k + 1 → more ≡ taken ++ k ∷ [] → length more ≡ length taken + 1 → AreTaken limit next more (ks ++ k ∷ [])
-taken_here limit reach k next taken more ks so_far past inside is is_more longer =
+pub taken_here : (limit row_end k next : ℕ) (taken more ks : List ℕ) → AreTaken limit row_end taken ks → row_end ≤ k → k < limit → next ≡ k + 1 → more ≡ taken ++ k ∷ [] → length more ≡ length taken + 1 → AreTaken limit next more (ks ++ k ∷ [])
+taken_here limit row_end k next taken more ks so_far past inside is is_more longer =
     let few = so_far.few in
     record {
-      ascending = subst (λ n. AscendWithin 0 n (ks ++ k ∷ [])) (sym is) (ascend_push 0 reach ks k (omega arith) so_far.ascending past);
+      ascending = subst (λ n. AscendWithin 0 n (ks ++ k ∷ [])) (sym is) (ascend_push 0 row_end ks k (omega arith) so_far.ascending past);
       tight = λ high all. let last = ascend_last 0 high ks k all in omega (arith, last, is);
       all = λ within. is_more ∙ ap (λ (l : List ℕ). l ++ k ∷ []) (so_far.all (omega (arith, past, inside)));
       few = omega (arith, few, past, is, longer);
@@ -64,16 +64,16 @@ pub choice_broken : (total : ℕ) (bytes : List ℕ) (on : Bool) (r0 : List ℕ)
 unfolding choice_at
 choice_broken total bytes on r0 count r1 e a b c = rw (a, b, c) refl
 
-far_misfits : (side : Option PlainSide) (limit reach : ℕ) (taken ks : List ℕ) → AreTaken limit reach taken ks → limit ≡ vars_of side → limit < reach → IsSomeAnd side (λ s. Fits s ks) → ⊥
-far_misfits None limit reach taken ks all is far fits = fits
-far_misfits (Some s) limit reach taken ks all is far fits =
+far_misfits : (side : Option PlainSide) (limit row_end : ℕ) (taken ks : List ℕ) → AreTaken limit row_end taken ks → limit ≡ vars_of side → limit < row_end → IsSomeAnd side (λ s. Fits s ks) → ⊥
+far_misfits None limit row_end taken ks all is far fits = fits
+far_misfits (Some s) limit row_end taken ks all is far fits =
     let within = all.tight (length s.vars) fits.numbers in
     omega (arith, within, is, far)
 
 -- a number that is no variable
-pub far_not_accepted : (p : PlainProgramme) (on : Bool) (limit reach : ℕ) (taken ks : List ℕ) → AreTaken limit reach taken ks → limit ≡ vars_of (side_for p on) → limit < reach → (b : ℕ) → IsAccepted p record { on = on; take = ks } b → ⊥
-far_not_accepted p on limit reach taken ks all is far b accepted =
-    far_misfits (side_for p on) limit reach taken ks all is far accepted.feasible
+pub far_not_accepted : (p : PlainProgramme) (on : Bool) (limit row_end : ℕ) (taken ks : List ℕ) → AreTaken limit row_end taken ks → limit ≡ vars_of (side_for p on) → limit < row_end → (b : ℕ) → IsAccepted p record { on = on; take = ks } b → ⊥
+far_not_accepted p on limit row_end taken ks all is far b accepted =
+    far_misfits (side_for p on) limit row_end taken ks all is far accepted.feasible
 
 -- trees that are read
 pub one_tree : (total : ℕ) (bytes : List ℕ) (count : ℕ) (r0 : List ℕ) (t : PlainTree) (r1 : List ℕ) → number_in Head 1 2 total bytes ≡ Ok (count, r0) → tree_at total most_levels r0 ≡ Ok (t, r1) → count ≡ 1 → trees_at total bytes ≡ Ok ((Some t, None), r1)

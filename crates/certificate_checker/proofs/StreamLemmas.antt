@@ -80,9 +80,9 @@ same_price dense ms low high (w ∷ ws) values rows =
     omega (arith, rest, one, other, here)
 
 -- a dual node's rule, by the dense list and the reach of its rows
-pub dense_tested : (s : PlainSide) (best : ℕ) (marks : List Fixing) (dense : List ℕ) (scale reach total : ℕ) (ms : List (ℕ × ℕ)) (b : Bool) → IsWithinBounds s → IsLoaded s.rows dense reach total ms → reach ≤ length s.rows → 1 ≤ scale → scale ≤ 65536 → (IsTrue b ↔ SumsHold s best marks scale total (λ row. slice_index dense row)) → (IsTrue b ↔ DualHolds s best marks scale ms)
-dense_tested s best marks dense scale reach total ms b bounds loaded within least most test =
-    let rows = rows_wide 0 reach (length s.rows) ms within loaded.ascending in
+pub dense_tested : (s : PlainSide) (best : ℕ) (marks : List Fixing) (dense : List ℕ) (scale row_end total : ℕ) (ms : List (ℕ × ℕ)) (b : Bool) → IsWithinBounds s → IsLoaded s.rows dense row_end total ms → row_end ≤ length s.rows → 1 ≤ scale → scale ≤ 65536 → (IsTrue b ↔ SumsHold s best marks scale total (λ row. slice_index dense row)) → (IsTrue b ↔ DualHolds s best marks scale ms)
+dense_tested s best marks dense scale row_end total ms b bounds loaded within least most test =
+    let rows = rows_wide 0 row_end (length s.rows) ms within loaded.ascending in
     let price : (j : ℕ) → j < length s.vars → priced_by (λ row. slice_index dense row) (weights_at s.vars j) ≡ priced_by (weight_in ms) (weights_at s.vars j) =
     λ j inside. same_price dense ms 0 (length s.rows) (weights_at s.vars j) loaded.values (weights_are (length s.rows) s.vars j bounds.weights inside).ascending in
     let left = below_same (kept_part s marks scale (λ row. slice_index dense row)) (kept_part s marks scale (weight_in ms)) (length s.vars) (λ j inside. ap (λ c. kept (fixing_of marks j) (scale * gain_at s.vars j) c) (price j inside)) in
@@ -96,8 +96,8 @@ dense_tested s best marks dense scale reach total ms b bounds loaded within leas
     rows_wide low high wide (k ∷ ms) order rows = (rows.0, omega (arith, order, rows.1), rows_wide (suc (row_of k)) high wide ms order rows.2)
 
 -- where rows reach past those of the side, the rule is broken
-pub reach_breaks : (s : PlainSide) (best : ℕ) (marks : List Fixing) (dense : List ℕ) (scale reach total : ℕ) (ms : List (ℕ × ℕ)) → IsLoaded s.rows dense reach total ms → length s.rows < reach → DualHolds s best marks scale ms → ⊥
-reach_breaks s best marks dense scale reach total ms loaded past holds =
+pub reach_breaks : (s : PlainSide) (best : ℕ) (marks : List Fixing) (dense : List ℕ) (scale row_end total : ℕ) (ms : List (ℕ × ℕ)) → IsLoaded s.rows dense row_end total ms → length s.rows < row_end → DualHolds s best marks scale ms → ⊥
+reach_breaks s best marks dense scale row_end total ms loaded past holds =
     let within = loaded.tight (length s.rows) holds.rows in
     omega (arith, within, past)
 

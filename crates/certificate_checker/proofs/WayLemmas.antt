@@ -28,8 +28,8 @@ use Rattle.certificate_checker.proofs.StreamLemmas.{var_broken}
 way_kept : (path : List PathStep) (way : List Step) (k : ℕ) (step : PathStep) → length way ≤ k → HasWay path way → HasWay (slice_set path k step) way
 way_kept path [] k step past has = tt
 way_kept path (last ∷ way) k step past has =
-    let apart : length way ≢ k = omega (arith, past) in
-    (get_or-set_other path k (length way) step (written_step (to_zero 0)) apart ∙ has.0, way_kept path way k step (omega (arith, past)) has.1)
+    let disjoint : length way ≢ k = omega (arith, past) in
+    (get_or-set_other path k (length way) step (written_step (to_zero 0)) disjoint ∙ has.0, way_kept path way k step (omega (arith, past)) has.1)
 
 way_pushed : (path : List PathStep) (last : Step) (way : List Step) (k : ℕ) (step : PathStep) → length way ≡ k → k < length path → step ≡ written_step last → HasWay path way → HasWay (slice_set path k step) (last ∷ way)
 way_pushed path last way k step long inside is has =

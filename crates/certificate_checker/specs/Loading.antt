@@ -13,18 +13,18 @@ use Rattle.certificate_checker.specs.declared.walking.Failing.{Failing}
 use Rattle.certificate_checker.specs.declared.loading.Loaded.{Loaded}
 use Rattle.certificate_checker.specs.declared.fixings.Fixing.{Fixing}
 
--- `reach` is the least number above all rows; the dense list has the multiplier of each row that there is
-pub record IsLoaded (rows dense : List ℕ) (reach total : ℕ) (ms : List (ℕ × ℕ)) : Type 0 where
-  pub ascending : RowsWithin 0 reach ms
-  pub tight : (high : ℕ) → RowsWithin 0 high ms → reach ≤ high
+-- `row_end` is the least number above all rows; the dense list has the multiplier of each row that there is
+pub record IsLoaded (rows dense : List ℕ) (row_end total : ℕ) (ms : List (ℕ × ℕ)) : Type 0 where
+  pub ascending : RowsWithin 0 row_end ms
+  pub tight : (high : ℕ) → RowsWithin 0 high ms → row_end ≤ high
   pub values : (row : ℕ) → row < length rows → slice_index dense row ≡ weight_in ms row
-  pub bound : reach ≤ length rows → total ≡ sum_by (λ m. value_of m * slice_index rows (row_of m)) ms
-  pub small : total ≤ reach * 2 ^ 96
+  pub bound : row_end ≤ length rows → total ≡ sum_by (λ m. value_of m * slice_index rows (row_of m)) ms
+  pub small : total ≤ row_end * 2 ^ 96
   pub most : total ≤ length rows * 2 ^ 96
 
 abbrev pub Loads : List ℕ → List ℕ → Result (Loaded × Bor (List ℕ)) CertFault → Result (List (ℕ × ℕ) × List ℕ) CertFault → Type 0
 Loads rows dense (Ok x) read =
-    (ms : List (ℕ × ℕ)) × ((read ≡ Ok (ms, x.1.now)) × IsLoaded rows dense x.0.reach x.0.bound ms)
+    (ms : List (ℕ × ℕ)) × ((read ≡ Ok (ms, x.1.now)) × IsLoaded rows dense x.0.row_end x.0.bound ms)
 Loads rows dense (Err e) read = read ≡ Err e
 
 -- a tree that is one node

@@ -15,12 +15,12 @@ use Rattle.certificate_checker.specs.declared.verdict.Verdict.{Verdict}
 use Rattle.certificate_checker.specs.declared.text_trees.Outcomes.{Outcomes}
 use Rattle.certificate_checker.specs.declared.rooms.Room.{Room}
 
--- ascending numbers, read one by one: `reach` is the least number above all, and `taken` is all of them where none passes `limit`
-pub record AreTaken (limit reach : ℕ) (taken ks : List ℕ) : Type 0 where
-  pub ascending : AscendWithin 0 reach ks
-  pub tight : (high : ℕ) → AscendWithin 0 high ks → reach ≤ high
-  pub all : reach ≤ limit → taken ≡ ks
-  pub few : length taken ≤ reach
+-- ascending numbers, read one by one: `row_end` is the least number above all, and `taken` is all of them where none passes `limit`
+pub record AreTaken (limit row_end : ℕ) (taken ks : List ℕ) : Type 0 where
+  pub ascending : AscendWithin 0 row_end ks
+  pub tight : (high : ℕ) → AscendWithin 0 high ks → row_end ≤ high
+  pub all : row_end ≤ limit → taken ≡ ks
+  pub few : length taken ≤ row_end
   pub room : length taken ≤ limit
 
 abbrev pub Takes : ℕ → ℕ → List ℕ → Result (ℕ × Bor (List ℕ)) CertFault → Result (List ℕ × List ℕ) CertFault → Type 0

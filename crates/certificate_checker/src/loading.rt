@@ -11,7 +11,7 @@ use crate::multipliers::product;
 /// What was read of a dual node's rows: the least number above all of them, and the multiplied capacities.
 #[derive(Drop)]
 pub(crate) struct Loaded {
-    pub reach: u64,
+    pub row_end: u64,
     pub bound: u128,
 }
 
@@ -27,21 +27,21 @@ fn load_entry(
     requires small { All (λ c. c < 2 ^ 32) rows.now }
     requires room { length rows.now ≤ length multipliers.old }
     requires bound { loaded.bound ≤ length rows.now * 2 ^ 96 }
-    ensures reach { result.reach ≡ row + 1 }
-    ensures loaded { (ms : List (ℕ × ℕ)) → IsLoaded rows.now multipliers.old loaded.reach loaded.bound ms → loaded.reach ≤ row
-        → IsLoaded rows.now multipliers.new result.reach result.bound (ms ++ (row, multiplier) ∷ []) }
+    ensures row_end { result.row_end ≡ row + 1 }
+    ensures loaded { (ms : List (ℕ × ℕ)) → IsLoaded rows.now multipliers.old loaded.row_end loaded.bound ms → loaded.row_end ≤ row
+        → IsLoaded rows.now multipliers.new result.row_end result.bound (ms ++ (row, multiplier) ∷ []) }
 {
     let place = row as usize;
-    let reach = u64::from(row) + 1;
+    let row_end = u64::from(row) + 1;
     if place >= rows.len() {
         return Loaded {
-            reach,
+            row_end,
             bound: loaded.bound,
         };
     }
     multipliers[place] = multiplier;
     Loaded {
-        reach,
+        row_end,
         bound: loaded.bound + product(multiplier, rows[place]),
     }
 }
@@ -61,10 +61,10 @@ pub(crate) fn load_entries<'a>(
     ensures small { IfOk result (λ x. x.0.bound < 2 ^ 113) }
 {
     multipliers.fill(0);
-    let mut loaded = Loaded { reach: 0, bound: 0 };
+    let mut loaded = Loaded { row_end: 0, bound: 0 };
     let mut rest = bytes;
     for _ in 0..count {
-        let (found, after) = entry(loaded.reach, total, rest)?;
+        let (found, after) = entry(loaded.row_end, total, rest)?;
         loaded = load_entry(rows, multipliers, loaded, found.0, found.1);
         rest = after;
     }

@@ -18,7 +18,7 @@ fn push_taken(take: &mut Vec<u32>, number: u32)
 fn keep_var(take: &mut Vec<u32>, limit: usize, var: u32)
     requires few { length take.old.items ≤ var }
     requires room { limit ≤ vec_capacity take.old }
-    ensures taken { (reach : ℕ) (ks : List ℕ) → AreTaken limit reach take.old.items ks → reach ≤ var → AreTaken limit (var + 1) take.new.items (ks ++ var ∷ []) }
+    ensures taken { (row_end : ℕ) (ks : List ℕ) → AreTaken limit row_end take.old.items ks → row_end ≤ var → AreTaken limit (var + 1) take.new.items (ks ++ var ∷ []) }
     ensures capacity { vec_capacity take.old ≤ vec_capacity take.new }
 {
     if var as usize >= limit {
@@ -40,13 +40,13 @@ pub(crate) fn take_vars<'a>(
     ensures capacity { vec_capacity take.old ≤ vec_capacity take.new }
 {
     take.clear();
-    let mut reach = 0;
+    let mut row_end = 0;
     let mut rest = bytes;
     for _ in 0..count {
-        let (found, after) = small_number(Part::Head, reach, total, rest)?;
+        let (found, after) = small_number(Part::Head, row_end, total, rest)?;
         keep_var(take, limit, found);
-        reach = u64::from(found) + 1;
+        row_end = u64::from(found) + 1;
         rest = after;
     }
-    Ok((reach, rest))
+    Ok((row_end, rest))
 }

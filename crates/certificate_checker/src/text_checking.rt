@@ -44,8 +44,8 @@ fn take_choice<'a>(
     let (count, rest) = small_number(Part::Head, 0, total, rest)?;
     let limit = side_vars(p, on);
     choice.on = on;
-    let (reach, rest) = take_vars(&mut choice.take, limit, count, total, rest)?;
-    if reach > limit as u64 {
+    let (row_end, rest) = take_vars(&mut choice.take, limit, count, total, rest)?;
+    if row_end > limit as u64 {
         return Ok((None, rest));
     }
     Ok((accepted(p, choice), rest))

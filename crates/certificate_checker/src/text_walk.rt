@@ -77,10 +77,10 @@ fn loaded_holds(
     requires least { 1 ≤ scale }
     requires most { scale ≤ 65536 }
     requires bound { loaded.now.bound < 2 ^ 113 }
-    ensures { (ms : List (ℕ × ℕ)) → IsLoaded (plain_side task.now.side.now).rows multipliers.now loaded.now.reach loaded.now.bound ms
+    ensures { (ms : List (ℕ × ℕ)) → IsLoaded (plain_side task.now.side.now).rows multipliers.now loaded.now.row_end loaded.now.bound ms
         → (IsTrue result ↔ DualHolds (plain_side task.now.side.now) task.now.best marks.now scale ms) }
 {
-    if loaded.reach > row_count(task.side) as u64 {
+    if loaded.row_end > row_count(task.side) as u64 {
         return false;
     }
     sums_hold(

@@ -28,15 +28,15 @@ count_none (suc n) = count_none n
 
 -- two tests that never pass together
 count_step : (t u : Bool) (a b c : ℕ) → (t ≡ true → u ≡ false) → c ≡ a + b → (if t || u then suc c else c) ≡ (if t then suc a else a) + (if u then suc b else b)
-count_step true true a b c apart is = let never = apart refl in cc
-count_step true false a b c apart is = omega (arith, is)
-count_step false true a b c apart is = omega (arith, is)
-count_step false false a b c apart is = is
+count_step true true a b c disjoint is = let never = disjoint refl in cc
+count_step true false a b c disjoint is = omega (arith, is)
+count_step false true a b c disjoint is = omega (arith, is)
+count_step false false a b c disjoint is = is
 
 count_either : (t u : ℕ → Bool) (n : ℕ) → ((a : ℕ) → t a ≡ true → u a ≡ false) → count_below (λ a. t a || u a) n ≡ count_below t n + count_below u n
-count_either t u zero apart = refl
-count_either t u (suc n) apart =
-    count_step (t n) (u n) (count_below t n) (count_below u n) (count_below (λ a. t a || u a) n) (apart n) (count_either t u n apart)
+count_either t u zero disjoint = refl
+count_either t u (suc n) disjoint =
+    count_step (t n) (u n) (count_below t n) (count_below u n) (count_below (λ a. t a || u a) n) (disjoint n) (count_either t u n disjoint)
 
 -- one number
 count_before : (x n : ℕ) → n ≤ x → count_below (λ a. a == x) n ≡ 0
@@ -65,8 +65,8 @@ count_list [] n ascending below = count_none n
 count_list (x ∷ xs) n ascending below =
     let later : count_below (has xs) n ≡ length xs = count_list xs n (λ i j d lower inside. ascending (suc i) (suc j) d (omega arith) (omega arith)) (λ a found. below a (has_later x xs a found)) in
     let behind : All (λ y. (x == y) ≡ false) xs = λ k d inside. let less : x < _ = ascending 0 (suc k) d (omega arith) (omega arith) in grind (arith, nat_tests, less) in
-    let apart : (a : ℕ) → (a == x) ≡ true → has xs a ≡ false = λ a same. rw (eqb-true a x same) (list_any_none (λ y. x == y) xs behind) in
-    count_either (λ a. a == x) (has xs) n apart
+    let disjoint : (a : ℕ) → (a == x) ≡ true → has xs a ≡ false = λ a same. rw (eqb-true a x same) (list_any_none (λ y. x == y) xs behind) in
+    count_either (λ a. a == x) (has xs) n disjoint
     ∙ ap (λ (c : ℕ). c + count_below (has xs) n) (count_one x n (below x (has_first x xs)))
     ∙ ap (λ (c : ℕ). 1 + c) later
     ∙ omega arith

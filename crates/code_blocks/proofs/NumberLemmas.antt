@@ -55,10 +55,10 @@ other x a (inr more) = grind (arith, nat_tests, more)
 
 -- none begins at an address that no start is
 pub none_starts : (blocks : List Block) (a : ℕ) → ((j : ℕ) (d : Block) → j < length blocks → ((slice_index_or blocks j d).start < a) ⊎ (a < (slice_index_or blocks j d).start)) → has (map start_of blocks) a ≡ false
-none_starts [] a apart = refl
-none_starts (b ∷ blocks) a apart =
-    let here = other (b.start) a (apart 0 b (omega arith)) in
-    rw here (none_starts blocks a (λ j d below. apart (suc j) d (omega (arith, below))))
+none_starts [] a disjoint = refl
+none_starts (b ∷ blocks) a disjoint =
+    let here = other (b.start) a (disjoint 0 b (omega arith)) in
+    rw here (none_starts blocks a (λ j d below. disjoint (suc j) d (omega (arith, below))))
 
 -- nor at one between the starts below place n and that of block n
 pub none_around : (blocks : List Block) (a n : ℕ) (b : Block) → IsStrictlyIncreasing (map start_of blocks) → n < length blocks → b ≡ slice_index_or blocks n b → ((j : ℕ) (d : Block) → j < n → (slice_index_or blocks j d).start < a) → a < b.start → has (map start_of blocks) a ≡ false

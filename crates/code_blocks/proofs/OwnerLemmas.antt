@@ -1,4 +1,4 @@
--- The function in whose range an address lies, among functions that are apart.
+-- The function in whose range an address lies, among functions that are disjoint.
 use Rattle.std.proofs.Common.{◌≡◌, ◌⊎◌, inl, inr, ℕ, ◌+◌, ◌-◌, ◌<◌, ◌≤◌, nat_lt, nat_le, true, false, ◌&&◌, List, length, slice_index_or, refl, arith}
 use Rattle.std.specs.List.{list_any}
 use Rattle.std.specs.List.Sorted.{IsPartitionedBy}
@@ -6,21 +6,21 @@ use Rattle.std.proofs.lemmas.Bool.{cases_order}
 use Rattle.std.proofs.lemmas.Bool.Decides.{nat_tests}
 use Rattle.std.proofs.lemmas.List.Folds.{list_any_none}
 use Rattle.code_blocks.specs.Blocks.{lies_in_function}
-use Rattle.code_blocks.specs.Kept.{AreApart}
+use Rattle.code_blocks.specs.Kept.{AreDisjoint}
 use Rattle.code_blocks.specs.declared.parts.Function.{Function}
 
 lower_start : (x s y a : ℕ) → x + s ≤ y → nat_le y a ≡ true → nat_le x a ≡ true
-lower_start x s y a apart le = grind (arith, nat_tests, apart, le)
+lower_start x s y a disjoint le = grind (arith, nat_tests, disjoint, le)
 
-pub starts_rise : (functions : List Function) (a : ℕ) → AreApart functions → IsPartitionedBy (λ (f : Function). nat_le f.start a) functions
-starts_rise functions a apart i j d le below test =
+pub starts_rise : (functions : List Function) (a : ℕ) → AreDisjoint functions → IsPartitionedBy (λ (f : Function). nat_le f.start a) functions
+starts_rise functions a disjoint i j d le below test =
     let place : (i ≡ j) ⊎ (i < j) = grind arith in
     elim place [
       | inl same ↦ rw same test
       | inr lower ↦
           let f = slice_index_or functions i d in
           let g = slice_index_or functions j d in
-          lower_start f.start f.size g.start a (apart i j d lower below) test
+          lower_start f.start f.size g.start a (disjoint i j d lower below) test
     ]
 
 pub begun : (start a : ℕ) → nat_le start a ≡ true → start ≤ a
@@ -43,10 +43,10 @@ none_begun functions a later =
     (λ j d below. not_begun (slice_index_or functions j d).start (slice_index_or functions j d).size a (later j d below))
 
 -- the last that begins at or before it has ended
-pub last_ended : (functions : List Function) (a k : ℕ) → AreApart functions → k < length functions
+pub last_ended : (functions : List Function) (a k : ℕ) → AreDisjoint functions → k < length functions
     → ((d : Function) → (slice_index_or functions k d).start + (slice_index_or functions k d).size ≤ a)
     → ((j : ℕ) (d : Function) → k < j → j < length functions → nat_le (slice_index_or functions j d).start a ≡ false) → list_any (lies_in_function a) functions ≡ false
-last_ended functions a k apart below last later =
+last_ended functions a k disjoint below last later =
     list_any_none (lies_in_function a) functions
     (λ j d within.
     let f = slice_index_or functions j d in
@@ -54,7 +54,7 @@ last_ended functions a k apart below last later =
       | inl same ↦ ended f.start f.size a (rw same (last d))
       | inr other ↦ elim other [
         | inl lower ↦
-            let before = apart j k d lower below in
+            let before = disjoint j k d lower below in
             let end = last d in
             ended f.start f.size a (omega (arith, before, end))
         | inr higher ↦ not_begun f.start f.size a (later j d higher within)

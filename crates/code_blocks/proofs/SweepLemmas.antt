@@ -51,33 +51,33 @@ next_of_names view keys i read are below =
     }
 
 -- by whether it begins before the end of the last
-by_test : (v : PlainView) (names : List ℕ) (functions new : List Function) (reach next name : ℕ) → AreSwept v names functions reach → IsNext v names name
-    → (nat_lt (symbol_at v name).value reach ≡ true → (new ≡ functions) × (next ≡ reach))
-    → (nat_lt (symbol_at v name).value reach ≡ false
+by_test : (v : PlainView) (names : List ℕ) (functions new : List Function) (furthest_end next name : ℕ) → AreSwept v names functions furthest_end → IsNext v names name
+    → (nat_lt (symbol_at v name).value furthest_end ≡ true → (new ≡ functions) × (next ≡ furthest_end))
+    → (nat_lt (symbol_at v name).value furthest_end ≡ false
     → (new ≡ functions ++ record { name = name; start = (symbol_at v name).value; size = (symbol_at v name).size } ∷ [])
     × (next ≡ (symbol_at v name).value + (symbol_at v name).size))
     → AreSwept v (names ++ name ∷ []) new next
-by_test v names functions new reach next name swept is_next left kept =
-    elim (cases_Bool (nat_lt (symbol_at v name).value reach)) [
+by_test v names functions new furthest_end next name swept is_next left kept =
+    elim (cases_Bool (nat_lt (symbol_at v name).value furthest_end)) [
       | inl begins ↦
           let same = left begins in
           subst (AreSwept v (names ++ name ∷ []) new) (sym same.1)
-          (subst (λ (fs : List Function). AreSwept v (names ++ name ∷ []) fs reach) (sym same.0) (swept_left v names functions reach name swept is_next begins))
+          (subst (λ (fs : List Function). AreSwept v (names ++ name ∷ []) fs furthest_end) (sym same.0) (swept_left v names functions furthest_end name swept is_next begins))
       | inr behind ↦
           let more = kept behind in
           subst (AreSwept v (names ++ name ∷ []) new) (sym more.1)
-          (swept_kept v names functions new reach name (record { name = name; start = (symbol_at v name).value; size = (symbol_at v name).size }) swept is_next behind refl refl refl more.0)
+          (swept_kept v names functions new furthest_end name (record { name = name; start = (symbol_at v name).value; size = (symbol_at v name).size }) swept is_next behind refl refl refl more.0)
     ]
 
 -- one function further
-pub swept_more : (view : ElfView) (keys : List ℕ) (i : ℕ) (functions new : List Function) (reach next name : ℕ) → IsRead view → AreKeys (plain_view view) keys → i < length keys → name ≡ name_in (slice_index_or keys i 0)
-    → AreSwept (plain_view view) (map name_in (take i keys)) functions reach
-    → (nat_lt (symbol_at (plain_view view) name).value reach ≡ true → (new ≡ functions) × (next ≡ reach))
-    → (nat_lt (symbol_at (plain_view view) name).value reach ≡ false
+pub swept_more : (view : ElfView) (keys : List ℕ) (i : ℕ) (functions new : List Function) (furthest_end next name : ℕ) → IsRead view → AreKeys (plain_view view) keys → i < length keys → name ≡ name_in (slice_index_or keys i 0)
+    → AreSwept (plain_view view) (map name_in (take i keys)) functions furthest_end
+    → (nat_lt (symbol_at (plain_view view) name).value furthest_end ≡ true → (new ≡ functions) × (next ≡ furthest_end))
+    → (nat_lt (symbol_at (plain_view view) name).value furthest_end ≡ false
     → (new ≡ functions ++ record { name = name; start = (symbol_at (plain_view view) name).value; size = (symbol_at (plain_view view) name).size } ∷ [])
     × (next ≡ (symbol_at (plain_view view) name).value + (symbol_at (plain_view view) name).size))
     → AreSwept (plain_view view) (map name_in (take (i + 1) keys)) new next
-swept_more view keys i functions new reach next name read are below is swept left kept =
+swept_more view keys i functions new furthest_end next name read are below is swept left kept =
     let v = plain_view view in
     let names = map name_in keys in
     let count = length-map keys name_in in
@@ -88,10 +88,10 @@ swept_more view keys i functions new reach next name read are below is swept lef
     sym (take-map name_in (i + 1) keys) ∙ take_more names i 0 within ∙ (λ j. before j ++ named j ∷ []) in
     let is_next : IsNext v (map name_in (take i keys)) name =
     subst (λ (xs : List ℕ). IsNext v xs name) before (subst (IsNext v (take i names)) named (next_of_names view keys i read are within)) in
-    subst (λ (xs : List ℕ). AreSwept v xs new next) (sym after) (by_test v (map name_in (take i keys)) functions new reach next name swept is_next left kept)
+    subst (λ (xs : List ℕ). AreSwept v xs new next) (sym after) (by_test v (map name_in (take i keys)) functions new furthest_end next name swept is_next left kept)
 
-pub all_swept : (view : ElfView) (keys : List ℕ) (functions : List Function) (reach : ℕ) → IsRead view → AreKeys (plain_view view) keys → AreSwept (plain_view view) (map name_in keys) functions reach → AreKept (plain_view view) functions
-all_swept view keys functions reach read are swept =
+pub all_swept : (view : ElfView) (keys : List ℕ) (functions : List Function) (furthest_end : ℕ) → IsRead view → AreKeys (plain_view view) keys → AreSwept (plain_view view) (map name_in keys) functions furthest_end → AreKept (plain_view view) functions
+all_swept view keys functions furthest_end read are swept =
     let v = plain_view view in
     let few = swept.few in
     let names = length-map keys name_in in
@@ -104,7 +104,7 @@ all_swept view keys functions reach read are swept =
         exact = λ k. swept.exact k ∙ ap (λ (b : Bool). b && not (list_any (keeps_out v k) (map name_of functions))) (names_exact view keys read are k);
       };
       told = swept.told;
-      apart = swept.apart;
+      disjoint = swept.disjoint;
       few = omega (arith, few, names, symbols, keys_few, limit);
     }
 

@@ -1,7 +1,7 @@
 -- The functions of a program's code: of those that overlap, the first and largest.
 use Rattle.std.specs.Prelude.{◌≡◌, ℕ, ◌==◌, nat_lt, Bool, true, not, ◌&&◌, ◌||◌, List, length}
 use Rattle.std.specs.List.{AllPairs, list_any}
-use Rattle.list_checks.specs.Tests.{any_below, lies_in, meets}
+use Rattle.list_checks.specs.Tests.{any_below, lies_in, ranges_overlap}
 use Rattle.elf_reader.specs.File.{PlainView}
 use Rattle.elf_reader.specs.Loaded.{section_at}
 use Rattle.loaded_file.specs.Code.{is_code_range}
@@ -29,13 +29,13 @@ comes_before v k j =
     && (nat_lt (symbol_at v j).size (symbol_at v k).size || ((symbol_at v k).size == (symbol_at v j).size) && nat_lt k j)
 
 -- two functions share a byte
-abbrev pub functions_meet : PlainView → ℕ → ℕ → Bool
-functions_meet v k j =
-    meets (symbol_at v k).value (symbol_at v k).size (symbol_at v j).value (symbol_at v j).size
+abbrev pub functions_overlap : PlainView → ℕ → ℕ → Bool
+functions_overlap v k j =
+    ranges_overlap (symbol_at v k).value (symbol_at v k).size (symbol_at v j).value (symbol_at v j).size
 
 -- function `j` keeps function `k` out: it comes before it and shares a byte with it
 abbrev pub keeps_out : PlainView → ℕ → ℕ → Bool
-keeps_out v k j = comes_before v j k && functions_meet v j k
+keeps_out v k j = comes_before v j k && functions_overlap v j k
 
 -- the symbols of the functions that are kept, in their order: those that no kept one keeps out
 pub record IsKept (v : PlainView) (kept : List ℕ) : Type 0 where

@@ -32,12 +32,12 @@ pub record AreKeys (v : PlainView) (keys : List ℕ) : Type 0 where
   pub few : length keys ≤ length v.symbols
 
 -- each function ends where a later one begins, or before
-abbrev pub AreApart : List Function → Type 0
-AreApart functions = AllPairs (λ f g. f.start + f.size ≤ g.start) functions
+abbrev pub AreDisjoint : List Function → Type 0
+AreDisjoint functions = AllPairs (λ f g. f.start + f.size ≤ g.start) functions
 
 -- the functions that are kept
 pub record AreKept (v : PlainView) (functions : List Function) : Type 0 where
   pub kept : IsKept v (map name_of functions)
   pub told : All (IsFunction v) functions
-  pub apart : AreApart functions
+  pub disjoint : AreDisjoint functions
   pub few : length functions < 2 ^ 32

@@ -1,6 +1,6 @@
 ghost use Rattle.std.specs.Prelude.{◌≡◌, ◌^◌, ◌<◌, nat_le, min, length, map, IfOk};
 ghost use Rattle.std.specs.List.{All};
-ghost use Rattle.list_checks.specs.First.{◌or_else◌, unless, Tells, TellsUnless};
+ghost use Rattle.list_checks.specs.First.{◌or_else◌, unless, Reports, ReportsUnless};
 ghost use Rattle.elf_reader.specs.File.{plain_view};
 ghost use Rattle.loaded_file.specs.Marks.{all_loaded};
 ghost use Rattle.loaded_file.specs.Code.{is_code_word};
@@ -8,7 +8,7 @@ ghost use Rattle.loaded_file.specs.Read.{IsRead};
 ghost use Rattle.code_leaders.specs.Words.{any_code_word};
 ghost use Rattle.code_leaders.specs.AllLeaders.{IsLeaders};
 ghost use Rattle.code_blocks.specs.Blocks.{start_of, IsBlock, IsFunctionOf, IsCode, is_any, block_count, code_fault};
-ghost use Rattle.code_blocks.specs.Kept.{AreKept, AreApart};
+ghost use Rattle.code_blocks.specs.Kept.{AreKept, AreDisjoint};
 
 use crate::fault::CodeFault;
 use crate::functions_kept::{function_of, kept_functions};
@@ -30,7 +30,7 @@ const MOST_BLOCKS: usize = 65_536;
 /// number of sections.
 pub fn blocks(alloc: Global, view: &ElfView) -> Result<Code, CodeFault>
     requires { IsRead view.now }
-    ensures fault { TellsUnless CodeFault.Memory result (code_fault (plain_view view.now)) }
+    ensures fault { ReportsUnless CodeFault.Memory result (code_fault (plain_view view.now)) }
     ensures code { IfOk result (IsCode (plain_view view.now)) }
 {
     let loaded = loaded_sections(alloc, view)?;
@@ -46,7 +46,7 @@ pub fn blocks(alloc: Global, view: &ElfView) -> Result<Code, CodeFault>
 /// There is code, and the entry is a word of it.
 fn check_entry(view: &ElfView, loaded: &[bool]) -> Result<(), CodeFault>
     requires { loaded.now ≡ all_loaded (plain_view view.now) }
-    ensures { Tells result (unless (any_code_word (plain_view view.now) is_any) CodeFault.NoText or_else unless (is_code_word (plain_view view.now) (plain_view view.now).entry) CodeFault.EntryNotLeader) }
+    ensures { Reports result (unless (any_code_word (plain_view view.now) is_any) CodeFault.NoText or_else unless (is_code_word (plain_view view.now) (plain_view view.now).entry) CodeFault.EntryNotLeader) }
 {
     if !has_text(view, loaded) {
         return Err(CodeFault::NoText);
@@ -61,7 +61,7 @@ fn check_entry(view: &ElfView, loaded: &[bool]) -> Result<(), CodeFault>
 fn check_count(view: &ElfView, leaders: &Leaders) -> Result<(), CodeFault>
     requires read { IsRead view.now }
     requires leaders { IsLeaders (plain_view view.now) leaders.now }
-    ensures { Tells result (unless (nat_le (block_count (plain_view view.now)) 65536) (CodeFault.TooManyBlocks (min (block_count (plain_view view.now)) 4294967295))) }
+    ensures { Reports result (unless (nat_le (block_count (plain_view view.now)) 65536) (CodeFault.TooManyBlocks (min (block_count (plain_view view.now)) 4294967295))) }
 {
     let count = count_blocks(view, leaders);
     if count > MOST_BLOCKS {
@@ -114,7 +114,7 @@ fn all_blocks(
     requires read { IsRead view.now }
     requires marks { loaded.now ≡ all_loaded (plain_view view.now) }
     requires leaders { IsLeaders (plain_view view.now) leaders.now }
-    requires apart { AreApart functions.now }
+    requires disjoint { AreDisjoint functions.now }
     requires few { length functions.now < 2 ^ 32 }
     ensures starts { IfOk result (λ blocks. map start_of blocks.items ≡ leaders.now.all.items) }
     ensures blocks { IfOk result (λ blocks. All (IsBlock (plain_view view.now) functions.now) blocks.items) }
@@ -139,7 +139,7 @@ fn block_from(
     requires read { IsRead view.now }
     requires marks { loaded.now ≡ all_loaded (plain_view view.now) }
     requires leaders { IsLeaders (plain_view view.now) leaders.now }
-    requires apart { AreApart functions.now }
+    requires disjoint { AreDisjoint functions.now }
     requires few { length functions.now < 2 ^ 32 }
     ensures start { IfOk result (λ block. block.start ≡ start) }
     ensures block { IfOk result (IsBlock (plain_view view.now) functions.now) }
@@ -155,7 +155,7 @@ fn block_from(
 
 /// The number of the function in whose range an address lies.
 fn owner_of(functions: &[Function], address: u32) -> Option<u32>
-    requires apart { AreApart functions.now }
+    requires disjoint { AreDisjoint functions.now }
     requires few { length functions.now < 2 ^ 32 }
     ensures { IsFunctionOf functions.now address result }
 {

@@ -6,7 +6,7 @@ ghost use Rattle.loaded_file.specs.Marks.{all_loaded};
 ghost use Rattle.loaded_file.specs.Records.{symbol_at};
 ghost use Rattle.loaded_file.specs.Read.{IsRead};
 ghost use Rattle.code_blocks.specs.Blocks.{IsFunction, IsFunctionOf, name_of};
-ghost use Rattle.code_blocks.specs.Kept.{name_in, AreKeys, AreKept, AreApart};
+ghost use Rattle.code_blocks.specs.Kept.{name_in, AreKeys, AreKept, AreDisjoint};
 
 use crate::candidates::function_keys;
 use crate::parts::Function;
@@ -25,19 +25,19 @@ pub(crate) fn kept_functions(
     ensures { IfOk result (λ functions. AreKept (plain_view view.now) functions.items) }
 {
     let keys = function_keys(alloc, view, loaded)?;
-    keep_apart(alloc, view, &keys)
+    keep_disjoint(alloc, view, &keys)
 }
 
 /// Those functions, of all in their order, that meet no earlier one that is kept.
-fn keep_apart(alloc: Global, view: &ElfView, keys: &[u128]) -> Result<Vec<Function>, AllocError>
+fn keep_disjoint(alloc: Global, view: &ElfView, keys: &[u128]) -> Result<Vec<Function>, AllocError>
     requires read { IsRead view.now }
     requires keys { AreKeys (plain_view view.now) keys.now }
     ensures { IfOk result (λ functions. AreKept (plain_view view.now) functions.items) }
 {
     let mut functions = Vec::new(alloc);
-    let mut reach = 0;
+    let mut furthest_end = 0;
     for key in keys {
-        reach = keep(&mut functions, view, reach, name_in(*key))?;
+        furthest_end = keep(&mut functions, view, furthest_end, name_in(*key))?;
     }
     Ok(functions)
 }
@@ -49,21 +49,21 @@ fn name_in(key: u128) -> u32
     (key % 0x1_0000_0000) as u32
 }
 
-/// Adds the function of symbol `name`, unless it begins before `reach`, the end of the last one. Gives the new
+/// Adds the function of symbol `name`, unless it begins before `furthest_end`, the end of the last one. Gives the new
 /// end.
 fn keep(
     functions: &mut Vec<Function>,
     view: &ElfView,
-    reach: u64,
+    furthest_end: u64,
     name: u32,
 ) -> Result<u64, AllocError>
     requires { name < length view.now.symbols.items }
-    ensures left { IfOk result (λ next. nat_lt (symbol_at (plain_view view.now) name).value reach ≡ true → (functions.new.items ≡ functions.old.items) × (next ≡ reach)) }
-    ensures kept { IfOk result (λ next. nat_lt (symbol_at (plain_view view.now) name).value reach ≡ false → (functions.new.items ≡ functions.old.items ++ record { name = name; start = (symbol_at (plain_view view.now) name).value; size = (symbol_at (plain_view view.now) name).size } ∷ []) × (next ≡ (symbol_at (plain_view view.now) name).value + (symbol_at (plain_view view.now) name).size)) }
+    ensures left { IfOk result (λ next. nat_lt (symbol_at (plain_view view.now) name).value furthest_end ≡ true → (functions.new.items ≡ functions.old.items) × (next ≡ furthest_end)) }
+    ensures kept { IfOk result (λ next. nat_lt (symbol_at (plain_view view.now) name).value furthest_end ≡ false → (functions.new.items ≡ functions.old.items ++ record { name = name; start = (symbol_at (plain_view view.now) name).value; size = (symbol_at (plain_view view.now) name).size } ∷ []) × (next ≡ (symbol_at (plain_view view.now) name).value + (symbol_at (plain_view view.now) name).size)) }
 {
     let symbol = &view.symbols[name as usize];
-    if u64::from(symbol.value) < reach {
-        return Ok(reach);
+    if u64::from(symbol.value) < furthest_end {
+        return Ok(furthest_end);
     }
     functions.push(Function {
         name,
@@ -73,9 +73,9 @@ fn keep(
     Ok(u64::from(symbol.value) + u64::from(symbol.size))
 }
 
-/// The function in whose range an address lies, by binary search: its place among functions that are apart.
+/// The function in whose range an address lies, by binary search: its place among functions that are disjoint.
 pub fn function_of(functions: &[Function], address: u32) -> Option<usize>
-    requires { AreApart functions.now }
+    requires { AreDisjoint functions.now }
     ensures { IsFunctionOf functions.now address result }
 {
     let count = begun_functions(functions, address);
@@ -92,7 +92,7 @@ pub fn function_of(functions: &[Function], address: u32) -> Option<usize>
 
 /// How many functions begin at an address or before it.
 fn begun_functions(functions: &[Function], address: u32) -> usize
-    requires { AreApart functions.now }
+    requires { AreDisjoint functions.now }
     ensures bound { result ≤ length functions.now }
     ensures point { IsPartitionPoint (λ f. nat_le f.start address ≡ true) (λ f. nat_le f.start address ≡ false) functions.now result }
 {

@@ -15,14 +15,14 @@ use Rattle.certificate_checker.specs.declared.fault.CertFault.{CertFault}
 use Rattle.certificate_checker.specs.declared.fault.CertFault.TheVariants as cert
 use Rattle.certificate_checker.proofs.Least.{shown_is_least}
 use Rattle.certificate_checker.proofs.TextLaws.{certificate_takes}
-use Rattle.command_line.specs.FaultLine.{parts_of, cert_refusal}
+use Rattle.command_line.specs.FaultLine.{parts_of, cert_command_fault}
 use Rattle.command_line.specs.Analysed.{Accepts, IsOpened}
-use Rattle.command_line.specs.ProgramRun.{StatesOf, RefusesProfiled}
-use Rattle.relinking.specs.StatedRun.{StatesProgramme}
+use Rattle.command_line.specs.ProgramRun.{StatesOf, RejectsProfiled}
+use Rattle.relinking.specs.ProgrammeOfRun.{StatesProgramme}
 use Rattle.printed_lines.specs.ReportText.{IsReport}
-use Rattle.command_line.specs.CheckFile.{answer_of, ReportsText, told_of, TellsText, unspelled, answered, of_run, of_certificate, RefusesChecked, RefusesText, MayReport, ReportsAnswer, RefusesAnswer}
+use Rattle.command_line.specs.CheckFile.{answer_of, ReportsText, told_of, ReportsCertificate, unspelled, answered, of_run, of_certificate, RejectsChecked, RejectsText, MayReport, ReportsAnswer, RejectsAnswer}
 use Rattle.command_line.specs.declared.opening.Opened.{Opened}
-use Rattle.command_line.specs.declared.faults.Refusal.{Refusal}
+use Rattle.command_line.specs.declared.faults.CommandFault.{CommandFault}
 use Rattle.relinking.proofs.Analysed.{findings}
 use Rattle.command_line.proofs.Analysing.{opened_view}
 
@@ -65,11 +65,11 @@ module _ (p : PlainProgramme) (nodes : ℕ) (text : List ℕ) (kept : PlainChoic
   text_reported v report body made =
       let (c, (read, answers, same)) = body in reports (plain_verdict v) c report read answers same made
 
-  -- and one that is refused for its answer tells that
-  pub text_refused : (v : Verdict) (fault : Refusal) → BodyAnswers p kept (Ok v) (certificate_of text)
-      → RefusesAnswer (plain_verdict v) fault → RefusesText p text fault
-  text_refused v fault body (inl memory) = inl memory
-  text_refused v fault body (inr told) =
+  -- and one that is rejected for its answer tells that
+  pub text_rejected : (v : Verdict) (fault : CommandFault) → BodyAnswers p kept (Ok v) (certificate_of text)
+      → RejectsAnswer (plain_verdict v) fault → RejectsText p text fault
+  text_rejected v fault body (inl memory) = inl memory
+  text_rejected v fault body (inr told) =
       let (c, (read, answers, same)) = body in inr (answered c (plain_verdict v) (certificate_takes text c all read) answers (sym told))
 
 pub may_report_read : (p : PlainProgramme) (text : List ℕ) (kept : PlainChoice) (v : Verdict) → BodyAnswers p kept (Ok v) (certificate_of text)
@@ -78,14 +78,14 @@ may_report_read p text kept v body =
     let (c, (read, answers, same)) = body in may_report p kept (plain_verdict v) c answers same
 
 -- a text that spells no certificate
-pub unspelled_refused : (p : PlainProgramme) (text : List ℕ) (fault : CertFault) → certificate_of text ≡ Err fault
-    → RefusesText p text (cert_refusal fault)
-unspelled_refused p text (cert.BadHead at) read = inr (unspelled (cert.BadHead at) read refl)
-unspelled_refused p text (cert.Truncated at) read = inr (unspelled (cert.Truncated at) read refl)
-unspelled_refused p text (cert.BadNode at) read = inr (unspelled (cert.BadNode at) read refl)
-unspelled_refused p text (cert.TooDeep at) read = inr (unspelled (cert.TooDeep at) read refl)
-unspelled_refused p text (cert.Trailing at) read = inr (unspelled (cert.Trailing at) read refl)
-unspelled_refused p text cert.Memory read = inl refl
+pub unspelled_rejected : (p : PlainProgramme) (text : List ℕ) (fault : CertFault) → certificate_of text ≡ Err fault
+    → RejectsText p text (cert_command_fault fault)
+unspelled_rejected p text (cert.BadHead at) read = inr (unspelled (cert.BadHead at) read refl)
+unspelled_rejected p text (cert.Truncated at) read = inr (unspelled (cert.Truncated at) read refl)
+unspelled_rejected p text (cert.BadNode at) read = inr (unspelled (cert.BadNode at) read refl)
+unspelled_rejected p text (cert.TooDeep at) read = inr (unspelled (cert.TooDeep at) read refl)
+unspelled_rejected p text (cert.Trailing at) read = inr (unspelled (cert.Trailing at) read refl)
+unspelled_rejected p text cert.Memory read = inl refl
 
 -- ---- the command
 
@@ -94,19 +94,19 @@ none_told true = refl
 none_told false = refl
 
 -- of a text that has a report nothing is told
-pub nothing_told : (p : PlainProgramme) (nodes : ℕ) (text report : List ℕ) → ReportsText p nodes text report → TellsText p text None
+pub nothing_told : (p : PlainProgramme) (nodes : ℕ) (text report : List ℕ) → ReportsText p nodes text report → ReportsCertificate p text None
 nothing_told p nodes text report made =
     answered made.certificate (answer_of made.says_optimal) made.spells made.answers (none_told made.says_optimal)
 
 -- a fault before the text
-pub run_refused_first : (board_text file input text : List ℕ) (fault : Refusal) → RefusesProfiled board_text file input fault
-    → RefusesChecked board_text file input text fault
-run_refused_first board_text file input text fault (inl memory) = inl memory
-run_refused_first board_text file input text fault (inr told) = inr (of_run (parts_of fault) told refl)
+pub run_rejected_first : (board_text file input text : List ℕ) (fault : CommandFault) → RejectsProfiled board_text file input fault
+    → RejectsChecked board_text file input text fault
+run_rejected_first board_text file input text fault (inl memory) = inl memory
+run_rejected_first board_text file input text fault (inr told) = inr (of_run (parts_of fault) told refl)
 
 -- a fault of the text
-pub certificate_told : (board_text file input text : List ℕ) (board : Board) (p : PlainProgramme) (fault : Refusal)
-    → Accepts board_text file board → StatesOf file board input p → RefusesText p text fault → RefusesChecked board_text file input text fault
+pub certificate_told : (board_text file input text : List ℕ) (board : Board) (p : PlainProgramme) (fault : CommandFault)
+    → Accepts board_text file board → StatesOf file board input p → RejectsText p text fault → RejectsChecked board_text file input text fault
 certificate_told board_text file input text board p fault accepts states (inl memory) = inl memory
 certificate_told board_text file input text board p fault accepts states (inr told) = inr (of_certificate board p accepts states told)
 

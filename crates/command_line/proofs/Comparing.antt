@@ -5,9 +5,9 @@ use Rattle.elf_reader.specs.File.{PlainSegment, entry_of, load_segments}
 use Rattle.hex_image.specs.Runs.{ByteMap, file_map}
 use Rattle.hex_image.specs.Reading.{hex_fault, Spells}
 use Rattle.hex_image.specs.Difference.{IsDifference}
-use Rattle.command_line.specs.Meaning.{texts_refusal, Compares}
+use Rattle.command_line.specs.Meaning.{texts_command_fault, Compares}
 
-pub none_in_texts : (file text : List ℕ) → first_fault file ≡ None → hex_fault text ≡ None → texts_refusal file text ≡ None
+pub none_in_texts : (file text : List ℕ) → first_fault file ≡ None → hex_fault text ≡ None → texts_command_fault file text ≡ None
 none_in_texts file text no_fault no_hex_fault = rw (no_fault, no_hex_fault) refl
 
 pub compares_image : (file text : List ℕ) (segments : List PlainSegment) (entry : ℕ) (given : ByteMap) (start : Option ℕ) (difference : Option ℕ)

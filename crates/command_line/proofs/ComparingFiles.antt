@@ -15,16 +15,16 @@ use Rattle.object_machine.specs.Program.{Program, program_of}
 use Rattle.object_machine.specs.State.{SourceState}
 use Rattle.object_machine.specs.Start.{start_of}
 use Rattle.result_setups.specs.HomeLaws.{program_in, source_start}
-use Rattle.compare_runner.specs.Comparing.{Judges, Tells, JudgesRun, Compares}
+use Rattle.compare_runner.specs.Comparing.{Judges, Reports, JudgesRun, Compares}
 use Rattle.compare_runner.specs.declared.comparing.Comparison.{Comparison}
 use Rattle.compare_runner.specs.declared.comparing.Comparison.TheVariants.{Same, Differs, SourceFault}
-use Rattle.command_line.specs.FaultLine.{elf_refusal}
+use Rattle.command_line.specs.FaultLine.{elf_command_fault}
 use Rattle.command_line.specs.Analysed.{Accepts, IsOpened}
 use Rattle.printed_lines.specs.Endings.{IsAddressFault}
-use Rattle.command_line.specs.CompareFiles.{Compared, ComparesTo, HasEnding, AnswersComparison, RefusesComparison, RefusesCompared, of_relinked, of_comparison}
+use Rattle.command_line.specs.CompareFiles.{Compared, ComparesTo, HasEnding, AnswersComparison, RejectsComparison, RejectsCompared, of_relinked, of_comparison}
 use Rattle.command_line.specs.declared.opening.Opened.{Opened}
-use Rattle.command_line.specs.declared.faults.Refusal.{Refusal}
-use Rattle.command_line.specs.declared.faults.Refusal.TheVariants as refusal
+use Rattle.command_line.specs.declared.faults.CommandFault.{CommandFault}
+use Rattle.command_line.specs.declared.faults.CommandFault.TheVariants as command_fault
 use Rattle.command_line.proofs.Analysing.{opened_view}
 
 -- the comparison of two views is that of their files
@@ -58,7 +58,7 @@ run_ending : (board : Board) (k : ℕ) (s : SourceState) (start : State) (told :
 run_ending board k s start told run fault =
     let (m, (t, (ends, judges))) = run in judged_ending s.outcome s.output t.output t.outcome told judges fault
 
-told_ending : (o : Outcome) (board : Board) (k : ℕ) (s : SourceState) (start : State) (told : Outcome) → Tells o (JudgesRun board k s start) (Same told) → IsAddressFault told → ⊥
+told_ending : (o : Outcome) (board : Board) (k : ℕ) (s : SourceState) (start : State) (told : Outcome) → Reports o (JudgesRun board k s start) (Same told) → IsAddressFault told → ⊥
 told_ending GoesOn board k s start told run fault = run_ending board k s start told run fault
 told_ending (Exited code) board k s start told run fault = run_ending board k s start told run fault
 told_ending (Trapped pc) board k s start told run fault = run_ending board k s start told run fault
@@ -74,27 +74,27 @@ has_ending p board n start other (SourceFault pc why) compares = tt
 
 module _ (board_text file relinked input : List ℕ) (board : Board) (accepts : Accepts board_text file board) where
   relinked_told : (fault : ElfFault) → (fault ≡ elf.Memory) ⊎ (first_fault relinked ≡ Some fault)
-      → (fault ≡ elf.Memory → ⊥) → RefusesCompared board_text file relinked input (refusal.Elf fault)
+      → (fault ≡ elf.Memory → ⊥) → RejectsCompared board_text file relinked input (command_fault.Elf fault)
   relinked_told fault (inl memory) other = absurd (other memory)
   relinked_told fault (inr first) other = inr (of_relinked board fault accepts first refl)
 
-  pub relinked_refused : (fault : ElfFault) → (fault ≡ elf.Memory) ⊎ (first_fault relinked ≡ Some fault)
-      → RefusesCompared board_text file relinked input (elf_refusal fault)
-  relinked_refused (elf.TooShort need have) told = relinked_told (elf.TooShort need have) told (λ e. cc)
-  relinked_refused (elf.NotElf at) told = relinked_told (elf.NotElf at) told (λ e. cc)
-  relinked_refused (elf.WrongKind field value) told = relinked_told (elf.WrongKind field value) told (λ e. cc)
-  relinked_refused (elf.OutOfFile table index) told = relinked_told (elf.OutOfFile table index) told (λ e. cc)
-  relinked_refused (elf.BadIndex table index) told = relinked_told (elf.BadIndex table index) told (λ e. cc)
-  relinked_refused (elf.Unsupported index kind) told = relinked_told (elf.Unsupported index kind) told (λ e. cc)
-  relinked_refused (elf.OverLimit what count) told = relinked_told (elf.OverLimit what count) told (λ e. cc)
-  relinked_refused (elf.Compressed section) told = relinked_told (elf.Compressed section) told (λ e. cc)
-  relinked_refused (elf.Overlap first second) told = relinked_told (elf.Overlap first second) told (λ e. cc)
-  relinked_refused elf.Memory told = inl refl
+  pub relinked_rejected : (fault : ElfFault) → (fault ≡ elf.Memory) ⊎ (first_fault relinked ≡ Some fault)
+      → RejectsCompared board_text file relinked input (elf_command_fault fault)
+  relinked_rejected (elf.TooShort need have) told = relinked_told (elf.TooShort need have) told (λ e. cc)
+  relinked_rejected (elf.NotElf at) told = relinked_told (elf.NotElf at) told (λ e. cc)
+  relinked_rejected (elf.WrongKind field value) told = relinked_told (elf.WrongKind field value) told (λ e. cc)
+  relinked_rejected (elf.OutOfFile table index) told = relinked_told (elf.OutOfFile table index) told (λ e. cc)
+  relinked_rejected (elf.BadIndex table index) told = relinked_told (elf.BadIndex table index) told (λ e. cc)
+  relinked_rejected (elf.Unsupported index kind) told = relinked_told (elf.Unsupported index kind) told (λ e. cc)
+  relinked_rejected (elf.OverLimit what count) told = relinked_told (elf.OverLimit what count) told (λ e. cc)
+  relinked_rejected (elf.Compressed section) told = relinked_told (elf.Compressed section) told (λ e. cc)
+  relinked_rejected (elf.Overlap first second) told = relinked_told (elf.Overlap first second) told (λ e. cc)
+  relinked_rejected elf.Memory told = inl refl
 
-  pub comparison_refused : (c : Comparison) (fault : Refusal) → first_fault relinked ≡ None → Compared file relinked board input c
-      → RefusesComparison c fault → RefusesCompared board_text file relinked input fault
-  comparison_refused c fault sound compared (inl memory) = inl memory
-  comparison_refused c fault sound compared (inr told) = inr (of_comparison board c accepts sound compared (sym told))
+  pub comparison_rejected : (c : Comparison) (fault : CommandFault) → first_fault relinked ≡ None → Compared file relinked board input c
+      → RejectsComparison c fault → RejectsCompared board_text file relinked input fault
+  comparison_rejected c fault sound compared (inl memory) = inl memory
+  comparison_rejected c fault sound compared (inr told) = inr (of_comparison board c accepts sound compared (sym told))
 
   pub comparison_answered : (c : Comparison) (text : List ℕ) → first_fault relinked ≡ None → Compared file relinked board input c
       → AnswersComparison c text → ComparesTo file relinked board_text input text

@@ -9,7 +9,7 @@ use Rattle.hex_image.specs.Reading as hex
 use Rattle.command_line.specs.Command.{PlainCommand, IsCommand, Named, reads}
 use Rattle.command_line.specs.FaultLine.{Parts, status_of, fault_line, parts_of}
 use Rattle.command_line.specs.Delivery.{LosesOne}
-use Rattle.command_line.specs.Refused.{PutsLine, refused_status, refused_line}
+use Rattle.command_line.specs.Diagnostic.{PutsLine, rejected_status, rejected_line}
 use Rattle.command_line.specs.Reading.{HoldsAll}
 use Rattle.compare_runner.specs.declared.comparing.Comparison.TheVariants.{Same}
 use Rattle.command_line.specs.ProgramRun.{of_none}
@@ -17,10 +17,10 @@ use Rattle.command_line.specs.ShowFile as show
 use Rattle.command_line.specs.CompareFiles.{of_comparison}
 use Rattle.command_line.specs.CheckFile.{of_certificate}
 use Rattle.command_line.specs.Meaning.{Compares, IsFirst, run_first, relink_first, profile_first, compare_first, check_first, gen_first, hex_first, check_difference, Yields, runs, relinks, profiles, compares, checks, generates, writes_hex, agrees, show_first, shows}
-use Rattle.command_line.specs.Answers.{IsDone, Cause, HasCause, EndsRefused, InputFails, AnswersInputs, AnswersUsage, AnswersCommand, TellsAll}
-use Rattle.command_line.specs.declared.refused.Refused.{Refused}
-use Rattle.command_line.specs.declared.faults.Refusal.{Refusal}
-use Rattle.command_line.specs.declared.faults.Refusal.TheVariants as refusal
+use Rattle.command_line.specs.Answers.{IsDone, Cause, HasCause, EndsRejected, InputFails, AnswersInputs, AnswersUsage, AnswersCommand, ReportsAll}
+use Rattle.command_line.specs.declared.diagnostic.Diagnostic.{Diagnostic}
+use Rattle.command_line.specs.declared.faults.CommandFault.{CommandFault}
+use Rattle.command_line.specs.declared.faults.CommandFault.TheVariants as command_fault
 use Rattle.command_line.proofs.OneCommand.{one_command, one_reading}
 use Rattle.command_line.proofs.Statuses.{status_positive}
 use Rattle.command_line.proofs.Profiling.{profile_runs}
@@ -60,7 +60,7 @@ yields_first command inputs outputs text (agrees f h file hex_text is are none s
 
 -- a first fault of what a command read is that of what the shelf tells
 first_told : (words : List (List ℕ)) (shelf : ShelfView) (one other : PlainCommand) (read told : List (List ℕ)) (first : Option Parts)
-    → IsCommand words one → IsCommand words other → HoldsAll shelf (reads one) read → TellsAll shelf (reads other) told
+    → IsCommand words one → IsCommand words other → HoldsAll shelf (reads one) read → ReportsAll shelf (reads other) told
     → IsFirst one read first → IsFirst other told first
 first_told words shelf one other read told first is is' h t f =
     let same = one_command words one other is is' in
@@ -91,7 +91,7 @@ rose_more a b c (inl less) (inr last) = inl (omega arith)
 rose_more a b c (inr last) (inl more) = inl (omega arith)
 rose_more a b c (inr first) (inr last) = inr (first.0, last.1)
 
-rose_on : (fault : Refusal) (sink mid sink' : SinkView)
+rose_on : (fault : CommandFault) (sink mid sink' : SinkView)
     → Rose sink.faults mid.faults → PutsLine (fault_line fault) mid sink' → Rose sink.faults sink'.faults
 rose_on fault sink mid sink' rose (inl all) = subst (Rose sink.faults) (sym all.faults) rose
 rose_on fault sink mid sink' rose (inr some) = rose_more _ _ _ rose some.rose
@@ -114,31 +114,31 @@ done_command words old new sink sink' d command inputs is told nothing =
       status_is = refl;
     })
 
--- ---- a command that was refused
+-- ---- a command that was rejected
 
-refused_usage : (fault : Refusal) (status : ℕ) (words : List (List ℕ)) (old new : ShelfView) (sink mid : SinkView)
+rejected_usage : (fault : CommandFault) (status : ℕ) (words : List (List ℕ)) (old new : ShelfView) (sink mid : SinkView)
     → status ≡ status_of fault → Cause fault words old new sink mid → AnswersUsage status words
-refused_usage refusal.Usage status words old new sink mid e c none = inl e
-refused_usage (refusal.Read place) status words old new sink mid e c none = absurd (none c.0.command c.0.is_command)
-refused_usage (refusal.Write place) status words old new sink mid e (inl x) none =
+rejected_usage command_fault.Usage status words old new sink mid e c none = inl e
+rejected_usage (command_fault.Read place) status words old new sink mid e c none = absurd (none c.0.command c.0.is_command)
+rejected_usage (command_fault.Write place) status words old new sink mid e (inl x) none =
     absurd (none x.0.produces.command x.0.produces.is_command)
-refused_usage (refusal.Write place) status words old new sink mid e (inr x) none =
+rejected_usage (command_fault.Write place) status words old new sink mid e (inr x) none =
     absurd (none x.delivers.produces.command x.delivers.produces.is_command)
-refused_usage (refusal.Board fault) status words old new sink mid e c none = absurd (none c.0.command c.0.is_command)
-refused_usage (refusal.Elf fault) status words old new sink mid e c none = absurd (none c.0.command c.0.is_command)
-refused_usage (refusal.Analyse fault) status words old new sink mid e c none = absurd (none c.0.command c.0.is_command)
-refused_usage (refusal.AddressFault pc why) status words old new sink mid e c none = absurd (none c.0.command c.0.is_command)
-refused_usage (refusal.Certificate fault) status words old new sink mid e c none = absurd (none c.0.command c.0.is_command)
-refused_usage refusal.BadChoice status words old new sink mid e c none = absurd (none c.0.command c.0.is_command)
-refused_usage (refusal.WrongTree side node) status words old new sink mid e c none = absurd (none c.0.command c.0.is_command)
-refused_usage (refusal.Hex fault) status words old new sink mid e c none = absurd (none c.0.command c.0.is_command)
-refused_usage (refusal.Differs at) status words old new sink mid e c none = absurd (none c.0.command c.0.is_command)
-refused_usage (refusal.SourceFault pc why) status words old new sink mid e c none = absurd (none c.0.command c.0.is_command)
-refused_usage refusal.Memory status words old new sink mid e c none = inr e
+rejected_usage (command_fault.Board fault) status words old new sink mid e c none = absurd (none c.0.command c.0.is_command)
+rejected_usage (command_fault.Elf fault) status words old new sink mid e c none = absurd (none c.0.command c.0.is_command)
+rejected_usage (command_fault.Analyse fault) status words old new sink mid e c none = absurd (none c.0.command c.0.is_command)
+rejected_usage (command_fault.AddressFault pc why) status words old new sink mid e c none = absurd (none c.0.command c.0.is_command)
+rejected_usage (command_fault.Certificate fault) status words old new sink mid e c none = absurd (none c.0.command c.0.is_command)
+rejected_usage command_fault.BadChoice status words old new sink mid e c none = absurd (none c.0.command c.0.is_command)
+rejected_usage (command_fault.WrongTree side node) status words old new sink mid e c none = absurd (none c.0.command c.0.is_command)
+rejected_usage (command_fault.Hex fault) status words old new sink mid e c none = absurd (none c.0.command c.0.is_command)
+rejected_usage (command_fault.Differs at) status words old new sink mid e c none = absurd (none c.0.command c.0.is_command)
+rejected_usage (command_fault.SourceFault pc why) status words old new sink mid e c none = absurd (none c.0.command c.0.is_command)
+rejected_usage command_fault.Memory status words old new sink mid e c none = inr e
 
-input_answers : (fault : Refusal) (status : ℕ) (words : List (List ℕ)) (old new : ShelfView)
+input_answers : (fault : CommandFault) (status : ℕ) (words : List (List ℕ)) (old new : ShelfView)
     → status ≡ status_of fault → InputFails words fault old new
-    → (command : PlainCommand) (inputs : List (List ℕ)) → IsCommand words command → TellsAll old (reads command) inputs
+    → (command : PlainCommand) (inputs : List (List ℕ)) → IsCommand words command → ReportsAll old (reads command) inputs
     → AnswersInputs status command inputs
 input_answers fault status words old new e f command inputs is told =
     record {
@@ -147,60 +147,60 @@ input_answers fault status words old new e f command inputs is told =
       status_is = e;
     }
 
-refused_command : (fault : Refusal) (status : ℕ) (words : List (List ℕ)) (old new : ShelfView) (sink mid sink' : SinkView)
+rejected_command : (fault : CommandFault) (status : ℕ) (words : List (List ℕ)) (old new : ShelfView) (sink mid sink' : SinkView)
     → status ≡ status_of fault → Cause fault words old new sink mid → PutsLine (fault_line fault) mid sink'
     → AnswersCommand status words old new sink sink'
-refused_command refusal.Usage status words old new sink mid sink' e c line command inputs is told nothing =
+rejected_command command_fault.Usage status words old new sink mid sink' e c line command inputs is told nothing =
     absurd (c.0 command is)
-refused_command (refusal.Read place) status words old new sink mid sink' e c line command inputs is told nothing =
+rejected_command (command_fault.Read place) status words old new sink mid sink' e c line command inputs is told nothing =
     absurd (longer old.failed _ (sym (ap (λ (s : ShelfView). s.failed) c.0.logged) ∙ nothing.no_call))
-refused_command (refusal.Write place) status words old new sink mid sink' e (inl x) line command inputs is told nothing =
+rejected_command (command_fault.Write place) status words old new sink mid sink' e (inl x) line command inputs is told nothing =
     absurd (lost_logs _ _ place old new x.0.lost nothing.no_call)
-refused_command (refusal.Write place) status words old new sink mid sink' e (inr x) line command inputs is told nothing =
-    absurd (nothing.no_put (rose_on (refusal.Write place) sink mid sink' x.printed.rose line))
-refused_command (refusal.Board fault) status words old new sink mid sink' e c line command inputs is told nothing =
-    inl (input_answers (refusal.Board fault) status words old new e c.0 command inputs is told)
-refused_command (refusal.Elf fault) status words old new sink mid sink' e c line command inputs is told nothing =
-    inl (input_answers (refusal.Elf fault) status words old new e c.0 command inputs is told)
-refused_command (refusal.Analyse fault) status words old new sink mid sink' e c line command inputs is told nothing =
-    inl (input_answers (refusal.Analyse fault) status words old new e c.0 command inputs is told)
-refused_command (refusal.AddressFault pc why) status words old new sink mid sink' e c line command inputs is told nothing =
-    inl (input_answers (refusal.AddressFault pc why) status words old new e c.0 command inputs is told)
-refused_command (refusal.Certificate fault) status words old new sink mid sink' e c line command inputs is told nothing =
-    inl (input_answers (refusal.Certificate fault) status words old new e c.0 command inputs is told)
-refused_command refusal.BadChoice status words old new sink mid sink' e c line command inputs is told nothing =
-    inl (input_answers refusal.BadChoice status words old new e c.0 command inputs is told)
-refused_command (refusal.WrongTree side node) status words old new sink mid sink' e c line command inputs is told nothing =
-    inl (input_answers (refusal.WrongTree side node) status words old new e c.0 command inputs is told)
-refused_command (refusal.Hex fault) status words old new sink mid sink' e c line command inputs is told nothing =
-    inl (input_answers (refusal.Hex fault) status words old new e c.0 command inputs is told)
-refused_command (refusal.Differs at) status words old new sink mid sink' e c line command inputs is told nothing =
-    inl (input_answers (refusal.Differs at) status words old new e c.0 command inputs is told)
-refused_command (refusal.SourceFault pc why) status words old new sink mid sink' e c line command inputs is told nothing =
-    inl (input_answers (refusal.SourceFault pc why) status words old new e c.0 command inputs is told)
-refused_command refusal.Memory status words old new sink mid sink' e c line command inputs is told nothing = inr e
+rejected_command (command_fault.Write place) status words old new sink mid sink' e (inr x) line command inputs is told nothing =
+    absurd (nothing.no_put (rose_on (command_fault.Write place) sink mid sink' x.printed.rose line))
+rejected_command (command_fault.Board fault) status words old new sink mid sink' e c line command inputs is told nothing =
+    inl (input_answers (command_fault.Board fault) status words old new e c.0 command inputs is told)
+rejected_command (command_fault.Elf fault) status words old new sink mid sink' e c line command inputs is told nothing =
+    inl (input_answers (command_fault.Elf fault) status words old new e c.0 command inputs is told)
+rejected_command (command_fault.Analyse fault) status words old new sink mid sink' e c line command inputs is told nothing =
+    inl (input_answers (command_fault.Analyse fault) status words old new e c.0 command inputs is told)
+rejected_command (command_fault.AddressFault pc why) status words old new sink mid sink' e c line command inputs is told nothing =
+    inl (input_answers (command_fault.AddressFault pc why) status words old new e c.0 command inputs is told)
+rejected_command (command_fault.Certificate fault) status words old new sink mid sink' e c line command inputs is told nothing =
+    inl (input_answers (command_fault.Certificate fault) status words old new e c.0 command inputs is told)
+rejected_command command_fault.BadChoice status words old new sink mid sink' e c line command inputs is told nothing =
+    inl (input_answers command_fault.BadChoice status words old new e c.0 command inputs is told)
+rejected_command (command_fault.WrongTree side node) status words old new sink mid sink' e c line command inputs is told nothing =
+    inl (input_answers (command_fault.WrongTree side node) status words old new e c.0 command inputs is told)
+rejected_command (command_fault.Hex fault) status words old new sink mid sink' e c line command inputs is told nothing =
+    inl (input_answers (command_fault.Hex fault) status words old new e c.0 command inputs is told)
+rejected_command (command_fault.Differs at) status words old new sink mid sink' e c line command inputs is told nothing =
+    inl (input_answers (command_fault.Differs at) status words old new e c.0 command inputs is told)
+rejected_command (command_fault.SourceFault pc why) status words old new sink mid sink' e c line command inputs is told nothing =
+    inl (input_answers (command_fault.SourceFault pc why) status words old new e c.0 command inputs is told)
+rejected_command command_fault.Memory status words old new sink mid sink' e c line command inputs is told nothing = inr e
 
--- a refusal whose line was put
-pub ends_refused : (words : List (List ℕ)) (old new : ShelfView) (sink mid sink' : SinkView) (r : Refused) (status : ℕ)
-    → HasCause words old new sink mid r → status ≡ refused_status r → PutsLine (refused_line r) mid sink'
-    → EndsRefused status words old new sink sink'
-ends_refused words old new sink mid sink' r status h e line =
+-- a fault whose line was put
+pub ends_rejected : (words : List (List ℕ)) (old new : ShelfView) (sink mid sink' : SinkView) (r : Diagnostic) (status : ℕ)
+    → HasCause words old new sink mid r → status ≡ rejected_status r → PutsLine (rejected_line r) mid sink'
+    → EndsRejected status words old new sink sink'
+ends_rejected words old new sink mid sink' r status h e line =
     record {
       fault = h.fault;
-      status_is = e ∙ h.ready.status;
-      refused = record { mid = mid; cause = h.cause; line = subst (λ (l : List ℕ). PutsLine l mid sink') h.ready.line line };
+      status_is = e ∙ h.prepared.status;
+      rejected = record { mid = mid; cause = h.cause; line = subst (λ (l : List ℕ). PutsLine l mid sink') h.prepared.line line };
     }
 
 pub ends_usage : (words : List (List ℕ)) (old new : ShelfView) (sink sink' : SinkView) (status : ℕ)
-    → EndsRefused status words old new sink sink' → AnswersUsage status words
+    → EndsRejected status words old new sink sink' → AnswersUsage status words
 ends_usage words old new sink sink' status r =
-    refused_usage r.fault status words old new sink r.refused.mid r.status_is r.refused.cause
+    rejected_usage r.fault status words old new sink r.rejected.mid r.status_is r.rejected.cause
 
 pub ends_command : (words : List (List ℕ)) (old new : ShelfView) (sink sink' : SinkView) (status : ℕ)
-    → EndsRefused status words old new sink sink' → AnswersCommand status words old new sink sink'
+    → EndsRejected status words old new sink sink' → AnswersCommand status words old new sink sink'
 ends_command words old new sink sink' status r =
-    refused_command r.fault status words old new sink r.refused.mid sink' r.status_is r.refused.cause r.refused.line
+    rejected_command r.fault status words old new sink r.rejected.mid sink' r.status_is r.rejected.cause r.rejected.line
 
 pub ends_positive : (words : List (List ℕ)) (old new : ShelfView) (sink sink' : SinkView) (status : ℕ)
-    → EndsRefused status words old new sink sink' → status ≡ 0 → ⊥
+    → EndsRejected status words old new sink sink' → status ≡ 0 → ⊥
 ends_positive words old new sink sink' status r e = status_positive r.fault (sym r.status_is ∙ e)

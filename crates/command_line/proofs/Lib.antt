@@ -10,7 +10,7 @@ pub mod Profiling
 pub mod Stating
 pub mod ComparingFiles
 pub mod Certificates
-pub mod Refusals
+pub mod CommandFaults
 pub mod Readings
 pub mod Writings
 pub mod Numbers

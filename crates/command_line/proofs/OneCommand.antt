@@ -3,7 +3,7 @@ use Rattle.std.proofs.Common.{◌≡◌, ℕ, List, [], ◌∷◌, codes, Option
 use Rattle.shelf_io.specs.Shelf.{ShelfView}
 use Rattle.command_line.specs.Command.{PlainCommand, run_command, relink_command, profile_command, compare_command, check_command, gen_command, hex_command, hex_check_command, Spells, IsCommand, Named, value_of, show_command}
 use Rattle.command_line.specs.Reading.{HoldsAll}
-use Rattle.command_line.specs.Answers.{TellsAll}
+use Rattle.command_line.specs.Answers.{ReportsAll}
 
 abbrev run_words : List (List ℕ) → Option PlainCommand
 run_words (file ∷ board ∷ input ∷ out ∷ []) = Some (run_command file board input out)
@@ -78,7 +78,7 @@ held_is (Some held) told given e h = cc
 
 -- what was read is what the shelf tells
 pub one_reading : (shelf : ShelfView) (names : List Named) (read told : List (List ℕ))
-    → HoldsAll shelf names read → TellsAll shelf names told → read ≡ told
+    → HoldsAll shelf names read → ReportsAll shelf names told → read ≡ told
 one_reading shelf [] [] [] h t = refl
 one_reading shelf [] [] (y ∷ told) h t = absurd t
 one_reading shelf [] (x ∷ read) told h t = absurd h

@@ -9,40 +9,40 @@ use Rattle.code_blocks.specs.Numbers.{starts_of}
 use Rattle.code_blocks.specs.declared.parts.Code.{Code}
 use Rattle.result_setups.specs.HomeLaws.{program_in, source_start}
 use Rattle.region_former.specs.declared.table.RegionTable.{RegionTable}
-use Rattle.profile_runner.proofs.RunLemmas.{moves_steps}
+use Rattle.profile_runner.proofs.RunLemmas.{transitions_steps}
 use Rattle.profile_runner.specs.declared.counts.Profile.{Profile}
 use Rattle.profile_runner.specs.declared.fault.ProfileFault.{ProfileFault}
 use Rattle.profile_runner.specs.declared.fault.ProfileFault.TheVariants.{AddressFault as FaultAt, Memory}
 use Rattle.relinking.proofs.Analysed.{findings}
 use Rattle.relinking.proofs.Counting.{faulted, unfaulted}
-use Rattle.command_line.specs.FaultLine.{profile_refusal}
+use Rattle.command_line.specs.FaultLine.{profile_command_fault}
 use Rattle.command_line.specs.Analysed.{IsOpened}
 use Rattle.command_line.specs.declared.opening.Opened.{Opened}
 use Rattle.command_line.proofs.Analysing.{opened_view}
 use Rattle.relinking.specs.Runs.{RunsProgram}
 use Rattle.printed_lines.specs.Endings.{IsAddressFault}
-use Rattle.command_line.specs.ProgramRun.{RefusesProfiled, of_run}
+use Rattle.command_line.specs.ProgramRun.{RejectsProfiled, of_run}
 use Rattle.printed_lines.specs.ProfileLines.{profile_text}
-use Rattle.relinking.specs.Runs.{TellsCounts}
+use Rattle.relinking.specs.Runs.{ReportsCounts}
 use Rattle.command_line.specs.ProfileFile.{ProfilesTo}
 
--- an address fault refuses the command
-pub counts_refused : (board_text file input : List ℕ) (o : Opened) (fault : ProfileFault) → IsOpened board_text file o
-    → TellsCounts (plain_view o.analysis.view) o.board o.analysis.graph o.analysis.code o.analysis.regions input (Err fault)
-    → RefusesProfiled board_text file input (profile_refusal fault)
-counts_refused board_text file input o (FaultAt pc why) is told =
+-- an address fault rejects the command
+pub counts_rejected : (board_text file input : List ℕ) (o : Opened) (fault : ProfileFault) → IsOpened board_text file o
+    → ReportsCounts (plain_view o.analysis.view) o.board o.analysis.graph o.analysis.code o.analysis.regions input (Err fault)
+    → RejectsProfiled board_text file input (profile_command_fault fault)
+counts_rejected board_text file input o (FaultAt pc why) is told =
     let g = o.analysis.graph in
-    let (last, meets) = subst (λ (u : PlainView). TellsCounts u o.board g o.analysis.code o.analysis.regions input (Err (FaultAt pc why))) (opened_view board_text file o is) told in
+    let (last, ranges_overlap) = subst (λ (u : PlainView). ReportsCounts u o.board g o.analysis.code o.analysis.regions input (Err (FaultAt pc why))) (opened_view board_text file o is) told in
     inr (of_run o.board pc why is.accepts
     (record {
       graph = g;
       is_graph = is.analysed.analysis.graph;
       last = last;
-      taken = moves_steps (program_in file o.board g) o.board.steps (source_start file o.board g input) last meets.moves meets.run;
-      outcome_is = sym (faulted last.outcome pc why meets.fault);
+      taken = transitions_steps (program_in file o.board g) o.board.steps (source_start file o.board g input) last ranges_overlap.moves ranges_overlap.run;
+      outcome_is = sym (faulted last.outcome pc why ranges_overlap.fault);
     })
     refl)
-counts_refused board_text file input o Memory is told = inl refl
+counts_rejected board_text file input o Memory is told = inl refl
 
 -- what printing a profile asks of it
 pub record HasLines (g : Graph) (c : Code) (q : Profile) : Type 0 where
@@ -51,7 +51,7 @@ pub record HasLines (g : Graph) (c : Code) (q : Profile) : Type 0 where
   pub reads : length q.reads.items ≡ length g.objects.items
   pub writes : length q.writes.items ≡ length g.objects.items
 
-pub has_lines : (v : PlainView) (board : Board) (g : Graph) (c : Code) (t : RegionTable) (input : List ℕ) (q : Profile) → TellsCounts v board g c t input (Ok q) → HasLines g c q
+pub has_lines : (v : PlainView) (board : Board) (g : Graph) (c : Code) (t : RegionTable) (input : List ℕ) (q : Profile) → ReportsCounts v board g c t input (Ok q) → HasLines g c q
 has_lines v board g c t input q told =
     let (last, made) = told in
     let is = made.profile in
@@ -64,13 +64,13 @@ has_lines v board g c t input q told =
 
 -- the lines of a profile of the program of a view tell what the program of its file does
 pub profiles_to : (file board_text input text : List ℕ) (o : Opened) (q : Profile) → IsOpened board_text file o
-    → TellsCounts (plain_view o.analysis.view) o.board o.analysis.graph o.analysis.code o.analysis.regions input (Ok q)
+    → ReportsCounts (plain_view o.analysis.view) o.board o.analysis.graph o.analysis.code o.analysis.regions input (Ok q)
     → text ≡ profile_text (plain_view o.analysis.view) o.analysis.graph.objects.items (starts_of o.analysis.code) q
     → ProfilesTo file board_text input text
 profiles_to file board_text input text o q is told text_is =
     let a = o.analysis in
     let same = opened_view board_text file o is in
-    let (last, made) = subst (λ (u : PlainView). TellsCounts u o.board a.graph a.code a.regions input (Ok q)) same told in
+    let (last, made) = subst (λ (u : PlainView). ReportsCounts u o.board a.graph a.code a.regions input (Ok q)) same told in
     record {
       board = o.board;
       accepts = is.accepts;
@@ -91,6 +91,6 @@ profile_runs file board_text input text made =
       graph = made.found.graph;
       is_graph = made.found.is_graph;
       last = made.last;
-      taken = moves_steps (program_in file made.board made.found.graph) made.board.steps (source_start file made.board made.found.graph input) made.last made.moves made.run;
+      taken = transitions_steps (program_in file made.board made.found.graph) made.board.steps (source_start file made.board made.found.graph input) made.last made.moves made.run;
       outcome_is = refl;
     }

@@ -8,8 +8,8 @@ use Rattle.std.specs.Global.{Global}
 use Rattle.std.proofs.Common.{Vec}
 use Rattle.command_line.specs.Command.{Named, plain_named}
 use Rattle.command_line.specs.declared.commands.NamedWord.{NamedWord}
-use Rattle.command_line.specs.Reading.{contents, HoldsAll, RefusesRead, RefusesReads, one_fails, memory_wanting}
-use Rattle.command_line.specs.declared.faults.Refusal.{Refusal}
+use Rattle.command_line.specs.Reading.{contents, HoldsAll, RejectsRead, RejectsReads, one_fails, memory_wanting}
+use Rattle.command_line.specs.declared.faults.CommandFault.{CommandFault}
 
 -- one more name
 pub holds_more : (shelf : ShelfView) (names : List Named) (texts : List (List ℕ)) (n : Named) (text : List ℕ)
@@ -19,11 +19,11 @@ holds_more shelf [] (x ∷ texts) n text h one = absurd h
 holds_more shelf (m ∷ names) [] n text h one = absurd h
 holds_more shelf (m ∷ names) (x ∷ texts) n text h one = (h.0, holds_more shelf names texts n text h.1 one)
 
--- the refusal of one read
-pub one_refused : (names : List Named) (n : Named) (old mid new : ShelfView) (fault : Refusal)
-    → Contains names n → mid ≡ old → RefusesRead n mid new fault → RefusesReads names old new fault
-one_refused names n old mid new fault is_read same r =
-    elim (subst (λ (s : ShelfView). RefusesRead n s new fault) same r) [
+-- the fault of one read
+pub one_rejected : (names : List Named) (n : Named) (old mid new : ShelfView) (fault : CommandFault)
+    → Contains names n → mid ≡ old → RejectsRead n mid new fault → RejectsReads names old new fault
+one_rejected names n old mid new fault is_read same r =
+    elim (subst (λ (s : ShelfView). RejectsRead n s new fault) same r) [
       | inl failed ↦ one_fails n is_read failed.0 failed.1
       | inr memory ↦ memory_wanting memory.0 memory.1
     ]

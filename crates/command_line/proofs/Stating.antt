@@ -1,7 +1,7 @@
 -- A program that is relinked was run.
 use Rattle.std.proofs.Common.{ℕ, List, refl}
 use Rattle.result_setups.specs.HomeLaws.{program_in, source_start}
-use Rattle.profile_runner.proofs.RunLemmas.{moves_steps}
+use Rattle.profile_runner.proofs.RunLemmas.{transitions_steps}
 use Rattle.relinking.specs.Runs.{RunsProgram}
 use Rattle.command_line.specs.RelinkFile.{RelinksTo}
 
@@ -12,6 +12,6 @@ relinked_runs file board_text input certificate out report made =
       graph = made.states.found.graph;
       is_graph = made.states.found.is_graph;
       last = made.states.states.last;
-      taken = moves_steps (program_in file made.board made.states.found.graph) made.board.steps (source_start file made.board made.states.found.graph input) made.states.states.last made.states.states.moves made.states.states.run;
+      taken = transitions_steps (program_in file made.board made.states.found.graph) made.board.steps (source_start file made.board made.states.found.graph input) made.states.states.last made.states.states.moves made.states.states.run;
       outcome_is = refl;
     }

@@ -23,18 +23,18 @@ use Rattle.hex_image.specs.declared.fault.HexFault.TheVariants as hex
 use Rattle.command_line.specs.Command.{PlainCommand}
 use Rattle.command_line.specs.FaultLine.{Parts, board_parts, elf_parts, graph_parts, code_parts, analyse_parts, address_parts, source_parts, cert_parts, choice_parts, tree_parts, hex_parts, differs_parts, status_of, region_parts}
 use Rattle.compare_runner.specs.declared.comparing.Comparison.TheVariants.{Same, Differs, SourceFault}
-use Rattle.command_line.specs.Analysed.{TellsAnalysed, of_board, of_analysis}
-use Rattle.command_line.specs.ProgramRun.{TellsProfiled, of_run, of_none}
+use Rattle.command_line.specs.Analysed.{ReportsAnalysed, of_board, of_analysis}
+use Rattle.command_line.specs.ProgramRun.{ReportsProfiled, of_run, of_none}
 use Rattle.command_line.specs.ProgramRun as program
-use Rattle.command_line.specs.CompareFiles.{TellsCompared, of_relinked, of_comparison}
+use Rattle.command_line.specs.CompareFiles.{ReportsCompared, of_relinked, of_comparison}
 use Rattle.command_line.specs.CompareFiles as compared
-use Rattle.command_line.specs.CheckFile.{TellsText, unspelled, answered, TellsChecked, of_certificate}
+use Rattle.command_line.specs.CheckFile.{ReportsCertificate, unspelled, answered, ReportsChecked, of_certificate}
 use Rattle.command_line.specs.CheckFile as checked
 use Rattle.command_line.specs.Meaning.{IsFirst, run_first, relink_first, profile_first, compare_first, check_first, gen_first, hex_first, check_fault, check_difference, show_first}
-use Rattle.command_line.specs.ShowFile.{TellsShown}
+use Rattle.command_line.specs.ShowFile.{ReportsShown}
 use Rattle.command_line.specs.ShowFile as show
-use Rattle.command_line.specs.declared.faults.Refusal.{Refusal}
-use Rattle.command_line.specs.declared.faults.Refusal.TheVariants as refusal
+use Rattle.command_line.specs.declared.faults.CommandFault.{CommandFault}
+use Rattle.command_line.specs.declared.faults.CommandFault.TheVariants as command_fault
 
 -- none of them is that of the words or of the outside
 abbrev pub IsOfInputs : Parts → Type 0
@@ -73,7 +73,7 @@ graph_least : (fault : GraphFault) → IsOfInputs (graph_parts fault)
 graph_least (graph.SpmOverlap segment) = omega arith
 graph_least (graph.PatchOverlap segment) = omega arith
 graph_least (graph.PatchFar span) = omega arith
-graph_least graph.SpmMeetsPatch = omega arith
+graph_least graph.SpmOverlapsPatch = omega arith
 graph_least graph.SpmAtZero = omega arith
 graph_least (graph.NoArea segment) = omega arith
 graph_least (graph.TooManyObjects count) = omega arith
@@ -98,11 +98,11 @@ analyse_least (analyse.Code fault) = code_least fault
 analyse_least (analyse.Region fault) = region_least (region.plain_fault fault)
 analyse_least analyse.Memory = omega arith
 
-analysed_least : (board file : List ℕ) (told : Parts) → TellsAnalysed board file told → IsOfInputs told
+analysed_least : (board file : List ℕ) (told : Parts) → ReportsAnalysed board file told → IsOfInputs told
 analysed_least board file told (of_board fault first e) = subst IsOfInputs (sym e) (board_least fault)
 analysed_least board file told (of_analysis b fault is sound first e) = subst IsOfInputs (sym e) (analyse_least fault)
 
-profiled_least : (board file input : List ℕ) (told : Parts) → TellsProfiled board file input (Some told) → IsOfInputs told
+profiled_least : (board file input : List ℕ) (told : Parts) → ReportsProfiled board file input (Some told) → IsOfInputs told
 profiled_least board file input told (program.of_files parts tells e) =
     let same : parts ≡ told = cc in subst IsOfInputs same (analysed_least board file parts tells)
 profiled_least board file input told (of_run b pc why accepts runs e) =
@@ -110,7 +110,7 @@ profiled_least board file input told (of_run b pc why accepts runs e) =
     let low : IsOfInputs (address_parts pc why) = omega arith in subst IsOfInputs same low
 profiled_least board file input told (of_none b outcome accepts runs no_fault e) = absurd (cc)
 
-compared_least : (board file relinked input : List ℕ) (told : Parts) → TellsCompared board file relinked input (Some told) → IsOfInputs told
+compared_least : (board file relinked input : List ℕ) (told : Parts) → ReportsCompared board file relinked input (Some told) → IsOfInputs told
 compared_least board file relinked input told (compared.of_files parts tells e) =
     let same : parts ≡ told = cc in subst IsOfInputs same (analysed_least board file parts tells)
 compared_least board file relinked input told (of_relinked b fault accepts first e) =
@@ -131,7 +131,7 @@ cert_least (cert.TooDeep at) = omega arith
 cert_least (cert.Trailing at) = omega arith
 cert_least cert.Memory = omega arith
 
-text_least : (p : PlainProgramme) (text : List ℕ) (told : Parts) → TellsText p text (Some told) → IsOfInputs told
+text_least : (p : PlainProgramme) (text : List ℕ) (told : Parts) → ReportsCertificate p text (Some told) → IsOfInputs told
 text_least p text told (unspelled fault read e) =
     let same : cert_parts fault ≡ told = cc in subst IsOfInputs same (cert_least fault)
 text_least p text told (answered c optimal spells answers e) = absurd (cc)
@@ -143,12 +143,12 @@ text_least p text told (answered c (wrong side node depth) spells answers e) =
     let same : tree_parts side node ≡ told = cc in
     let low : IsOfInputs (tree_parts side node) = omega arith in subst IsOfInputs same low
 
-checked_least : (board file input text : List ℕ) (told : Parts) → TellsChecked board file input text (Some told) → IsOfInputs told
+checked_least : (board file input text : List ℕ) (told : Parts) → ReportsChecked board file input text (Some told) → IsOfInputs told
 checked_least board file input text told (checked.of_run parts tells e) =
     let same : parts ≡ told = cc in subst IsOfInputs same (profiled_least board file input parts tells)
 checked_least board file input text told (of_certificate b p accepts states tells) = text_least p text told tells
 
-shown_least : (board file : List ℕ) (told : Parts) → TellsShown board file (Some told) → IsOfInputs told
+shown_least : (board file : List ℕ) (told : Parts) → ReportsShown board file (Some told) → IsOfInputs told
 shown_least board file told (show.of_files parts tells e) =
     let same : parts ≡ told = cc in subst IsOfInputs same (analysed_least board file parts tells)
 shown_least board file told (show.of_none b accepts e) = absurd (cc)
@@ -195,19 +195,19 @@ first_least command inputs told (check_fault f h file text parts is are first e)
 first_least command inputs told (check_difference f h file text difference is are none compares e) =
     differs_least difference told (sym e)
 
--- no refusal has status 0
-pub status_positive : (fault : Refusal) → status_of fault ≡ 0 → ⊥
-status_positive refusal.Usage e = omega arith
-status_positive (refusal.Read place) e = omega arith
-status_positive (refusal.Write place) e = omega arith
-status_positive (refusal.Board fault) e = let low = board_least (plain_fault fault) in omega arith
-status_positive (refusal.Elf fault) e = let low = elf_least fault in omega arith
-status_positive (refusal.Analyse fault) e = let low = analyse_least fault in omega arith
-status_positive (refusal.AddressFault pc why) e = omega arith
-status_positive (refusal.Certificate fault) e = let low = cert_least fault in omega arith
-status_positive refusal.BadChoice e = omega arith
-status_positive (refusal.WrongTree side node) e = omega arith
-status_positive (refusal.Hex fault) e = let low = hex_least fault in omega arith
-status_positive (refusal.Differs at) e = omega arith
-status_positive (refusal.SourceFault pc why) e = omega arith
-status_positive refusal.Memory e = omega arith
+-- no fault has status 0
+pub status_positive : (fault : CommandFault) → status_of fault ≡ 0 → ⊥
+status_positive command_fault.Usage e = omega arith
+status_positive (command_fault.Read place) e = omega arith
+status_positive (command_fault.Write place) e = omega arith
+status_positive (command_fault.Board fault) e = let low = board_least (plain_fault fault) in omega arith
+status_positive (command_fault.Elf fault) e = let low = elf_least fault in omega arith
+status_positive (command_fault.Analyse fault) e = let low = analyse_least fault in omega arith
+status_positive (command_fault.AddressFault pc why) e = omega arith
+status_positive (command_fault.Certificate fault) e = let low = cert_least fault in omega arith
+status_positive command_fault.BadChoice e = omega arith
+status_positive (command_fault.WrongTree side node) e = omega arith
+status_positive (command_fault.Hex fault) e = let low = hex_least fault in omega arith
+status_positive (command_fault.Differs at) e = omega arith
+status_positive (command_fault.SourceFault pc why) e = omega arith
+status_positive command_fault.Memory e = omega arith

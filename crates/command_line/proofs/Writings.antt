@@ -4,20 +4,20 @@ use Rattle.std.specs.Iterator.{Yields}
 use Rattle.std.specs.Vec.Iter.{into_iter_items, into_iter_steps}
 use Rattle.std.specs.declared.vec.IntoIter.{IntoIter}
 use Rattle.shelf_io.specs.Shelf.{ShelfView, SetsName}
-use Rattle.command_line.specs.Delivery.{SetsReady, FailsOnce, FailsToWrite}
+use Rattle.command_line.specs.Delivery.{SetsPrepared, FailsOnce, FailsToWrite}
 use Rattle.command_line.specs.declared.delivery.Output.{Output}
-use Rattle.command_line.specs.declared.refused.Refused.{Refused}
+use Rattle.command_line.specs.declared.diagnostic.Diagnostic.{Diagnostic}
 
 -- one more output
 pub sets_more : (outputs : List Output) (o : Output) (old mid new : ShelfView)
-    → SetsReady outputs old mid → SetsName o.name.now o.bytes.items mid new → SetsReady (outputs ++ o ∷ []) old new
+    → SetsPrepared outputs old mid → SetsName o.name.now o.bytes.items mid new → SetsPrepared (outputs ++ o ∷ []) old new
 sets_more [] o old mid new s one = (new, subst (λ (v : ShelfView). SetsName o.name.now o.bytes.items v new) s one, refl)
 sets_more (p ∷ outputs) o old mid new s one =
     let (next, first, rest) = s in (next, first, sets_more outputs o next mid new rest one)
 
 -- an output that could not be written, behind those that were
-pub fails_behind : (outputs : List Output) (o : Output) (others : List Output) (old mid new : ShelfView) (r : Refused)
-    → SetsReady outputs old mid → FailsOnce o mid new r → FailsToWrite (outputs ++ o ∷ others) old new r
+pub fails_behind : (outputs : List Output) (o : Output) (others : List Output) (old mid new : ShelfView) (r : Diagnostic)
+    → SetsPrepared outputs old mid → FailsOnce o mid new r → FailsToWrite (outputs ++ o ∷ others) old new r
 fails_behind [] o others old mid new r s f = inl (subst (λ (v : ShelfView). FailsOnce o v new r) s f)
 fails_behind (p ∷ outputs) o others old mid new r s f =
     let (next, first, rest) = s in inr (next, first, fails_behind outputs o others next mid new r rest f)

@@ -11,10 +11,10 @@ use Rattle.command_line.specs.Delivery.{SetsAll, LosesOne, WantsInOne}
 use Rattle.command_line.specs.Meaning.{IsFirst}
 use Rattle.command_line.specs.Performing.{YieldsOf}
 use Rattle.command_line.specs.Reading.{HoldsAll}
-use Rattle.command_line.specs.Refused.{IsReady, PutsLine}
-use Rattle.command_line.specs.declared.refused.Refused.{Refused}
-use Rattle.command_line.specs.declared.faults.Refusal.{Refusal}
-use Rattle.command_line.specs.declared.faults.Refusal.TheVariants as refusal
+use Rattle.command_line.specs.Diagnostic.{IsDiagnosticOf, PutsLine}
+use Rattle.command_line.specs.declared.diagnostic.Diagnostic.{Diagnostic}
+use Rattle.command_line.specs.declared.faults.CommandFault.{CommandFault}
+use Rattle.command_line.specs.declared.faults.CommandFault.TheVariants as command_fault
 
 -- a command of these words yields outputs and a text of what the shelf holds
 pub record Produces (words : List (List ℕ)) (outputs : List (List ℕ)) (text : List ℕ) (shelf : ShelfView) : Type 0 where
@@ -61,7 +61,7 @@ pub record PrintFails (words : List (List ℕ)) (place : ℕ) (old new : ShelfVi
   pub printed : PutSome text sink mid
 
 -- what the command read has this first fault
-pub record InputFails (words : List (List ℕ)) (fault : Refusal) (old new : ShelfView) : Type 0 where
+pub record InputFails (words : List (List ℕ)) (fault : CommandFault) (old new : ShelfView) : Type 0 where
   pub command : PlainCommand
   pub is_command : IsCommand words command
   pub inputs : List (List ℕ)
@@ -85,55 +85,55 @@ pub record WriteWantsMemory (words : List (List ℕ)) (old new : ShelfView) : Ty
 abbrev pub IsNoCommand : List (List ℕ) → Type 0
 IsNoCommand words = (command : PlainCommand) → IsCommand words command → ⊥
 
--- why a command is refused, and what that leaves of the shelf and, before the fault line, of the sink
-abbrev pub Cause : Refusal → List (List ℕ) → ShelfView → ShelfView → SinkView → SinkView → Type 0
-Cause refusal.Usage words old new sink mid = IsNoCommand words × (new ≡ old) × (mid ≡ sink)
-Cause (refusal.Read place) words old new sink mid = ReadFails words place old new × (mid ≡ sink)
-Cause (refusal.Write place) words old new sink mid =
+-- why a command is rejected, and what that leaves of the shelf and, before the fault line, of the sink
+abbrev pub Cause : CommandFault → List (List ℕ) → ShelfView → ShelfView → SinkView → SinkView → Type 0
+Cause command_fault.Usage words old new sink mid = IsNoCommand words × (new ≡ old) × (mid ≡ sink)
+Cause (command_fault.Read place) words old new sink mid = ReadFails words place old new × (mid ≡ sink)
+Cause (command_fault.Write place) words old new sink mid =
     (WriteFails words place old new × (mid ≡ sink)) ⊎ PrintFails words place old new sink mid
-Cause (refusal.Board fault) words old new sink mid =
-    InputFails words (refusal.Board fault) old new × (mid ≡ sink)
-Cause (refusal.Elf fault) words old new sink mid =
-    InputFails words (refusal.Elf fault) old new × (mid ≡ sink)
-Cause (refusal.Analyse fault) words old new sink mid =
-    InputFails words (refusal.Analyse fault) old new × (mid ≡ sink)
-Cause (refusal.AddressFault pc why) words old new sink mid =
-    InputFails words (refusal.AddressFault pc why) old new × (mid ≡ sink)
-Cause (refusal.Certificate fault) words old new sink mid =
-    InputFails words (refusal.Certificate fault) old new × (mid ≡ sink)
-Cause refusal.BadChoice words old new sink mid = InputFails words refusal.BadChoice old new × (mid ≡ sink)
-Cause (refusal.WrongTree side node) words old new sink mid =
-    InputFails words (refusal.WrongTree side node) old new × (mid ≡ sink)
-Cause (refusal.Hex fault) words old new sink mid =
-    InputFails words (refusal.Hex fault) old new × (mid ≡ sink)
-Cause (refusal.Differs at) words old new sink mid =
-    InputFails words (refusal.Differs at) old new × (mid ≡ sink)
-Cause (refusal.SourceFault pc why) words old new sink mid =
-    InputFails words (refusal.SourceFault pc why) old new × (mid ≡ sink)
-Cause refusal.Memory words old new sink mid =
+Cause (command_fault.Board fault) words old new sink mid =
+    InputFails words (command_fault.Board fault) old new × (mid ≡ sink)
+Cause (command_fault.Elf fault) words old new sink mid =
+    InputFails words (command_fault.Elf fault) old new × (mid ≡ sink)
+Cause (command_fault.Analyse fault) words old new sink mid =
+    InputFails words (command_fault.Analyse fault) old new × (mid ≡ sink)
+Cause (command_fault.AddressFault pc why) words old new sink mid =
+    InputFails words (command_fault.AddressFault pc why) old new × (mid ≡ sink)
+Cause (command_fault.Certificate fault) words old new sink mid =
+    InputFails words (command_fault.Certificate fault) old new × (mid ≡ sink)
+Cause command_fault.BadChoice words old new sink mid = InputFails words command_fault.BadChoice old new × (mid ≡ sink)
+Cause (command_fault.WrongTree side node) words old new sink mid =
+    InputFails words (command_fault.WrongTree side node) old new × (mid ≡ sink)
+Cause (command_fault.Hex fault) words old new sink mid =
+    InputFails words (command_fault.Hex fault) old new × (mid ≡ sink)
+Cause (command_fault.Differs at) words old new sink mid =
+    InputFails words (command_fault.Differs at) old new × (mid ≡ sink)
+Cause (command_fault.SourceFault pc why) words old new sink mid =
+    InputFails words (command_fault.SourceFault pc why) old new × (mid ≡ sink)
+Cause command_fault.Memory words old new sink mid =
     (WantsBeforeWriting words old new ⊎ WriteWantsMemory words old new) × (mid ≡ sink)
 
--- a refusal whose line is still to be put, and why it came
-pub record HasCause (words : List (List ℕ)) (old new : ShelfView) (sink mid : SinkView) (r : Refused)
+-- a fault whose line is still to be put, and why it came
+pub record HasCause (words : List (List ℕ)) (old new : ShelfView) (sink mid : SinkView) (r : Diagnostic)
     : Type 0 where
-  pub fault : Refusal
-  pub ready : IsReady fault r
+  pub fault : CommandFault
+  pub prepared : IsDiagnosticOf fault r
   pub cause : Cause fault words old new sink mid
 
--- The command was refused, and its fault line went to the sink, or a prefix of it where the put
+-- The command was rejected, and its fault line went to the sink, or a prefix of it where the put
 -- failed too.
-pub record IsRefused (fault : Refusal) (words : List (List ℕ)) (old new : ShelfView) (sink sink' : SinkView)
+pub record IsRejected (fault : CommandFault) (words : List (List ℕ)) (old new : ShelfView) (sink sink' : SinkView)
     : Type 0 where
   pub mid : SinkView
   pub cause : Cause fault words old new sink mid
   pub line : PutsLine (fault_line fault) mid sink'
 
--- the call ended with the status of a refusal, and that refusal is the reason
-pub record EndsRefused (status : ℕ) (words : List (List ℕ)) (old new : ShelfView) (sink sink' : SinkView)
+-- the call ended with the status of a fault, and that fault is the reason
+pub record EndsRejected (status : ℕ) (words : List (List ℕ)) (old new : ShelfView) (sink sink' : SinkView)
     : Type 0 where
-  pub fault : Refusal
+  pub fault : CommandFault
   pub status_is : status ≡ status_of fault
-  pub refused : IsRefused fault words old new sink sink'
+  pub rejected : IsRejected fault words old new sink sink'
 
 -- the status that inputs with this first fault call for where nothing outside fails
 abbrev pub expected_status : Option Parts → ℕ
@@ -157,11 +157,11 @@ abbrev pub AnswersUsage : ℕ → List (List ℕ) → Type 0
 AnswersUsage status words = IsNoCommand words → (status ≡ 1) ⊎ (status ≡ 9)
 
 -- the shelf tells these texts under these names
-abbrev pub TellsAll : ShelfView → List Named → List (List ℕ) → Type 0
-TellsAll shelf [] [] = Unit
-TellsAll shelf [] (text ∷ texts) = ⊥
-TellsAll shelf (n ∷ names) [] = ⊥
-TellsAll shelf (n ∷ names) (text ∷ texts) = (shelf.content n.name ≡ Some (Some text)) × TellsAll shelf names texts
+abbrev pub ReportsAll : ShelfView → List Named → List (List ℕ) → Type 0
+ReportsAll shelf [] [] = Unit
+ReportsAll shelf [] (text ∷ texts) = ⊥
+ReportsAll shelf (n ∷ names) [] = ⊥
+ReportsAll shelf (n ∷ names) (text ∷ texts) = (shelf.content n.name ≡ Some (Some text)) × ReportsAll shelf names texts
 
 -- a command whose names the shelf tells, in a call in which nothing outside fails, has the status that
 -- they call for, or 9
@@ -169,7 +169,7 @@ abbrev pub AnswersCommand : ℕ → List (List ℕ) → ShelfView → ShelfView 
 AnswersCommand status words old new sink sink' =
     (command : PlainCommand) (inputs : List (List ℕ))
     → IsCommand words command
-    → TellsAll old (reads command) inputs
+    → ReportsAll old (reads command) inputs
     → NothingFailed old new sink sink'
     → AnswersInputs status command inputs ⊎ (status ≡ 9)
 

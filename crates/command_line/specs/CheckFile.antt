@@ -10,11 +10,11 @@ use Rattle.certificate_checker.specs.Shows.{PlainVerdict, optimal, best_found, b
 use Rattle.certificate_checker.specs.declared.fault.CertFault.{CertFault}
 use Rattle.command_line.specs.FaultLine.{Parts, cert_parts, choice_parts, tree_parts, parts_of}
 use Rattle.command_line.specs.Analysed.{Accepts}
-use Rattle.command_line.specs.ProgramRun.{StatesOf, TellsProfiled}
+use Rattle.command_line.specs.ProgramRun.{StatesOf, ReportsProfiled}
 use Rattle.printed_lines.specs.ReportText.{IsReport}
 use Rattle.relinking.specs.FoundChoice.{IsLeast}
-use Rattle.command_line.specs.declared.faults.Refusal.{Refusal}
-use Rattle.command_line.specs.declared.faults.Refusal.TheVariants as refusal
+use Rattle.command_line.specs.declared.faults.CommandFault.{CommandFault}
+use Rattle.command_line.specs.declared.faults.CommandFault.TheVariants as command_fault
 
 -- the answers of which a report is made: that the choice is best, and that no tree says so
 abbrev pub answer_of : Bool → PlainVerdict
@@ -46,29 +46,29 @@ told_of best_found = None
 told_of bad_choice = Some choice_parts
 told_of (wrong side node depth) = Some (tree_parts side node)
 
--- what is told of a text, if it is refused: where it breaks the grammar, or how its certificate fails
-pub data TellsText (p : PlainProgramme) (text : List ℕ) (told : Option Parts) : Type 0 where
+-- what is told of a text, if it is rejected: where it breaks the grammar, or how its certificate fails
+pub data ReportsCertificate (p : PlainProgramme) (text : List ℕ) (told : Option Parts) : Type 0 where
   unspelled : (fault : CertFault) → certificate_of text ≡ Err fault → told ≡ Some (cert_parts fault)
-      → TellsText p text told
+      → ReportsCertificate p text told
   answered : (certificate : PlainCertificate) (verdict : PlainVerdict) → Spells text certificate
-      → Answers p certificate verdict → told ≡ told_of verdict → TellsText p text told
+      → Answers p certificate verdict → told ≡ told_of verdict → ReportsCertificate p text told
 
 -- what is told of the first fault, if there is one: those of the board, the file and the run come before the text
-pub data TellsChecked (board_text file input text : List ℕ) (told : Option Parts) : Type 0 where
-  of_run : (parts : Parts) → TellsProfiled board_text file input (Some parts) → told ≡ Some parts
-      → TellsChecked board_text file input text told
+pub data ReportsChecked (board_text file input text : List ℕ) (told : Option Parts) : Type 0 where
+  of_run : (parts : Parts) → ReportsProfiled board_text file input (Some parts) → told ≡ Some parts
+      → ReportsChecked board_text file input text told
   of_certificate : (board : Board) (programme : PlainProgramme) → Accepts board_text file board
-      → StatesOf file board input programme → TellsText programme text told
-      → TellsChecked board_text file input text told
+      → StatesOf file board input programme → ReportsCertificate programme text told
+      → ReportsChecked board_text file input text told
 
--- a computation on the inputs was refused: for want of memory, or by the first fault
-abbrev pub RefusesChecked : List ℕ → List ℕ → List ℕ → List ℕ → Refusal → Type 0
-RefusesChecked board_text file input text fault =
-    (fault ≡ refusal.Memory) ⊎ TellsChecked board_text file input text (Some (parts_of fault))
+-- a computation on the inputs was rejected: for want of memory, or by the first fault
+abbrev pub RejectsChecked : List ℕ → List ℕ → List ℕ → List ℕ → CommandFault → Type 0
+RejectsChecked board_text file input text fault =
+    (fault ≡ command_fault.Memory) ⊎ ReportsChecked board_text file input text (Some (parts_of fault))
 
 -- the same of a computation on a programme and a text
-abbrev pub RefusesText : PlainProgramme → List ℕ → Refusal → Type 0
-RefusesText p text fault = (fault ≡ refusal.Memory) ⊎ TellsText p text (Some (parts_of fault))
+abbrev pub RejectsText : PlainProgramme → List ℕ → CommandFault → Type 0
+RejectsText p text fault = (fault ≡ command_fault.Memory) ⊎ ReportsCertificate p text (Some (parts_of fault))
 
 -- ---- an answer alone
 
@@ -85,5 +85,5 @@ ReportsAnswer p nodes choice best_found report = IsReport p nodes choice false r
 ReportsAnswer p nodes choice bad_choice report = ⊥
 ReportsAnswer p nodes choice (wrong side node depth) report = ⊥
 
-abbrev pub RefusesAnswer : PlainVerdict → Refusal → Type 0
-RefusesAnswer verdict fault = (fault ≡ refusal.Memory) ⊎ (told_of verdict ≡ Some (parts_of fault))
+abbrev pub RejectsAnswer : PlainVerdict → CommandFault → Type 0
+RejectsAnswer verdict fault = (fault ≡ command_fault.Memory) ⊎ (told_of verdict ≡ Some (parts_of fault))

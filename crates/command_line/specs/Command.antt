@@ -133,18 +133,18 @@ DiffersFrom (other ∷ others) name = (other.name ≢ name) × DiffersFrom other
 
 -- so does each of the names that are written from each of those that are read, and from the others that are
 -- written
-abbrev pub AreApart : List Named → List Named → Type 0
-AreApart others [] = Unit
-AreApart others (w ∷ names) = DiffersFrom others w.name × DiffersFrom names w.name × AreApart others names
+abbrev pub AreDisjoint : List Named → List Named → Type 0
+AreDisjoint others [] = Unit
+AreDisjoint others (w ∷ names) = DiffersFrom others w.name × DiffersFrom names w.name × AreDisjoint others names
 
-abbrev pub IsApart : PlainCommand → Type 0
-IsApart command = AreApart (reads command) (writes command)
+abbrev pub IsDisjoint : PlainCommand → Type 0
+IsDisjoint command = AreDisjoint (reads command) (writes command)
 
 -- the words are those of a command
 pub record IsCommand (words : List (List ℕ)) (command : PlainCommand) : Type 0 where
   pub spelled : Spells words command
   pub names : AreNames words
-  pub apart : IsApart command
+  pub disjoint : IsDisjoint command
 
 -- the numbers of a command are in their ranges
 abbrev pub HasNumbers : PlainCommand → Type 0

@@ -11,10 +11,10 @@ use Rattle.compare_runner.specs.Laws.{ComparesFiles}
 use Rattle.compare_runner.specs.declared.comparing.Comparison.{Comparison}
 use Rattle.compare_runner.specs.declared.comparing.Comparison.TheVariants.{Same, Differs, SourceFault}
 use Rattle.command_line.specs.FaultLine.{Parts, elf_parts, differs_parts, source_parts, parts_of}
-use Rattle.command_line.specs.Analysed.{Accepts, TellsAnalysed}
+use Rattle.command_line.specs.Analysed.{Accepts, ReportsAnalysed}
 use Rattle.printed_lines.specs.Endings.{IsAddressFault, ending_text}
-use Rattle.command_line.specs.declared.faults.Refusal.{Refusal}
-use Rattle.command_line.specs.declared.faults.Refusal.TheVariants as refusal
+use Rattle.command_line.specs.declared.faults.CommandFault.{CommandFault}
+use Rattle.command_line.specs.declared.faults.CommandFault.TheVariants as command_fault
 
 -- the comparison of both, for the board's steps of the program
 pub record Compared (file relinked : List ℕ) (board : Board) (input : List ℕ) (c : Comparison) : Type 0 where
@@ -35,7 +35,7 @@ pub record ComparesTo (file relinked board_text input text : List ℕ) : Type 0 
   pub compared : Compared file relinked board input (Same outcome)
   pub text_is : text ≡ same_text outcome
 
--- what is told of a comparison that is refused
+-- what is told of a comparison that is rejected
 abbrev pub told_of : Comparison → Option Parts
 told_of (Same outcome) = None
 told_of (Differs at) = Some (differs_parts at)
@@ -43,19 +43,19 @@ told_of (SourceFault pc why) = Some (source_parts pc why)
 
 -- what is told of the first fault, if there is one: those of the board and the file come first, then those of the
 -- relinked file, and the comparison is last
-pub data TellsCompared (board_text file relinked input : List ℕ) (told : Option Parts) : Type 0 where
-  of_files : (parts : Parts) → TellsAnalysed board_text file parts → told ≡ Some parts
-      → TellsCompared board_text file relinked input told
+pub data ReportsCompared (board_text file relinked input : List ℕ) (told : Option Parts) : Type 0 where
+  of_files : (parts : Parts) → ReportsAnalysed board_text file parts → told ≡ Some parts
+      → ReportsCompared board_text file relinked input told
   of_relinked : (board : Board) (fault : ElfFault) → Accepts board_text file board → first_fault relinked ≡ Some fault
-      → told ≡ Some (elf_parts fault) → TellsCompared board_text file relinked input told
+      → told ≡ Some (elf_parts fault) → ReportsCompared board_text file relinked input told
   of_comparison : (board : Board) (c : Comparison) → Accepts board_text file board → first_fault relinked ≡ None
       → Compared file relinked board input c → told ≡ told_of c
-      → TellsCompared board_text file relinked input told
+      → ReportsCompared board_text file relinked input told
 
--- a computation on the inputs was refused: for want of memory, or by the first fault
-abbrev pub RefusesCompared : List ℕ → List ℕ → List ℕ → List ℕ → Refusal → Type 0
-RefusesCompared board_text file relinked input fault =
-    (fault ≡ refusal.Memory) ⊎ TellsCompared board_text file relinked input (Some (parts_of fault))
+-- a computation on the inputs was rejected: for want of memory, or by the first fault
+abbrev pub RejectsCompared : List ℕ → List ℕ → List ℕ → List ℕ → CommandFault → Type 0
+RejectsCompared board_text file relinked input fault =
+    (fault ≡ command_fault.Memory) ⊎ ReportsCompared board_text file relinked input (Some (parts_of fault))
 
 -- ---- a comparison alone
 
@@ -70,5 +70,5 @@ AnswersComparison (Same outcome) text = text ≡ same_text outcome
 AnswersComparison (Differs at) text = ⊥
 AnswersComparison (SourceFault pc why) text = ⊥
 
-abbrev pub RefusesComparison : Comparison → Refusal → Type 0
-RefusesComparison c fault = (fault ≡ refusal.Memory) ⊎ (told_of c ≡ Some (parts_of fault))
+abbrev pub RejectsComparison : Comparison → CommandFault → Type 0
+RejectsComparison c fault = (fault ≡ command_fault.Memory) ⊎ (told_of c ≡ Some (parts_of fault))

@@ -3,12 +3,12 @@ use Rattle.std.specs.Prelude.{◌≡◌, ◌⊎◌, ℕ, List, [], ◌∷◌}
 use Rattle.shelf_io.specs.Shelf.{ShelfView, SetsName, LosesName, WantsMemory}
 use Rattle.shelf_io.specs.Sink.{SinkView, PutAll, PutSome}
 use Rattle.command_line.specs.Command.{Named}
-use Rattle.command_line.specs.Refused.{IsReady}
+use Rattle.command_line.specs.Diagnostic.{IsDiagnosticOf}
 use Rattle.command_line.specs.declared.delivery.Output.{Output}
-use Rattle.command_line.specs.declared.delivery.Ready.{Ready}
-use Rattle.command_line.specs.declared.refused.Refused.{Refused}
-use Rattle.command_line.specs.declared.refused.Refused.TheVariants as refused
-use Rattle.command_line.specs.declared.faults.Refusal.TheVariants as refusal
+use Rattle.command_line.specs.declared.delivery.PreparedResult.{PreparedResult}
+use Rattle.command_line.specs.declared.diagnostic.Diagnostic.{Diagnostic}
+use Rattle.command_line.specs.declared.diagnostic.Diagnostic.TheVariants as diagnostic
+use Rattle.command_line.specs.declared.faults.CommandFault.TheVariants as command_fault
 
 -- the outputs were written, one after the other
 abbrev pub SetsAll : List Named → List (List ℕ) → ShelfView → ShelfView → Type 0
@@ -34,46 +34,46 @@ WantsInOne (w ∷ names) (output ∷ outputs) old new =
     WantsMemory old new
     ⊎ ((mid : ShelfView) × SetsName w.name output old mid × WantsInOne names outputs mid new)
 
--- an output that stands ready under a name, with the refusal of its write
+-- an output that stands ready under a name, with the fault of its write
 pub record IsOutput (w : Named) (output : List ℕ) (o : Output) : Type 0 where
   pub name : o.name.now ≡ w.name
   pub bytes : o.bytes.items ≡ output
-  pub fault : IsReady (refusal.Write w.place) o.fault
+  pub fault : IsDiagnosticOf (command_fault.Write w.place) o.fault
 
 -- outputs that stand ready, each under its name
-abbrev pub AreReady : List Named → List (List ℕ) → List Output → Type 0
-AreReady [] [] [] = Unit
-AreReady [] [] (o ∷ ready) = ⊥
-AreReady [] (output ∷ outputs) ready = ⊥
-AreReady (w ∷ names) [] ready = ⊥
-AreReady (w ∷ names) (output ∷ outputs) [] = ⊥
-AreReady (w ∷ names) (output ∷ outputs) (o ∷ ready) =
-    IsOutput w output o × AreReady names outputs ready
+abbrev pub ArePrepared : List Named → List (List ℕ) → List Output → Type 0
+ArePrepared [] [] [] = Unit
+ArePrepared [] [] (o ∷ prepared) = ⊥
+ArePrepared [] (output ∷ outputs) prepared = ⊥
+ArePrepared (w ∷ names) [] prepared = ⊥
+ArePrepared (w ∷ names) (output ∷ outputs) [] = ⊥
+ArePrepared (w ∷ names) (output ∷ outputs) (o ∷ prepared) =
+    IsOutput w output o × ArePrepared names outputs prepared
 
 -- the same, from the outputs that stand ready
-abbrev pub SetsReady : List Output → ShelfView → ShelfView → Type 0
-SetsReady [] old new = new ≡ old
-SetsReady (o ∷ ready) old new =
-    (mid : ShelfView) × SetsName o.name.now o.bytes.items old mid × SetsReady ready mid new
+abbrev pub SetsPrepared : List Output → ShelfView → ShelfView → Type 0
+SetsPrepared [] old new = new ≡ old
+SetsPrepared (o ∷ prepared) old new =
+    (mid : ShelfView) × SetsName o.name.now o.bytes.items old mid × SetsPrepared prepared mid new
 
--- a write failed, and `r` is its refusal; or it wanted memory, which its count of wants tells
-pub data FailsOnce (o : Output) (old new : ShelfView) (r : Refused) : Type 0 where
+-- a write failed, and `r` is its fault; or it wanted memory, which its count of wants tells
+pub data FailsOnce (o : Output) (old new : ShelfView) (r : Diagnostic) : Type 0 where
   write_fails : r ≡ o.fault → LosesName o.name.now old new → FailsOnce o old new r
-  wants_memory : r ≡ refused.Memory → WantsMemory old new → FailsOnce o old new r
+  wants_memory : r ≡ diagnostic.Memory → WantsMemory old new → FailsOnce o old new r
 
-abbrev pub FailsToWrite : List Output → ShelfView → ShelfView → Refused → Type 0
+abbrev pub FailsToWrite : List Output → ShelfView → ShelfView → Diagnostic → Type 0
 FailsToWrite [] old new r = ⊥
-FailsToWrite (o ∷ ready) old new r =
+FailsToWrite (o ∷ prepared) old new r =
     FailsOnce o old new r
-    ⊎ ((mid : ShelfView) × SetsName o.name.now o.bytes.items old mid × FailsToWrite ready mid new r)
+    ⊎ ((mid : ShelfView) × SetsName o.name.now o.bytes.items old mid × FailsToWrite prepared mid new r)
 
 -- the outputs were written and the text printed
-pub record DeliversAll (ready : Ready) (old new : ShelfView) (sink sink' : SinkView) : Type 0 where
-  pub set : SetsReady ready.outputs.items old new
-  pub printed : PutAll (ready.text.items) sink sink'
+pub record DeliversAll (prepared : PreparedResult) (old new : ShelfView) (sink sink' : SinkView) : Type 0 where
+  pub set : SetsPrepared prepared.outputs.items old new
+  pub printed : PutAll (prepared.text.items) sink sink'
 
 -- a step failed: a write, the memory for one, or the print
-pub data FailsToDeliver (ready : Ready) (old new : ShelfView) (sink mid : SinkView) (r : Refused) : Type 0 where
-  writing_fails : FailsToWrite ready.outputs.items old new r → mid ≡ sink → FailsToDeliver ready old new sink mid r
-  print_fails : r ≡ ready.print_fault → SetsReady ready.outputs.items old new
-      → PutSome (ready.text.items) sink mid → FailsToDeliver ready old new sink mid r
+pub data FailsToDeliver (prepared : PreparedResult) (old new : ShelfView) (sink mid : SinkView) (r : Diagnostic) : Type 0 where
+  writing_fails : FailsToWrite prepared.outputs.items old new r → mid ≡ sink → FailsToDeliver prepared old new sink mid r
+  print_fails : r ≡ prepared.print_fault → SetsPrepared prepared.outputs.items old new
+      → PutSome (prepared.text.items) sink mid → FailsToDeliver prepared old new sink mid r

@@ -19,8 +19,8 @@ use Rattle.relink_core.specs.declared.fault.AnalyseFault.{AnalyseFault}
 use Rattle.relink_core.specs.declared.fault.AnalyseFault.TheVariants as analyse
 use Rattle.certificate_checker.specs.declared.fault.CertFault.{CertFault}
 use Rattle.certificate_checker.specs.declared.fault.CertFault.TheVariants as cert
-use Rattle.command_line.specs.declared.faults.Refusal.{Refusal}
-use Rattle.command_line.specs.declared.faults.Refusal.TheVariants as refusal
+use Rattle.command_line.specs.declared.faults.CommandFault.{CommandFault}
+use Rattle.command_line.specs.declared.faults.CommandFault.TheVariants as command_fault
 use Rattle.command_line.specs.declared.faults.LineParts.{LineParts}
 
 -- the parts of a fault line, of which the name is there only for some faults
@@ -76,7 +76,7 @@ abbrev pub graph_parts : GraphFault → Parts
 graph_parts (graph.SpmOverlap segment) = parts 7 (codes "spm-overlap") segment 0
 graph_parts (graph.PatchOverlap segment) = parts 7 (codes "patch-overlap") segment 0
 graph_parts (graph.PatchFar span) = parts 7 (codes "patch-far") span 0
-graph_parts graph.SpmMeetsPatch = parts 7 (codes "spm-meets-patch") 0 0
+graph_parts graph.SpmOverlapsPatch = parts 7 (codes "spm-meets-patch") 0 0
 graph_parts graph.SpmAtZero = parts 7 (codes "spm-at-zero") 0 0
 graph_parts (graph.NoArea segment) = parts 7 (codes "no-area") segment 0
 graph_parts (graph.TooManyObjects count) = parts 7 (codes "too-many-objects") count 0
@@ -129,23 +129,23 @@ tree_parts side node = parts 10 (codes "wrong") side node
 abbrev pub differs_parts : ℕ → Parts
 differs_parts at = parts 11 (codes "differs") at 0
 
-abbrev pub parts_of : Refusal → Parts
-parts_of refusal.Usage = parts 1 (codes "usage") 0 0
-parts_of (refusal.Read place) = parts 2 (codes "read") place 0
-parts_of (refusal.Write place) = parts 3 (codes "write") place 0
-parts_of (refusal.Board fault) = board_parts (plain_fault fault)
-parts_of (refusal.Elf fault) = elf_parts fault
-parts_of (refusal.Analyse fault) = analyse_parts fault
-parts_of (refusal.AddressFault pc why) = address_parts pc why
-parts_of (refusal.Certificate fault) = cert_parts fault
-parts_of refusal.BadChoice = choice_parts
-parts_of (refusal.WrongTree side node) = tree_parts side node
-parts_of (refusal.Hex fault) = hex_parts fault
-parts_of (refusal.Differs at) = differs_parts at
-parts_of (refusal.SourceFault pc why) = source_parts pc why
-parts_of refusal.Memory = parts 9 (codes "memory") 0 0
+abbrev pub parts_of : CommandFault → Parts
+parts_of command_fault.Usage = parts 1 (codes "usage") 0 0
+parts_of (command_fault.Read place) = parts 2 (codes "read") place 0
+parts_of (command_fault.Write place) = parts 3 (codes "write") place 0
+parts_of (command_fault.Board fault) = board_parts (plain_fault fault)
+parts_of (command_fault.Elf fault) = elf_parts fault
+parts_of (command_fault.Analyse fault) = analyse_parts fault
+parts_of (command_fault.AddressFault pc why) = address_parts pc why
+parts_of (command_fault.Certificate fault) = cert_parts fault
+parts_of command_fault.BadChoice = choice_parts
+parts_of (command_fault.WrongTree side node) = tree_parts side node
+parts_of (command_fault.Hex fault) = hex_parts fault
+parts_of (command_fault.Differs at) = differs_parts at
+parts_of (command_fault.SourceFault pc why) = source_parts pc why
+parts_of command_fault.Memory = parts 9 (codes "memory") 0 0
 
-abbrev pub status_of : Refusal → ℕ
+abbrev pub status_of : CommandFault → ℕ
 status_of r = (parts_of r).status
 
 -- a name stands behind one space, also where it is empty
@@ -164,30 +164,30 @@ abbrev pub parts_text : Parts → List ℕ
 parts_text p = numbers_text p ++ name_text p.name
 
 -- the fault line, with its newline
-abbrev pub fault_line : Refusal → List ℕ
+abbrev pub fault_line : CommandFault → List ℕ
 fault_line r = parts_text (parts_of r) ++ 10 ∷ []
 
 -- a part's want of memory is the command's
-abbrev pub board_refusal : BoardFault → Refusal
-board_refusal board.Memory = refusal.Memory
-board_refusal fault = refusal.Board fault
+abbrev pub board_command_fault : BoardFault → CommandFault
+board_command_fault board.Memory = command_fault.Memory
+board_command_fault fault = command_fault.Board fault
 
-abbrev pub elf_refusal : ElfFault → Refusal
-elf_refusal elf.Memory = refusal.Memory
-elf_refusal fault = refusal.Elf fault
+abbrev pub elf_command_fault : ElfFault → CommandFault
+elf_command_fault elf.Memory = command_fault.Memory
+elf_command_fault fault = command_fault.Elf fault
 
-abbrev pub analyse_refusal : AnalyseFault → Refusal
-analyse_refusal analyse.Memory = refusal.Memory
-analyse_refusal fault = refusal.Analyse fault
+abbrev pub analyse_command_fault : AnalyseFault → CommandFault
+analyse_command_fault analyse.Memory = command_fault.Memory
+analyse_command_fault fault = command_fault.Analyse fault
 
-abbrev pub profile_refusal : ProfileFault → Refusal
-profile_refusal (profile.AddressFault pc why) = refusal.AddressFault pc why
-profile_refusal profile.Memory = refusal.Memory
+abbrev pub profile_command_fault : ProfileFault → CommandFault
+profile_command_fault (profile.AddressFault pc why) = command_fault.AddressFault pc why
+profile_command_fault profile.Memory = command_fault.Memory
 
-abbrev pub cert_refusal : CertFault → Refusal
-cert_refusal cert.Memory = refusal.Memory
-cert_refusal fault = refusal.Certificate fault
+abbrev pub cert_command_fault : CertFault → CommandFault
+cert_command_fault cert.Memory = command_fault.Memory
+cert_command_fault fault = command_fault.Certificate fault
 
-abbrev pub hex_refusal : HexFault → Refusal
-hex_refusal hex.Memory = refusal.Memory
-hex_refusal fault = refusal.Hex fault
+abbrev pub hex_command_fault : HexFault → CommandFault
+hex_command_fault hex.Memory = command_fault.Memory
+hex_command_fault fault = command_fault.Hex fault

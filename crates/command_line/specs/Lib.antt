@@ -1,6 +1,6 @@
 pub mod Command
 pub mod FaultLine
-pub mod Refused
+pub mod Diagnostic
 pub mod Reading
 pub mod Delivery
 pub mod RunFile

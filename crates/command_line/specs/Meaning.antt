@@ -1,4 +1,4 @@
--- What each command makes of what it reads: the first fault that refuses it, or its outputs and text.
+-- What each command makes of what it reads: the first fault that rejects it, or its outputs and text.
 use Rattle.std.specs.Prelude.{◌≡◌, ◌⊎◌, ℕ, List, [], ◌∷◌, ◌++◌, codes, length, Option, Some, None, option_map}
 use Rattle.std.specs.Fmt.{decimal}
 use Rattle.list_checks.specs.First.{◌or_else◌}
@@ -12,15 +12,15 @@ use Rattle.hex_image.specs.Reading as hex
 use Rattle.hex_image.specs.Difference.{IsDifference}
 use Rattle.command_line.specs.Command.{PlainCommand, run_command, relink_command, profile_command, compare_command, check_command, gen_command, hex_command, hex_check_command, show_command}
 use Rattle.command_line.specs.FaultLine.{Parts, elf_parts, hex_parts, differs_parts, parts_of}
-use Rattle.command_line.specs.RunFile.{RunsTo, first_refusal}
-use Rattle.command_line.specs.ProgramRun.{TellsProfiled}
+use Rattle.command_line.specs.RunFile.{RunsTo, first_command_fault}
+use Rattle.command_line.specs.ProgramRun.{ReportsProfiled}
 use Rattle.command_line.specs.RelinkFile.{RelinksTo}
 use Rattle.command_line.specs.ProfileFile.{ProfilesTo}
-use Rattle.command_line.specs.CompareFiles.{ComparesTo, TellsCompared}
-use Rattle.command_line.specs.CheckFile.{ChecksTo, TellsChecked}
-use Rattle.command_line.specs.ShowFile.{ShowsTo, TellsShown}
-use Rattle.command_line.specs.declared.faults.Refusal.{Refusal}
-use Rattle.command_line.specs.declared.faults.Refusal.TheVariants as refusal
+use Rattle.command_line.specs.CompareFiles.{ComparesTo, ReportsCompared}
+use Rattle.command_line.specs.CheckFile.{ChecksTo, ReportsChecked}
+use Rattle.command_line.specs.ShowFile.{ShowsTo, ReportsShown}
+use Rattle.command_line.specs.declared.faults.CommandFault.{CommandFault}
+use Rattle.command_line.specs.declared.faults.CommandFault.TheVariants as command_fault
 
 -- `kernels K`, and `records N`
 abbrev pub kernels_text : ℕ → List ℕ
@@ -38,11 +38,11 @@ abbrev pub record_count_of : List ℕ → ℕ
 record_count_of file = length (hex_records (load_segments file) (entry_of file))
 
 -- what is told of the first fault of a file, if it has one; and of a file and a text
-abbrev pub file_refusal : List ℕ → Option Parts
-file_refusal file = option_map elf_parts (first_fault file)
+abbrev pub file_command_fault : List ℕ → Option Parts
+file_command_fault file = option_map elf_parts (first_fault file)
 
-abbrev pub texts_refusal : List ℕ → List ℕ → Option Parts
-texts_refusal file text = file_refusal file or_else option_map hex_parts (hex.hex_fault text)
+abbrev pub texts_command_fault : List ℕ → List ℕ → Option Parts
+texts_command_fault file text = file_command_fault file or_else option_map hex_parts (hex.hex_fault text)
 
 -- the first difference of a text from a file, if there is one
 pub record Compares (file text : List ℕ) (difference : Option ℕ) : Type 0 where
@@ -56,35 +56,35 @@ pub record Compares (file text : List ℕ) (difference : Option ℕ) : Type 0 wh
 pub data IsFirst (command : PlainCommand) (inputs : List (List ℕ)) (told : Option Parts) : Type 0 where
   run_first : (file_name board_name input_name out_name file board input : List ℕ)
       → command ≡ run_command file_name board_name input_name out_name → inputs ≡ file ∷ board ∷ input ∷ []
-      → told ≡ first_refusal board file → IsFirst command inputs told
+      → told ≡ first_command_fault board file → IsFirst command inputs told
   relink_first : (file_name board_name input_name out_name cert_name file board input : List ℕ)
       → command ≡ relink_command file_name board_name input_name out_name cert_name
-      → inputs ≡ file ∷ board ∷ input ∷ [] → TellsProfiled board file input told → IsFirst command inputs told
+      → inputs ≡ file ∷ board ∷ input ∷ [] → ReportsProfiled board file input told → IsFirst command inputs told
   profile_first : (file_name board_name input_name file board input : List ℕ)
       → command ≡ profile_command file_name board_name input_name
-      → inputs ≡ file ∷ board ∷ input ∷ [] → TellsProfiled board file input told → IsFirst command inputs told
+      → inputs ≡ file ∷ board ∷ input ∷ [] → ReportsProfiled board file input told → IsFirst command inputs told
   compare_first : (file_name relinked_name board_name input_name file relinked board input : List ℕ)
       → command ≡ compare_command file_name relinked_name board_name input_name
-      → inputs ≡ file ∷ relinked ∷ board ∷ input ∷ [] → TellsCompared board file relinked input told
+      → inputs ≡ file ∷ relinked ∷ board ∷ input ∷ [] → ReportsCompared board file relinked input told
       → IsFirst command inputs told
   check_first : (file_name board_name input_name cert_name file board input cert : List ℕ)
       → command ≡ check_command file_name board_name input_name cert_name
-      → inputs ≡ file ∷ board ∷ input ∷ cert ∷ [] → TellsChecked board file input cert told
+      → inputs ≡ file ∷ board ∷ input ∷ cert ∷ [] → ReportsChecked board file input cert told
       → IsFirst command inputs told
   show_first : (file_name board_name file board : List ℕ)
-      → command ≡ show_command file_name board_name → inputs ≡ file ∷ board ∷ [] → TellsShown board file told
+      → command ≡ show_command file_name board_name → inputs ≡ file ∷ board ∷ [] → ReportsShown board file told
       → IsFirst command inputs told
   gen_first : (seed kernels : ℕ) (out_name : List ℕ)
       → command ≡ gen_command seed kernels out_name → inputs ≡ [] → told ≡ None → IsFirst command inputs told
   hex_first : (file_name out_name file : List ℕ)
       → command ≡ hex_command file_name out_name → inputs ≡ file ∷ []
-      → told ≡ file_refusal file → IsFirst command inputs told
+      → told ≡ file_command_fault file → IsFirst command inputs told
   check_fault : (file_name hex_name file text : List ℕ) (parts : Parts)
       → command ≡ hex_check_command file_name hex_name → inputs ≡ file ∷ text ∷ []
-      → texts_refusal file text ≡ Some parts → told ≡ Some parts → IsFirst command inputs told
+      → texts_command_fault file text ≡ Some parts → told ≡ Some parts → IsFirst command inputs told
   check_difference : (file_name hex_name file text : List ℕ) (difference : Option ℕ)
       → command ≡ hex_check_command file_name hex_name → inputs ≡ file ∷ text ∷ []
-      → texts_refusal file text ≡ None → Compares file text difference
+      → texts_command_fault file text ≡ None → Compares file text difference
       → told ≡ option_map differs_parts difference → IsFirst command inputs told
 
 -- the outputs and the text of a command whose inputs have no fault: a rule for each command
@@ -115,24 +115,24 @@ pub data Yields (command : PlainCommand) (inputs outputs : List (List ℕ)) (tex
       → outputs ≡ built (workload_plan seed kernels) ∷ [] → text ≡ kernels_text kernels
       → Yields command inputs outputs text
   writes_hex : (file_name out_name file : List ℕ)
-      → command ≡ hex_command file_name out_name → inputs ≡ file ∷ [] → file_refusal file ≡ None
+      → command ≡ hex_command file_name out_name → inputs ≡ file ∷ [] → file_command_fault file ≡ None
       → outputs ≡ hex_of file ∷ [] → text ≡ records_text (record_count_of file) → Yields command inputs outputs text
   agrees : (file_name hex_name file hex_text : List ℕ)
       → command ≡ hex_check_command file_name hex_name → inputs ≡ file ∷ hex_text ∷ []
-      → texts_refusal file hex_text ≡ None
+      → texts_command_fault file hex_text ≡ None
       → hex.Spells hex_text (file_map (load_segments file)) (Some (entry_of file))
       → outputs ≡ [] → text ≡ codes "same\n" → Yields command inputs outputs text
 
--- a computation on the inputs was refused: for want of memory, or by the first fault
-abbrev pub RefusesInputs : PlainCommand → List (List ℕ) → Refusal → Type 0
-RefusesInputs command inputs fault = (fault ≡ refusal.Memory) ⊎ IsFirst command inputs (Some (parts_of fault))
+-- a computation on the inputs was rejected: for want of memory, or by the first fault
+abbrev pub RejectsInputs : PlainCommand → List (List ℕ) → CommandFault → Type 0
+RejectsInputs command inputs fault = (fault ≡ command_fault.Memory) ⊎ IsFirst command inputs (Some (parts_of fault))
 
 -- the same of a computation on a file, and on a file and a text
-abbrev pub RefusesFile : List ℕ → Refusal → Type 0
-RefusesFile file fault = (fault ≡ refusal.Memory) ⊎ (file_refusal file ≡ Some (parts_of fault))
+abbrev pub RejectsFile : List ℕ → CommandFault → Type 0
+RejectsFile file fault = (fault ≡ command_fault.Memory) ⊎ (file_command_fault file ≡ Some (parts_of fault))
 
-pub data RefusesTexts (file text : List ℕ) (fault : Refusal) : Type 0 where
-  memory_wanting : fault ≡ refusal.Memory → RefusesTexts file text fault
-  faulty : texts_refusal file text ≡ Some (parts_of fault) → RefusesTexts file text fault
-  differing : (at : ℕ) → texts_refusal file text ≡ None → Compares file text (Some at) → fault ≡ refusal.Differs at
-      → RefusesTexts file text fault
+pub data RejectsTexts (file text : List ℕ) (fault : CommandFault) : Type 0 where
+  memory_wanting : fault ≡ command_fault.Memory → RejectsTexts file text fault
+  faulty : texts_command_fault file text ≡ Some (parts_of fault) → RejectsTexts file text fault
+  differing : (at : ℕ) → texts_command_fault file text ≡ None → Compares file text (Some at) → fault ≡ command_fault.Differs at
+      → RejectsTexts file text fault

@@ -5,8 +5,8 @@ use Rattle.board_config.specs.declared.board.Board.{Board}
 use Rattle.code_blocks.specs.Numbers.{starts_of}
 use Rattle.object_machine.specs.State.{SourceState}
 use Rattle.result_setups.specs.HomeLaws.{program_in, source_start}
-use Rattle.profile_runner.specs.Move.{Move}
-use Rattle.profile_runner.specs.Moves.{Moves}
+use Rattle.profile_runner.specs.Transition.{Transition}
+use Rattle.profile_runner.specs.Transitions.{Transitions}
 use Rattle.profile_runner.specs.Counts.{IsProfile}
 use Rattle.profile_runner.specs.declared.counts.Profile.{Profile}
 use Rattle.relink_core.specs.Findings.{Findings}
@@ -20,9 +20,9 @@ pub record ProfilesTo (file board_text input text : List ℕ) : Type 0 where
   pub board : Board
   pub accepts : Accepts board_text file board
   pub found : Findings file board
-  pub moves : List Move
+  pub moves : List Transition
   pub last : SourceState
-  pub run : Moves (program_in file board found.graph) board.steps (source_start file board found.graph input) moves last
+  pub run : Transitions (program_in file board found.graph) board.steps (source_start file board found.graph input) moves last
   pub no_address_fault : IsAddressFault last.outcome → ⊥
   pub profile : Profile
   pub is_profile : IsProfile (starts_of found.code) found.regions.of_block.items found.regions.count (length found.graph.objects.items) moves last.outcome profile

@@ -5,8 +5,8 @@ use Rattle.std.specs.Global.{Global}
 use Rattle.shelf_io.specs.declared.shelves.CallKind.TheVariants.{Read}
 use Rattle.shelf_io.specs.Shelf.{ShelfView, Holds, LogsFailed}
 use Rattle.command_line.specs.Command.{Named}
-use Rattle.command_line.specs.declared.faults.Refusal.{Refusal}
-use Rattle.command_line.specs.declared.faults.Refusal.TheVariants as refusal
+use Rattle.command_line.specs.declared.faults.CommandFault.{CommandFault}
+use Rattle.command_line.specs.declared.faults.CommandFault.TheVariants as command_fault
 
 -- the bytes of each text
 abbrev pub contents : List (Vec ℕ Global) → List (List ℕ)
@@ -19,13 +19,13 @@ HoldsAll shelf [] (text ∷ texts) = ⊥
 HoldsAll shelf (n ∷ names) [] = ⊥
 HoldsAll shelf (n ∷ names) (text ∷ texts) = Holds shelf n.name text × HoldsAll shelf names texts
 
--- reading a name was refused: the read failed, or memory was wanting
-abbrev pub RefusesRead : Named → ShelfView → ShelfView → Refusal → Type 0
-RefusesRead n old new fault =
-    ((fault ≡ refusal.Read n.place) × LogsFailed Read n.name old new) ⊎ ((fault ≡ refusal.Memory) × (new ≡ old))
+-- reading a name was rejected: the read failed, or memory was wanting
+abbrev pub RejectsRead : Named → ShelfView → ShelfView → CommandFault → Type 0
+RejectsRead n old new fault =
+    ((fault ≡ command_fault.Read n.place) × LogsFailed Read n.name old new) ⊎ ((fault ≡ command_fault.Memory) × (new ≡ old))
 
 -- so was reading several names
-pub data RefusesReads (names : List Named) (old new : ShelfView) (fault : Refusal) : Type 0 where
-  one_fails : (n : Named) → Contains names n → fault ≡ refusal.Read n.place → LogsFailed Read n.name old new
-      → RefusesReads names old new fault
-  memory_wanting : fault ≡ refusal.Memory → new ≡ old → RefusesReads names old new fault
+pub data RejectsReads (names : List Named) (old new : ShelfView) (fault : CommandFault) : Type 0 where
+  one_fails : (n : Named) → Contains names n → fault ≡ command_fault.Read n.place → LogsFailed Read n.name old new
+      → RejectsReads names old new fault
+  memory_wanting : fault ≡ command_fault.Memory → new ≡ old → RejectsReads names old new fault

@@ -13,17 +13,17 @@ use Rattle.flat_machine.specs.Runs.{Steps}
 use Rattle.flat_machine.specs.declared.events.FlatOutcome.{FlatOutcome}
 use Rattle.flat_machine.specs.declared.events.FlatOutcome.TheVariants.{GoesOn, Exited, Trapped}
 use Rattle.command_line.specs.FaultLine.{Parts, board_parts, elf_parts, parts_of}
-use Rattle.command_line.specs.declared.faults.Refusal.{Refusal}
-use Rattle.command_line.specs.declared.faults.Refusal.TheVariants as refusal
+use Rattle.command_line.specs.declared.faults.CommandFault.{CommandFault}
+use Rattle.command_line.specs.declared.faults.CommandFault.TheVariants as command_fault
 
 -- what is told of the first fault of what a command reads, if there is one: the board comes before the file
-abbrev pub first_refusal : List ℕ → List ℕ → Option Parts
-first_refusal board file =
+abbrev pub first_command_fault : List ℕ → List ℕ → Option Parts
+first_command_fault board file =
     option_map board_parts (first_key board) or_else option_map elf_parts (first_fault file)
 
--- a computation on the inputs was refused: for want of memory, or by the first fault
-abbrev pub IsFirstRefusal : List ℕ → List ℕ → Refusal → Type 0
-IsFirstRefusal board file fault = (fault ≡ refusal.Memory) ⊎ (first_refusal board file ≡ Some (parts_of fault))
+-- a computation on the inputs was rejected: for want of memory, or by the first fault
+abbrev pub IsFirstCommandFault : List ℕ → List ℕ → CommandFault → Type 0
+IsFirstCommandFault board file fault = (fault ≡ command_fault.Memory) ⊎ (first_command_fault board file ≡ Some (parts_of fault))
 
 -- the words that tell how a machine stands
 abbrev pub outcome_text : FlatOutcome → List ℕ
@@ -43,5 +43,5 @@ pub record RunsFrom (start : State) (steps : ℕ) (output line : List ℕ) : Typ
 pub record RunsTo (file board_text input output line : List ℕ) : Type 0 where
   pub board : Board
   pub is_board : IsBoard board_text board
-  pub sound : first_refusal board_text file ≡ None
+  pub sound : first_command_fault board_text file ≡ None
   pub runs : RunsFrom (start_of (entry_of file) (load_segments file) (mapped_ranges board) input) board.steps output line

@@ -3,14 +3,14 @@ ghost use Rattle.placement_programme.specs.Plain.{PlainChoice};
 ghost use Rattle.placement_programme.specs.Programme.{IsFeasible, gain};
 ghost use Rattle.placement_programme.specs.Views.{plain_programme, plain_choice};
 ghost use Rattle.certificate_checker.specs.Views.{plain_verdict};
-ghost use Rattle.command_line.specs.CheckFile.{ChecksTo, RefusesChecked, ReportsText, RefusesText, MayReport, ReportsAnswer, RefusesAnswer};
+ghost use Rattle.command_line.specs.CheckFile.{ChecksTo, RejectsChecked, ReportsText, RejectsText, MayReport, ReportsAnswer, RejectsAnswer};
 
-use crate::faults::Refusal;
+use crate::faults::CommandFault;
 use crate::opening::open;
 use certificate_checker::{Room, Verdict, check_text};
 use placement_programme::{Choice, Programme};
 use printed_lines::choice_report;
-use relinking::stated_run;
+use relinking::programme_of_run;
 use std::alloc::Global;
 
 /// Checks a certificate for the programme that the run of a file's program states, with nothing but the files, and tells
@@ -25,12 +25,12 @@ pub fn check_file(
     board: &[u8],
     input: &[u8],
     cert: &[u8],
-) -> Result<Vec<u8>, Refusal>
+) -> Result<Vec<u8>, CommandFault>
     ensures ok { IfOk result (λ text. ChecksTo file.now board.now input.now cert.now text.items) }
-    ensures err { IfErr result (RefusesChecked board.now file.now input.now cert.now) }
+    ensures err { IfErr result (RejectsChecked board.now file.now input.now cert.now) }
 {
     let opened = open(alloc, file, board)?;
-    let programme = stated_run(alloc, &opened.analysis, &opened.board, input)?;
+    let programme = programme_of_run(alloc, &opened.analysis, &opened.board, input)?;
     match checked(alloc, &programme, opened.board.nodes, cert) {
         Ok(report) => Ok(report.into_bytes()),
         Err(fault) => Err(fault),
@@ -38,10 +38,10 @@ pub fn check_file(
 }
 
 /// Checks a certificate for a programme, and makes the report on its choice.
-fn checked(alloc: Global, programme: &Programme, nodes: u64, cert: &[u8]) -> Result<String, Refusal>
+fn checked(alloc: Global, programme: &Programme, nodes: u64, cert: &[u8]) -> Result<String, CommandFault>
     requires within { (c : PlainChoice) → IsFeasible (plain_programme programme.now) c → gain (plain_programme programme.now) c ≤ℤ pos programme.now.base }
     ensures ok { IfOk result (λ report. ReportsText (plain_programme programme.now) nodes cert.now (string_bytes report)) }
-    ensures err { IfErr result (RefusesText (plain_programme programme.now) cert.now) }
+    ensures err { IfErr result (RejectsText (plain_programme programme.now) cert.now) }
 {
     let mut room = Room::new(alloc, programme)?;
     let verdict = check_text(programme, cert, &mut room)?;
@@ -58,16 +58,16 @@ fn answer(
     choice: &Choice,
     verdict: Verdict,
     nodes: u64,
-) -> Result<String, Refusal>
+) -> Result<String, CommandFault>
     requires within { (c : PlainChoice) → IsFeasible (plain_programme programme.now) c → gain (plain_programme programme.now) c ≤ℤ pos programme.now.base }
     requires feasible { MayReport (plain_programme programme.now) (plain_choice choice.now) (plain_verdict verdict) }
     ensures ok { IfOk result (λ report. ReportsAnswer (plain_programme programme.now) nodes (plain_choice choice.now) (plain_verdict verdict) (string_bytes report)) }
-    ensures err { IfErr result (RefusesAnswer (plain_verdict verdict)) }
+    ensures err { IfErr result (RejectsAnswer (plain_verdict verdict)) }
 {
     match verdict {
         Verdict::Optimal => Ok(choice_report(alloc, programme, choice, true, nodes)?),
         Verdict::BestFound => Ok(choice_report(alloc, programme, choice, false, nodes)?),
-        Verdict::BadChoice => Err(Refusal::BadChoice),
-        Verdict::Wrong { side, node, .. } => Err(Refusal::WrongTree { side, node }),
+        Verdict::BadChoice => Err(CommandFault::BadChoice),
+        Verdict::Wrong { side, node, .. } => Err(CommandFault::WrongTree { side, node }),
     }
 }

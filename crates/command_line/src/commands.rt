@@ -1,5 +1,5 @@
 ghost use Rattle.std.specs.Prelude.{◌≡◌, ◌≢◌, ◌≤◌, ◌↔◌, ℕ, List, IsTrue, IfOk, IfSome, IsSome, MatchOption, All, codes, length, ◌∷◌, [], map};
-ghost use Rattle.command_line.specs.Command.{texts, IsName, IsNameWord, AreNames, IsDigit, value_of, IsNumber, PlainCommand, Spells, SpellsGen, SpellsNoRun, SpellsNoOther, IsApart, IsCommand, plain_command, plain_named, named, reads};
+ghost use Rattle.command_line.specs.Command.{texts, IsName, IsNameWord, AreNames, IsDigit, value_of, IsNumber, PlainCommand, Spells, SpellsGen, SpellsNoRun, SpellsNoOther, IsDisjoint, IsCommand, plain_command, plain_named, named, reads};
 
 use std::alloc::{AllocError, Global};
 
@@ -173,7 +173,7 @@ pub fn parse(words: &[String]) -> Option<Command<'_>>
         (λ command. IsCommand (texts words.now) (plain_command command)) }
 {
     let command = spelled(words)?;
-    if are_names(words) && is_apart(&command) {
+    if are_names(words) && is_disjoint(&command) {
         Some(command)
     } else {
         None
@@ -356,8 +356,8 @@ fn is_name(word: &str) -> bool
 }
 
 /// Whether each name that is written differs from all others.
-fn is_apart(command: &Command<'_>) -> bool
-    ensures { IsTrue result ↔ IsApart (plain_command command.now) }
+fn is_disjoint(command: &Command<'_>) -> bool
+    ensures { IsTrue result ↔ IsDisjoint (plain_command command.now) }
 {
     match *command {
         Command::Run {

@@ -1,8 +1,8 @@
 ghost use Rattle.std.specs.Prelude.{◌≡◌, IfOk, IfErr};
 ghost use Rattle.printed_lines.specs.Endings.{IsAddressFault};
-ghost use Rattle.command_line.specs.CompareFiles.{ComparesTo, RefusesCompared, HasEnding, AnswersComparison, RefusesComparison, same_text};
+ghost use Rattle.command_line.specs.CompareFiles.{ComparesTo, RejectsCompared, HasEnding, AnswersComparison, RejectsComparison, same_text};
 
-use crate::faults::Refusal;
+use crate::faults::CommandFault;
 use crate::opening::open;
 use compare_runner::{Comparison, compare};
 use object_machine::Outcome;
@@ -20,9 +20,9 @@ pub fn compare_files(
     relinked: &[u8],
     board: &[u8],
     input: &[u8],
-) -> Result<Vec<u8>, Refusal>
+) -> Result<Vec<u8>, CommandFault>
     ensures ok { IfOk result (λ text. ComparesTo file.now relinked.now board.now input.now text.items) }
-    ensures err { IfErr result (RefusesCompared board.now file.now relinked.now input.now) }
+    ensures err { IfErr result (RejectsCompared board.now file.now relinked.now input.now) }
 {
     let opened = open(alloc, file, board)?;
     let view = elf_reader::read(alloc, relinked)?;
@@ -40,16 +40,16 @@ pub fn compare_files(
     }
 }
 
-/// What is printed of a comparison, or why it is refused.
-fn answer(alloc: Global, comparison: Comparison) -> Result<Vec<u8>, Refusal>
+/// What is printed of a comparison, or why it is rejected.
+fn answer(alloc: Global, comparison: Comparison) -> Result<Vec<u8>, CommandFault>
     requires { HasEnding comparison }
     ensures ok { IfOk result (λ text. AnswersComparison comparison text.items) }
-    ensures err { IfErr result (RefusesComparison comparison) }
+    ensures err { IfErr result (RejectsComparison comparison) }
 {
     match comparison {
         Comparison::Same { outcome } => Ok(same_lines(alloc, outcome)?),
-        Comparison::Differs { at } => Err(Refusal::Differs { at }),
-        Comparison::SourceFault { pc, why } => Err(Refusal::SourceFault { pc, why }),
+        Comparison::Differs { at } => Err(CommandFault::Differs { at }),
+        Comparison::SourceFault { pc, why } => Err(CommandFault::SourceFault { pc, why }),
     }
 }
 

@@ -12,7 +12,7 @@ use std::fmt;
 
 /// Why a command has no result.
 #[derive(Debug, Drop)]
-pub enum Refusal {
+pub enum CommandFault {
     /// The words are no command.
     Usage,
     /// The word at this place, counted from 0, names what could not be read.
@@ -45,7 +45,7 @@ pub enum Refusal {
     Memory,
 }
 
-impl Refusal {
+impl CommandFault {
     ghost use Rattle.std.specs.Prelude.{◌≡◌, ◌++◌, IfOk, string_bytes};
     ghost use Rattle.command_line.specs.FaultLine.{plain_parts, parts_of, status_of, fault_line};
 
@@ -68,126 +68,126 @@ impl Refusal {
         ensures { plain_parts result ≡ parts_of self.now }
     {
         match self {
-            Refusal::Usage => LineParts::new(1, "usage", 0, 0),
-            Refusal::Read { place } => LineParts::new(2, "read", *place, 0),
-            Refusal::Write { place } => LineParts::new(3, "write", *place, 0),
-            Refusal::Board(fault) => LineParts::of_board(fault),
-            Refusal::Elf(fault) => LineParts::of_elf(fault),
-            Refusal::Analyse(fault) => LineParts::of_analysis(fault),
-            Refusal::AddressFault { pc, why } => LineParts::new(8, "address-fault", *pc, *why),
-            Refusal::Certificate(fault) => LineParts::of_certificate(fault),
-            Refusal::BadChoice => LineParts::new(10, "bad-choice", 0, 0),
-            Refusal::WrongTree { side, node } => LineParts::new(10, "wrong", *side, *node),
-            Refusal::Hex(fault) => LineParts::of_hex(fault),
-            Refusal::Differs { at } => LineParts::of_difference(*at),
-            Refusal::SourceFault { pc, why } => LineParts::new(12, "address-fault", *pc, *why),
-            Refusal::Memory => LineParts::new(9, "memory", 0, 0),
+            CommandFault::Usage => LineParts::new(1, "usage", 0, 0),
+            CommandFault::Read { place } => LineParts::new(2, "read", *place, 0),
+            CommandFault::Write { place } => LineParts::new(3, "write", *place, 0),
+            CommandFault::Board(fault) => LineParts::of_board(fault),
+            CommandFault::Elf(fault) => LineParts::of_elf(fault),
+            CommandFault::Analyse(fault) => LineParts::of_analysis(fault),
+            CommandFault::AddressFault { pc, why } => LineParts::new(8, "address-fault", *pc, *why),
+            CommandFault::Certificate(fault) => LineParts::of_certificate(fault),
+            CommandFault::BadChoice => LineParts::new(10, "bad-choice", 0, 0),
+            CommandFault::WrongTree { side, node } => LineParts::new(10, "wrong", *side, *node),
+            CommandFault::Hex(fault) => LineParts::of_hex(fault),
+            CommandFault::Differs { at } => LineParts::of_difference(*at),
+            CommandFault::SourceFault { pc, why } => LineParts::new(12, "address-fault", *pc, *why),
+            CommandFault::Memory => LineParts::new(9, "memory", 0, 0),
         }
     }
 }
 
-impl From<AllocError> for Refusal {
+impl From<AllocError> for CommandFault {
     ghost use Rattle.std.specs.Prelude.{◌≡◌};
-    ghost use Rattle.command_line.specs.declared.faults.Refusal.TheVariants as refusal;
+    ghost use Rattle.command_line.specs.declared.faults.CommandFault.TheVariants as command_fault;
 
-    ghost from_gives = { λ _ fault. fault ≡ refusal.Memory };
+    ghost from_gives = { λ _ fault. fault ≡ command_fault.Memory };
 
-    fn from(_error: AllocError) -> Refusal {
-        Refusal::Memory
+    fn from(_error: AllocError) -> CommandFault {
+        CommandFault::Memory
     }
 }
 
-impl<T: Drop> From<AllocFailed<T>> for Refusal {
+impl<T: Drop> From<AllocFailed<T>> for CommandFault {
     ghost use Rattle.std.specs.Prelude.{◌≡◌};
-    ghost use Rattle.command_line.specs.declared.faults.Refusal.TheVariants as refusal;
+    ghost use Rattle.command_line.specs.declared.faults.CommandFault.TheVariants as command_fault;
 
-    ghost from_gives = { λ _ fault. fault ≡ refusal.Memory };
+    ghost from_gives = { λ _ fault. fault ≡ command_fault.Memory };
 
-    fn from(_error: AllocFailed<T>) -> Refusal {
-        Refusal::Memory
+    fn from(_error: AllocFailed<T>) -> CommandFault {
+        CommandFault::Memory
     }
 }
 
-impl From<BoardFault> for Refusal {
+impl From<BoardFault> for CommandFault {
     ghost use Rattle.std.specs.Prelude.{◌≡◌};
-    ghost use Rattle.command_line.specs.FaultLine.{board_refusal};
+    ghost use Rattle.command_line.specs.FaultLine.{board_command_fault};
 
-    ghost from_gives = { λ fault refusal. refusal ≡ board_refusal fault };
+    ghost from_gives = { λ fault command_fault. command_fault ≡ board_command_fault fault };
 
-    fn from(fault: BoardFault) -> Refusal {
+    fn from(fault: BoardFault) -> CommandFault {
         match fault {
-            BoardFault::Memory => Refusal::Memory,
-            fault => Refusal::Board(fault),
+            BoardFault::Memory => CommandFault::Memory,
+            fault => CommandFault::Board(fault),
         }
     }
 }
 
-impl From<ElfFault> for Refusal {
+impl From<ElfFault> for CommandFault {
     ghost use Rattle.std.specs.Prelude.{◌≡◌};
-    ghost use Rattle.command_line.specs.FaultLine.{elf_refusal};
+    ghost use Rattle.command_line.specs.FaultLine.{elf_command_fault};
 
-    ghost from_gives = { λ fault refusal. refusal ≡ elf_refusal fault };
+    ghost from_gives = { λ fault command_fault. command_fault ≡ elf_command_fault fault };
 
-    fn from(fault: ElfFault) -> Refusal {
+    fn from(fault: ElfFault) -> CommandFault {
         match fault {
-            ElfFault::Memory => Refusal::Memory,
-            fault => Refusal::Elf(fault),
+            ElfFault::Memory => CommandFault::Memory,
+            fault => CommandFault::Elf(fault),
         }
     }
 }
 
-impl From<AnalyseFault> for Refusal {
+impl From<AnalyseFault> for CommandFault {
     ghost use Rattle.std.specs.Prelude.{◌≡◌};
-    ghost use Rattle.command_line.specs.FaultLine.{analyse_refusal};
+    ghost use Rattle.command_line.specs.FaultLine.{analyse_command_fault};
 
-    ghost from_gives = { λ fault refusal. refusal ≡ analyse_refusal fault };
+    ghost from_gives = { λ fault command_fault. command_fault ≡ analyse_command_fault fault };
 
-    fn from(fault: AnalyseFault) -> Refusal {
+    fn from(fault: AnalyseFault) -> CommandFault {
         match fault {
-            AnalyseFault::Memory => Refusal::Memory,
-            fault => Refusal::Analyse(fault),
+            AnalyseFault::Memory => CommandFault::Memory,
+            fault => CommandFault::Analyse(fault),
         }
     }
 }
 
-impl From<ProfileFault> for Refusal {
+impl From<ProfileFault> for CommandFault {
     ghost use Rattle.std.specs.Prelude.{◌≡◌};
-    ghost use Rattle.command_line.specs.FaultLine.{profile_refusal};
+    ghost use Rattle.command_line.specs.FaultLine.{profile_command_fault};
 
-    ghost from_gives = { λ fault refusal. refusal ≡ profile_refusal fault };
+    ghost from_gives = { λ fault command_fault. command_fault ≡ profile_command_fault fault };
 
-    fn from(fault: ProfileFault) -> Refusal {
+    fn from(fault: ProfileFault) -> CommandFault {
         match fault {
-            ProfileFault::AddressFault { pc, why } => Refusal::AddressFault { pc, why },
-            ProfileFault::Memory => Refusal::Memory,
+            ProfileFault::AddressFault { pc, why } => CommandFault::AddressFault { pc, why },
+            ProfileFault::Memory => CommandFault::Memory,
         }
     }
 }
 
-impl From<CertFault> for Refusal {
+impl From<CertFault> for CommandFault {
     ghost use Rattle.std.specs.Prelude.{◌≡◌};
-    ghost use Rattle.command_line.specs.FaultLine.{cert_refusal};
+    ghost use Rattle.command_line.specs.FaultLine.{cert_command_fault};
 
-    ghost from_gives = { λ fault refusal. refusal ≡ cert_refusal fault };
+    ghost from_gives = { λ fault command_fault. command_fault ≡ cert_command_fault fault };
 
-    fn from(fault: CertFault) -> Refusal {
+    fn from(fault: CertFault) -> CommandFault {
         match fault {
-            CertFault::Memory => Refusal::Memory,
-            fault => Refusal::Certificate(fault),
+            CertFault::Memory => CommandFault::Memory,
+            fault => CommandFault::Certificate(fault),
         }
     }
 }
 
-impl From<HexFault> for Refusal {
+impl From<HexFault> for CommandFault {
     ghost use Rattle.std.specs.Prelude.{◌≡◌};
-    ghost use Rattle.command_line.specs.FaultLine.{hex_refusal};
+    ghost use Rattle.command_line.specs.FaultLine.{hex_command_fault};
 
-    ghost from_gives = { λ fault refusal. refusal ≡ hex_refusal fault };
+    ghost from_gives = { λ fault command_fault. command_fault ≡ hex_command_fault fault };
 
-    fn from(fault: HexFault) -> Refusal {
+    fn from(fault: HexFault) -> CommandFault {
         match fault {
-            HexFault::Memory => Refusal::Memory,
-            fault => Refusal::Hex(fault),
+            HexFault::Memory => CommandFault::Memory,
+            fault => CommandFault::Hex(fault),
         }
     }
 }
@@ -310,7 +310,7 @@ impl<'a> LineParts<'a> {
             GraphFault::SpmOverlap { segment } => LineParts::new(7, "spm-overlap", *segment, 0),
             GraphFault::PatchOverlap { segment } => LineParts::new(7, "patch-overlap", *segment, 0),
             GraphFault::PatchFar { span } => LineParts::new(7, "patch-far", *span, 0),
-            GraphFault::SpmMeetsPatch => LineParts::new(7, "spm-meets-patch", 0, 0),
+            GraphFault::SpmOverlapsPatch => LineParts::new(7, "spm-meets-patch", 0, 0),
             GraphFault::SpmAtZero => LineParts::new(7, "spm-at-zero", 0, 0),
             GraphFault::NoArea { segment } => LineParts::new(7, "no-area", *segment, 0),
             GraphFault::TooManyObjects { count } => LineParts::new(

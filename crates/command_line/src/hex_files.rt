@@ -1,12 +1,12 @@
 ghost use Rattle.std.specs.Prelude.{◌≡◌, IfOk, OnOk, IfErr, string_bytes, length, Some, None};
 ghost use Rattle.elf_reader.specs.File.{segments_of, entry_of, load_segments};
-ghost use Rattle.elf_reader.specs.Loadable.{AreLoadable, AreApart};
+ghost use Rattle.elf_reader.specs.Loadable.{AreLoadable, AreDisjoint};
 ghost use Rattle.hex_image.specs.Runs.{file_map};
 ghost use Rattle.hex_image.specs.Reading.{Spells};
 ghost use Rattle.hex_image.specs.Text.{hex_text, hex_records};
-ghost use Rattle.command_line.specs.Meaning.{hex_of, record_count_of, records_text, file_refusal, texts_refusal, RefusesFile, RefusesTexts};
+ghost use Rattle.command_line.specs.Meaning.{hex_of, record_count_of, records_text, file_command_fault, texts_command_fault, RejectsFile, RejectsTexts};
 
-use crate::faults::Refusal;
+use crate::faults::CommandFault;
 use elf_reader::ElfView;
 use hex_image::{first_difference, read_hex, record_count, write_hex};
 use std::alloc::{AllocError, Global};
@@ -21,11 +21,11 @@ pub struct HexResult {
 }
 
 /// Writes a file's bytes and entry in Intel HEX.
-pub fn hex_file(alloc: Global, file: &[u8]) -> Result<HexResult, Refusal>
+pub fn hex_file(alloc: Global, file: &[u8]) -> Result<HexResult, CommandFault>
     ensures text { IfOk result (λ r. r.text.items ≡ hex_of file.now) }
     ensures line { IfOk result (λ r. string_bytes r.line ≡ records_text (record_count_of file.now)) }
-    ensures sound { OnOk result (file_refusal file.now ≡ None) }
-    ensures err { IfErr result (RefusesFile file.now) }
+    ensures sound { OnOk result (file_command_fault file.now ≡ None) }
+    ensures err { IfErr result (RejectsFile file.now) }
 {
     let view = elf_reader::read(alloc, file)?;
     Ok(hex_view(alloc, &view)?)
@@ -34,7 +34,7 @@ pub fn hex_file(alloc: Global, file: &[u8]) -> Result<HexResult, Refusal>
 /// Writes the bytes and the entry of a view.
 fn hex_view(alloc: Global, view: &ElfView<'_>) -> Result<HexResult, AllocError>
     requires loadable { AreLoadable (segments_of view.now) }
-    requires apart { AreApart (segments_of view.now) }
+    requires disjoint { AreDisjoint (segments_of view.now) }
     ensures text { IfOk result (λ r. r.text.items ≡ hex_text (segments_of view.now) view.now.entry) }
     ensures line { IfOk result (λ r. string_bytes r.line
         ≡ records_text (length (hex_records (segments_of view.now) view.now.entry))) }
@@ -46,15 +46,15 @@ fn hex_view(alloc: Global, view: &ElfView<'_>) -> Result<HexResult, AllocError>
 }
 
 /// Checks that a text spells a file's bytes and entry.
-pub fn check_hex(alloc: Global, file: &[u8], text: &[u8]) -> Result<(), Refusal>
-    ensures ok { OnOk result ((texts_refusal file.now text.now ≡ None)
+pub fn check_hex(alloc: Global, file: &[u8], text: &[u8]) -> Result<(), CommandFault>
+    ensures ok { OnOk result ((texts_command_fault file.now text.now ≡ None)
         × Spells text.now (file_map (load_segments file.now)) (Some (entry_of file.now))) }
-    ensures err { IfErr result (RefusesTexts file.now text.now) }
+    ensures err { IfErr result (RejectsTexts file.now text.now) }
 {
     let view = elf_reader::read(alloc, file)?;
     let image = read_hex(alloc, text)?;
     match first_difference(&view, &image) {
-        Some(at) => Err(Refusal::Differs { at: u64::from(at) }),
+        Some(at) => Err(CommandFault::Differs { at: u64::from(at) }),
         None => Ok(()),
     }
 }

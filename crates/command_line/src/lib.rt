@@ -14,7 +14,7 @@ mod performing;
 mod printing;
 mod profile_file;
 mod reading;
-mod refused;
+mod diagnostic;
 mod relink_file;
 mod results;
 mod run_file;

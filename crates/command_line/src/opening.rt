@@ -1,7 +1,7 @@
 ghost use Rattle.std.specs.Prelude.{IfOk, IfErr};
-ghost use Rattle.command_line.specs.Analysed.{IsOpened, RefusesAnalysed};
+ghost use Rattle.command_line.specs.Analysed.{IsOpened, RejectsAnalysed};
 
-use crate::faults::Refusal;
+use crate::faults::CommandFault;
 use board_config::{Board, read_board};
 use relink_core::{Analysis, analyse};
 use std::alloc::Global;
@@ -17,9 +17,9 @@ pub struct Opened<'a> {
 ///
 /// The error is the first fault of the board's text, of the file, of where it lies, of its code, or of its regions.
 /// `Memory` comes only where no memory was left.
-pub fn open<'a>(alloc: Global, file: &'a [u8], board: &[u8]) -> Result<Opened<'a>, Refusal>
+pub fn open<'a>(alloc: Global, file: &'a [u8], board: &[u8]) -> Result<Opened<'a>, CommandFault>
     ensures ok { IfOk result (IsOpened board.now file.now) }
-    ensures err { IfErr result (RefusesAnalysed board.now file.now) }
+    ensures err { IfErr result (RejectsAnalysed board.now file.now) }
 {
     let board = read_board(alloc, board)?;
     let analysis = analyse(alloc, file, &board)?;

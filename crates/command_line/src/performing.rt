@@ -1,13 +1,13 @@
 ghost use Rattle.std.specs.Prelude.{◌≡◌, OnOk, IfOk, IfErr};
 ghost use Rattle.command_line.specs.Command.{HasNumbers, plain_command};
-ghost use Rattle.command_line.specs.Performing.{IsPrepared, RefusesPreparing, Performs, IsRefusedBy};
+ghost use Rattle.command_line.specs.Performing.{IsPrepared, RejectsPreparing, Performs, IsRejectedBy};
 
 use crate::commands::Command;
-use crate::delivery::{Ready, deliver};
-use crate::faults::Refusal;
+use crate::delivery::{PreparedResult, deliver};
+use crate::faults::CommandFault;
 use crate::reading::read_all;
-use crate::refused::Refused;
-use crate::results::make_ready;
+use crate::diagnostic::Diagnostic;
+use crate::results::prepare_result;
 use shelf_io::{Shelf, Sink};
 use std::alloc::Global;
 
@@ -16,15 +16,15 @@ fn prepare<'a, S: Shelf>(
     alloc: Global,
     command: &Command<'a>,
     shelf: &mut S,
-) -> Result<Ready<'a>, Refusal>
+) -> Result<PreparedResult<'a>, CommandFault>
     requires { HasNumbers (plain_command command.now) }
-    ensures ok { IfOk result (λ ready. IsPrepared (plain_command command.now) ready (S.view shelf.old) (S.view shelf.new)) }
-    ensures err { IfErr result (RefusesPreparing (plain_command command.now) (S.view shelf.old) (S.view shelf.new)) }
+    ensures ok { IfOk result (λ prepared. IsPrepared (plain_command command.now) prepared (S.view shelf.old) (S.view shelf.new)) }
+    ensures err { IfErr result (RejectsPreparing (plain_command command.now) (S.view shelf.old) (S.view shelf.new)) }
 {
     let names = command.reads(alloc)?;
     match read_all(alloc, &names, shelf) {
-        Ok(texts) => match make_ready(alloc, command, &texts) {
-            Ok(ready) => Ok(ready),
+        Ok(texts) => match prepare_result(alloc, command, &texts) {
+            Ok(prepared) => Ok(prepared),
             Err(fault) => Err(fault),
         },
         Err(fault) => Err(fault),
@@ -37,20 +37,20 @@ pub fn perform_command<S: Shelf, K: Sink>(
     command: &Command<'_>,
     shelf: &mut S,
     out: &mut K,
-) -> Result<(), Refused>
+) -> Result<(), Diagnostic>
     requires { HasNumbers (plain_command command.now) }
     ensures ok { OnOk result (Performs (plain_command command.now)
         (S.view shelf.old) (S.view shelf.new)
         (K.view out.old) (K.view out.new)) }
-    ensures err { IfErr result (IsRefusedBy (plain_command command.now)
+    ensures err { IfErr result (IsRejectedBy (plain_command command.now)
         (S.view shelf.old) (S.view shelf.new)
         (K.view out.old) (K.view out.new)) }
 {
     match prepare(alloc, command, shelf) {
-        Ok(ready) => match deliver(ready, shelf, out) {
+        Ok(prepared) => match deliver(prepared, shelf, out) {
             Ok(()) => Ok(()),
-            Err(refused) => Err(refused),
+            Err(diagnostic) => Err(diagnostic),
         },
-        Err(fault) => Err(Refused::new(alloc, &fault)),
+        Err(fault) => Err(Diagnostic::new(alloc, &fault)),
     }
 }

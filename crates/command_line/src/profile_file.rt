@@ -1,11 +1,11 @@
 ghost use Rattle.std.specs.Prelude.{IfOk, IfErr};
-ghost use Rattle.command_line.specs.ProgramRun.{RefusesProfiled};
+ghost use Rattle.command_line.specs.ProgramRun.{RejectsProfiled};
 ghost use Rattle.command_line.specs.ProfileFile.{ProfilesTo};
 
-use crate::faults::Refusal;
+use crate::faults::CommandFault;
 use crate::opening::open;
 use printed_lines::profile_lines;
-use relinking::counted;
+use relinking::profile_of_run;
 use std::alloc::Global;
 
 /// Runs the program of a file for the board's steps, and tells what happened in lines.
@@ -17,12 +17,12 @@ pub fn profile_file(
     file: &[u8],
     board: &[u8],
     input: &[u8],
-) -> Result<Vec<u8>, Refusal>
+) -> Result<Vec<u8>, CommandFault>
     ensures ok { IfOk result (λ text. ProfilesTo file.now board.now input.now text.items) }
-    ensures err { IfErr result (RefusesProfiled board.now file.now input.now) }
+    ensures err { IfErr result (RejectsProfiled board.now file.now input.now) }
 {
     let opened = open(alloc, file, board)?;
-    let counts = counted(alloc, &opened.analysis, &opened.board, input)?;
+    let counts = profile_of_run(alloc, &opened.analysis, &opened.board, input)?;
     Ok(profile_lines(
         alloc,
         &opened.analysis.view,

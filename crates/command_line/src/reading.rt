@@ -1,10 +1,10 @@
 ghost use Rattle.std.specs.Prelude.{◌≡◌, List, ◌++◌, ◌∷◌, [], map, IfOk, IfErr, OnOk};
 ghost use Rattle.shelf_io.specs.Shelf.{Holds};
 ghost use Rattle.command_line.specs.Command.{Named, plain_named};
-ghost use Rattle.command_line.specs.Reading.{contents, HoldsAll, RefusesRead, RefusesReads};
+ghost use Rattle.command_line.specs.Reading.{contents, HoldsAll, RejectsRead, RejectsReads};
 
 use crate::commands::NamedWord;
-use crate::faults::Refusal;
+use crate::faults::CommandFault;
 use shelf_io::{Shelf, ShelfFault};
 use std::alloc::Global;
 
@@ -13,10 +13,10 @@ pub fn read_all<S: Shelf>(
     alloc: Global,
     names: &[NamedWord<'_>],
     shelf: &mut S,
-) -> Result<Vec<Vec<u8>>, Refusal>
+) -> Result<Vec<Vec<u8>>, CommandFault>
     ensures ok { IfOk result (λ texts. HoldsAll (S.view shelf.old) (map plain_named names.now) (contents texts.items)
         × (S.view shelf.new ≡ S.view shelf.old)) }
-    ensures err { IfErr result (RefusesReads (map plain_named names.now) (S.view shelf.old) (S.view shelf.new)) }
+    ensures err { IfErr result (RejectsReads (map plain_named names.now) (S.view shelf.old) (S.view shelf.new)) }
 {
     let mut texts = Vec::new(alloc);
     for named in names {
@@ -34,11 +34,11 @@ fn push_text<S: Shelf>(
     texts: &mut Vec<Vec<u8>>,
     named: &NamedWord<'_>,
     shelf: &mut S,
-) -> Result<(), Refusal>
+) -> Result<(), CommandFault>
     ensures ok { OnOk result ((names : List Named) → HoldsAll (S.view shelf.old) names (contents texts.old.items)
         → HoldsAll (S.view shelf.old) (names ++ plain_named named.now ∷ []) (contents texts.new.items)) }
     ensures same { OnOk result (S.view shelf.new ≡ S.view shelf.old) }
-    ensures err { IfErr result (RefusesRead (plain_named named.now) (S.view shelf.old) (S.view shelf.new)) }
+    ensures err { IfErr result (RejectsRead (plain_named named.now) (S.view shelf.old) (S.view shelf.new)) }
 {
     let text = read_name(alloc, named, shelf)?;
     texts.push(text)?;
@@ -50,14 +50,14 @@ fn read_name<S: Shelf>(
     alloc: Global,
     named: &NamedWord<'_>,
     shelf: &mut S,
-) -> Result<Vec<u8>, Refusal>
+) -> Result<Vec<u8>, CommandFault>
     ensures ok { IfOk result (λ bytes. Holds (S.view shelf.old) named.now.name.now bytes.items
         × (S.view shelf.new ≡ S.view shelf.old)) }
-    ensures err { IfErr result (RefusesRead (plain_named named.now) (S.view shelf.old) (S.view shelf.new)) }
+    ensures err { IfErr result (RejectsRead (plain_named named.now) (S.view shelf.old) (S.view shelf.new)) }
 {
     match shelf.read(alloc, named.name) {
         Ok(bytes) => Ok(bytes),
-        Err(ShelfFault::Failed) => Err(Refusal::Read { place: named.place }),
-        Err(ShelfFault::Memory) => Err(Refusal::Memory),
+        Err(ShelfFault::Failed) => Err(CommandFault::Read { place: named.place }),
+        Err(ShelfFault::Memory) => Err(CommandFault::Memory),
     }
 }

@@ -1,8 +1,8 @@
 ghost use Rattle.std.specs.Prelude.{IfOk, IfErr};
-ghost use Rattle.command_line.specs.ProgramRun.{RefusesProfiled};
+ghost use Rattle.command_line.specs.ProgramRun.{RejectsProfiled};
 ghost use Rattle.command_line.specs.RelinkFile.{RelinksTo};
 
-use crate::faults::Refusal;
+use crate::faults::CommandFault;
 use crate::opening::open;
 use relinking::{relink_analysed, relink_report};
 use std::alloc::Global;
@@ -27,9 +27,9 @@ pub fn relink_file(
     file: &[u8],
     board: &[u8],
     input: &[u8],
-) -> Result<RelinkedFile, Refusal>
+) -> Result<RelinkedFile, CommandFault>
     ensures ok { IfOk result (λ r. RelinksTo file.now board.now input.now r.certificate.items r.file.items r.report.items) }
-    ensures err { IfErr result (RefusesProfiled board.now file.now input.now) }
+    ensures err { IfErr result (RejectsProfiled board.now file.now input.now) }
 {
     let opened = open(alloc, file, board)?;
     let relinked = relink_analysed(alloc, &opened.analysis, &opened.board, input)?;

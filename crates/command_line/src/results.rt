@@ -1,14 +1,14 @@
 ghost use Rattle.std.specs.Prelude.{◌≡◌, ◌∷◌, [], ◌≤◌, ℕ, List, IfOk, IfErr, length, string_bytes};
 ghost use Rattle.command_line.specs.Command.{HasNumbers, plain_command, reads, run_command, relink_command, profile_command, compare_command, check_command, gen_command, hex_command, hex_check_command, show_command};
 ghost use Rattle.command_line.specs.Reading.{contents};
-ghost use Rattle.command_line.specs.Meaning.{RefusesInputs, kernels_text};
-ghost use Rattle.command_line.specs.Performing.{IsReadyFor};
+ghost use Rattle.command_line.specs.Meaning.{RejectsInputs, kernels_text};
+ghost use Rattle.command_line.specs.Performing.{IsPreparedFor};
 
 use crate::check_file::check_file;
 use crate::commands::Command;
 use crate::compare_files::compare_files;
-use crate::delivery::{Output, Ready};
-use crate::faults::Refusal;
+use crate::delivery::{Output, PreparedResult};
+use crate::faults::CommandFault;
 use crate::hex_files::{check_hex, hex_file};
 use crate::profile_file::profile_file;
 use crate::relink_file::relink_file;
@@ -18,149 +18,149 @@ use std::alloc::{AllocError, Global};
 use workload_gen::workload;
 
 /// Makes the result of a command of what it read, one text for each name.
-pub fn make_ready<'a>(
+pub fn prepare_result<'a>(
     alloc: Global,
     command: &Command<'a>,
     texts: &[Vec<u8>],
-) -> Result<Ready<'a>, Refusal>
+) -> Result<PreparedResult<'a>, CommandFault>
     requires numbers { HasNumbers (plain_command command.now) }
     requires texts { length texts.now ≡ length (reads (plain_command command.now)) }
-    ensures ok { IfOk result (IsReadyFor (plain_command command.now) (contents texts.now)) }
-    ensures err { IfErr result (RefusesInputs (plain_command command.now) (contents texts.now)) }
+    ensures ok { IfOk result (IsPreparedFor (plain_command command.now) (contents texts.now)) }
+    ensures err { IfErr result (RejectsInputs (plain_command command.now) (contents texts.now)) }
 {
     match *command {
-        Command::Run { out, .. } => match ready_run(alloc, out, texts) {
-            Ok(ready) => Ok(ready),
+        Command::Run { out, .. } => match prepare_run(alloc, out, texts) {
+            Ok(prepared) => Ok(prepared),
             Err(fault) => Err(fault),
         },
-        Command::Relink { out, cert, .. } => match ready_relink(alloc, out, cert, texts) {
-            Ok(ready) => Ok(ready),
+        Command::Relink { out, cert, .. } => match prepare_relink(alloc, out, cert, texts) {
+            Ok(prepared) => Ok(prepared),
             Err(fault) => Err(fault),
         },
-        Command::Profile { .. } => match ready_profile(alloc, texts) {
-            Ok(ready) => Ok(ready),
+        Command::Profile { .. } => match prepare_profile(alloc, texts) {
+            Ok(prepared) => Ok(prepared),
             Err(fault) => Err(fault),
         },
-        Command::Compare { .. } => match ready_compare(alloc, texts) {
-            Ok(ready) => Ok(ready),
+        Command::Compare { .. } => match prepare_compare(alloc, texts) {
+            Ok(prepared) => Ok(prepared),
             Err(fault) => Err(fault),
         },
-        Command::Check { .. } => match ready_check(alloc, texts) {
-            Ok(ready) => Ok(ready),
+        Command::Check { .. } => match prepare_check(alloc, texts) {
+            Ok(prepared) => Ok(prepared),
             Err(fault) => Err(fault),
         },
-        Command::Show { .. } => match ready_show(alloc, texts) {
-            Ok(ready) => Ok(ready),
+        Command::Show { .. } => match prepare_show(alloc, texts) {
+            Ok(prepared) => Ok(prepared),
             Err(fault) => Err(fault),
         },
-        Command::Gen { seed, kernels, out } => ready_gen(alloc, seed, kernels, out),
-        Command::Hex { out, .. } => match ready_hex(alloc, out, texts) {
-            Ok(ready) => Ok(ready),
+        Command::Gen { seed, kernels, out } => prepare_gen(alloc, seed, kernels, out),
+        Command::Hex { out, .. } => match prepare_hex(alloc, out, texts) {
+            Ok(prepared) => Ok(prepared),
             Err(fault) => Err(fault),
         },
-        Command::HexCheck { .. } => match ready_hex_check(alloc, texts) {
-            Ok(ready) => Ok(ready),
+        Command::HexCheck { .. } => match prepare_hex_check(alloc, texts) {
+            Ok(prepared) => Ok(prepared),
             Err(fault) => Err(fault),
         },
     }
 }
 
-fn ready_run<'a>(alloc: Global, out: &'a str, texts: &[Vec<u8>]) -> Result<Ready<'a>, Refusal>
+fn prepare_run<'a>(alloc: Global, out: &'a str, texts: &[Vec<u8>]) -> Result<PreparedResult<'a>, CommandFault>
     requires { length texts.now ≡ 3 }
-    ensures ok { IfOk result (λ ready. (f b i : List ℕ)
-        → IsReadyFor (run_command f b i out.now) (contents texts.now) ready) }
+    ensures ok { IfOk result (λ prepared. (f b i : List ℕ)
+        → IsPreparedFor (run_command f b i out.now) (contents texts.now) prepared) }
     ensures err { IfErr result (λ fault. (f b i : List ℕ)
-        → RefusesInputs (run_command f b i out.now) (contents texts.now) fault) }
+        → RejectsInputs (run_command f b i out.now) (contents texts.now) fault) }
 {
     match run_file(alloc, &texts[0], &texts[1], &texts[2]) {
-        Ok(run) => Ok(Ready::written(alloc, 4, out, run.output, run.line.into_bytes())?),
+        Ok(run) => Ok(PreparedResult::written(alloc, 4, out, run.output, run.line.into_bytes())?),
         Err(fault) => Err(fault),
     }
 }
 
-fn ready_relink<'a>(
+fn prepare_relink<'a>(
     alloc: Global,
     out: &'a str,
     cert: &'a str,
     texts: &[Vec<u8>],
-) -> Result<Ready<'a>, Refusal>
+) -> Result<PreparedResult<'a>, CommandFault>
     requires { length texts.now ≡ 3 }
-    ensures ok { IfOk result (λ ready. (f b i : List ℕ)
-        → IsReadyFor (relink_command f b i out.now cert.now) (contents texts.now) ready) }
+    ensures ok { IfOk result (λ prepared. (f b i : List ℕ)
+        → IsPreparedFor (relink_command f b i out.now cert.now) (contents texts.now) prepared) }
     ensures err { IfErr result (λ fault. (f b i : List ℕ)
-        → RefusesInputs (relink_command f b i out.now cert.now) (contents texts.now) fault) }
+        → RejectsInputs (relink_command f b i out.now cert.now) (contents texts.now) fault) }
 {
     match relink_file(alloc, &texts[0], &texts[1], &texts[2]) {
         Ok(relinked) => {
             let first = Output::new(alloc, 5, cert, relinked.certificate)?;
             let second = Output::new(alloc, 4, out, relinked.file)?;
-            Ok(Ready::written_twice(alloc, first, second, relinked.report)?)
+            Ok(PreparedResult::written_twice(alloc, first, second, relinked.report)?)
         }
         Err(fault) => Err(fault),
     }
 }
 
-fn ready_profile<'a>(alloc: Global, texts: &[Vec<u8>]) -> Result<Ready<'a>, Refusal>
+fn prepare_profile<'a>(alloc: Global, texts: &[Vec<u8>]) -> Result<PreparedResult<'a>, CommandFault>
     requires { length texts.now ≡ 3 }
-    ensures ok { IfOk result (λ ready. (f b i : List ℕ)
-        → IsReadyFor (profile_command f b i) (contents texts.now) ready) }
+    ensures ok { IfOk result (λ prepared. (f b i : List ℕ)
+        → IsPreparedFor (profile_command f b i) (contents texts.now) prepared) }
     ensures err { IfErr result (λ fault. (f b i : List ℕ)
-        → RefusesInputs (profile_command f b i) (contents texts.now) fault) }
+        → RejectsInputs (profile_command f b i) (contents texts.now) fault) }
 {
     match profile_file(alloc, &texts[0], &texts[1], &texts[2]) {
-        Ok(text) => Ok(Ready::printed(alloc, text)?),
+        Ok(text) => Ok(PreparedResult::printed(alloc, text)?),
         Err(fault) => Err(fault),
     }
 }
 
-fn ready_compare<'a>(alloc: Global, texts: &[Vec<u8>]) -> Result<Ready<'a>, Refusal>
+fn prepare_compare<'a>(alloc: Global, texts: &[Vec<u8>]) -> Result<PreparedResult<'a>, CommandFault>
     requires { length texts.now ≡ 4 }
-    ensures ok { IfOk result (λ ready. (f r b i : List ℕ)
-        → IsReadyFor (compare_command f r b i) (contents texts.now) ready) }
+    ensures ok { IfOk result (λ prepared. (f r b i : List ℕ)
+        → IsPreparedFor (compare_command f r b i) (contents texts.now) prepared) }
     ensures err { IfErr result (λ fault. (f r b i : List ℕ)
-        → RefusesInputs (compare_command f r b i) (contents texts.now) fault) }
+        → RejectsInputs (compare_command f r b i) (contents texts.now) fault) }
 {
     match compare_files(alloc, &texts[0], &texts[1], &texts[2], &texts[3]) {
-        Ok(text) => Ok(Ready::printed(alloc, text)?),
+        Ok(text) => Ok(PreparedResult::printed(alloc, text)?),
         Err(fault) => Err(fault),
     }
 }
 
-fn ready_check<'a>(alloc: Global, texts: &[Vec<u8>]) -> Result<Ready<'a>, Refusal>
+fn prepare_check<'a>(alloc: Global, texts: &[Vec<u8>]) -> Result<PreparedResult<'a>, CommandFault>
     requires { length texts.now ≡ 4 }
-    ensures ok { IfOk result (λ ready. (f b i c : List ℕ)
-        → IsReadyFor (check_command f b i c) (contents texts.now) ready) }
+    ensures ok { IfOk result (λ prepared. (f b i c : List ℕ)
+        → IsPreparedFor (check_command f b i c) (contents texts.now) prepared) }
     ensures err { IfErr result (λ fault. (f b i c : List ℕ)
-        → RefusesInputs (check_command f b i c) (contents texts.now) fault) }
+        → RejectsInputs (check_command f b i c) (contents texts.now) fault) }
 {
     match check_file(alloc, &texts[0], &texts[1], &texts[2], &texts[3]) {
-        Ok(text) => Ok(Ready::printed(alloc, text)?),
+        Ok(text) => Ok(PreparedResult::printed(alloc, text)?),
         Err(fault) => Err(fault),
     }
 }
 
-fn ready_show<'a>(alloc: Global, texts: &[Vec<u8>]) -> Result<Ready<'a>, Refusal>
+fn prepare_show<'a>(alloc: Global, texts: &[Vec<u8>]) -> Result<PreparedResult<'a>, CommandFault>
     requires { length texts.now ≡ 2 }
-    ensures ok { IfOk result (λ ready. (f b : List ℕ)
-        → IsReadyFor (show_command f b) (contents texts.now) ready) }
+    ensures ok { IfOk result (λ prepared. (f b : List ℕ)
+        → IsPreparedFor (show_command f b) (contents texts.now) prepared) }
     ensures err { IfErr result (λ fault. (f b : List ℕ)
-        → RefusesInputs (show_command f b) (contents texts.now) fault) }
+        → RejectsInputs (show_command f b) (contents texts.now) fault) }
 {
     match show_file(alloc, &texts[0], &texts[1]) {
-        Ok(text) => Ok(Ready::printed(alloc, text)?),
+        Ok(text) => Ok(PreparedResult::printed(alloc, text)?),
         Err(fault) => Err(fault),
     }
 }
 
-fn ready_gen<'a>(alloc: Global, seed: u32, kernels: u32, out: &'a str) -> Result<Ready<'a>, Refusal>
+fn prepare_gen<'a>(alloc: Global, seed: u32, kernels: u32, out: &'a str) -> Result<PreparedResult<'a>, CommandFault>
     requires some { 1 ≤ kernels }
     requires few { kernels ≤ 64 }
-    ensures ok { IfOk result (IsReadyFor (gen_command seed kernels out.now) []) }
-    ensures err { IfErr result (RefusesInputs (gen_command seed kernels out.now) []) }
+    ensures ok { IfOk result (IsPreparedFor (gen_command seed kernels out.now) []) }
+    ensures err { IfErr result (RejectsInputs (gen_command seed kernels out.now) []) }
 {
     let file = workload(alloc, seed, kernels)?;
     let text = kernels_line(alloc, kernels)?;
-    Ok(Ready::written(alloc, 3, out, file, text.into_bytes())?)
+    Ok(PreparedResult::written(alloc, 3, out, file, text.into_bytes())?)
 }
 
 /// The line that tells how many kernels a generated file has.
@@ -170,30 +170,30 @@ fn kernels_line(alloc: Global, kernels: u32) -> Result<String, AllocError>
     format!(in alloc; "kernels {kernels}\n")
 }
 
-fn ready_hex<'a>(alloc: Global, out: &'a str, texts: &[Vec<u8>]) -> Result<Ready<'a>, Refusal>
+fn prepare_hex<'a>(alloc: Global, out: &'a str, texts: &[Vec<u8>]) -> Result<PreparedResult<'a>, CommandFault>
     requires { length texts.now ≡ 1 }
-    ensures ok { IfOk result (λ ready. (f : List ℕ)
-        → IsReadyFor (hex_command f out.now) (contents texts.now) ready) }
+    ensures ok { IfOk result (λ prepared. (f : List ℕ)
+        → IsPreparedFor (hex_command f out.now) (contents texts.now) prepared) }
     ensures err { IfErr result (λ fault. (f : List ℕ)
-        → RefusesInputs (hex_command f out.now) (contents texts.now) fault) }
+        → RejectsInputs (hex_command f out.now) (contents texts.now) fault) }
 {
     match hex_file(alloc, &texts[0]) {
-        Ok(hex) => Ok(Ready::written(alloc, 2, out, hex.text, hex.line.into_bytes())?),
+        Ok(hex) => Ok(PreparedResult::written(alloc, 2, out, hex.text, hex.line.into_bytes())?),
         Err(fault) => Err(fault),
     }
 }
 
-fn ready_hex_check<'a>(alloc: Global, texts: &[Vec<u8>]) -> Result<Ready<'a>, Refusal>
+fn prepare_hex_check<'a>(alloc: Global, texts: &[Vec<u8>]) -> Result<PreparedResult<'a>, CommandFault>
     requires { length texts.now ≡ 2 }
-    ensures ok { IfOk result (λ ready. (f h : List ℕ)
-        → IsReadyFor (hex_check_command f h) (contents texts.now) ready) }
+    ensures ok { IfOk result (λ prepared. (f h : List ℕ)
+        → IsPreparedFor (hex_check_command f h) (contents texts.now) prepared) }
     ensures err { IfErr result (λ fault. (f h : List ℕ)
-        → RefusesInputs (hex_check_command f h) (contents texts.now) fault) }
+        → RejectsInputs (hex_check_command f h) (contents texts.now) fault) }
 {
     match check_hex(alloc, &texts[0], &texts[1]) {
         Ok(()) => {
             let text = String::from_str(alloc, "same\n")?;
-            Ok(Ready::printed(alloc, text.into_bytes())?)
+            Ok(PreparedResult::printed(alloc, text.into_bytes())?)
         }
         Err(fault) => Err(fault),
     }

@@ -3,9 +3,9 @@ ghost use Rattle.elf_reader.specs.File.{plain_segment};
 ghost use Rattle.elf_reader.specs.Loadable.{AreLoadable};
 ghost use Rattle.board_config.specs.Board.{mapped_ranges};
 ghost use Rattle.flat_machine.specs.Start.{start_of};
-ghost use Rattle.command_line.specs.RunFile.{RunsFrom, RunsTo, IsFirstRefusal};
+ghost use Rattle.command_line.specs.RunFile.{RunsFrom, RunsTo, IsFirstCommandFault};
 
-use crate::faults::Refusal;
+use crate::faults::CommandFault;
 use crate::outcomes::outcome_line;
 use board_config::{Board, read_board};
 use elf_reader::ElfView;
@@ -28,9 +28,9 @@ pub fn run_file(
     file: &[u8],
     board: &[u8],
     input: &[u8],
-) -> Result<RunResult, Refusal>
+) -> Result<RunResult, CommandFault>
     ensures ok { IfOk result (λ r. RunsTo file.now board.now input.now r.output.items (string_bytes r.line)) }
-    ensures err { IfErr result (IsFirstRefusal board.now file.now) }
+    ensures err { IfErr result (IsFirstCommandFault board.now file.now) }
 {
     let board = read_board(alloc, board)?;
     let view = elf_reader::read(alloc, file)?;

@@ -1,8 +1,8 @@
 ghost use Rattle.std.specs.Prelude.{IfOk, IfErr};
-ghost use Rattle.command_line.specs.Analysed.{RefusesAnalysed};
+ghost use Rattle.command_line.specs.Analysed.{RejectsAnalysed};
 ghost use Rattle.command_line.specs.ShowFile.{ShowsTo};
 
-use crate::faults::Refusal;
+use crate::faults::CommandFault;
 use crate::opening::open;
 use printed_lines::show_lines;
 use std::alloc::Global;
@@ -11,9 +11,9 @@ use std::alloc::Global;
 ///
 /// The error is the first fault of the board's text, of the file, of where it lies, of its code, or of its regions.
 /// `Memory` comes only where no memory was left.
-pub fn show_file(alloc: Global, file: &[u8], board: &[u8]) -> Result<Vec<u8>, Refusal>
+pub fn show_file(alloc: Global, file: &[u8], board: &[u8]) -> Result<Vec<u8>, CommandFault>
     ensures ok { IfOk result (λ text. ShowsTo file.now board.now text.items) }
-    ensures err { IfErr result (RefusesAnalysed board.now file.now) }
+    ensures err { IfErr result (RejectsAnalysed board.now file.now) }
 {
     let opened = open(alloc, file, board)?;
     Ok(show_lines(

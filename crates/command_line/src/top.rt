@@ -1,11 +1,11 @@
 ghost use Rattle.std.specs.Prelude.{◌≡◌, ◌≢◌, OnOk, IfErr};
 ghost use Rattle.command_line.specs.Command.{texts};
-ghost use Rattle.command_line.specs.Answers.{IsDone, HasCause, EndsRefused, Answers};
+ghost use Rattle.command_line.specs.Answers.{IsDone, HasCause, EndsRejected, Answers};
 
 use crate::commands::parse;
-use crate::faults::Refusal;
+use crate::faults::CommandFault;
 use crate::performing::perform_command;
-use crate::refused::Refused;
+use crate::diagnostic::Diagnostic;
 use shelf_io::{Shelf, Sink};
 use std::alloc::Global;
 
@@ -18,8 +18,8 @@ pub fn run<S: Shelf, K: Sink>(alloc: Global, words: &[String], shelf: &mut S, ou
         (S.view shelf.old) (S.view shelf.new)
         (K.view out.old) (K.view out.new) }
 
-    // Any other status is that of a refusal, which came for its cause alone.
-    ensures refused { result ≢ 0 → EndsRefused result (texts words.now)
+    // Any other status is that of a fault, which came for its cause alone.
+    ensures rejected { result ≢ 0 → EndsRejected result (texts words.now)
         (S.view shelf.old) (S.view shelf.new)
         (K.view out.old) (K.view out.new) }
 
@@ -30,17 +30,17 @@ pub fn run<S: Shelf, K: Sink>(alloc: Global, words: &[String], shelf: &mut S, ou
 {
     match perform(alloc, words, shelf, out) {
         Ok(()) => 0,
-        Err(refused) => refused.tell(out),
+        Err(diagnostic) => diagnostic.tell(out),
     }
 }
 
-/// Does what the words ask for. A refusal's fault line is still to be put.
+/// Does what the words ask for. A fault's fault line is still to be put.
 fn perform<S: Shelf, K: Sink>(
     alloc: Global,
     words: &[String],
     shelf: &mut S,
     out: &mut K,
-) -> Result<(), Refused>
+) -> Result<(), Diagnostic>
     ensures ok { OnOk result (IsDone (texts words.now)
         (S.view shelf.old) (S.view shelf.new)
         (K.view out.old) (K.view out.new)) }
@@ -49,10 +49,10 @@ fn perform<S: Shelf, K: Sink>(
         (K.view out.old) (K.view out.new)) }
 {
     let Some(command) = parse(words) else {
-        return Err(Refused::new(alloc, &Refusal::Usage));
+        return Err(Diagnostic::new(alloc, &CommandFault::Usage));
     };
     match perform_command(alloc, &command, shelf, out) {
         Ok(()) => Ok(()),
-        Err(refused) => Err(refused),
+        Err(diagnostic) => Err(diagnostic),
     }
 }

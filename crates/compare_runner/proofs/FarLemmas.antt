@@ -15,7 +15,7 @@ use Rattle.object_machine.specs.declared.events.Outcome.TheVariants as source
 use Rattle.object_machine.specs.State.{SourceState}
 use Rattle.result_setups.specs.MovedLaws.{most_steps}
 use Rattle.compare_runner.specs.declared.comparing.Comparison.{Comparison}
-use Rattle.compare_runner.specs.Comparing.{RunsUntil, IsEnough, IsFar, Judges, Tells, JudgesRun}
+use Rattle.compare_runner.specs.Comparing.{RunsUntil, IsEnough, IsFar, Judges, Reports, JudgesRun}
 
 -- ---- a step tells the outcome that it leads to
 
@@ -65,7 +65,7 @@ judged_run board k most m s start begin end o xs ys other c outcome written boun
     (m, (end, (ends, subst (λ (zs : List ℕ). Judges s.outcome s.output end.outcome zs c) bytes after)))
 
 -- where there is no address fault, what is judged is told
-pub judged_told : (o : Outcome) (judges : Comparison → Type 0) (c : Comparison) → ((pc why : ℕ) → o ≡ source.AddressFault pc why → ⊥) → judges c → Tells o judges c
+pub judged_told : (o : Outcome) (judges : Comparison → Type 0) (c : Comparison) → ((pc why : ℕ) → o ≡ source.AddressFault pc why → ⊥) → judges c → Reports o judges c
 judged_told source.GoesOn judges c no_fault j = j
 judged_told (source.Exited code) judges c no_fault j = j
 judged_told (source.Trapped pc) judges c no_fault j = j

@@ -15,7 +15,7 @@ use Rattle.object_machine.proofs.RunLemmas.{one_run}
 use Rattle.result_setups.specs.MovedLaws.{most_steps}
 use Rattle.compare_runner.specs.declared.comparing.Comparison.{Comparison}
 use Rattle.compare_runner.specs.declared.comparing.Comparison.TheVariants.{Same, Differs, SourceFault}
-use Rattle.compare_runner.specs.Comparing.{IsOver, IsFar, Judges, Tells, JudgesRun, Compares}
+use Rattle.compare_runner.specs.Comparing.{IsOver, IsFar, Judges, Reports, JudgesRun, Compares}
 use Rattle.compare_runner.proofs.UntilLemmas.{until_same}
 use Rattle.compare_runner.proofs.DifferenceLemmas.{one_place}
 
@@ -27,7 +27,7 @@ one_judgement o xs other ys (Differs at) (Differs k) a b = ap Differs (one_place
 one_judgement o xs other ys (SourceFault pc why) d a b = absurd a
 one_judgement o xs other ys c (SourceFault pc why) a b = absurd b
 
-one_answer : (o : Outcome) (judges : Comparison → Type 0) → ((c d : Comparison) → judges c → judges d → c ≡ d) → (c d : Comparison) → Tells o judges c → Tells o judges d → c ≡ d
+one_answer : (o : Outcome) (judges : Comparison → Type 0) → ((c d : Comparison) → judges c → judges d → c ≡ d) → (c d : Comparison) → Reports o judges c → Reports o judges d → c ≡ d
 one_answer GoesOn judges one c d a b = one c d a b
 one_answer (Exited code) judges one c d a b = one c d a b
 one_answer (Trapped pc) judges one c d a b = one c d a b
@@ -42,8 +42,8 @@ one_run_judged one board k s start c d a b =
 pub one_comparison : OneInstruction → (p : Program) (board : Board) (n : ℕ) (s : SourceState) (t : State) (c d : Comparison) → Compares p board n s t c → Compares p board n s t d → c ≡ d
 one_comparison one p board n s t c d a b =
     let end = until_same SourceState (Steps p) IsOver (one_run one p) n s a.0 a.1.0 b.0 b.1.0 a.1.1.0 b.1.1.0 in
-    let told : Tells b.1.0.outcome (JudgesRun board a.0 b.1.0 t) c =
-    subst (λ (x : SourceState). Tells x.outcome (JudgesRun board a.0 x t) c) end.1 a.1.1.1 in
-    let here : Tells b.1.0.outcome (JudgesRun board b.0 b.1.0 t) c =
-    subst (λ (k : ℕ). Tells b.1.0.outcome (JudgesRun board k b.1.0 t) c) end.0 told in
+    let told : Reports b.1.0.outcome (JudgesRun board a.0 b.1.0 t) c =
+    subst (λ (x : SourceState). Reports x.outcome (JudgesRun board a.0 x t) c) end.1 a.1.1.1 in
+    let here : Reports b.1.0.outcome (JudgesRun board b.0 b.1.0 t) c =
+    subst (λ (k : ℕ). Reports b.1.0.outcome (JudgesRun board k b.1.0 t) c) end.0 told in
     one_answer b.1.0.outcome (JudgesRun board b.0 b.1.0 t) (one_run_judged one board b.0 b.1.0 t) c d here b.1.1.1

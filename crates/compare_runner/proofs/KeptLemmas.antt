@@ -21,7 +21,7 @@ use Rattle.result_setups.specs.HomeLaws.{program_in, source_start, file_start}
 use Rattle.result_setups.specs.MovedLaws.{most_steps}
 use Rattle.compare_runner.specs.declared.comparing.Comparison.{Comparison}
 use Rattle.compare_runner.specs.declared.comparing.Comparison.TheVariants.{Differs}
-use Rattle.compare_runner.specs.Comparing.{RunsUntil, IsFar, AreAlike, Tells, JudgesRun}
+use Rattle.compare_runner.specs.Comparing.{RunsUntil, IsFar, AreAlike, Reports, JudgesRun}
 use Rattle.compare_runner.specs.Laws.{ComparesFiles, KeptNeverDiffers, KeptRunsNeverDiffer, GoesOnFor, KeptGoesOn, KeptRunsGoOn}
 use Rattle.compare_runner.proofs.UntilLemmas.{not_past, holds_at}
 
@@ -84,7 +84,7 @@ module _ (one : OneInstruction) (most : ℕ) (start t u : State) (m j : ℕ) (wi
 
 -- ---- the laws
 
-judged_by : (o : Outcome) (judges : Comparison → Type 0) (at : ℕ) → Tells o judges (Differs at) → IsNoFault o × judges (Differs at)
+judged_by : (o : Outcome) (judges : Comparison → Type 0) (at : ℕ) → Reports o judges (Differs at) → IsNoFault o × judges (Differs at)
 judged_by GoesOn judges at told = (tt, told)
 judged_by (Exited code) judges at told = (tt, told)
 judged_by (Trapped pc) judges at told = (tt, told)

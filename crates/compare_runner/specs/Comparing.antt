@@ -73,9 +73,9 @@ Judges outcome xs other ys (Differs at) = (AreAlike outcome xs other ys → ⊥)
 Judges outcome xs other ys (SourceFault pc why) = ⊥
 
 -- an address fault of the program is told alone, whatever the result does
-abbrev pub Tells : Outcome → (Comparison → Type 0) → Comparison → Type 0
-Tells (AddressFault pc why) judges c = c ≡ SourceFault pc why
-Tells outcome judges c = judges c
+abbrev pub Reports : Outcome → (Comparison → Type 0) → Comparison → Type 0
+Reports (AddressFault pc why) judges c = c ≡ SourceFault pc why
+Reports outcome judges c = judges c
 
 -- a program that came to `s` in `k` steps beside its result, which begins at `start`
 abbrev pub JudgesRun : Board → ℕ → SourceState → State → Comparison → Type 0
@@ -88,4 +88,4 @@ abbrev pub Compares : Program → Board → ℕ → SourceState → State → Co
 Compares p board n source_start result_start c =
     (k : ℕ)
     × ((s : SourceState)
-    × (SourceEnds p n source_start k s × Tells s.outcome (JudgesRun board k s result_start) c))
+    × (SourceEnds p n source_start k s × Reports s.outcome (JudgesRun board k s result_start) c))

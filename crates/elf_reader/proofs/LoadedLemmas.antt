@@ -6,7 +6,7 @@ use Rattle.std.proofs.lemmas.Bool.{leb-true, eqb-true, cond_both, cases_Bool, ca
 use Rattle.std.proofs.lemmas.Bool.Decides.{nat_tests}
 use Rattle.std.proofs.lemmas.List.{get_or-take, get_or-drop}
 use Rattle.std.proofs.lemmas.List.Elements.{All-nil, All-push}
-use Rattle.list_checks.specs.Tests.{any_below, lies_in, meets}
+use Rattle.list_checks.specs.Tests.{any_below, lies_in, ranges_overlap}
 use Rattle.list_checks.proofs.TestLemmas.{either, both, not_true, any_found, none_at}
 use Rattle.list_checks.proofs.StepLemmas.{length_built, built_at}
 use Rattle.elf_reader.specs.Layout.{program_header_count, program_header, section_count, section_header}
@@ -15,10 +15,10 @@ use Rattle.elf_reader.specs.File.{PlainSegment, PlainSection, PlainView, view_in
 use Rattle.elf_reader.specs.ProgramHeaderChecks.{table_fault, entries_fault, program_headers_fault}
 use Rattle.elf_reader.specs.Faults.{first_fault}
 use Rattle.elf_reader.specs.Image.{has_byte, image_of}
-use Rattle.elf_reader.specs.Loadable.{HasSegment, HasSegments, AreApart}
-use Rattle.elf_reader.specs.Loaded.{no_section, section_at, no_segment, segment_at, meets_headers, meets_section, meets_segment, has_own_bytes, is_filled, is_zeroed, loads, is_loaded, LoadedBytes}
+use Rattle.elf_reader.specs.Loadable.{HasSegment, HasSegments, AreDisjoint}
+use Rattle.elf_reader.specs.Loaded.{no_section, section_at, no_segment, segment_at, overlaps_headers, overlaps_section, overlaps_segment, has_own_bytes, is_filled, is_zeroed, loads, is_loaded, LoadedBytes}
 use Rattle.elf_reader.specs.declared.records.ProgramHeader.{ProgramHeader}
-use Rattle.elf_reader.proofs.SegmentLemmas.{segments_held, none_of_headers, load_segments_apart}
+use Rattle.elf_reader.proofs.SegmentLemmas.{segments_held, none_of_headers, load_segments_disjoint}
 use Rattle.list_checks.proofs.FirstLemmas.{both_none}
 
 -- a byte of a range of the file
@@ -81,27 +81,27 @@ image_at (s ∷ ss) (suc g) address below has only =
     rw (here, later) refl
 
 -- ranges that both have the place `a` meet
-meet_at : (b m c n a : ℕ) → b ≤ a → a < b + m → c ≤ a → a < c + n → meets b m c n ≡ true
-meet_at b m c n a from to other_from other_to = grind (arith, nat_tests)
+overlap_at : (b m c n a : ℕ) → b ≤ a → a < b + m → c ≤ a → a < c + n → ranges_overlap b m c n ≡ true
+overlap_at b m c n a from to other_from other_to = grind (arith, nat_tests)
 
 -- the segment has memory at the address
 pub record HasAddress (s : PlainSegment) (a : ℕ) : Type 0 where
   pub from : s.vaddr ≤ a
   pub to : a < s.vaddr + s.memsz
 
-both_have : (s t : PlainSegment) (a : ℕ) → HasAddress s a → HasAddress t a → meets s.vaddr s.memsz t.vaddr t.memsz ≡ true
-both_have s t a has has_too = meet_at s.vaddr s.memsz t.vaddr t.memsz a has.from has.to has_too.from has_too.to
+both_have : (s t : PlainSegment) (a : ℕ) → HasAddress s a → HasAddress t a → ranges_overlap s.vaddr s.memsz t.vaddr t.memsz ≡ true
+both_have s t a has has_too = overlap_at s.vaddr s.memsz t.vaddr t.memsz a has.from has.to has_too.from has_too.to
 
 -- only one segment has
-pub one_segment : (ss : List PlainSegment) → AreApart ss → (g h a : ℕ) → g < length ss → h < length ss → HasAddress (nth_segment ss g) a → HasAddress (nth_segment ss h) a → h ≡ g
-one_segment ss apart g h a below below_h has has_h =
+pub one_segment : (ss : List PlainSegment) → AreDisjoint ss → (g h a : ℕ) → g < length ss → h < length ss → HasAddress (nth_segment ss g) a → HasAddress (nth_segment ss h) a → h ≡ g
+one_segment ss disjoint g h a below below_h has has_h =
     let s = nth_segment ss g in
     let t = nth_segment ss h in
     elim (cases_order h g) [
       | inl same ↦ same
       | inr order ↦ elim order [
-        | inl before ↦ absurd (both_ways _ (apart h g no_segment before below) (both_have t s a has_h has))
-        | inr behind ↦ absurd (both_ways _ (apart g h no_segment behind below_h) (both_have s t a has has_h))
+        | inl before ↦ absurd (both_ways _ (disjoint h g no_segment before below) (both_have t s a has_h has))
+        | inr behind ↦ absurd (both_ways _ (disjoint g h no_segment behind below_h) (both_have s t a has has_h))
       ]
     ]
 
@@ -112,9 +112,9 @@ byte_address file s a placed has =
     record { from = grind (arith, nat_tests, has); to = grind (arith, nat_tests, has, fits) }
 
 -- so no other segment than that with the memory has a byte
-pub only_segment : (file : List ℕ) (ss : List PlainSegment) → AreApart ss → All (IsPlaced file) ss → (g a : ℕ) → g < length ss → HasAddress (nth_segment ss g) a → (h : ℕ) → h < length ss → has_byte (nth_segment ss h) a ≡ true → h ≡ g
-only_segment file ss apart placed g a below has_address h below_h has =
-    one_segment ss apart g h a below below_h has_address (byte_address file (nth_segment ss h) a (placed h no_segment below_h) has)
+pub only_segment : (file : List ℕ) (ss : List PlainSegment) → AreDisjoint ss → All (IsPlaced file) ss → (g a : ℕ) → g < length ss → HasAddress (nth_segment ss g) a → (h : ℕ) → h < length ss → has_byte (nth_segment ss h) a ≡ true → h ≡ g
+only_segment file ss disjoint placed g a below has_address h below_h has =
+    one_segment ss disjoint g h a below below_h has_address (byte_address file (nth_segment ss h) a (placed h no_segment below_h) has)
 
 -- the sections of the first n section headers
 pub length_sections : (file : List ℕ) (n : ℕ) → length (sections_below file n) ≡ n
@@ -136,9 +136,9 @@ section_behind file k behind =
 
 -- the bytes of the file that a section has for itself
 pub record HasOwnBytes (v : PlainView) (k g : ℕ) (s : PlainSection) : Type 0 where
-  pub headers : meets_headers v s.offset s.size ≡ false
-  pub section : (j : ℕ) → j < length v.sections → meets_section v k s.offset s.size j ≡ false
-  pub segment : (h : ℕ) → h < length v.segments → meets_segment v g s.offset s.size h ≡ false
+  pub headers : overlaps_headers v s.offset s.size ≡ false
+  pub section : (j : ℕ) → j < length v.sections → overlaps_section v k s.offset s.size j ≡ false
+  pub segment : (h : ℕ) → h < length v.segments → overlaps_segment v g s.offset s.size h ≡ false
 
 -- a section with content in the file bytes of a segment
 pub record IsFilled (v : PlainView) (k g : ℕ) (s : PlainSection) (t : PlainSegment) : Type 0 where
@@ -169,14 +169,14 @@ lies_to base total start size lies = grind (arith, nat_tests, lies)
 
 own_parts : (v : PlainView) (k g : ℕ) (s : PlainSection) → has_own_bytes v k g s ≡ true → HasOwnBytes v k g s
 own_parts v k g s own =
-    let sections = any_below (meets_section v k s.offset s.size) (length v.sections) in
-    let segments = any_below (meets_segment v g s.offset s.size) (length v.segments) in
-    let front = both (not (meets_headers v s.offset s.size) && not sections) (not segments) own in
-    let first = both (not (meets_headers v s.offset s.size)) (not sections) front.0 in
+    let sections = any_below (overlaps_section v k s.offset s.size) (length v.sections) in
+    let segments = any_below (overlaps_segment v g s.offset s.size) (length v.segments) in
+    let front = both (not (overlaps_headers v s.offset s.size) && not sections) (not segments) own in
+    let first = both (not (overlaps_headers v s.offset s.size)) (not sections) front.0 in
     record {
-      headers = not_true (meets_headers v s.offset s.size) first.0;
-      section = λ j below. none_at (meets_section v k s.offset s.size) (length v.sections) j below (not_true sections first.1);
-      segment = λ h below. none_at (meets_segment v g s.offset s.size) (length v.segments) h below (not_true segments front.1);
+      headers = not_true (overlaps_headers v s.offset s.size) first.0;
+      section = λ j below. none_at (overlaps_section v k s.offset s.size) (length v.sections) j below (not_true sections first.1);
+      segment = λ h below. none_at (overlaps_segment v g s.offset s.size) (length v.segments) h below (not_true segments front.1);
     }
 
 filled_parts : (v : PlainView) (k g : ℕ) (s : PlainSection) (t : PlainSegment) → is_filled v k g s t ≡ true → IsFilled v k g s t
@@ -248,8 +248,8 @@ loaded_below file k loaded =
     ]
 
 -- the memory of a section with content holds the file's bytes from the section's place on
-pub filled_byte : (file : List ℕ) (v : PlainView) (k g i : ℕ) → AreApart v.segments → All (IsPlaced file) v.segments → Loads v k g → IsFilled v k g (section_at v k) (segment_at v g) → i < (section_at v k).size → image_of v.segments ((section_at v k).addr + i) ≡ slice_index file ((section_at v k).offset + i)
-filled_byte file v k g i apart placed facts filled below =
+pub filled_byte : (file : List ℕ) (v : PlainView) (k g i : ℕ) → AreDisjoint v.segments → All (IsPlaced file) v.segments → Loads v k g → IsFilled v k g (section_at v k) (segment_at v g) → i < (section_at v k).size → image_of v.segments ((section_at v k).addr + i) ≡ slice_index file ((section_at v k).offset + i)
+filled_byte file v k g i disjoint placed facts filled below =
     let s = section_at v k in
     let t = segment_at v g in
     let a = s.addr + i in
@@ -260,7 +260,7 @@ filled_byte file v k g i apart placed facts filled below =
     let has : has_byte t a ≡ true = grind (arith, nat_tests, from, to) in
     let inside : a - t.vaddr < length t.content = omega (arith, from, to) in
     let same : t.offset + (a - t.vaddr) ≡ s.offset + i = omega (arith, from, filled.aligned) in
-    image_at v.segments g a facts.below has (only_segment file v.segments apart placed g a facts.below (loads_address v k g i facts below))
+    image_at v.segments g a facts.below has (only_segment file v.segments disjoint placed g a facts.below (loads_address v k g i facts below))
     ∙ (placed g no_segment facts.below).bytes (a - t.vaddr) inside
     ∙ ap (slice_index file) same
 
@@ -276,13 +276,13 @@ no_other h g test none only =
     ]
 
 -- the memory of a section of zeros holds zeros
-pub zeroed_byte : (file : List ℕ) (v : PlainView) (k g i : ℕ) → AreApart v.segments → All (IsPlaced file) v.segments → Loads v k g → IsZeroed (section_at v k) (segment_at v g) → i < (section_at v k).size → image_of v.segments ((section_at v k).addr + i) ≡ 0
-zeroed_byte file v k g i apart placed facts zeroed below =
+pub zeroed_byte : (file : List ℕ) (v : PlainView) (k g i : ℕ) → AreDisjoint v.segments → All (IsPlaced file) v.segments → Loads v k g → IsZeroed (section_at v k) (segment_at v g) → i < (section_at v k).size → image_of v.segments ((section_at v k).addr + i) ≡ 0
+zeroed_byte file v k g i disjoint placed facts zeroed below =
     let s = section_at v k in
     let t = segment_at v g in
     let a = s.addr + i in
     let none = no_byte t a (omega (arith, zeroed.behind)) in
-    let only = only_segment file v.segments apart placed g a facts.below (loads_address v k g i facts below) in
+    let only = only_segment file v.segments disjoint placed g a facts.below (loads_address v k g i facts below) in
     image_without v.segments a (λ h below_h. no_other h g (λ j. has_byte (segment_at v j) a) none (only h below_h))
 
 -- the content of a section of the file
@@ -302,15 +302,15 @@ zeroed_content file k i kind =
 pub loaded_byte : (file : List ℕ) (k g i : ℕ) → program_headers_fault file ≡ None → k < section_count file → Loads (view_in file) k g → i < (section_at (view_in file) k).size → image_of (view_in file).segments ((section_at (view_in file) k).addr + i) ≡ slice_index (section_at (view_in file) k).content i
 loaded_byte file k g i none below facts inside =
     let v = view_in file in
-    let apart = load_segments_apart file none in
+    let disjoint = load_segments_disjoint file none in
     let placed = load_segments_placed file none in
     let is = section_is file k below in
     elim facts.rest [
       | inl filled ↦
-          filled_byte file v k g i apart placed facts filled inside
+          filled_byte file v k g i disjoint placed facts filled inside
           ∙ sym (subst (λ (s : PlainSection). s.kind ≡ 1 → i < s.size → slice_index s.content i ≡ slice_index file (s.offset + i)) (sym is) (filled_content file k i) filled.kind inside)
       | inr zeroed ↦
-          zeroed_byte file v k g i apart placed facts zeroed inside
+          zeroed_byte file v k g i disjoint placed facts zeroed inside
           ∙ sym (subst (λ (s : PlainSection). s.kind ≡ 8 → slice_index s.content i ≡ 0) (sym is) (zeroed_content file k i) zeroed.kind)
     ]
 
@@ -323,18 +323,18 @@ loaded_bytes file k i none loaded inside =
 pub file_byte : (file : List ℕ) (k g i : ℕ) → first_fault file ≡ None → Loads (view_in file) k g → IsFilled (view_in file) k g (section_at (view_in file) k) (segment_at (view_in file) g) → i < (section_at (view_in file) k).size → image_of (view_in file).segments ((section_at (view_in file) k).addr + i) ≡ slice_index file ((section_at (view_in file) k).offset + i)
 file_byte file k g i none facts filled inside =
     let held = none_of_headers file none in
-    filled_byte file (view_in file) k g i (load_segments_apart file held) (load_segments_placed file held) facts filled inside
+    filled_byte file (view_in file) k g i (load_segments_disjoint file held) (load_segments_placed file held) facts filled inside
 
 -- sections that share an address are of the same segment
-pub same_segment : (v : PlainView) (k g j h i n : ℕ) → AreApart v.segments → Loads v k g → Loads v j h → i < (section_at v k).size → n < (section_at v j).size → (section_at v j).addr + n ≡ (section_at v k).addr + i → h ≡ g
-same_segment v k g j h i n apart facts other inside inside_other same =
+pub same_segment : (v : PlainView) (k g j h i n : ℕ) → AreDisjoint v.segments → Loads v k g → Loads v j h → i < (section_at v k).size → n < (section_at v j).size → (section_at v j).addr + n ≡ (section_at v k).addr + i → h ≡ g
+same_segment v k g j h i n disjoint facts other inside inside_other same =
     let has_other = subst (λ (a : ℕ). HasAddress (segment_at v h) a) same (loads_address v j h n other inside_other) in
-    one_segment v.segments apart g h ((section_at v k).addr + i) facts.below other.below (loads_address v k g i facts inside) has_other
+    one_segment v.segments disjoint g h ((section_at v k).addr + i) facts.below other.below (loads_address v k g i facts inside) has_other
 
 -- sections with content in a segment that share an address are the same: they would share a byte of the
 -- file
-same_number : (same stands meet : Bool) → not same && stands && meet ≡ false → stands ≡ true → meet ≡ true → same ≡ true
-same_number same stands meet none is_standing is_meeting = grind arith
+same_number : (same stands intersect : Bool) → not same && stands && intersect ≡ false → stands ≡ true → intersect ≡ true → same ≡ true
+same_number same stands intersect none is_standing is_overlapping = grind arith
 
 pub filled_alone : (v : PlainView) (k j g i n : ℕ) → IsFilled v k g (section_at v k) (segment_at v g) → IsFilled v j g (section_at v j) (segment_at v g) → j < length v.sections → i < (section_at v k).size → n < (section_at v j).size → (section_at v j).addr + n ≡ (section_at v k).addr + i → j ≡ k
 filled_alone v k j g i n filled other below inside inside_other same =
@@ -342,9 +342,9 @@ filled_alone v k j g i n filled other below inside inside_other same =
     let u = section_at v j in
     let stands : stands_in_file u.kind ≡ true = rw (other.kind) refl in
     let shared : u.offset + n ≡ s.offset + i = omega (arith, filled.aligned, other.aligned, same) in
-    let meet = meet_at s.offset s.size u.offset u.size (s.offset + i) (omega arith) (omega (arith, inside)) (omega (arith, shared)) (omega (arith, shared, inside_other)) in
-    eqb-true j k (same_number (j == k) (stands_in_file u.kind) (meets s.offset s.size u.offset u.size) (filled.own.section j below) stands meet)
+    let intersect = overlap_at s.offset s.size u.offset u.size (s.offset + i) (omega arith) (omega (arith, inside)) (omega (arith, shared)) (omega (arith, shared, inside_other)) in
+    eqb-true j k (same_number (j == k) (stands_in_file u.kind) (ranges_overlap s.offset s.size u.offset u.size) (filled.own.section j below) stands intersect)
 
 -- one of zeros shares none with one with content
-pub zeroed_apart : (v : PlainView) (k g i n : ℕ) (s u : PlainSection) (t : PlainSegment) → IsFilled v k g s t → IsZeroed u t → i < s.size → u.addr + n ≡ s.addr + i → ⊥
-zeroed_apart v k g i n s u t filled zeroed inside same = absurd (omega (arith, filled.ends, zeroed.behind, inside, same))
+pub zeroed_disjoint : (v : PlainView) (k g i n : ℕ) (s u : PlainSection) (t : PlainSegment) → IsFilled v k g s t → IsZeroed u t → i < s.size → u.addr + n ≡ s.addr + i → ⊥
+zeroed_disjoint v k g i n s u t filled zeroed inside same = absurd (omega (arith, filled.ends, zeroed.behind, inside, same))

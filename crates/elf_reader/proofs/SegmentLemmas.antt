@@ -5,14 +5,14 @@ use Rattle.std.proofs.lemmas.Bool.Decides.{nat_tests}
 use Rattle.std.proofs.lemmas.Bool.{leb-true, cond_both}
 use Rattle.std.proofs.lemmas.List.Elements.{All-nil, All-push, All-take, All-drop}
 use Rattle.std.proofs.lemmas.List.Quantifiers.{all_pairs_push}
-use Rattle.list_checks.specs.Tests.{meets}
+use Rattle.list_checks.specs.Tests.{ranges_overlap}
 use Rattle.elf_reader.specs.Layout.{program_header_count, program_header}
 use Rattle.elf_reader.specs.File.{PlainSegment, is_load, segment_of, segments_below, load_segments}
 use Rattle.elf_reader.specs.HeaderChecks.{header_fault}
 use Rattle.elf_reader.specs.ProgramHeaderChecks.{type_fault, load_fault, entry_fault, entries_fault, overlaps, pair_fault, pairs_fault, overlap_fault, memory_fault, table_fault, program_headers_fault}
 use Rattle.elf_reader.specs.Faults.{first_fault}
 use Rattle.elf_reader.specs.declared.fault.ElfFault.TheVariants.{Overlap}
-use Rattle.elf_reader.specs.Loadable.{HasSegment, HasSegments, IsByte, AreBytes, IsLoadable, AreLoadable, IsApart, AreApart}
+use Rattle.elf_reader.specs.Loadable.{HasSegment, HasSegments, IsByte, AreBytes, IsLoadable, AreLoadable, IsDisjoint, AreDisjoint}
 use Rattle.elf_reader.specs.declared.records.ProgramHeader.{ProgramHeader}
 use Rattle.list_checks.proofs.FirstLemmas.{both_none, none_at, holds}
 
@@ -53,39 +53,39 @@ are_loadable file bytes held (suc n) le =
     (λ load. All-push IsLoadable _ _ earlier (is_loadable file bytes n p (held n (omega arith) load)))
     (λ other. rw append-nil earlier)
 
-all_apart : (lower load other_load meet : Bool) → not (lower && (load && other_load && meet)) ≡ true → lower ≡ true → load ≡ true → other_load ≡ true → meet ≡ false
-all_apart lower load other_load meet none is_lower is_load is_other = grind arith
+all_disjoint : (lower load other_load intersect : Bool) → not (lower && (load && other_load && intersect)) ≡ true → lower ≡ true → load ≡ true → other_load ≡ true → intersect ≡ false
+all_disjoint lower load other_load intersect none is_lower is_load is_other = grind arith
 
--- two program headers without a fault have segments apart
-pub pair_apart : (file : List ℕ) (i j : ℕ) → i < j → pair_fault file i j ≡ None → is_load (program_header file i) ≡ true → is_load (program_header file j) ≡ true → IsApart (segment_of file i (program_header file i)) (segment_of file j (program_header file j))
+-- two program headers without a fault have disjoint segments
+pub pair_disjoint : (file : List ℕ) (i j : ℕ) → i < j → pair_fault file i j ≡ None → is_load (program_header file i) ≡ true → is_load (program_header file j) ≡ true → IsDisjoint (segment_of file i (program_header file i)) (segment_of file j (program_header file j))
 unfolding pair_fault
-pair_apart file i j lower none load other_load =
+pair_disjoint file i j lower none load other_load =
     let p = program_header file i in
     let q = program_header file j in
     let is_lower : nat_lt i j ≡ true = grind (arith, nat_tests) in
     let held = holds (not (nat_lt i j && overlaps p q)) (Overlap i j) none in
-    all_apart (nat_lt i j) (is_load p) (is_load q) (meets p.p_vaddr p.p_memsz q.p_vaddr q.p_memsz) held is_lower load other_load
+    all_disjoint (nat_lt i j) (is_load p) (is_load q) (ranges_overlap p.p_vaddr p.p_memsz q.p_vaddr q.p_memsz) held is_lower load other_load
 
--- the segments below n are apart from that of program header `j`
-pub all_apart_from : (file : List ℕ) (j n : ℕ) → n ≤ j → overlap_fault file ≡ None → j < program_header_count file → is_load (program_header file j) ≡ true → All (λ s. IsApart s (segment_of file j (program_header file j))) (segments_below file n)
-all_apart_from file j zero le none below load = All-nil _
-all_apart_from file j (suc n) le none below load =
+-- the segments below n are disjoint from that of program header `j`
+pub all_disjoint_from : (file : List ℕ) (j n : ℕ) → n ≤ j → overlap_fault file ≡ None → j < program_header_count file → is_load (program_header file j) ≡ true → All (λ s. IsDisjoint s (segment_of file j (program_header file j))) (segments_below file n)
+all_disjoint_from file j zero le none below load = All-nil _
+all_disjoint_from file j (suc n) le none below load =
     let p = program_header file n in
-    let IsFrom : PlainSegment → Type 0 = λ s. IsApart s (segment_of file j (program_header file j)) in
-    let earlier = all_apart_from file j n (omega arith) none below load in
+    let IsFrom : PlainSegment → Type 0 = λ s. IsDisjoint s (segment_of file j (program_header file j)) in
+    let earlier = all_disjoint_from file j n (omega arith) none below load in
     let none_of = none_at (pairs_fault file) (program_header_count file) n (omega arith) none in
     let none_pair = none_at (pair_fault file n) (program_header_count file) j below none_of in
     cond_both (is_load p) (segment_of file n p ∷ []) [] (λ more. All IsFrom (segments_below file n ++ more))
-    (λ is_load. All-push IsFrom _ _ earlier (pair_apart file n j (omega arith) none_pair is_load load))
+    (λ is_load. All-push IsFrom _ _ earlier (pair_disjoint file n j (omega arith) none_pair is_load load))
     (λ other. rw append-nil earlier)
 
-pub are_apart : (file : List ℕ) → overlap_fault file ≡ None → (n : ℕ) → n ≤ program_header_count file → AreApart (segments_below file n)
-are_apart file none zero le = λ i j d lower below. absurd (omega arith)
-are_apart file none (suc n) le =
+pub are_disjoint : (file : List ℕ) → overlap_fault file ≡ None → (n : ℕ) → n ≤ program_header_count file → AreDisjoint (segments_below file n)
+are_disjoint file none zero le = λ i j d lower below. absurd (omega arith)
+are_disjoint file none (suc n) le =
     let p = program_header file n in
-    let earlier = are_apart file none n (omega arith) in
-    cond_both (is_load p) (segment_of file n p ∷ []) [] (λ more. AreApart (segments_below file n ++ more))
-    (λ load. all_pairs_push IsApart _ _ earlier (all_apart_from file n n (omega arith) none (omega arith) load))
+    let earlier = are_disjoint file none n (omega arith) in
+    cond_both (is_load p) (segment_of file n p ∷ []) [] (λ more. AreDisjoint (segments_below file n ++ more))
+    (λ load. all_pairs_push IsDisjoint _ _ earlier (all_disjoint_from file n n (omega arith) none (omega arith) load))
     (λ other. rw append-nil earlier)
 
 -- where no check fails, none of the program headers' does
@@ -98,9 +98,9 @@ load_segments_loadable file bytes none =
     let records = both_none (entries_fault file) _ after_places.1 in
     are_loadable file bytes (segments_held file records.0) (program_header_count file) (omega arith)
 
-pub load_segments_apart : (file : List ℕ) → program_headers_fault file ≡ None → AreApart (load_segments file)
-load_segments_apart file none =
+pub load_segments_disjoint : (file : List ℕ) → program_headers_fault file ≡ None → AreDisjoint (load_segments file)
+load_segments_disjoint file none =
     let after_places = both_none (table_fault file) _ none in
     let after_records = both_none (entries_fault file) _ after_places.1 in
     let overlaps = both_none (memory_fault file) _ after_records.1 in
-    are_apart file overlaps.1 (program_header_count file) (omega arith)
+    are_disjoint file overlaps.1 (program_header_count file) (omega arith)

@@ -3,7 +3,7 @@ use Rattle.std.specs.Prelude.{◌≡◌, ℕ, ◌+◌, ◌<◌, ◌≤◌, false
 use Rattle.std.specs.List.{AllPairs}
 use Rattle.elf_reader.specs.Layout.{program_header_count, program_header_at, program_header}
 use Rattle.elf_reader.specs.File.{PlainSegment, is_load}
-use Rattle.list_checks.specs.Tests.{meets}
+use Rattle.list_checks.specs.Tests.{ranges_overlap}
 use Rattle.elf_reader.specs.declared.records.ProgramHeader.{ProgramHeader}
 
 -- the program header table lies inside the file
@@ -38,8 +38,8 @@ abbrev pub AreLoadable : List PlainSegment → Type 0
 AreLoadable ss = All IsLoadable ss
 
 -- two segments share no address. A segment of size 0 has none
-abbrev pub IsApart : PlainSegment → PlainSegment → Type 0
-IsApart s t = meets s.vaddr s.memsz t.vaddr t.memsz ≡ false
+abbrev pub IsDisjoint : PlainSegment → PlainSegment → Type 0
+IsDisjoint s t = ranges_overlap s.vaddr s.memsz t.vaddr t.memsz ≡ false
 
-abbrev pub AreApart : List PlainSegment → Type 0
-AreApart ss = AllPairs IsApart ss
+abbrev pub AreDisjoint : List PlainSegment → Type 0
+AreDisjoint ss = AllPairs IsDisjoint ss

@@ -1,7 +1,7 @@
 -- Which sections are loaded: those whose bytes the segments put at the sections' addresses. All that is
 -- read or changed of a program by its sections rests on this.
 use Rattle.std.specs.Prelude.{◌≡◌, ℕ, ◌+◌, ◌*◌, ◌<◌, ◌==◌, nat_le, Bool, true, not, ◌&&◌, ◌||◌, List, [], length, slice_index, slice_index_or, None}
-use Rattle.list_checks.specs.Tests.{any_below, lies_in, meets}
+use Rattle.list_checks.specs.Tests.{any_below, lies_in, ranges_overlap}
 use Rattle.elf_reader.specs.Layout.{file_header}
 use Rattle.elf_reader.specs.Sections.{bit_of, stands_in_file}
 use Rattle.elf_reader.specs.File.{PlainSegment, PlainSection, PlainView, view_in}
@@ -23,30 +23,30 @@ abbrev pub segment_at : PlainView → ℕ → PlainSegment
 segment_at v g = slice_index_or v.segments g no_segment
 
 -- bytes of the file meet the program headers or the section headers
-abbrev pub meets_headers : PlainView → ℕ → ℕ → Bool
-meets_headers v offset size =
-    meets offset size v.ph_at (32 * v.ph_count)
-    || meets offset size (file_header v.bytes).e_shoff (40 * length v.sections)
+abbrev pub overlaps_headers : PlainView → ℕ → ℕ → Bool
+overlaps_headers v offset size =
+    ranges_overlap offset size v.ph_at (32 * v.ph_count)
+    || ranges_overlap offset size (file_header v.bytes).e_shoff (40 * length v.sections)
 
 -- they meet the content of section `j`, which is another one than section `k`
-abbrev pub meets_section : PlainView → ℕ → ℕ → ℕ → ℕ → Bool
-meets_section v k offset size j =
+abbrev pub overlaps_section : PlainView → ℕ → ℕ → ℕ → ℕ → Bool
+overlaps_section v k offset size j =
     not (j == k)
     && stands_in_file (section_at v j).kind
-    && meets offset size (section_at v j).offset (section_at v j).size
+    && ranges_overlap offset size (section_at v j).offset (section_at v j).size
 
 -- they meet the file bytes of segment `h`, which is another one than segment `g`
-abbrev pub meets_segment : PlainView → ℕ → ℕ → ℕ → ℕ → Bool
-meets_segment v g offset size h =
-    not (h == g) && meets offset size (segment_at v h).offset (length (segment_at v h).content)
+abbrev pub overlaps_segment : PlainView → ℕ → ℕ → ℕ → ℕ → Bool
+overlaps_segment v g offset size h =
+    not (h == g) && ranges_overlap offset size (segment_at v h).offset (length (segment_at v h).content)
 
 -- section `k` shares no byte of the file with a table of headers, another section, or another segment
 -- than `g`
 abbrev pub has_own_bytes : PlainView → ℕ → ℕ → PlainSection → Bool
 has_own_bytes v k g s =
-    not (meets_headers v s.offset s.size)
-    && not (any_below (meets_section v k s.offset s.size) (length v.sections))
-    && not (any_below (meets_segment v g s.offset s.size) (length v.segments))
+    not (overlaps_headers v s.offset s.size)
+    && not (any_below (overlaps_section v k s.offset s.size) (length v.sections))
+    && not (any_below (overlaps_segment v g s.offset s.size) (length v.segments))
 
 -- a section with content (SHT_PROGBITS, 1): it stands as far behind the segment's beginning in the file
 -- as in memory, lies inside the segment's file bytes, and has its bytes for itself

@@ -2,7 +2,7 @@
 -- order.
 use Rattle.std.specs.Prelude.{ℕ, zero, suc, ◌+◌, ◌==◌, nat_lt, nat_le, Bool, not, ◌&&◌, ◌||◌, if◌then◌else◌, List, length, Option, None}
 use Rattle.list_checks.specs.First.{◌or_else◌, unless, first_below}
-use Rattle.list_checks.specs.Tests.{meets}
+use Rattle.list_checks.specs.Tests.{ranges_overlap}
 use Rattle.elf_reader.specs.Layout.{program_header_count, program_header_at, program_header}
 use Rattle.elf_reader.specs.File.{is_load}
 use Rattle.elf_reader.specs.HeaderChecks.{capped}
@@ -59,7 +59,7 @@ memory_fault file =
 
 -- two program headers are of segments to be loaded that share an address
 abbrev pub overlaps : ProgramHeader → ProgramHeader → Bool
-overlaps p q = is_load p && is_load q && meets p.p_vaddr p.p_memsz q.p_vaddr q.p_memsz
+overlaps p q = is_load p && is_load q && ranges_overlap p.p_vaddr p.p_memsz q.p_vaddr q.p_memsz
 
 -- program headers `i` and `j`, of which `i` is the lower one
 unfoldable pub pair_fault : List ℕ → ℕ → ℕ → Option ElfFault

@@ -2,7 +2,7 @@
 -- their order.
 use Rattle.std.specs.Prelude.{ℕ, ◌+◌, ◌*◌, ◌==◌, nat_lt, nat_le, Bool, not, ◌&&◌, ◌||◌, if◌then◌else◌, List, length, Option, None}
 use Rattle.list_checks.specs.First.{◌or_else◌, unless, first_below}
-use Rattle.list_checks.specs.Tests.{meets}
+use Rattle.list_checks.specs.Tests.{ranges_overlap}
 use Rattle.elf_reader.specs.Layout.{file_header, section_count, section_header_at, section_header}
 use Rattle.elf_reader.specs.Sections.{is_allocated, is_compressed, stands_in_file, is_string_table, is_rel, is_rela, names_section, has_name, section_names}
 use Rattle.elf_reader.specs.declared.fault.ElfFault.{ElfFault}
@@ -18,20 +18,20 @@ abbrev pub header_places_fault : List ℕ → Option ElfFault
 header_places_fault file = first_below (header_place_fault file) (section_count file)
 
 -- the bytes of a range meet the ELF header
-abbrev pub meets_file_header : ℕ → ℕ → Bool
-meets_file_header offset size = meets offset size 0 52
+abbrev pub overlaps_file_header : ℕ → ℕ → Bool
+overlaps_file_header offset size = ranges_overlap offset size 0 52
 
 -- the table does not meet the ELF header
 abbrev pub table_start_fault : List ℕ → Option ElfFault
 table_start_fault file =
-    unless (not (meets_file_header (file_header file).e_shoff (40 * section_count file))) (WrongKind 20 0)
+    unless (not (overlaps_file_header (file_header file).e_shoff (40 * section_count file))) (WrongKind 20 0)
 
 -- the content of a section, of section header `k` in a file of `size` bytes, lies inside the file
 -- and does not meet the ELF header
 abbrev pub content_fault : ℕ → ℕ → SectionHeader → Option ElfFault
 content_fault size k s =
     unless (nat_le (s.sh_offset + s.sh_size) size) (OutOfFile 4 k)
-    or_else unless (not (meets_file_header s.sh_offset s.sh_size)) (WrongKind 20 k)
+    or_else unless (not (overlaps_file_header s.sh_offset s.sh_size)) (WrongKind 20 k)
 
 -- the section of section header `k`, if its content stands in the file
 abbrev pub section_place_fault : List ℕ → ℕ → Option ElfFault

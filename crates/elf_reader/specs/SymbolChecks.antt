@@ -1,7 +1,7 @@
 -- The checks of the symbol table, each with the fault that it tells, and their order.
 use Rattle.std.specs.Prelude.{ℕ, ◌*◌, ◌==◌, nat_lt, nat_le, Bool, not, ◌&&◌, ◌||◌, List, Option, Some, None}
 use Rattle.list_checks.specs.First.{◌or_else◌, unless, first_below}
-use Rattle.list_checks.specs.Tests.{any_below, meets}
+use Rattle.list_checks.specs.Tests.{any_below, ranges_overlap}
 use Rattle.elf_reader.specs.Layout.{file_header, section_count, section_header, symbol_record}
 use Rattle.elf_reader.specs.Sections.{is_table_at, is_string_table, stands_in_file, names_section, has_name, has_entries, symbol_table, symbol_count_of, symbol_names}
 use Rattle.elf_reader.specs.declared.fault.ElfFault.{ElfFault}
@@ -26,17 +26,17 @@ abbrev pub shares_bytes : List ℕ → ℕ → ℕ → Bool
 shares_bytes file table k =
     not (k == table)
     && stands_in_file (section_header file k).sh_type
-    && meets (section_header file table).sh_offset (section_header file table).sh_size (section_header file k).sh_offset (section_header file k).sh_size
+    && ranges_overlap (section_header file table).sh_offset (section_header file table).sh_size (section_header file k).sh_offset (section_header file k).sh_size
 
 -- the content of section `table` meets the table of section headers
-abbrev pub meets_section_headers : List ℕ → SectionHeader → Bool
-meets_section_headers file s = meets s.sh_offset s.sh_size (file_header file).e_shoff (40 * section_count file)
+abbrev pub overlaps_section_headers : List ℕ → SectionHeader → Bool
+overlaps_section_headers file s = ranges_overlap s.sh_offset s.sh_size (file_header file).e_shoff (40 * section_count file)
 
 -- the symbol table meets no section header and no content of another section: so its entries can be
 -- changed without changing what else is read
 abbrev pub shared_table_fault : List ℕ → ℕ → Option ElfFault
 shared_table_fault file table =
-    unless (not (meets_section_headers file (section_header file table) || any_below (shares_bytes file table) (section_count file))) (WrongKind 21 table)
+    unless (not (overlaps_section_headers file (section_header file table) || any_below (shares_bytes file table) (section_count file))) (WrongKind 21 table)
 
 -- its names stand in a string table (sh_link)
 abbrev pub symbol_strings_fault : List ℕ → ℕ → Option ElfFault

@@ -1,5 +1,5 @@
 ghost use Rattle.std.specs.Prelude.{◌≡◌, ℕ, ◌+◌, ◌*◌, ◌<◌, ◌≤◌, length, slice_index, IfOk, OnOk};
-ghost use Rattle.list_checks.specs.First.{Tells};
+ghost use Rattle.list_checks.specs.First.{Reports};
 ghost use Rattle.elf_reader.specs.Layout.{file_header};
 ghost use Rattle.elf_reader.specs.Sections.{bit_of};
 ghost use Rattle.elf_reader.specs.HeaderChecks.{size_fault, magic_byte_fault, magic_fault, identification_fault, field_fault, machine_fault, flags_fault, sizes_fault, counts_fault, fields_fault, header_fault};
@@ -35,7 +35,7 @@ const RVE_BIT: u32 = 3;
 
 /// The ELF header of a file that passes its checks.
 pub(crate) fn check_header(bytes: &[u8]) -> Result<FileHeader, ElfFault>
-    ensures fault { Tells result (header_fault bytes.now) }
+    ensures fault { Reports result (header_fault bytes.now) }
     ensures header { IfOk result (λ h. h ≡ file_header bytes.now) }
     ensures size { OnOk result (FILE_HEADER_SIZE ≤ length bytes.now) }
     ensures small { OnOk result (length bytes.now ≤ MAX_FILE_SIZE) }
@@ -49,7 +49,7 @@ pub(crate) fn check_header(bytes: &[u8]) -> Result<FileHeader, ElfFault>
 }
 
 fn check_size(bytes: &[u8]) -> Result<(), ElfFault>
-    ensures fault { Tells result (size_fault bytes.now) }
+    ensures fault { Reports result (size_fault bytes.now) }
     ensures size { OnOk result (FILE_HEADER_SIZE ≤ length bytes.now) }
     ensures small { OnOk result (length bytes.now ≤ MAX_FILE_SIZE) }
 {
@@ -71,7 +71,7 @@ fn check_size(bytes: &[u8]) -> Result<(), ElfFault>
 
 fn check_magic(bytes: &[u8]) -> Result<(), ElfFault>
     requires { FILE_HEADER_SIZE ≤ length bytes.now }
-    ensures { Tells result (magic_fault bytes.now) }
+    ensures { Reports result (magic_fault bytes.now) }
 {
     check_magic_byte(bytes, 0, 0x7f)?;
     check_magic_byte(bytes, 1, b'E')?;
@@ -81,7 +81,7 @@ fn check_magic(bytes: &[u8]) -> Result<(), ElfFault>
 
 fn check_magic_byte(bytes: &[u8], at: u32, byte: u8) -> Result<(), ElfFault>
     requires { at < length bytes.now }
-    ensures { Tells result (magic_byte_fault bytes.now at byte) }
+    ensures { Reports result (magic_byte_fault bytes.now at byte) }
 {
     if bytes[at as usize] == byte {
         Ok(())
@@ -92,7 +92,7 @@ fn check_magic_byte(bytes: &[u8], at: u32, byte: u8) -> Result<(), ElfFault>
 
 fn check_identification(bytes: &[u8]) -> Result<(), ElfFault>
     requires { FILE_HEADER_SIZE ≤ length bytes.now }
-    ensures { Tells result (identification_fault bytes.now) }
+    ensures { Reports result (identification_fault bytes.now) }
 {
     check_field(field::EI_CLASS, u32::from(bytes[4]), ELFCLASS32)?;
     check_field(field::EI_DATA, u32::from(bytes[5]), ELFDATA2LSB)?;
@@ -100,7 +100,7 @@ fn check_identification(bytes: &[u8]) -> Result<(), ElfFault>
 }
 
 fn check_field(field: u32, value: u32, wanted: u32) -> Result<(), ElfFault>
-    ensures { Tells result (field_fault field value wanted) }
+    ensures { Reports result (field_fault field value wanted) }
 {
     if value == wanted {
         Ok(())
@@ -110,7 +110,7 @@ fn check_field(field: u32, value: u32, wanted: u32) -> Result<(), ElfFault>
 }
 
 fn check_fields(header: &FileHeader) -> Result<(), ElfFault>
-    ensures { Tells result (fields_fault header.now) }
+    ensures { Reports result (fields_fault header.now) }
 {
     check_machine(header)?;
     check_flags(header)?;
@@ -119,7 +119,7 @@ fn check_fields(header: &FileHeader) -> Result<(), ElfFault>
 }
 
 fn check_machine(header: &FileHeader) -> Result<(), ElfFault>
-    ensures { Tells result (machine_fault header.now) }
+    ensures { Reports result (machine_fault header.now) }
 {
     check_field(field::E_TYPE, u32::from(header.e_type), ET_EXEC)?;
     check_field(field::E_MACHINE, u32::from(header.e_machine), EM_RISCV)?;
@@ -127,7 +127,7 @@ fn check_machine(header: &FileHeader) -> Result<(), ElfFault>
 }
 
 fn check_flags(header: &FileHeader) -> Result<(), ElfFault>
-    ensures { Tells result (flags_fault header.now) }
+    ensures { Reports result (flags_fault header.now) }
 {
     if has_bit(header.e_flags, RVC_BIT) || has_bit(header.e_flags, RVE_BIT) {
         return Err(ElfFault::WrongKind {
@@ -147,7 +147,7 @@ pub(crate) fn has_bit(word: u32, bit: u32) -> bool
 }
 
 fn check_sizes(header: &FileHeader) -> Result<(), ElfFault>
-    ensures { Tells result (sizes_fault header.now) }
+    ensures { Reports result (sizes_fault header.now) }
 {
     check_field(
         field::E_EHSIZE,
@@ -172,7 +172,7 @@ fn check_sizes(header: &FileHeader) -> Result<(), ElfFault>
 }
 
 fn check_counts(header: &FileHeader) -> Result<(), ElfFault>
-    ensures { Tells result (counts_fault header.now) }
+    ensures { Reports result (counts_fault header.now) }
 {
     if header.e_phnum > MAX_PROGRAM_HEADERS {
         return Err(ElfFault::OverLimit {

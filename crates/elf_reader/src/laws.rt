@@ -1,7 +1,7 @@
 ghost use Rattle.std.specs.Prelude.{◌≡◌, ℕ, List, None};
 ghost use Rattle.elf_reader.specs.Faults.{first_fault};
 ghost use Rattle.elf_reader.specs.File.{load_segments};
-ghost use Rattle.elf_reader.specs.Loadable.{AreBytes, AreLoadable, AreApart};
+ghost use Rattle.elf_reader.specs.Loadable.{AreBytes, AreLoadable, AreDisjoint};
 ghost use Rattle.elf_reader.specs.Loaded.{LoadedBytes};
 
 /// The segments of a file without a fault fit into their memory, which ends below 2 ^ 32.
@@ -10,8 +10,8 @@ pub fn segments_are_loadable()
 {}
 
 /// No two segments of a file without a fault share an address.
-pub fn segments_are_apart()
-    ensures { (file : List ℕ) → first_fault file ≡ None → AreApart (load_segments file) }
+pub fn segments_are_disjoint()
+    ensures { (file : List ℕ) → first_fault file ≡ None → AreDisjoint (load_segments file) }
 {}
 
 /// The memory of a loaded section of a file without a fault holds its content, and zeros where it has none.

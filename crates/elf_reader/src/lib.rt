@@ -26,6 +26,6 @@ pub use kinds::{
     R_RISCV_PCREL_HI20, R_RISCV_PCREL_LO12_I, R_RISCV_PCREL_LO12_S, SHT_NOBITS, SHT_NULL,
     SHT_PROGBITS, SHT_REL, SHT_RELA, SHT_STRTAB, SHT_SYMTAB, STT_FUNC, STT_OBJECT, STT_SECTION,
 };
-pub use laws::{loaded_bytes, segments_are_apart, segments_are_loadable};
+pub use laws::{loaded_bytes, segments_are_disjoint, segments_are_loadable};
 pub use reading::read;
 pub use view::{ElfView, Reloc, Section, Segment, Symbol};

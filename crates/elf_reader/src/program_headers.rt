@@ -1,5 +1,5 @@
 ghost use Rattle.std.specs.Prelude.{◌≡◌, ℕ, ◌+◌, ◌*◌, ◌<◌, ◌≤◌, length, OnOk};
-ghost use Rattle.list_checks.specs.First.{Tells};
+ghost use Rattle.list_checks.specs.First.{Reports};
 ghost use Rattle.elf_reader.specs.Layout.{file_header, program_header};
 ghost use Rattle.elf_reader.specs.ProgramHeaderChecks.{place_fault, table_fault, load_fault, program_fault, entry_fault, entries_fault, memory_size, memory_fault, overlaps, pair_fault, pairs_fault, overlap_fault, program_headers_fault};
 ghost use Rattle.elf_reader.specs.Loadable.{HasProgramHeaders, HasSegments};
@@ -7,7 +7,7 @@ ghost use Rattle.elf_reader.specs.Loadable.{HasProgramHeaders, HasSegments};
 use crate::fault::ElfFault;
 use crate::kinds::PT_LOAD;
 use crate::numbers::{field, limit, table};
-use crate::ranges::meet;
+use crate::ranges::intersect;
 use crate::records::{FileHeader, PROGRAM_HEADER_SIZE, ProgramHeader};
 
 /// The greatest memory of all segments together, in bytes.
@@ -20,7 +20,7 @@ const PT_INTERP: u32 = 3;
 /// The checks of the program headers.
 pub(crate) fn check_program_headers(bytes: &[u8], header: &FileHeader) -> Result<(), ElfFault>
     requires { header.now ≡ file_header bytes.now }
-    ensures fault { Tells result (program_headers_fault bytes.now) }
+    ensures fault { Reports result (program_headers_fault bytes.now) }
     ensures headers { OnOk result (HasProgramHeaders bytes.now) }
     ensures segments { OnOk result (HasSegments bytes.now) }
 {
@@ -46,7 +46,7 @@ pub(crate) fn program_header(bytes: &[u8], header: &FileHeader, k: u16) -> Progr
 #[tactic(auto, using(list_checks::proofs::FirstLemmas::first_found))]
 fn check_table(bytes: &[u8], header: &FileHeader) -> Result<(), ElfFault>
     requires { header.now ≡ file_header bytes.now }
-    ensures fault { Tells result (table_fault bytes.now) }
+    ensures fault { Reports result (table_fault bytes.now) }
     ensures headers { OnOk result (HasProgramHeaders bytes.now) }
 {
     for k in 0..header.e_phnum {
@@ -57,7 +57,7 @@ fn check_table(bytes: &[u8], header: &FileHeader) -> Result<(), ElfFault>
 
 fn check_place(bytes: &[u8], header: &FileHeader, k: u16) -> Result<(), ElfFault>
     requires { header.now ≡ file_header bytes.now }
-    ensures { Tells result (place_fault bytes.now k) }
+    ensures { Reports result (place_fault bytes.now k) }
 {
     let end = header.e_phoff as usize + PROGRAM_HEADER_SIZE * k as usize + PROGRAM_HEADER_SIZE;
     if end <= bytes.len() {
@@ -74,7 +74,7 @@ fn check_place(bytes: &[u8], header: &FileHeader, k: u16) -> Result<(), ElfFault
 fn check_entries(bytes: &[u8], header: &FileHeader) -> Result<(), ElfFault>
     requires header { header.now ≡ file_header bytes.now }
     requires headers { HasProgramHeaders bytes.now }
-    ensures fault { Tells result (entries_fault bytes.now) }
+    ensures fault { Reports result (entries_fault bytes.now) }
     ensures segments { OnOk result (HasSegments bytes.now) }
 {
     for k in 0..header.e_phnum {
@@ -87,13 +87,13 @@ fn check_entry(bytes: &[u8], header: &FileHeader, k: u16) -> Result<(), ElfFault
     requires header { header.now ≡ file_header bytes.now }
     requires headers { HasProgramHeaders bytes.now }
     requires below { k < header.now.e_phnum }
-    ensures { Tells result (entry_fault bytes.now k) }
+    ensures { Reports result (entry_fault bytes.now k) }
 {
     check_program(bytes.len(), k, &program_header(bytes, header, k))
 }
 
 fn check_program(size: usize, k: u16, program: &ProgramHeader) -> Result<(), ElfFault>
-    ensures { Tells result (program_fault size k program.now) }
+    ensures { Reports result (program_fault size k program.now) }
 {
     match program.p_type {
         PT_DYNAMIC | PT_INTERP => Err(ElfFault::WrongKind {
@@ -106,7 +106,7 @@ fn check_program(size: usize, k: u16, program: &ProgramHeader) -> Result<(), Elf
 }
 
 fn check_load(size: usize, k: u16, program: &ProgramHeader) -> Result<(), ElfFault>
-    ensures { Tells result (load_fault size k program.now) }
+    ensures { Reports result (load_fault size k program.now) }
 {
     if program.p_offset as usize + program.p_filesz as usize > size {
         return Err(ElfFault::OutOfFile {
@@ -132,7 +132,7 @@ fn check_load(size: usize, k: u16, program: &ProgramHeader) -> Result<(), ElfFau
 fn check_memory(bytes: &[u8], header: &FileHeader) -> Result<(), ElfFault>
     requires header { header.now ≡ file_header bytes.now }
     requires headers { HasProgramHeaders bytes.now }
-    ensures { Tells result (memory_fault bytes.now) }
+    ensures { Reports result (memory_fault bytes.now) }
 {
     let mut total: u64 = 0;
     for k in 0..header.e_phnum {
@@ -164,7 +164,7 @@ fn memory_of(program: &ProgramHeader) -> u64
 fn check_overlaps(bytes: &[u8], header: &FileHeader) -> Result<(), ElfFault>
     requires header { header.now ≡ file_header bytes.now }
     requires headers { HasProgramHeaders bytes.now }
-    ensures { Tells result (overlap_fault bytes.now) }
+    ensures { Reports result (overlap_fault bytes.now) }
 {
     for first in 0..header.e_phnum {
         check_pairs(bytes, header, first)?;
@@ -177,7 +177,7 @@ fn check_pairs(bytes: &[u8], header: &FileHeader, first: u16) -> Result<(), ElfF
     requires header { header.now ≡ file_header bytes.now }
     requires headers { HasProgramHeaders bytes.now }
     requires below { first < header.now.e_phnum }
-    ensures { Tells result (pairs_fault bytes.now first) }
+    ensures { Reports result (pairs_fault bytes.now first) }
 {
     let count = header.e_phnum;
     for second in first + 1..count {
@@ -192,7 +192,7 @@ fn check_pair(bytes: &[u8], header: &FileHeader, first: u16, second: u16) -> Res
     requires headers { HasProgramHeaders bytes.now }
     requires order { first < second }
     requires below { second < header.now.e_phnum }
-    ensures { Tells result (pair_fault bytes.now first second) }
+    ensures { Reports result (pair_fault bytes.now first second) }
 {
     if overlap(
         &program_header(bytes, header, first),
@@ -212,5 +212,5 @@ fn overlap(one: &ProgramHeader, other: &ProgramHeader) -> bool
 {
     one.p_type == PT_LOAD
         && other.p_type == PT_LOAD
-        && meet(one.p_vaddr, one.p_memsz, other.p_vaddr, other.p_memsz)
+        && intersect(one.p_vaddr, one.p_memsz, other.p_vaddr, other.p_memsz)
 }

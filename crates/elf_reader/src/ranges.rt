@@ -1,9 +1,9 @@
 ghost use Rattle.std.specs.Prelude.{◌≡◌};
-ghost use Rattle.list_checks.specs.Tests.{meets};
+ghost use Rattle.list_checks.specs.Tests.{ranges_overlap};
 
 /// Two ranges, each a first place and a size, share a place.
-pub(crate) fn meet(base: u32, size: u32, other_base: u32, other_size: u32) -> bool
-    ensures { result ≡ meets base size other_base other_size }
+pub(crate) fn intersect(base: u32, size: u32, other_base: u32, other_size: u32) -> bool
+    ensures { result ≡ ranges_overlap base size other_base other_size }
 {
     let (start, end) = (u64::from(base), u64::from(base) + u64::from(size));
     let (other_start, other_end) = (

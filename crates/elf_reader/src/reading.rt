@@ -1,10 +1,10 @@
 ghost use Rattle.std.specs.Prelude.{◌≡◌, ◌≤◌, length, IfOk};
-ghost use Rattle.list_checks.specs.First.{TellsUnless};
+ghost use Rattle.list_checks.specs.First.{ReportsUnless};
 ghost use Rattle.elf_reader.specs.Faults.{first_fault};
 ghost use Rattle.elf_reader.specs.File.{IsFile, segments_of};
 ghost use Rattle.elf_reader.specs.Layout.{file_header};
 ghost use Rattle.elf_reader.specs.Sections.{symbol_table};
-ghost use Rattle.elf_reader.specs.Loadable.{HasProgramHeaders, HasSegments, AreLoadable, AreApart};
+ghost use Rattle.elf_reader.specs.Loadable.{HasProgramHeaders, HasSegments, AreLoadable, AreDisjoint};
 ghost use Rattle.elf_reader.specs.Placed.{HasSectionHeaders, HasContents, HasNamesTable, HasSectionNames};
 ghost use Rattle.elf_reader.specs.SymbolTables.{HasReadable};
 
@@ -31,10 +31,10 @@ use std::alloc::{AllocError, Global};
 /// table, and the relocations. `Memory` comes only where no memory was left. The time grows with the size of
 /// the file and of its tables, and with the square of the 64 program headers at most.
 pub fn read<'a>(alloc: Global, bytes: &'a [u8]) -> Result<ElfView<'a>, ElfFault>
-    ensures fault { TellsUnless ElfFault.Memory result (first_fault bytes.now) }
+    ensures fault { ReportsUnless ElfFault.Memory result (first_fault bytes.now) }
     ensures file { IfOk result (IsFile bytes.now) }
     ensures loadable { IfOk result (λ view. AreLoadable (segments_of view)) }
-    ensures apart { IfOk result (λ view. AreApart (segments_of view)) }
+    ensures disjoint { IfOk result (λ view. AreDisjoint (segments_of view)) }
 {
     let header = check_header(bytes)?;
     check_program_headers(bytes, &header)?;

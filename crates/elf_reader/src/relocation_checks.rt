@@ -1,5 +1,5 @@
 ghost use Rattle.std.specs.Prelude.{◌≡◌, ℕ, ◌+◌, ◌<◌, ◌≤◌, OnOk};
-ghost use Rattle.list_checks.specs.First.{Tells};
+ghost use Rattle.list_checks.specs.First.{Reports};
 ghost use Rattle.elf_reader.specs.Layout.{file_header};
 ghost use Rattle.elf_reader.specs.Sections.{symbol_table, symbol_count, relocation_count_at, relocation_count_below, relocation_count};
 ghost use Rattle.elf_reader.specs.RelocationChecks.{rel_fault, rels_fault, is_table_of, rela_table_fault, rela_section_fault, rela_fault, relas_fault, relocation_limit_fault, is_supported, relocation_fault_of, relocation_fault, section_relocations_fault, relocation_entries_fault, relocations_fault};
@@ -30,7 +30,7 @@ pub(crate) fn check_relocations(
     requires contents { HasContents bytes.now }
     requires table { table ≡ symbol_table bytes.now }
     requires symbols { symbols ≡ symbol_count bytes.now }
-    ensures fault { Tells result (relocations_fault bytes.now) }
+    ensures fault { Reports result (relocations_fault bytes.now) }
     ensures limit { OnOk result (relocation_count bytes.now ≤ 262144) }
 {
     check_rels(bytes, header)?;
@@ -43,7 +43,7 @@ pub(crate) fn check_relocations(
 fn check_rels(bytes: &[u8], header: &FileHeader) -> Result<(), ElfFault>
     requires header { header.now ≡ file_header bytes.now }
     requires headers { HasSectionHeaders bytes.now }
-    ensures { Tells result (rels_fault bytes.now) }
+    ensures { Reports result (rels_fault bytes.now) }
 {
     for k in 0..header.e_shnum {
         check_rel(bytes, header, k)?;
@@ -55,7 +55,7 @@ fn check_rel(bytes: &[u8], header: &FileHeader, k: u16) -> Result<(), ElfFault>
     requires header { header.now ≡ file_header bytes.now }
     requires headers { HasSectionHeaders bytes.now }
     requires below { k < header.now.e_shnum }
-    ensures { Tells result (rel_fault bytes.now k) }
+    ensures { Reports result (rel_fault bytes.now k) }
 {
     let section = section_header(bytes, header, k);
     if section.sh_type == SHT_REL && is_allocated_section(bytes, header, section.sh_info) {
@@ -71,7 +71,7 @@ fn check_relas(bytes: &[u8], header: &FileHeader, table: Option<u16>) -> Result<
     requires header { header.now ≡ file_header bytes.now }
     requires headers { HasSectionHeaders bytes.now }
     requires table { table ≡ symbol_table bytes.now }
-    ensures { Tells result (relas_fault bytes.now) }
+    ensures { Reports result (relas_fault bytes.now) }
 {
     for k in 0..header.e_shnum {
         check_rela(bytes, header, table, k)?;
@@ -84,7 +84,7 @@ fn check_rela(bytes: &[u8], header: &FileHeader, table: Option<u16>, k: u16) -> 
     requires headers { HasSectionHeaders bytes.now }
     requires table { table ≡ symbol_table bytes.now }
     requires below { k < header.now.e_shnum }
-    ensures { Tells result (rela_fault bytes.now k) }
+    ensures { Reports result (rela_fault bytes.now k) }
 {
     if is_relocation_section(&section_header(bytes, header, k)) {
         check_rela_section(bytes, header, table, k)
@@ -103,7 +103,7 @@ fn check_rela_section(
     requires headers { HasSectionHeaders bytes.now }
     requires table { table ≡ symbol_table bytes.now }
     requires below { k < header.now.e_shnum }
-    ensures { Tells result (rela_section_fault bytes.now k) }
+    ensures { Reports result (rela_section_fault bytes.now k) }
 {
     let section = section_header(bytes, header, k);
     if section.sh_info >= u32::from(header.e_shnum) {
@@ -129,7 +129,7 @@ fn check_rela_table(
     requires headers { HasSectionHeaders bytes.now }
     requires table { table ≡ symbol_table bytes.now }
     requires below { k < header.now.e_shnum }
-    ensures { Tells result (rela_table_fault bytes.now k) }
+    ensures { Reports result (rela_table_fault bytes.now k) }
 {
     let section = section_header(bytes, header, k);
     if !is_table(table, section.sh_link) {
@@ -161,7 +161,7 @@ fn is_table(table: Option<u16>, number: u32) -> bool
 fn check_limit(bytes: &[u8], header: &FileHeader) -> Result<(), ElfFault>
     requires header { header.now ≡ file_header bytes.now }
     requires headers { HasSectionHeaders bytes.now }
-    ensures fault { Tells result (relocation_limit_fault bytes.now) }
+    ensures fault { Reports result (relocation_limit_fault bytes.now) }
     ensures limit { OnOk result (relocation_count bytes.now ≤ 262144) }
 {
     let mut total: u64 = 0;
@@ -185,7 +185,7 @@ fn check_entries(bytes: &[u8], header: &FileHeader, symbols: u32) -> Result<(), 
     requires contents { HasContents bytes.now }
     requires symbols { symbols ≡ symbol_count bytes.now }
     requires limit { relocation_count bytes.now ≤ 262144 }
-    ensures { Tells result (relocation_entries_fault bytes.now) }
+    ensures { Reports result (relocation_entries_fault bytes.now) }
 {
     let mut first = 0;
     for k in 0..header.e_shnum {
@@ -210,7 +210,7 @@ fn check_section_entries(
     requires below { k < header.now.e_shnum }
     requires first { first ≡ relocation_count_below bytes.now k }
     requires limit { first + relocation_count_at bytes.now k ≤ 262144 }
-    ensures { Tells result (section_relocations_fault bytes.now k) }
+    ensures { Reports result (section_relocations_fault bytes.now k) }
 {
     let count = relocation_count_at(bytes, header, k);
     for i in 0..count {
@@ -222,7 +222,7 @@ fn check_section_entries(
 
 /// The checks of a relocation, number `index` of all that are read.
 fn check_relocation(symbols: u32, index: u32, record: &RelocationRecord) -> Result<(), ElfFault>
-    ensures { Tells result (relocation_fault_of symbols index record.now) }
+    ensures { Reports result (relocation_fault_of symbols index record.now) }
 {
     if record.symbol() >= symbols {
         return Err(ElfFault::BadIndex {

@@ -1,8 +1,8 @@
 ghost use Rattle.std.specs.Prelude.{◌≡◌, ℕ, ◌+◌, ◌*◌, ◌<◌, ◌≤◌, nat_lt, IsTrue, length, OnOk};
-ghost use Rattle.list_checks.specs.First.{Tells};
+ghost use Rattle.list_checks.specs.First.{Reports};
 ghost use Rattle.elf_reader.specs.Layout.{file_header};
 ghost use Rattle.elf_reader.specs.Sections.{is_string_table, names_section, has_name, section_names};
-ghost use Rattle.elf_reader.specs.SectionChecks.{header_place_fault, header_places_fault, meets_file_header, table_start_fault, content_fault, section_place_fault, section_places_fault, compressed_fault_of, compressed_fault, compressed_sections_fault, loaded_relocations_fault_of, loaded_relocations_fault, section_kinds_fault, section_headers_fault, names_table_fault, section_name_fault, section_names_fault, names_fault, sections_fault};
+ghost use Rattle.elf_reader.specs.SectionChecks.{header_place_fault, header_places_fault, overlaps_file_header, table_start_fault, content_fault, section_place_fault, section_places_fault, compressed_fault_of, compressed_fault, compressed_sections_fault, loaded_relocations_fault_of, loaded_relocations_fault, section_kinds_fault, section_headers_fault, names_table_fault, section_name_fault, section_names_fault, names_fault, sections_fault};
 ghost use Rattle.elf_reader.specs.Placed.{HasSectionHeaders, HasContents, HasNamesTable, HasSectionNames};
 
 use crate::fault::ElfFault;
@@ -19,7 +19,7 @@ const COMPRESSED_BIT: u32 = 11;
 /// The checks of the section headers, and of the sections' names.
 pub(crate) fn check_sections(bytes: &[u8], header: &FileHeader) -> Result<(), ElfFault>
     requires { header.now ≡ file_header bytes.now }
-    ensures fault { Tells result (sections_fault bytes.now) }
+    ensures fault { Reports result (sections_fault bytes.now) }
     ensures headers { OnOk result (HasSectionHeaders bytes.now) }
     ensures contents { OnOk result (HasContents bytes.now) }
     ensures table { OnOk result (HasNamesTable bytes.now) }
@@ -31,7 +31,7 @@ pub(crate) fn check_sections(bytes: &[u8], header: &FileHeader) -> Result<(), El
 
 fn check_section_headers(bytes: &[u8], header: &FileHeader) -> Result<(), ElfFault>
     requires { header.now ≡ file_header bytes.now }
-    ensures fault { Tells result (section_headers_fault bytes.now) }
+    ensures fault { Reports result (section_headers_fault bytes.now) }
     ensures headers { OnOk result (HasSectionHeaders bytes.now) }
     ensures contents { OnOk result (HasContents bytes.now) }
 {
@@ -45,7 +45,7 @@ fn check_section_headers(bytes: &[u8], header: &FileHeader) -> Result<(), ElfFau
 #[tactic(auto, using(list_checks::proofs::FirstLemmas::first_found))]
 fn check_table(bytes: &[u8], header: &FileHeader) -> Result<(), ElfFault>
     requires { header.now ≡ file_header bytes.now }
-    ensures fault { Tells result (header_places_fault bytes.now) }
+    ensures fault { Reports result (header_places_fault bytes.now) }
     ensures headers { OnOk result (HasSectionHeaders bytes.now) }
 {
     for k in 0..header.e_shnum {
@@ -56,7 +56,7 @@ fn check_table(bytes: &[u8], header: &FileHeader) -> Result<(), ElfFault>
 
 fn check_header_place(bytes: &[u8], header: &FileHeader, k: u16) -> Result<(), ElfFault>
     requires { header.now ≡ file_header bytes.now }
-    ensures { Tells result (header_place_fault bytes.now k) }
+    ensures { Reports result (header_place_fault bytes.now k) }
 {
     let end = header.e_shoff as usize + SECTION_HEADER_SIZE * k as usize + SECTION_HEADER_SIZE;
     if end <= bytes.len() {
@@ -71,10 +71,10 @@ fn check_header_place(bytes: &[u8], header: &FileHeader, k: u16) -> Result<(), E
 
 fn check_table_start(bytes: &[u8], header: &FileHeader) -> Result<(), ElfFault>
     requires { header.now ≡ file_header bytes.now }
-    ensures { Tells result (table_start_fault bytes.now) }
+    ensures { Reports result (table_start_fault bytes.now) }
 {
     let size = SECTION_HEADER_SIZE * header.e_shnum as usize;
-    if meets_file_header(header.e_shoff, size) {
+    if overlaps_file_header(header.e_shoff, size) {
         return Err(ElfFault::WrongKind {
             field: field::MEETS_FILE_HEADER,
             value: 0,
@@ -84,8 +84,8 @@ fn check_table_start(bytes: &[u8], header: &FileHeader) -> Result<(), ElfFault>
 }
 
 /// Whether the `size` bytes from `offset` meet the ELF header, which begins the file.
-fn meets_file_header(offset: u32, size: usize) -> bool
-    ensures { result ≡ meets_file_header offset size }
+fn overlaps_file_header(offset: u32, size: usize) -> bool
+    ensures { result ≡ overlaps_file_header offset size }
 {
     size > 0 && (offset as usize) < FILE_HEADER_SIZE
 }
@@ -94,7 +94,7 @@ fn meets_file_header(offset: u32, size: usize) -> bool
 fn check_places(bytes: &[u8], header: &FileHeader) -> Result<(), ElfFault>
     requires header { header.now ≡ file_header bytes.now }
     requires headers { HasSectionHeaders bytes.now }
-    ensures fault { Tells result (section_places_fault bytes.now) }
+    ensures fault { Reports result (section_places_fault bytes.now) }
     ensures contents { OnOk result (HasContents bytes.now) }
 {
     for k in 0..header.e_shnum {
@@ -107,7 +107,7 @@ fn check_place(bytes: &[u8], header: &FileHeader, k: u16) -> Result<(), ElfFault
     requires header { header.now ≡ file_header bytes.now }
     requires headers { HasSectionHeaders bytes.now }
     requires below { k < header.now.e_shnum }
-    ensures { Tells result (section_place_fault bytes.now k) }
+    ensures { Reports result (section_place_fault bytes.now k) }
 {
     let section = section_header(bytes, header, k);
     if is_in_file(section.sh_type) {
@@ -118,7 +118,7 @@ fn check_place(bytes: &[u8], header: &FileHeader, k: u16) -> Result<(), ElfFault
 }
 
 fn check_content(size: usize, k: u16, section: &SectionHeader) -> Result<(), ElfFault>
-    ensures { Tells result (content_fault size k section.now) }
+    ensures { Reports result (content_fault size k section.now) }
 {
     if section.sh_offset as usize + section.sh_size as usize > size {
         return Err(ElfFault::OutOfFile {
@@ -126,7 +126,7 @@ fn check_content(size: usize, k: u16, section: &SectionHeader) -> Result<(), Elf
             index: u32::from(k),
         });
     }
-    if meets_file_header(section.sh_offset, section.sh_size as usize) {
+    if overlaps_file_header(section.sh_offset, section.sh_size as usize) {
         return Err(ElfFault::WrongKind {
             field: field::MEETS_FILE_HEADER,
             value: u32::from(k),
@@ -139,7 +139,7 @@ fn check_content(size: usize, k: u16, section: &SectionHeader) -> Result<(), Elf
 fn check_compressed(bytes: &[u8], header: &FileHeader) -> Result<(), ElfFault>
     requires header { header.now ≡ file_header bytes.now }
     requires headers { HasSectionHeaders bytes.now }
-    ensures { Tells result (compressed_sections_fault bytes.now) }
+    ensures { Reports result (compressed_sections_fault bytes.now) }
 {
     for k in 0..header.e_shnum {
         check_compressed_at(bytes, header, k)?;
@@ -151,13 +151,13 @@ fn check_compressed_at(bytes: &[u8], header: &FileHeader, k: u16) -> Result<(), 
     requires header { header.now ≡ file_header bytes.now }
     requires headers { HasSectionHeaders bytes.now }
     requires below { k < header.now.e_shnum }
-    ensures { Tells result (compressed_fault bytes.now k) }
+    ensures { Reports result (compressed_fault bytes.now k) }
 {
     check_compression(k, &section_header(bytes, header, k))
 }
 
 fn check_compression(k: u16, section: &SectionHeader) -> Result<(), ElfFault>
-    ensures { Tells result (compressed_fault_of k section.now) }
+    ensures { Reports result (compressed_fault_of k section.now) }
 {
     if is_allocated(section) && has_bit(section.sh_flags, COMPRESSED_BIT) {
         return Err(ElfFault::Compressed {
@@ -171,7 +171,7 @@ fn check_compression(k: u16, section: &SectionHeader) -> Result<(), ElfFault>
 fn check_kinds(bytes: &[u8], header: &FileHeader) -> Result<(), ElfFault>
     requires header { header.now ≡ file_header bytes.now }
     requires headers { HasSectionHeaders bytes.now }
-    ensures { Tells result (section_kinds_fault bytes.now) }
+    ensures { Reports result (section_kinds_fault bytes.now) }
 {
     for k in 0..header.e_shnum {
         check_kind_at(bytes, header, k)?;
@@ -183,13 +183,13 @@ fn check_kind_at(bytes: &[u8], header: &FileHeader, k: u16) -> Result<(), ElfFau
     requires header { header.now ≡ file_header bytes.now }
     requires headers { HasSectionHeaders bytes.now }
     requires below { k < header.now.e_shnum }
-    ensures { Tells result (loaded_relocations_fault bytes.now k) }
+    ensures { Reports result (loaded_relocations_fault bytes.now k) }
 {
     check_kind(&section_header(bytes, header, k))
 }
 
 fn check_kind(section: &SectionHeader) -> Result<(), ElfFault>
-    ensures { Tells result (loaded_relocations_fault_of section.now) }
+    ensures { Reports result (loaded_relocations_fault_of section.now) }
 {
     let relocates = section.sh_type == SHT_REL
         || section.sh_type == SHT_RELA && section.sh_size > 0;
@@ -206,7 +206,7 @@ fn check_names(bytes: &[u8], header: &FileHeader) -> Result<(), ElfFault>
     requires header { header.now ≡ file_header bytes.now }
     requires headers { HasSectionHeaders bytes.now }
     requires contents { HasContents bytes.now }
-    ensures fault { Tells result (names_fault bytes.now) }
+    ensures fault { Reports result (names_fault bytes.now) }
     ensures table { OnOk result (HasNamesTable bytes.now) }
     ensures names { OnOk result (HasSectionNames bytes.now) }
 {
@@ -220,7 +220,7 @@ fn check_names(bytes: &[u8], header: &FileHeader) -> Result<(), ElfFault>
 fn check_names_table(bytes: &[u8], header: &FileHeader) -> Result<(), ElfFault>
     requires header { header.now ≡ file_header bytes.now }
     requires headers { HasSectionHeaders bytes.now }
-    ensures fault { Tells result (names_table_fault bytes.now) }
+    ensures fault { Reports result (names_table_fault bytes.now) }
     ensures table { OnOk result (IsTrue (names_section bytes.now is_string_table header.now.e_shstrndx)) }
 {
     if is_string_table(bytes, header, u32::from(header.e_shstrndx)) {
@@ -239,7 +239,7 @@ fn check_section_names(bytes: &[u8], header: &FileHeader) -> Result<(), ElfFault
     requires headers { HasSectionHeaders bytes.now }
     requires contents { HasContents bytes.now }
     requires table { IsTrue (names_section bytes.now is_string_table header.now.e_shstrndx) }
-    ensures fault { Tells result (section_names_fault bytes.now) }
+    ensures fault { Reports result (section_names_fault bytes.now) }
     ensures names { OnOk result (HasSectionNames bytes.now) }
 {
     let end = names_end(section_names(bytes, header));
@@ -260,7 +260,7 @@ fn check_section_name(
     requires headers { HasSectionHeaders bytes.now }
     requires below { k < header.now.e_shnum }
     requires end { (start : ℕ) → has_name (section_names bytes.now) start ≡ nat_lt start names_end }
-    ensures { Tells result (section_name_fault bytes.now k) }
+    ensures { Reports result (section_name_fault bytes.now k) }
 {
     let section = section_header(bytes, header, k);
     if (section.sh_name as usize) < names_end {

@@ -1,16 +1,16 @@
 ghost use Rattle.std.specs.Prelude.{◌≡◌, ℕ, ◌+◌, ◌*◌, ◌<◌, nat_lt, IsTrue, IfOk};
-ghost use Rattle.list_checks.specs.First.{Tells};
+ghost use Rattle.list_checks.specs.First.{Reports};
 ghost use Rattle.list_checks.specs.Tests.{any_below};
 ghost use Rattle.elf_reader.specs.Layout.{file_header, section_count, section_header};
 ghost use Rattle.elf_reader.specs.Sections.{is_table_at, is_string_table, names_section, has_name, symbol_table_below, symbol_table, symbol_count_of, symbol_names};
-ghost use Rattle.elf_reader.specs.SymbolChecks.{second_table_fault, one_table_fault, symbol_size_fault, shares_bytes, meets_section_headers, shared_table_fault, symbol_strings_fault, symbol_limit_fault, has_section, symbol_fault, symbol_entries_fault, symbol_table_fault, symbols_fault};
+ghost use Rattle.elf_reader.specs.SymbolChecks.{second_table_fault, one_table_fault, symbol_size_fault, shares_bytes, overlaps_section_headers, shared_table_fault, symbol_strings_fault, symbol_limit_fault, has_section, symbol_fault, symbol_entries_fault, symbol_table_fault, symbols_fault};
 ghost use Rattle.elf_reader.specs.Placed.{HasSectionHeaders, HasContents, HasSymbols};
 ghost use Rattle.elf_reader.specs.SymbolTables.{HasReadable};
 
 use crate::fault::ElfFault;
 use crate::kinds::SHT_SYMTAB;
 use crate::numbers::{field, limit, table};
-use crate::ranges::meet;
+use crate::ranges::intersect;
 use crate::records::{FileHeader, SECTION_HEADER_SIZE, SYMBOL_SIZE, SectionHeader, SymbolRecord};
 use crate::sections::{is_in_file, is_string_table, section_header};
 use crate::string_table::names_end;
@@ -27,7 +27,7 @@ pub(crate) fn check_symbols(bytes: &[u8], header: &FileHeader) -> Result<Option<
     requires header { header.now ≡ file_header bytes.now }
     requires headers { HasSectionHeaders bytes.now }
     requires contents { HasContents bytes.now }
-    ensures fault { Tells result (symbols_fault bytes.now) }
+    ensures fault { Reports result (symbols_fault bytes.now) }
     ensures table { IfOk result (λ table. table ≡ symbol_table bytes.now) }
     ensures readable { IfOk result (HasReadable bytes.now) }
 {
@@ -44,7 +44,7 @@ pub(crate) fn check_symbols(bytes: &[u8], header: &FileHeader) -> Result<Option<
 fn find_table(bytes: &[u8], header: &FileHeader) -> Result<Option<u16>, ElfFault>
     requires header { header.now ≡ file_header bytes.now }
     requires headers { HasSectionHeaders bytes.now }
-    ensures fault { Tells result (one_table_fault bytes.now) }
+    ensures fault { Reports result (one_table_fault bytes.now) }
     ensures table { IfOk result (λ table. table ≡ symbol_table bytes.now) }
 {
     let mut table = None;
@@ -65,7 +65,7 @@ fn table_after(
     requires headers { HasSectionHeaders bytes.now }
     requires below { k < header.now.e_shnum }
     requires earlier { earlier ≡ symbol_table_below bytes.now k }
-    ensures fault { Tells result (second_table_fault bytes.now k) }
+    ensures fault { Reports result (second_table_fault bytes.now k) }
     ensures table { IfOk result (λ table. table ≡ symbol_table_below bytes.now (k + 1)) }
 {
     if section_header(bytes, header, k).sh_type != SHT_SYMTAB {
@@ -86,7 +86,7 @@ fn check_table(bytes: &[u8], header: &FileHeader, table: u16) -> Result<(), ElfF
     requires contents { HasContents bytes.now }
     requires below { table < header.now.e_shnum }
     requires table { IsTrue (is_table_at bytes.now table) }
-    ensures { Tells result (symbol_table_fault bytes.now table) }
+    ensures { Reports result (symbol_table_fault bytes.now table) }
 {
     check_size(&section_header(bytes, header, table))?;
     check_shared(bytes, header, table)?;
@@ -96,7 +96,7 @@ fn check_table(bytes: &[u8], header: &FileHeader, table: u16) -> Result<(), ElfF
 }
 
 fn check_size(section: &SectionHeader) -> Result<(), ElfFault>
-    ensures { Tells result (symbol_size_fault section.now) }
+    ensures { Reports result (symbol_size_fault section.now) }
 {
     let size = SYMBOL_SIZE as u32;
     if section.sh_entsize != size || section.sh_size % size != 0 {
@@ -112,10 +112,10 @@ fn check_shared(bytes: &[u8], header: &FileHeader, table: u16) -> Result<(), Elf
     requires header { header.now ≡ file_header bytes.now }
     requires headers { HasSectionHeaders bytes.now }
     requires below { table < header.now.e_shnum }
-    ensures { Tells result (shared_table_fault bytes.now table) }
+    ensures { Reports result (shared_table_fault bytes.now table) }
 {
     let section = section_header(bytes, header, table);
-    if meets_section_headers(bytes, header, &section) || shares_some(bytes, header, table) {
+    if overlaps_section_headers(bytes, header, &section) || shares_some(bytes, header, table) {
         return Err(ElfFault::WrongKind {
             field: field::SHARED_SYMBOL_TABLE,
             value: u32::from(table),
@@ -125,12 +125,12 @@ fn check_shared(bytes: &[u8], header: &FileHeader, table: u16) -> Result<(), Elf
 }
 
 /// The content of a section meets the table of section headers.
-fn meets_section_headers(bytes: &[u8], header: &FileHeader, section: &SectionHeader) -> bool
+fn overlaps_section_headers(bytes: &[u8], header: &FileHeader, section: &SectionHeader) -> bool
     requires { header.now ≡ file_header bytes.now }
-    ensures { result ≡ meets_section_headers bytes.now section.now }
+    ensures { result ≡ overlaps_section_headers bytes.now section.now }
 {
     let size = SECTION_HEADER_SIZE as u32 * u32::from(header.e_shnum);
-    meet(section.sh_offset, section.sh_size, header.e_shoff, size)
+    intersect(section.sh_offset, section.sh_size, header.e_shoff, size)
 }
 
 /// The content of some other section meets that of section `table`.
@@ -160,7 +160,7 @@ fn shares_bytes(bytes: &[u8], header: &FileHeader, table: u16, k: u16) -> bool
     let other = section_header(bytes, header, k);
     k != table
         && is_in_file(other.sh_type)
-        && meet(
+        && intersect(
             section.sh_offset,
             section.sh_size,
             other.sh_offset,
@@ -172,7 +172,7 @@ fn check_strings(bytes: &[u8], header: &FileHeader, table: u16) -> Result<(), El
     requires header { header.now ≡ file_header bytes.now }
     requires headers { HasSectionHeaders bytes.now }
     requires below { table < header.now.e_shnum }
-    ensures { Tells result (symbol_strings_fault bytes.now table) }
+    ensures { Reports result (symbol_strings_fault bytes.now table) }
 {
     let link = section_header(bytes, header, table).sh_link;
     if is_string_table(bytes, header, link) {
@@ -186,7 +186,7 @@ fn check_strings(bytes: &[u8], header: &FileHeader, table: u16) -> Result<(), El
 }
 
 fn check_limit(section: &SectionHeader) -> Result<(), ElfFault>
-    ensures { Tells result (symbol_limit_fault section.now) }
+    ensures { Reports result (symbol_limit_fault section.now) }
 {
     let count = symbol_count_of(section);
     if count > MAX_SYMBOLS {
@@ -205,7 +205,7 @@ fn check_entries(bytes: &[u8], header: &FileHeader, table: u16) -> Result<(), El
     requires below { table < header.now.e_shnum }
     requires places { HasSymbols bytes.now table }
     requires strings { IsTrue (names_section bytes.now is_string_table (section_header bytes.now table).sh_link) }
-    ensures { Tells result (symbol_entries_fault bytes.now table) }
+    ensures { Reports result (symbol_entries_fault bytes.now table) }
 {
     let end = names_end(symbol_names(bytes, header, table));
     let count = symbol_count_of(&section_header(bytes, header, table));
@@ -229,7 +229,7 @@ fn check_symbol(
     requires places { HasSymbols bytes.now table }
     requires names { (start : ℕ) → has_name (symbol_names bytes.now table) start ≡ nat_lt start names_end }
     requires entry { i < symbol_count_of (section_header bytes.now table) }
-    ensures { Tells result (symbol_fault bytes.now table i) }
+    ensures { Reports result (symbol_fault bytes.now table i) }
 {
     let symbol = symbol_record(bytes, header, table, i);
     if (symbol.st_name as usize) < names_end && has_section(header.e_shnum, &symbol) {

@@ -136,10 +136,10 @@ changes_step one all xs i d out next whole split below made so_far =
     let rest = drop (i + 1) xs in
     let x = get_or xs i d in
     let more : changed (all (drop i xs)) 0 out ≡ changed (all (x ∷ rest)) 0 out = at_drop_more (λ ys. changed (all ys) 0 out) xs i d below in
-    let apart : changed (all (x ∷ rest)) 0 out ≡ changed (one x ++ all rest) 0 out = ap (λ cs. changed cs 0 out) (split x rest) in
+    let disjoint : changed (all (x ∷ rest)) 0 out ≡ changed (one x ++ all rest) 0 out = ap (λ cs. changed cs 0 out) (split x rest) in
     let one_by_one : changed (one x ++ all rest) 0 out ≡ changed (all rest) 0 (changed (one x) 0 out) = changed-append (one x) (all rest) 0 out in
     let there : changed (all rest) 0 next ≡ changed (all rest) 0 (changed (one x) 0 out) = ap (changed (all rest) 0) made in
-    there ∙ (sym one_by_one ∙ (sym apart ∙ (sym more ∙ so_far)))
+    there ∙ (sym one_by_one ∙ (sym disjoint ∙ (sym more ∙ so_far)))
 
 pub changes_end : {X : Type 0} (all : List X → List Change) (xs : List X) (i : ℕ) (out whole : List ℕ) → all [] ≡ [] → length xs ≤ i → changed (all (drop i xs)) 0 out ≡ whole → out ≡ whole
 changes_end all xs i out whole none past so_far =

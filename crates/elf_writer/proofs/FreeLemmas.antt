@@ -3,7 +3,7 @@ use Rattle.std.proofs.Common.{◌≡◌, ◌∙◌, ℕ, suc, ◌+◌, ◌<◌, 
 use Rattle.std.specs.List.{All}
 use Rattle.std.proofs.lemmas.Bool.Decides.{nat_tests}
 use Rattle.std.proofs.lemmas.List.Elements.{All-nil, All-head, All-tail, All-append, All-map, All-push}
-use Rattle.list_checks.specs.Tests.{meets}
+use Rattle.list_checks.specs.Tests.{ranges_overlap}
 use Rattle.elf_writer.specs.Pieces.{half_bytes, word_bytes}
 use Rattle.elf_reader.specs.File.{PlainSymbol, PlainView}
 use Rattle.elf_writer.specs.declared.parts.Patch.{Patch}
@@ -88,9 +88,9 @@ header_free v s q behind =
 -- ---- ranges
 
 -- a place of one of two ranges that don't meet is in no part of the other
-pub apart_places : (b m c n q at k : ℕ) → meets b m c n ≡ false → c ≤ q → q < c + n → b ≤ at → at + k ≤ b + m → within at k q ≡ false
-apart_places b m c n q at k apart from to starts ends = grind (arith, nat_tests, apart, from, to, starts, ends)
+pub disjoint_places : (b m c n q at k : ℕ) → ranges_overlap b m c n ≡ false → c ≤ q → q < c + n → b ≤ at → at + k ≤ b + m → within at k q ≡ false
+disjoint_places b m c n q at k disjoint from to starts ends = grind (arith, nat_tests, disjoint, from, to, starts, ends)
 
 -- a place of a range that doesn't meet the first 52 is behind them
-pub behind_header : (c n q : ℕ) → meets c n 0 52 ≡ false → c ≤ q → q < c + n → 52 ≤ q
-behind_header c n q apart from to = grind (arith, nat_tests, apart, from, to)
+pub behind_header : (c n q : ℕ) → ranges_overlap c n 0 52 ≡ false → c ≤ q → q < c + n → 52 ≤ q
+behind_header c n q disjoint from to = grind (arith, nat_tests, disjoint, from, to)

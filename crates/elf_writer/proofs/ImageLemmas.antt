@@ -5,12 +5,12 @@ use Rattle.std.proofs.lemmas.Bool.{cases_Bool, cases_lt, cond_both, cond-true, c
 use Rattle.std.proofs.lemmas.Bool.Decides.{nat_tests}
 use Rattle.std.proofs.lemmas.List.{get_or-map, length-map}
 use Rattle.std.proofs.lemmas.List.Elements.{All-head, All-tail, All-map}
-use Rattle.list_checks.specs.Tests.{meets}
+use Rattle.list_checks.specs.Tests.{ranges_overlap}
 use Rattle.elf_reader.specs.File.{PlainSegment, PlainView, view_in}
 use Rattle.elf_reader.specs.Image.{has_byte, image_of}
-use Rattle.elf_reader.specs.Loadable.{AreApart}
+use Rattle.elf_reader.specs.Loadable.{AreDisjoint}
 use Rattle.elf_reader.specs.Loaded.{no_segment, segment_at}
-use Rattle.elf_reader.proofs.SegmentLemmas.{none_of_headers, load_segments_apart}
+use Rattle.elf_reader.proofs.SegmentLemmas.{none_of_headers, load_segments_disjoint}
 use Rattle.elf_reader.proofs.LoadedLemmas.{IsPlaced, load_segments_placed, nth_segment, image_without, image_at, HasAddress, only_segment}
 use Rattle.elf_writer.specs.Changes.{Change, byte_changed, changed}
 use Rattle.elf_writer.specs.Parts.{NewSegment}
@@ -71,10 +71,10 @@ has_address file s a placed has =
     record { from = has_from s a has; to = omega (arith, to, fits) }
 
 -- the byte of the one segment that has one
-pub one_image : (file : List ℕ) (ss : List PlainSegment) (g a : ℕ) → AreApart ss → All (IsPlaced file) ss → g < length ss → has_byte (nth_segment ss g) a ≡ true → image_of ss a ≡ slice_index (nth_segment ss g).content (a - (nth_segment ss g).vaddr)
-one_image file ss g a apart placed below has =
+pub one_image : (file : List ℕ) (ss : List PlainSegment) (g a : ℕ) → AreDisjoint ss → All (IsPlaced file) ss → g < length ss → has_byte (nth_segment ss g) a ≡ true → image_of ss a ≡ slice_index (nth_segment ss g).content (a - (nth_segment ss g).vaddr)
+one_image file ss g a disjoint placed below has =
     let address = has_address file (nth_segment ss g) a (placed g no_segment below) has in
-    image_at ss g a below has (only_segment file ss apart placed g a below address)
+    image_at ss g a below has (only_segment file ss disjoint placed g a below address)
 
 changed_byte : (cs : List Change) (s : PlainSegment) (a : ℕ) → has_byte s a ≡ true → slice_index (changed cs s.offset s.content) (a - s.vaddr) ≡ byte_changed cs (s.offset + (a - s.vaddr)) (slice_index s.content (a - s.vaddr))
 changed_byte cs s a has =
@@ -82,21 +82,21 @@ changed_byte cs s a has =
     let to = has_to s a has in
     changed_at cs s.offset s.content (a - s.vaddr) (omega (arith, from, to))
 
-pub changed_image : (file : List ℕ) (cs : List Change) (ss : List PlainSegment) (g a : ℕ) → AreApart ss → All (IsPlaced file) ss → g < length ss → has_byte (nth_segment ss g) a ≡ true → image_of (map (changed_segment cs) ss) a ≡ byte_changed cs ((nth_segment ss g).offset + (a - (nth_segment ss g).vaddr)) (image_of ss a)
-changed_image file cs ss g a apart placed below has =
+pub changed_image : (file : List ℕ) (cs : List Change) (ss : List PlainSegment) (g a : ℕ) → AreDisjoint ss → All (IsPlaced file) ss → g < length ss → has_byte (nth_segment ss g) a ≡ true → image_of (map (changed_segment cs) ss) a ≡ byte_changed cs ((nth_segment ss g).offset + (a - (nth_segment ss g).vaddr)) (image_of ss a)
+changed_image file cs ss g a disjoint placed below has =
     let s = nth_segment ss g in
     let address = has_address file s a (placed g no_segment below) has in
     let size : length (map (changed_segment cs) ss) ≡ length ss = length-map ss (changed_segment cs) in
     let only : (h : ℕ) → h < length (map (changed_segment cs) ss) → has_byte (nth_segment (map (changed_segment cs) ss) h) a ≡ true → h ≡ g =
     λ h below_h has_h.
     let within_h : h < length ss = omega (arith, size, below_h) in
-    only_segment file ss apart placed g a below address h within_h (sym (changed_nth_has cs ss h a within_h) ∙ has_h)
+    only_segment file ss disjoint placed g a below address h within_h (sym (changed_nth_has cs ss h a within_h) ∙ has_h)
     in
     let here = image_at (map (changed_segment cs) ss) g a (omega (arith, size, below)) (changed_nth_has cs ss g a below ∙ has) only in
     here
     ∙ (ap (λ (t : PlainSegment). slice_index t.content (a - t.vaddr)) (changed_nth cs ss g below)
     ∙ (changed_byte cs s a has
-    ∙ ap (byte_changed cs (s.offset + (a - s.vaddr))) (sym (one_image file ss g a apart placed below has))))
+    ∙ ap (byte_changed cs (s.offset + (a - s.vaddr))) (sym (one_image file ss g a disjoint placed below has))))
 
 changed_without : (cs : List Change) (ss : List PlainSegment) (a : ℕ) → ((g : ℕ) → g < length ss → has_byte (nth_segment ss g) a ≡ false) → image_of (map (changed_segment cs) ss) a ≡ 0
 changed_without cs ss a none =
@@ -112,7 +112,7 @@ changed_without cs ss a none =
 is_added : (v : PlainView) (s : NewSegment) (a : ℕ) → s.base ≤ a → a < s.base + length s.content → has_byte (added_segment v s) a ≡ true
 is_added v s a from to = grind (arith, nat_tests, from, to)
 
-clear_false : (b m c n a : ℕ) → meets b m c n ≡ false → c ≤ a → a < c + n → b ≤ a → a < b + m → ⊥
+clear_false : (b m c n a : ℕ) → ranges_overlap b m c n ≡ false → c ≤ a → a < c + n → b ≤ a → a < b + m → ⊥
 clear_false b m c n a clear from to starts ends = grind (arith, nat_tests, clear, from, to, starts, ends)
 
 no_byte_there : (file : List ℕ) (s : NewSegment) (t : PlainSegment) (a : ℕ) → IsPlaced file t → IsClearOf s t → s.base ≤ a → a < s.base + length s.content → has_byte t a ≡ false
@@ -153,14 +153,14 @@ added_off file v s t a placed clear has =
 pub changed_bytes_loaded : ChangedBytesLoaded
 changed_bytes_loaded file ps None ms g a none is below has =
     let held = none_of_headers file none in
-    changed_image file (all_changes (view_in file) ps None ms) (view_in file).segments g a (load_segments_apart file held) (load_segments_placed file held) below has
+    changed_image file (all_changes (view_in file) ps None ms) (view_in file).segments g a (load_segments_disjoint file held) (load_segments_placed file held) below has
 changed_bytes_loaded file ps (Some s) ms g a none is below has =
     let v = view_in file in
     let cs = all_changes v ps (Some s) ms in
     let held = none_of_headers file none in
     let placed = load_segments_placed file held in
     added_other (added_segment v s) (map (changed_segment cs) v.segments) a (added_off file v s (segment_at v g) a (placed g no_segment below) (is.allowed.clear g no_segment below) has)
-    ∙ changed_image file cs v.segments g a (load_segments_apart file held) placed below has
+    ∙ changed_image file cs v.segments g a (load_segments_disjoint file held) placed below has
 
 pub zeros_loaded : ZerosLoaded
 zeros_loaded file ps None ms a outside none = changed_without (all_changes (view_in file) ps None ms) (view_in file).segments a none

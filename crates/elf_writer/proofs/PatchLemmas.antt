@@ -4,7 +4,7 @@ use Rattle.std.specs.List.{All, AllPairs}
 use Rattle.std.proofs.lemmas.Bool.{eqb-true, cases_Bool}
 use Rattle.std.proofs.lemmas.Bool.Decides.{nat_tests}
 use Rattle.std.proofs.lemmas.List.Elements.{All-append}
-use Rattle.list_checks.specs.Tests.{any_below, meets}
+use Rattle.list_checks.specs.Tests.{any_below, ranges_overlap}
 use Rattle.list_checks.proofs.TestLemmas.{neither, none_at}
 use Rattle.elf_writer.specs.Pieces.{word_bytes}
 use Rattle.elf_reader.specs.Layout.{section_count, section_header}
@@ -19,7 +19,7 @@ use Rattle.elf_writer.specs.declared.parts.SymbolMove.{SymbolMove}
 use Rattle.elf_writer.specs.Changes.{changes_place, byte_after, byte_changed, IsUntouched, within}
 use Rattle.elf_writer.specs.Parts.{NewSegment, patch_change, moves_changes, content_changes, header_changes}
 use Rattle.elf_writer.specs.Written.{all_changes}
-use Rattle.elf_writer.specs.Conditions.{ArePatchesApart, HasSymbol, IsWritable}
+use Rattle.elf_writer.specs.Conditions.{ArePatchesDisjoint, HasSymbol, IsWritable}
 use Rattle.elf_writer.specs.Images.{file_place, in_symbol_table, is_changed_place, IsUnpatched, OthersUntouched, PatchesLoaded, StandsAt, WordsLoaded, holds_changed_byte, OthersLoaded}
 use Rattle.elf_writer.proofs.ChangeLemmas.{byte_changed-append}
 use Rattle.elf_writer.proofs.FreeLemmas.{free_stays, patches_free, IsOffRecord, moves_free, header_free, behind_header}
@@ -75,12 +75,12 @@ others_untouched file ps (Some s) ms q none is unpatched other =
 
 -- ---- patched words
 
-apart_off : (p r : Patch) (q i : ℕ) → ArePatchesApart p r → p.offset + i ≡ q → i < 4 → within r.offset 4 q ≡ false
-apart_off p r q i (inl before) is below = grind (arith, nat_tests, before, is, below)
-apart_off p r q i (inr behind) is below = grind (arith, nat_tests, behind, is, below)
+disjoint_off : (p r : Patch) (q i : ℕ) → ArePatchesDisjoint p r → p.offset + i ≡ q → i < 4 → within r.offset 4 q ≡ false
+disjoint_off p r q i (inl before) is below = grind (arith, nat_tests, before, is, below)
+disjoint_off p r q i (inr behind) is below = grind (arith, nat_tests, behind, is, below)
 
-pairs_tail : (p : Patch) (ps : List Patch) → AllPairs ArePatchesApart (p ∷ ps) → AllPairs ArePatchesApart ps
-pairs_tail p ps apart i j d before below = apart (suc i) (suc j) d (omega (arith, before)) (omega (arith, below))
+pairs_tail : (p : Patch) (ps : List Patch) → AllPairs ArePatchesDisjoint (p ∷ ps) → AllPairs ArePatchesDisjoint ps
+pairs_tail p ps disjoint i j d before below = disjoint (suc i) (suc j) d (omega (arith, before)) (omega (arith, below))
 
 patch_here : (p : Patch) (q i old : ℕ) → p.offset + i ≡ q → i < 4 → byte_after (patch_change p) q old ≡ slice_index (word_bytes p.word) i
 patch_here p q i old is below =
@@ -89,18 +89,18 @@ patch_here p q i old is below =
     rw here (ap (slice_index (word_bytes p.word)) same)
 
 -- the patch alone changes its places
-patched_byte : (ps : List Patch) (j : ℕ) (d : Patch) (q i old : ℕ) → AllPairs ArePatchesApart ps → j < length ps → (get_or ps j d).offset + i ≡ q → i < 4 → byte_changed (map patch_change ps) q old ≡ slice_index (word_bytes (get_or ps j d).word) i
-patched_byte [] j d q i old apart below is within_word = absurd (omega (arith, below))
-patched_byte (p ∷ ps) zero d q i old apart below is within_word =
+patched_byte : (ps : List Patch) (j : ℕ) (d : Patch) (q i old : ℕ) → AllPairs ArePatchesDisjoint ps → j < length ps → (get_or ps j d).offset + i ≡ q → i < 4 → byte_changed (map patch_change ps) q old ≡ slice_index (word_bytes (get_or ps j d).word) i
+patched_byte [] j d q i old disjoint below is within_word = absurd (omega (arith, below))
+patched_byte (p ∷ ps) zero d q i old disjoint below is within_word =
     let rest : IsUntouched (map patch_change ps) q =
-    patches_free ps q (λ k e inside. apart_off p (get_or ps k e) q i (apart 0 (suc k) e (omega arith) (omega (arith, inside))) is within_word)
+    patches_free ps q (λ k e inside. disjoint_off p (get_or ps k e) q i (disjoint 0 (suc k) e (omega arith) (omega (arith, inside))) is within_word)
     in
     free_stays (map patch_change ps) q (byte_after (patch_change p) q old) rest ∙ patch_here p q i old is within_word
-patched_byte (p ∷ ps) (suc j) d q i old apart below is within_word =
-    patched_byte ps j d q i (byte_after (patch_change p) q old) (pairs_tail p ps apart) (omega (arith, below)) is within_word
+patched_byte (p ∷ ps) (suc j) d q i old disjoint below is within_word =
+    patched_byte ps j d q i (byte_after (patch_change p) q old) (pairs_tail p ps disjoint) (omega (arith, below)) is within_word
 
-part_apart : (b m c n at k : ℕ) → meets b m c n ≡ false → c ≤ at → at + k ≤ c + n → meets b m at k ≡ false
-part_apart b m c n at k apart starts ends = grind (arith, nat_tests, apart, starts, ends)
+part_disjoint : (b m c n at k : ℕ) → ranges_overlap b m c n ≡ false → c ≤ at → at + k ≤ c + n → ranges_overlap b m at k ≡ false
+part_disjoint b m c n at k disjoint starts ends = grind (arith, nat_tests, disjoint, starts, ends)
 
 -- no moved symbol touches a patched word
 word_off_table : (file : List ℕ) (at k : ℕ) → PatchedSection file at k → OffTable file at 4
@@ -109,7 +109,7 @@ word_off_table file at k place t own =
     let h = section_header file t in
     let stands : stands_in_file s.sh_type ≡ true = ap stands_in_file place.own.kind in
     let differ = kinds_differ file k t 1 2 place.own.kind own.kind (λ e. omega (arith, e)) in
-    part_apart h.sh_offset h.sh_size s.sh_offset s.sh_size at 4 (own.others k place.own.below differ stands) place.from place.to
+    part_disjoint h.sh_offset h.sh_size s.sh_offset s.sh_size at 4 (own.others k place.own.below differ stands) place.from place.to
 
 word_behind_header : (file : List ℕ) (at k q : ℕ) → first_fault file ≡ None → PatchedSection file at k → at ≤ q → q < at + 4 → 52 ≤ q
 word_behind_header file at k q none place from to =
@@ -127,7 +127,7 @@ word_in_contents file ps new ms j d i q k old none is below place is_place withi
     let free = off_moves file ms at 4 q none is.symbols (word_off_table file at k place) (omega (arith, is_place)) (omega (arith, is_place, within_word)) in
     byte_changed-append (map patch_change ps) (moves_changes v.symbols ms) q old
     ∙ (free_stays (moves_changes v.symbols ms) q (byte_changed (map patch_change ps) q old) free
-    ∙ patched_byte ps j d q i old is.apart below is_place within_word)
+    ∙ patched_byte ps j d q i old is.disjoint below is_place within_word)
 
 pub word_written : (file : List ℕ) (ps : List Patch) (new : Option NewSegment) (ms : List SymbolMove) (j : ℕ) (d : Patch) (i q old : ℕ) → first_fault file ≡ None → IsWritable (view_in file) ps new ms → j < length ps → (get_or ps j d).offset + i ≡ q → i < 4
     → byte_changed (all_changes (view_in file) ps new ms) q old ≡ slice_index (word_bytes (get_or ps j d).word) i
@@ -180,11 +180,11 @@ same_off : (x a at place : ℕ) → within x 4 a ≡ false → at + a ≡ place 
 same_off x a at place off same = grind (arith, nat_tests, off, same)
 
 -- by another one, whose bytes the section doesn't meet
-other_off : (b m c n at q : ℕ) → meets b m c n ≡ false → b ≤ at → at + 4 ≤ b + m → c ≤ q → q < c + n → within at 4 q ≡ false
-other_off b m c n at q apart starts ends from to = grind (arith, nat_tests, apart, starts, ends, from, to)
+other_off : (b m c n at q : ℕ) → ranges_overlap b m c n ≡ false → b ≤ at → at + 4 ≤ b + m → c ≤ q → q < c + n → within at 4 q ≡ false
+other_off b m c n at q disjoint starts ends from to = grind (arith, nat_tests, disjoint, starts, ends, from, to)
 
-differs_meet : (same meet : Bool) → not same && meet ≡ false → same ≡ false → meet ≡ false
-differs_meet same meet none differs = grind arith
+differs_overlap : (same overlap : Bool) → not same && overlap ≡ false → same ≡ false → overlap ≡ false
+differs_overlap same overlap none differs = grind arith
 
 address_off : (v : PlainView) (p : Patch) (k x a g : ℕ) → g < length v.segments → has_byte (segment_at v g) a ≡ true → StandsAt v p k x → within x 4 a ≡ false → within p.offset 4 (file_place v a g) ≡ false
 address_off v p k x a g below has stands off =
@@ -207,8 +207,8 @@ address_off v p k x a g below has stands off =
           let there : file_place v a g ≡ file_place v a h = ap (file_place v a) same in
           same_off x a p.offset (file_place v a g) off (omega (arith, there, place, starts, aligned, from, low))
       | inr other ↦
-          let apart = differs_meet (g == h) (meets s.offset s.size u.offset (length u.content)) (filled.own.segment g below) other in
-          other_off s.offset s.size u.offset (length u.content) p.offset (file_place v a g) apart (omega (arith, place)) (omega (arith, place, from, to))
+          let disjoint = differs_overlap (g == h) (ranges_overlap s.offset s.size u.offset (length u.content)) (filled.own.segment g below) other in
+          other_off s.offset s.size u.offset (length u.content) p.offset (file_place v a g) disjoint (omega (arith, place)) (omega (arith, place, from, to))
           (omega arith) (omega (arith, has_low, has_high))
     ]
 

@@ -3,7 +3,7 @@ use Rattle.std.proofs.Common.{◌≡◌, ◌∙◌, inl, inr, ℕ, ◌+◌, ◌*
 use Rattle.std.specs.List.{All}
 use Rattle.std.proofs.lemmas.Bool.{eqb-true, cases_Bool}
 use Rattle.std.proofs.lemmas.List.Elements.{All-append}
-use Rattle.list_checks.specs.Tests.{meets}
+use Rattle.list_checks.specs.Tests.{ranges_overlap}
 use Rattle.elf_reader.specs.Layout.{file_header, section_count, section_header}
 use Rattle.elf_reader.specs.Sections.{stands_in_file}
 use Rattle.elf_reader.specs.File.{PlainView, view_in}
@@ -16,22 +16,22 @@ use Rattle.elf_writer.specs.Written.{all_changes, written}
 use Rattle.elf_writer.specs.Conditions.{PatchesLoadedWord, HasSymbol, IsWritable}
 use Rattle.elf_writer.proofs.WrittenLemmas.{bytes_written, ranges_written}
 use Rattle.elf_writer.proofs.AlikeLemmas.{Alike}
-use Rattle.elf_writer.proofs.FreeLemmas.{free_stays, free_range, patches_free, IsOffRecord, moves_free, header_free, apart_places, behind_header}
+use Rattle.elf_writer.proofs.FreeLemmas.{free_stays, free_range, patches_free, IsOffRecord, moves_free, header_free, disjoint_places, behind_header}
 use Rattle.elf_writer.proofs.PlaceLemmas.{content_off_header, headers_off_header, OwnSection, patched_section, OwnTable, own_table, moved_record}
 
 -- the range meets no section that may be patched
 abbrev pub OffSections : List ℕ → ℕ → ℕ → Type 0
 OffSections file c n =
-    (k : ℕ) → OwnSection file k → meets (section_header file k).sh_offset (section_header file k).sh_size c n ≡ false
+    (k : ℕ) → OwnSection file k → ranges_overlap (section_header file k).sh_offset (section_header file k).sh_size c n ≡ false
 
 -- nor the symbol table
 abbrev pub OffTable : List ℕ → ℕ → ℕ → Type 0
 OffTable file c n =
-    (t : ℕ) → OwnTable file t → meets (section_header file t).sh_offset (section_header file t).sh_size c n ≡ false
+    (t : ℕ) → OwnTable file t → ranges_overlap (section_header file t).sh_offset (section_header file t).sh_size c n ≡ false
 
 -- nor the ELF header
 pub record StaysOff (file : List ℕ) (c n : ℕ) : Type 0 where
-  pub header : meets c n 0 52 ≡ false
+  pub header : ranges_overlap c n 0 52 ≡ false
   pub sections : OffSections file c n
   pub table : OffTable file c n
 
@@ -40,7 +40,7 @@ off_patches file ps c n q patched off from to =
     patches_free ps q (λ i d below.
     let at = (get_or ps i d).offset in
     let (k, place) = patched_section file at (patched i d below) in
-    apart_places (section_header file k).sh_offset (section_header file k).sh_size c n q at 4 (off k place.own) from to place.from place.to)
+    disjoint_places (section_header file k).sh_offset (section_header file k).sh_size c n q at 4 (off k place.own) from to place.from place.to)
 
 off_record : (file : List ℕ) (m : SymbolMove) (c n q : ℕ) → first_fault file ≡ None → HasSymbol (view_in file) m → OffTable file c n → c ≤ q → q < c + n → IsOffRecord (view_in file).symbols q m
 off_record file m c n q none has off from to =
@@ -49,8 +49,8 @@ off_record file m c n q none has off from to =
     let at = s.sh_offset + 16 * m.symbol in
     let below : m.symbol < s.sh_size / 16 = moved.below in
     let ends : at + 16 ≤ s.sh_offset + s.sh_size = omega (arith, below) in
-    let apart = apart_places s.sh_offset s.sh_size c n q at 16 (off t (own_table file t none moved.found)) from to (omega arith) ends in
-    subst (λ (place : ℕ). within place 16 q ≡ false) (sym moved.place) apart
+    let disjoint = disjoint_places s.sh_offset s.sh_size c n q at 16 (off t (own_table file t none moved.found)) from to (omega arith) ends in
+    subst (λ (place : ℕ). within place 16 q ≡ false) (sym moved.place) disjoint
 
 pub off_moves : (file : List ℕ) (ms : List SymbolMove) (c n q : ℕ) → first_fault file ≡ None → All (HasSymbol (view_in file)) ms → OffTable file c n → c ≤ q → q < c + n → IsUntouched (moves_changes (view_in file).symbols ms) q
 off_moves file ms c n q none has off from to =

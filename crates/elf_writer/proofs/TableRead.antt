@@ -2,7 +2,7 @@
 use Rattle.std.proofs.Common.{◌≡◌, ◌∙◌, ℕ, ◌+◌, ◌-◌, ◌*◌, ◌<◌, ◌≤◌, ◌==◌, Bool, true, false, not, ◌&&◌, List, [], ◌∷◌, ◌++◌, map, length, slice_range, Some, None, refl, ap, subst, arith}
 use Rattle.std.specs.List.{All}
 use Rattle.std.proofs.lemmas.List.Elements.{All-nil, All-append}
-use Rattle.list_checks.specs.Tests.{meets}
+use Rattle.list_checks.specs.Tests.{ranges_overlap}
 use Rattle.elf_writer.specs.Pieces.{zero_bytes, padding}
 use Rattle.elf_writer.proofs.ZeroLemmas.{length-zero_bytes}
 use Rattle.elf_writer.proofs.Standing.{Stands, stands_whole, stands_first, stands_behind, byte_there, words_there}
@@ -26,8 +26,8 @@ use Rattle.elf_writer.proofs.HeaderRead.{header_is}
 
 -- ---- without a segment they stay where they are
 
-without_headers : (kind meet : Bool) → not (kind && meet) ≡ true → kind ≡ true → meet ≡ false
-without_headers kind meet keeps is = grind arith
+without_headers : (kind overlap : Bool) → not (kind && overlap) ≡ true → kind ≡ true → overlap ≡ false
+without_headers kind overlap keeps is = grind arith
 
 kept_headers : (file : List ℕ) → All (KeepsProgramHeaders (view_in file)) (view_in file).sections → OffTable file (file_header file).e_phoff (32 * program_header_count file)
 kept_headers file keeps t own =
@@ -37,7 +37,7 @@ kept_headers file keeps t own =
     let here = keeps t no_section (omega (arith, count, below)) in
     let plain = subst (λ (s : PlainSection). keeps_program_headers v s ≡ true) (section_is file t own.below) here in
     let s = section_header file t in
-    without_headers (s.sh_type == 2) (meets s.sh_offset s.sh_size v.ph_at (32 * v.ph_count)) plain (ap (λ n. n == 2) own.kind)
+    without_headers (s.sh_type == 2) (ranges_overlap s.sh_offset s.sh_size v.ph_at (32 * v.ph_count)) plain (ap (λ n. n == 2) own.kind)
 
 table_free : (file : List ℕ) (ps : List Patch) (ms : List SymbolMove) (q : ℕ) → first_fault file ≡ None → IsWritable (view_in file) ps None ms → (file_header file).e_phoff ≤ q → q < (file_header file).e_phoff + 32 * program_header_count file → IsUntouched (all_changes (view_in file) ps None ms) q
 table_free file ps [] q none is from to =

@@ -1,7 +1,7 @@
 -- What may be written into a file.
 use Rattle.std.specs.Prelude.{◌≡◌, ◌≢◌, ◌⊎◌, ℕ, ◌+◌, ◌*◌, ◌<◌, ◌≤◌, ◌==◌, Bool, false, not, ◌&&◌, IsTrue, List, [], ◌∷◌, length, Option, Some, None, All}
 use Rattle.std.specs.List.{AllPairs}
-use Rattle.list_checks.specs.Tests.{any_below, lies_in, meets}
+use Rattle.list_checks.specs.Tests.{any_below, lies_in, ranges_overlap}
 use Rattle.elf_reader.specs.File.{PlainSegment, PlainSection, PlainView}
 use Rattle.elf_reader.specs.Loaded.{section_at, is_loaded}
 use Rattle.elf_writer.specs.declared.parts.Patch.{Patch}
@@ -23,8 +23,8 @@ abbrev pub PatchesLoadedWord : PlainView → Patch → Type 0
 PatchesLoadedWord v p = IsTrue (is_loaded_word v p.offset)
 
 -- two words share no byte
-abbrev pub ArePatchesApart : Patch → Patch → Type 0
-ArePatchesApart p q = (p.offset + 4 ≤ q.offset) ⊎ (q.offset + 4 ≤ p.offset)
+abbrev pub ArePatchesDisjoint : Patch → Patch → Type 0
+ArePatchesDisjoint p q = (p.offset + 4 ≤ q.offset) ⊎ (q.offset + 4 ≤ p.offset)
 
 -- the view has a symbol of this number
 abbrev pub HasSymbol : PlainView → SymbolMove → Type 0
@@ -35,14 +35,14 @@ AreOfTwoSymbols m n = m.symbol ≢ n.symbol
 
 -- a section that is no symbol table (SHT_SYMTAB, 2), or whose bytes meet no program header
 abbrev pub keeps_program_headers : PlainView → PlainSection → Bool
-keeps_program_headers v s = not ((s.kind == 2) && meets s.offset s.size v.ph_at (32 * v.ph_count))
+keeps_program_headers v s = not ((s.kind == 2) && ranges_overlap s.offset s.size v.ph_at (32 * v.ph_count))
 
 abbrev pub KeepsProgramHeaders : PlainView → PlainSection → Type 0
 KeepsProgramHeaders v s = IsTrue (keeps_program_headers v s)
 
 -- a segment shares no address with the new one
 abbrev pub IsClearOf : NewSegment → PlainSegment → Type 0
-IsClearOf n s = meets s.vaddr s.memsz n.base (length n.content) ≡ false
+IsClearOf n s = ranges_overlap s.vaddr s.memsz n.base (length n.content) ≡ false
 
 -- a segment that can be added: it isn't empty, shares no address with another, ends below 2 ^ 32, begins
 -- execution at a 32-bit address, and the count of program headers is from 1 to 63
@@ -64,7 +64,7 @@ Allows v (m ∷ ms) None = All (KeepsProgramHeaders v) v.sections
 -- is shorter than 2 ^ 31 bytes
 pub record IsWritable (v : PlainView) (ps : List Patch) (segment : Option NewSegment) (ms : List SymbolMove) : Type 0 where
   pub patched : All (PatchesLoadedWord v) ps
-  pub apart : AllPairs ArePatchesApart ps
+  pub disjoint : AllPairs ArePatchesDisjoint ps
   pub symbols : All (HasSymbol v) ms
   pub distinct : AllPairs AreOfTwoSymbols ms
   pub allowed : Allows v ms segment

@@ -10,7 +10,7 @@ use Rattle.code_leaders.specs.Early.{has}
 use Rattle.object_machine.specs.declared.events.Access.{Access}
 use Rattle.placement_programme.specs.declared.variables.VarName.{VarName}
 use Rattle.placement_programme.specs.declared.variables.VarName.TheVariants.{StaticData}
-use Rattle.profile_runner.specs.Move.{Move, move_at}
+use Rattle.profile_runner.specs.Transition.{Transition, transition_at}
 use Rattle.profile_runner.specs.Standing.{number_of, begins, region_of, entered, current}
 use Rattle.profile_runner.specs.Counts.{same_direction, is_access_to, accesses_of, sum_below}
 use Rattle.profile_runner.proofs.CountLemmas.{sum_same, sum_more as grown_by}
@@ -18,8 +18,8 @@ use Rattle.energy_model.specs.Forms.{Body, unit_in}
 use Rattle.energy_model.specs.Energy.{Scene, Taken, Piece, piece_of, is_fast, starts_of, block_in, block_at, unit_number, region_with, form_words, fetch_price, words_price, read_price, write_price, is_fast_access, data_price, access_price, comes_from_outside, arrival_price, way_price, step_energy, steps_energy, nothing_taken}
 use Rattle.energy_model.specs.Priced.{price_at, direction_price, touch_price, touches_price}
 use Rattle.energy_model.proofs.StepLemmas.{IsAccessOf}
-use Rattle.energy_model.proofs.SceneLemmas.{unit_of_move, Follows}
-use Rattle.energy_model.proofs.SumLemmas.{sum_zero, sum_two, block_sum, blocks_sum, moves_sum, ran}
+use Rattle.energy_model.proofs.SceneLemmas.{unit_of_transition, Follows}
+use Rattle.energy_model.proofs.SumLemmas.{sum_zero, sum_two, block_sum, blocks_sum, transitions_sum, ran}
 
 -- ---- a step where objects alone are taken
 
@@ -31,7 +31,7 @@ no_piece : (os : List ℕ) (b : ℕ) → piece_of (map StaticData os) b ≡ None
 no_piece [] b = refl
 no_piece (o ∷ os) b = no_piece os b
 
-words_none : (o : Option Piece) (w : Scene) (b : Body) (k : ℕ) (m : Move) (prices : Prices) → o ≡ None → form_words o w false b k m * fetch_price o prices ≡ (if m.goes_on then (unit_in b k).words else 1) * prices.main_fetch
+words_none : (o : Option Piece) (w : Scene) (b : Body) (k : ℕ) (m : Transition) (prices : Prices) → o ≡ None → form_words o w false b k m * fetch_price o prices ≡ (if m.goes_on then (unit_in b k).words else 1) * prices.main_fetch
 words_none None w b k m prices none = refl
 words_none (Some piece) w b k m prices none = cc
 
@@ -39,16 +39,16 @@ same_both : (b : Bool) (x : ℕ) → x ≡ 0 → (if b then x else 0) ≡ 0
 same_both true x is = is
 same_both false x is = refl
 
-way_none : (o : Option Piece) (w : Scene) (ms : List Move) (i : ℕ) (b : Bool) (prices : Prices) → o ≡ None → (if b && comes_from_outside w o ms i then arrival_price prices (is_some o) false else 0) ≡ 0
+way_none : (o : Option Piece) (w : Scene) (ms : List Transition) (i : ℕ) (b : Bool) (prices : Prices) → o ≡ None → (if b && comes_from_outside w o ms i then arrival_price prices (is_some o) false else 0) ≡ 0
 way_none None w ms i b prices none = same_both (b && true) (0 * prices.main_fetch + 0) (omega arith)
 way_none (Some piece) w ms i b prices none = cc
 
-pub data_step : (w : Scene) (os : List ℕ) (ms : List Move) (i : ℕ) → step_energy w (data_taken os) ms i ≡ (if (move_at ms i).goes_on then (unit_of_move w ms i).words else 1) * w.board.prices.main_fetch + access_price w (data_taken os) ms i
+pub data_step : (w : Scene) (os : List ℕ) (ms : List Transition) (i : ℕ) → step_energy w (data_taken os) ms i ≡ (if (transition_at ms i).goes_on then (unit_of_transition w ms i).words else 1) * w.board.prices.main_fetch + access_price w (data_taken os) ms i
 data_step w os ms i =
     let prices = w.board.prices in
     let b = block_at w ms i in
     let piece = no_piece os b in
-    let words = words_none (piece_of (map StaticData os) b) w (block_in w b) (unit_number w ms i) (move_at ms i) prices piece in
+    let words = words_none (piece_of (map StaticData os) b) w (block_in w b) (unit_number w ms i) (transition_at ms i) prices piece in
     let way = way_none (piece_of (map StaticData os) b) w ms i (begins (starts_of w) ms i) prices piece in
     let sum : step_energy w (data_taken os) ms i ≡ words_price w (data_taken os) ms i + access_price w (data_taken os) ms i + way_price w (data_taken os) ms i + 0 = refl in
     omega (arith, words, way, sum)
@@ -63,32 +63,32 @@ home_parts : (goes_on : Bool) (words fetch load : ℕ) → (if goes_on then word
 home_parts true words fetch load = refl
 home_parts false words fetch load = omega arith
 
-pub home_step : (w : Scene) (ms : List Move) (i : ℕ) → step_energy w nothing_taken ms i ≡ (if (move_at ms i).goes_on then price_at w (block_at w ms i) (unit_number w ms i) else w.board.prices.main_fetch)
+pub home_step : (w : Scene) (ms : List Transition) (i : ℕ) → step_energy w nothing_taken ms i ≡ (if (transition_at ms i).goes_on then price_at w (block_at w ms i) (unit_number w ms i) else w.board.prices.main_fetch)
 home_step w ms i =
-    let u = unit_of_move w ms i in
+    let u = unit_of_transition w ms i in
     let prices = w.board.prices in
-    let access : access_price w nothing_taken ms i ≡ (if (move_at ms i).goes_on then data_price prices false u.instr else 0) =
-    ap (λ (fast : Bool). if (move_at ms i).goes_on then data_price prices fast u.instr else 0) (none_fast (region_with w ms i) (move_at ms i).access) in
+    let access : access_price w nothing_taken ms i ≡ (if (transition_at ms i).goes_on then data_price prices false u.instr else 0) =
+    ap (λ (fast : Bool). if (transition_at ms i).goes_on then data_price prices fast u.instr else 0) (none_fast (region_with w ms i) (transition_at ms i).access) in
     data_step w [] ms i
-    ∙ (ap (λ n. (if (move_at ms i).goes_on then u.words else 1) * prices.main_fetch + n) access
-    ∙ home_parts (move_at ms i).goes_on u.words prices.main_fetch (data_price prices false u.instr))
+    ∙ (ap (λ n. (if (transition_at ms i).goes_on then u.words else 1) * prices.main_fetch + n) access
+    ∙ home_parts (transition_at ms i).goes_on u.words prices.main_fetch (data_price prices false u.instr))
 
 -- what the last step costs
-abbrev pub last_price : Scene → List Move → ℕ → ℕ
+abbrev pub last_price : Scene → List Transition → ℕ → ℕ
 last_price w ms i =
-    if (move_at ms i).goes_on then price_at w (block_at w ms i) (unit_number w ms i) else w.board.prices.main_fetch
+    if (transition_at ms i).goes_on then price_at w (block_at w ms i) (unit_number w ms i) else w.board.prices.main_fetch
 
 going_price : (b : Bool) (x y : ℕ) → b ≡ true → (if b then x else y) ≡ x
 going_price b x y is = rw is refl
 
-before_last : (w : Scene) (ms : List Move) (i : ℕ) → Follows w ms → i < length ms → sum_below (step_energy w nothing_taken ms) i ≡ moves_sum w ms (price_at w) i
+before_last : (w : Scene) (ms : List Transition) (i : ℕ) → Follows w ms → i < length ms → sum_below (step_energy w nothing_taken ms) i ≡ transitions_sum w ms (price_at w) i
 before_last w ms i all below =
     sum_same (step_energy w nothing_taken ms) (λ j. price_at w (block_at w ms j) (unit_number w ms j)) i (λ j inside.
-    home_step w ms j ∙ going_price (move_at ms j).goes_on (price_at w (block_at w ms j) (unit_number w ms j)) w.board.prices.main_fetch (all.goes_on j (omega (arith, inside, below))))
+    home_step w ms j ∙ going_price (transition_at ms j).goes_on (price_at w (block_at w ms j) (unit_number w ms j)) w.board.prices.main_fetch (all.goes_on j (omega (arith, inside, below))))
 
 -- the energy of a run with nothing taken, by how often each block began: the last block didn't run whole, and its
 -- last unit may have ended the run
-pub base_is : (w : Scene) (ms : List Move) (i : ℕ) → Follows w ms → length ms ≡ suc i → steps_energy w nothing_taken ms + block_sum w (price_at w) (block_at w ms i) ≡ blocks_sum w ms (price_at w) (length ms) + sum_below (price_at w (block_at w ms i)) (unit_number w ms i) + last_price w ms i
+pub base_is : (w : Scene) (ms : List Transition) (i : ℕ) → Follows w ms → length ms ≡ suc i → steps_energy w nothing_taken ms + block_sum w (price_at w) (block_at w ms i) ≡ blocks_sum w ms (price_at w) (length ms) + sum_below (price_at w (block_at w ms i)) (unit_number w ms i) + last_price w ms i
 base_is w ms i all last =
     let below : i < length ms = omega (arith, last) in
     let before = before_last w ms i all below in
@@ -120,22 +120,22 @@ one_access prices names o r (Some a) goes_on instr is fresh =
           rw (test) refl
     ]
 
-more_step : (w : Scene) (o : ℕ) (os : List ℕ) (ms : List Move) (i : ℕ) → Follows w ms → i < length ms → has os o ≡ false → step_energy w (data_taken (o ∷ os)) ms i + touch_price w.board.prices false o (move_at ms i).access ≡ step_energy w (data_taken os) ms i + touch_price w.board.prices true o (move_at ms i).access
+more_step : (w : Scene) (o : ℕ) (os : List ℕ) (ms : List Transition) (i : ℕ) → Follows w ms → i < length ms → has os o ≡ false → step_energy w (data_taken (o ∷ os)) ms i + touch_price w.board.prices false o (transition_at ms i).access ≡ step_energy w (data_taken os) ms i + touch_price w.board.prices true o (transition_at ms i).access
 more_step w o os ms i all below fresh =
-    let u = unit_of_move w ms i in
+    let u = unit_of_transition w ms i in
     let with_it = data_step w (o ∷ os) ms i in
     let without = data_step w os ms i in
     let r = region_with w ms i in
-    let access = one_access w.board.prices (map StaticData os) o r (move_at ms i).access (move_at ms i).goes_on u.instr (all.each i below).access (taken_is os o r ∙ fresh) in
+    let access = one_access w.board.prices (map StaticData os) o r (transition_at ms i).access (transition_at ms i).goes_on u.instr (all.each i below).access (taken_is os o r ∙ fresh) in
     omega (arith, with_it, without, access)
 
-pub more_taken : (w : Scene) (o : ℕ) (os : List ℕ) (ms : List Move) → Follows w ms → has os o ≡ false → steps_energy w (data_taken (o ∷ os)) ms + touches_price w ms false o ≡ steps_energy w (data_taken os) ms + touches_price w ms true o
+pub more_taken : (w : Scene) (o : ℕ) (os : List ℕ) (ms : List Transition) → Follows w ms → has os o ≡ false → steps_energy w (data_taken (o ∷ os)) ms + touches_price w ms false o ≡ steps_energy w (data_taken os) ms + touches_price w ms true o
 more_taken w o os ms all fresh =
     let prices = w.board.prices in
     let f = step_energy w (data_taken (o ∷ os)) ms in
     let g = step_energy w (data_taken os) ms in
-    let slow = λ (i : ℕ). touch_price prices false o (move_at ms i).access in
-    let fast = λ (i : ℕ). touch_price prices true o (move_at ms i).access in
+    let slow = λ (i : ℕ). touch_price prices false o (transition_at ms i).access in
+    let fast = λ (i : ℕ). touch_price prices true o (transition_at ms i).access in
     let same = sum_same (λ i. f i + slow i) (λ i. g i + fast i) (length ms) (λ i below. more_step w o os ms i all below fresh) in
     let left = sum_two f slow (length ms) in
     let right = sum_two g fast (length ms) in
@@ -143,8 +143,8 @@ more_taken w o os ms all fresh =
 
 -- ---- the accesses to an object, counted
 
-abbrev pub touched : List Move → Bool → ℕ → ℕ → ℕ
-touched ms write o n = count_below (λ i. is_access_to write o (move_at ms i).access) n
+abbrev pub touched : List Transition → Bool → ℕ → ℕ → ℕ
+touched ms write o n = count_below (λ i. is_access_to write o (transition_at ms i).access) n
 
 by_direction : (prices : Prices) (fast : Bool) (same write : Bool) → (if same then direction_price prices fast write else 0) ≡ (if same && same_direction false write then 1 else 0) * read_price fast prices + (if same && same_direction true write then 1 else 0) * write_price fast prices
 by_direction prices fast true true = omega arith
@@ -158,16 +158,16 @@ touch_is prices fast o (Some a) = by_direction prices fast (a.object == o) a.wri
 add_times : (c d x : ℕ) → (c + d) * x ≡ c * x + d * x
 add_times c d x = grind arith
 
-touches_below : (prices : Prices) (ms : List Move) (fast : Bool) (o n : ℕ) → sum_below (λ i. touch_price prices fast o (move_at ms i).access) n ≡ touched ms false o n * read_price fast prices + touched ms true o n * write_price fast prices
+touches_below : (prices : Prices) (ms : List Transition) (fast : Bool) (o n : ℕ) → sum_below (λ i. touch_price prices fast o (transition_at ms i).access) n ≡ touched ms false o n * read_price fast prices + touched ms true o n * write_price fast prices
 touches_below prices ms fast o zero = omega arith
 touches_below prices ms fast o (suc n) =
     let earlier = touches_below prices ms fast o n in
-    let here = touch_is prices fast o (move_at ms n).access in
-    let reads = add_times (touched ms false o n) (if is_access_to false o (move_at ms n).access then 1 else 0) (read_price fast prices) in
-    let writes = add_times (touched ms true o n) (if is_access_to true o (move_at ms n).access then 1 else 0) (write_price fast prices) in
+    let here = touch_is prices fast o (transition_at ms n).access in
+    let reads = add_times (touched ms false o n) (if is_access_to false o (transition_at ms n).access then 1 else 0) (read_price fast prices) in
+    let writes = add_times (touched ms true o n) (if is_access_to true o (transition_at ms n).access then 1 else 0) (write_price fast prices) in
     omega (arith, earlier, here, reads, writes)
 
-pub touches_are : (w : Scene) (ms : List Move) (fast : Bool) (o : ℕ) → touches_price w ms fast o ≡ touched ms false o (length ms) * read_price fast w.board.prices + touched ms true o (length ms) * write_price fast w.board.prices
+pub touches_are : (w : Scene) (ms : List Transition) (fast : Bool) (o : ℕ) → touches_price w ms fast o ≡ touched ms false o (length ms) * read_price fast w.board.prices + touched ms true o (length ms) * write_price fast w.board.prices
 touches_are w ms fast o = touches_below w.board.prices ms fast o (length ms)
 
 -- ---- by regions
@@ -193,15 +193,15 @@ current_choice : (last x y : ℕ) (b : Bool) → x ≤ last → y ≤ last → (
 current_choice last x y true first second = first
 current_choice last x y false first second = second
 
-current_fits : (starts regions : List ℕ) (ms : List Move) (last i : ℕ) → All (λ r. r ≤ last) regions → current starts regions ms i ≤ last
+current_fits : (starts regions : List ℕ) (ms : List Transition) (last i : ℕ) → All (λ r. r ≤ last) regions → current starts regions ms i ≤ last
 current_fits starts regions ms last zero all = omega arith
 current_fits starts regions ms last (suc i) all =
     let earlier = current_fits starts regions ms last i all in
-    let k = number_of starts (move_at ms i).at in
+    let k = number_of starts (transition_at ms i).at in
     current_choice last (entered (current starts regions ms i) (region_of regions k)) (current starts regions ms i) (begins starts ms i)
     (entered_fits last (current starts regions ms i) (region_of regions k) earlier (region_fits regions last k all)) earlier
 
 -- the accesses to an object are those in all regions
-pub by_regions : (starts regions : List ℕ) (ms : List Move) (last : ℕ) (write : Bool) (o : ℕ) → All (λ r. r ≤ last) regions → sum_below (accesses_of starts regions ms write o) (suc last) ≡ touched ms write o (length ms)
+pub by_regions : (starts regions : List ℕ) (ms : List Transition) (last : ℕ) (write : Bool) (o : ℕ) → All (λ r. r ≤ last) regions → sum_below (accesses_of starts regions ms write o) (suc last) ≡ touched ms write o (length ms)
 by_regions starts regions ms last write o all =
-    split_below (λ i. is_access_to write o (move_at ms i).access) (λ i. current starts regions ms (suc i)) last (length ms) (λ i. current_fits starts regions ms last (suc i) all)
+    split_below (λ i. is_access_to write o (transition_at ms i).access) (λ i. current starts regions ms (suc i)) last (length ms) (λ i. current_fits starts regions ms last (suc i) all)

@@ -1,4 +1,4 @@
--- The units of a block follow one another: each move is of the unit behind that of the move before, and another
+-- The units of a block follow one another: each transition is of the unit behind that of the transition before, and another
 -- block begins just where a block has run whole.
 use Rattle.std.proofs.Common.{◌≡◌, ◌∙◌, ◌⊎◌, inl, inr, ℕ, zero, suc, ◌+◌, ◌-◌, ◌*◌, ◌<◌, ◌≤◌, ◌==◌, nat_lt, Bool, true, false, not, ◌&&◌, ◌||◌, if◌then◌else◌, List, [], ◌∷◌, length, map, slice_index_or, Option, Some, None, MatchOption, refl, sym, ap, subst, arith}
 use Rattle.std.proofs.lemmas.Bool.{cases_eq, cases_lt}
@@ -35,7 +35,7 @@ use Rattle.object_machine.specs.Units.{leads_on}
 use Rattle.object_machine.proofs.ChainLemmas.{chain, is_chain}
 use Rattle.object_machine.proofs.MeaningLemmas.{LeadsOn, leads_further}
 use Rattle.object_machine.proofs.BlockLemmas.{nth_unit, unit_count, some_units}
-use Rattle.profile_runner.specs.Move.{Move, move_at}
+use Rattle.profile_runner.specs.Transition.{Transition, transition_at}
 use Rattle.profile_runner.specs.Standing.{number_of, block_of, units_run}
 use Rattle.object_machine.proofs.LeadLemmas.{Leads, leads_read, straight, next_leads, not_ended}
 use Rattle.energy_model.proofs.StepLemmas.{StepAt}
@@ -214,20 +214,20 @@ leads_block p s t true is going way = cc
 leads_block p s t false is going (inl ended) = absurd (not_ended t.outcome going ended)
 leads_block p s t false is going (inr way) = way
 
--- ---- the moves of a run in the blocks of its code
+-- ---- the transitions of a run in the blocks of its code
 
-pub record IsRunIn (view : ElfView) (board : Board) (g : Graph) (c : Code) (ms : List Move) : Type 0 where
+pub record IsRunIn (view : ElfView) (board : Board) (g : Graph) (c : Code) (ms : List Transition) : Type 0 where
   pub read : IsRead view
   pub code : IsCode (plain_view view) c
   pub steps : (i : ℕ) → i < length ms → StepAt (program_of (plain_view view) board g) ms i
-  pub first : 0 < length ms → is_leader (plain_view view) (move_at ms 0).at ≡ true
+  pub first : 0 < length ms → is_leader (plain_view view) (transition_at ms 0).at ≡ true
 
--- move `i` is of the unit at this place of its block
-pub record IsPlaced (c : Code) (ms : List Move) (i place : ℕ) : Type 0 where
+-- transition `i` is of the unit at this place of its block
+pub record IsPlaced (c : Code) (ms : List Transition) (i place : ℕ) : Type 0 where
   pub inside : block_of (map start_of c.blocks.items) ms i < length c.blocks.items
   pub run : units_run (map start_of c.blocks.items) ms i ≡ suc place
   pub below : (d : Block) → place < length (slice_index_or c.blocks.items (block_of (map start_of c.blocks.items) ms i) d).units.items
-  pub at : (d : Block) → (move_at ms i).at ≡ (slice_index_or c.blocks.items (block_of (map start_of c.blocks.items) ms i) d).start + 4 * place
+  pub at : (d : Block) → (transition_at ms i).at ≡ (slice_index_or c.blocks.items (block_of (map start_of c.blocks.items) ms i) d).start + 4 * place
 
 -- the starts of blocks are leaders, and the other way round
 start_leads : (v : PlainView) (c : Code) (b : ℕ) (d : Block) → IsCode v c → b < length c.blocks.items → is_leader v (slice_index_or c.blocks.items b d).start ≡ true
@@ -237,12 +237,12 @@ start_leads v c b d code below =
     let there : slice_index_or (map start_of c.blocks.items) b a ≡ a = get_or-map start_of c.blocks.items b d a below in
     sym (code.leaders a) ∙ has_at (map start_of c.blocks.items) a b (omega (arith, count, below)) there
 
--- a move with which a block begins is of its first unit
-placed_first : (view : ElfView) (board : Board) (g : Graph) (c : Code) (ms : List Move) (i : ℕ) → IsRunIn view board g c ms → has (map start_of c.blocks.items) (move_at ms i).at ≡ true → block_of (map start_of c.blocks.items) ms i ≡ number_of (map start_of c.blocks.items) (move_at ms i).at → units_run (map start_of c.blocks.items) ms i ≡ 1 → IsPlaced c ms i 0
+-- a transition with which a block begins is of its first unit
+placed_first : (view : ElfView) (board : Board) (g : Graph) (c : Code) (ms : List Transition) (i : ℕ) → IsRunIn view board g c ms → has (map start_of c.blocks.items) (transition_at ms i).at ≡ true → block_of (map start_of c.blocks.items) ms i ≡ number_of (map start_of c.blocks.items) (transition_at ms i).at → units_run (map start_of c.blocks.items) ms i ≡ 1 → IsPlaced c ms i 0
 placed_first view board g c ms i r begun block units =
     let v = plain_view view in
     let starts = map start_of c.blocks.items in
-    let a = (move_at ms i).at in
+    let a = (transition_at ms i).at in
     let count = length-map c.blocks.items start_of in
     let found = number_found starts a 0 begun in
     let b = block_of starts ms i in
@@ -256,15 +256,15 @@ placed_first view board g c ms i r begun block units =
       at = λ d. let here = at d in omega (arith, here);
     }
 
--- ---- from a move to the next
+-- ---- from a transition to the next
 
-abbrev StepOf : ElfView → Board → Graph → List Move → ℕ → Type 0
+abbrev StepOf : ElfView → Board → Graph → List Transition → ℕ → Type 0
 StepOf view board g ms i = StepAt (program_of (plain_view view) board g) ms i
 
-at_pc : (view : ElfView) (board : Board) (g : Graph) (ms : List Move) (i : ℕ) (step : StepOf view board g ms i) → (move_at ms i).at ≡ step.state.pc
-at_pc view board g ms i step = ap (λ (m : Move). m.at) step.move
+at_pc : (view : ElfView) (board : Board) (g : Graph) (ms : List Transition) (i : ℕ) (step : StepOf view board g ms i) → (transition_at ms i).at ≡ step.state.pc
+at_pc view board g ms i step = ap (λ (m : Transition). m.at) step.transition
 
--- what is known of the step of a move that another follows
+-- what is known of the step of a transition that another follows
 pub record Advances (view : ElfView) (board : Board) (g : Graph) (a next : ℕ) (read : Option Instr) : Type 0 where
   pub reads : Reads (image_word (plain_view view) a) read
   pub straight_next : straight (program_of (plain_view view) board g) a read ≡ true → (next ≡ a + 4) × (falls_from (plain_view view) a ≡ true)
@@ -282,13 +282,13 @@ advances_from view board g s next read reads going at =
       jump_next = λ off. subst (λ x. is_leader v x ≡ true) at (leads_block p s t (straight p s.pc read) off going leads);
     }
 
-advances : (view : ElfView) (board : Board) (g : Graph) (ms : List Move) (i a : ℕ) (step : StepOf view board g ms i) → (move_at ms i).at ≡ a → suc i < length ms → Advances view board g a (move_at ms (suc i)).at step.read
+advances : (view : ElfView) (board : Board) (g : Graph) (ms : List Transition) (i a : ℕ) (step : StepOf view board g ms i) → (transition_at ms i).at ≡ a → suc i < length ms → Advances view board g a (transition_at ms (suc i)).at step.read
 advances view board g ms i a step at more =
     let here : step.state.pc ≡ a = sym (at_pc view board g ms i step) ∙ at in
-    subst (λ x. Advances view board g x (move_at ms (suc i)).at step.read) here
-    (advances_from view board g step.state (move_at ms (suc i)).at step.read step.meant (step.goes_on more) (step.next more))
+    subst (λ x. Advances view board g x (transition_at ms (suc i)).at step.read) here
+    (advances_from view board g step.state (transition_at ms (suc i)).at step.read step.meant (step.goes_on more) (step.next more))
 
--- a block that goes on with the next move has another unit there
+-- a block that goes on with the next transition has another unit there
 more_units : (view : ElfView) (board : Board) (g : Graph) (b : Block) (functions : List Function) (k next : ℕ) (read : Option Instr) → IsRead view → is_code_word (plain_view view) b.start ≡ true → IsBlock (plain_view view) functions b → k < length b.units.items → Advances view board g (b.start + 4 * k) next read → is_leader (plain_view view) next ≡ false → (suc k < length b.units.items) × (next ≡ b.start + 4 * suc k)
 more_units view board g b functions k next read is_read code block below advance none =
     let v = plain_view view in
@@ -322,16 +322,16 @@ last_unit view board g b functions k next read block below advance leads =
           absurd (is_true_false (is_leader v (a + 4)) (subst (λ x. is_leader v x ≡ true) same leads) behind)
     ]
 
-placed_more : (view : ElfView) (board : Board) (g : Graph) (c : Code) (ms : List Move) (i place : ℕ) → IsRunIn view board g c ms → IsPlaced c ms i place → suc i < length ms → has (map start_of c.blocks.items) (move_at ms (suc i)).at ≡ false → IsPlaced c ms (suc i) (suc place)
+placed_more : (view : ElfView) (board : Board) (g : Graph) (c : Code) (ms : List Transition) (i place : ℕ) → IsRunIn view board g c ms → IsPlaced c ms i place → suc i < length ms → has (map start_of c.blocks.items) (transition_at ms (suc i)).at ≡ false → IsPlaced c ms (suc i) (suc place)
 placed_more view board g c ms i place r placed more none =
     let v = plain_view view in
     let starts = map start_of c.blocks.items in
     let b = block_of starts ms i in
     let same : block_of starts ms (suc i) ≡ b = rw none refl in
     let step = r.steps i (omega (arith, more)) in
-    let no_leader : is_leader v (move_at ms (suc i)).at ≡ false = sym (r.code.leaders (move_at ms (suc i)).at) ∙ none in
+    let no_leader : is_leader v (transition_at ms (suc i)).at ≡ false = sym (r.code.leaders (transition_at ms (suc i)).at) ∙ none in
     let next = λ (d : Block).
-    more_units view board g (slice_index_or c.blocks.items b d) c.functions.items place (move_at ms (suc i)).at step.read r.read
+    more_units view board g (slice_index_or c.blocks.items b d) c.functions.items place (transition_at ms (suc i)).at step.read r.read
     (leader_is_code v (slice_index_or c.blocks.items b d).start (start_leads v c b d r.code placed.inside))
     (r.code.blocks b d placed.inside) (placed.below d)
     (advances view board g ms i ((slice_index_or c.blocks.items b d).start + 4 * place) step (placed.at d) more) no_leader in
@@ -340,33 +340,33 @@ placed_more view board g c ms i place r placed more none =
       inside = subst (λ k. k < length c.blocks.items) (sym same) placed.inside;
       run = rw none (ap suc ran);
       below = λ d. subst (λ k. suc place < length (slice_index_or c.blocks.items k d).units.items) (sym same) (next d).0;
-      at = λ d. subst (λ k. (move_at ms (suc i)).at ≡ (slice_index_or c.blocks.items k d).start + 4 * suc place) (sym same) (next d).1;
+      at = λ d. subst (λ k. (transition_at ms (suc i)).at ≡ (slice_index_or c.blocks.items k d).start + 4 * suc place) (sym same) (next d).1;
     }
 
-pub placed : (view : ElfView) (board : Board) (g : Graph) (c : Code) (ms : List Move) (i : ℕ) → IsRunIn view board g c ms → i < length ms → (place : ℕ) × IsPlaced c ms i place
+pub placed : (view : ElfView) (board : Board) (g : Graph) (c : Code) (ms : List Transition) (i : ℕ) → IsRunIn view board g c ms → i < length ms → (place : ℕ) × IsPlaced c ms i place
 placed view board g c ms zero r below =
     let v = plain_view view in
-    (0, placed_first view board g c ms 0 r (r.code.leaders (move_at ms 0).at ∙ r.first below) refl refl)
+    (0, placed_first view board g c ms 0 r (r.code.leaders (transition_at ms 0).at ∙ r.first below) refl refl)
 placed view board g c ms (suc i) r below =
     let starts = map start_of c.blocks.items in
-    elim (cases_bool (has starts (move_at ms (suc i)).at)) [
+    elim (cases_bool (has starts (transition_at ms (suc i)).at)) [
       | inl begun ↦ (0, placed_first view board g c ms (suc i) r begun (rw begun refl) (rw begun refl))
       | inr none ↦
           let (place, before) = placed view board g c ms i r (omega (arith, below)) in
           (suc place, placed_more view board g c ms i place r before below none)
     ]
 
-pub whole : (view : ElfView) (board : Board) (g : Graph) (c : Code) (ms : List Move) (i place : ℕ) (d : Block) → IsRunIn view board g c ms → IsPlaced c ms i place → suc i < length ms → has (map start_of c.blocks.items) (move_at ms (suc i)).at ≡ true → suc place ≡ length (slice_index_or c.blocks.items (block_of (map start_of c.blocks.items) ms i) d).units.items
+pub whole : (view : ElfView) (board : Board) (g : Graph) (c : Code) (ms : List Transition) (i place : ℕ) (d : Block) → IsRunIn view board g c ms → IsPlaced c ms i place → suc i < length ms → has (map start_of c.blocks.items) (transition_at ms (suc i)).at ≡ true → suc place ≡ length (slice_index_or c.blocks.items (block_of (map start_of c.blocks.items) ms i) d).units.items
 whole view board g c ms i place d r placed more begun =
     let v = plain_view view in
     let b = block_of (map start_of c.blocks.items) ms i in
     let step = r.steps i (omega (arith, more)) in
-    last_unit view board g (slice_index_or c.blocks.items b d) c.functions.items place (move_at ms (suc i)).at step.read
+    last_unit view board g (slice_index_or c.blocks.items b d) c.functions.items place (transition_at ms (suc i)).at step.read
     (r.code.blocks b d placed.inside) (placed.below d)
     (advances view board g ms i ((slice_index_or c.blocks.items b d).start + 4 * place) step (placed.at d) more)
-    (sym (r.code.leaders (move_at ms (suc i)).at) ∙ begun)
+    (sym (r.code.leaders (transition_at ms (suc i)).at) ∙ begun)
 
--- ---- the unit of a move means what its step read
+-- ---- the unit of a transition means what its step read
 
 reads_of : (w : ℕ) (o : Option Instr) → MatchOption o (MeansNothing w) (Means w) → Reads w o
 reads_of w None m = m

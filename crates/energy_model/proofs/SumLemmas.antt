@@ -1,9 +1,9 @@
--- Sums over the moves of a run, by the blocks that they ran.
+-- Sums over the transitions of a run, by the blocks that they ran.
 use Rattle.std.proofs.Common.{◌≡◌, ◌∙◌, ◌⊎◌, inl, inr, ℕ, zero, suc, ◌+◌, ◌*◌, ◌<◌, ◌≤◌, ◌==◌, Bool, true, false, ◌&&◌, if◌then◌else◌, List, length, refl, sym, ap, arith}
 use Rattle.std.proofs.lemmas.Bool.{cases_eq, cases_lt}
 use Rattle.std.proofs.lemmas.Bool.Decides.{nat_tests}
 use Rattle.list_checks.specs.Sorted.{count_below}
-use Rattle.profile_runner.specs.Move.{Move, move_at}
+use Rattle.profile_runner.specs.Transition.{Transition, transition_at}
 use Rattle.profile_runner.specs.Standing.{number_of, begins, units_run}
 use Rattle.profile_runner.specs.Counts.{sum_below}
 use Rattle.profile_runner.proofs.CountLemmas.{sum_same}
@@ -74,9 +74,9 @@ sum_grown f c d k (suc n) below grown =
 
 -- ---- the units that ran
 
--- how often a block began among the first moves
-abbrev pub arrived : Scene → List Move → ℕ → ℕ → ℕ
-arrived w ms n b = count_below (λ j. begins (starts_of w) ms j && (number_of (starts_of w) (move_at ms j).at == b)) n
+-- how often a block began among the first transitions
+abbrev pub arrived : Scene → List Transition → ℕ → ℕ → ℕ
+arrived w ms n b = count_below (λ j. begins (starts_of w) ms j && (number_of (starts_of w) (transition_at ms j).at == b)) n
 
 abbrev pub unit_count : Scene → ℕ → ℕ
 unit_count w b = length (block_in w b).units
@@ -85,11 +85,11 @@ unit_count w b = length (block_in w b).units
 abbrev pub block_sum : Scene → (ℕ → ℕ → ℕ) → ℕ → ℕ
 block_sum w f b = sum_below (f b) (unit_count w b)
 
-abbrev pub blocks_sum : Scene → List Move → (ℕ → ℕ → ℕ) → ℕ → ℕ
+abbrev pub blocks_sum : Scene → List Transition → (ℕ → ℕ → ℕ) → ℕ → ℕ
 blocks_sum w ms f n = sum_below (λ b. arrived w ms n b * block_sum w f b) (length w.blocks)
 
-abbrev pub moves_sum : Scene → List Move → (ℕ → ℕ → ℕ) → ℕ → ℕ
-moves_sum w ms f n = sum_below (λ j. f (block_at w ms j) (unit_number w ms j)) n
+abbrev pub transitions_sum : Scene → List Transition → (ℕ → ℕ → ℕ) → ℕ → ℕ
+transitions_sum w ms f n = sum_below (λ j. f (block_at w ms j) (unit_number w ms j)) n
 
 begun_count : (begun same : Bool) (n : ℕ) → begun ≡ true → n + (if begun && same then 1 else 0) ≡ n + (if same then 1 else 0)
 begun_count begun same n is = rw is refl
@@ -97,20 +97,20 @@ begun_count begun same n is = rw is refl
 no_count : (begun same : Bool) (n : ℕ) → begun ≡ false → n + (if begun && same then 1 else 0) ≡ n
 no_count begun same n is = rw is (omega arith)
 
-begun_sum : (w : Scene) (ms : List Move) (f : ℕ → ℕ → ℕ) (n : ℕ) → begins (starts_of w) ms n ≡ true → number_of (starts_of w) (move_at ms n).at < length w.blocks → blocks_sum w ms f (suc n) ≡ blocks_sum w ms f n + block_sum w f (number_of (starts_of w) (move_at ms n).at)
+begun_sum : (w : Scene) (ms : List Transition) (f : ℕ → ℕ → ℕ) (n : ℕ) → begins (starts_of w) ms n ≡ true → number_of (starts_of w) (transition_at ms n).at < length w.blocks → blocks_sum w ms f (suc n) ≡ blocks_sum w ms f n + block_sum w f (number_of (starts_of w) (transition_at ms n).at)
 begun_sum w ms f n begun below =
-    sum_grown (block_sum w f) (arrived w ms n) (arrived w ms (suc n)) (number_of (starts_of w) (move_at ms n).at) (length w.blocks) below
-    (λ b. begun_count (begins (starts_of w) ms n) (number_of (starts_of w) (move_at ms n).at == b) (arrived w ms n b) begun)
+    sum_grown (block_sum w f) (arrived w ms n) (arrived w ms (suc n)) (number_of (starts_of w) (transition_at ms n).at) (length w.blocks) below
+    (λ b. begun_count (begins (starts_of w) ms n) (number_of (starts_of w) (transition_at ms n).at == b) (arrived w ms n b) begun)
 
-same_sum : (w : Scene) (ms : List Move) (f : ℕ → ℕ → ℕ) (n : ℕ) → begins (starts_of w) ms n ≡ false → blocks_sum w ms f (suc n) ≡ blocks_sum w ms f n
+same_sum : (w : Scene) (ms : List Transition) (f : ℕ → ℕ → ℕ) (n : ℕ) → begins (starts_of w) ms n ≡ false → blocks_sum w ms f (suc n) ≡ blocks_sum w ms f n
 same_sum w ms f n none =
     sum_same (λ b. arrived w ms (suc n) b * block_sum w f b) (λ b. arrived w ms n b * block_sum w f b) (length w.blocks)
-    (λ b below. ap (λ k. k * block_sum w f b) (no_count (begins (starts_of w) ms n) (number_of (starts_of w) (move_at ms n).at == b) (arrived w ms n b) none))
+    (λ b below. ap (λ k. k * block_sum w f b) (no_count (begins (starts_of w) ms n) (number_of (starts_of w) (transition_at ms n).at == b) (arrived w ms n b) none))
 
 zero_times : (c x : ℕ) → c ≡ 0 → c * x ≡ 0
 zero_times c x none = rw none (omega arith)
 
-no_blocks : (w : Scene) (ms : List Move) (f : ℕ → ℕ → ℕ) → blocks_sum w ms f 0 ≡ 0
+no_blocks : (w : Scene) (ms : List Transition) (f : ℕ → ℕ → ℕ) → blocks_sum w ms f 0 ≡ 0
 no_blocks w ms f = sum_zero (λ b. arrived w ms 0 b * block_sum w f b) (length w.blocks) (λ b below. zero_times (arrived w ms 0 b) (block_sum w f b) refl)
 
 cases_bool : (b : Bool) → (b ≡ true) ⊎ (b ≡ false)
@@ -119,7 +119,7 @@ cases_bool false = inr refl
 
 -- the units that ran, and those of the last block, are the blocks as often as they began, and the units of the last
 -- block that ran
-pub ran : (w : Scene) (ms : List Move) (f : ℕ → ℕ → ℕ) (i : ℕ) → Follows w ms → i < length ms → moves_sum w ms f (suc i) + block_sum w f (block_at w ms i) ≡ blocks_sum w ms f (suc i) + sum_below (f (block_at w ms i)) (suc (unit_number w ms i))
+pub ran : (w : Scene) (ms : List Transition) (f : ℕ → ℕ → ℕ) (i : ℕ) → Follows w ms → i < length ms → transitions_sum w ms f (suc i) + block_sum w f (block_at w ms i) ≡ blocks_sum w ms f (suc i) + sum_below (f (block_at w ms i)) (suc (unit_number w ms i))
 ran w ms f zero all below =
     let begun = all.first below in
     let here = begun_sum w ms f 0 begun (all.each 0 below).inside in
@@ -128,16 +128,16 @@ ran w ms f zero all below =
 ran w ms f (suc i) all below =
     let before = ran w ms f i all (omega (arith, below)) in
     let starts = starts_of w in
-    let move = all.each (suc i) below in
+    let transition = all.each (suc i) below in
     let earlier = all.each i (omega (arith, below)) in
     elim (cases_bool (begins starts ms (suc i))) [
       | inl begun ↦
           let whole = all.whole i below begun in
           let full : sum_below (f (block_at w ms i)) (suc (unit_number w ms i)) ≡ block_sum w f (block_at w ms i) = ap (sum_below (f (block_at w ms i))) whole in
-          let block : block_at w ms (suc i) ≡ number_of starts (move_at ms (suc i)).at = rw begun refl in
-          let inside : number_of starts (move_at ms (suc i)).at < length w.blocks = let less = move.inside in omega (arith, less, block) in
+          let block : block_at w ms (suc i) ≡ number_of starts (transition_at ms (suc i)).at = rw begun refl in
+          let inside : number_of starts (transition_at ms (suc i)).at < length w.blocks = let less = transition.inside in omega (arith, less, block) in
           let here = begun_sum w ms f (suc i) begun inside in
-          let there : block_sum w f (number_of starts (move_at ms (suc i)).at) ≡ block_sum w f (block_at w ms (suc i)) = ap (block_sum w f) (sym block) in
+          let there : block_sum w f (number_of starts (transition_at ms (suc i)).at) ≡ block_sum w f (block_at w ms (suc i)) = ap (block_sum w f) (sym block) in
           let units : units_run starts ms (suc i) ≡ 1 = rw begun refl in
           let number : unit_number w ms (suc i) ≡ 0 = omega (arith, units) in
           let one : f (block_at w ms (suc i)) (unit_number w ms (suc i)) ≡ sum_below (f (block_at w ms (suc i))) (suc (unit_number w ms (suc i))) = rw number (omega arith) in

@@ -4,7 +4,7 @@ use Rattle.board_config.specs.declared.board.Prices.{Prices}
 use Rattle.code_blocks.specs.declared.parts.Unit.{Unit}
 use Rattle.code_blocks.specs.declared.parts.Block.{Block}
 use Rattle.object_machine.specs.declared.events.Outcome.{Outcome}
-use Rattle.profile_runner.specs.Move.{is_going}
+use Rattle.profile_runner.specs.Transition.{is_going}
 use Rattle.profile_runner.specs.declared.counts.Profile.{Profile}
 use Rattle.profile_runner.specs.Counts.{sum_below}
 use Rattle.energy_model.specs.Forms.{Body, body_of, unit_in}

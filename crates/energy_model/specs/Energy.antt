@@ -15,7 +15,7 @@ use Rattle.code_blocks.specs.declared.ends.End.TheVariants as end
 use Rattle.object_machine.specs.declared.events.Access.{Access}
 use Rattle.placement_programme.specs.declared.variables.VarName.{VarName}
 use Rattle.placement_programme.specs.declared.variables.VarName.TheVariants.{StaticData, StaticCode, OverlayData, OverlayCode}
-use Rattle.profile_runner.specs.Move.{Move, move_at}
+use Rattle.profile_runner.specs.Transition.{Transition, transition_at}
 use Rattle.profile_runner.specs.Standing.{number_of, begins, block_of, units_run, current}
 use Rattle.profile_runner.specs.Counts.{sum_below}
 use Rattle.energy_model.specs.Forms.{Body, body_of, kind_of, unit_in, copied_words, fall_out_words, displaced_words, block_size, is_last}
@@ -98,18 +98,18 @@ is_inside w piece a = list_any (λ s. s == a) (starts_of w) && holds_block (numb
 abbrev pub is_checked : Scene → Taken → ℕ → Bool
 is_checked w c b = c.on && slice_index_or w.borders b false
 
--- the block and the unit of move `i`, from 0, and the regions before it and with it
-abbrev pub block_at : Scene → List Move → ℕ → ℕ
-block_at w moves i = block_of (starts_of w) moves i
+-- the block and the unit of transition `i`, from 0, and the regions before it and with it
+abbrev pub block_at : Scene → List Transition → ℕ → ℕ
+block_at w transitions i = block_of (starts_of w) transitions i
 
-abbrev pub unit_number : Scene → List Move → ℕ → ℕ
-unit_number w moves i = units_run (starts_of w) moves i - 1
+abbrev pub unit_number : Scene → List Transition → ℕ → ℕ
+unit_number w transitions i = units_run (starts_of w) transitions i - 1
 
-abbrev pub region_before : Scene → List Move → ℕ → ℕ
-region_before w moves i = current (starts_of w) w.regions moves i
+abbrev pub region_before : Scene → List Transition → ℕ → ℕ
+region_before w transitions i = current (starts_of w) w.regions transitions i
 
-abbrev pub region_with : Scene → List Move → ℕ → ℕ
-region_with w moves i = current (starts_of w) w.regions moves (suc i)
+abbrev pub region_with : Scene → List Transition → ℕ → ℕ
+region_with w transitions i = current (starts_of w) w.regions transitions (suc i)
 
 -- ---- the words of a step
 
@@ -125,7 +125,7 @@ words_at_home w checked b k =
     if checked && (k == 0) then displaced_words (kind_of (is_site w) b k) else (unit_in b k).words
 
 -- a step that exits or traps fetches its own word alone
-abbrev pub form_words : Option Piece → Scene → Bool → Body → ℕ → Move → ℕ
+abbrev pub form_words : Option Piece → Scene → Bool → Body → ℕ → Transition → ℕ
 form_words (Some piece) w checked b k m = if m.goes_on then words_in_piece w piece b k m.next else 1
 form_words None w checked b k m = if m.goes_on then words_at_home w checked b k else 1
 
@@ -133,11 +133,11 @@ abbrev pub fetch_price : Option Piece → Prices → ℕ
 fetch_price (Some piece) prices = prices.spm_fetch
 fetch_price None prices = prices.main_fetch
 
-abbrev pub words_price : Scene → Taken → List Move → ℕ → ℕ
-words_price w c moves i =
-    form_words (piece_of c.names (block_at w moves i)) w (is_checked w c (block_at w moves i))
-    (block_in w (block_at w moves i)) (unit_number w moves i) (move_at moves i)
-    * fetch_price (piece_of c.names (block_at w moves i)) w.board.prices
+abbrev pub words_price : Scene → Taken → List Transition → ℕ → ℕ
+words_price w c transitions i =
+    form_words (piece_of c.names (block_at w transitions i)) w (is_checked w c (block_at w transitions i))
+    (block_in w (block_at w transitions i)) (unit_number w transitions i) (transition_at transitions i)
+    * fetch_price (piece_of c.names (block_at w transitions i)) w.board.prices
 
 -- ---- the data access of a step
 
@@ -158,11 +158,11 @@ data_price prices fast (Some (Store kind rs1 rs2 imm)) = write_price fast prices
 data_price prices fast other = 0
 
 -- what a unit loads or stores, as an instruction; a call of two words does neither
-abbrev pub access_price : Scene → Taken → List Move → ℕ → ℕ
-access_price w c moves i =
-    if (move_at moves i).goes_on
-    then data_price w.board.prices (is_fast_access c.names (region_with w moves i) (move_at moves i).access)
-    (unit_in (block_in w (block_at w moves i)) (unit_number w moves i)).instr
+abbrev pub access_price : Scene → Taken → List Transition → ℕ → ℕ
+access_price w c transitions i =
+    if (transition_at transitions i).goes_on
+    then data_price w.board.prices (is_fast_access c.names (region_with w transitions i) (transition_at transitions i).access)
+    (unit_in (block_in w (block_at w transitions i)) (unit_number w transitions i)).instr
     else 0
 
 -- ---- the way to a block
@@ -174,10 +174,10 @@ may_stay (end.Branch target next) = true
 may_stay (end.Jump target) = true
 may_stay other = false
 
-abbrev pub is_internal : Scene → Piece → List Move → ℕ → Bool
-is_internal w piece moves zero = false
-is_internal w piece moves (suc i) =
-    holds_block (block_at w moves i) piece && may_stay (block_in w (block_at w moves i)).end
+abbrev pub is_internal : Scene → Piece → List Transition → ℕ → Bool
+is_internal w piece transitions zero = false
+is_internal w piece transitions (suc i) =
+    holds_block (block_at w transitions i) piece && may_stay (block_in w (block_at w transitions i)).end
 
 -- a pad and a stub lead to a copy, or to a check and from there to a copy or back
 abbrev pub arrival_words : Bool → Bool → ℕ
@@ -187,15 +187,15 @@ abbrev pub arrival_price : Prices → Bool → Bool → ℕ
 arrival_price prices copied checked =
     arrival_words copied checked * prices.main_fetch + (if checked then prices.main_read else 0)
 
-abbrev pub comes_from_outside : Scene → Option Piece → List Move → ℕ → Bool
-comes_from_outside w None moves i = true
-comes_from_outside w (Some piece) moves i = not (is_internal w piece moves i)
+abbrev pub comes_from_outside : Scene → Option Piece → List Transition → ℕ → Bool
+comes_from_outside w None transitions i = true
+comes_from_outside w (Some piece) transitions i = not (is_internal w piece transitions i)
 
-abbrev pub way_price : Scene → Taken → List Move → ℕ → ℕ
-way_price w c moves i =
-    if begins (starts_of w) moves i && comes_from_outside w (piece_of c.names (block_at w moves i)) moves i
-    then arrival_price w.board.prices (is_some (piece_of c.names (block_at w moves i)))
-    (is_checked w c (block_at w moves i))
+abbrev pub way_price : Scene → Taken → List Transition → ℕ → ℕ
+way_price w c transitions i =
+    if begins (starts_of w) transitions i && comes_from_outside w (piece_of c.names (block_at w transitions i)) transitions i
+    then arrival_price w.board.prices (is_some (piece_of c.names (block_at w transitions i)))
+    (is_checked w c (block_at w transitions i))
     else 0
 
 -- ---- copying
@@ -261,32 +261,32 @@ switch_price w names s r =
     + sum_by (leave_job w s) names
     + sum_by (enter_job w r) names
 
-abbrev pub change_price : Scene → Taken → List Move → ℕ → ℕ
-change_price w c moves i =
-    if c.on && not (region_before w moves i == region_with w moves i)
-    then switch_price w c.names (region_before w moves i) (region_with w moves i)
+abbrev pub change_price : Scene → Taken → List Transition → ℕ → ℕ
+change_price w c transitions i =
+    if c.on && not (region_before w transitions i == region_with w transitions i)
+    then switch_price w c.names (region_before w transitions i) (region_with w transitions i)
     else 0
 
 -- ---- the sum
 
-abbrev pub step_energy : Scene → Taken → List Move → ℕ → ℕ
-step_energy w c moves i =
-    words_price w c moves i + access_price w c moves i + way_price w c moves i + change_price w c moves i
+abbrev pub step_energy : Scene → Taken → List Transition → ℕ → ℕ
+step_energy w c transitions i =
+    words_price w c transitions i + access_price w c transitions i + way_price w c transitions i + change_price w c transitions i
 
-abbrev pub steps_energy : Scene → Taken → List Move → ℕ
-steps_energy w c moves = sum_below (step_energy w c moves) (length moves)
+abbrev pub steps_energy : Scene → Taken → List Transition → ℕ
+steps_energy w c transitions = sum_below (step_energy w c transitions) (length transitions)
 
 -- the start stub: its jobs, four words that clear registers, a jump, and a fence where the board asks for one
 abbrev pub stub_energy : Scene → Taken → ℕ
 stub_energy w c = sum_by (start_job w) c.names + (5 + fence_words w.board) * w.board.prices.main_fetch
 
 -- the energy on a side, whatever is taken: with its start stub
-abbrev pub side_energy : Scene → Taken → List Move → ℕ
-side_energy w c moves = stub_energy w c + steps_energy w c moves
+abbrev pub side_energy : Scene → Taken → List Transition → ℕ
+side_energy w c transitions = stub_energy w c + steps_energy w c transitions
 
 -- where nothing is taken and there is no overlay, the program is handed on as it is
 abbrev pub is_nothing : Taken → Bool
 is_nothing c = not c.on && (length c.names == 0)
 
-abbrev pub energy : Scene → Taken → List Move → ℕ
-energy w c moves = if is_nothing c then steps_energy w c moves else side_energy w c moves
+abbrev pub energy : Scene → Taken → List Transition → ℕ
+energy w c transitions = if is_nothing c then steps_energy w c transitions else side_energy w c transitions

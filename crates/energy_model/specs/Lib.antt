@@ -1,6 +1,6 @@
 pub use Rattle.object_machine.specs.Machine
 pub use Rattle.placement_programme.specs.Rows
-pub use Rattle.profile_runner.specs.Moves
+pub use Rattle.profile_runner.specs.Transitions
 pub mod Forms
 pub mod Energy
 pub mod Scenes

@@ -4,7 +4,7 @@ use Rattle.board_config.specs.declared.board.Prices.{Prices}
 use Rattle.code_leaders.specs.Early.{has}
 use Rattle.code_blocks.specs.declared.parts.Unit.{Unit}
 use Rattle.object_machine.specs.declared.events.Access.{Access}
-use Rattle.profile_runner.specs.Move.{Move, move_at}
+use Rattle.profile_runner.specs.Transition.{Transition, transition_at}
 use Rattle.profile_runner.specs.Counts.{sum_below}
 use Rattle.energy_model.specs.Forms.{unit_in, no_unit}
 use Rattle.energy_model.specs.Energy.{Scene, block_in, read_price, write_price, data_price}
@@ -34,9 +34,9 @@ touch_price prices fast o None = 0
 touch_price prices fast o (Some a) = if a.object == o then direction_price prices fast a.write else 0
 
 -- all accesses to object `o`, where it is in the scratchpad or not
-abbrev pub touches_price : Scene → List Move → Bool → ℕ → ℕ
+abbrev pub touches_price : Scene → List Transition → Bool → ℕ → ℕ
 touches_price w ms fast o =
-    sum_below (λ i. touch_price w.board.prices fast o (move_at ms i).access) (length ms)
+    sum_below (λ i. touch_price w.board.prices fast o (transition_at ms i).access) (length ms)
 
 -- numbers stand in a list once each
 abbrev pub AreDifferent : List ℕ → Type 0

@@ -14,8 +14,8 @@ use Rattle.object_machine.specs.declared.events.Outcome.TheVariants.{GoesOn}
 use Rattle.object_machine.specs.Program.{program_of}
 use Rattle.object_machine.specs.State.{SourceState}
 use Rattle.region_former.specs.declared.table.RegionTable.{RegionTable}
-use Rattle.profile_runner.specs.Move.{Move}
-use Rattle.profile_runner.specs.Moves.{Moves}
+use Rattle.profile_runner.specs.Transition.{Transition}
+use Rattle.profile_runner.specs.Transitions.{Transitions}
 use Rattle.profile_runner.specs.Counts.{IsProfile}
 use Rattle.profile_runner.specs.declared.counts.Profile.{Profile}
 use Rattle.placement_programme.specs.Rows.{Layout, start_bytes}
@@ -46,19 +46,19 @@ layout_of g c t board =
       grain = board.grain;
     }
 
--- the moves are of a run of the program of a file on a board, for the board's steps or until it ends, and the profile
+-- the transitions are of a run of the program of a file on a board, for the board's steps or until it ends, and the profile
 -- tells of them. The run begins where a block of the code does
-pub record IsRunOf (view : ElfView) (board : Board) (g : Graph) (c : Code) (t : RegionTable) (q : Profile) (moves : List Move) : Type 0 where
+pub record IsRunOf (view : ElfView) (board : Board) (g : Graph) (c : Code) (t : RegionTable) (q : Profile) (transitions : List Transition) : Type 0 where
   pub from : SourceState
   pub to : SourceState
   pub going : from.outcome ≡ GoesOn
   pub begins : is_leader (plain_view view) from.pc ≡ true
-  pub run : Moves (program_of (plain_view view) board g) board.steps from moves to
-  pub profile : IsProfile (map start_of c.blocks.items) t.of_block.items t.count (length g.objects.items) moves to.outcome q
+  pub run : Transitions (program_of (plain_view view) board g) board.steps from transitions to
+  pub profile : IsProfile (map start_of c.blocks.items) t.of_block.items t.count (length g.objects.items) transitions to.outcome q
 
 -- all that a programme is made from comes from one file and one board; the patch range has room for the start stub,
 -- and no check of the code fails
-pub record IsOfOneFile (view : ElfView) (board : Board) (g : Graph) (c : Code) (t : RegionTable) (q : Profile) (moves : List Move) : Type 0 where
+pub record AreOfSameFile (view : ElfView) (board : Board) (g : Graph) (c : Code) (t : RegionTable) (q : Profile) (transitions : List Transition) : Type 0 where
   pub read : IsRead view
   pub lawful : IsLawful board
   pub graph : IsGraph (plain_view view) board g
@@ -66,4 +66,4 @@ pub record IsOfOneFile (view : ElfView) (board : Board) (g : Graph) (c : Code) (
   pub regions : length t.of_block.items ≡ length c.blocks.items
   pub patch : start_bytes (layout_of g c t board) ≤ board.patch.size
   pub no_code_fault : code_fault (plain_view view) ≡ None
-  pub run : IsRunOf view board g c t q moves
+  pub run : IsRunOf view board g c t q transitions

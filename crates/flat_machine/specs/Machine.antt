@@ -14,7 +14,7 @@ state_of byte_at machine =
         regs = λ k. slice_index machine.regs k;
         mem = byte_at machine.store;
       };
-      input = drop machine.taken machine.input.items;
+      input = drop machine.consumed machine.input.items;
       output = machine.output.items;
       outcome = machine.outcome;
     }

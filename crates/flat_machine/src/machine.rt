@@ -25,13 +25,13 @@ pub struct Flat<S> {
     regs: [u32; 32],
     input: Vec<u8>,
     // how many bytes of the input were read
-    taken: usize,
+    consumed: usize,
     output: Vec<u8>,
     outcome: FlatOutcome,
     // a range of the map, which the last fetch was inside: the next one mostly is, too
     code: Range,
     ghost code_is_part: { IsPart code map.items },
-    ghost taken_of_input: { taken ≤ length input.items },
+    ghost consumed_of_input: { consumed ≤ length input.items },
     // so that x0 is read as the others are
     ghost zero: { slice_index regs 0 ≡ 0 },
 }
@@ -67,7 +67,7 @@ impl<S: ByteStore + Drop> Flat<S> {
             pc: view.entry,
             regs: [0; 32],
             input: Vec::from_slice(alloc, input)?,
-            taken: 0,
+            consumed: 0,
             output: Vec::new(alloc),
             outcome: FlatOutcome::GoesOn,
             code: board.main,

@@ -11,7 +11,7 @@ use Rattle.hex_image.specs.Runs.{PlainRun, run_at, run_end, run_byte, byte_from,
 use Rattle.hex_image.specs.Text.{is_cut, onto_piece, pieces_from, pieces_of, insert_run, by_address, has_bytes, filled_runs}
 use Rattle.hex_image.proofs.GivenLemmas.{byte_from_below, byte_from_past}
 use Rattle.hex_image.proofs.RecordLemmas.{bytes_cons, bytes_none, bytes_from_all}
-use Rattle.hex_image.proofs.OrderLemmas.{AreDisjoint, Precedes, Pairwise, each_by_address}
+use Rattle.hex_image.proofs.OrderLemmas.{DoNotOverlap, Precedes, Pairwise, each_by_address}
 
 -- ---- where the pieces stand
 
@@ -159,7 +159,7 @@ runs_map (run ∷ runs) place good =
 
 -- ---- the order doesn't matter
 
-either_none : (one other : PlainRun) (place : ℕ) → AreDisjoint one other → (run_byte one place ≡ None) ⊎ (run_byte other place ≡ None)
+either_none : (one other : PlainRun) (place : ℕ) → DoNotOverlap one other → (run_byte one place ≡ None) ⊎ (run_byte other place ≡ None)
 either_none one other place (inl before) =
     elim (cases_lt place other.start) [ inl below ↦ inr (byte_from_below other.start other.content place below) | inr from ↦ inl (byte_from_past one.start one.content place (omega arith)) ]
 either_none one other place (inr behind) =
@@ -169,17 +169,17 @@ swapped : (a b c : Option ℕ) → (a ≡ None) ⊎ (b ≡ None) → option_or b
 swapped a b c (inl none) = rw none refl
 swapped a b c (inr none) = rw none refl
 
-insert_map : (run : PlainRun) (runs : List PlainRun) (place : ℕ) → AllByRecursion (AreDisjoint run) runs → map_of (insert_run run runs) place ≡ option_or (run_byte run place) (map_of runs place)
-insert_map run [] place disjoint = refl
-insert_map run (o ∷ os) place disjoint =
+insert_map : (run : PlainRun) (runs : List PlainRun) (place : ℕ) → AllByRecursion (DoNotOverlap run) runs → map_of (insert_run run runs) place ≡ option_or (run_byte run place) (map_of runs place)
+insert_map run [] place no_overlap = refl
+insert_map run (o ∷ os) place no_overlap =
     cond_both (nat_le run.start o.start) (run ∷ o ∷ os) (o ∷ insert_run run os) (λ runs. map_of runs place ≡ option_or (run_byte run place) (option_or (run_byte o place) (map_of os place)))
     (λ lower. refl)
-    (λ higher. rw (insert_map run os place disjoint.1) (swapped (run_byte run place) (run_byte o place) (map_of os place) (either_none run o place disjoint.0)))
+    (λ higher. rw (insert_map run os place no_overlap.1) (swapped (run_byte run place) (run_byte o place) (map_of os place) (either_none run o place no_overlap.0)))
 
-pub by_address_map : (runs : List PlainRun) (place : ℕ) → Pairwise AreDisjoint runs → map_of (by_address runs) place ≡ map_of runs place
-by_address_map [] place disjoint = refl
-by_address_map (run ∷ runs) place disjoint =
-    insert_map run (by_address runs) place (each_by_address (AreDisjoint run) runs disjoint.0) ∙ ap (option_or (run_byte run place)) (by_address_map runs place disjoint.1)
+pub by_address_map : (runs : List PlainRun) (place : ℕ) → Pairwise DoNotOverlap runs → map_of (by_address runs) place ≡ map_of runs place
+by_address_map [] place no_overlap = refl
+by_address_map (run ∷ runs) place no_overlap =
+    insert_map run (by_address runs) place (each_by_address (DoNotOverlap run) runs no_overlap.0) ∙ ap (option_or (run_byte run place)) (by_address_map runs place no_overlap.1)
 
 no_byte : (first : ℕ) (bytes : List ℕ) (place : ℕ) → nat_lt 0 (length bytes) ≡ false → byte_from first bytes place ≡ None
 no_byte first [] place empty = refl

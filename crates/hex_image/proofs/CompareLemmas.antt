@@ -21,7 +21,7 @@ length_runs (r ∷ rs) = ap suc (length_runs rs)
 pub run_before : (runs : List HexRun) → AreMaximal (map_runs runs) → (i j : ℕ) (d : HexRun) → i < j → j < length runs → run_end (plain_run (get_or runs i d)) < (get_or runs j d).at
 run_before runs maximal i j d lower below =
     let size = length_runs runs in
-    let before = maximal.apart i j (plain_run d) lower (omega arith) in
+    let before = maximal.disjoint i j (plain_run d) lower (omega arith) in
     rw (get_or-map plain_run runs i d, get_or-map plain_run runs j d) at before
 
 pub starts_rise : (runs : List HexRun) (address : ℕ) → AreMaximal (map_runs runs) → IsPartitionedBy (λ (run : HexRun). nat_le run.at address) runs

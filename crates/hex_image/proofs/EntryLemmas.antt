@@ -36,7 +36,7 @@ ascends_from least other [] le up = tt
 ascends_from least other (e ∷ es) le up = let here = up.0 in (omega arith, up.1)
 
 ends_from : (least more : ℕ) (runs : List PlainRun) → least ≤ more → AreBelow least runs → AreBelow more runs
-ends_from least more runs le below = record { ends = each_weaker (EndsBy least) (EndsBy more) (λ run ends. omega arith) runs below.ends; filled = below.filled; apart = below.apart }
+ends_from least more runs le below = record { ends = each_weaker (EndsBy least) (EndsBy more) (λ run ends. omega arith) runs below.ends; filled = below.filled; disjoint = below.disjoint }
 
 entry_below : (es : List (ℕ × ℕ)) (least address : ℕ) → Ascends least es → address < least → entry_at es address ≡ None
 entry_below [] least address up below = refl
@@ -99,7 +99,7 @@ pub goes_first : (map : BTreeMap ℕ ℕ) (left : List (ℕ × ℕ)) → left �
 goes_first map left is ordered = rw is record {
   reached = 0;
   fits = omega arith;
-  below = record { ends = tt; filled = tt; apart = tt };
+  below = record { ends = tt; filled = tt; disjoint = tt };
   ascends = ascends_by_keys 0 map.entries (any_above (keys_of map.entries)) ordered;
   bytes = λ address. found_entry map.entries address;
 }

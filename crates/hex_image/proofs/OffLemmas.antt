@@ -90,4 +90,4 @@ only_run (r ∷ rs) zero d address below others =
     rw rest (option_or-None (run_byte r address))
 only_run (r ∷ rs) (suc k) d address below others =
     let here = others 0 (omega arith) (omega arith) in
-    rw here (only_run rs k d address (omega arith) (λ j within apart. others (suc j) (omega arith) (λ same. apart (omega arith))))
+    rw here (only_run rs k d address (omega arith) (λ j within disjoint. others (suc j) (omega arith) (λ same. disjoint (omega arith))))

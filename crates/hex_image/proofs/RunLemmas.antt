@@ -27,13 +27,13 @@ EndBy address runs = AllByRecursion (EndsBy address) runs
 pub record AreBelow (address : ℕ) (runs : List PlainRun) : Type 0 where
   pub ends : EndBy address runs
   pub filled : AllByRecursion IsFilled runs
-  pub apart : Pairwise ComesBefore runs
+  pub disjoint : Pairwise ComesBefore runs
 
 joined_ends : (run : PlainRun) (address byte : ℕ) → run_end run ≤ address → EndBy (address + 1) (joined run address byte)
 joined_ends run address byte ends =
     cond_both (run_end run == address) (run_at run.start (run.content ++ byte ∷ []) ∷ []) (run ∷ run_at address (byte ∷ []) ∷ []) (EndBy (address + 1))
-    (λ meets. let same : run_end run ≡ address = grind (arith, nat_tests) in (omega (arith, length-append run.content (byte ∷ [])), tt))
-    (λ apart. (omega arith, (omega arith, tt)))
+    (λ ranges_overlap. let same : run_end run ≡ address = grind (arith, nat_tests) in (omega (arith, length-append run.content (byte ∷ [])), tt))
+    (λ disjoint. (omega arith, (omega arith, tt)))
 
 with_byte_ends : (runs : List PlainRun) (address byte : ℕ) → EndBy address runs → EndBy (address + 1) (with_byte runs address byte)
 with_byte_ends [] address byte ends = (omega arith, tt)
@@ -44,8 +44,8 @@ with_byte_filled : (runs : List PlainRun) (address byte : ℕ) → AllByRecursio
 with_byte_filled [] address byte filled = (omega arith, tt)
 with_byte_filled (run ∷ []) address byte filled =
     cond_both (run_end run == address) (run_at run.start (run.content ++ byte ∷ []) ∷ []) (run ∷ run_at address (byte ∷ []) ∷ []) (AllByRecursion IsFilled)
-    (λ meets. (omega (arith, length-append run.content (byte ∷ [])), tt))
-    (λ apart. (filled.0, (omega arith, tt)))
+    (λ ranges_overlap. (omega (arith, length-append run.content (byte ∷ [])), tt))
+    (λ disjoint. (filled.0, (omega arith, tt)))
 with_byte_filled (run ∷ next ∷ runs) address byte filled = (filled.0, with_byte_filled (next ∷ runs) address byte filled.1)
 
 abbrev StartsAbove : ℕ → PlainRun → Type 0
@@ -55,28 +55,28 @@ with_byte_above : (bound : ℕ) (runs : List PlainRun) (address byte : ℕ) → 
 with_byte_above bound [] address byte lower above = (lower, tt)
 with_byte_above bound (run ∷ []) address byte lower above =
     cond_both (run_end run == address) (run_at run.start (run.content ++ byte ∷ []) ∷ []) (run ∷ run_at address (byte ∷ []) ∷ []) (AllByRecursion (StartsAbove bound))
-    (λ meets. (above.0, tt))
-    (λ apart. (above.0, (lower, tt)))
+    (λ ranges_overlap. (above.0, tt))
+    (λ disjoint. (above.0, (lower, tt)))
 with_byte_above bound (run ∷ next ∷ runs) address byte lower above = (above.0, with_byte_above bound (next ∷ runs) address byte lower above.1)
 
-with_byte_apart : (runs : List PlainRun) (address byte : ℕ) → EndBy address runs → AllByRecursion IsFilled runs → Pairwise ComesBefore runs → Pairwise ComesBefore (with_byte runs address byte)
-with_byte_apart [] address byte ends filled apart = (tt, tt)
-with_byte_apart (run ∷ []) address byte ends filled apart =
+with_byte_disjoint : (runs : List PlainRun) (address byte : ℕ) → EndBy address runs → AllByRecursion IsFilled runs → Pairwise ComesBefore runs → Pairwise ComesBefore (with_byte runs address byte)
+with_byte_disjoint [] address byte ends filled disjoint = (tt, tt)
+with_byte_disjoint (run ∷ []) address byte ends filled disjoint =
     let here = ends.0 in
     cond_both (run_end run == address) (run_at run.start (run.content ++ byte ∷ []) ∷ []) (run ∷ run_at address (byte ∷ []) ∷ []) (Pairwise ComesBefore)
-    (λ meets. (tt, tt))
+    (λ ranges_overlap. (tt, tt))
     (λ gap. ((grind (arith, nat_tests), tt), (tt, tt)))
-with_byte_apart (run ∷ next ∷ runs) address byte ends filled apart =
-    let gap = apart.0.0 in
+with_byte_disjoint (run ∷ next ∷ runs) address byte ends filled disjoint =
+    let gap = disjoint.0.0 in
     let next_ends = ends.1.0 in
-    (with_byte_above (run_end run) (next ∷ runs) address byte (omega arith) apart.0, with_byte_apart (next ∷ runs) address byte ends.1 filled.1 apart.1)
+    (with_byte_above (run_end run) (next ∷ runs) address byte (omega arith) disjoint.0, with_byte_disjoint (next ∷ runs) address byte ends.1 filled.1 disjoint.1)
 
 -- runs by address take a byte behind them
 pub below_more : (runs : List PlainRun) (address byte : ℕ) → AreBelow address runs → AreBelow (address + 1) (with_byte runs address byte)
 below_more runs address byte below = record {
   ends = with_byte_ends runs address byte below.ends;
   filled = with_byte_filled runs address byte below.filled;
-  apart = with_byte_apart runs address byte below.ends below.filled below.apart;
+  disjoint = with_byte_disjoint runs address byte below.ends below.filled below.disjoint;
 }
 
 -- they have no byte at or behind their end
@@ -93,7 +93,7 @@ option_or-None (Some byte) = refl
 joined_map : (run : PlainRun) (address byte place : ℕ) → run_end run ≤ address → map_of (joined run address byte) place ≡ (if place == address then Some byte else map_of (run ∷ []) place)
 joined_map run address byte place ends =
     cond_both (run_end run == address) (run_at run.start (run.content ++ byte ∷ []) ∷ []) (run ∷ run_at address (byte ∷ []) ∷ []) (λ runs. map_of runs place ≡ (if place == address then Some byte else map_of (run ∷ []) place))
-    (λ meets.
+    (λ ranges_overlap.
     let same : run.start + length run.content ≡ address = grind (arith, nat_tests) in
     let pushed = byte_from_push run.start run.content byte place in
     let none = option_or-None (run_byte run place) in
@@ -138,21 +138,21 @@ pub maximal_from_below : (address : ℕ) (runs : List PlainRun) → address ≤ 
 maximal_from_below address runs fits below = record {
   placed = All-from_recursion (EndsBy 4294967296) runs (each_weaker (EndsBy address) (EndsBy 4294967296) (λ run ends. omega arith) runs below.ends);
   filled = All-from_recursion IsFilled runs below.filled;
-  apart = pairs_from ComesBefore runs below.apart;
+  disjoint = pairs_from ComesBefore runs below.disjoint;
 }
 
 -- ---- runs that are popped and pushed
 
 pub pushed_joined : (before after front : List HexRun) (last more : HexRun) (address byte : ℕ) → before ≡ front ++ last ∷ [] → after ≡ front ++ more ∷ []
     → plain_run more ≡ run_at last.at (last.bytes.items ++ byte ∷ []) → last.at + length last.bytes.items ≡ address → map_runs after ≡ with_byte (map_runs before) address byte
-pushed_joined before after front last more address byte was is longer meets =
+pushed_joined before after front last more address byte was is longer ranges_overlap =
     let test : (run_end (plain_run last) == address) ≡ true = grind (arith, nat_tests) in
     let one : joined (plain_run last) address byte ≡ plain_run more ∷ [] = rw test (ap (λ run. run ∷ []) (sym longer)) in
     rw (was, is, map-append plain_run front (last ∷ []), map-append plain_run front (more ∷ []), with_byte_last (map_runs front) (plain_run last) address byte) (ap (λ runs. map_runs front ++ runs) (sym one))
 
-pub pushed_apart : (before middle front : List HexRun) (last : HexRun) (after : List PlainRun) (address byte : ℕ) → before ≡ front ++ last ∷ [] → middle ≡ front ++ last ∷ []
+pub pushed_disjoint : (before middle front : List HexRun) (last : HexRun) (after : List PlainRun) (address byte : ℕ) → before ≡ front ++ last ∷ [] → middle ≡ front ++ last ∷ []
     → (last.at + length last.bytes.items ≡ address → ⊥) → after ≡ map_runs middle ++ run_at address (byte ∷ []) ∷ [] → after ≡ with_byte (map_runs before) address byte
-pushed_apart before middle front last after address byte was is apart pushed =
+pushed_disjoint before middle front last after address byte was is disjoint pushed =
     let test : (run_end (plain_run last) == address) ≡ false = grind (arith, nat_tests) in
     let two : joined (plain_run last) address byte ≡ plain_run last ∷ run_at address (byte ∷ []) ∷ [] = rw test refl in
     let all : map_runs middle ++ run_at address (byte ∷ []) ∷ [] ≡ map_runs front ++ plain_run last ∷ run_at address (byte ∷ []) ∷ [] =

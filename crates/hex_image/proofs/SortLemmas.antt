@@ -10,7 +10,7 @@ use Rattle.std.specs.List.Sorted.{IsPermutation, IsNonDecreasingBy}
 use Rattle.hex_image.specs.Runs.{PlainRun}
 use Rattle.hex_image.specs.Text.{insert_run, by_address, plain_block}
 use Rattle.hex_image.specs.declared.writing.Block.{Block}
-use Rattle.hex_image.proofs.OrderLemmas.{IsFilled, AreDisjoint, Precedes, Pairwise, each_weaker, each_by_address, by_address_ordered}
+use Rattle.hex_image.proofs.OrderLemmas.{IsFilled, DoNotOverlap, Precedes, Pairwise, each_weaker, each_by_address, by_address_ordered}
 
 insert_permutation : (r : PlainRun) (rs : List PlainRun) → IsPermutation (r ∷ rs) (insert_run r rs)
 insert_permutation r [] = IsPermutation-refl (r ∷ [])
@@ -131,10 +131,10 @@ rising_from_ordered (r ∷ rs) filled ordered =
     (each_weaker (Precedes r) (Rises r) (λ s before. omega arith) rs ordered.0, rising_from_ordered rs filled.1 ordered.1)
 
 -- runs in another order, in which the first addresses don't fall
-sorted_runs : (rs ss : List PlainRun) → AllByRecursion IsFilled rs → Pairwise AreDisjoint rs → IsPermutation rs ss → Pairwise FallsNever ss → ss ≡ by_address rs
-sorted_runs rs ss filled disjoint moved sorted =
+sorted_runs : (rs ss : List PlainRun) → AllByRecursion IsFilled rs → Pairwise DoNotOverlap rs → IsPermutation rs ss → Pairwise FallsNever ss → ss ≡ by_address rs
+sorted_runs rs ss filled no_overlap moved sorted =
     let same_runs = IsPermutation-trans ss rs (by_address rs) (IsPermutation-sym rs ss moved) (by_address_permutation rs) in
-    let rising = rising_from_ordered (by_address rs) (each_by_address IsFilled rs filled) (by_address_ordered rs filled disjoint) in
+    let rising = rising_from_ordered (by_address rs) (each_by_address IsFilled rs filled) (by_address_ordered rs filled no_overlap) in
     let counts : (address : ℕ) → count_at address ss ≤ 1 = λ address.
     let same = sum_by-IsPermutation (begins_at address) ss (by_address rs) same_runs in
     let most = one_at address (by_address rs) rising in omega arith in
@@ -153,6 +153,6 @@ no_falls [] sorted = tt
 no_falls (b ∷ bs) sorted =
     (no_fall_from b.start bs (λ k d below. sorted 0 (suc k) d (omega arith) (omega arith)), no_falls bs (λ i j d le below. sorted (suc i) (suc j) d (omega arith) (omega arith)))
 
-pub sorted_blocks : (blocks sorted : List Block) (rs : List PlainRun) → map plain_block blocks ≡ rs → AllByRecursion IsFilled rs → Pairwise AreDisjoint rs → IsPermutation blocks sorted → IsNonDecreasingBy (λ (b : Block). b.start) sorted → map plain_block sorted ≡ by_address rs
-sorted_blocks blocks sorted rs are filled disjoint moved order =
-    sorted_runs rs (map plain_block sorted) filled disjoint (rw are at (IsPermutation-map plain_block blocks sorted moved)) (no_falls sorted order)
+pub sorted_blocks : (blocks sorted : List Block) (rs : List PlainRun) → map plain_block blocks ≡ rs → AllByRecursion IsFilled rs → Pairwise DoNotOverlap rs → IsPermutation blocks sorted → IsNonDecreasingBy (λ (b : Block). b.start) sorted → map plain_block sorted ≡ by_address rs
+sorted_blocks blocks sorted rs are filled no_overlap moved order =
+    sorted_runs rs (map plain_block sorted) filled no_overlap (rw are at (IsPermutation-map plain_block blocks sorted moved)) (no_falls sorted order)

@@ -8,7 +8,7 @@ use Rattle.std.specs.List.{AllByRecursion, count_by, flat_map}
 use Rattle.std.specs.Option.{option_or}
 use Rattle.word_bits.specs.Words.{byte_of, half_of, word_of}
 use Rattle.elf_reader.specs.File.{PlainSegment}
-use Rattle.elf_reader.specs.Loadable.{AreLoadable, AreApart}
+use Rattle.elf_reader.specs.Loadable.{AreLoadable, AreDisjoint}
 use Rattle.hex_image.specs.Runs.{PlainRun, ByteMap, run_end, run_byte, byte_from, map_of, segment_run, file_map}
 use Rattle.hex_image.specs.Records.{PlainRecord, bytes_in, line_of}
 use Rattle.hex_image.specs.Text.{data_record, end_record, upper_record, entry_record, upper_half, upper_records, piece_records, tail_records, pieces_of, filled_runs, runs_by_address, hex_records, hex_text}
@@ -196,27 +196,27 @@ entry_read : (c d : Contents) (rs : List PlainRecord) (entry : ℕ) → Reads c 
 entry_read c d rs entry reads = reads_append c d (after_record d (entry_record entry)) rs (entry_record entry ∷ []) reads (entry_fits entry, refl, λ line. refl, refl)
 
 -- the data records of a file, read from the beginning
-file_read : (segments : List PlainSegment) → AreLoadable segments → AreApart segments → PiecesRead nothing_read (flat_map pieces_of (runs_by_address segments)) (piece_records None (flat_map pieces_of (runs_by_address segments)))
-file_read segments loadable apart =
+file_read : (segments : List PlainSegment) → AreLoadable segments → AreDisjoint segments → PiecesRead nothing_read (flat_map pieces_of (runs_by_address segments)) (piece_records None (flat_map pieces_of (runs_by_address segments)))
+file_read segments loadable disjoint =
     let filled = filled_runs segments in
     let runs = runs_by_address segments in
-    let ordered = by_address_ordered filled (filled_filled (map segment_run segments)) (filled_disjoint segments loadable apart) in
+    let ordered = by_address_ordered filled (filled_filled (map segment_run segments)) (filled_disjoint segments loadable disjoint) in
     pieces_read None 0 nothing_read (flat_map pieces_of runs) tt (λ address le. refl) (runs_data 0 runs (each_by_address IsGood filled (filled_good segments loadable)) (ascending runs ordered))
 
-pub text_spells : (segments : List PlainSegment) (entry : ℕ) → AreLoadable segments → AreApart segments → entry < 4294967296 → Spells (hex_text segments entry) (file_map segments) (Some entry)
-text_spells segments entry loadable apart fits =
+pub text_spells : (segments : List PlainSegment) (entry : ℕ) → AreLoadable segments → AreDisjoint segments → entry < 4294967296 → Spells (hex_text segments entry) (file_map segments) (Some entry)
+text_spells segments entry loadable disjoint fits =
     let filled = filled_runs segments in
-    let disjoint = filled_disjoint segments loadable apart in
+    let no_overlap = filled_disjoint segments loadable disjoint in
     let good = each_by_address IsGood filled (filled_good segments loadable) in
     let runs = runs_by_address segments in
     let pieces = flat_map pieces_of runs in
-    let pieces_are = file_read segments loadable apart in
+    let pieces_are = file_read segments loadable disjoint in
     let read = text_reads (piece_records None pieces ++ entry_record entry ∷ []) _ (entry_read nothing_read pieces_are.later (piece_records None pieces) entry pieces_are.reads) in
     let same : (piece_records None pieces ++ entry_record entry ∷ []) ++ end_record ∷ [] ≡ hex_records segments entry = append_assoc (piece_records None pieces) (entry_record entry ∷ []) (end_record ∷ []) in
     let contents = rw same at read.1 in
     record {
       sound = rw same at read.0;
-      given = λ address. ap (λ c. c.given address) contents ∙ pieces_are.given address ∙ runs_map runs address good ∙ by_address_map filled address disjoint ∙ filled_map (map segment_run segments) address;
+      given = λ address. ap (λ c. c.given address) contents ∙ pieces_are.given address ∙ runs_map runs address good ∙ by_address_map filled address no_overlap ∙ filled_map (map segment_run segments) address;
       entry = ap (λ c. c.entry) contents ∙ ap Some (entry_value entry fits);
     }
 
@@ -225,10 +225,10 @@ length_lines [] = refl
 length_lines (r ∷ rs) = let rest = length_lines rs in omega arith
 
 -- a text has as many newlines as records
-pub newlines_counted : (segments : List PlainSegment) (entry : ℕ) → AreLoadable segments → AreApart segments → count_by (λ byte. byte == 10) (hex_text segments entry) ≡ length (hex_records segments entry)
-newlines_counted segments entry loadable apart =
+pub newlines_counted : (segments : List PlainSegment) (entry : ℕ) → AreLoadable segments → AreDisjoint segments → count_by (λ byte. byte == 10) (hex_text segments entry) ≡ length (hex_records segments entry)
+newlines_counted segments entry loadable disjoint =
     let pieces = flat_map pieces_of (runs_by_address segments) in
-    let pieces_are = file_read segments loadable apart in
+    let pieces_are = file_read segments loadable disjoint in
     let fits = fit_append (piece_records None pieces) (tail_records entry) (reads_fit nothing_read pieces_are.later (piece_records None pieces) pieces_are.reads) (entry_fits entry, (end_fits, tt)) in
     let lines = ap length (record_lines (hex_records segments entry) fits) in
     let count = length-slice_split (λ byte. byte == 10) (hex_text segments entry) in

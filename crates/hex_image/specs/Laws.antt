@@ -1,7 +1,7 @@
 -- Laws about texts.
 use Rattle.std.specs.Prelude.{◌≡◌, ℕ, ◌<◌, List, Option, Some}
 use Rattle.elf_reader.specs.File.{PlainSegment}
-use Rattle.elf_reader.specs.Loadable.{AreLoadable, AreApart}
+use Rattle.elf_reader.specs.Loadable.{AreLoadable, AreDisjoint}
 use Rattle.hex_image.specs.Runs.{ByteMap, file_map}
 use Rattle.hex_image.specs.Text.{hex_text}
 use Rattle.hex_image.specs.Reading.{Spells}
@@ -10,7 +10,7 @@ use Rattle.hex_image.specs.Difference.{AreSame}
 -- the text of a file spells its bytes and its entry
 abbrev pub TextSpellsImage : Type 0
 TextSpellsImage =
-    (segments : List PlainSegment) (entry : ℕ) → AreLoadable segments → AreApart segments → entry < 4294967296 → Spells (hex_text segments entry) (file_map segments) (Some entry)
+    (segments : List PlainSegment) (entry : ℕ) → AreLoadable segments → AreDisjoint segments → entry < 4294967296 → Spells (hex_text segments entry) (file_map segments) (Some entry)
 
 -- a text spells one map and one entry at most
 abbrev pub OneSpelling : Type 0

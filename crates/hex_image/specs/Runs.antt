@@ -55,7 +55,7 @@ with_byte (run ∷ next ∷ runs) address byte = run ∷ with_byte (next ∷ run
 pub record AreMaximal (runs : List PlainRun) : Type 0 where
   pub placed : All (λ run. run_end run ≤ 4294967296) runs
   pub filled : All (λ run. 0 < length run.content) runs
-  pub apart : AllPairs ComesBefore runs
+  pub disjoint : AllPairs ComesBefore runs
 
 -- a run as a list
 abbrev pub plain_run : HexRun → PlainRun

@@ -1,6 +1,6 @@
 ghost use Rattle.std.specs.Prelude.{◌≡◌, ℕ, ◌+◌, ◌*◌, ◌^◌, ◌<◌, ◌≤◌, ◌==◌, IsTrue, false, true, not, List, [], ◌∷◌, length, map, IfOk, OnOk, IfSome, IfNone, position, ◌++◌};
 ghost use Rattle.std.specs.Option.{option_or};
-ghost use Rattle.list_checks.specs.First.{Tells, TellsUnless, ◌or_else◌, unless};
+ghost use Rattle.list_checks.specs.First.{Reports, ReportsUnless, ◌or_else◌, unless};
 ghost use Rattle.hex_image.specs.Runs.{AreMaximal, byte_from, image_map, map_of, map_runs, plain_run, plain_runs, run_at, with_byte};
 ghost use Rattle.hex_image.specs.Records.{HasLength, plain_record, bytes_in, record_in};
 ghost use Rattle.hex_image.specs.Reading.{Spells, is_newline, lines_of, given_by, contents_of, data_start, after_record, after_line, check_fault, kind_fault, fields_fault, has_fields, any_given, twice_fault, record_fault, line_fault, is_end, trailing_fault, unended_fault, hex_fault, hex_contents};
@@ -26,7 +26,7 @@ struct Reading {
 ///
 /// The error is the first fault by line; `Memory` comes only where no memory was left.
 pub fn read_hex(alloc: Global, bytes: &[u8]) -> Result<HexImage, HexFault>
-    ensures fault { TellsUnless HexFault.Memory result (hex_fault bytes.now) }
+    ensures fault { ReportsUnless HexFault.Memory result (hex_fault bytes.now) }
     ensures spells { IfOk result (λ image. Spells bytes.now (image_map image) image.entry) }
     ensures maximal { IfOk result (λ image. AreMaximal (plain_runs image)) }
 {
@@ -41,7 +41,7 @@ pub fn read_hex(alloc: Global, bytes: &[u8]) -> Result<HexImage, HexFault>
 /// Reads all records.
 #[tactic(auto, using(crate::proofs::LineLemmas::fault_at))]
 fn read_lines(alloc: Global, text: &[u8]) -> Result<Reading, HexFault>
-    ensures fault { TellsUnless HexFault.Memory result (hex_fault text.now) }
+    ensures fault { ReportsUnless HexFault.Memory result (hex_fault text.now) }
     ensures contents { IfOk result (λ reading. contents_of reading ≡ hex_contents text.now) }
 {
     let mut reading = Reading {
@@ -81,7 +81,7 @@ fn newline_place(text: &[u8]) -> Option<usize>
 
 /// Nothing stands behind the end record.
 fn check_nothing(rest: &[u8], line: u32) -> Result<(), HexFault>
-    ensures { Tells result (trailing_fault line (lines_of rest.now)) }
+    ensures { Reports result (trailing_fault line (lines_of rest.now)) }
 {
     if rest.is_empty() {
         Ok(())
@@ -104,7 +104,7 @@ fn unended(rest: &[u8], line: u32) -> HexFault
 /// Reads a line without its newline, and answers whether it is an end of file record.
 #[tactic(auto, unfolding(crate::specs::Reading::line_fault, crate::specs::Reading::after_line, crate::specs::Reading::is_end))]
 fn read_line(alloc: Global, reading: &mut Reading, text: &[u8], line: u32) -> Result<bool, HexFault>
-    ensures fault { TellsUnless HexFault.Memory result (line_fault line (contents_of reading.old) (bytes_in text.now)) }
+    ensures fault { ReportsUnless HexFault.Memory result (line_fault line (contents_of reading.old) (bytes_in text.now)) }
     ensures end { IfOk result (λ ended. ended ≡ is_end (bytes_in text.now)) }
     ensures contents { OnOk result (contents_of reading.new ≡ after_line (contents_of reading.old) (bytes_in text.now)) }
 {
@@ -117,7 +117,7 @@ fn read_line(alloc: Global, reading: &mut Reading, text: &[u8], line: u32) -> Re
 /// Reads a record, and answers whether it is an end of file record.
 fn read_record(reading: &mut Reading, bytes: &[u8], line: u32) -> Result<bool, HexFault>
     requires { HasLength bytes.now }
-    ensures fault { TellsUnless HexFault.Memory result (check_fault line bytes.now or_else record_fault line (contents_of reading.old) (record_in bytes.now)) }
+    ensures fault { ReportsUnless HexFault.Memory result (check_fault line bytes.now or_else record_fault line (contents_of reading.old) (record_in bytes.now)) }
     ensures end { IfOk result (λ ended. ended ≡ ((record_in bytes.now).kind == 1)) }
     ensures contents { OnOk result (contents_of reading.new ≡ after_record (contents_of reading.old) (record_in bytes.now)) }
 {
@@ -130,7 +130,7 @@ fn read_record(reading: &mut Reading, bytes: &[u8], line: u32) -> Result<bool, H
 }
 
 fn check_sum(bytes: &[u8], line: u32) -> Result<(), HexFault>
-    ensures { Tells result (check_fault line bytes.now) }
+    ensures { Reports result (check_fault line bytes.now) }
 {
     if sum_of(bytes) == 0 {
         Ok(())
@@ -140,7 +140,7 @@ fn check_sum(bytes: &[u8], line: u32) -> Result<(), HexFault>
 }
 
 fn check_kind(record: &Record, line: u32) -> Result<(), HexFault>
-    ensures { Tells result (kind_fault line (plain_record «record».now)) }
+    ensures { Reports result (kind_fault line (plain_record «record».now)) }
 {
     match record.kind {
         kind::DATA
@@ -155,7 +155,7 @@ fn check_kind(record: &Record, line: u32) -> Result<(), HexFault>
 }
 
 fn check_fields(record: &Record, line: u32) -> Result<(), HexFault>
-    ensures fault { Tells result (fields_fault line (plain_record «record».now)) }
+    ensures fault { Reports result (fields_fault line (plain_record «record».now)) }
     ensures fields { OnOk result (IsTrue (has_fields (plain_record «record».now))) }
 {
     if fits_kind(record) {
@@ -181,7 +181,7 @@ fn fits_kind(record: &Record) -> bool
 /// Takes what a record says.
 fn take_record(reading: &mut Reading, record: &Record, line: u32) -> Result<(), HexFault>
     requires { IsTrue (has_fields (plain_record «record».now)) }
-    ensures fault { TellsUnless HexFault.Memory result (twice_fault line (contents_of reading.old) (plain_record «record».now)) }
+    ensures fault { ReportsUnless HexFault.Memory result (twice_fault line (contents_of reading.old) (plain_record «record».now)) }
     ensures contents { OnOk result (contents_of reading.new ≡ after_record (contents_of reading.old) (plain_record «record».now)) }
 {
     let data = record.bytes;
@@ -210,7 +210,7 @@ fn put_data(
     line: u32,
 ) -> Result<(), HexFault>
     requires { start + length bytes.now ≤ 4294967296 }
-    ensures fault { TellsUnless HexFault.Memory result (unless (not (any_given (given_by map.old) start (length bytes.now))) (HexFault.Twice line)) }
+    ensures fault { ReportsUnless HexFault.Memory result (unless (not (any_given (given_by map.old) start (length bytes.now))) (HexFault.Twice line)) }
     ensures given { OnOk result ((address : ℕ) → given_by map.new address ≡ option_or (given_by map.old address) (byte_from start bytes.now address)) }
 {
     for (offset, byte) in bytes.iter().enumerate() {

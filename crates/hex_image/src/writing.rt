@@ -1,6 +1,6 @@
 ghost use Rattle.std.specs.Prelude.{◌≡◌, ℕ, ◌+◌, ◌<◌, ◌≤◌, ◌==◌, true, false, List, [], ◌∷◌, ◌++◌, All, count_by, length, map, IfOk, OnOk};
 ghost use Rattle.elf_reader.specs.File.{segments_of, plain_segment};
-ghost use Rattle.elf_reader.specs.Loadable.{IsLoadable, AreLoadable, AreApart};
+ghost use Rattle.elf_reader.specs.Loadable.{IsLoadable, AreLoadable, AreDisjoint};
 ghost use Rattle.hex_image.specs.Runs.{PlainRun, run_at};
 ghost use Rattle.hex_image.specs.Records.{line_of};
 ghost use Rattle.hex_image.specs.Text.{hex_text, hex_records, plain_block, IsPlaced, text_with, filled_runs, runs_by_address, pieces_of, is_cut, upper_record, entry_record, end_record, tail_records, data_record};
@@ -36,7 +36,7 @@ struct HexText {
 /// comes only where no memory was left.
 pub fn write_hex(alloc: Global, view: &ElfView) -> Result<Vec<u8>, AllocError>
     requires loadable { AreLoadable (segments_of view.now) }
-    requires apart { AreApart (segments_of view.now) }
+    requires disjoint { AreDisjoint (segments_of view.now) }
     ensures text { IfOk result (λ text. text.items ≡ hex_text (segments_of view.now) view.now.entry) }
     ensures records { IfOk result (λ text. count_by is_newline text.items ≡ length (hex_records (segments_of view.now) view.now.entry)) }
 {
@@ -53,7 +53,7 @@ pub fn write_hex(alloc: Global, view: &ElfView) -> Result<Vec<u8>, AllocError>
 /// The blocks of the segments that have file bytes, by address.
 fn blocks_by_address<'a>(alloc: Global, view: &ElfView<'a>) -> Result<Vec<Block<'a>>, AllocError>
     requires loadable { AreLoadable (segments_of view.now) }
-    requires apart { AreApart (segments_of view.now) }
+    requires disjoint { AreDisjoint (segments_of view.now) }
     ensures runs { IfOk result (λ blocks. map plain_block blocks.items ≡ runs_by_address (segments_of view.now)) }
     ensures placed { IfOk result (λ blocks. All IsPlaced blocks.items) }
 {

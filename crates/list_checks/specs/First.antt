@@ -19,11 +19,11 @@ first_below check zero = None
 first_below check (suc n) = first_below check n or_else check n
 
 -- a result tells of the first fault: Ok exactly where there is none, and else that fault
-abbrev pub Tells : {T E : Type 0} → Result T E → Option E → Type 0
-Tells (Ok value) first = first ≡ None
-Tells (Err fault) first = first ≡ Some fault
+abbrev pub Reports : {T E : Type 0} → Result T E → Option E → Type 0
+Reports (Ok value) first = first ≡ None
+Reports (Err fault) first = first ≡ Some fault
 
 -- the same of a call that may also run out of memory, which one fault of its own says
-abbrev pub TellsUnless : {T E : Type 0} → E → Result T E → Option E → Type 0
-TellsUnless memory (Ok value) first = first ≡ None
-TellsUnless memory (Err fault) first = (fault ≡ memory) ⊎ (first ≡ Some fault)
+abbrev pub ReportsUnless : {T E : Type 0} → E → Result T E → Option E → Type 0
+ReportsUnless memory (Ok value) first = first ≡ None
+ReportsUnless memory (Err fault) first = (fault ≡ memory) ⊎ (first ≡ Some fault)

@@ -17,8 +17,8 @@ abbrev pub lies_in : ℕ → ℕ → ℕ → ℕ → Bool
 lies_in base total start size = nat_le base start && nat_le (start + size) (base + total)
 
 -- two ranges, each a first place and a size, share a place. A range of size 0 has none
-abbrev pub meets : ℕ → ℕ → ℕ → ℕ → Bool
-meets base size other_base other_size =
+abbrev pub ranges_overlap : ℕ → ℕ → ℕ → ℕ → Bool
+ranges_overlap base size other_base other_size =
     nat_lt 0 size && nat_lt 0 other_size && nat_lt base (other_base + other_size) && nat_lt other_base (base + size)
 
 -- a place that passes is found

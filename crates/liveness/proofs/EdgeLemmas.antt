@@ -1,4 +1,4 @@
--- The arrows of edges: the numbers of a block's successors, and the leaders that indirect jumps may reach.
+-- The edges of edges: the numbers of a block's successors, and the leaders that indirect jumps may reach.
 use Rattle.std.proofs.Common.{◌≡◌, ◌⊎◌, inl, inr, ℕ, ◌+◌, ◌<◌, ◌==◌, Bool, true, false, ◌||◌, cond, List, [], ◌∷◌, map, length, slice_index_or, refl, sym, ap, subst, ◌∙◌, arith}
 use Rattle.std.specs.Prelude.{◌↔◌}
 use Rattle.std.specs.List.{Contains, filter}
@@ -19,7 +19,7 @@ use Rattle.code_blocks.specs.declared.parts.Code.{Code}
 use Rattle.reach_graph.specs.Reaching.{HasMark}
 use Rattle.liveness.specs.Live.{IsBlockOf, LeadsOn, units_at}
 use Rattle.liveness.specs.Summaries.{PassesOver}
-use Rattle.liveness.specs.Flows.{OneArrow, ListArrows, DirectArrows, HubArrows, MaskArrows, LeadsBack, BlockArrows, ArrivalArrows}
+use Rattle.liveness.specs.Flows.{OneEdge, ListEdges, DirectEdges, HubEdges, MaskEdges, LeadsBack, BlockEdges, ArrivalEdges}
 
 -- ---- lists of numbers
 
@@ -120,7 +120,7 @@ module _ (c : Code) (b : ℕ) (numbers : List ℕ) (ascending : IsStrictlyIncrea
       let inside : i < length numbers = omega (arith, length-map numbers (start_at c), below) in
       (i, inside, one_start c (slice_index_or numbers i 0) f ascending (number_below i inside) edge.to (sym (mapped i inside) ∙ here))
 
-  pub direct_is_list : (mask f t x : ℕ) → DirectArrows c b mask f t x ↔ ListArrows numbers (length numbers) b mask f t x
+  pub direct_is_list : (mask f t x : ℕ) → DirectEdges c b mask f t x ↔ ListEdges numbers (length numbers) b mask f t x
   direct_is_list mask f t x = (
     λ one. let (i, below, here) = number_there f one.edge in record { i = i; below = below; from = here; to_it = one.to; lets = one.lets },
     λ one. record { edge = subst (λ (g : ℕ). LeadsOn c b g) one.from (leads_there one.i one.below); to = one.to_it; lets = one.lets },
@@ -131,35 +131,35 @@ module _ (c : Code) (b : ℕ) (numbers : List ℕ) (ascending : IsStrictlyIncrea
 pub end_is : (c : Code) (b : ℕ) (block : Block) → IsBlockOf c b → block ≡ slice_index_or c.blocks.items b block → end_at c b ≡ block.end
 end_is c b block inside is = get_or-map ending_of c.blocks.items b block Stop inside ∙ ap ending_of (sym is)
 
-pub hub_is_one : (c : Code) (hub b mask : ℕ) → is_indirect_end (end_at c b) ≡ true → (f t x : ℕ) → HubArrows c hub b mask f t x ↔ OneArrow hub b mask f t x
+pub hub_is_one : (c : Code) (hub b mask : ℕ) → is_indirect_end (end_at c b) ≡ true → (f t x : ℕ) → HubEdges c hub b mask f t x ↔ OneEdge hub b mask f t x
 hub_is_one c hub b mask ends f t x =
     (λ one. (one.from, one.to, one.lets), λ one. record { ends = ends; from = one.0; to = one.1; lets = one.2 })
 
 not_both : (b : Bool) → b ≡ true → b ≡ false → ⊥
 not_both b on off = absurd (cc)
 
-pub no_hub : (c : Code) (hub b mask f t x : ℕ) → is_indirect_end (end_at c b) ≡ false → HubArrows c hub b mask f t x → ⊥
+pub no_hub : (c : Code) (hub b mask f t x : ℕ) → is_indirect_end (end_at c b) ≡ false → HubEdges c hub b mask f t x → ⊥
 no_hub c hub b mask f t x ends one = not_both (is_indirect_end (end_at c b)) one.ends ends
 
 -- ---- blocks
 
-pub no_blocks : (c : Code) (hub f t x : ℕ) → BlockArrows c hub 0 f t x → ⊥
+pub no_blocks : (c : Code) (hub f t x : ℕ) → BlockEdges c hub 0 f t x → ⊥
 no_blocks c hub f t x one = let below = one.below in omega (arith, below)
 
-back_of : (c : Code) (hub b mask f t x : ℕ) → MaskArrows c hub b mask f t x → (t ≡ b) × LeadsBack c hub b f × HasMark mask x
+back_of : (c : Code) (hub b mask f t x : ℕ) → MaskEdges c hub b mask f t x → (t ≡ b) × LeadsBack c hub b f × HasMark mask x
 back_of c hub b mask f t x (inl one) = (one.to, inl one.edge, one.lets)
 back_of c hub b mask f t x (inr one) = (one.to, inr (one.ends, one.from), one.lets)
 
-to_back : (c : Code) (hub b mask f x : ℕ) → LeadsBack c hub b f → HasMark mask x → MaskArrows c hub b mask f b x
+to_back : (c : Code) (hub b mask f x : ℕ) → LeadsBack c hub b f → HasMark mask x → MaskEdges c hub b mask f b x
 to_back c hub b mask f x (inl edge) lets = inl (record { edge = edge; to = refl; lets = lets })
 to_back c hub b mask f x (inr jump) lets = inr (record { ends = jump.0; from = jump.1; to = refl; lets = lets })
 
 pub blocks_more : (c : Code) (hub b mask : ℕ) → ((x : ℕ) → x < 32 → HasMark mask x ↔ PassesOver (units_at c b) x) → (f t x : ℕ) → x < 32
-    → BlockArrows c hub (b + 1) f t x ↔ (BlockArrows c hub b f t x ⊎ MaskArrows c hub b mask f t x)
+    → BlockEdges c hub (b + 1) f t x ↔ (BlockEdges c hub b f t x ⊎ MaskEdges c hub b mask f t x)
 blocks_more c hub b mask over f t x low = (
   λ one. elim (cases_eq t b) [
     | inl same ↦
-        inr (subst (λ (u : ℕ). MaskArrows c hub b mask f u x) (sym same)
+        inr (subst (λ (u : ℕ). MaskEdges c hub b mask f u x) (sym same)
         (to_back c hub b mask f x (subst (λ (u : ℕ). LeadsBack c hub u f) same one.edge) ((over x low).1 (subst (λ (u : ℕ). PassesOver (units_at c u) x) same one.over))))
     | inr other ↦ inl (record { below = let below = one.below in omega (arith, below, other); edge = one.edge; over = one.over })
   ],
@@ -177,11 +177,11 @@ blocks_more c hub b mask over f t x low = (
 
 -- ---- arrivals
 
-pub no_arrivals : (c : Code) (hub f t x : ℕ) → ArrivalArrows c hub 0 f t x → ⊥
+pub no_arrivals : (c : Code) (hub f t x : ℕ) → ArrivalEdges c hub 0 f t x → ⊥
 no_arrivals c hub f t x one = let below = one.below in omega (arith, below)
 
 pub arrivals_more : (c : Code) (hub i leader : ℕ) → leader ≡ slice_index_or c.indirect.items i 0 → (f t x : ℕ) → x < 32
-    → ArrivalArrows c hub (i + 1) f t x ↔ (ArrivalArrows c hub i f t x ⊎ (IsBlockOf c f × (leader ≡ start_at c f) × (t ≡ hub)))
+    → ArrivalEdges c hub (i + 1) f t x ↔ (ArrivalEdges c hub i f t x ⊎ (IsBlockOf c f × (leader ≡ start_at c f) × (t ≡ hub)))
 arrivals_more c hub i leader is f t x low = (
   λ one. elim (cases_eq one.i i) [
     | inl same ↦ inr (one.is_block, is ∙ ap (λ (j : ℕ). slice_index_or c.indirect.items j 0) (sym same) ∙ one.starts, one.to)
@@ -194,7 +194,7 @@ arrivals_more c hub i leader is f t x low = (
 )
 
 pub one_arrival : (c : Code) (hub block leader mask : ℕ) → IsStrictlyIncreasing (starts_of c) → (block < length c.blocks.items) × (start_at c block ≡ leader)
-    → ((x : ℕ) → x < 32 → HasMark mask x) → (f t x : ℕ) → x < 32 → (IsBlockOf c f × (leader ≡ start_at c f) × (t ≡ hub)) ↔ OneArrow block hub mask f t x
+    → ((x : ℕ) → x < 32 → HasMark mask x) → (f t x : ℕ) → x < 32 → (IsBlockOf c f × (leader ≡ start_at c f) × (t ≡ hub)) ↔ OneEdge block hub mask f t x
 one_arrival c hub block leader mask ascending number all f t x low = (
   λ one. (one_start c f block ascending one.0 number.0 (sym one.1 ∙ sym number.1), one.2, all x low),
   λ one. (subst (λ (g : ℕ). IsBlockOf c g) (sym one.0) number.0, sym number.1 ∙ ap (start_at c) (sym one.0), one.1),

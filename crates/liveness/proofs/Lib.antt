@@ -1,6 +1,6 @@
 pub mod MarkLemmas
 pub mod UnitLemmas
-pub mod ArrowLemmas
+pub mod GraphEdgeLemmas
 pub mod EdgeLemmas
 pub mod PathLemmas
 pub mod TableLemmas

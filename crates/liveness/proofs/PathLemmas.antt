@@ -7,11 +7,11 @@ use Rattle.std.proofs.lemmas.Grind.{get_or_default_zero}
 use Rattle.std.proofs.lemmas.List.{get_or_past, length-map}
 use Rattle.code_blocks.specs.Numbers.{start_at}
 use Rattle.code_blocks.specs.declared.parts.Code.{Code}
-use Rattle.reach_graph.specs.declared.arrows.Arrow.{Arrow}
-use Rattle.reach_graph.specs.Reaching.{HasMark, word_at, arrow_in, Reaches, stands, passes}
+use Rattle.reach_graph.specs.declared.edges.Edge.{Edge}
+use Rattle.reach_graph.specs.Reaching.{HasMark, word_at, edge_in, Reaches, stands, passes}
 use Rattle.liveness.specs.Live.{units_in, units_at, unit_in, Defines, IsBlockOf, IsUnitOf, IsLastOf, LeadsOn, LeadsAnywhere, Next, within, direct, indirect, LiveAt, used_there, used_later}
 use Rattle.liveness.specs.Summaries.{NoneDefines, UsedFirst, PassesOver}
-use Rattle.liveness.specs.Flows.{Lets, BlockArrows, ArrivalArrows, AreArrows, AreMarks}
+use Rattle.liveness.specs.Flows.{Lets, BlockEdges, ArrivalEdges, AreEdges, AreMarks}
 use Rattle.liveness.specs.Tables.{AreLive}
 
 -- ---- inside a block
@@ -63,13 +63,13 @@ pub record Says (c : Code) (hub x n : ℕ) : Type 0 where
 listed_at : (c : Code) (i f : ℕ) → i < length c.indirect.items → slice_index_or c.indirect.items i 0 ≡ start_at c f → Contains c.indirect.items (start_at c f)
 listed_at c i f below here = (i, below, get_or_default_zero c.indirect.items i (start_at c f) below ∙ here)
 
-module _ (c : Code) (hub : ℕ) (rows : List (List Arrow)) (first : List ℕ) (hub_is : hub ≡ length c.blocks.items) (arrows : AreArrows c hub rows) (marks : AreMarks c hub first) where
+module _ (c : Code) (hub : ℕ) (rows : List (List Edge)) (first : List ℕ) (hub_is : hub ≡ length c.blocks.items) (edges : AreEdges c hub rows) (marks : AreMarks c hub first) where
   says_used : (n x : ℕ) → x < 32 → HasMark (word_at first n) x → Says c hub x n
   says_used n x low has =
       let told = (marks n x low).0 has in
       record { block = λ below. live_used c n x told.1; jump = λ is. let below = told.0 in absurd (omega (arith, below, is)) }
 
-  says_block : (f t x : ℕ) → BlockArrows c hub hub f t x → Says c hub x f → Says c hub x t
+  says_block : (f t x : ℕ) → BlockEdges c hub hub f t x → Says c hub x f → Says c hub x t
   says_block f t x one before =
       let is_block : IsBlockOf c t = let below = one.below in omega (arith, below, hub_is) in
       record {
@@ -83,7 +83,7 @@ module _ (c : Code) (hub : ℕ) (rows : List (List Arrow)) (first : List ℕ) (h
         jump = λ is. let below = one.below in absurd (omega (arith, below, is));
       }
 
-  says_arrival : (f t x : ℕ) → ArrivalArrows c hub (length c.indirect.items) f t x → Says c hub x f → Says c hub x t
+  says_arrival : (f t x : ℕ) → ArrivalEdges c hub (length c.indirect.items) f t x → Says c hub x f → Says c hub x t
   says_arrival f t x one before =
       record {
         block = λ below. let is = one.to in absurd (omega (arith, below, is));
@@ -98,12 +98,12 @@ module _ (c : Code) (hub : ℕ) (rows : List (List Arrow)) (first : List ℕ) (h
 
   says_passed : (f t x : ℕ) → x < 32 → Lets rows f t x → Says c hub x f → Says c hub x t
   says_passed f t x low lets before =
-      elim ((arrows.arrows f t x low).0 lets) [ inl one ↦ says_block f t x one before | inr one ↦ says_arrival f t x one before ]
+      elim ((edges.edges f t x low).0 lets) [ inl one ↦ says_block f t x one before | inr one ↦ says_arrival f t x one before ]
 
   says : (n x : ℕ) → x < 32 → Reaches rows first n x → Says c hub x n
   says n x low (stands a k has) = says_used a k low has
   says n x low (passes a i k reached below lets) =
-      says_passed a (arrow_in rows a i).to k low (record { i = i; below = below; leads = refl; passes = lets }) (says a k low reached)
+      says_passed a (edge_in rows a i).to k low (record { i = i; below = below; leads = refl; passes = lets }) (says a k low reached)
 
   -- ---- from paths to marks
 
@@ -142,32 +142,32 @@ module _ (c : Code) (hub : ℕ) (rows : List (List Arrow)) (first : List ℕ) (h
 
   back_direct : (b d x : ℕ) → x < 32 → b < hub → PassesOver (units_at c b) x → LeadsOn c b d → Reaches rows first d x → Reaches rows first b x
   back_direct b d x low node over edge reached =
-      passed_on d b x ((arrows.arrows d b x low).1 (inl (record { below = node; edge = inl edge; over = over }))) reached
+      passed_on d b x ((edges.edges d b x low).1 (inl (record { below = node; edge = inl edge; over = over }))) reached
 
-  arrival_of : (d x i : ℕ) → IsBlockOf c d → i < length c.indirect.items → slice_index_or c.indirect.items i (start_at c d) ≡ start_at c d → ArrivalArrows c hub (length c.indirect.items) d hub x
+  arrival_of : (d x i : ℕ) → IsBlockOf c d → i < length c.indirect.items → slice_index_or c.indirect.items i (start_at c d) ≡ start_at c d → ArrivalEdges c hub (length c.indirect.items) d hub x
   arrival_of d x i inside below here =
       record { i = i; below = below; is_block = inside; starts = sym (get_or_default_zero c.indirect.items i (start_at c d) below) ∙ here; to = refl }
 
-  arrives : (d x : ℕ) → IsBlockOf c d → Contains c.indirect.items (start_at c d) → ArrivalArrows c hub (length c.indirect.items) d hub x
+  arrives : (d x : ℕ) → IsBlockOf c d → Contains c.indirect.items (start_at c d) → ArrivalEdges c hub (length c.indirect.items) d hub x
   arrives d x inside (i, below, here) = arrival_of d x i inside below here
 
   back_indirect : (b d x : ℕ) → x < 32 → b < hub → PassesOver (units_at c b) x → LeadsAnywhere c b d → Reaches rows first d x → Reaches rows first b x
   back_indirect b d x low node over edge reached =
-      let at_hub = passed_on d hub x ((arrows.arrows d hub x low).1 (inr (arrives d x edge.to edge.listed))) reached in
-      passed_on hub b x ((arrows.arrows hub b x low).1 (inl (record { below = node; edge = inr (edge.ends, refl); over = over }))) at_hub
+      let at_hub = passed_on d hub x ((edges.edges d hub x low).1 (inr (arrives d x edge.to edge.listed))) reached in
+      passed_on hub b x ((edges.edges hub b x low).1 (inl (record { below = node; edge = inr (edge.ends, refl); over = over }))) at_hub
 
-  spreads : (x b k : ℕ) → x < 32 → LiveAt c x b k → NoneDefines (units_at c b) k x → Reaches rows first b x
-  spreads x b k low (used_there b' k' unit uses) none =
+  propagates : (x b k : ℕ) → x < 32 → LiveAt c x b k → NoneDefines (units_at c b) k x → Reaches rows first b x
+  propagates x b k low (used_there b' k' unit uses) none =
       stands b' x ((marks b' x low).1 (is_node b' k' unit, record { k = k'; below = unit; uses = uses; before = none }))
-  spreads x b k low (used_later b' k' d j unit keeps (within b2 k2 behind) live) none =
-      spreads x b2 (suc k2) low live (none_so_far b2 k2 x none keeps)
-  spreads x b k low (used_later b' k' d j unit keeps (direct b2 k2 d2 last edge) live) none =
-      back_direct b2 d2 x low (is_node b2 k2 unit) (over_last b2 k2 x last none keeps) edge (spreads x d2 0 low live (none_yet d2 x))
-  spreads x b k low (used_later b' k' d j unit keeps (indirect b2 k2 d2 last edge) live) none =
-      back_indirect b2 d2 x low (is_node b2 k2 unit) (over_last b2 k2 x last none keeps) edge (spreads x d2 0 low live (none_yet d2 x))
+  propagates x b k low (used_later b' k' d j unit keeps (within b2 k2 behind) live) none =
+      propagates x b2 (suc k2) low live (none_so_far b2 k2 x none keeps)
+  propagates x b k low (used_later b' k' d j unit keeps (direct b2 k2 d2 last edge) live) none =
+      back_direct b2 d2 x low (is_node b2 k2 unit) (over_last b2 k2 x last none keeps) edge (propagates x d2 0 low live (none_yet d2 x))
+  propagates x b k low (used_later b' k' d j unit keeps (indirect b2 k2 d2 last edge) live) none =
+      back_indirect b2 d2 x low (is_node b2 k2 unit) (over_last b2 k2 x last none keeps) edge (propagates x d2 0 low live (none_yet d2 x))
 
   pub words_are_live : (words : List ℕ) → ((n k : ℕ) → HasMark (word_at words n) k ↔ Reaches rows first n k) → AreLive c words
   words_are_live words reached b x inside low = (
     λ has. (says b x low ((reached b x).0 has)).block (omega (arith, inside, hub_is)),
-    λ live. (reached b x).1 (spreads x b 0 low live (none_yet b x)),
+    λ live. (reached b x).1 (propagates x b 0 low live (none_yet b x)),
   )

@@ -12,13 +12,13 @@ use Rattle.code_blocks.specs.Blocks.{start_of}
 use Rattle.code_blocks.specs.Numbers.{starts_of, start_at}
 use Rattle.code_blocks.specs.declared.parts.Block.{Block}
 use Rattle.code_blocks.specs.declared.parts.Code.{Code}
-use Rattle.reach_graph.specs.declared.arrows.Arrow.{Arrow}
-use Rattle.reach_graph.specs.Reaching.{HasMark, word_at, arrows_of, row_items, plain_rows, AreInside}
+use Rattle.reach_graph.specs.declared.edges.Edge.{Edge}
+use Rattle.reach_graph.specs.Reaching.{HasMark, word_at, edges_of, row_items, plain_rows, AreInside}
 use Rattle.reach_graph.proofs.MarkLemmas.{none_in_zero}
 use Rattle.liveness.specs.Live.{units_in, units_at, IsBlockOf, LiveAt, Live}
 use Rattle.liveness.specs.Summaries.{UsedFirst}
-use Rattle.liveness.specs.Flows.{Lets, Adds, BlockArrows, ArrivalArrows, AreArrows, AreMarks, HasNone}
-use Rattle.liveness.specs.Marks.{TellsClear}
+use Rattle.liveness.specs.Flows.{Lets, Adds, BlockEdges, ArrivalEdges, AreEdges, AreMarks, HasNone}
+use Rattle.liveness.specs.Marks.{ReportsClear}
 use Rattle.liveness.specs.Tables.{AreLive, IsFree, IsLeastDead}
 use Rattle.liveness.proofs.EdgeLemmas.{is_start, one_start}
 
@@ -47,13 +47,13 @@ found_live c leaders words leader i x same are ascending below here low =
       λ live. (are i x inside low).1 (live_of c leaders leader i x same ascending inside begins live),
     )
 
-apart : (b : Bool) → b ≡ true → b ≡ false → ⊥
-apart b on off = absurd (cc)
+disjoint : (b : Bool) → b ≡ true → b ≡ false → ⊥
+disjoint b on off = absurd (cc)
 
 pub none_live : (c : Code) (leaders : List ℕ) (leader x : ℕ) → leaders ≡ starts_of c → has leaders leader ≡ false → HasMark 0 x ↔ Live c leader x
 none_live c leaders leader x same none = (
   λ mark. absurd (none_in_zero x mark),
-  λ live. absurd (apart (has (starts_of c) leader)
+  λ live. absurd (disjoint (has (starts_of c) leader)
       (subst (λ (a : ℕ). has (starts_of c) a ≡ true) live.begins (is_start c live.block live.is_block))
       (subst (λ (xs : List ℕ). has xs leader ≡ false) same none)),
 )
@@ -66,7 +66,7 @@ module _ (c : Code) (leader : ℕ) (avoid : RegSet) (word taken : ℕ) (live : (
   not_free x low mark free =
       elim ((both x).0 mark) [ inl on ↦ free.dead ((live x low).0 on) | inr set ↦ free.allowed set ]
 
-  pub least_dead : (o : Option ℕ) → TellsClear taken o → IsLeastDead c leader avoid o
+  pub least_dead : (o : Option ℕ) → ReportsClear taken o → IsLeastDead c leader avoid o
   least_dead None tells = λ x from below free. not_free x below (tells x from below) free
   least_dead (Some r) tells =
       record {
@@ -121,43 +121,43 @@ marks_more c b used words below are told j x low =
           )
     ]
 
--- ---- the arrows of a program
+-- ---- the edges of a program
 
-no_arrow_in : (rows : List (List Arrow)) (f t x : ℕ) → HasNone rows → Lets rows f t x → ⊥
-no_arrow_in rows f t x none l =
-    let below : l.i < 0 = subst (λ (row : List Arrow). l.i < length row) (none f) l.below in
+no_edge_in : (rows : List (List Edge)) (f t x : ℕ) → HasNone rows → Lets rows f t x → ⊥
+no_edge_in rows f t x none l =
+    let below : l.i < 0 = subst (λ (row : List Edge). l.i < length row) (none f) l.below in
     absurd (omega (arith, below))
 
-none_inside : (rows : List (List Arrow)) → HasNone rows → AreInside rows (length rows)
+none_inside : (rows : List (List Edge)) → HasNone rows → AreInside rows (length rows)
 none_inside rows none n i n_below i_below =
-    let below : i < 0 = subst (λ (row : List Arrow). i < length row) (none n) i_below in
+    let below : i < 0 = subst (λ (row : List Edge). i < length row) (none n) i_below in
     absurd (omega (arith, below))
 
-pub program_arrows : (c : Code) (hub : ℕ) (none back all : List (List Arrow)) → HasNone none → Adds (BlockArrows c hub hub) none back
-    → Adds (ArrivalArrows c hub (length c.indirect.items)) back all → AreArrows c hub all
-program_arrows c hub none back all bare one other =
+pub program_edges : (c : Code) (hub : ℕ) (none back all : List (List Edge)) → HasNone none → Adds (BlockEdges c hub hub) none back
+    → Adds (ArrivalEdges c hub (length c.indirect.items)) back all → AreEdges c hub all
+program_edges c hub none back all bare one other =
     record {
-      arrows = λ f t x low. (
-        λ l. elim ((other.arrows f t x low).0 l) [
-          | inl before ↦ elim ((one.arrows f t x low).0 before) [ inl old ↦ absurd (no_arrow_in none f t x bare old) | inr first ↦ inl first ]
+      edges = λ f t x low. (
+        λ l. elim ((other.edges f t x low).0 l) [
+          | inl before ↦ elim ((one.edges f t x low).0 before) [ inl old ↦ absurd (no_edge_in none f t x bare old) | inr first ↦ inl first ]
           | inr second ↦ inr second
         ],
         λ has. elim has [
-          | inl first ↦ (other.arrows f t x low).1 (inl ((one.arrows f t x low).1 (inr first)))
-          | inr second ↦ (other.arrows f t x low).1 (inr second)
+          | inl first ↦ (other.edges f t x low).1 (inl ((one.edges f t x low).1 (inr first)))
+          | inr second ↦ (other.edges f t x low).1 (inr second)
         ],
       );
       inside = other.inside (one.inside (none_inside none bare));
     }
 
--- ---- rows without arrows
+-- ---- rows without edges
 
 pub no_rows : HasNone (plain_rows [])
 no_rows f = refl
 
-pub bare_more : (rows : List (Vec Arrow Global)) (row : Vec Arrow Global) → row.items ≡ [] → HasNone (plain_rows rows) → HasNone (plain_rows (rows ++ row ∷ []))
+pub bare_more : (rows : List (Vec Edge Global)) (row : Vec Edge Global) → row.items ≡ [] → HasNone (plain_rows rows) → HasNone (plain_rows (rows ++ row ∷ []))
 bare_more rows row empty bare f =
-    ap (λ (rs : List (List Arrow)). arrows_of rs f) (map-append row_items rows (row ∷ []))
+    ap (λ (rs : List (List Edge)). edges_of rs f) (map-append row_items rows (row ∷ []))
     ∙ elim (cases_lt f (length (plain_rows rows))) [
       | inl below ↦ get_or_append_left (plain_rows rows) (row.items ∷ []) [] f below ∙ bare f
       | inr past ↦ elim (cases_eq f (length (plain_rows rows))) [
@@ -166,5 +166,5 @@ bare_more rows row empty bare f =
       ]
     ]
   where
-    length_append_one : (xs : List (List Arrow)) (x : List Arrow) → length (xs ++ x ∷ []) ≡ length xs + 1
+    length_append_one : (xs : List (List Edge)) (x : List Edge) → length (xs ++ x ∷ []) ≡ length xs + 1
     length_append_one xs x = length_push xs x

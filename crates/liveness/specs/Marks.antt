@@ -9,5 +9,5 @@ pub record IsLowestClear (word r : ℕ) : Type 0 where
   pub clear : HasMark word r → ⊥
   pub least : (x : ℕ) → 5 ≤ x → x < r → HasMark word x
 
-abbrev pub TellsClear : ℕ → Option ℕ → Type 0
-TellsClear word o = MatchOption o ((x : ℕ) → 5 ≤ x → x < 32 → HasMark word x) (IsLowestClear word)
+abbrev pub ReportsClear : ℕ → Option ℕ → Type 0
+ReportsClear word o = MatchOption o ((x : ℕ) → 5 ≤ x → x < 32 → HasMark word x) (IsLowestClear word)

@@ -2,22 +2,22 @@ ghost use Rattle.std.specs.Prelude.{◌≡◌, ◌<◌, ◌+◌, length, replica
 ghost use Rattle.std.specs.List.Sorted.{IsStrictlyIncreasing};
 ghost use Rattle.reach_graph.specs.Reaching.{plain_rows};
 ghost use Rattle.code_blocks.specs.Numbers.{starts_of};
-ghost use Rattle.liveness.specs.Flows.{Adds, BlockArrows, AreMarks, HasNone};
+ghost use Rattle.liveness.specs.Flows.{Adds, BlockEdges, AreMarks, HasNone};
 ghost use Rattle.liveness.specs.Tables.{AreLive};
 
-use crate::arrows::{add_arrivals, add_block};
+use crate::edges::{add_arrivals, add_block};
 use crate::summaries::summary_of;
 use code_blocks::Code;
-use reach_graph::{Arrow, spread};
+use reach_graph::{Edge, propagate};
 use std::alloc::{AllocError, Global};
 
-/// Finds the live registers of each block, over `rows` without arrows and `words` without marks, one for each block
+/// Finds the live registers of each block, over `rows` without edges and `words` without marks, one for each block
 /// and one for the indirect jumps.
 pub(crate) fn find_live(
     alloc: Global,
     code: &Code,
     hub: u32,
-    rows: &mut [Vec<Arrow>],
+    rows: &mut [Vec<Edge>],
     words: &mut [u64],
 ) -> Result<(), AllocError>
     requires ascending { IsStrictlyIncreasing (starts_of code.now) }
@@ -29,22 +29,22 @@ pub(crate) fn find_live(
 {
     add_blocks(code, hub, rows, words)?;
     add_arrivals(rows, code, hub)?;
-    spread(alloc, rows, words)?;
+    propagate(alloc, rows, words)?;
     Ok(())
 }
 
-/// Adds the arrows that lead back to the blocks, and the marks that begin in each.
+/// Adds the edges that lead back to the blocks, and the marks that begin in each.
 fn add_blocks(
     code: &Code,
     hub: u32,
-    rows: &mut [Vec<Arrow>],
+    rows: &mut [Vec<Edge>],
     words: &mut [u64],
 ) -> Result<(), AllocError>
     requires ascending { IsStrictlyIncreasing (starts_of code.now) }
     requires hub { hub ≡ length code.now.blocks.items }
     requires nodes { length rows.old ≡ hub + 1 }
     requires words { words.old ≡ replicate (hub + 1) 0 }
-    ensures arrows { OnOk result (Adds (BlockArrows code.now hub hub) (plain_rows rows.old) (plain_rows rows.new)) }
+    ensures edges { OnOk result (Adds (BlockEdges code.now hub hub) (plain_rows rows.old) (plain_rows rows.new)) }
     ensures marks { OnOk result (AreMarks code.now hub words.new) }
 {
     for block in 0..hub {

@@ -2,7 +2,7 @@
 //! it defines them.
 #![tactic(auto)]
 
-mod arrows;
+mod edges;
 mod flow;
 mod living;
 mod registers;

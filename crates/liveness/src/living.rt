@@ -8,7 +8,7 @@ ghost use Rattle.liveness.specs.Tables.{IsTableOf};
 use crate::flow::find_live;
 use crate::table::LiveTable;
 use code_blocks::Code;
-use reach_graph::Arrow;
+use reach_graph::Edge;
 use std::alloc::{AllocError, Global};
 
 /// The registers that are live where each block of a program begins: those that some path of units from there, along
@@ -21,7 +21,7 @@ pub fn live(alloc: Global, code: &Code) -> Result<LiveTable, AllocError>
     ensures { IfOk result (IsTableOf code.now) }
 {
     let hub = hub_of(code)?;
-    let mut rows = no_arrows(alloc, hub)?;
+    let mut rows = no_edges(alloc, hub)?;
     let mut live = vec![in alloc; 0; hub as usize + 1]?;
     find_live(alloc, code, hub, &mut rows, &mut live)?;
     Ok(LiveTable {
@@ -40,8 +40,8 @@ fn hub_of(code: &Code) -> Result<u32, AllocError>
     }
 }
 
-/// A row without arrows for each block and one for the indirect jumps.
-fn no_arrows(alloc: Global, hub: u32) -> Result<Vec<Vec<Arrow>>, AllocError>
+/// A row without edges for each block and one for the indirect jumps.
+fn no_edges(alloc: Global, hub: u32) -> Result<Vec<Vec<Edge>>, AllocError>
     ensures size { IfOk result (λ rows. length rows.items ≡ hub + 1) }
     ensures bare { IfOk result (λ rows. HasNone (plain_rows rows.items)) }
 {

@@ -3,7 +3,7 @@ ghost use Rattle.std.specs.Prelude.{◌≡◌, ◌↔◌, ◌⊎◌, ◌<◌, �
 ghost use Rattle.rv_decode.specs.RegSet.{IsIn, HasExactly};
 ghost use Rattle.reach_graph.specs.Reaching.{HasMark};
 ghost use Rattle.liveness.specs.Live.{uses_of, defs_of};
-ghost use Rattle.liveness.specs.Marks.{TellsClear};
+ghost use Rattle.liveness.specs.Marks.{ReportsClear};
 
 use rv_decode::{Instr, RegSet, defs, uses};
 
@@ -58,7 +58,7 @@ pub(crate) fn has(word: u64, register: u8) -> bool
 
 /// The lowest register from x5 on whose bit is 0, if there is one.
 pub(crate) fn lowest_clear(word: u64) -> Option<u8>
-    ensures { TellsClear word result }
+    ensures { ReportsClear word result }
 {
     for register in 5..32 {
         if !has(word, register) {

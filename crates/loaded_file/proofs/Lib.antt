@@ -1,5 +1,5 @@
 pub mod LoadedSections
 pub mod WordLemmas
 pub mod RangeLemmas
-pub mod ExtentLemmas
+pub mod ByteRangeLemmas
 pub mod OverlapLemmas

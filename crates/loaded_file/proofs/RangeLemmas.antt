@@ -5,7 +5,7 @@ use Rattle.list_checks.specs.Tests.{lies_in}
 use Rattle.list_checks.proofs.TestLemmas.{both, not_true}
 use Rattle.elf_reader.specs.File.{PlainSymbol, PlainView}
 use Rattle.elf_reader.specs.Loaded.{is_loaded}
-use Rattle.loaded_file.specs.Ranges.{is_executable, owner_of, has_extent, has_owner, has_range, is_of}
+use Rattle.loaded_file.specs.Ranges.{is_executable, owner_of, has_byte_range, has_owner, has_range, is_of}
 
 -- the symbol of an object
 pub record HasRange (v : PlainView) (s : PlainSymbol) : Type 0 where
@@ -27,10 +27,10 @@ range_parts v s passes =
     let filled = nat_lt 0 s.size in
     let placed = nat_lt 0 s.value in
     let ends = nat_le (s.value + s.size) 4294967295 in
-    let whole = both ((s.kind == 1) && has_extent s) (has_owner v s) passes in
-    let front = both (s.kind == 1) (has_extent s) whole.0 in
-    let extent = both (filled && placed) ends front.1 in
-    let begins = both filled placed extent.0 in
+    let whole = both ((s.kind == 1) && has_byte_range s) (has_owner v s) passes in
+    let front = both (s.kind == 1) (has_byte_range s) whole.0 in
+    let byte_range = both (filled && placed) ends front.1 in
+    let begins = both filled placed byte_range.0 in
     let owned = both (owner && loaded && not code) lies whole.1 in
     let plain = both (owner && loaded) (not code) owned.0 in
     let inner = both owner loaded plain.0 in
@@ -38,7 +38,7 @@ range_parts v s passes =
       kind = eqb-true s.kind 1 front.0;
       filled = ltb-true 0 s.size begins.0;
       placed = ltb-true 0 s.value begins.1;
-      ends = leb-true (s.value + s.size) 4294967295 extent.1;
+      ends = leb-true (s.value + s.size) 4294967295 byte_range.1;
       owner = ltb-true s.section (length v.sections) inner.0;
       loaded = inner.1;
       no_code = not_true code plain.1;
@@ -64,13 +64,13 @@ of_parts v home n s passes =
     }
 
 -- the object begins behind address 0, has bytes, and ends below 2 ^ 32
-pub record HasExtent (home n : ℕ) : Type 0 where
+pub record HasByteRange (home n : ℕ) : Type 0 where
   pub filled : 0 < n
   pub placed : 0 < home
   pub ends : home + n ≤ 4294967295
 
-pub extent_of : (v : PlainView) (home n : ℕ) (s : PlainSymbol) → IsOf v home n s → HasExtent home n
-extent_of v home n s of =
+pub byte_range_of : (v : PlainView) (home n : ℕ) (s : PlainSymbol) → IsOf v home n s → HasByteRange home n
+byte_range_of v home n s of =
     let range = of.range in
     let value = of.value in
     let size = of.size in

@@ -25,7 +25,7 @@ use Rattle.elf_reader.proofs.SectionLemmas.{none_of_sections, section_contents_h
 use Rattle.elf_reader.proofs.LoadedLemmas.{loaded_found, loaded_below, loaded_bytes, length_sections, section_is}
 use Rattle.list_checks.proofs.FirstLemmas.{both_none}
 use Rattle.loaded_file.specs.Read.{IsRead}
-use Rattle.loaded_file.proofs.ExtentLemmas.{both_made}
+use Rattle.loaded_file.proofs.ByteRangeLemmas.{both_made}
 
 -- a view of a file says what the file says
 pub same_view : (file : List ℕ) (view : ElfView) → IsFile file view → plain_view view ≡ view_in file

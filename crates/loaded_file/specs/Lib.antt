@@ -6,4 +6,4 @@ pub mod Records
 pub mod Read
 pub use Rattle.loaded_file.specs.Records
 pub mod Ranges
-pub mod Extents
+pub mod ByteRanges

@@ -1,6 +1,6 @@
 -- The ranges of objects. An object is its range: symbols of equal ranges are one object.
 use Rattle.std.specs.Prelude.{ℕ, ◌+◌, ◌==◌, nat_lt, nat_le, Bool, not, ◌&&◌, length}
-use Rattle.list_checks.specs.Tests.{any_below, lies_in, meets}
+use Rattle.list_checks.specs.Tests.{any_below, lies_in, ranges_overlap}
 use Rattle.elf_reader.specs.Sections.{bit_of}
 use Rattle.elf_reader.specs.File.{PlainSection, PlainSymbol, PlainView}
 use Rattle.elf_reader.specs.Loaded.{section_at, is_loaded}
@@ -15,8 +15,8 @@ abbrev pub owner_of : PlainView → PlainSymbol → PlainSection
 owner_of v s = section_at v s.section
 
 -- a symbol has a place and a size that an object can have: its home isn't 0, and it ends below 2 ^ 32
-abbrev pub has_extent : PlainSymbol → Bool
-has_extent s = nat_lt 0 s.size && nat_lt 0 s.value && nat_le (s.value + s.size) 4294967295
+abbrev pub has_byte_range : PlainSymbol → Bool
+has_byte_range s = nat_lt 0 s.size && nat_lt 0 s.value && nat_le (s.value + s.size) 4294967295
 
 -- it lies inside a loaded section that holds no code
 abbrev pub has_owner : PlainView → PlainSymbol → Bool
@@ -28,7 +28,7 @@ has_owner v s =
 
 -- the symbol of an object (STT_OBJECT, 1)
 abbrev pub has_range : PlainView → PlainSymbol → Bool
-has_range v s = (s.kind == 1) && has_extent s && has_owner v s
+has_range v s = (s.kind == 1) && has_byte_range s && has_owner v s
 
 -- a symbol of the object of `n` bytes at `home`
 abbrev pub is_of : PlainView → ℕ → ℕ → PlainSymbol → Bool
@@ -47,12 +47,12 @@ abbrev pub inside : ℕ → ℕ → ℕ → Bool
 inside home n a = nat_le home a && nat_lt a (home + n)
 
 -- symbol `k` is of another object whose range meets this one
-abbrev pub meets_range : PlainView → ℕ → ℕ → ℕ → Bool
-meets_range v home n k =
+abbrev pub overlaps_range : PlainView → ℕ → ℕ → ℕ → Bool
+overlaps_range v home n k =
     has_range v (symbol_at v k)
-    && meets home n (symbol_at v k).value (symbol_at v k).size
+    && ranges_overlap home n (symbol_at v k).value (symbol_at v k).size
     && not (((symbol_at v k).value == home) && ((symbol_at v k).size == n))
 
 -- its range meets another, unequal one
 abbrev pub is_overlapped : PlainView → ℕ → ℕ → Bool
-is_overlapped v home n = any_below (meets_range v home n) (length v.symbols)
+is_overlapped v home n = any_below (overlaps_range v home n) (length v.symbols)

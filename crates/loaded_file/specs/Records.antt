@@ -30,8 +30,8 @@ abbrev pub target : PlainView → Reloc → ℕ
 target v r = offset (symbol_of v r).value r.addend
 
 -- kinds that change nothing: NONE, ALIGN and RELAX
-abbrev pub is_mute : ℕ → Bool
-is_mute kind = (kind == 0) || (kind == 43) || (kind == 51)
+abbrev pub is_hint : ℕ → Bool
+is_hint kind = (kind == 0) || (kind == 43) || (kind == 51)
 
 -- CALL and CALL_PLT, of a pair of instructions
 abbrev pub is_call_kind : ℕ → Bool

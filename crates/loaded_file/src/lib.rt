@@ -3,7 +3,7 @@
 
 mod code_ranges;
 mod code_words;
-mod extents;
+mod byte_ranges;
 mod loaded;
 mod overlaps;
 mod records;
@@ -11,7 +11,7 @@ mod symbol_ranges;
 
 pub use code_ranges::{holds_code, is_code_range, is_code_word, is_loaded};
 pub use code_words::{content_word, word_in};
-pub use extents::Extent;
+pub use byte_ranges::ByteRange;
 pub use loaded::loaded_sections;
 pub use overlaps::overlapped;
 pub use records::{counts, symbol_value, target};

@@ -2,10 +2,10 @@ ghost use Rattle.std.specs.Prelude.{◌≡◌, ℕ, ◌+◌, ◌*◌, ◌^◌, �
 ghost use Rattle.list_checks.specs.Tests.{any_below, lies_in};
 ghost use Rattle.elf_reader.specs.Layout.{file_header};
 ghost use Rattle.elf_reader.specs.File.{plain_segment, plain_section, plain_view};
-ghost use Rattle.elf_reader.specs.Loaded.{meets_headers, meets_section, meets_segment, has_own_bytes, is_filled, is_zeroed, loads, is_loaded};
+ghost use Rattle.elf_reader.specs.Loaded.{overlaps_headers, overlaps_section, overlaps_segment, has_own_bytes, is_filled, is_zeroed, loads, is_loaded};
 ghost use Rattle.loaded_file.specs.Marks.{all_loaded};
 ghost use Rattle.elf_reader.specs.Sections.{bit_of, stands_in_file};
-ghost use Rattle.list_checks.specs.Tests.{meets};
+ghost use Rattle.list_checks.specs.Tests.{ranges_overlap};
 
 use elf_reader::{ElfView, SHT_NOBITS, SHT_NULL, SHT_PROGBITS, Section, Segment};
 use std::alloc::{AllocError, Global};
@@ -100,20 +100,20 @@ fn is_zeroed(section: &Section, segment: &Segment) -> bool
 fn has_own_bytes(view: &ElfView, k: usize, g: usize, section: &Section) -> bool
     ensures { result ≡ has_own_bytes (plain_view view.now) k g (plain_section section.now) }
 {
-    !meets_headers(view, section)
-        && !meets_some_section(view, k, section)
-        && !meets_some_segment(view, g, section)
+    !overlaps_headers(view, section)
+        && !overlaps_some_section(view, k, section)
+        && !overlaps_some_segment(view, g, section)
 }
 
 /// The content of a section meets the program headers or the section headers.
-fn meets_headers(view: &ElfView, section: &Section) -> bool
-    ensures { result ≡ meets_headers (plain_view view.now) section.now.offset section.now.size }
+fn overlaps_headers(view: &ElfView, section: &Section) -> bool
+    ensures { result ≡ overlaps_headers (plain_view view.now) section.now.offset section.now.size }
 {
     let (offset, size) = (section.offset, section.size);
     let program_headers = PROGRAM_HEADER_SIZE * view.ph_count as u128;
     let section_headers = SECTION_HEADER_SIZE * view.sections.len() as u128;
-    meet(offset, size, view.ph_at, program_headers)
-        || meet(
+    overlap(offset, size, view.ph_at, program_headers)
+        || overlap(
             offset,
             size,
             section_headers_at(view.bytes),
@@ -142,11 +142,11 @@ fn byte(bytes: &[u8], at: usize) -> u8
 }
 
 /// The content of some other section than `k` meets that of `section`.
-fn meets_some_section(view: &ElfView, k: usize, section: &Section) -> bool
-    ensures { result ≡ any_below (meets_section (plain_view view.now) k section.now.offset section.now.size) (length (plain_view view.now).sections) }
+fn overlaps_some_section(view: &ElfView, k: usize, section: &Section) -> bool
+    ensures { result ≡ any_below (overlaps_section (plain_view view.now) k section.now.offset section.now.size) (length (plain_view view.now).sections) }
 {
     for j in 0..view.sections.len() {
-        if meets_section(view, k, section, j) {
+        if overlaps_section(view, k, section, j) {
             return true;
         }
     }
@@ -154,14 +154,14 @@ fn meets_some_section(view: &ElfView, k: usize, section: &Section) -> bool
 }
 
 /// Section `j` is another one than `k`, and its content meets that of `section`.
-fn meets_section(view: &ElfView, k: usize, section: &Section, j: usize) -> bool
+fn overlaps_section(view: &ElfView, k: usize, section: &Section, j: usize) -> bool
     requires { j < length view.now.sections.items }
-    ensures { result ≡ meets_section (plain_view view.now) k section.now.offset section.now.size j }
+    ensures { result ≡ overlaps_section (plain_view view.now) k section.now.offset section.now.size j }
 {
     let other = &view.sections[j];
     j != k
         && is_in_file(other.kind)
-        && meet(
+        && overlap(
             section.offset,
             section.size,
             other.offset,
@@ -170,11 +170,11 @@ fn meets_section(view: &ElfView, k: usize, section: &Section, j: usize) -> bool
 }
 
 /// The file bytes of some other segment than `g` meet those of `section`.
-fn meets_some_segment(view: &ElfView, g: usize, section: &Section) -> bool
-    ensures { result ≡ any_below (meets_segment (plain_view view.now) g section.now.offset section.now.size) (length (plain_view view.now).segments) }
+fn overlaps_some_segment(view: &ElfView, g: usize, section: &Section) -> bool
+    ensures { result ≡ any_below (overlaps_segment (plain_view view.now) g section.now.offset section.now.size) (length (plain_view view.now).segments) }
 {
     for h in 0..view.segments.len() {
-        if meets_segment(view, g, section, h) {
+        if overlaps_segment(view, g, section, h) {
             return true;
         }
     }
@@ -182,13 +182,13 @@ fn meets_some_segment(view: &ElfView, g: usize, section: &Section) -> bool
 }
 
 /// Segment `h` is another one than `g`, and its file bytes meet those of `section`.
-fn meets_segment(view: &ElfView, g: usize, section: &Section, h: usize) -> bool
+fn overlaps_segment(view: &ElfView, g: usize, section: &Section, h: usize) -> bool
     requires { h < length view.now.segments.items }
-    ensures { result ≡ meets_segment (plain_view view.now) g section.now.offset section.now.size h }
+    ensures { result ≡ overlaps_segment (plain_view view.now) g section.now.offset section.now.size h }
 {
     let other = &view.segments[h];
     h != g
-        && meet(
+        && overlap(
             section.offset,
             section.size,
             other.offset,
@@ -204,9 +204,9 @@ fn is_in_file(kind: u32) -> bool
 }
 
 /// Two ranges, each a first place and a size, share a place.
-fn meet(base: u32, size: u32, other_base: u32, other_size: u128) -> bool
+fn overlap(base: u32, size: u32, other_base: u32, other_size: u128) -> bool
     requires { other_size < 2 ^ 127 }
-    ensures { result ≡ meets base size other_base other_size }
+    ensures { result ≡ ranges_overlap base size other_base other_size }
 {
     let (start, end) = (u128::from(base), u128::from(base) + u128::from(size));
     let (other_start, other_end) = (u128::from(other_base), u128::from(other_base) + other_size);

@@ -3,11 +3,11 @@ ghost use Rattle.std.specs.List.{list_any};
 ghost use Rattle.list_checks.specs.Tests.{lies_in};
 ghost use Rattle.elf_reader.specs.File.{plain_section, plain_symbol, plain_view};
 ghost use Rattle.loaded_file.specs.Marks.{all_loaded};
-ghost use Rattle.loaded_file.specs.Ranges.{is_executable, has_extent, has_owner, has_range, is_range};
-ghost use Rattle.loaded_file.specs.Extents.{key_of, extent_of, is_key_of, has_extent_in, IsAscending, IsFilled};
+ghost use Rattle.loaded_file.specs.Ranges.{is_executable, has_byte_range, has_owner, has_range, is_range};
+ghost use Rattle.loaded_file.specs.ByteRanges.{key_of, byte_range_of, is_key_of, has_byte_range_in, IsAscending, IsFilled};
 
 use crate::code_ranges::is_loaded;
-use crate::extents::Extent;
+use crate::byte_ranges::ByteRange;
 use elf_reader::{EXECUTABLE_BIT, ElfView, STT_OBJECT, Section, Symbol};
 use list_checks::arrange_once;
 use std::alloc::{AllocError, Global};
@@ -23,15 +23,15 @@ pub fn object_ranges(
     alloc: Global,
     view: &ElfView,
     loaded: &[bool],
-) -> Result<Vec<Extent>, AllocError>
+) -> Result<Vec<ByteRange>, AllocError>
     requires { loaded.now ≡ all_loaded (plain_view view.now) }
     ensures ascending { IfOk result (λ ranges. IsAscending ranges.items) }
-    ensures exact { IfOk result (λ ranges. (home n : ℕ) → has_extent_in ranges.items home n ≡ is_range (plain_view view.now) home n) }
+    ensures exact { IfOk result (λ ranges. (home n : ℕ) → has_byte_range_in ranges.items home n ≡ is_range (plain_view view.now) home n) }
     ensures filled { IfOk result (λ ranges. IsFilled ranges.items) }
 {
     let mut keys = range_keys(alloc, view, loaded)?;
     arrange_once(&mut keys);
-    extents_of(alloc, &keys)
+    byte_ranges_of(alloc, &keys)
 }
 
 /// The key of the range of each symbol of an object.
@@ -70,21 +70,21 @@ fn key_of(home: u32, size: u32) -> u64
 }
 
 /// The range of each key.
-fn extents_of(alloc: Global, keys: &[u64]) -> Result<Vec<Extent>, AllocError>
-    ensures { IfOk result (λ ranges. ranges.items ≡ map extent_of keys.now) }
+fn byte_ranges_of(alloc: Global, keys: &[u64]) -> Result<Vec<ByteRange>, AllocError>
+    ensures { IfOk result (λ ranges. ranges.items ≡ map byte_range_of keys.now) }
 {
     let mut ranges = Vec::new(alloc);
     for key in keys {
-        ranges.push(extent_of(*key))?;
+        ranges.push(byte_range_of(*key))?;
     }
     Ok(ranges)
 }
 
 /// The range of a key.
-fn extent_of(key: u64) -> Extent
-    ensures { result ≡ extent_of key }
+fn byte_range_of(key: u64) -> ByteRange
+    ensures { result ≡ byte_range_of key }
 {
-    Extent {
+    ByteRange {
         home: (key / ADDRESSES) as u32,
         size: (key % ADDRESSES) as u32,
     }
@@ -96,12 +96,12 @@ pub fn has_range(view: &ElfView, loaded: &[bool], symbol: &Symbol) -> bool
     requires { loaded.now ≡ all_loaded (plain_view view.now) }
     ensures { result ≡ has_range (plain_view view.now) (plain_symbol symbol.now) }
 {
-    symbol.kind == STT_OBJECT && has_extent(symbol) && has_owner(view, loaded, symbol)
+    symbol.kind == STT_OBJECT && has_byte_range(symbol) && has_owner(view, loaded, symbol)
 }
 
 /// It has a place and a size that an object can have.
-fn has_extent(symbol: &Symbol) -> bool
-    ensures { result ≡ has_extent (plain_symbol symbol.now) }
+fn has_byte_range(symbol: &Symbol) -> bool
+    ensures { result ≡ has_byte_range (plain_symbol symbol.now) }
 {
     let end = u64::from(symbol.value) + u64::from(symbol.size);
     0 < symbol.size && 0 < symbol.value && end < ADDRESSES

@@ -13,8 +13,8 @@ use Rattle.elf_reader.specs.declared.view.Reloc.{Reloc}
 use Rattle.loaded_file.specs.Records.{no_symbol, symbol_at, reloc_at, counts, symbol_of, target}
 use Rattle.loaded_file.specs.Ranges.{has_range, is_of, inside}
 use Rattle.loaded_file.proofs.RangeLemmas.{range_parts, of_parts}
-use Rattle.loaded_file.proofs.ExtentLemmas.{both_made}
-use Rattle.sound_relocations.specs.Sound.{is_meant, displacement}
+use Rattle.loaded_file.proofs.ByteRangeLemmas.{both_made}
+use Rattle.rewritable_relocations.specs.Rewritable.{is_meant, displacement}
 use Rattle.list_checks.specs.Sorted.{is_under, count_below}
 use Rattle.movable_ranges.specs.Fixed.{leads_to}
 use Rattle.movable_ranges.specs.declared.cover.Cover.{Cover}

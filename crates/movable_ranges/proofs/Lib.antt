@@ -1,6 +1,6 @@
-pub mod ApartLemmas
+pub mod DisjointLemmas
 pub mod NameLemmas
-pub mod StrayLemmas
+pub mod AliasLemmas
 pub mod LeadLemmas
 pub mod SiteLemmas
 pub mod UnmarkedLemmas

@@ -4,8 +4,8 @@ use Rattle.std.proofs.Math.ListN.{replicate}
 use Rattle.std.proofs.Math.Seq.{take-append_seam}
 use Rattle.std.proofs.lemmas.Bool.{cases_lt}
 use Rattle.std.proofs.lemmas.List.{get_or-replicate, get_or_past, length-replicate}
-use Rattle.loaded_file.specs.declared.extents.Extent.{Extent}
-use Rattle.movable_ranges.specs.Apart.{rule_at, mark_at, AddsRule, AreMarks}
+use Rattle.loaded_file.specs.declared.byte_ranges.ByteRange.{ByteRange}
+use Rattle.movable_ranges.specs.Disjoint.{rule_at, mark_at, AddsRule, AreMarks}
 
 -- no place has a mark
 blank : (n k : ℕ) → mark_at (replicate n false) k ≡ false
@@ -25,7 +25,7 @@ pub written : (n : ℕ) (new items : List Bool) → length new ≡ n → take n 
 written n new items len =
     subst (λ (m : ℕ). take m (new ++ drop (length new) items) ≡ new) len (take-append_seam new (drop (length new) items))
 
-pub marks_written : (rule : ℕ → ℕ → Bool) (ranges : List Extent) (n : ℕ) (old new items : List Bool) → length new ≡ n → old ≡ items → ((k : ℕ) → mark_at items k ≡ false) → AddsRule rule ranges old new → AreMarks rule ranges (take n (new ++ drop (length new) items))
+pub marks_written : (rule : ℕ → ℕ → Bool) (ranges : List ByteRange) (n : ℕ) (old new items : List Bool) → length new ≡ n → old ≡ items → ((k : ℕ) → mark_at items k ≡ false) → AddsRule rule ranges old new → AreMarks rule ranges (take n (new ++ drop (length new) items))
 marks_written rule ranges n old new items len same none adds k below =
     ap (λ (ms : List Bool). mark_at ms k) (written n new items len)
     ∙ adds k below

@@ -10,8 +10,8 @@ use Rattle.elf_reader.specs.declared.view.Reloc.{Reloc}
 use Rattle.loaded_file.specs.Records.{symbol_at, reloc_at, counts, symbol_of}
 use Rattle.loaded_file.specs.Ranges.{has_range, is_symbol_of, is_range}
 use Rattle.loaded_file.proofs.RangeLemmas.{of_parts}
-use Rattle.loaded_file.proofs.ExtentLemmas.{both_made}
-use Rattle.sound_relocations.specs.Sound.{is_meant, displacement, is_sound_pair, is_pair_low, names_high}
+use Rattle.loaded_file.proofs.ByteRangeLemmas.{both_made}
+use Rattle.rewritable_relocations.specs.Rewritable.{is_meant, displacement, is_rewritable_pair, is_pair_low, names_high}
 use Rattle.list_checks.specs.Sorted.{is_number, count_below}
 use Rattle.list_checks.proofs.SortedLemmas.{two_places}
 use Rattle.movable_ranges.specs.Fixed.{leads_to, gives_pair, is_site_of, is_site_by, shares_word, is_shared_by, is_shared}
@@ -48,10 +48,10 @@ into_some v j k below has site =
           let parts = both (counts v r) (any_below (gives_pair v t.value t.size j) (length v.relocs)) paired in
           let (i, within, gives) = any_found (gives_pair v t.value t.size j) (length v.relocs) parts.1 in
           let h = reloc_at v i in
-          let last = both (leads_to v t.value t.size i && is_sound_pair v h) (names_high v h r) gives in
-          let first = both (leads_to v t.value t.size i) (is_sound_pair v h) last.0 in
+          let last = both (leads_to v t.value t.size i && is_rewritable_pair v h) (names_high v h r) gives in
+          let first = both (leads_to v t.value t.size i) (is_rewritable_pair v h) last.0 in
           let names = both (is_pair_low r.kind) (a == h.at) last.1 in
-          let high = both_made (is_sound_pair v h && leads_some v i) (at_number a h.at) (both_made (is_sound_pair v h) (leads_some v i) first.1 (leads_at v i k below has first.0)) names.1 in
+          let high = both_made (is_rewritable_pair v h && leads_some v i) (at_number a h.at) (both_made (is_rewritable_pair v h) (leads_some v i) first.1 (leads_at v i k below has first.0)) names.1 in
           let some = any_at (is_high_by v (at_number a)) (length v.relocs) i within high in
           or_right (is_direct v j && leads_some v j) (is_low_of_some v j) (both_made (counts v r && is_pair_low r.kind) (any_below (is_high_by v (at_number a)) (length v.relocs)) (both_made (counts v r) (is_pair_low r.kind) parts.0 names.0) some)
     ]
@@ -76,13 +76,13 @@ from_some v j gives =
           let low = both (counts v r) (is_pair_low r.kind) parts.0 in
           let (i, within, high) = any_found (is_high_by v (at_number a)) (length v.relocs) parts.1 in
           let h = reloc_at v i in
-          let last = both (is_sound_pair v h && leads_some v i) (at_number a h.at) high in
-          let first = both (is_sound_pair v h) (leads_some v i) last.0 in
+          let last = both (is_rewritable_pair v h && leads_some v i) (at_number a h.at) high in
+          let first = both (is_rewritable_pair v h) (leads_some v i) last.0 in
           let (k, below, leads) = any_found (leads_to_symbol v i) (length v.symbols) (leads_is v i ∙ first.1) in
           let t = symbol_at v k in
           let to = both (has_range v t) (leads_to v t.value t.size i) leads in
           let names = both_made (is_pair_low r.kind) (a == h.at) low.1 last.1 in
-          let pair = both_made (leads_to v t.value t.size i && is_sound_pair v h) (names_high v h r) (both_made (leads_to v t.value t.size i) (is_sound_pair v h) to.1 first.0) names in
+          let pair = both_made (leads_to v t.value t.size i && is_rewritable_pair v h) (names_high v h r) (both_made (leads_to v t.value t.size i) (is_rewritable_pair v h) to.1 first.0) names in
           let some = any_at (gives_pair v t.value t.size j) (length v.relocs) i within pair in
           site_by v j k below to.0 (or_right (leads_to v t.value t.size j && is_direct v j) (counts v r && any_below (gives_pair v t.value t.size j) (length v.relocs)) (both_made (counts v r) (any_below (gives_pair v t.value t.size j) (length v.relocs)) low.0 some))
     ]
@@ -163,20 +163,20 @@ shared_in v k below has shared =
     elim (either own low outer.0) [
       | inl direct ↦
           let parts = both (leads_to v t.value t.size j) (is_direct v j) direct in
-          let lows = is_sound_pair v r && any_below (is_shared_low v (at_number r.at)) (length v.relocs) in
+          let lows = is_rewritable_pair v r && any_below (is_shared_low v (at_number r.at)) (length v.relocs) in
           made_from v t.value t.size j within parts.0 (or_left (is_direct v j && repeats_at v r.at) lows (both_made (is_direct v j) (repeats_at v r.at) parts.1 twice))
       | inr paired ↦
           let parts = both (counts v r) (any_below (gives_pair v t.value t.size j) (length v.relocs)) paired in
           let (i, inside, gives) = any_found (gives_pair v t.value t.size j) (length v.relocs) parts.1 in
           let h = reloc_at v i in
           let a = (symbol_of v r).value in
-          let last = both (leads_to v t.value t.size i && is_sound_pair v h) (names_high v h r) gives in
-          let first = both (leads_to v t.value t.size i) (is_sound_pair v h) last.0 in
+          let last = both (leads_to v t.value t.size i && is_rewritable_pair v h) (names_high v h r) gives in
+          let first = both (leads_to v t.value t.size i) (is_rewritable_pair v h) last.0 in
           let names = both (is_pair_low r.kind) (a == h.at) last.1 in
           let here = both_made (counts v r) (is_pair_low r.kind) parts.0 names.0 in
           let shares = both_made (counts v r && is_pair_low r.kind && repeats_at v r.at) (at_number h.at a) (both_made (counts v r && is_pair_low r.kind) (repeats_at v r.at) here twice) (turned a h.at names.1) in
           let some = any_at (is_shared_low v (at_number h.at)) (length v.relocs) j within shares in
-          made_from v t.value t.size i inside first.0 (or_right (is_direct v i && repeats_at v h.at) (is_sound_pair v h && any_below (is_shared_low v (at_number h.at)) (length v.relocs)) (both_made (is_sound_pair v h) (any_below (is_shared_low v (at_number h.at)) (length v.relocs)) first.1 some))
+          made_from v t.value t.size i inside first.0 (or_right (is_direct v i && repeats_at v h.at) (is_rewritable_pair v h && any_below (is_shared_low v (at_number h.at)) (length v.relocs)) (both_made (is_rewritable_pair v h) (any_below (is_shared_low v (at_number h.at)) (length v.relocs)) first.1 some))
     ]
 
 shared_at : (v : PlainView) (k j : ℕ) → k < length v.symbols → has_range v (symbol_at v k) ≡ true → j < length v.relocs → is_site_of v (symbol_at v k).value (symbol_at v k).size j ≡ true → repeats_at v (reloc_at v j).at ≡ true → is_shared v (symbol_at v k).value (symbol_at v k).size ≡ true
@@ -192,13 +192,13 @@ shared_out v k below has shares =
     let h = reloc_at v i in
     let outer = leads_parts (counts v h) (is_meant v t.value t.size h) (nat_le (displacement v t.value h) t.size) (shares_from v i) from in
     let lows = any_below (is_shared_low v (at_number h.at)) (length v.relocs) in
-    elim (either (is_direct v i && repeats_at v h.at) (is_sound_pair v h && lows) outer.1) [
+    elim (either (is_direct v i && repeats_at v h.at) (is_rewritable_pair v h && lows) outer.1) [
       | inl own ↦
           let parts = both (is_direct v i) (repeats_at v h.at) own in
           let site = or_left (leads_to v t.value t.size i && is_direct v i) (counts v h && any_below (gives_pair v t.value t.size i) (length v.relocs)) (both_made (leads_to v t.value t.size i) (is_direct v i) outer.0 parts.0) in
           shared_at v k i below has within site parts.1
       | inr low ↦
-          let parts = both (is_sound_pair v h) lows low in
+          let parts = both (is_rewritable_pair v h) lows low in
           let (j, inside, shared) = any_found (is_shared_low v (at_number h.at)) (length v.relocs) parts.1 in
           let r = reloc_at v j in
           let a = (symbol_of v r).value in
@@ -206,7 +206,7 @@ shared_out v k below has shares =
           let middle = both (counts v r && is_pair_low r.kind) (repeats_at v r.at) last.0 in
           let first = both (counts v r) (is_pair_low r.kind) middle.0 in
           let names = both_made (is_pair_low r.kind) (a == h.at) first.1 (turned h.at a last.1) in
-          let pair = both_made (leads_to v t.value t.size i && is_sound_pair v h) (names_high v h r) (both_made (leads_to v t.value t.size i) (is_sound_pair v h) outer.0 parts.0) names in
+          let pair = both_made (leads_to v t.value t.size i && is_rewritable_pair v h) (names_high v h r) (both_made (leads_to v t.value t.size i) (is_rewritable_pair v h) outer.0 parts.0) names in
           let some = any_at (gives_pair v t.value t.size j) (length v.relocs) i within pair in
           let site = or_right (leads_to v t.value t.size j && is_direct v j) (counts v r && any_below (gives_pair v t.value t.size j) (length v.relocs)) (both_made (counts v r) (any_below (gives_pair v t.value t.size j) (length v.relocs)) first.0 some) in
           shared_at v k j below has inside site middle.1

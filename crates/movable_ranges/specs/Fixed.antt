@@ -8,7 +8,7 @@ use Rattle.board_config.specs.Board.{plain_texts}
 use Rattle.board_config.specs.declared.board.Board.{Board}
 use Rattle.loaded_file.specs.Records.{symbol_at, reloc_at, counts, symbol_of, target}
 use Rattle.loaded_file.specs.Ranges.{owner_of, has_range, is_symbol_of, is_range, is_overlapped, inside}
-use Rattle.sound_relocations.specs.Sound.{is_meant, displacement, is_sound, is_sound_high, is_sound_low, is_sound_pair, names_high}
+use Rattle.rewritable_relocations.specs.Rewritable.{is_meant, displacement, is_rewritable, is_rewritable_high, is_rewritable_low, is_rewritable_pair, names_high}
 
 -- symbol `k` of it stands in a section without content (SHT_NOBITS, 8)
 abbrev pub stands_in_zeros : PlainView → ℕ → ℕ → ℕ → Bool
@@ -34,41 +34,41 @@ abbrev pub is_listed : PlainView → Board → ℕ → ℕ → Bool
 is_listed v board home n = any_below (has_listed_name v board home n) (length v.symbols)
 
 -- a symbol that tells of no object: neither that of an object, nor of a section, nor the global pointer
-abbrev pub is_stray : PlainView → PlainSymbol → Bool
-is_stray v s = not (has_range v s) && not (s.kind == 3) && not (bytes_eq s.name (codes "__global_pointer$"))
+abbrev pub is_alias : PlainView → PlainSymbol → Bool
+is_alias v s = not (has_range v s) && not (s.kind == 3) && not (bytes_eq s.name (codes "__global_pointer$"))
 
 -- the range of symbol `k` stands in section `section`, and has the symbol or the target of a relocation
-abbrev pub is_strayed_into : PlainView → ℕ → Reloc → ℕ → Bool
-is_strayed_into v section r k =
+abbrev pub is_aliased_into : PlainView → ℕ → Reloc → ℕ → Bool
+is_aliased_into v section r k =
     has_range v (symbol_at v k)
     && ((symbol_at v k).section == section)
     && (inside (symbol_at v k).value (symbol_at v k).size (symbol_of v r).value
     || inside (symbol_at v k).value (symbol_at v k).size (target v r))
 
 -- relocation `i` leads into an object of section `section` by a symbol that tells of none
-abbrev pub strays_into : PlainView → ℕ → ℕ → Bool
-strays_into v section i =
+abbrev pub aliases_into : PlainView → ℕ → ℕ → Bool
+aliases_into v section i =
     counts v (reloc_at v i)
-    && is_stray v (symbol_of v (reloc_at v i))
-    && any_below (is_strayed_into v section (reloc_at v i)) (length v.symbols)
+    && is_alias v (symbol_of v (reloc_at v i))
+    && any_below (is_aliased_into v section (reloc_at v i)) (length v.symbols)
 
--- symbol `k` of it stands in a section into whose objects a relocation strays
-abbrev pub has_strayed_section : PlainView → ℕ → ℕ → ℕ → Bool
-has_strayed_section v home n k =
-    is_symbol_of v home n k && any_below (strays_into v (symbol_at v k).section) (length v.relocs)
+-- symbol `k` of it stands in a section into whose objects a relocation aliases
+abbrev pub has_aliased_section : PlainView → ℕ → ℕ → ℕ → Bool
+has_aliased_section v home n k =
+    is_symbol_of v home n k && any_below (aliases_into v (symbol_at v k).section) (length v.relocs)
 
--- some relocation strays into the objects of its section: so the distances of these may matter
-abbrev pub is_strayed : PlainView → ℕ → ℕ → Bool
-is_strayed v home n = any_below (has_strayed_section v home n) (length v.symbols)
+-- some relocation aliases the objects of its section: so the distances of these may matter
+abbrev pub is_aliased : PlainView → ℕ → ℕ → Bool
+is_aliased v home n = any_below (has_aliased_section v home n) (length v.symbols)
 
--- relocation `i` means it and isn't sound
-abbrev pub is_unsound_by : PlainView → ℕ → ℕ → ℕ → Bool
-is_unsound_by v home n i =
-    counts v (reloc_at v i) && is_meant v home n (reloc_at v i) && not (is_sound v home n i)
+-- relocation `i` means it and isn't rewritable
+abbrev pub is_unrewritable_by : PlainView → ℕ → ℕ → ℕ → Bool
+is_unrewritable_by v home n i =
+    counts v (reloc_at v i) && is_meant v home n (reloc_at v i) && not (is_rewritable v home n i)
 
--- a relocation means it and isn't sound
-abbrev pub is_unsound : PlainView → ℕ → ℕ → Bool
-is_unsound v home n = any_below (is_unsound_by v home n) (length v.relocs)
+-- a relocation means it and isn't rewritable
+abbrev pub is_unrewritable : PlainView → ℕ → ℕ → Bool
+is_unrewritable v home n = any_below (is_unrewritable_by v home n) (length v.relocs)
 
 -- ---- sites
 
@@ -80,14 +80,14 @@ leads_to v home n i =
 -- relocation `i` is of an AUIPC of the object whose low parts fit it, and relocation `j` is one of these
 abbrev pub gives_pair : PlainView → ℕ → ℕ → ℕ → ℕ → Bool
 gives_pair v home n j i =
-    leads_to v home n i && is_sound_pair v (reloc_at v i) && names_high v (reloc_at v i) (reloc_at v j)
+    leads_to v home n i && is_rewritable_pair v (reloc_at v i) && names_high v (reloc_at v i) (reloc_at v j)
 
 -- relocation `j` gives a site of the object, at the instruction that it changes: by itself, or as the low
 -- part of an AUIPC
 abbrev pub is_site_of : PlainView → ℕ → ℕ → ℕ → Bool
 is_site_of v home n j =
     leads_to v home n j
-    && (is_sound_high v (reloc_at v j) || is_sound_low v (reloc_at v j) || is_sound_pair v (reloc_at v j))
+    && (is_rewritable_high v (reloc_at v j) || is_rewritable_low v (reloc_at v j) || is_rewritable_pair v (reloc_at v j))
     || counts v (reloc_at v j) && any_below (gives_pair v home n j) (length v.relocs)
 
 -- it gives a site of the object of symbol `k`
@@ -114,8 +114,8 @@ is_fixed v board home n =
     is_overlapped v home n
     || is_in_zeros v board home n
     || is_listed v board home n
-    || is_strayed v home n
-    || is_unsound v home n
+    || is_aliased v home n
+    || is_unrewritable v home n
     || is_shared v home n
 
 -- the `n` bytes at `home` are an object that may move

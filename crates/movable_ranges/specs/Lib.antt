@@ -1,12 +1,12 @@
 pub use Rattle.elf_reader.specs.Loaded
 pub use Rattle.loaded_file.specs.Records
 pub use Rattle.loaded_file.specs.Ranges
-pub use Rattle.loaded_file.specs.Extents
-pub use Rattle.sound_relocations.specs.Sound
-pub use Rattle.sound_relocations.specs.Marks
+pub use Rattle.loaded_file.specs.ByteRanges
+pub use Rattle.rewritable_relocations.specs.Rewritable
+pub use Rattle.rewritable_relocations.specs.Marks
 pub mod Fixed
-pub mod Apart
+pub mod Disjoint
 pub mod Meant
-pub mod Strays
+pub mod Aliases
 pub mod Shares
 pub mod Rules

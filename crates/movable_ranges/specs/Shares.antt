@@ -7,7 +7,7 @@ use Rattle.elf_reader.specs.File.{PlainSymbol, PlainView}
 use Rattle.elf_reader.specs.declared.view.Reloc.{Reloc}
 use Rattle.loaded_file.specs.Records.{symbol_at, reloc_at, counts, symbol_of, target}
 use Rattle.loaded_file.specs.Ranges.{has_range, inside}
-use Rattle.sound_relocations.specs.Sound.{displacement, is_sound_pair, is_pair_low}
+use Rattle.rewritable_relocations.specs.Rewritable.{displacement, is_rewritable_pair, is_pair_low}
 use Rattle.list_checks.specs.Sorted.{IsSorted, count_below}
 use Rattle.movable_ranges.specs.Meant.{leads_inside, is_direct}
 use Rattle.movable_ranges.specs.declared.cover.Cover.{Cover}
@@ -51,7 +51,7 @@ leads_some v i = counts v (reloc_at v i) && leads_by v (reloc_at v i) (symbol_of
 
 -- relocation `i` is of an AUIPC and gives a site of some object, at an address that passes a test
 abbrev pub is_high_by : PlainView → (ℕ → Bool) → ℕ → Bool
-is_high_by v test i = is_sound_pair v (reloc_at v i) && leads_some v i && test (reloc_at v i).at
+is_high_by v test i = is_rewritable_pair v (reloc_at v i) && leads_some v i && test (reloc_at v i).at
 
 -- the address `a`
 abbrev pub at_number : ℕ → ℕ → Bool
@@ -91,7 +91,7 @@ is_shared_low v test j = is_low_shared v j && test (symbol_of v (reloc_at v j)).
 abbrev pub shares_from : PlainView → ℕ → Bool
 shares_from v i =
     is_direct v i && repeats_at v (reloc_at v i).at
-    || is_sound_pair v (reloc_at v i) && any_below (is_shared_low v (at_number (reloc_at v i).at)) (length v.relocs)
+    || is_rewritable_pair v (reloc_at v i) && any_below (is_shared_low v (at_number (reloc_at v i).at)) (length v.relocs)
 
 -- relocation `i` counts, means the object, leads into it or to its end, and gives such a site
 abbrev pub is_shared_from : PlainView → ℕ → ℕ → ℕ → Bool

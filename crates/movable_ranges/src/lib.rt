@@ -1,14 +1,14 @@
 //! Which objects of a program may move.
 #![tactic(auto)]
 
-mod apart;
+mod disjoint;
 mod cover;
 mod marks;
 mod meaning;
 mod naming;
 mod sharing;
 mod soundness;
-mod straying;
+mod aliasing;
 mod top;
 mod words;
 

@@ -1,7 +1,7 @@
 ghost use Rattle.std.specs.Prelude.{◌≡◌, ℕ, ◌<◌, ◌++◌, false, length, IfOk};
-ghost use Rattle.movable_ranges.specs.Apart.{IsBelow, mark_at, AddsPlace, unmarked_at, unmarked_below};
+ghost use Rattle.movable_ranges.specs.Disjoint.{IsBelow, mark_at, AddsPlace, unmarked_at, unmarked_below};
 
-use loaded_file::Extent;
+use loaded_file::ByteRange;
 use std::alloc::{AllocError, Global};
 
 /// So many places without a mark.
@@ -33,9 +33,9 @@ pub(crate) fn is_marked(marks: &[bool], k: usize) -> bool
 /// The ranges of a list that have no mark, in its order.
 pub(crate) fn unmarked(
     alloc: Global,
-    ranges: &[Extent],
+    ranges: &[ByteRange],
     marks: &[bool],
-) -> Result<Vec<Extent>, AllocError>
+) -> Result<Vec<ByteRange>, AllocError>
     ensures { IfOk result (λ kept. kept.items ≡ unmarked_below ranges.now marks.now (length ranges.now)) }
 {
     let mut kept = Vec::new(alloc);
@@ -47,8 +47,8 @@ pub(crate) fn unmarked(
 
 /// Adds range `k`, if it has no mark.
 fn push_unmarked(
-    kept: &mut Vec<Extent>,
-    ranges: &[Extent],
+    kept: &mut Vec<ByteRange>,
+    ranges: &[ByteRange],
     marks: &[bool],
     k: usize,
 ) -> Result<(), AllocError>

@@ -3,26 +3,26 @@ ghost use Rattle.elf_reader.specs.File.{plain_symbol, plain_view};
 ghost use Rattle.loaded_file.specs.Marks.{all_loaded};
 ghost use Rattle.loaded_file.specs.Records.{reloc_at, target};
 ghost use Rattle.loaded_file.specs.Ranges.{is_of};
-ghost use Rattle.loaded_file.specs.Extents.{extent_at, IsFilled};
-ghost use Rattle.sound_relocations.specs.Sound.{is_meant};
-ghost use Rattle.movable_ranges.specs.Apart.{IsApart, IsBelow, Finds};
+ghost use Rattle.loaded_file.specs.ByteRanges.{byte_range_at, IsFilled};
+ghost use Rattle.rewritable_relocations.specs.Rewritable.{is_meant};
+ghost use Rattle.movable_ranges.specs.Disjoint.{IsDisjoint, IsBelow, Finds};
 ghost use Rattle.movable_ranges.specs.Meant.{means_by};
 
-use crate::apart::{place_holding, place_of};
+use crate::disjoint::{place_holding, place_of};
 use elf_reader::{ElfView, Reloc, STT_SECTION, Symbol};
-use loaded_file::{Extent, has_range, target};
+use loaded_file::{ByteRange, has_range, target};
 
 /// The range of a list that relocation `i` means, if it means one of them: the range of its symbol, or that
 /// in which its target lies if its symbol is that of a section. `loaded` are the marks of the loaded sections;
 /// the ranges ascend, share no byte, and have bytes.
 ///
 /// The time grows with the logarithm of the number of ranges.
-pub fn meant_range(view: &ElfView, loaded: &[bool], ranges: &[Extent], i: usize) -> Option<usize>
+pub fn meant_range(view: &ElfView, loaded: &[bool], ranges: &[ByteRange], i: usize) -> Option<usize>
     requires marks { loaded.now ≡ all_loaded (plain_view view.now) }
-    requires apart { IsApart ranges.now }
+    requires disjoint { IsDisjoint ranges.now }
     requires filled { IsFilled ranges.now }
     requires below { i < length view.now.relocs.items }
-    ensures { MatchOption result ((k : ℕ) → k < length ranges.now → is_meant (plain_view view.now) (extent_at ranges.now k).home (extent_at ranges.now k).size (reloc_at (plain_view view.now) i) ≡ false) (λ k. (k < length ranges.now) × (is_meant (plain_view view.now) (extent_at ranges.now k).home (extent_at ranges.now k).size (reloc_at (plain_view view.now) i) ≡ true)) }
+    ensures { MatchOption result ((k : ℕ) → k < length ranges.now → is_meant (plain_view view.now) (byte_range_at ranges.now k).home (byte_range_at ranges.now k).size (reloc_at (plain_view view.now) i) ≡ false) (λ k. (k < length ranges.now) × (is_meant (plain_view view.now) (byte_range_at ranges.now k).home (byte_range_at ranges.now k).size (reloc_at (plain_view view.now) i) ≡ true)) }
 {
     match place_meant(view, loaded, ranges, &view.relocs[i]) {
         Some(k) => Some(k),
@@ -34,11 +34,11 @@ pub fn meant_range(view: &ElfView, loaded: &[bool], ranges: &[Extent], i: usize)
 pub(crate) fn place_meant(
     view: &ElfView,
     loaded: &[bool],
-    ranges: &[Extent],
+    ranges: &[ByteRange],
     reloc: &Reloc,
 ) -> Option<usize>
     requires marks { loaded.now ≡ all_loaded (plain_view view.now) }
-    requires apart { IsApart ranges.now }
+    requires disjoint { IsDisjoint ranges.now }
     requires filled { IsFilled ranges.now }
     ensures found { Finds (λ home n. is_meant (plain_view view.now) home n reloc.now) ranges.now result }
     ensures below { IsBelow (length ranges.now) result }
@@ -53,12 +53,12 @@ pub(crate) fn place_meant(
 fn place_by_symbol(
     view: &ElfView,
     loaded: &[bool],
-    ranges: &[Extent],
+    ranges: &[ByteRange],
     reloc: &Reloc,
     symbol: &Symbol,
 ) -> Option<usize>
     requires marks { loaded.now ≡ all_loaded (plain_view view.now) }
-    requires apart { IsApart ranges.now }
+    requires disjoint { IsDisjoint ranges.now }
     requires filled { IsFilled ranges.now }
     ensures found { Finds (means_by (plain_view view.now) (plain_symbol symbol.now) (target (plain_view view.now) reloc.now)) ranges.now result }
     ensures below { IsBelow (length ranges.now) result }
@@ -76,11 +76,11 @@ fn place_by_symbol(
 pub fn place_of_symbol(
     view: &ElfView,
     loaded: &[bool],
-    ranges: &[Extent],
+    ranges: &[ByteRange],
     symbol: &Symbol,
 ) -> Option<usize>
     requires marks { loaded.now ≡ all_loaded (plain_view view.now) }
-    requires apart { IsApart ranges.now }
+    requires disjoint { IsDisjoint ranges.now }
     requires filled { IsFilled ranges.now }
     ensures found { Finds (λ home n. is_of (plain_view view.now) home n (plain_symbol symbol.now)) ranges.now result }
     ensures below { IsBelow (length ranges.now) result }

@@ -3,15 +3,15 @@ ghost use Rattle.list_checks.specs.Tests.{any_below};
 ghost use Rattle.elf_reader.specs.File.{plain_symbol, plain_view};
 ghost use Rattle.loaded_file.specs.Marks.{all_loaded};
 ghost use Rattle.loaded_file.specs.Ranges.{owner_of};
-ghost use Rattle.loaded_file.specs.Extents.{IsFilled};
+ghost use Rattle.loaded_file.specs.ByteRanges.{IsFilled};
 ghost use Rattle.movable_ranges.specs.Fixed.{is_listed_name, stands_in_zeros, has_listed_name, is_in_zeros, is_listed};
-ghost use Rattle.movable_ranges.specs.Apart.{IsApart, IsBelow, Finds, AddsRule};
+ghost use Rattle.movable_ranges.specs.Disjoint.{IsDisjoint, IsBelow, Finds, AddsRule};
 
 use crate::marks::mark;
 use crate::meaning::place_of_symbol;
 use board_config::Board;
 use elf_reader::{ElfView, SHT_NOBITS, Symbol};
-use loaded_file::Extent;
+use loaded_file::ByteRange;
 
 /// Marks the ranges in sections without content, if the board doesn't let these move.
 pub(crate) fn mark_zeros(
@@ -19,10 +19,10 @@ pub(crate) fn mark_zeros(
     view: &ElfView,
     board: &Board,
     loaded: &[bool],
-    ranges: &[Extent],
+    ranges: &[ByteRange],
 )
     requires marks { loaded.now ≡ all_loaded (plain_view view.now) }
-    requires apart { IsApart ranges.now }
+    requires disjoint { IsDisjoint ranges.now }
     requires filled { IsFilled ranges.now }
     requires len { length marks.old ≡ length ranges.now }
     ensures adds { AddsRule (is_in_zeros (plain_view view.now) board.now) ranges.now marks.old marks.new }
@@ -34,9 +34,9 @@ pub(crate) fn mark_zeros(
 }
 
 /// Marks the ranges in sections without content.
-fn mark_all_zeros(marks: &mut [bool], view: &ElfView, loaded: &[bool], ranges: &[Extent])
+fn mark_all_zeros(marks: &mut [bool], view: &ElfView, loaded: &[bool], ranges: &[ByteRange])
     requires marks { loaded.now ≡ all_loaded (plain_view view.now) }
-    requires apart { IsApart ranges.now }
+    requires disjoint { IsDisjoint ranges.now }
     requires filled { IsFilled ranges.now }
     requires len { length marks.old ≡ length ranges.now }
     ensures adds { AddsRule (λ home n. any_below (stands_in_zeros (plain_view view.now) home n) (length (plain_view view.now).symbols)) ranges.now marks.old marks.new }
@@ -48,9 +48,9 @@ fn mark_all_zeros(marks: &mut [bool], view: &ElfView, loaded: &[bool], ranges: &
 }
 
 /// The range of symbol `k`, if it stands in a section without content.
-fn place_in_zeros(view: &ElfView, loaded: &[bool], ranges: &[Extent], k: usize) -> Option<usize>
+fn place_in_zeros(view: &ElfView, loaded: &[bool], ranges: &[ByteRange], k: usize) -> Option<usize>
     requires marks { loaded.now ≡ all_loaded (plain_view view.now) }
-    requires apart { IsApart ranges.now }
+    requires disjoint { IsDisjoint ranges.now }
     requires filled { IsFilled ranges.now }
     requires below { k < length view.now.symbols.items }
     ensures found { Finds (λ home n. stands_in_zeros (plain_view view.now) home n k) ranges.now result }
@@ -80,10 +80,10 @@ pub(crate) fn mark_listed(
     view: &ElfView,
     board: &Board,
     loaded: &[bool],
-    ranges: &[Extent],
+    ranges: &[ByteRange],
 )
     requires marks { loaded.now ≡ all_loaded (plain_view view.now) }
-    requires apart { IsApart ranges.now }
+    requires disjoint { IsDisjoint ranges.now }
     requires filled { IsFilled ranges.now }
     requires len { length marks.old ≡ length ranges.now }
     ensures adds { AddsRule (is_listed (plain_view view.now) board.now) ranges.now marks.old marks.new }
@@ -99,11 +99,11 @@ fn listed_place(
     view: &ElfView,
     board: &Board,
     loaded: &[bool],
-    ranges: &[Extent],
+    ranges: &[ByteRange],
     k: usize,
 ) -> Option<usize>
     requires marks { loaded.now ≡ all_loaded (plain_view view.now) }
-    requires apart { IsApart ranges.now }
+    requires disjoint { IsDisjoint ranges.now }
     requires filled { IsFilled ranges.now }
     requires below { k < length view.now.symbols.items }
     ensures found { Finds (λ home n. has_listed_name (plain_view view.now) board.now home n k) ranges.now result }

@@ -2,80 +2,80 @@ ghost use Rattle.std.specs.Prelude.{◌≡◌, ◌<◌, ◌&&◌, not, nat_le, l
 ghost use Rattle.elf_reader.specs.File.{plain_view};
 ghost use Rattle.loaded_file.specs.Marks.{all_loaded};
 ghost use Rattle.loaded_file.specs.Records.{reloc_at};
-ghost use Rattle.loaded_file.specs.Extents.{IsFilled};
-ghost use Rattle.sound_relocations.specs.Marks.{all_sound};
-ghost use Rattle.sound_relocations.specs.Sound.{displacement, is_meant, is_sound_pair};
-ghost use Rattle.movable_ranges.specs.Fixed.{is_unsound_by, is_unsound};
-ghost use Rattle.movable_ranges.specs.Apart.{IsApart, IsBelow, Finds, AddsRule};
+ghost use Rattle.loaded_file.specs.ByteRanges.{IsFilled};
+ghost use Rattle.rewritable_relocations.specs.Marks.{all_rewritable};
+ghost use Rattle.rewritable_relocations.specs.Rewritable.{displacement, is_meant, is_rewritable_pair};
+ghost use Rattle.movable_ranges.specs.Fixed.{is_unrewritable_by, is_unrewritable};
+ghost use Rattle.movable_ranges.specs.Disjoint.{IsDisjoint, IsBelow, Finds, AddsRule};
 ghost use Rattle.movable_ranges.specs.Meant.{is_direct, is_site_kind, leads_inside};
 
 use crate::marks::mark;
 use crate::meaning::place_meant;
 use elf_reader::{ElfView, R_RISCV_PCREL_HI20, Reloc};
-use loaded_file::{Extent, counts, target};
-use sound_relocations::{is_mute, is_sound};
+use loaded_file::{ByteRange, counts, target};
+use rewritable_relocations::{is_hint, is_rewritable};
 
-/// Marks the ranges that a relocation means that isn't sound.
-pub(crate) fn mark_unsound(
+/// Marks the ranges that a relocation means that isn't rewritable.
+pub(crate) fn mark_unrewritable(
     marks: &mut [bool],
     view: &ElfView,
     loaded: &[bool],
-    sound: &[bool],
-    ranges: &[Extent],
+    rewritable: &[bool],
+    ranges: &[ByteRange],
 )
     requires marks { loaded.now ≡ all_loaded (plain_view view.now) }
-    requires sound { sound.now ≡ all_sound (plain_view view.now) }
-    requires apart { IsApart ranges.now }
+    requires rewritable { rewritable.now ≡ all_rewritable (plain_view view.now) }
+    requires disjoint { IsDisjoint ranges.now }
     requires filled { IsFilled ranges.now }
     requires len { length marks.old ≡ length ranges.now }
-    ensures adds { AddsRule (is_unsound (plain_view view.now)) ranges.now marks.old marks.new }
+    ensures adds { AddsRule (is_unrewritable (plain_view view.now)) ranges.now marks.old marks.new }
     ensures len { length marks.new ≡ length marks.old }
 {
     for i in 0..view.relocs.len() {
-        mark(marks, unsound_place(view, loaded, sound, ranges, i));
+        mark(marks, unrewritable_place(view, loaded, rewritable, ranges, i));
     }
 }
 
-/// The range that relocation `i` means, if it isn't sound.
-fn unsound_place(
+/// The range that relocation `i` means, if it isn't rewritable.
+fn unrewritable_place(
     view: &ElfView,
     loaded: &[bool],
-    sound: &[bool],
-    ranges: &[Extent],
+    rewritable: &[bool],
+    ranges: &[ByteRange],
     i: usize,
 ) -> Option<usize>
     requires marks { loaded.now ≡ all_loaded (plain_view view.now) }
-    requires sound { sound.now ≡ all_sound (plain_view view.now) }
-    requires apart { IsApart ranges.now }
+    requires rewritable { rewritable.now ≡ all_rewritable (plain_view view.now) }
+    requires disjoint { IsDisjoint ranges.now }
     requires filled { IsFilled ranges.now }
     requires below { i < length view.now.relocs.items }
-    ensures found { Finds (λ home n. is_unsound_by (plain_view view.now) home n i) ranges.now result }
+    ensures found { Finds (λ home n. is_unrewritable_by (plain_view view.now) home n i) ranges.now result }
     ensures below { IsBelow (length ranges.now) result }
 {
     let reloc = &view.relocs[i];
-    if counts(view, loaded, reloc) && !is_mute(reloc.kind) {
-        misled_place(view, loaded, ranges, reloc, is_sound(view, sound, i))
+    if counts(view, loaded, reloc) && !is_hint(reloc.kind) {
+        misled_place(view, loaded, ranges, reloc, is_rewritable(view, rewritable, i))
     } else {
         None
     }
 }
 
-/// The range that a relocation means, but for one into which or to whose end it leads by a sound kind.
+/// The range that a relocation means, but for one into which or to whose end it leads by a rewritable kind.
 fn misled_place(
     view: &ElfView,
     loaded: &[bool],
-    ranges: &[Extent],
+    ranges: &[ByteRange],
     reloc: &Reloc,
-    is_sound: bool,
+    is_rewritable: bool,
 ) -> Option<usize>
     requires marks { loaded.now ≡ all_loaded (plain_view view.now) }
-    requires apart { IsApart ranges.now }
+    requires disjoint { IsDisjoint ranges.now }
     requires filled { IsFilled ranges.now }
-    ensures found { Finds (λ home n. is_meant (plain_view view.now) home n reloc.now && not (nat_le (displacement (plain_view view.now) home reloc.now) n && is_sound)) ranges.now result }
+    ensures found { Finds (λ home n. is_meant (plain_view view.now) home n reloc.now && not (nat_le (displacement (plain_view view.now) home reloc.now) n && is_rewritable)) ranges.now result }
     ensures below { IsBelow (length ranges.now) result }
 {
     match place_meant(view, loaded, ranges, reloc) {
-        Some(k) if !(leads_into(view, &ranges[k], reloc) && is_sound) => Some(k),
+        Some(k) if !(leads_into(view, &ranges[k], reloc) && is_rewritable) => Some(k),
         _ => None,
     }
 }
@@ -84,11 +84,11 @@ fn misled_place(
 pub(crate) fn leading_place(
     view: &ElfView,
     loaded: &[bool],
-    ranges: &[Extent],
+    ranges: &[ByteRange],
     reloc: &Reloc,
 ) -> Option<usize>
     requires marks { loaded.now ≡ all_loaded (plain_view view.now) }
-    requires apart { IsApart ranges.now }
+    requires disjoint { IsDisjoint ranges.now }
     requires filled { IsFilled ranges.now }
     ensures found { Finds (leads_inside (plain_view view.now) reloc.now) ranges.now result }
     ensures below { IsBelow (length ranges.now) result }
@@ -100,19 +100,19 @@ pub(crate) fn leading_place(
 }
 
 /// A relocation leads into a range that it means, or to its end.
-fn leads_into(view: &ElfView, range: &Extent, reloc: &Reloc) -> bool
+fn leads_into(view: &ElfView, range: &ByteRange, reloc: &Reloc) -> bool
     ensures { result ≡ nat_le (displacement (plain_view view.now) range.now.home reloc.now) range.now.size }
 {
     target(view, reloc).wrapping_sub(range.home) <= range.size
 }
 
-/// Relocation `i` is of a sound kind, and gives a site at the instruction that it changes.
-pub(crate) fn is_direct(view: &ElfView, sound: &[bool], i: usize) -> bool
-    requires sound { sound.now ≡ all_sound (plain_view view.now) }
+/// Relocation `i` is of a rewritable kind, and gives a site at the instruction that it changes.
+pub(crate) fn is_direct(view: &ElfView, rewritable: &[bool], i: usize) -> bool
+    requires rewritable { rewritable.now ≡ all_rewritable (plain_view view.now) }
     requires below { i < length view.now.relocs.items }
     ensures { result ≡ is_direct (plain_view view.now) i }
 {
-    is_sound(view, sound, i) && is_site_kind(view.relocs[i].kind)
+    is_rewritable(view, rewritable, i) && is_site_kind(view.relocs[i].kind)
 }
 
 /// The kinds that do: PCREL_HI20, HI20, LO12_I and LO12_S.
@@ -122,11 +122,11 @@ fn is_site_kind(kind: u32) -> bool
     matches!(kind, R_RISCV_PCREL_HI20 | 26..=28)
 }
 
-/// It is of a sound kind, and it changes an AUIPC.
-pub(crate) fn is_pair(view: &ElfView, sound: &[bool], i: usize) -> bool
-    requires sound { sound.now ≡ all_sound (plain_view view.now) }
+/// It is of a rewritable kind, and it changes an AUIPC.
+pub(crate) fn is_pair(view: &ElfView, rewritable: &[bool], i: usize) -> bool
+    requires rewritable { rewritable.now ≡ all_rewritable (plain_view view.now) }
     requires below { i < length view.now.relocs.items }
-    ensures { result ≡ is_sound_pair (plain_view view.now) (reloc_at (plain_view view.now) i) }
+    ensures { result ≡ is_rewritable_pair (plain_view view.now) (reloc_at (plain_view view.now) i) }
 {
-    is_sound(view, sound, i) && view.relocs[i].kind == R_RISCV_PCREL_HI20
+    is_rewritable(view, rewritable, i) && view.relocs[i].kind == R_RISCV_PCREL_HI20
 }

@@ -3,26 +3,26 @@ ghost use Rattle.list_checks.specs.Tests.{any_below};
 ghost use Rattle.elf_reader.specs.File.{plain_view};
 ghost use Rattle.loaded_file.specs.Marks.{all_loaded};
 ghost use Rattle.loaded_file.specs.Ranges.{is_range, is_overlapped};
-ghost use Rattle.loaded_file.specs.Extents.{has_extent_in, IsFilled};
-ghost use Rattle.sound_relocations.specs.Marks.{all_sound};
-ghost use Rattle.movable_ranges.specs.Fixed.{strays_into, is_movable};
-ghost use Rattle.movable_ranges.specs.Apart.{IsApart, mark_at, AddsRule, AreMarks};
-ghost use Rattle.movable_ranges.specs.Rules.{is_stuck_by_symbols, is_stuck_by_relocations, is_stuck};
+ghost use Rattle.loaded_file.specs.ByteRanges.{has_byte_range_in, IsFilled};
+ghost use Rattle.rewritable_relocations.specs.Marks.{all_rewritable};
+ghost use Rattle.movable_ranges.specs.Fixed.{aliases_into, is_movable};
+ghost use Rattle.movable_ranges.specs.Disjoint.{IsDisjoint, mark_at, AddsRule, AreMarks};
+ghost use Rattle.movable_ranges.specs.Rules.{is_immovable_by_symbols, is_immovable_by_relocations, is_immovable};
 ghost use Rattle.movable_ranges.specs.Shares.{AreSharedWords};
 
 use crate::marks::{no_marks, unmarked};
 use crate::naming::{mark_listed, mark_zeros};
 use crate::sharing::mark_shared;
-use crate::soundness::mark_unsound;
-use crate::straying::{mark_strayed, strayed_sections};
+use crate::soundness::mark_unrewritable;
+use crate::aliasing::{mark_aliased, aliased_sections};
 use crate::words::{SharedWords, shared_words};
 use board_config::Board;
 use elf_reader::ElfView;
-use loaded_file::{Extent, object_ranges, overlapped};
+use loaded_file::{ByteRange, object_ranges, overlapped};
 use std::alloc::{AllocError, Global};
 
 /// The ranges of the objects that may move, ascending. `loaded` are the marks of the loaded sections, and
-/// `sound` those of the relocations of a sound kind. It fails only where no memory was left.
+/// `rewritable` those of the relocations of a rewritable kind. It fails only where no memory was left.
 ///
 /// The time grows with n log n, where n is the number of symbols and relocations, and with the number of
 /// symbols times that of names in the board's list.
@@ -31,24 +31,24 @@ pub fn movable_ranges(
     view: &ElfView,
     board: &Board,
     loaded: &[bool],
-    sound: &[bool],
-) -> Result<Vec<Extent>, AllocError>
+    rewritable: &[bool],
+) -> Result<Vec<ByteRange>, AllocError>
     requires marks { loaded.now ≡ all_loaded (plain_view view.now) }
-    requires sound { sound.now ≡ all_sound (plain_view view.now) }
-    ensures apart { IfOk result (λ ranges. IsApart ranges.items) }
-    ensures exact { IfOk result (λ ranges. (home n : ℕ) → has_extent_in ranges.items home n ≡ is_movable (plain_view view.now) board.now home n) }
+    requires rewritable { rewritable.now ≡ all_rewritable (plain_view view.now) }
+    ensures disjoint { IfOk result (λ ranges. IsDisjoint ranges.items) }
+    ensures exact { IfOk result (λ ranges. (home n : ℕ) → has_byte_range_in ranges.items home n ≡ is_movable (plain_view view.now) board.now home n) }
     ensures filled { IfOk result (λ ranges. IsFilled ranges.items) }
 {
-    let apart = apart_ranges(alloc, view, loaded)?;
-    let stuck = stuck_marks(alloc, view, board, loaded, sound, &apart)?;
-    unmarked(alloc, &apart, &stuck)
+    let disjoint = disjoint_ranges(alloc, view, loaded)?;
+    let immovable = immovable_marks(alloc, view, board, loaded, rewritable, &disjoint)?;
+    unmarked(alloc, &disjoint, &immovable)
 }
 
 /// The ranges of the objects that meet no other one.
-fn apart_ranges(alloc: Global, view: &ElfView, loaded: &[bool]) -> Result<Vec<Extent>, AllocError>
+fn disjoint_ranges(alloc: Global, view: &ElfView, loaded: &[bool]) -> Result<Vec<ByteRange>, AllocError>
     requires marks { loaded.now ≡ all_loaded (plain_view view.now) }
-    ensures apart { IfOk result (λ ranges. IsApart ranges.items) }
-    ensures exact { IfOk result (λ ranges. (home n : ℕ) → has_extent_in ranges.items home n ≡ (is_range (plain_view view.now) home n && not (is_overlapped (plain_view view.now) home n))) }
+    ensures disjoint { IfOk result (λ ranges. IsDisjoint ranges.items) }
+    ensures exact { IfOk result (λ ranges. (home n : ℕ) → has_byte_range_in ranges.items home n ≡ (is_range (plain_view view.now) home n && not (is_overlapped (plain_view view.now) home n))) }
     ensures filled { IfOk result (λ ranges. IsFilled ranges.items) }
 {
     let ranges = object_ranges(alloc, view, loaded)?;
@@ -57,95 +57,95 @@ fn apart_ranges(alloc: Global, view: &ElfView, loaded: &[bool]) -> Result<Vec<Ex
 }
 
 /// Which of these ranges stay where they are, by a rule other than that they meet another one.
-fn stuck_marks(
+fn immovable_marks(
     alloc: Global,
     view: &ElfView,
     board: &Board,
     loaded: &[bool],
-    sound: &[bool],
-    ranges: &[Extent],
+    rewritable: &[bool],
+    ranges: &[ByteRange],
 ) -> Result<Vec<bool>, AllocError>
     requires marks { loaded.now ≡ all_loaded (plain_view view.now) }
-    requires sound { sound.now ≡ all_sound (plain_view view.now) }
-    requires apart { IsApart ranges.now }
+    requires rewritable { rewritable.now ≡ all_rewritable (plain_view view.now) }
+    requires disjoint { IsDisjoint ranges.now }
     requires filled { IsFilled ranges.now }
-    ensures { IfOk result (λ stuck. AreMarks (is_stuck (plain_view view.now) board.now) ranges.now stuck.items) }
+    ensures { IfOk result (λ immovable. AreMarks (is_immovable (plain_view view.now) board.now) ranges.now immovable.items) }
 {
-    let strayed = strayed_sections(alloc, view, loaded)?;
-    let words = shared_words(alloc, view, loaded, sound)?;
+    let aliased = aliased_sections(alloc, view, loaded)?;
+    let words = shared_words(alloc, view, loaded, rewritable)?;
     let mut marks = no_marks(alloc, ranges.len())?;
-    mark_stuck(
-        &mut marks, view, board, loaded, sound, &strayed, &words, ranges,
+    mark_immovable(
+        &mut marks, view, board, loaded, rewritable, &aliased, &words, ranges,
     );
     Ok(marks)
 }
 
 /// Marks them, by what is known of sections and words.
-fn mark_stuck(
+fn mark_immovable(
     marks: &mut [bool],
     view: &ElfView,
     board: &Board,
     loaded: &[bool],
-    sound: &[bool],
-    strayed: &[bool],
+    rewritable: &[bool],
+    aliased: &[bool],
     words: &SharedWords,
-    ranges: &[Extent],
+    ranges: &[ByteRange],
 )
     requires marks { loaded.now ≡ all_loaded (plain_view view.now) }
-    requires sound { sound.now ≡ all_sound (plain_view view.now) }
-    requires strayed { (s : ℕ) → mark_at strayed.now s ≡ any_below (strays_into (plain_view view.now) s) (length (plain_view view.now).relocs) }
+    requires rewritable { rewritable.now ≡ all_rewritable (plain_view view.now) }
+    requires aliased { (s : ℕ) → mark_at aliased.now s ≡ any_below (aliases_into (plain_view view.now) s) (length (plain_view view.now).relocs) }
     requires words { AreSharedWords (plain_view view.now) words.now }
-    requires apart { IsApart ranges.now }
+    requires disjoint { IsDisjoint ranges.now }
     requires filled { IsFilled ranges.now }
     requires len { length marks.old ≡ length ranges.now }
-    ensures adds { AddsRule (is_stuck (plain_view view.now) board.now) ranges.now marks.old marks.new }
+    ensures adds { AddsRule (is_immovable (plain_view view.now) board.now) ranges.now marks.old marks.new }
     ensures len { length marks.new ≡ length marks.old }
 {
-    mark_by_symbols(marks, view, board, loaded, strayed, ranges);
-    mark_by_relocations(marks, view, loaded, sound, words, ranges);
+    mark_by_symbols(marks, view, board, loaded, aliased, ranges);
+    mark_by_relocations(marks, view, loaded, rewritable, words, ranges);
 }
 
 /// Marks the ranges that stay by their symbols: in a section without content, by a name, or beside an object
-/// into which a relocation strays.
+/// into which a relocation aliases.
 fn mark_by_symbols(
     marks: &mut [bool],
     view: &ElfView,
     board: &Board,
     loaded: &[bool],
-    strayed: &[bool],
-    ranges: &[Extent],
+    aliased: &[bool],
+    ranges: &[ByteRange],
 )
     requires marks { loaded.now ≡ all_loaded (plain_view view.now) }
-    requires strayed { (s : ℕ) → mark_at strayed.now s ≡ any_below (strays_into (plain_view view.now) s) (length (plain_view view.now).relocs) }
-    requires apart { IsApart ranges.now }
+    requires aliased { (s : ℕ) → mark_at aliased.now s ≡ any_below (aliases_into (plain_view view.now) s) (length (plain_view view.now).relocs) }
+    requires disjoint { IsDisjoint ranges.now }
     requires filled { IsFilled ranges.now }
     requires len { length marks.old ≡ length ranges.now }
-    ensures adds { AddsRule (is_stuck_by_symbols (plain_view view.now) board.now) ranges.now marks.old marks.new }
+    ensures adds { AddsRule (is_immovable_by_symbols (plain_view view.now) board.now) ranges.now marks.old marks.new }
     ensures len { length marks.new ≡ length marks.old }
 {
     mark_zeros(marks, view, board, loaded, ranges);
     mark_listed(marks, view, board, loaded, ranges);
-    mark_strayed(marks, view, loaded, strayed, ranges);
+    mark_aliased(marks, view, loaded, aliased, ranges);
 }
 
-/// Marks those that stay by relocations: by one that isn't sound, or by sites that share a word.
+/// Marks those that stay by relocations: by one that isn't rewritable, or by sites that share a word.
 fn mark_by_relocations(
     marks: &mut [bool],
     view: &ElfView,
     loaded: &[bool],
-    sound: &[bool],
+    rewritable: &[bool],
     words: &SharedWords,
-    ranges: &[Extent],
+    ranges: &[ByteRange],
 )
     requires marks { loaded.now ≡ all_loaded (plain_view view.now) }
-    requires sound { sound.now ≡ all_sound (plain_view view.now) }
+    requires rewritable { rewritable.now ≡ all_rewritable (plain_view view.now) }
     requires words { AreSharedWords (plain_view view.now) words.now }
-    requires apart { IsApart ranges.now }
+    requires disjoint { IsDisjoint ranges.now }
     requires filled { IsFilled ranges.now }
     requires len { length marks.old ≡ length ranges.now }
-    ensures adds { AddsRule (is_stuck_by_relocations (plain_view view.now)) ranges.now marks.old marks.new }
+    ensures adds { AddsRule (is_immovable_by_relocations (plain_view view.now)) ranges.now marks.old marks.new }
     ensures len { length marks.new ≡ length marks.old }
 {
-    mark_unsound(marks, view, loaded, sound, ranges);
-    mark_shared(marks, view, loaded, sound, words, ranges);
+    mark_unrewritable(marks, view, loaded, rewritable, ranges);
+    mark_shared(marks, view, loaded, rewritable, words, ranges);
 }

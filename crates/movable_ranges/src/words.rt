@@ -4,7 +4,7 @@ ghost use Rattle.list_checks.specs.Tests.{any_below};
 ghost use Rattle.elf_reader.specs.File.{plain_symbol, plain_view};
 ghost use Rattle.loaded_file.specs.Marks.{all_loaded};
 ghost use Rattle.loaded_file.specs.Records.{reloc_at, symbol_of};
-ghost use Rattle.sound_relocations.specs.Marks.{all_sound};
+ghost use Rattle.rewritable_relocations.specs.Marks.{all_rewritable};
 ghost use Rattle.list_checks.specs.Sorted.{IsSorted, count_below};
 ghost use Rattle.movable_ranges.specs.Shares.{IsCover, leads_some, leads_by, is_high_by, is_low_of_some, gives_some, gives_by, repeats_at, is_low_shared, is_shared_low, AreSharedWords};
 
@@ -13,7 +13,7 @@ use crate::soundness::{is_direct, is_pair};
 use elf_reader::{ElfView, Reloc, STT_SECTION, Symbol};
 use list_checks::{arrange, has, repeats};
 use loaded_file::{counts, has_range, symbol_value, target};
-use sound_relocations::is_pair_low;
+use rewritable_relocations::is_pair_low;
 use std::alloc::{AllocError, Global};
 
 /// Where the sites of a program are, those of all its objects.
@@ -30,16 +30,16 @@ pub(crate) fn shared_words(
     alloc: Global,
     view: &ElfView,
     loaded: &[bool],
-    sound: &[bool],
+    rewritable: &[bool],
 ) -> Result<SharedWords, AllocError>
     requires marks { loaded.now ≡ all_loaded (plain_view view.now) }
-    requires sound { sound.now ≡ all_sound (plain_view view.now) }
+    requires rewritable { rewritable.now ≡ all_rewritable (plain_view view.now) }
     ensures { IfOk result (AreSharedWords (plain_view view.now)) }
 {
     let cover = object_cover(alloc, view, loaded)?;
-    let mut pairs = pair_addresses(alloc, view, loaded, sound, &cover)?;
+    let mut pairs = pair_addresses(alloc, view, loaded, rewritable, &cover)?;
     arrange(&mut pairs);
-    let mut sites = site_addresses(alloc, view, loaded, sound, &cover, &pairs)?;
+    let mut sites = site_addresses(alloc, view, loaded, rewritable, &cover, &pairs)?;
     arrange(&mut sites);
     let mut highs = shared_highs(alloc, view, loaded, &sites)?;
     arrange(&mut highs);
@@ -51,17 +51,17 @@ fn pair_addresses(
     alloc: Global,
     view: &ElfView,
     loaded: &[bool],
-    sound: &[bool],
+    rewritable: &[bool],
     cover: &Cover,
 ) -> Result<Vec<u64>, AllocError>
     requires marks { loaded.now ≡ all_loaded (plain_view view.now) }
-    requires sound { sound.now ≡ all_sound (plain_view view.now) }
+    requires rewritable { rewritable.now ≡ all_rewritable (plain_view view.now) }
     requires cover { IsCover (plain_view view.now) cover.now }
     ensures { IfOk result (λ pairs. (test : ℕ → Bool) → list_any test pairs.items ≡ any_below (is_high_by (plain_view view.now) test) (length (plain_view view.now).relocs)) }
 {
     let mut pairs = Vec::new(alloc);
     for i in 0..view.relocs.len() {
-        push_pair(&mut pairs, view, loaded, sound, cover, i)?;
+        push_pair(&mut pairs, view, loaded, rewritable, cover, i)?;
     }
     Ok(pairs)
 }
@@ -71,17 +71,17 @@ fn push_pair(
     pairs: &mut Vec<u64>,
     view: &ElfView,
     loaded: &[bool],
-    sound: &[bool],
+    rewritable: &[bool],
     cover: &Cover,
     i: usize,
 ) -> Result<(), AllocError>
     requires marks { loaded.now ≡ all_loaded (plain_view view.now) }
-    requires sound { sound.now ≡ all_sound (plain_view view.now) }
+    requires rewritable { rewritable.now ≡ all_rewritable (plain_view view.now) }
     requires cover { IsCover (plain_view view.now) cover.now }
     requires below { i < length view.now.relocs.items }
     ensures { IfOk result (λ _. (test : ℕ → Bool) → list_any test pairs.new.items ≡ (list_any test pairs.old.items || is_high_by (plain_view view.now) test i)) }
 {
-    if is_pair(view, sound, i) && leads_some(view, loaded, cover, i) {
+    if is_pair(view, rewritable, i) && leads_some(view, loaded, cover, i) {
         pairs.push(u64::from(view.relocs[i].at))?;
     }
     Ok(())
@@ -125,12 +125,12 @@ fn site_addresses(
     alloc: Global,
     view: &ElfView,
     loaded: &[bool],
-    sound: &[bool],
+    rewritable: &[bool],
     cover: &Cover,
     pairs: &[u64],
 ) -> Result<Vec<u64>, AllocError>
     requires marks { loaded.now ≡ all_loaded (plain_view view.now) }
-    requires sound { sound.now ≡ all_sound (plain_view view.now) }
+    requires rewritable { rewritable.now ≡ all_rewritable (plain_view view.now) }
     requires cover { IsCover (plain_view view.now) cover.now }
     requires sorted { IsSorted pairs.now }
     requires pairs { (test : ℕ → Bool) → list_any test pairs.now ≡ any_below (is_high_by (plain_view view.now) test) (length (plain_view view.now).relocs) }
@@ -138,7 +138,7 @@ fn site_addresses(
 {
     let mut sites = Vec::new(alloc);
     for j in 0..view.relocs.len() {
-        push_site(&mut sites, view, loaded, sound, cover, pairs, j)?;
+        push_site(&mut sites, view, loaded, rewritable, cover, pairs, j)?;
     }
     Ok(sites)
 }
@@ -148,20 +148,20 @@ fn push_site(
     sites: &mut Vec<u64>,
     view: &ElfView,
     loaded: &[bool],
-    sound: &[bool],
+    rewritable: &[bool],
     cover: &Cover,
     pairs: &[u64],
     j: usize,
 ) -> Result<(), AllocError>
     requires marks { loaded.now ≡ all_loaded (plain_view view.now) }
-    requires sound { sound.now ≡ all_sound (plain_view view.now) }
+    requires rewritable { rewritable.now ≡ all_rewritable (plain_view view.now) }
     requires cover { IsCover (plain_view view.now) cover.now }
     requires sorted { IsSorted pairs.now }
     requires pairs { (test : ℕ → Bool) → list_any test pairs.now ≡ any_below (is_high_by (plain_view view.now) test) (length (plain_view view.now).relocs) }
     requires below { j < length view.now.relocs.items }
     ensures { IfOk result (λ _. (test : ℕ → Bool) → count_by test sites.new.items ≡ count_by test sites.old.items + (if gives_by (plain_view view.now) test j then 1 else 0)) }
 {
-    if gives_some(view, loaded, sound, cover, pairs, j) {
+    if gives_some(view, loaded, rewritable, cover, pairs, j) {
         sites.push(u64::from(view.relocs[j].at))?;
     }
     Ok(())
@@ -171,20 +171,20 @@ fn push_site(
 fn gives_some(
     view: &ElfView,
     loaded: &[bool],
-    sound: &[bool],
+    rewritable: &[bool],
     cover: &Cover,
     pairs: &[u64],
     j: usize,
 ) -> bool
     requires marks { loaded.now ≡ all_loaded (plain_view view.now) }
-    requires sound { sound.now ≡ all_sound (plain_view view.now) }
+    requires rewritable { rewritable.now ≡ all_rewritable (plain_view view.now) }
     requires cover { IsCover (plain_view view.now) cover.now }
     requires sorted { IsSorted pairs.now }
     requires pairs { (test : ℕ → Bool) → list_any test pairs.now ≡ any_below (is_high_by (plain_view view.now) test) (length (plain_view view.now).relocs) }
     requires below { j < length view.now.relocs.items }
     ensures { result ≡ gives_some (plain_view view.now) j }
 {
-    is_direct(view, sound, j) && leads_some(view, loaded, cover, j)
+    is_direct(view, rewritable, j) && leads_some(view, loaded, cover, j)
         || is_low_of_some(view, loaded, pairs, j)
 }
 

@@ -23,7 +23,7 @@ rest_only : (here others : Bool) (n : ℕ) → here ≡ false → n ≡ one_if o
 rest_only here others n first rest = rw (first, rest) (omega arith)
 
 other_name : (n m k : ℕ) → (n == k) ≡ true → n ≢ m → (m == k) ≡ false
-other_name n m k here apart = grind (arith, nat_tests, here, apart)
+other_name n m k here disjoint = grind (arith, nat_tests, here, disjoint)
 
 under_more : (n k : ℕ) → one_if (nat_lt n (k + 1)) ≡ one_if (nat_lt n k) + one_if (n == k)
 under_more n k = grind (arith, nat_tests)

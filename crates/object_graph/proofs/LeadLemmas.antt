@@ -15,15 +15,15 @@ use Rattle.elf_reader.specs.File.{PlainView}
 use Rattle.loaded_file.specs.Code.{is_code_word, image_word}
 use Rattle.elf_reader.specs.declared.view.Reloc.{Reloc}
 use Rattle.loaded_file.specs.Records.{reloc_at, counts, target}
-use Rattle.sound_relocations.specs.Sound.{is_addi, is_load_word, is_store_word, i_low, s_low, takes_low_i, takes_low_s, distance, names_high, is_paired, is_unpaired}
+use Rattle.rewritable_relocations.specs.Rewritable.{is_addi, is_load_word, is_store_word, i_low, s_low, takes_low_i, takes_low_s, distance, names_high, is_paired, is_unpaired}
 use Rattle.object_graph.specs.Laws.{reach, StoresAtLower, HasLower, IsLowOf, DataWordsLead, HighSitesLead, LowSitesLead, LowStoresLead, PairedSitesLead}
-use Rattle.object_graph.proofs.SoundLemmas.{given_both, soundly, IsPair, of_two, kind_parts, only_word, only_high, only_low, only_pair}
+use Rattle.object_graph.proofs.RewritableLemmas.{given_both, soundly, IsPair, of_two, kind_parts, only_word, only_high, only_low, only_pair}
 
 pub data_words_lead : DataWordsLead
 data_words_lead v board home n i movable means =
-    let sound = soundly v board 1 home n i (omega arith) (omega arith) movable means in
-    let word = only_word v i (reloc_at v i) means.is_kind (kind_parts v i sound.kind) in
-    (sound.near, word.word ∙ sound.leads)
+    let rewritable = soundly v board 1 home n i (omega arith) (omega arith) movable means in
+    let word = only_word v i (reloc_at v i) means.is_kind (kind_parts v i rewritable.kind) in
+    (rewritable.near, word.word ∙ rewritable.leads)
 
 -- ---- instructions with a part of an address
 
@@ -75,25 +75,25 @@ stores_at_lower w a takes =
 pub high_sites_lead : HighSitesLead
 high_sites_lead v board home n i movable means =
     let r = reloc_at v i in
-    let sound = soundly v board 26 home n i (omega arith) (omega arith) movable means in
-    let high = only_high v i r means.is_kind (kind_parts v i sound.kind) in
+    let rewritable = soundly v board 26 home n i (omega arith) (omega arith) movable means in
+    let high = only_high v i r means.is_kind (kind_parts v i rewritable.kind) in
     record {
-      near = sound.near;
+      near = rewritable.near;
       code = high.code;
-      part = (high.opcode, refl, ap upper_half (sym sound.leads) ∙ sym high.high);
+      part = (high.opcode, refl, ap upper_half (sym rewritable.leads) ∙ sym high.high);
     }
 
 pub low_sites_lead : LowSitesLead
 low_sites_lead v board home n i movable means =
     let r = reloc_at v i in
     let is = means.is_kind in
-    let sound = soundly v board 27 home n i (omega arith) (omega arith) movable means in
-    let low = only_low v i r (omega (arith, is)) (kind_parts v i sound.kind) in
+    let rewritable = soundly v board 27 home n i (omega arith) (omega arith) movable means in
+    let low = only_low v i r (omega (arith, is)) (kind_parts v i rewritable.kind) in
     record {
-      near = sound.near;
+      near = rewritable.near;
       code = low.code;
       part = elim low.low [
-        | inl wide ↦ subst (λ (a : ℕ). HasLower (image_word v r.at) a) sound.leads (has_lower (image_word v r.at) (target v r) wide.1)
+        | inl wide ↦ subst (λ (a : ℕ). HasLower (image_word v r.at) a) rewritable.leads (has_lower (image_word v r.at) (target v r) wide.1)
         | inr half ↦ let wrong = half.0 in absurd (omega (arith, is, wrong))
       ];
     }
@@ -102,14 +102,14 @@ pub low_stores_lead : LowStoresLead
 low_stores_lead v board home n i movable means =
     let r = reloc_at v i in
     let is = means.is_kind in
-    let sound = soundly v board 28 home n i (omega arith) (omega arith) movable means in
-    let low = only_low v i r (omega (arith, is)) (kind_parts v i sound.kind) in
+    let rewritable = soundly v board 28 home n i (omega arith) (omega arith) movable means in
+    let low = only_low v i r (omega (arith, is)) (kind_parts v i rewritable.kind) in
     record {
-      near = sound.near;
+      near = rewritable.near;
       code = low.code;
       part = elim low.low [
         | inl wide ↦ let wrong = wide.0 in absurd (omega (arith, is, wrong))
-        | inr half ↦ subst (λ (a : ℕ). StoresAtLower (image_word v r.at) a) sound.leads (stores_at_lower (image_word v r.at) (target v r) half.1)
+        | inr half ↦ subst (λ (a : ℕ). StoresAtLower (image_word v r.at) a) rewritable.leads (stores_at_lower (image_word v r.at) (target v r) half.1)
       ];
     }
 
@@ -132,7 +132,7 @@ low_of v high j paired =
       ];
     }
 
--- a low part that names a sound AUIPC
+-- a low part that names a rewritable AUIPC
 pub paired_low : (v : PlainView) (r : Reloc) (j : ℕ) → IsPair v r → j < length v.relocs → counts v (reloc_at v j) ≡ true → names_high v r (reloc_at v j) ≡ true → IsLowOf v j (distance v r)
 paired_low v r j pair below counted names =
     let low = reloc_at v j in
@@ -142,11 +142,11 @@ paired_low v r j pair below counted names =
 pub paired_sites_lead : PairedSitesLead
 paired_sites_lead v board home n i movable means =
     let r = reloc_at v i in
-    let sound = soundly v board 23 home n i (omega arith) (omega arith) movable means in
-    let pair = only_pair v i r means.is_kind (kind_parts v i sound.kind) in
-    let far : distance v r ≡ reach v home i = ap (λ (a : ℕ). minus a r.at) sound.leads in
+    let rewritable = soundly v board 23 home n i (omega arith) (omega arith) movable means in
+    let pair = only_pair v i r means.is_kind (kind_parts v i rewritable.kind) in
+    let far : distance v r ≡ reach v home i = ap (λ (a : ℕ). minus a r.at) rewritable.leads in
     record {
-      near = sound.near;
+      near = rewritable.near;
       code = pair.code;
       high = (pair.opcode, refl, ap upper_half (sym far) ∙ sym pair.high);
       lows = λ j below counted names. subst (λ (a : ℕ). IsLowOf v j a) far (paired_low v r j pair below counted names);

@@ -2,7 +2,7 @@ pub mod CodeLemmas
 pub mod ViewLemmas
 pub mod LeadLemmas
 pub mod MovableLemmas
-pub mod SoundLemmas
+pub mod RewritableLemmas
 pub mod SiteLemmas
 pub mod SortLemmas
 pub mod SearchLemmas

@@ -11,8 +11,8 @@ use Rattle.elf_reader.specs.File.{PlainView}
 use Rattle.board_config.specs.declared.board.Board.{Board}
 use Rattle.loaded_file.specs.Records.{symbol_at}
 use Rattle.loaded_file.specs.Ranges.{inside}
-use Rattle.loaded_file.proofs.ExtentLemmas.{both_made}
-use Rattle.loaded_file.proofs.RangeLemmas.{extent_of}
+use Rattle.loaded_file.proofs.ByteRangeLemmas.{both_made}
+use Rattle.loaded_file.proofs.RangeLemmas.{byte_range_of}
 use Rattle.object_graph.specs.declared.parts.Object.{Object}
 use Rattle.object_graph.specs.declared.parts.Site.{Site}
 use Rattle.object_graph.specs.declared.parts.DataWord.{DataWord}
@@ -26,13 +26,13 @@ use Rattle.object_graph.proofs.SearchLemmas.{Rises, never_falls}
 -- the objects of a graph ascend, share no byte, and have bytes
 pub laid_out : (v : PlainView) (board : Board) (objects : List Object) → IsObjects v board objects → AreLaidOut objects
 laid_out v board objects is = record {
-  apart = is.apart;
+  disjoint = is.disjoint;
   filled = λ k d below.
       let o = get_or objects k d in
       let itself = both_made (o.home == o.home) (o.size == o.size) (eq-eqb o.home o.home refl) (eq-eqb o.size o.size refl) in
       let movable = sym (is.exact o.home o.size) ∙ list_any_at (is_object_of o.home o.size) objects k d below itself in
       let moves = movable_parts v board o.home o.size movable in
-      (extent_of v o.home o.size (symbol_at v moves.symbol) moves.of).filled;
+      (byte_range_of v o.home o.size (symbol_at v moves.symbol) moves.of).filled;
 }
 
 abbrev pub object_home : Object → ℕ
@@ -40,9 +40,9 @@ object_home o = o.home
 
 rises_laid : (objects : List Object) → AreLaidOut objects → Rises object_home objects
 rises_laid objects laid i j d before below =
-    let apart = laid.apart i j d before below in
+    let disjoint = laid.disjoint i j d before below in
     let filled = laid.filled i d (omega (arith, before, below)) in
-    omega (arith, apart, filled)
+    omega (arith, disjoint, filled)
 
 pub parted_objects : (objects : List Object) (a : ℕ) → AreLaidOut objects → IsPartitionedBy (λ o. nat_le o.home a) objects
 parted_objects objects a laid = IsPartitionedBy-leb object_home objects a (never_falls object_home objects (rises_laid objects laid))
@@ -96,9 +96,9 @@ none_inside objects a c laid parted bound last k below =
       | inl before ↦ elim (cases_eq k (c - 1)) [
         | inl here ↦ subst (λ (j : ℕ). inside (object_at objects j).home (object_at objects j).size a ≡ false) (sym here) (last (omega (arith, before)))
         | inr other ↦
-            let apart = laid.apart k (c - 1) no_object (omega (arith, before, other)) (omega (arith, before, bound)) in
+            let disjoint = laid.disjoint k (c - 1) no_object (omega (arith, before, other)) (omega (arith, before, bound)) in
             let starts = parted.low (c - 1) no_object (omega (arith, before)) in
-            ends_before o.home o.size a (omega (arith, apart, starts))
+            ends_before o.home o.size a (omega (arith, disjoint, starts))
       ]
     ]
 

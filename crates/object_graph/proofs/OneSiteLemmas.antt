@@ -2,7 +2,7 @@
 use Rattle.std.proofs.Common.{◌≡◌, ◌∙◌, ◌⊎◌, inl, inr, ℕ, ◌+◌, ◌<◌, ◌==◌, nat_le, Bool, true, false, ◌&&◌, ◌||◌, length, refl, sym, subst, arith}
 use Rattle.std.proofs.lemmas.Bool.{eqb-true, both_ways}
 use Rattle.std.proofs.lemmas.Bool.Decides.{nat_tests}
-use Rattle.list_checks.specs.Tests.{any_below, meets}
+use Rattle.list_checks.specs.Tests.{any_below, ranges_overlap}
 use Rattle.list_checks.proofs.TestLemmas.{either, both, any_found, any_at}
 use Rattle.elf_reader.specs.File.{PlainView}
 use Rattle.elf_reader.specs.declared.view.Reloc.{Reloc}
@@ -10,21 +10,21 @@ use Rattle.board_config.specs.declared.board.Board.{Board}
 use Rattle.loaded_file.specs.Records.{reloc_at, counts, symbol_of, target}
 use Rattle.loaded_file.specs.Ranges.{is_of, inside}
 use Rattle.loaded_file.proofs.RangeLemmas.{of_parts}
-use Rattle.sound_relocations.specs.Sound.{is_meant, displacement, is_sound_high, is_sound_low, is_pair_low, names_high, is_sound_pair}
+use Rattle.rewritable_relocations.specs.Rewritable.{is_meant, displacement, is_rewritable_high, is_rewritable_low, is_pair_low, names_high, is_rewritable_pair}
 use Rattle.movable_ranges.specs.Fixed.{leads_to, gives_pair, is_site_of, is_movable}
 use Rattle.object_graph.specs.Sites.{is_site}
 use Rattle.object_graph.specs.Graphs.{gives_directly, gives_low_of, gives_offset}
 use Rattle.object_graph.specs.Laws.{GivesSite, OneObjectASite, OneOffsetASite}
-use Rattle.object_graph.proofs.MovableLemmas.{objects_apart}
-use Rattle.object_graph.proofs.SoundLemmas.{high_parts, low_parts, pair_parts}
-use Rattle.object_graph.proofs.SiteLemmas.{sites_apart}
+use Rattle.object_graph.proofs.MovableLemmas.{objects_disjoint}
+use Rattle.object_graph.proofs.RewritableLemmas.{high_parts, low_parts, pair_parts}
+use Rattle.object_graph.proofs.SiteLemmas.{sites_disjoint}
 
-inside_meets : (home n home' n' a : ℕ) → inside home n a ≡ true → inside home' n' a ≡ true → meets home n home' n' ≡ true
-inside_meets home n home' n' a first second = grind (arith, nat_tests, first, second)
+inside_overlaps : (home n home' n' a : ℕ) → inside home n a ≡ true → inside home' n' a ≡ true → ranges_overlap home n home' n' ≡ true
+inside_overlaps home n home' n' a first second = grind (arith, nat_tests, first, second)
 
 -- two objects that one relocation means are the same, or share a byte
-pub meant_both : (v : PlainView) (home n home' n' : ℕ) (r : Reloc) → (meets home n home' n' ≡ false) ⊎ ((home ≡ home') × (n ≡ n')) → is_meant v home n r ≡ true → is_meant v home' n' r ≡ true → (home ≡ home') × (n ≡ n')
-meant_both v home n home' n' r apart first second =
+pub meant_both : (v : PlainView) (home n home' n' : ℕ) (r : Reloc) → (ranges_overlap home n home' n' ≡ false) ⊎ ((home ≡ home') × (n ≡ n')) → is_meant v home n r ≡ true → is_meant v home' n' r ≡ true → (home ≡ home') × (n ≡ n')
+meant_both v home n home' n' r disjoint first second =
     let s = symbol_of v r in
     let a = target v r in
     let by_section = either (is_of v home n s) ((s.kind == 3) && inside home n a) first in
@@ -46,8 +46,8 @@ meant_both v home n home' n' r apart first second =
             | inl own' ↦ let wrong = (of_parts v home' n' s own').range.kind in absurd (omega (arith, kind, wrong))
             | inr other' ↦
                 let parts' = both (s.kind == 3) (inside home' n' a) other' in
-                elim apart [
-                  | inl none ↦ absurd (both_ways _ none (inside_meets home n home' n' a parts.1 parts'.1))
+                elim disjoint [
+                  | inl none ↦ absurd (both_ways _ none (inside_overlaps home n home' n' a parts.1 parts'.1))
                   | inr same ↦ same
                 ]
           ]
@@ -56,15 +56,15 @@ meant_both v home n home' n' r apart first second =
 -- relocation `j` gives sites by itself
 abbrev pub gives_own : PlainView → ℕ → Bool
 gives_own v j =
-    is_sound_high v (reloc_at v j) || is_sound_low v (reloc_at v j) || is_sound_pair v (reloc_at v j)
+    is_rewritable_high v (reloc_at v j) || is_rewritable_low v (reloc_at v j) || is_rewritable_pair v (reloc_at v j)
 
 -- so it is of one of four kinds
 pub own_kind : (v : PlainView) (j : ℕ) → gives_own v j ≡ true → is_pair_low (reloc_at v j).kind ≡ false
 own_kind v j own =
     let r = reloc_at v j in
-    let high = is_sound_high v r in
-    let low = is_sound_low v r in
-    elim (either (high || low) (is_sound_pair v r) own) [
+    let high = is_rewritable_high v r in
+    let low = is_rewritable_low v r in
+    elim (either (high || low) (is_rewritable_pair v r) own) [
       | inr third ↦ let is = (pair_parts v r third).kind in grind (arith, nat_tests, is)
       | inl front ↦ elim (either high low front) [
         | inl first ↦ let is = (high_parts v r first).kind in grind (arith, nat_tests, is)
@@ -79,7 +79,7 @@ own_kind v j own =
 pub record Source (v : PlainView) (home n j : ℕ) : Type 0 where
   pub by : ℕ
   pub leads : leads_to v home n by ≡ true
-  pub kind : ((by ≡ j) × (gives_own v j ≡ true)) ⊎ ((by < length v.relocs) × (is_sound_pair v (reloc_at v by) ≡ true) × (names_high v (reloc_at v by) (reloc_at v j) ≡ true))
+  pub kind : ((by ≡ j) × (gives_own v j ≡ true)) ⊎ ((by < length v.relocs) × (is_rewritable_pair v (reloc_at v by) ≡ true) × (names_high v (reloc_at v by) (reloc_at v j) ≡ true))
 
 abbrev by_own : (v : PlainView) (home n j : ℕ) → leads_to v home n j && gives_own v j ≡ true → Source v home n j
 by_own v home n j own =
@@ -89,8 +89,8 @@ by_own v home n j own =
 abbrev by_pair : (v : PlainView) (home n j i : ℕ) → i < length v.relocs → gives_pair v home n j i ≡ true → Source v home n j
 by_pair v home n j i below gives =
     let r = reloc_at v i in
-    let whole = both (leads_to v home n i && is_sound_pair v r) (names_high v r (reloc_at v j)) gives in
-    let front = both (leads_to v home n i) (is_sound_pair v r) whole.0 in
+    let whole = both (leads_to v home n i && is_rewritable_pair v r) (names_high v r (reloc_at v j)) gives in
+    let front = both (leads_to v home n i) (is_rewritable_pair v r) whole.0 in
     record { by = i; leads = front.0; kind = inr (below, front.1, whole.1) }
 
 pub source_of : (v : PlainView) (home n j : ℕ) → is_site_of v home n j ≡ true → Source v home n j
@@ -131,7 +131,7 @@ meant_by v home n i leads =
 made_site : (leads high low pair rest : Bool) → leads ≡ true → pair ≡ true → leads && (high || low || pair) || rest ≡ true
 made_site leads high low pair rest first last = grind (arith, first, last)
 
-pair_gives : (v : PlainView) (board : Board) (home n i : ℕ) → i < length v.relocs → is_movable v board home n ≡ true → leads_to v home n i ≡ true → is_sound_pair v (reloc_at v i) ≡ true → GivesSite v board i
+pair_gives : (v : PlainView) (board : Board) (home n i : ℕ) → i < length v.relocs → is_movable v board home n ≡ true → leads_to v home n i ≡ true → is_rewritable_pair v (reloc_at v i) ≡ true → GivesSite v board i
 pair_gives v board home n i below movable leads pair =
     let r = reloc_at v i in
     record {
@@ -139,7 +139,7 @@ pair_gives v board home n i below movable leads pair =
       home = home;
       bytes = n;
       movable = movable;
-      site = made_site (leads_to v home n i) (is_sound_high v r) (is_sound_low v r) (is_sound_pair v r) (counts v r && any_below (gives_pair v home n i) (length v.relocs)) leads pair;
+      site = made_site (leads_to v home n i) (is_rewritable_high v r) (is_rewritable_low v r) (is_rewritable_pair v r) (counts v r && any_below (gives_pair v home n i) (length v.relocs)) leads pair;
     }
 
 named_place : (v : PlainView) (high low : Reloc) → names_high v high low ≡ true → (is_pair_low low.kind ≡ true) × ((symbol_of v low).value ≡ high.at)
@@ -147,8 +147,8 @@ named_place v high low names =
     let parts = both (is_pair_low low.kind) ((symbol_of v low).value == high.at) names in
     (parts.0, eqb-true _ _ parts.1)
 
-same_word_meets : (a b : ℕ) → a ≡ b → meets a 4 b 4 ≡ true
-same_word_meets a b same = grind (arith, nat_tests, same)
+same_word_overlaps : (a b : ℕ) → a ≡ b → ranges_overlap a 4 b 4 ≡ true
+same_word_overlaps a b same = grind (arith, nat_tests, same)
 
 -- two sites of one relocation have one source
 same_source : (v : PlainView) (board : Board) (home n home' n' j : ℕ) → is_movable v board home n ≡ true → is_movable v board home' n' ≡ true → (s : Source v home n j) → (t : Source v home' n' j) → s.by ≡ t.by
@@ -164,9 +164,9 @@ same_source v board home n home' n' j movable movable' s t =
             | inl own' ↦ absurd (both_ways _ (own_kind v j own'.1) here.0)
             | inr pair' ↦
                 let there = named_place v (reloc_at v t.by) (reloc_at v j) pair'.2 in
-                sites_apart v board s.by t.by (pair_gives v board home n s.by pair.0 movable s.leads pair.1)
+                sites_disjoint v board s.by t.by (pair_gives v board home n s.by pair.0 movable s.leads pair.1)
                 (pair_gives v board home' n' t.by pair'.0 movable' t.leads pair'.1)
-                (same_word_meets (reloc_at v s.by).at (reloc_at v t.by).at (sym here.1 ∙ there.1))
+                (same_word_overlaps (reloc_at v s.by).at (reloc_at v t.by).at (sym here.1 ∙ there.1))
           ]
     ]
 
@@ -178,7 +178,7 @@ one_object v board home n home' n' j first second =
     let t = source_of v home' n' j other.1 in
     let same = same_source v board home n home' n' j one.0 other.0 s t in
     let meant' = subst (λ (i : ℕ). is_meant v home' n' (reloc_at v i) ≡ true) (sym same) (meant_by v home' n' t.by t.leads) in
-    meant_both v home n home' n' (reloc_at v s.by) (objects_apart v board home n home' n' one.0 other.0) (meant_by v home n s.by s.leads) meant'
+    meant_both v home n home' n' (reloc_at v s.by) (objects_disjoint v board home n home' n' one.0 other.0) (meant_by v home n s.by s.leads) meant'
 
 pub one_offset : OneOffsetASite
 one_offset v board home n offset offset' j movable first second =

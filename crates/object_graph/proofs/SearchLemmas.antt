@@ -8,7 +8,7 @@ use Rattle.std.proofs.lemmas.List.Folds.{list_any_none, list_any_at, Any-from_li
 use Rattle.std.proofs.lemmas.List.Sorted.{IsPartitionedBy-ltb}
 use Rattle.std.proofs.lemmas.List.{get_or_default}
 use Rattle.list_checks.proofs.TestLemmas.{both, same_tests}
-use Rattle.loaded_file.proofs.ExtentLemmas.{both_made}
+use Rattle.loaded_file.proofs.ByteRangeLemmas.{both_made}
 use Rattle.object_graph.specs.Gathered.{AreInOrder}
 
 -- the numbers below place c are below `a`, and no other is
@@ -112,7 +112,7 @@ any_alike at same alike (y ∷ ys) x a = joined (same x y) (list_any (same x) ys
 
 -- words in order have rising addresses
 pub rises_in_order : {X : Type 0} (at : X → ℕ) (xs : List X) → AreInOrder at xs → Rises at xs
-rises_in_order at xs order i j d before below = let apart = order i j d before below in omega arith
+rises_in_order at xs order i j d before below = let disjoint = order i j d before below in omega arith
 
 pub parted_at : {X : Type 0} (at : X → ℕ) (xs : List X) (a : ℕ) → AreInOrder at xs → IsPartitionedBy (λ x. nat_lt (at x) a) xs
 parted_at at xs a order = IsPartitionedBy-ltb at xs a (never_falls at xs (rises_in_order at xs order))

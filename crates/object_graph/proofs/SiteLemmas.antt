@@ -2,28 +2,28 @@
 use Rattle.std.proofs.Common.{◌≡◌, inl, inr, ℕ, ◌<◌, ◌==◌, ◌%◌, Bool, true, false, not, ◌&&◌, ◌||◌, length, arith}
 use Rattle.std.proofs.lemmas.Bool.{eqb-true}
 use Rattle.std.proofs.lemmas.Bool.Decides.{nat_tests}
-use Rattle.list_checks.specs.Tests.{any_below, meets}
+use Rattle.list_checks.specs.Tests.{any_below, ranges_overlap}
 use Rattle.list_checks.proofs.TestLemmas.{either, both, any_found, any_at, none_at}
 use Rattle.elf_reader.specs.File.{PlainSymbol, PlainView}
 use Rattle.loaded_file.specs.Code.{holds_code, is_code_word}
 use Rattle.board_config.specs.declared.board.Board.{Board}
 use Rattle.loaded_file.specs.Records.{symbol_at, reloc_at, counts}
 use Rattle.loaded_file.specs.Ranges.{has_range}
-use Rattle.sound_relocations.specs.Sound.{is_sound_high, is_sound_low, is_sound_pair, names_high}
+use Rattle.rewritable_relocations.specs.Rewritable.{is_rewritable_high, is_rewritable_low, is_rewritable_pair, names_high}
 use Rattle.movable_ranges.specs.Fixed.{leads_to, gives_pair, is_site_of, is_site_by, shares_word, is_shared_by}
-use Rattle.object_graph.specs.Laws.{GivesSite, SitesApart}
+use Rattle.object_graph.specs.Laws.{GivesSite, SitesDisjoint}
 use Rattle.loaded_file.proofs.RangeLemmas.{IsOf}
 use Rattle.object_graph.proofs.MovableLemmas.{movable_parts}
-use Rattle.object_graph.proofs.SoundLemmas.{high_parts, low_parts, pair_parts}
+use Rattle.object_graph.proofs.RewritableLemmas.{high_parts, low_parts, pair_parts}
 use Rattle.object_graph.proofs.LeadLemmas.{paired_low}
 
 -- the word of a site is code
-own_code : (v : PlainView) (j : ℕ) → is_sound_high v (reloc_at v j) || is_sound_low v (reloc_at v j) || is_sound_pair v (reloc_at v j) ≡ true → is_code_word v (reloc_at v j).at ≡ true
+own_code : (v : PlainView) (j : ℕ) → is_rewritable_high v (reloc_at v j) || is_rewritable_low v (reloc_at v j) || is_rewritable_pair v (reloc_at v j) ≡ true → is_code_word v (reloc_at v j).at ≡ true
 own_code v j some =
     let r = reloc_at v j in
-    let high = is_sound_high v r in
-    let low = is_sound_low v r in
-    elim (either (high || low) (is_sound_pair v r) some) [
+    let high = is_rewritable_high v r in
+    let low = is_rewritable_low v r in
+    elim (either (high || low) (is_rewritable_pair v r) some) [
       | inr pair ↦ (pair_parts v r pair).code
       | inl front ↦ elim (either high low front) [
         | inl first ↦ (high_parts v r first).code
@@ -36,14 +36,14 @@ pair_code v home n j below counted given =
     let (i, below_i, gives) = any_found (gives_pair v home n j) (length v.relocs) given in
     let r = reloc_at v i in
     let names = names_high v r (reloc_at v j) in
-    let whole = both (leads_to v home n i && is_sound_pair v r) names gives in
-    let front = both (leads_to v home n i) (is_sound_pair v r) whole.0 in
+    let whole = both (leads_to v home n i && is_rewritable_pair v r) names gives in
+    let front = both (leads_to v home n i) (is_rewritable_pair v r) whole.0 in
     (paired_low v r j (pair_parts v r front.1) below counted whole.1).code
 
 pub site_code : (v : PlainView) (home n j : ℕ) → j < length v.relocs → is_site_of v home n j ≡ true → is_code_word v (reloc_at v j).at ≡ true
 site_code v home n j below site =
     let r = reloc_at v j in
-    let own = is_sound_high v r || is_sound_low v r || is_sound_pair v r in
+    let own = is_rewritable_high v r || is_rewritable_low v r || is_rewritable_pair v r in
     let given = any_below (gives_pair v home n j) (length v.relocs) in
     elim (either (leads_to v home n j && own) (counts v r && given) site) [
       | inl first ↦ own_code v j (both (leads_to v home n j) own first).1
@@ -57,8 +57,8 @@ site_even v board i gives =
     let code = site_code v gives.home gives.bytes i gives.below gives.site in
     eqb-true (at % 4) 0 (both (at % 4 == 0) (any_below (holds_code v at) (length v.sections)) code).0
 
-same_word : (a b : ℕ) → a % 4 ≡ 0 → b % 4 ≡ 0 → meets a 4 b 4 ≡ true → a ≡ b
-same_word a b even even' meet = grind (arith, nat_tests, even, even', meet)
+same_word : (a b : ℕ) → a % 4 ≡ 0 → b % 4 ≡ 0 → ranges_overlap a 4 b 4 ≡ true → a ≡ b
+same_word a b even even' overlap = grind (arith, nat_tests, even, even', overlap)
 
 -- a site of the object of a symbol
 by_symbol : (v : PlainView) (home n i : ℕ) (s : PlainSymbol) → IsOf v home n s → is_site_of v home n i ≡ true → has_range v s && is_site_of v s.value s.size i ≡ true
@@ -80,11 +80,11 @@ other_fails site shares none is_site = grind (arith, none, is_site)
 same_place : (a b : ℕ) → a ≡ b → (a == b) ≡ true
 same_place a b same = grind (arith, nat_tests, same)
 
-pub sites_apart : SitesApart
-sites_apart v board i j gives other meet =
+pub sites_disjoint : SitesDisjoint
+sites_disjoint v board i j gives other overlap =
     let a = (reloc_at v i).at in
     let b = (reloc_at v j).at in
-    let word = same_word a b (site_even v board i gives) (site_even v board j other) meet in
+    let word = same_word a b (site_even v board i gives) (site_even v board j other) overlap in
     let moves = movable_parts v board other.home other.bytes other.movable in
     let shares = any_below (shares_word v j) (length v.relocs) in
     let none = none_at (is_shared_by v other.home other.bytes) (length v.relocs) j other.below moves.unshared in

@@ -7,7 +7,7 @@ use Rattle.std.proofs.lemmas.Bool.{cases_eq, cases_lt}
 use Rattle.std.proofs.lemmas.Bool.Decides.{nat_tests}
 use Rattle.std.proofs.lemmas.List.Edits.{swap_is, length-swap}
 use Rattle.std.proofs.lemmas.List.Sorted.{IsPermutation-keeps, length_permutation}
-use Rattle.list_checks.specs.Tests.{meets}
+use Rattle.list_checks.specs.Tests.{ranges_overlap}
 use Rattle.object_graph.specs.Gathered.{AreSeparate, AreInOrder}
 
 -- R holds of the elements at any two places
@@ -66,11 +66,11 @@ reads_moved {X} xs p q k d first second =
             ∙ ap (λ (n : ℕ). get_or w n d) here
             ∙ get_or-set_same xs p (get_or xs q d) d first
             ∙ ap (λ (n : ℕ). get_or xs n d) (sym (at_first p q k other here))
-        | inr apart ↦
+        | inr disjoint ↦
             swapped
             ∙ get_or-set_other w q k (get_or xs p d) d other
-            ∙ get_or-set_other xs p k (get_or xs q d) d apart
-            ∙ ap (λ (n : ℕ). get_or xs n d) (sym (unmoved p q k other apart))
+            ∙ get_or-set_other xs p k (get_or xs q d) d disjoint
+            ∙ ap (λ (n : ℕ). get_or xs n d) (sym (unmoved p q k other disjoint))
       ]
     ]
 
@@ -87,14 +87,14 @@ pub permuted : {X : Type 0} (R : X → X → Type 0) → ((x y : X) → R x y �
 permuted R turned xs ys moves all =
     IsPermutation-keeps xs (λ l. OfAnyTwo R l) (of_any_two R turned xs all) (λ l p q first second kept. swap_keeps R l p q first second kept) ys moves
 
-turned_meets : (a b : ℕ) → meets a 4 b 4 ≡ false → meets b 4 a 4 ≡ false
-turned_meets a b apart = grind (arith, nat_tests, apart)
+turned_overlaps : (a b : ℕ) → ranges_overlap a 4 b 4 ≡ false → ranges_overlap b 4 a 4 ≡ false
+turned_overlaps a b disjoint = grind (arith, nat_tests, disjoint)
 
-behind_word : (a b : ℕ) → a ≤ b → meets a 4 b 4 ≡ false → a + 4 ≤ b
-behind_word a b order apart = grind (arith, nat_tests, order, apart)
+behind_word : (a b : ℕ) → a ≤ b → ranges_overlap a 4 b 4 ≡ false → a + 4 ≤ b
+behind_word a b order disjoint = grind (arith, nat_tests, order, disjoint)
 
 -- words of which no two meet, in the order of their addresses
 pub sorted_words : {X : Type 0} (at : X → ℕ) (xs ys : List X) → AreSeparate at xs → IsPermutation xs ys → IsNonDecreasingBy at ys → AreInOrder at ys
 sorted_words at xs ys separate moves order i j d before below =
-    let two = permuted (λ x y. meets (at x) 4 (at y) 4 ≡ false) (λ x y. turned_meets (at x) (at y)) xs ys moves separate in
+    let two = permuted (λ x y. ranges_overlap (at x) 4 (at y) 4 ≡ false) (λ x y. turned_overlaps (at x) (at y)) xs ys moves separate in
     behind_word (at (get_or ys i d)) (at (get_or ys j d)) (order i j d (omega arith) below) (two i j d (λ same. absurd (omega (arith, same))) (omega arith) below)

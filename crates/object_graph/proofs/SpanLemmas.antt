@@ -105,7 +105,7 @@ pub covers_same : (kept cut : List Span) (ranges : List Range) (from to : ℕ) �
 covers_same kept cut ranges from to covers steady order none =
     record {
       below = λ k d inside. let ends = covers.below k d inside in omega (arith, ends, order);
-      apart = covers.apart;
+      disjoint = covers.disjoint;
       exact = λ a below. same_at kept cut ranges from to a covers steady none below;
     }
 
@@ -125,6 +125,6 @@ pub covers_more : (kept cut : List Span) (ranges : List Range) (from to : ℕ) (
 covers_more kept cut ranges from to r base size covers steady order starts =
     record {
       below = All-push (λ q. q.base + q.size ≤ to) ranges r (λ k d inside. let ends = covers.below k d inside in omega (arith, ends, order)) (omega (arith, base, size, order));
-      apart = all_pairs_push (λ p q. p.base + p.size ≤ q.base) ranges r covers.apart (λ k d inside. let ends = covers.below k d inside in omega (arith, ends, base));
+      disjoint = all_pairs_push (λ p q. p.base + p.size ≤ q.base) ranges r covers.disjoint (λ k d inside. let ends = covers.below k d inside in omega (arith, ends, base));
       exact = λ a below. list_any-append (λ q. in_range q a) ranges (r ∷ []) ∙ more_at kept cut ranges from to a r base size covers steady starts below;
     }

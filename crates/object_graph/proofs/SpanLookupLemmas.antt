@@ -11,7 +11,7 @@ use Rattle.object_graph.specs.Sites.{in_range, no_area}
 
 -- of some ranges `begun` begin at or before an address, and `last` is the last of these
 pub record IsLast (ranges : List Range) (a begun last : ℕ) : Type 0 where
-  pub apart : AllPairs (λ r q. r.base + r.size ≤ q.base) ranges
+  pub disjoint : AllPairs (λ r q. r.base + r.size ≤ q.base) ranges
   pub bound : begun ≤ length ranges
   pub begins : (k : ℕ) → k < begun → (slice_index_or ranges k no_area).base ≤ a
   pub later : (k : ℕ) → begun ≤ k → k < length ranges → a < (slice_index_or ranges k no_area).base
@@ -29,7 +29,7 @@ other_holds_not ranges a begun last k is below other =
       | inl before ↦
           let bound = is.bound in
           let within : last < length ranges = omega (arith, same, bound) in
-          let ends = is.apart k last no_area before within in
+          let ends = is.disjoint k last no_area before within in
           let begins = is.begins last (omega (arith, same)) in
           not_inside _ _ a (inl (omega (arith, ends, begins)))
       | inr behind ↦

@@ -8,7 +8,7 @@ use Rattle.elf_reader.specs.declared.view.Reloc.{Reloc}
 use Rattle.board_config.specs.declared.board.Board.{Board}
 use Rattle.loaded_file.specs.Records.{symbol_at, reloc_at, counts}
 use Rattle.loaded_file.specs.Ranges.{owner_of, is_symbol_of}
-use Rattle.sound_relocations.specs.Sound.{displacement, is_sound_word, is_sound_high, is_sound_low, is_sound_pair}
+use Rattle.rewritable_relocations.specs.Rewritable.{displacement, is_rewritable_word, is_rewritable_high, is_rewritable_low, is_rewritable_pair}
 use Rattle.movable_ranges.specs.Fixed.{leads_to, gives_pair, is_movable}
 use Rattle.object_graph.specs.CodeRanges.{code_ranges_of}
 use Rattle.object_graph.specs.declared.parts.Object.{Object}
@@ -42,7 +42,7 @@ has_object objects home n = list_any (is_object_of home n) objects
 
 -- the objects that may move, each once, by home: each ends where or before the next begins
 pub record IsObjects (v : PlainView) (board : Board) (objects : List Object) : Type 0 where
-  pub apart : AllPairs (λ a b. a.home + a.size ≤ b.home) objects
+  pub disjoint : AllPairs (λ a b. a.home + a.size ≤ b.home) objects
   pub exact : (home n : ℕ) → has_object objects home n ≡ is_movable v board home n
   pub named : All (IsNamed v) objects
 
@@ -67,7 +67,7 @@ makes_part LowS kind = (kind == 28) || (kind == 25)
 abbrev pub gives_directly : PlainView → ℕ → ℕ → ℕ → ℕ → Bool
 gives_directly v home n offset j =
     leads_to v home n j
-    && (is_sound_high v (reloc_at v j) || is_sound_low v (reloc_at v j) || is_sound_pair v (reloc_at v j))
+    && (is_rewritable_high v (reloc_at v j) || is_rewritable_low v (reloc_at v j) || is_rewritable_pair v (reloc_at v j))
     && (displacement v home (reloc_at v j) == offset)
 
 -- relocation `j` is the low part of the AUIPC of relocation `i`, which gives such a site
@@ -104,7 +104,7 @@ same_site s t =
 
 -- the sites of the objects of a list, each once, by address, no two at one word
 pub record IsSites (v : PlainView) (objects : List Object) (sites : List Site) : Type 0 where
-  pub apart : AllPairs (λ a b. a.at + 4 ≤ b.at) sites
+  pub disjoint : AllPairs (λ a b. a.at + 4 ≤ b.at) sites
   pub exact : (s : Site) → list_any (same_site s) sites ≡ is_site_of_list v objects s
 
 -- ---- words of data
@@ -114,7 +114,7 @@ abbrev pub gives_word : PlainView → List Object → DataWord → ℕ → Bool
 gives_word v objects d j =
     ((reloc_at v j).at == d.at)
     && leads_to v (object_at objects d.object).home (object_at objects d.object).size j
-    && is_sound_word v j (reloc_at v j)
+    && is_rewritable_word v j (reloc_at v j)
     && (displacement v (object_at objects d.object).home (reloc_at v j) == d.offset)
 
 abbrev pub is_word_of_list : PlainView → List Object → DataWord → Bool
@@ -126,7 +126,7 @@ same_word d e = (d.at == e.at) && (d.object == e.object) && (d.offset == e.offse
 
 -- the words of data that lead to the objects of a list, each once, by address, none meeting another
 pub record IsWords (v : PlainView) (objects : List Object) (words : List DataWord) : Type 0 where
-  pub apart : AllPairs (λ a b. a.at + 4 ≤ b.at) words
+  pub disjoint : AllPairs (λ a b. a.at + 4 ≤ b.at) words
   pub exact : (d : DataWord) → list_any (same_word d) words ≡ is_word_of_list v objects d
 
 -- ---- the graph

@@ -1,7 +1,7 @@
 -- What holds of the objects that may move, in every view, or in that of a file in which no check fails.
 use Rattle.std.specs.Prelude.{◌≡◌, ◌⊎◌, ℕ, ◌+◌, ◌<◌, ◌≤◌, true, false, List, length, None}
 use Rattle.word_bits.specs.Words.{minus, upper_half, lower_half}
-use Rattle.list_checks.specs.Tests.{meets}
+use Rattle.list_checks.specs.Tests.{ranges_overlap}
 use Rattle.rv_decode.specs.Fields.{rd_of, rs1_of, rs2_of}
 use Rattle.rv_decode.specs.Table.{Means}
 use Rattle.rv_decode.specs.declared.instructions.Instr.TheVariants.{Lui, Auipc, Load, Store, OpImm}
@@ -13,22 +13,22 @@ use Rattle.elf_reader.specs.Faults.{first_fault}
 use Rattle.loaded_file.specs.Code.{is_code_word, image_word}
 use Rattle.board_config.specs.declared.board.Board.{Board}
 use Rattle.loaded_file.specs.Records.{reloc_at, counts}
-use Rattle.sound_relocations.specs.Sound.{is_meant, displacement, names_high}
+use Rattle.rewritable_relocations.specs.Rewritable.{is_meant, displacement, names_high}
 use Rattle.movable_ranges.specs.Fixed.{is_site_of, is_movable}
 use Rattle.object_graph.specs.Sites.{is_site}
 use Rattle.object_graph.specs.Graphs.{gives_offset}
 
 -- two that are not the same share no byte
-abbrev pub ObjectsApart : Type 0
-ObjectsApart =
+abbrev pub ObjectsDisjoint : Type 0
+ObjectsDisjoint =
     (v : PlainView) (board : Board) (home n home' n' : ℕ) → is_movable v board home n ≡ true → is_movable v board home' n' ≡ true
-    → (meets home n home' n' ≡ false) ⊎ ((home ≡ home') × (n ≡ n'))
+    → (ranges_overlap home n home' n' ≡ false) ⊎ ((home ≡ home') × (n ≡ n'))
 
 -- none of their bytes is a byte of code
 abbrev pub ObjectsOffCode : Type 0
 ObjectsOffCode =
     (file : List ℕ) (board : Board) (home n a : ℕ) → first_fault file ≡ None → is_movable (view_in file) board home n ≡ true
-    → is_code_word (view_in file) a ≡ true → meets home n a 4 ≡ false
+    → is_code_word (view_in file) a ≡ true → ranges_overlap home n a 4 ≡ false
 
 -- relocation `i` of the view is of this kind, counts, and means the object of `n` bytes at `home`
 pub record MeansBy (v : PlainView) (kind home n i : ℕ) : Type 0 where
@@ -41,7 +41,7 @@ pub record MeansBy (v : PlainView) (kind home n i : ℕ) : Type 0 where
 abbrev pub DataOffCode : Type 0
 DataOffCode =
     (file : List ℕ) (board : Board) (home n i a : ℕ) → first_fault file ≡ None → is_movable (view_in file) board home n ≡ true
-    → MeansBy (view_in file) 1 home n i → is_code_word (view_in file) a ≡ true → meets (reloc_at (view_in file) i).at 4 a 4 ≡ false
+    → MeansBy (view_in file) 1 home n i → is_code_word (view_in file) a ≡ true → ranges_overlap (reloc_at (view_in file) i).at 4 a 4 ≡ false
 
 -- ---- where their addresses are made
 
@@ -122,7 +122,7 @@ PairedSitesLead =
     (v : PlainView) (board : Board) (home n i : ℕ) → is_movable v board home n ≡ true → MeansBy v 23 home n i
     → IsPairedBy v home n i
 
--- ---- apart
+-- ---- disjoint
 
 -- relocation `i` of the view gives a site of an object that may move
 pub record GivesSite (v : PlainView) (board : Board) (i : ℕ) : Type 0 where
@@ -133,10 +133,10 @@ pub record GivesSite (v : PlainView) (board : Board) (i : ℕ) : Type 0 where
   pub site : is_site_of v home bytes i ≡ true
 
 -- two such relocations whose words share a byte are the same
-abbrev pub SitesApart : Type 0
-SitesApart =
+abbrev pub SitesDisjoint : Type 0
+SitesDisjoint =
     (v : PlainView) (board : Board) (i j : ℕ) → GivesSite v board i → GivesSite v board j
-    → meets (reloc_at v i).at 4 (reloc_at v j).at 4 ≡ true → i ≡ j
+    → ranges_overlap (reloc_at v i).at 4 (reloc_at v j).at 4 ≡ true → i ≡ j
 
 -- ---- one place a site
 

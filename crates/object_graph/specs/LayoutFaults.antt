@@ -1,7 +1,7 @@
 -- The checks of a program's layout on a board, each with the fault that it tells, and their order.
 use Rattle.std.specs.Prelude.{ℕ, zero, suc, ◌+◌, ◌-◌, ◌==◌, nat_lt, nat_le, min, max, Bool, not, ◌&&◌, ◌||◌, if◌then◌else◌, length, slice_index_or, Option}
 use Rattle.list_checks.specs.First.{◌or_else◌, unless, first_below}
-use Rattle.list_checks.specs.Tests.{any_below, lies_in, meets}
+use Rattle.list_checks.specs.Tests.{any_below, lies_in, ranges_overlap}
 use Rattle.elf_reader.specs.File.{PlainSegment, PlainView}
 use Rattle.elf_reader.specs.Loaded.{section_at, segment_at}
 use Rattle.loaded_file.specs.Code.{is_code_range}
@@ -14,24 +14,24 @@ use Rattle.object_graph.specs.Sites.{no_area}
 use Rattle.object_graph.specs.declared.layout.Reserved.{Reserved}
 use Rattle.object_graph.specs.declared.layout.Reserved.TheVariants.{Scratchpad, Patch}
 use Rattle.object_graph.specs.declared.fault.GraphFault.{GraphFault}
-use Rattle.object_graph.specs.declared.fault.GraphFault.TheVariants.{SpmOverlap, PatchOverlap, PatchFar, SpmMeetsPatch, SpmAtZero, NoArea, TooManyObjects}
+use Rattle.object_graph.specs.declared.fault.GraphFault.TheVariants.{SpmOverlap, PatchOverlap, PatchFar, SpmOverlapsPatch, SpmAtZero, NoArea, TooManyObjects}
 
 -- a count, or the greatest 32-bit number where it is more
 abbrev pub capped : ℕ → ℕ
 capped n = min n 4294967295
 
 -- a segment's memory meets a range
-abbrev pub segment_meets : PlainSegment → Range → Bool
-segment_meets s r = meets s.vaddr s.memsz r.base r.size
+abbrev pub segment_overlaps : PlainSegment → Range → Bool
+segment_overlaps s r = ranges_overlap s.vaddr s.memsz r.base r.size
 
 -- no segment meets the scratchpad, and none the patch range
 abbrev pub spm_overlap_fault : PlainView → Board → ℕ → Option GraphFault
 spm_overlap_fault v board g =
-    unless (not (segment_meets (segment_at v g) board.spm)) (SpmOverlap (segment_at v g).index)
+    unless (not (segment_overlaps (segment_at v g) board.spm)) (SpmOverlap (segment_at v g).index)
 
 abbrev pub patch_overlap_fault : PlainView → Board → ℕ → Option GraphFault
 patch_overlap_fault v board g =
-    unless (not (segment_meets (segment_at v g) board.patch)) (PatchOverlap (segment_at v g).index)
+    unless (not (segment_overlaps (segment_at v g) board.patch)) (PatchOverlap (segment_at v g).index)
 
 -- segment `g` meets a reserved range
 abbrev pub overlap_fault : Reserved → PlainView → Board → ℕ → Option GraphFault
@@ -62,10 +62,10 @@ span_of v board = greatest_below v board (length v.sections) - least_below v boa
 abbrev pub patch_far_fault : PlainView → Board → Option GraphFault
 patch_far_fault v board = unless (nat_le (span_of v board) 1048576) (PatchFar (capped (span_of v board)))
 
--- the scratchpad and the patch range are apart, and the scratchpad does not begin below address 16
-abbrev pub spm_meets_patch_fault : Board → Option GraphFault
-spm_meets_patch_fault board =
-    unless (not (meets board.spm.base board.spm.size board.patch.base board.patch.size)) SpmMeetsPatch
+-- the scratchpad and the patch range are disjoint, and the scratchpad does not begin below address 16
+abbrev pub spm_overlaps_patch_fault : Board → Option GraphFault
+spm_overlaps_patch_fault board =
+    unless (not (ranges_overlap board.spm.base board.spm.size board.patch.base board.patch.size)) SpmOverlapsPatch
 
 abbrev pub spm_at_zero_fault : Board → Option GraphFault
 spm_at_zero_fault board = unless (nat_le 16 board.spm.base) SpmAtZero
@@ -115,7 +115,7 @@ places_fault v board =
     first_below (spm_overlap_fault v board) (length v.segments)
     or_else first_below (patch_overlap_fault v board) (length v.segments)
     or_else patch_far_fault v board
-    or_else spm_meets_patch_fault board
+    or_else spm_overlaps_patch_fault board
     or_else spm_at_zero_fault board
     or_else first_below (no_area_fault v board) (length v.segments)
 

@@ -2,11 +2,11 @@ pub use Rattle.elf_reader.specs.Loaded
 pub use Rattle.loaded_file.specs.Code
 pub use Rattle.loaded_file.specs.Records
 pub use Rattle.loaded_file.specs.Ranges
-pub use Rattle.loaded_file.specs.Extents
-pub use Rattle.sound_relocations.specs.Sound
-pub use Rattle.sound_relocations.specs.Marks
+pub use Rattle.loaded_file.specs.ByteRanges
+pub use Rattle.rewritable_relocations.specs.Rewritable
+pub use Rattle.rewritable_relocations.specs.Marks
 pub use Rattle.movable_ranges.specs.Fixed
-pub use Rattle.movable_ranges.specs.Apart
+pub use Rattle.movable_ranges.specs.Disjoint
 pub mod CodeRanges
 pub mod Sites
 pub mod LayoutFaults

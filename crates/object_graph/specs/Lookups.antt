@@ -15,7 +15,7 @@ IsSomeGraph g = (v : PlainView) × (board : Board) × IsGraph v board g
 
 -- objects ascend, share no byte, and have bytes
 pub record AreLaidOut (objects : List Object) : Type 0 where
-  pub apart : AllPairs (λ a b. a.home + a.size ≤ b.home) objects
+  pub disjoint : AllPairs (λ a b. a.home + a.size ≤ b.home) objects
   pub filled : All (λ o. 0 < o.size) objects
 
 -- a site stands at an address, and a word of data begins there

@@ -9,7 +9,7 @@ use Rattle.loaded_file.specs.Records.{symbol_at, reloc_at}
 use Rattle.board_config.specs.declared.board.Board.{Board}
 use Rattle.board_config.specs.declared.board.Range.{Range}
 use Rattle.loaded_file.specs.Ranges.{has_range, inside}
-use Rattle.sound_relocations.specs.Sound.{is_sound_word}
+use Rattle.rewritable_relocations.specs.Rewritable.{is_rewritable_word}
 use Rattle.movable_ranges.specs.Fixed.{leads_to, is_site_of, is_movable}
 
 -- relocation `j` gives a site of the object of `n` bytes at `home`, which may move
@@ -19,7 +19,7 @@ is_site v board home n j = is_movable v board home n && is_site_of v home n j
 -- relocation `i` gives a word of data that holds an address in such an object or at its end
 abbrev pub is_data_word : PlainView → Board → ℕ → ℕ → ℕ → Bool
 is_data_word v board home n i =
-    is_movable v board home n && leads_to v home n i && is_sound_word v i (reloc_at v i)
+    is_movable v board home n && leads_to v home n i && is_rewritable_word v i (reloc_at v i)
 
 -- ---- fixed memory
 

@@ -41,5 +41,5 @@ IsSteady kept cut from to =
 -- ranges that ascend have the addresses below `to` that are left, and no others
 pub record Covers (kept cut : List Span) (ranges : List Range) (to : ℕ) : Type 0 where
   pub below : All (λ r. r.base + r.size ≤ to) ranges
-  pub apart : AllPairs (λ r q. r.base + r.size ≤ q.base) ranges
+  pub disjoint : AllPairs (λ r q. r.base + r.size ≤ q.base) ranges
   pub exact : (a : ℕ) → a < to → list_any (λ r. in_range r a) ranges ≡ is_left kept cut a

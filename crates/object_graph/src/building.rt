@@ -1,10 +1,10 @@
 ghost use Rattle.std.specs.Prelude.{◌≡◌, ℕ, ◌≤◌, nat_le, length, map, IfOk};
 ghost use Rattle.std.specs.List.{All};
-ghost use Rattle.list_checks.specs.First.{Tells, TellsUnless, unless};
+ghost use Rattle.list_checks.specs.First.{Reports, ReportsUnless, unless};
 ghost use Rattle.elf_reader.specs.File.{plain_view};
 ghost use Rattle.loaded_file.specs.Marks.{all_loaded};
 ghost use Rattle.loaded_file.specs.Read.{IsRead};
-ghost use Rattle.sound_relocations.specs.Marks.{all_sound};
+ghost use Rattle.rewritable_relocations.specs.Marks.{all_rewritable};
 ghost use Rattle.object_graph.specs.declared.fault.GraphFault.TheVariants.{TooManyObjects};
 ghost use Rattle.object_graph.specs.LayoutFaults.{capped, too_many_fault, layout_fault};
 ghost use Rattle.object_graph.specs.Graphs.{IsGraph};
@@ -19,9 +19,9 @@ use crate::sites::sites;
 use crate::words::data_words;
 use board_config::Board;
 use elf_reader::ElfView;
-use loaded_file::{Extent, loaded_sections};
+use loaded_file::{ByteRange, loaded_sections};
 use movable_ranges::movable_ranges;
-use sound_relocations::sound_kinds;
+use rewritable_relocations::rewritable_kinds;
 use std::alloc::{AllocError, Global};
 
 /// How many objects may move at most.
@@ -31,14 +31,14 @@ const MAX_OBJECTS: usize = 4096;
 ///
 /// The error is the first check that fails, in this order: no segment meets the scratchpad (`SpmOverlap`), and
 /// none the patch range (`PatchOverlap`); the code and the patch range span at most 2^20 bytes (`PatchFar`); the
-/// scratchpad and the patch range are apart (`SpmMeetsPatch`); the scratchpad begins at address 16 or above
+/// scratchpad and the patch range are disjoint (`SpmOverlapsPatch`); the scratchpad begins at address 16 or above
 /// (`SpmAtZero`); each segment that has memory lies in main or in one area (`NoArea`); at most 4,096 objects may
 /// move (`TooManyObjects`). `Memory` comes only where no memory was left.
 ///
 /// The time grows with n log n, where n is the number of symbols and relocations.
 pub fn graph(alloc: Global, view: &ElfView, board: &Board) -> Result<Graph, GraphFault>
     requires { IsRead view.now }
-    ensures fault { TellsUnless GraphFault.Memory result (layout_fault (plain_view view.now) board.now) }
+    ensures fault { ReportsUnless GraphFault.Memory result (layout_fault (plain_view view.now) board.now) }
     ensures graph { IfOk result (IsGraph (plain_view view.now) board.now) }
 {
     let loaded = loaded_sections(alloc, view)?;
@@ -50,12 +50,12 @@ pub fn graph(alloc: Global, view: &ElfView, board: &Board) -> Result<Graph, Grap
 fn build(alloc: Global, view: &ElfView, board: &Board, loaded: &[bool]) -> Result<Graph, GraphFault>
     requires read { IsRead view.now }
     requires marks { loaded.now ≡ all_loaded (plain_view view.now) }
-    ensures fault { TellsUnless GraphFault.Memory result (too_many_fault (plain_view view.now) board.now) }
+    ensures fault { ReportsUnless GraphFault.Memory result (too_many_fault (plain_view view.now) board.now) }
     ensures graph { IfOk result (IsGraph (plain_view view.now) board.now) }
 {
-    let sound = sound_kinds(alloc, view, loaded)?;
-    let ranges = movable_ranges(alloc, view, board, loaded, &sound)?;
-    gather_few(alloc, view, board, loaded, &sound, &ranges)
+    let rewritable = rewritable_kinds(alloc, view, loaded)?;
+    let ranges = movable_ranges(alloc, view, board, loaded, &rewritable)?;
+    gather_few(alloc, view, board, loaded, &rewritable, &ranges)
 }
 
 /// The graph of the objects of these ranges, if they are few enough.
@@ -64,25 +64,25 @@ fn gather_few(
     view: &ElfView,
     board: &Board,
     loaded: &[bool],
-    sound: &[bool],
-    ranges: &[Extent],
+    rewritable: &[bool],
+    ranges: &[ByteRange],
 ) -> Result<Graph, GraphFault>
     requires read { IsRead view.now }
     requires marks { loaded.now ≡ all_loaded (plain_view view.now) }
-    requires sound { sound.now ≡ all_sound (plain_view view.now) }
+    requires rewritable { rewritable.now ≡ all_rewritable (plain_view view.now) }
     requires movable { AreMovableOf (plain_view view.now) board.now ranges.now }
-    ensures fault { TellsUnless GraphFault.Memory result (too_many_fault (plain_view view.now) board.now) }
+    ensures fault { ReportsUnless GraphFault.Memory result (too_many_fault (plain_view view.now) board.now) }
     ensures graph { IfOk result (IsGraph (plain_view view.now) board.now) }
 {
     match check_count(ranges) {
-        Ok(()) => Ok(gather(alloc, view, board, loaded, sound, ranges)?),
+        Ok(()) => Ok(gather(alloc, view, board, loaded, rewritable, ranges)?),
         Err(fault) => Err(fault),
     }
 }
 
 /// At most 4,096 objects may move.
-fn check_count(ranges: &[Extent]) -> Result<(), GraphFault>
-    ensures { Tells result (unless (nat_le (length ranges.now) 4096) (TooManyObjects (capped (length ranges.now)))) }
+fn check_count(ranges: &[ByteRange]) -> Result<(), GraphFault>
+    ensures { Reports result (unless (nat_le (length ranges.now) 4096) (TooManyObjects (capped (length ranges.now)))) }
 {
     if ranges.len() > MAX_OBJECTS {
         return Err(GraphFault::TooManyObjects {
@@ -98,19 +98,19 @@ fn gather(
     view: &ElfView,
     board: &Board,
     loaded: &[bool],
-    sound: &[bool],
-    ranges: &[Extent],
+    rewritable: &[bool],
+    ranges: &[ByteRange],
 ) -> Result<Graph, AllocError>
     requires read { IsRead view.now }
     requires marks { loaded.now ≡ all_loaded (plain_view view.now) }
-    requires sound { sound.now ≡ all_sound (plain_view view.now) }
+    requires rewritable { rewritable.now ≡ all_rewritable (plain_view view.now) }
     requires movable { AreMovableOf (plain_view view.now) board.now ranges.now }
     requires few { length ranges.now ≤ 4096 }
     ensures { IfOk result (IsGraph (plain_view view.now) board.now) }
 {
     let objects = objects(alloc, view, loaded, ranges)?;
-    let sites = sites(alloc, view, loaded, ranges, sound)?;
-    let data_words = data_words(alloc, view, loaded, ranges, sound)?;
+    let sites = sites(alloc, view, loaded, ranges, rewritable)?;
+    let data_words = data_words(alloc, view, loaded, ranges, rewritable)?;
     let code = code_ranges(alloc, view, loaded)?;
     Ok(Graph {
         grain: board.grain,

@@ -15,7 +15,7 @@ pub enum GraphFault {
     PatchFar { span: u32 },
     /// The scratchpad and the patch range share an address.
     #[error("the scratchpad meets the patch range")]
-    SpmMeetsPatch,
+    SpmOverlapsPatch,
     /// The scratchpad begins below address 16.
     #[error("the scratchpad begins at address 0")]
     SpmAtZero,

@@ -12,7 +12,7 @@ use board_config::{Board, Range};
 use elf_reader::ElfView;
 use std::alloc::{AllocError, Global};
 
-/// The ranges of fixed memory, ascending and apart.
+/// The ranges of fixed memory, ascending and disjoint.
 ///
 /// Fixed is what is mapped, main or an area, and stays as it is: it is no part of the scratchpad, of the patch
 /// range, of code or of an object that may move, and no byte of the file's header or symbol table that a
@@ -24,7 +24,7 @@ pub fn fixed_ranges(
     graph: &Graph,
 ) -> Result<Vec<Range>, AllocError>
     requires graph { IsGraph (plain_view view.now) board.now graph.now }
-    ensures apart { IfOk result (λ ranges. AllPairs (λ r q. r.base + r.size ≤ q.base) ranges.items) }
+    ensures disjoint { IfOk result (λ ranges. AllPairs (λ r q. r.base + r.size ≤ q.base) ranges.items) }
     ensures exact { IfOk result (λ ranges. (a : ℕ) → a < 4294967296 → list_any (λ r. in_range r a) ranges.items ≡ is_fixed_memory (plain_view view.now) board.now a) }
 {
     let kept = mapped_spans(alloc, board)?;

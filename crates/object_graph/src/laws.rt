@@ -1,8 +1,8 @@
-ghost use Rattle.object_graph.specs.Laws.{ObjectsApart, ObjectsOffCode, DataOffCode, DataWordsLead, HighSitesLead, LowSitesLead, LowStoresLead, PairedSitesLead, SitesApart, OneObjectASite, OneOffsetASite};
+ghost use Rattle.object_graph.specs.Laws.{ObjectsDisjoint, ObjectsOffCode, DataOffCode, DataWordsLead, HighSitesLead, LowSitesLead, LowStoresLead, PairedSitesLead, SitesDisjoint, OneObjectASite, OneOffsetASite};
 
 /// Two objects that may move share no byte.
-pub fn objects_apart()
-    ensures { ObjectsApart }
+pub fn objects_disjoint()
+    ensures { ObjectsDisjoint }
 {}
 
 /// No byte of an object that may move is a byte of code, in a file in which no check fails.
@@ -43,8 +43,8 @@ pub fn paired_sites_lead()
 {}
 
 /// No two relocations make the address of an object that may move at the same word.
-pub fn sites_apart()
-    ensures { SitesApart }
+pub fn sites_disjoint()
+    ensures { SitesDisjoint }
 {}
 
 /// One relocation gives a site of at most one object that may move.

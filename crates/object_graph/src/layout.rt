@@ -1,13 +1,13 @@
 ghost use Rattle.std.specs.Prelude.{◌≡◌, ℕ, ◌+◌, ◌<◌, ◌≤◌, length};
-ghost use Rattle.list_checks.specs.First.{◌or_else◌, Tells, TellsUnless, first_below};
+ghost use Rattle.list_checks.specs.First.{◌or_else◌, Reports, ReportsUnless, first_below};
 ghost use Rattle.list_checks.specs.Tests.{any_below};
 ghost use Rattle.elf_reader.specs.File.{plain_segment, plain_view};
 ghost use Rattle.loaded_file.specs.Marks.{all_loaded};
-ghost use Rattle.object_graph.specs.LayoutFaults.{segment_meets, overlap_fault, has_code, least_below, greatest_below, span_of, patch_far_fault, spm_meets_patch_fault, spm_at_zero_fault, segment_lies_in, lies_in_area, no_area_fault, places_fault};
+ghost use Rattle.object_graph.specs.LayoutFaults.{segment_overlaps, overlap_fault, has_code, least_below, greatest_below, span_of, patch_far_fault, spm_overlaps_patch_fault, spm_at_zero_fault, segment_lies_in, lies_in_area, no_area_fault, places_fault};
 
 use crate::code::range_of;
 use crate::fault::GraphFault;
-use crate::ranges::{end, lies_in, meet, memory_of};
+use crate::ranges::{end, lies_in, overlap, memory_of};
 use board_config::{Board, Range};
 use elf_reader::{ElfView, Segment};
 use loaded_file::{is_code_range, loaded_sections};
@@ -19,15 +19,15 @@ const MAX_SPAN: u64 = 1024 * 1024;
 /// The least address at which the scratchpad may begin.
 const LEAST_SPM_BASE: u32 = 16;
 
-/// Checks that a program and the ranges of a board are apart or near, as they must be.
+/// Checks that a program and the ranges of a board are disjoint or near, as they must be.
 ///
 /// The error is the first check that fails, in this order: no segment meets the scratchpad (`SpmOverlap`), and
 /// none the patch range (`PatchOverlap`); the code and the patch range span at most 2^20 bytes (`PatchFar`); the
-/// scratchpad and the patch range are apart (`SpmMeetsPatch`); the scratchpad begins at address 16 or above
+/// scratchpad and the patch range are disjoint (`SpmOverlapsPatch`); the scratchpad begins at address 16 or above
 /// (`SpmAtZero`); each segment that has memory lies in main or in one area (`NoArea`). `Memory` comes only
 /// where no memory was left.
 pub fn check_layout(alloc: Global, view: &ElfView, board: &Board) -> Result<(), GraphFault>
-    ensures fault { TellsUnless GraphFault.Memory result (places_fault (plain_view view.now) board.now) }
+    ensures fault { ReportsUnless GraphFault.Memory result (places_fault (plain_view view.now) board.now) }
 {
     let loaded = loaded_sections(alloc, view)?;
     check_places(view, board, &loaded)
@@ -36,7 +36,7 @@ pub fn check_layout(alloc: Global, view: &ElfView, board: &Board) -> Result<(), 
 /// The checks, where it is known which sections are loaded.
 pub(crate) fn check_places(view: &ElfView, board: &Board, loaded: &[bool]) -> Result<(), GraphFault>
     requires { loaded.now ≡ all_loaded (plain_view view.now) }
-    ensures { Tells result (places_fault (plain_view view.now) board.now) }
+    ensures { Reports result (places_fault (plain_view view.now) board.now) }
 {
     check_overlaps(view, board, Reserved::Scratchpad)?;
     check_overlaps(view, board, Reserved::Patch)?;
@@ -46,10 +46,10 @@ pub(crate) fn check_places(view: &ElfView, board: &Board, loaded: &[bool]) -> Re
 /// The checks behind those of overlaps.
 fn check_ranges(view: &ElfView, board: &Board, loaded: &[bool]) -> Result<(), GraphFault>
     requires { loaded.now ≡ all_loaded (plain_view view.now) }
-    ensures { Tells result (patch_far_fault (plain_view view.now) board.now or_else spm_meets_patch_fault board.now or_else spm_at_zero_fault board.now or_else first_below (no_area_fault (plain_view view.now) board.now) (length (plain_view view.now).segments)) }
+    ensures { Reports result (patch_far_fault (plain_view view.now) board.now or_else spm_overlaps_patch_fault board.now or_else spm_at_zero_fault board.now or_else first_below (no_area_fault (plain_view view.now) board.now) (length (plain_view view.now).segments)) }
 {
     check_patch_far(view, board, loaded)?;
-    check_spm_meets_patch(board)?;
+    check_spm_overlaps_patch(board)?;
     check_spm_at_zero(board)?;
     check_areas(view, board)
 }
@@ -64,7 +64,7 @@ pub(crate) enum Reserved {
 /// No segment meets a reserved range.
 #[tactic(auto, using(crate::proofs::ViewLemmas::found_first))]
 fn check_overlaps(view: &ElfView, board: &Board, reserved: Reserved) -> Result<(), GraphFault>
-    ensures { Tells result (first_below (overlap_fault reserved (plain_view view.now) board.now) (length (plain_view view.now).segments)) }
+    ensures { Reports result (first_below (overlap_fault reserved (plain_view view.now) board.now) (length (plain_view view.now).segments)) }
 {
     for g in 0..view.segments.len() {
         check_overlap(view, board, reserved, g)?;
@@ -80,15 +80,15 @@ fn check_overlap(
     g: usize,
 ) -> Result<(), GraphFault>
     requires { g < length view.now.segments.items }
-    ensures { Tells result (overlap_fault reserved (plain_view view.now) board.now g) }
+    ensures { Reports result (overlap_fault reserved (plain_view view.now) board.now g) }
 {
     let s = &view.segments[g];
     let segment = s.index;
     match reserved {
-        Reserved::Scratchpad if segment_meets(s, &board.spm) => {
+        Reserved::Scratchpad if segment_overlaps(s, &board.spm) => {
             Err(GraphFault::SpmOverlap { segment })
         }
-        Reserved::Patch if segment_meets(s, &board.patch) => {
+        Reserved::Patch if segment_overlaps(s, &board.patch) => {
             Err(GraphFault::PatchOverlap { segment })
         }
         _ => Ok(()),
@@ -96,15 +96,15 @@ fn check_overlap(
 }
 
 /// The memory of a segment meets a range.
-fn segment_meets(segment: &Segment, range: &Range) -> bool
-    ensures { result ≡ segment_meets (plain_segment segment.now) range.now }
+fn segment_overlaps(segment: &Segment, range: &Range) -> bool
+    ensures { result ≡ segment_overlaps (plain_segment segment.now) range.now }
 {
-    meet(&memory_of(segment), range)
+    overlap(&memory_of(segment), range)
 }
 
 fn check_patch_far(view: &ElfView, board: &Board, loaded: &[bool]) -> Result<(), GraphFault>
     requires { loaded.now ≡ all_loaded (plain_view view.now) }
-    ensures { Tells result (patch_far_fault (plain_view view.now) board.now) }
+    ensures { Reports result (patch_far_fault (plain_view view.now) board.now) }
 {
     let span = greatest_end(view, board, loaded) - least_base(view, board, loaded);
     if span > MAX_SPAN {
@@ -154,17 +154,17 @@ fn has_code(view: &ElfView, loaded: &[bool], k: usize) -> bool
     is_code_range(view, loaded, k) && view.sections[k].size > 0
 }
 
-fn check_spm_meets_patch(board: &Board) -> Result<(), GraphFault>
-    ensures { Tells result (spm_meets_patch_fault board.now) }
+fn check_spm_overlaps_patch(board: &Board) -> Result<(), GraphFault>
+    ensures { Reports result (spm_overlaps_patch_fault board.now) }
 {
-    if meet(&board.spm, &board.patch) {
-        return Err(GraphFault::SpmMeetsPatch);
+    if overlap(&board.spm, &board.patch) {
+        return Err(GraphFault::SpmOverlapsPatch);
     }
     Ok(())
 }
 
 fn check_spm_at_zero(board: &Board) -> Result<(), GraphFault>
-    ensures { Tells result (spm_at_zero_fault board.now) }
+    ensures { Reports result (spm_at_zero_fault board.now) }
 {
     if board.spm.base < LEAST_SPM_BASE {
         return Err(GraphFault::SpmAtZero);
@@ -174,7 +174,7 @@ fn check_spm_at_zero(board: &Board) -> Result<(), GraphFault>
 
 #[tactic(auto, using(crate::proofs::ViewLemmas::found_first))]
 fn check_areas(view: &ElfView, board: &Board) -> Result<(), GraphFault>
-    ensures { Tells result (first_below (no_area_fault (plain_view view.now) board.now) (length (plain_view view.now).segments)) }
+    ensures { Reports result (first_below (no_area_fault (plain_view view.now) board.now) (length (plain_view view.now).segments)) }
 {
     for g in 0..view.segments.len() {
         check_area(view, board, g)?;
@@ -184,7 +184,7 @@ fn check_areas(view: &ElfView, board: &Board) -> Result<(), GraphFault>
 
 fn check_area(view: &ElfView, board: &Board, g: usize) -> Result<(), GraphFault>
     requires { g < length view.now.segments.items }
-    ensures { Tells result (no_area_fault (plain_view view.now) board.now g) }
+    ensures { Reports result (no_area_fault (plain_view view.now) board.now g) }
 {
     let segment = &view.segments[g];
     let memory = memory_of(segment);

@@ -4,7 +4,7 @@ ghost use Rattle.loaded_file.specs.Marks.{all_loaded};
 ghost use Rattle.object_graph.specs.Gathered.{AreMovable, is_lead, leads_by};
 
 use elf_reader::ElfView;
-use loaded_file::{Extent, counts, target};
+use loaded_file::{ByteRange, counts, target};
 use movable_ranges::meant_range;
 
 /// Where a relocation leads: into an object that may move, or to its end.
@@ -17,7 +17,7 @@ pub(crate) struct Lead {
 }
 
 /// Where relocation `i` leads, if it counts and leads into one of the ranges or to its end.
-pub(crate) fn lead_of(view: &ElfView, loaded: &[bool], ranges: &[Extent], i: usize) -> Option<Lead>
+pub(crate) fn lead_of(view: &ElfView, loaded: &[bool], ranges: &[ByteRange], i: usize) -> Option<Lead>
     requires marks { loaded.now ≡ all_loaded (plain_view view.now) }
     requires movable { AreMovable (plain_view view.now) ranges.now }
     requires few { length ranges.now ≤ 4096 }

@@ -28,8 +28,8 @@ pub use fault::GraphFault;
 pub use fixed_memory::fixed_ranges;
 pub use laws::{
     data_off_code, data_words_lead, high_sites_lead, low_sites_lead, low_stores_lead,
-    objects_apart, objects_off_code, one_object_a_site, one_offset_a_site, paired_sites_lead,
-    sites_apart,
+    objects_disjoint, objects_off_code, one_object_a_site, one_offset_a_site, paired_sites_lead,
+    sites_disjoint,
 };
 pub use layout::check_layout;
 pub use parts::{DataWord, Graph, Object, Site, SiteKind};

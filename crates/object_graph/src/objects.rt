@@ -5,13 +5,13 @@ ghost use Rattle.elf_reader.specs.File.{plain_view};
 ghost use Rattle.loaded_file.specs.Marks.{all_loaded};
 ghost use Rattle.loaded_file.specs.Read.{IsRead};
 ghost use Rattle.loaded_file.specs.Ranges.{is_range};
-ghost use Rattle.loaded_file.specs.Extents.{extent_at};
+ghost use Rattle.loaded_file.specs.ByteRanges.{byte_range_at};
 ghost use Rattle.object_graph.specs.Graphs.{is_writable, IsNamed};
 ghost use Rattle.object_graph.specs.Gathered.{AreMovable, range_of, symbol_if, first_symbol};
 
 use crate::parts::Object;
 use elf_reader::ElfView;
-use loaded_file::Extent;
+use loaded_file::ByteRange;
 use movable_ranges::place_of_symbol;
 use std::alloc::{AllocError, Global};
 
@@ -23,7 +23,7 @@ pub(crate) fn objects(
     alloc: Global,
     view: &ElfView,
     loaded: &[bool],
-    ranges: &[Extent],
+    ranges: &[ByteRange],
 ) -> Result<Vec<Object>, AllocError>
     requires read { IsRead view.now }
     requires marks { loaded.now ≡ all_loaded (plain_view view.now) }
@@ -40,7 +40,7 @@ pub(crate) fn objects(
 }
 
 /// The object of a range whose first symbol is `name`.
-fn object_of(view: &ElfView, range: &Extent, name: Option<usize>) -> Object
+fn object_of(view: &ElfView, range: &ByteRange, name: Option<usize>) -> Object
     requires read { IsRead view.now }
     requires first { name ≡ first_symbol (plain_view view.now) range.now.home range.now.size (length (plain_view view.now).symbols) }
     requires range { is_range (plain_view view.now) range.now.home range.now.size ≡ true }
@@ -79,12 +79,12 @@ fn first_symbols(
     alloc: Global,
     view: &ElfView,
     loaded: &[bool],
-    ranges: &[Extent],
+    ranges: &[ByteRange],
 ) -> Result<Vec<Option<usize>>, AllocError>
     requires marks { loaded.now ≡ all_loaded (plain_view view.now) }
     requires movable { AreMovable (plain_view view.now) ranges.now }
     ensures len { IfOk result (λ names. length names.items ≡ length ranges.now) }
-    ensures first { IfOk result (λ names. (k : ℕ) → k < length ranges.now → slice_index_or names.items k None ≡ first_symbol (plain_view view.now) (extent_at ranges.now k).home (extent_at ranges.now k).size (length (plain_view view.now).symbols)) }
+    ensures first { IfOk result (λ names. (k : ℕ) → k < length ranges.now → slice_index_or names.items k None ≡ first_symbol (plain_view view.now) (byte_range_at ranges.now k).home (byte_range_at ranges.now k).size (length (plain_view view.now).symbols)) }
 {
     let mut names = vec![in alloc; None; ranges.len()]?;
     for i in 0..view.symbols.len() {
@@ -98,7 +98,7 @@ fn note_symbol(
     names: &mut [Option<usize>],
     view: &ElfView,
     loaded: &[bool],
-    ranges: &[Extent],
+    ranges: &[ByteRange],
     i: usize,
 )
     requires marks { loaded.now ≡ all_loaded (plain_view view.now) }
@@ -106,7 +106,7 @@ fn note_symbol(
     requires below { i < length view.now.symbols.items }
     requires long { length names.old ≡ length ranges.now }
     ensures len { length names.new ≡ length names.old }
-    ensures noted { (k : ℕ) → k < length ranges.now → slice_index_or names.new k None ≡ slice_index_or names.old k None or_else symbol_if (plain_view view.now) (extent_at ranges.now k).home (extent_at ranges.now k).size i }
+    ensures noted { (k : ℕ) → k < length ranges.now → slice_index_or names.new k None ≡ slice_index_or names.old k None or_else symbol_if (plain_view view.now) (byte_range_at ranges.now k).home (byte_range_at ranges.now k).size i }
 {
     if let Some(place) = place_of_symbol(view, loaded, ranges, &view.symbols[i]) {
         if names[place].is_none() {

@@ -44,7 +44,7 @@ pub(crate) fn push_some<T: Placed>(list: &mut Vec<T>, found: Option<T>) -> Resul
 /// Puts a list, of which no two meet, in the order of its addresses.
 pub(crate) fn sort_placed<T: Placed>(list: &mut Vec<T>)
     requires { AreSeparate T.place list.old.items }
-    ensures apart { AreInOrder T.place list.new.items }
+    ensures disjoint { AreInOrder T.place list.new.items }
     ensures same { (test : T → Bool) → list_any test list.new.items ≡ list_any test list.old.items }
 {
     list.sort_unstable_by_key(|one| one.address());

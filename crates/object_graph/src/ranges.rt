@@ -1,12 +1,12 @@
 ghost use Rattle.std.specs.Prelude.{◌≡◌, ◌+◌};
-ghost use Rattle.list_checks.specs.Tests.{lies_in, meets};
+ghost use Rattle.list_checks.specs.Tests.{lies_in, ranges_overlap};
 
 use board_config::Range;
 use elf_reader::Segment;
 
 /// Two ranges share an address.
-pub(crate) fn meet(one: &Range, other: &Range) -> bool
-    ensures { result ≡ meets one.now.base one.now.size other.now.base other.now.size }
+pub(crate) fn overlap(one: &Range, other: &Range) -> bool
+    ensures { result ≡ ranges_overlap one.now.base one.now.size other.now.base other.now.size }
 {
     one.size > 0
         && other.size > 0

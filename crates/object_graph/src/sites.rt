@@ -2,8 +2,8 @@ ghost use Rattle.std.specs.Prelude.{◌≡◌, ◌<◌, ◌≤◌, ◌==◌, tru
 ghost use Rattle.elf_reader.specs.File.{plain_view};
 ghost use Rattle.loaded_file.specs.Marks.{all_loaded};
 ghost use Rattle.loaded_file.specs.Records.{reloc_at};
-ghost use Rattle.sound_relocations.specs.Sound.{is_pair_low};
-ghost use Rattle.sound_relocations.specs.Marks.{all_sound};
+ghost use Rattle.rewritable_relocations.specs.Rewritable.{is_pair_low};
+ghost use Rattle.rewritable_relocations.specs.Marks.{all_rewritable};
 ghost use Rattle.object_graph.specs.declared.parts.SiteKind.{SiteKind};
 ghost use Rattle.object_graph.specs.declared.parts.Site.{Site};
 ghost use Rattle.object_graph.specs.Graphs.{makes_part, same_part, same_site};
@@ -14,31 +14,31 @@ use crate::lookups::find_site;
 use crate::parts::{Site, SiteKind};
 use crate::placed::{push_some, sort_placed};
 use elf_reader::{ElfView, R_RISCV_PCREL_HI20};
-use loaded_file::{Extent, counts, symbol_value};
-use sound_relocations::{is_pair_low, is_sound};
+use loaded_file::{ByteRange, counts, symbol_value};
+use rewritable_relocations::{is_pair_low, is_rewritable};
 use std::alloc::{AllocError, Global};
 
-/// The sites of the objects of these ranges, by address. `loaded` and `sound` are the marks of the loaded
-/// sections and of the relocations of a sound kind. It fails only where no memory was left.
+/// The sites of the objects of these ranges, by address. `loaded` and `rewritable` are the marks of the loaded
+/// sections and of the relocations of a rewritable kind. It fails only where no memory was left.
 ///
 /// The time grows with n log n, where n is the number of relocations.
 pub(crate) fn sites(
     alloc: Global,
     view: &ElfView,
     loaded: &[bool],
-    ranges: &[Extent],
-    sound: &[bool],
+    ranges: &[ByteRange],
+    rewritable: &[bool],
 ) -> Result<Vec<Site>, AllocError>
     requires marks { loaded.now ≡ all_loaded (plain_view view.now) }
-    requires sound { sound.now ≡ all_sound (plain_view view.now) }
+    requires rewritable { rewritable.now ≡ all_rewritable (plain_view view.now) }
     requires movable { AreMovable (plain_view view.now) ranges.now }
     requires few { length ranges.now ≤ 4096 }
     ensures { IfOk result (λ sites. AreSites (plain_view view.now) ranges.now sites.items) }
 {
-    let highs = high_sites(alloc, view, loaded, ranges, sound)?;
+    let highs = high_sites(alloc, view, loaded, ranges, rewritable)?;
     let mut sites = Vec::new(alloc);
     for i in 0..view.relocs.len() {
-        let site = site_of(view, loaded, ranges, sound, &highs, i);
+        let site = site_of(view, loaded, ranges, rewritable, &highs, i);
         push_some(&mut sites, site)?;
     }
     sort_placed(&mut sites);
@@ -50,18 +50,18 @@ fn high_sites(
     alloc: Global,
     view: &ElfView,
     loaded: &[bool],
-    ranges: &[Extent],
-    sound: &[bool],
+    ranges: &[ByteRange],
+    rewritable: &[bool],
 ) -> Result<Vec<Site>, AllocError>
     requires marks { loaded.now ≡ all_loaded (plain_view view.now) }
-    requires sound { sound.now ≡ all_sound (plain_view view.now) }
+    requires rewritable { rewritable.now ≡ all_rewritable (plain_view view.now) }
     requires movable { AreMovable (plain_view view.now) ranges.now }
     requires few { length ranges.now ≤ 4096 }
     ensures { IfOk result (λ sites. AreHighs (plain_view view.now) ranges.now sites.items) }
 {
     let mut sites = Vec::new(alloc);
     for i in 0..view.relocs.len() {
-        let site = high_site(view, loaded, ranges, sound, i);
+        let site = high_site(view, loaded, ranges, rewritable, i);
         push_some(&mut sites, site)?;
     }
     sort_placed(&mut sites);
@@ -72,13 +72,13 @@ fn high_sites(
 fn site_of(
     view: &ElfView,
     loaded: &[bool],
-    ranges: &[Extent],
-    sound: &[bool],
+    ranges: &[ByteRange],
+    rewritable: &[bool],
     highs: &[Site],
     i: usize,
 ) -> Option<Site>
     requires marks { loaded.now ≡ all_loaded (plain_view view.now) }
-    requires sound { sound.now ≡ all_sound (plain_view view.now) }
+    requires rewritable { rewritable.now ≡ all_rewritable (plain_view view.now) }
     requires movable { AreMovable (plain_view view.now) ranges.now }
     requires few { length ranges.now ≤ 4096 }
     requires highs { AreHighs (plain_view view.now) ranges.now highs.now }
@@ -88,7 +88,7 @@ fn site_of(
     if is_pair_low(view.relocs[i].kind) {
         low_site(view, loaded, ranges, highs, i)
     } else {
-        direct_site(view, loaded, ranges, sound, i)
+        direct_site(view, loaded, ranges, rewritable, i)
     }
 }
 
@@ -96,19 +96,19 @@ fn site_of(
 fn high_site(
     view: &ElfView,
     loaded: &[bool],
-    ranges: &[Extent],
-    sound: &[bool],
+    ranges: &[ByteRange],
+    rewritable: &[bool],
     i: usize,
 ) -> Option<Site>
     requires marks { loaded.now ≡ all_loaded (plain_view view.now) }
-    requires sound { sound.now ≡ all_sound (plain_view view.now) }
+    requires rewritable { rewritable.now ≡ all_rewritable (plain_view view.now) }
     requires movable { AreMovable (plain_view view.now) ranges.now }
     requires few { length ranges.now ≤ 4096 }
     requires below { i < length view.now.relocs.items }
     ensures { GivesJust same_site (gives_high (plain_view view.now) ranges.now) result i }
 {
     if view.relocs[i].kind == R_RISCV_PCREL_HI20 {
-        direct_site(view, loaded, ranges, sound, i)
+        direct_site(view, loaded, ranges, rewritable, i)
     } else {
         None
     }
@@ -118,12 +118,12 @@ fn high_site(
 fn direct_site(
     view: &ElfView,
     loaded: &[bool],
-    ranges: &[Extent],
-    sound: &[bool],
+    ranges: &[ByteRange],
+    rewritable: &[bool],
     i: usize,
 ) -> Option<Site>
     requires marks { loaded.now ≡ all_loaded (plain_view view.now) }
-    requires sound { sound.now ≡ all_sound (plain_view view.now) }
+    requires rewritable { rewritable.now ≡ all_rewritable (plain_view view.now) }
     requires movable { AreMovable (plain_view view.now) ranges.now }
     requires few { length ranges.now ≤ 4096 }
     requires below { i < length view.now.relocs.items }
@@ -133,7 +133,7 @@ fn direct_site(
     let Some(kind) = part_of(reloc.kind) else {
         return None;
     };
-    if !is_sound(view, sound, i) {
+    if !is_rewritable(view, rewritable, i) {
         return None;
     }
     match lead_of(view, loaded, ranges, i) {
@@ -151,7 +151,7 @@ fn direct_site(
 fn low_site(
     view: &ElfView,
     loaded: &[bool],
-    ranges: &[Extent],
+    ranges: &[ByteRange],
     highs: &[Site],
     i: usize,
 ) -> Option<Site>

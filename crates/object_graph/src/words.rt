@@ -1,7 +1,7 @@
 ghost use Rattle.std.specs.Prelude.{◌≡◌, ◌<◌, ◌≤◌, length, IfOk};
 ghost use Rattle.elf_reader.specs.File.{plain_view};
 ghost use Rattle.loaded_file.specs.Marks.{all_loaded};
-ghost use Rattle.sound_relocations.specs.Marks.{all_sound};
+ghost use Rattle.rewritable_relocations.specs.Marks.{all_rewritable};
 ghost use Rattle.object_graph.specs.declared.parts.DataWord.{DataWord};
 ghost use Rattle.object_graph.specs.Graphs.{same_word};
 ghost use Rattle.object_graph.specs.Gathered.{GivesJust, AreMovable, is_word_in, AreWords};
@@ -10,30 +10,30 @@ use crate::leads::lead_of;
 use crate::parts::DataWord;
 use crate::placed::{push_some, sort_placed};
 use elf_reader::{ElfView, R_RISCV_32};
-use loaded_file::Extent;
-use sound_relocations::is_sound;
+use loaded_file::ByteRange;
+use rewritable_relocations::is_rewritable;
 use std::alloc::{AllocError, Global};
 
-/// The words of data that lead to the objects of these ranges, by address. `loaded` and `sound` are the marks
-/// of the loaded sections and of the relocations of a sound kind. It fails only where no memory was left.
+/// The words of data that lead to the objects of these ranges, by address. `loaded` and `rewritable` are the marks
+/// of the loaded sections and of the relocations of a rewritable kind. It fails only where no memory was left.
 ///
 /// The time grows with n log n, where n is the number of relocations.
 pub(crate) fn data_words(
     alloc: Global,
     view: &ElfView,
     loaded: &[bool],
-    ranges: &[Extent],
-    sound: &[bool],
+    ranges: &[ByteRange],
+    rewritable: &[bool],
 ) -> Result<Vec<DataWord>, AllocError>
     requires marks { loaded.now ≡ all_loaded (plain_view view.now) }
-    requires sound { sound.now ≡ all_sound (plain_view view.now) }
+    requires rewritable { rewritable.now ≡ all_rewritable (plain_view view.now) }
     requires movable { AreMovable (plain_view view.now) ranges.now }
     requires few { length ranges.now ≤ 4096 }
     ensures { IfOk result (λ words. AreWords (plain_view view.now) ranges.now words.items) }
 {
     let mut words = Vec::new(alloc);
     for i in 0..view.relocs.len() {
-        let word = word_of(view, loaded, ranges, sound, i);
+        let word = word_of(view, loaded, ranges, rewritable, i);
         push_some(&mut words, word)?;
     }
     sort_placed(&mut words);
@@ -44,12 +44,12 @@ pub(crate) fn data_words(
 fn word_of(
     view: &ElfView,
     loaded: &[bool],
-    ranges: &[Extent],
-    sound: &[bool],
+    ranges: &[ByteRange],
+    rewritable: &[bool],
     i: usize,
 ) -> Option<DataWord>
     requires marks { loaded.now ≡ all_loaded (plain_view view.now) }
-    requires sound { sound.now ≡ all_sound (plain_view view.now) }
+    requires rewritable { rewritable.now ≡ all_rewritable (plain_view view.now) }
     requires movable { AreMovable (plain_view view.now) ranges.now }
     requires few { length ranges.now ≤ 4096 }
     requires below { i < length view.now.relocs.items }
@@ -59,7 +59,7 @@ fn word_of(
     if reloc.kind != R_RISCV_32 {
         return None;
     }
-    if !is_sound(view, sound, i) {
+    if !is_rewritable(view, rewritable, i) {
         return None;
     }
     let Some(lead) = lead_of(view, loaded, ranges, i) else {

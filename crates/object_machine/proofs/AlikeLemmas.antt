@@ -18,7 +18,7 @@ use Rattle.object_machine.specs.State.{SourceState, value, wrote}
 use Rattle.object_machine.specs.Memory.{cell_at, stored_at}
 use Rattle.object_machine.specs.Places.{Where, InFixed, InObject, Nowhere, located, byte_place, read_fault, write_fault, address_of}
 use Rattle.object_machine.specs.Flow.{falls_on, jumps, jumps_by, branches}
-use Rattle.object_machine.specs.Calls.{answered, a1, a2, a7, and_byte, plain_bytes, unread, appends, writes_from, writes, unwritten, put_input, with_input, reads_into, reads, taken_count, exits, a0, calls_number, calls_by}
+use Rattle.object_machine.specs.Calls.{answered, a1, a2, a7, and_byte, plain_bytes, unread, appends, writes_from, writes, unwritten, put_input, with_input, reads_into, reads, consumed_count, exits, a0, calls_number, calls_by}
 use Rattle.object_machine.specs.Step.{acts, access_by, load_place, store_place, loads_from, stores_to, imm_result, access_in}
 use Rattle.object_machine.specs.Units.{leads_on}
 
@@ -81,7 +81,7 @@ jumps_by_alike q p s t (Low k) = refl
 jumps_by_alike q p s t (Piece hi o d k) = refl
 jumps_by_alike q p s t Unknown = refl
 
-branches_alike : (q p : Program) (s : SourceState) (off : ℤ) (taken : Option Bool) → branches (joined q p) s off taken ≡ branches q s off taken
+branches_alike : (q p : Program) (s : SourceState) (off : ℤ) (consumed : Option Bool) → branches (joined q p) s off consumed ≡ branches q s off consumed
 branches_alike q p s off None = refl
 branches_alike q p s off (Some true) = refl
 branches_alike q p s off (Some false) = refl
@@ -134,8 +134,8 @@ reads_into_alike q p s k None same =
 
 reads_alike : (q p : Program) (s : SourceState) (x : Val) → p.falls s.pc ≡ q.falls s.pc → reads (joined q p) s x ≡ reads q s x
 reads_alike q p s (Int n) same =
-    ap (λ (check : ℕ → Option ℕ). reads_into (joined q p) s (taken_count s n) (first_below check (taken_count s n))) (unwritten_alike q p s)
-    ∙ reads_into_alike q p s (taken_count s n) (first_below (unwritten q s) (taken_count s n)) same
+    ap (λ (check : ℕ → Option ℕ). reads_into (joined q p) s (consumed_count s n) (first_below check (consumed_count s n))) (unwritten_alike q p s)
+    ∙ reads_into_alike q p s (consumed_count s n) (first_below (unwritten q s) (consumed_count s n)) same
 reads_alike q p s (Addr o d) same = refl
 reads_alike q p s (Hi o d) same = refl
 reads_alike q p s (Low k) same = refl

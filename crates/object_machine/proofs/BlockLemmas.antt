@@ -27,7 +27,7 @@ use Rattle.object_machine.specs.declared.units.Prepared.{Prepared}
 use Rattle.object_machine.specs.Program.{program_of, target_at, falls_from}
 use Rattle.object_machine.specs.Step.{Reads}
 use Rattle.object_machine.specs.Units.{target_of, fits_read, fits_pair, fits_site, FitsSite, is_fit, may_lead, may_fall}
-use Rattle.object_machine.specs.Tells.{IsCallOf, TellsAt, Tells}
+use Rattle.object_machine.specs.Reports.{IsCallOf, ReportsAt, Reports}
 use Rattle.object_machine.specs.Preparing.{IsPairOf, IsPreparedOf}
 use Rattle.object_machine.proofs.ChainLemmas.{chain, is_chain, chain_some, chain_at, chain_below, chain_ends}
 use Rattle.object_machine.proofs.RangeLemmas.{left_at, some_left, left_further, one_less, left_below}
@@ -165,7 +165,7 @@ call_of v board g a (Some c) pair = pair.call
 -- what a prepared unit tells
 pub record IsTold (v : PlainView) (board : Board) (g : Graph) (r : Prepared) : Type 0 where
   pub fit : is_fit (length g.objects.items) r ≡ true
-  pub tells : Tells (program_of v board g) r
+  pub tells : Reports (program_of v board g) r
 
 pub told : (view : ElfView) (board : Board) (g : Graph) (a k count : ℕ) (u : Unit) (r : Prepared) → IsRead view → IsNth (plain_view view) a k count → k < count → IsUnit (plain_view view) u → u.at ≡ a → IsPreparedOf (plain_view view) g u (nat_lt (k + 1) count) r → IsTold (plain_view view) board g r
 told view board g a k count u r read nth below unit at is =
@@ -188,7 +188,7 @@ told view board g a k count u r read nth below unit at is =
           (subst (λ (x : ℕ). fits_pair x r.pair ≡ true) (sym same) (pair_fits v a r.pair ends pair (pair_room view a read)))
           (site_fits (length g.objects.items) r.site is.fits)
           (grind (arith, nat_tests, same, ends));
-      tells = subst (TellsAt p r) (sym same) (record {
+      tells = subst (ReportsAt p r) (sym same) (record {
         meant = reads_of (image_word v a) r.instr meant;
         site = site;
         pair = pair.is;

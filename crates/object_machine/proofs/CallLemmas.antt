@@ -179,11 +179,11 @@ spans_inside t u o d n named room i below =
 
 -- ---- bytes of the input as cells
 
-pub input_length : (xs : List ℕ) (taken n : ℕ) → taken + n ≤ length xs → length (byte_cells (take n (drop taken xs))) ≡ n
-input_length xs taken n left = simp (length-map, length-take, length-drop) (omega (arith, left))
+pub input_length : (xs : List ℕ) (consumed n : ℕ) → consumed + n ≤ length xs → length (byte_cells (take n (drop consumed xs))) ≡ n
+input_length xs consumed n left = simp (length-map, length-take, length-drop) (omega (arith, left))
 
-pub bytes_length : (xs : List ℕ) (taken n : ℕ) → taken + n ≤ length xs → length (take n (drop taken xs)) ≡ n
-bytes_length xs taken n left = simp (length-take, length-drop) (omega (arith, left))
+pub bytes_length : (xs : List ℕ) (consumed n : ℕ) → consumed + n ≤ length xs → length (take n (drop consumed xs)) ≡ n
+bytes_length xs consumed n left = simp (length-take, length-drop) (omega (arith, left))
 
 pub bytes_of_graph : (g : Graph) (bytes : List ℕ) → All (IsCellOfGraph g) (byte_cells bytes)
 bytes_of_graph g [] = All-nil (IsCellOfGraph g)

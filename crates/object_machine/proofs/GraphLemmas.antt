@@ -12,8 +12,8 @@ use Rattle.elf_reader.specs.Loaded.{section_at, is_loaded}
 use Rattle.board_config.specs.declared.board.Board.{Board}
 use Rattle.loaded_file.specs.Records.{symbol_at, reloc_at}
 use Rattle.loaded_file.specs.Ranges.{has_range, inside}
-use Rattle.loaded_file.proofs.RangeLemmas.{HasExtent, extent_of}
-use Rattle.sound_relocations.specs.Sound.{displacement, is_sound_word}
+use Rattle.loaded_file.proofs.RangeLemmas.{HasByteRange, byte_range_of}
+use Rattle.rewritable_relocations.specs.Rewritable.{displacement, is_rewritable_word}
 use Rattle.movable_ranges.specs.Fixed.{leads_to, is_movable}
 use Rattle.object_graph.specs.declared.parts.Object.{Object}
 use Rattle.object_graph.specs.declared.parts.DataWord.{DataWord}
@@ -22,8 +22,8 @@ use Rattle.object_graph.specs.Graphs.{is_object_of, has_object, object_at, same_
 use Rattle.object_graph.specs.Sites.{in_range, in_area, in_code_range, in_object, holds_changed_byte, is_fixed_memory}
 use Rattle.object_graph.proofs.MovableLemmas.{movable_parts}
 use Rattle.cell_values.specs.Objects.{absent_object, object_of}
-use Rattle.object_graph.proofs.SoundLemmas.{word_parts}
-use Rattle.object_machine.specs.Layout.{EndBelow, LieApart}
+use Rattle.object_graph.proofs.RewritableLemmas.{word_parts}
+use Rattle.object_machine.specs.Layout.{EndBelow, HasDisjointObjects}
 
 -- ---- objects
 
@@ -51,16 +51,16 @@ has_place g o i inside =
           let none : i < 0 = subst (λ (x : Object). i < x.size) absent inside in absurd (omega (arith, none))
     ]
 
-extent_at : (v : PlainView) (board : Board) (g : Graph) (o : ℕ) → IsGraph v board g → o < length g.objects.items → HasExtent (object_of g o).home (object_of g o).size
-extent_at v board g o is below =
+byte_range_at : (v : PlainView) (board : Board) (g : Graph) (o : ℕ) → IsGraph v board g → o < length g.objects.items → HasByteRange (object_of g o).home (object_of g o).size
+byte_range_at v board g o is below =
     let object = object_of g o in
     let moves = movable_parts v board object.home object.size (movable_at v board g o is below) in
-    extent_of v object.home object.size (symbol_at v moves.symbol) moves.of
+    byte_range_of v object.home object.size (symbol_at v moves.symbol) moves.of
 
 pub ends_below : (v : PlainView) (board : Board) (g : Graph) → IsGraph v board g → EndBelow g
 ends_below v board g is o =
     elim (cases_lt o (length g.objects.items)) [
-      | inl below ↦ let ends = (extent_at v board g o is below).ends in omega (arith, ends)
+      | inl below ↦ let ends = (byte_range_at v board g o is below).ends in omega (arith, ends)
       | inr behind ↦
           let absent = absent_at g o behind in
           subst (λ (x : Object). x.home + x.size < 4294967296) (sym absent) (omega arith)
@@ -68,10 +68,10 @@ ends_below v board g is o =
 
 -- the first of two objects ends where the second begins, or before
 in_order : (v : PlainView) (board : Board) (g : Graph) (o q : ℕ) → IsGraph v board g → o < q → q < length g.objects.items → (object_of g o).home + (object_of g o).size ≤ (object_of g q).home
-in_order v board g o q is lower below = is.objects.apart o q absent_object lower below
+in_order v board g o q is lower below = is.objects.disjoint o q absent_object lower below
 
-pub lie_apart : (v : PlainView) (board : Board) (g : Graph) → IsGraph v board g → LieApart g
-lie_apart v board g is o q i j inside_o inside_q same =
+pub lie_disjoint : (v : PlainView) (board : Board) (g : Graph) → IsGraph v board g → HasDisjointObjects g
+lie_disjoint v board g is o q i j inside_o inside_q same =
     let below_o = has_place g o i inside_o in
     let below_q = has_place g q j inside_q in
     elim (cases_order o q) [
@@ -138,8 +138,8 @@ word_held v board g k d is below =
     let (j, less, gives) = any_found (gives_word v objects w) (length v.relocs) given in
     let r = reloc_at v j in
     let o = object_at objects w.object in
-    let whole = both ((r.at == w.at) && leads_to v o.home o.size j && is_sound_word v j r) (displacement v o.home r == w.offset) gives in
-    let front = both ((r.at == w.at) && leads_to v o.home o.size j) (is_sound_word v j r) whole.0 in
+    let whole = both ((r.at == w.at) && leads_to v o.home o.size j && is_rewritable_word v j r) (displacement v o.home r == w.offset) gives in
+    let front = both ((r.at == w.at) && leads_to v o.home o.size j) (is_rewritable_word v j r) whole.0 in
     let first = both (r.at == w.at) (leads_to v o.home o.size j) front.0 in
     let at = eqb-true r.at w.at first.0 in
     let (section, held) = (word_parts v j r front.1).holds in

@@ -19,7 +19,7 @@ use Rattle.object_machine.specs.State.{SourceState, value, wrote, faulted}
 use Rattle.object_machine.specs.Places.{Where, read_fault, write_fault}
 use Rattle.object_machine.specs.Memory.{loaded_value, stored_at, stored_cells}
 use Rattle.object_machine.specs.Flow.{falls_on, jumps, jumps_by, branches, pair_link, calls_pair}
-use Rattle.object_machine.specs.Calls.{a0, a2, a7, answered, exits, plain_bytes, appends, unread, writes_from, writes, taken_count, unwritten, with_input, reads_into, reads, calls_number, calls_by}
+use Rattle.object_machine.specs.Calls.{a0, a2, a7, answered, exits, plain_bytes, appends, unread, writes_from, writes, consumed_count, unwritten, with_input, reads_into, reads, calls_number, calls_by}
 use Rattle.object_machine.specs.Step.{upper_value, imm_result, loads_from, stores_to, load_place, store_place, acts, one_word, next_state, Performs}
 use Rattle.object_machine.specs.Runs.{HasEnded}
 use Rattle.object_machine.specs.Units.{leads_on}
@@ -63,7 +63,7 @@ jumps_by_lead p s (Low n) t reached = ends false p s 6
 jumps_by_lead p s (Piece hi o d k) t reached = ends false p s 6
 jumps_by_lead p s Unknown t reached = ends false p s 6
 
-branches_lead : (p : Program) (s : SourceState) (off : ℤ) (taken : Option Bool) → Leads false p s (branches p s off taken)
+branches_lead : (p : Program) (s : SourceState) (off : ℤ) (consumed : Option Bool) → Leads false p s (branches p s off consumed)
 branches_lead p s off (Some true) = jumps_lead p s (offset s.pc off) s
 branches_lead p s off (Some false) = jumps_lead p s (s.pc + 4) s
 branches_lead p s off None = ends false p s 7
@@ -110,7 +110,7 @@ reads_into_lead p s k None = answered_lead p s (with_input p s k) k
 reads_into_lead p s k (Some why) = ends true p s why
 
 reads_lead : (p : Program) (s : SourceState) (x : Val) → Leads true p s (reads p s x)
-reads_lead p s (Int n) = reads_into_lead p s (taken_count s n) (first_below (unwritten p s) (taken_count s n))
+reads_lead p s (Int n) = reads_into_lead p s (consumed_count s n) (first_below (unwritten p s) (consumed_count s n))
 reads_lead p s (Addr o d) = ends true p s 8
 reads_lead p s (Hi o d) = ends true p s 8
 reads_lead p s (Low n) = ends true p s 8

@@ -3,7 +3,7 @@ pub mod BlockLemmas
 pub mod CallLemmas
 pub mod ChainLemmas
 pub mod GraphLemmas
-pub mod LaidLemmas
+pub mod BlockUnitsLemmas
 pub mod LeadLemmas
 pub mod LinkLemmas
 pub mod MeaningLemmas

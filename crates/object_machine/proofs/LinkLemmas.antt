@@ -17,7 +17,7 @@ use Rattle.object_machine.specs.State.{SourceState, wrote}
 use Rattle.object_machine.specs.Flow.{jumps, pair_link, calls_pair}
 use Rattle.object_machine.specs.Footprints.{footprint_of, footprint_by}
 use Rattle.object_machine.specs.Units.{target_of, may_lead, may_fall}
-use Rattle.object_machine.specs.Tells.{IsCallOf}
+use Rattle.object_machine.specs.Reports.{IsCallOf}
 use Rattle.object_machine.specs.Step.{Reads, acts, one_word, next_state, access_by, access_of, Performs, StepFrom, Step}
 use Rattle.object_machine.specs.Machine.{pictured, state_of, seen_state, Agrees, IsProgram, seen_program, here, seen, calls, next_by, accesses, when_going, StepsFrom}
 use Rattle.object_machine.proofs.AlikeLemmas.{joined, acts_alike, access_alike}

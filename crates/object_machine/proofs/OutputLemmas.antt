@@ -19,7 +19,7 @@ use Rattle.object_machine.specs.State.{SourceState, wrote, faulted, trapped}
 use Rattle.object_machine.specs.Memory.{loaded_value, stored_at, stored_cells}
 use Rattle.object_machine.specs.Places.{Where, InFixed, InObject, Nowhere, byte_place, read_fault, write_fault}
 use Rattle.object_machine.specs.Flow.{falls_on, jumps, jumps_by, branches, pair_link, calls_pair}
-use Rattle.object_machine.specs.Calls.{a0, a1, a2, a7, answered, exits, plain_bytes, unread, appends, writes_from, writes, taken_count, unwritten, put_input, with_input, reads_into, reads, calls_number, calls_by}
+use Rattle.object_machine.specs.Calls.{a0, a1, a2, a7, answered, exits, plain_bytes, unread, appends, writes_from, writes, consumed_count, unwritten, put_input, with_input, reads_into, reads, calls_number, calls_by}
 use Rattle.object_machine.specs.Step.{loads_from, stores_to, load_place, store_place, acts, one_word, next_state, Performs, StepFrom, Step}
 use Rattle.object_machine.specs.Runs.{Steps}
 
@@ -50,7 +50,7 @@ by_value p s (Low k) t e = stays s (faulted s 6) refl
 by_value p s (Piece hi o d k) t e = stays s (faulted s 6) refl
 by_value p s Unknown t e = stays s (faulted s 6) refl
 
-by_branch : (p : Program) (s : SourceState) (off : ℤ) (taken : Option Bool) → Extends s (branches p s off taken)
+by_branch : (p : Program) (s : SourceState) (off : ℤ) (consumed : Option Bool) → Extends s (branches p s off consumed)
 by_branch p s off None = stays s (faulted s 7) refl
 by_branch p s off (Some true) = to_block p s _ s (stays s s refl)
 by_branch p s off (Some false) = to_block p s _ s (stays s s refl)
@@ -100,7 +100,7 @@ by_read_into p s k None =
 by_read_into p s k (Some why) = stays s (faulted s why) refl
 
 by_read : (p : Program) (s : SourceState) (x : Val) → Extends s (reads p s x)
-by_read p s (Int n) = by_read_into p s (taken_count s n) (first_below (unwritten p s) (taken_count s n))
+by_read p s (Int n) = by_read_into p s (consumed_count s n) (first_below (unwritten p s) (consumed_count s n))
 by_read p s (Addr o d) = stays s (faulted s 8) refl
 by_read p s (Hi o d) = stays s (faulted s 8) refl
 by_read p s (Low k) = stays s (faulted s 8) refl

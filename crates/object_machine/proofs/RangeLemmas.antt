@@ -7,11 +7,11 @@ use Rattle.list_checks.specs.Tests.{any_below, lies_in}
 use Rattle.list_checks.proofs.TestLemmas.{both, any_found, any_at}
 use Rattle.elf_reader.specs.Sections.{bit_of}
 use Rattle.elf_reader.specs.File.{PlainView, plain_view, view_in}
-use Rattle.elf_reader.specs.Loadable.{AreApart}
+use Rattle.elf_reader.specs.Loadable.{AreDisjoint}
 use Rattle.elf_reader.specs.Loaded.{section_at, segment_at, is_loaded}
 use Rattle.elf_reader.specs.declared.view.ElfView.{ElfView}
-use Rattle.elf_reader.proofs.SegmentLemmas.{none_of_headers, load_segments_apart}
-use Rattle.elf_reader.proofs.LoadedLemmas.{IsFilled, loaded_found, same_segment, filled_alone, zeroed_apart}
+use Rattle.elf_reader.proofs.SegmentLemmas.{none_of_headers, load_segments_disjoint}
+use Rattle.elf_reader.proofs.LoadedLemmas.{IsFilled, loaded_found, same_segment, filled_alone, zeroed_disjoint}
 use Rattle.loaded_file.specs.Code.{is_code_range, holds_code, is_code_word}
 use Rattle.loaded_file.specs.Read.{IsRead}
 use Rattle.loaded_file.proofs.WordLemmas.{same_view, range_below, word_fits}
@@ -38,8 +38,8 @@ has_word v a k holds =
 place_inside : (addr size a : ℕ) → lies_in addr size a 4 ≡ true → (a - addr < size) × (addr + (a - addr) ≡ a)
 place_inside addr size a lies = (grind (arith, nat_tests, lies), grind (arith, nat_tests, lies))
 
-one_section : (v : PlainView) (a j k : ℕ) → AreApart v.segments → k < length v.sections → HasWord v a j → HasWord v a k → k ≡ j
-one_section v a j k apart below has_j has_k =
+one_section : (v : PlainView) (a j k : ℕ) → AreDisjoint v.segments → k < length v.sections → HasWord v a j → HasWord v a k → k ≡ j
+one_section v a j k disjoint below has_j has_k =
     let s = section_at v j in
     let t = section_at v k in
     let at_j = place_inside s.addr s.size a has_j.lies in
@@ -47,7 +47,7 @@ one_section v a j k apart below has_j has_k =
     let same : s.addr + (a - s.addr) ≡ t.addr + (a - t.addr) = at_j.1 ∙ sym at_k.1 in
     let (g, facts) = loaded_found v k has_k.loaded in
     let (h, other) = loaded_found v j has_j.loaded in
-    let same_g : h ≡ g = same_segment v k g j h (a - t.addr) (a - s.addr) apart facts other at_k.0 at_j.0 same in
+    let same_g : h ≡ g = same_segment v k g j h (a - t.addr) (a - s.addr) disjoint facts other at_k.0 at_j.0 same in
     let filled_other : IsFilled v j h (section_at v j) (segment_at v h) = elim other.rest [
       | inl filled ↦ filled
       | inr zeroed ↦ let wrong = zeroed.kind in let kind = has_j.kind in absurd (omega (arith, kind, wrong))
@@ -55,18 +55,18 @@ one_section v a j k apart below has_j has_k =
     let filled_here : IsFilled v j g (section_at v j) (segment_at v g) = subst (λ (m : ℕ). IsFilled v j m (section_at v j) (segment_at v m)) same_g filled_other in
     elim facts.rest [
       | inl filled ↦ filled_alone v j k g (a - s.addr) (a - t.addr) filled_here filled below at_j.0 at_k.0 (sym same)
-      | inr zeroed ↦ absurd (zeroed_apart v j g (a - s.addr) (a - t.addr) (section_at v j) (section_at v k) (segment_at v g) filled_here zeroed at_j.0 (sym same))
+      | inr zeroed ↦ absurd (zeroed_disjoint v j g (a - s.addr) (a - t.addr) (section_at v j) (section_at v k) (segment_at v g) filled_here zeroed at_j.0 (sym same))
     ]
 
-segments_apart : (view : ElfView) → IsRead view → AreApart (plain_view view).segments
-segments_apart view read =
+segments_disjoint : (view : ElfView) → IsRead view → AreDisjoint (plain_view view).segments
+segments_disjoint view read =
     let (file, is, none) = read in
-    subst (λ (v : PlainView). AreApart v.segments) (sym (same_view file view is)) (load_segments_apart file (none_of_headers file none))
+    subst (λ (v : PlainView). AreDisjoint v.segments) (sym (same_view file view is)) (load_segments_disjoint file (none_of_headers file none))
 
 pub one_range : (view : ElfView) (a j k : ℕ) → IsRead view → k < length (plain_view view).sections → holds_code (plain_view view) a j ≡ true → holds_code (plain_view view) a k ≡ true → k ≡ j
 one_range view a j k read below holds_j holds_k =
     let v = plain_view view in
-    one_section v a j k (segments_apart view read) below (has_word v a j holds_j) (has_word v a k holds_k)
+    one_section v a j k (segments_disjoint view read) below (has_word v a j holds_j) (has_word v a k holds_k)
 
 -- ---- the words left
 

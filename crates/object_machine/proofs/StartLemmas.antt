@@ -77,10 +77,10 @@ image_more s ss = plain_put s.content (image_of ss) s.vaddr ∙ ap plain_cells (
 
 -- one segment more, of those that stand in a file
 pub segment_more : (segments : List Segment) (j k : ℕ) (d : Segment) (t : ℕ → Cell) → k ≡ suc j → j < length segments → t ≡ plain_cells (image_of (map plain_segment (drop k segments))) → put_cells t (get_or segments j d).vaddr (byte_cells (get_or segments j d).bytes.now) ≡ plain_cells (image_of (map plain_segment (drop j segments)))
-segment_more segments j k d t next inside laid =
+segment_more segments j k d t next inside block_units =
     let s : Segment = get_or segments j d in
     let rest : List PlainSegment = map plain_segment (drop (suc j) segments) in
-    let here : t ≡ plain_cells (image_of rest) = subst (λ n. t ≡ plain_cells (image_of (map plain_segment (drop n segments)))) next laid in
+    let here : t ≡ plain_cells (image_of rest) = subst (λ n. t ≡ plain_cells (image_of (map plain_segment (drop n segments)))) next block_units in
     rw (drop-cons segments j d inside) (ap (λ (u : ℕ → Cell). put_cells u s.vaddr (byte_cells s.bytes.now)) here ∙ image_more (plain_segment s) rest)
 
 -- ---- words of data
@@ -121,10 +121,10 @@ word_at image d words a =
 
 -- one word more
 pub word_more : (image : Memory) (words : List DataWord) (j k : ℕ) (d : DataWord) (t : ℕ → Cell) → k ≡ suc j → j < length words → t ≡ first_cell image (drop k words) → put_cells t (get_or words j d).at (parts_of false (get_or words j d).object (get_or words j d).offset) ≡ first_cell image (drop j words)
-word_more image words j k d t next inside laid =
+word_more image words j k d t next inside block_units =
     let w : DataWord = get_or words j d in
     let rest : List DataWord = drop (suc j) words in
-    let here : t ≡ first_cell image rest = subst (λ n. t ≡ first_cell image (drop n words)) next laid in
+    let here : t ≡ first_cell image rest = subst (λ n. t ≡ first_cell image (drop n words)) next block_units in
     rw (drop-cons words j d inside)
     (ap (λ (u : ℕ → Cell). put_cells u w.at (parts_of false w.object w.offset)) here ∙ (λ z a. word_at image w rest a z))
 

@@ -59,7 +59,7 @@ one_of_graph : (g : Graph) (t : ℕ → Cell) (k : ℕ) (c : Cell) → ((a : ℕ
 one_of_graph g t k c old new b =
     elim (cases_eq b k) [
       | inl same ↦ subst (IsCellOfGraph g) (sym (put_here t k c b same)) new
-      | inr other ↦ let apart : (b < k) ⊎ (k < b) = grind (arith, other) in subst (IsCellOfGraph g) (sym (put_other t k c b apart)) (old b)
+      | inr other ↦ let disjoint : (b < k) ⊎ (k < b) = grind (arith, other) in subst (IsCellOfGraph g) (sym (put_other t k c b disjoint)) (old b)
     ]
 
 pub cells_of_graph : (g : Graph) (t : ℕ → Cell) (k : ℕ) (cs : List Cell) → ((a : ℕ) → IsCellOfGraph g (t a)) → All (IsCellOfGraph g) cs → (a : ℕ) → IsCellOfGraph g (put_cells t k cs a)
@@ -151,7 +151,7 @@ fixed_put t old new k cs is all = ap (fixed_with t) is ∙ put_in_memory (is_in_
 not_inside : (t : Tables) (o i a : ℕ) → is_in_some t.fixed.items a ≡ true → home t o + i ≡ a → nat_lt i (size t o) ≡ false
 not_inside t o i a fixed same =
     elim (cases_lt i (size t o)) [
-      | inl less ↦ let free = t.off o i less in let taken = rw same at free in absurd (both_ways (is_in_some t.fixed.items a) taken fixed)
+      | inl less ↦ let free = t.off o i less in let consumed = rw same at free in absurd (both_ways (is_in_some t.fixed.items a) consumed fixed)
       | inr more ↦ grind (arith, nat_tests, more)
     ]
 
@@ -174,7 +174,7 @@ other_object t old o d cs fits q i other =
     put_elsewhere (nat_lt i (size t q)) old (home t o + d) cs (home t q + i)
     (λ j below same.
     elim (cases_lt i (size t q)) [
-      | inl less ↦ absurd (other (t.apart q o i (d + j) less (omega (arith, below, fits)) (omega (arith, same))))
+      | inl less ↦ absurd (other (t.disjoint q o i (d + j) less (omega (arith, below, fits)) (omega (arith, same))))
       | inr more ↦ grind (arith, nat_tests, more)
     ])
 

@@ -29,13 +29,13 @@ use Rattle.cell_values.specs.Objects.{IsGrain, absent_object, objects_of, object
 use Rattle.object_machine.specs.declared.units.Prepared.{Prepared}
 use Rattle.object_machine.specs.declared.tables.Tables.{Tables}
 use Rattle.object_machine.specs.Program.{holds, program_of}
-use Rattle.object_machine.specs.Layout.{is_in_some, EndBelow, LieApart, LieOff, AreAmong, is_grain}
+use Rattle.object_machine.specs.Layout.{is_in_some, EndBelow, HasDisjointObjects, LieOff, AreAmong, is_grain}
 use Rattle.object_machine.specs.Units.{unit_in, AreFit, AreJoined, AreStarts}
-use Rattle.object_machine.specs.Tells.{Tells}
+use Rattle.object_machine.specs.Reports.{Reports}
 use Rattle.object_machine.specs.Machine.{Agrees}
-use Rattle.object_machine.specs.Preparing.{IsLaid, HasObjects}
-use Rattle.object_machine.specs.declared.preparing.Laid.{Laid}
-use Rattle.object_machine.proofs.GraphLemmas.{ends_below, lie_apart, object_not_fixed}
+use Rattle.object_machine.specs.Preparing.{IsBlockUnits, HasObjects}
+use Rattle.object_machine.specs.declared.preparing.BlockUnits.{BlockUnits}
+use Rattle.object_machine.proofs.GraphLemmas.{ends_below, lie_disjoint, object_not_fixed}
 
 -- ---- the grain
 
@@ -96,8 +96,8 @@ among v c reached starts code is_reached is_starts a some =
     let indirect : is_indirect v a ≡ true = sym (code.indirect a) ∙ (ap (λ (xs : List ℕ). has xs a) (sym is_reached) ∙ some) in
     ap (λ (xs : List ℕ). has xs a) is_starts ∙ (code.leaders a ∙ indirect_is_leader v a indirect)
 
-pub all_starts : (v : PlainView) (board : Board) (g : Graph) (c : Code) (laid : Laid) → IsLaid v board g c.blocks.items (length c.blocks.items) laid → laid.starts.items ≡ map start_of c.blocks.items
-all_starts v board g c laid is = is.starts ∙ ap (map start_of) (take_all (length c.blocks.items) c.blocks.items (omega arith))
+pub all_starts : (v : PlainView) (board : Board) (g : Graph) (c : Code) (block_units : BlockUnits) → IsBlockUnits v board g c.blocks.items (length c.blocks.items) block_units → block_units.starts.items ≡ map start_of c.blocks.items
+all_starts v board g c block_units is = is.starts ∙ ap (map start_of) (take_all (length c.blocks.items) c.blocks.items (omega arith))
 
 -- ---- the objects of a graph alone
 
@@ -116,10 +116,10 @@ objects_same g h same =
 ends_same : (g h : Graph) → HasObjects g h → EndBelow g → EndBelow h
 ends_same g h same ends o = subst (λ (x : Object). x.home + x.size < 4294967296) (sym (same_object g h o same)) (ends o)
 
-apart_same : (g h : Graph) → HasObjects g h → LieApart g → LieApart h
-apart_same g h same apart =
+disjoint_same : (g h : Graph) → HasObjects g h → HasDisjointObjects g → HasDisjointObjects h
+disjoint_same g h same disjoint =
     subst (λ (xs : List Object). (o q i j : ℕ) → i < (slice_index_or xs o absent_object).size → j < (slice_index_or xs q absent_object).size → (slice_index_or xs o absent_object).home + i ≡ (slice_index_or xs q absent_object).home + j → o ≡ q)
-    (sym same.objects) apart
+    (sym same.objects) disjoint
 
 off_same : (g h : Graph) (ranges : List Range) → HasObjects g h → LieOff ranges g → LieOff ranges h
 off_same g h ranges same off =
@@ -132,7 +132,7 @@ off_same g h ranges same off =
 pub record AreTables (g : Graph) (units : List Prepared) (starts places reached : List ℕ) (fixed : List Range) : Type 0 where
   pub grain : is_grain g.grain ≡ true
   pub below : EndBelow g
-  pub apart : LieApart g
+  pub disjoint : HasDisjointObjects g
   pub off : LieOff fixed g
   pub fit : AreFit (length g.objects.items) units
   pub joined : AreJoined units
@@ -141,31 +141,31 @@ pub record AreTables (g : Graph) (units : List Prepared) (starts places reached 
   pub reached_ascending : IsStrictlyIncreasing reached
   pub among : AreAmong reached starts
 
-pub are_tables : (v : PlainView) (board : Board) (g h : Graph) (c : Code) (laid : Laid) (reached : List ℕ) (fixed : List Range) → IsGraph v board g → IsGrain g.grain → IsCode v c → HasObjects g h → IsLaid v board g c.blocks.items (length c.blocks.items) laid → reached ≡ c.indirect.items → ((a : ℕ) → is_fixed_memory v board a ≡ is_in_some fixed a) → AreTables h laid.units.items laid.starts.items laid.places.items reached fixed
-are_tables v board g h c laid reached fixed is grain code same lies is_reached agrees =
-    let starts = all_starts v board g c laid lies in
+pub are_tables : (v : PlainView) (board : Board) (g h : Graph) (c : Code) (block_units : BlockUnits) (reached : List ℕ) (fixed : List Range) → IsGraph v board g → IsGrain g.grain → IsCode v c → HasObjects g h → IsBlockUnits v board g c.blocks.items (length c.blocks.items) block_units → reached ≡ c.indirect.items → ((a : ℕ) → is_fixed_memory v board a ≡ is_in_some fixed a) → AreTables h block_units.units.items block_units.starts.items block_units.places.items reached fixed
+are_tables v board g h c block_units reached fixed is grain code same lies is_reached agrees =
+    let starts = all_starts v board g c block_units lies in
     record {
       grain = subst (λ (n : ℕ). is_grain n ≡ true) (sym same.grain) (grain_is g.grain grain);
       below = ends_same g h same (ends_below v board g is);
-      apart = apart_same g h same (lie_apart v board g is);
+      disjoint = disjoint_same g h same (lie_disjoint v board g is);
       off = off_same g h fixed same (lie_off v board g fixed is agrees);
-      fit = subst (λ (xs : List Object). AreFit (length xs) laid.units.items) (sym same.objects) lies.told.fit;
+      fit = subst (λ (xs : List Object). AreFit (length xs) block_units.units.items) (sym same.objects) lies.told.fit;
       joined = lies.told.joined;
       begun = lies.begun;
       ascending = subst IsStrictlyIncreasing (sym starts) code.ascending;
       reached_ascending = subst IsStrictlyIncreasing (sym is_reached) code.indirect_ascending;
-      among = among v c reached laid.starts.items code is_reached starts;
+      among = among v c reached block_units.starts.items code is_reached starts;
     }
 
 -- they agree with the program
-pub agree : (v : PlainView) (board : Board) (g : Graph) (c : Code) (laid : Laid) (t : Tables) → IsCode v c → HasObjects g t.graph → IsLaid v board g c.blocks.items (length c.blocks.items) laid → t.units.items ≡ laid.units.items → t.starts.items ≡ laid.starts.items → t.reached.items ≡ c.indirect.items → ((a : ℕ) → is_fixed_memory v board a ≡ is_in_some t.fixed.items a) → Agrees (program_of v board g) t
-agree v board g c laid t code same lies units starts reached fixed =
-    let all = all_starts v board g c laid lies in
+pub agree : (v : PlainView) (board : Board) (g : Graph) (c : Code) (block_units : BlockUnits) (t : Tables) → IsCode v c → HasObjects g t.graph → IsBlockUnits v board g c.blocks.items (length c.blocks.items) block_units → t.units.items ≡ block_units.units.items → t.starts.items ≡ block_units.starts.items → t.reached.items ≡ c.indirect.items → ((a : ℕ) → is_fixed_memory v board a ≡ is_in_some t.fixed.items a) → Agrees (program_of v board g) t
+agree v board g c block_units t code same lies units starts reached fixed =
+    let all = all_starts v board g c block_units lies in
     record {
       objects = sym (objects_same g t.graph same);
       held = λ a. ap (λ (xs : List Object). list_any (holds a) xs) (sym same.objects);
       fixed = fixed;
       blocks = λ a. sym (code.leaders a) ∙ ap (λ (xs : List ℕ). has xs a) (sym (starts ∙ all));
       reached = λ a. sym (code.indirect a) ∙ ap (λ (xs : List ℕ). has xs a) (sym reached);
-      units = subst (λ (us : List Prepared). (k : ℕ) → k < length us → Tells (program_of v board g) (unit_in us k)) (sym units) lies.told.told;
+      units = subst (λ (us : List Prepared). (k : ℕ) → k < length us → Reports (program_of v board g) (unit_in us k)) (sym units) lies.told.told;
     }

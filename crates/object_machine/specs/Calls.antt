@@ -64,8 +64,8 @@ writes p s x = faulted s 8
 
 -- ---- read
 
-abbrev pub taken_count : SourceState → ℕ → ℕ
-taken_count s n = min n (length s.input)
+abbrev pub consumed_count : SourceState → ℕ → ℕ
+consumed_count s n = min n (length s.input)
 
 -- why byte `i` behind a1 can't be written
 abbrev pub unwritten : Program → SourceState → ℕ → Option ℕ
@@ -84,7 +84,7 @@ reads_into p s k None = answered p s (with_input p s k) k
 reads_into p s k (Some why) = faulted s why
 
 abbrev pub reads : Program → SourceState → Val → SourceState
-reads p s (Int n) = reads_into p s (taken_count s n) (first_below (unwritten p s) (taken_count s n))
+reads p s (Int n) = reads_into p s (consumed_count s n) (first_below (unwritten p s) (consumed_count s n))
 reads p s x = faulted s 8
 
 -- ---- by number: 93 exit, 64 write, 63 read; to any other the answer is -38, "not implemented"

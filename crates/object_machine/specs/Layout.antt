@@ -19,8 +19,8 @@ AreAscending ranges = AllPairs (λ r q. r.base + r.size ≤ q.base) ranges
 abbrev pub EndBelow : Graph → Type 0
 EndBelow g = (o : ℕ) → (object_of g o).home + (object_of g o).size < 4294967296
 
-abbrev pub LieApart : Graph → Type 0
-LieApart g =
+abbrev pub HasDisjointObjects : Graph → Type 0
+HasDisjointObjects g =
     (o q i j : ℕ) → i < (object_of g o).size → j < (object_of g q).size
     → (object_of g o).home + i ≡ (object_of g q).home + j → o ≡ q
 

@@ -24,7 +24,7 @@ use Rattle.object_machine.specs.Places.{InFixed, InObject, byte_place, write_fau
 use Rattle.object_machine.specs.Start.{where_memory}
 use Rattle.object_machine.specs.Flow.{jumps}
 use Rattle.object_machine.specs.Step.{one_word, stays_event, access_by}
-use Rattle.object_machine.specs.Tells.{Tells}
+use Rattle.object_machine.specs.Reports.{Reports}
 use Rattle.object_machine.specs.Layout.{is_in_some}
 use Rattle.object_machine.specs.Units.{unit_in, target_of}
 
@@ -38,7 +38,7 @@ pictured is_fixed os m =
       regs = λ k. slice_index_or m.regs k (Int 0);
       fixed = λ a. where_memory (is_fixed a) (cells_of m.memory a);
       cells = λ o i. where_memory (nat_lt i (os.size o)) (cells_of m.memory (os.home o + i));
-      input = drop m.taken m.input.items;
+      input = drop m.consumed m.input.items;
       output = m.output.items;
       outcome = m.outcome;
     }
@@ -55,7 +55,7 @@ pub record Agrees (p : Program) (t : Tables) : Type 0 where
   pub fixed : (a : ℕ) → p.is_fixed a ≡ is_in_some t.fixed.items a
   pub blocks : (a : ℕ) → p.is_block a ≡ has t.starts.items a
   pub reached : (a : ℕ) → p.is_reached a ≡ has t.reached.items a
-  pub units : (k : ℕ) → k < length t.units.items → Tells p (unit_in t.units.items k)
+  pub units : (k : ℕ) → k < length t.units.items → Reports p (unit_in t.units.items k)
 
 abbrev pub IsProgram : Program → Source → Type 0
 IsProgram p m = Agrees p m.tables

@@ -12,10 +12,10 @@ use Rattle.code_blocks.specs.declared.parts.Unit.{Unit as CodeUnit}
 use Rattle.code_blocks.specs.declared.parts.Block.{Block}
 use Rattle.object_machine.specs.declared.units.Pair.{Pair}
 use Rattle.object_machine.specs.declared.units.Prepared.{Prepared}
-use Rattle.object_machine.specs.declared.preparing.Laid.{Laid}
+use Rattle.object_machine.specs.declared.preparing.BlockUnits.{BlockUnits}
 use Rattle.object_machine.specs.Program.{target_at, program_of}
 use Rattle.object_machine.specs.Units.{unit_in, target_of, FitsSite, AreFit, AreJoined, AreStarts, IsUnitAt}
-use Rattle.object_machine.specs.Tells.{Tells, IsCallOf}
+use Rattle.object_machine.specs.Reports.{Reports, IsCallOf}
 
 -- the call of two words that a unit is
 abbrev pub CallsOf : PlainView → ℕ → Option Pair → Type 0
@@ -50,7 +50,7 @@ pub record ArePrepared (v : PlainView) (g : Graph) (units : List CodeUnit) (n : 
 pub record AreTold (v : PlainView) (board : Board) (g : Graph) (units : List Prepared) : Type 0 where
   pub fit : AreFit (length g.objects.items) units
   pub joined : AreJoined units
-  pub told : (k : ℕ) → k < length units → Tells (program_of v board g) (unit_in units k)
+  pub told : (k : ℕ) → k < length units → Reports (program_of v board g) (unit_in units k)
 
 -- the units of a block
 pub record IsPiece (v : PlainView) (board : Board) (g : Graph) (start : ℕ) (units : List Prepared) : Type 0 where
@@ -58,11 +58,11 @@ pub record IsPiece (v : PlainView) (board : Board) (g : Graph) (start : ℕ) (un
   pub first : IsUnitAt units 0 start
 
 -- those of the first n blocks
-pub record IsLaid (v : PlainView) (board : Board) (g : Graph) (blocks : List Block) (n : ℕ) (laid : Laid) : Type 0 where
-  pub told : AreTold v board g laid.units.items
-  pub starts : laid.starts.items ≡ map start_of (take n blocks)
-  pub places : length laid.places.items ≡ length laid.starts.items
-  pub begun : AreStarts laid.units.items laid.starts.items laid.places.items
+pub record IsBlockUnits (v : PlainView) (board : Board) (g : Graph) (blocks : List Block) (n : ℕ) (block_units : BlockUnits) : Type 0 where
+  pub told : AreTold v board g block_units.units.items
+  pub starts : block_units.starts.items ≡ map start_of (take n blocks)
+  pub places : length block_units.places.items ≡ length block_units.starts.items
+  pub begun : AreStarts block_units.units.items block_units.starts.items block_units.places.items
 
 -- a graph with the objects of another, and its grain
 pub record HasObjects (g h : Graph) : Type 0 where

@@ -8,7 +8,7 @@ use Rattle.board_config.specs.declared.board.Board.{Board}
 use Rattle.loaded_file.specs.Code.{image_word}
 use Rattle.loaded_file.specs.Records.{reloc_at, counts, symbol_of}
 use Rattle.loaded_file.specs.Ranges.{inside}
-use Rattle.sound_relocations.specs.Sound.{is_pair_low}
+use Rattle.rewritable_relocations.specs.Rewritable.{is_pair_low}
 use Rattle.object_graph.specs.Sites.{is_fixed_memory}
 use Rattle.object_graph.specs.declared.parts.Object.{Object}
 use Rattle.object_graph.specs.declared.parts.Site.{Site}

@@ -39,7 +39,7 @@ pub struct Source {
     pub(crate) regs: [Val; 32],
     pub(crate) input: Vec<u8>,
     // how many bytes of the input were read
-    pub(crate) taken: usize,
+    pub(crate) consumed: usize,
     pub(crate) output: Vec<u8>,
     pub(crate) outcome: Outcome,
     ghost inside: { place < length tables.units.items },
@@ -47,7 +47,7 @@ pub struct Source {
     ghost below: { pc + 4 < 4294967296 },
     ghost values: { All (IsOfGraph tables.graph) regs } by { values_prop tables.graph regs },
     ghost cells: { (a : ℕ) → IsCellOfGraph tables.graph (cells_of memory a) } by { cells_prop tables.graph (cells_of memory) },
-    ghost taken_of_input: { taken ≤ length input.items },
+    ghost consumed_of_input: { consumed ≤ length input.items },
 }
 
 impl Source {
@@ -94,7 +94,7 @@ impl Source {
             pc: view.entry,
             regs: [Val::Int(0); 32],
             input: Vec::from_slice(alloc, input)?,
-            taken: 0,
+            consumed: 0,
             output: Vec::new(alloc),
             outcome: Outcome::GoesOn,
         })

@@ -9,7 +9,7 @@ ghost use Rattle.object_graph.specs.Lookups.{IsSomeGraph};
 ghost use Rattle.code_blocks.specs.Blocks.{IsUnit};
 ghost use Rattle.board_config.specs.declared.board.Board.{Board};
 ghost use Rattle.code_blocks.specs.Blocks.{IsCode};
-ghost use Rattle.object_machine.specs.Preparing.{IsPairOf, IsPreparedOf, ArePrepared, IsLaid, HasObjects};
+ghost use Rattle.object_machine.specs.Preparing.{IsPairOf, IsPreparedOf, ArePrepared, IsBlockUnits, HasObjects};
 
 use crate::units::{Pair, Prepared};
 use code_blocks::{Code, Unit};
@@ -22,7 +22,7 @@ use std::alloc::{AllocError, Global};
 
 /// The units of blocks one behind the other, and where each block begins.
 #[derive(Drop)]
-pub(crate) struct Laid {
+pub(crate) struct BlockUnits {
     pub(crate) units: Vec<Prepared>,
     /// The address of each block.
     pub(crate) starts: Vec<u64>,
@@ -108,14 +108,14 @@ pub(crate) fn lay_blocks(
     loaded: &[bool],
     graph: &Graph,
     code: &Code,
-) -> Result<Laid, AllocError>
+) -> Result<BlockUnits, AllocError>
     requires read { IsRead view.now }
     requires marks { loaded.now ≡ all_loaded (plain_view view.now) }
     requires graph { IsSomeGraph graph.now }
     requires code { IsCode (plain_view view.now) code.now }
-    ensures { IfOk result (λ laid. (board : Board) → IsLaid (plain_view view.now) board graph.now code.now.blocks.items (length code.now.blocks.items) laid) }
+    ensures { IfOk result (λ block_units. (board : Board) → IsBlockUnits (plain_view view.now) board graph.now code.now.blocks.items (length code.now.blocks.items) block_units) }
 {
-    let mut laid = Laid {
+    let mut block_units = BlockUnits {
         units: Vec::new(alloc),
         starts: Vec::new(alloc),
         places: Vec::new(alloc),
@@ -123,20 +123,20 @@ pub(crate) fn lay_blocks(
     for i in 0..code.blocks.len() {
         let block = &code.blocks[i];
         let units = prepared_units(alloc, view, loaded, graph, &block.units)?;
-        lay(&mut laid, block.start, &units)?;
+        lay(&mut block_units, block.start, &units)?;
     }
-    Ok(laid)
+    Ok(block_units)
 }
 
 /// Puts the units of the block that begins at `start` behind the others.
-fn lay(laid: &mut Laid, start: u32, units: &[Prepared]) -> Result<(), AllocError>
-    ensures units { OnOk result (laid.new.units.items ≡ laid.old.units.items ++ units.now) }
-    ensures starts { OnOk result (laid.new.starts.items ≡ laid.old.starts.items ++ start ∷ []) }
-    ensures places { OnOk result (laid.new.places.items ≡ laid.old.places.items ++ length laid.old.units.items ∷ []) }
+fn lay(block_units: &mut BlockUnits, start: u32, units: &[Prepared]) -> Result<(), AllocError>
+    ensures units { OnOk result (block_units.new.units.items ≡ block_units.old.units.items ++ units.now) }
+    ensures starts { OnOk result (block_units.new.starts.items ≡ block_units.old.starts.items ++ start ∷ []) }
+    ensures places { OnOk result (block_units.new.places.items ≡ block_units.old.places.items ++ length block_units.old.units.items ∷ []) }
 {
-    laid.places.push(laid.units.len())?;
-    laid.starts.push(u64::from(start))?;
-    laid.units.extend_from_slice(units)?;
+    block_units.places.push(block_units.units.len())?;
+    block_units.starts.push(u64::from(start))?;
+    block_units.units.extend_from_slice(units)?;
     Ok(())
 }
 

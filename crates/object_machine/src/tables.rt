@@ -1,7 +1,7 @@
 ghost use Rattle.std.specs.Prelude.{◌≡◌, true, length};
 ghost use Rattle.std.specs.List.Sorted.{IsStrictlyIncreasing};
 ghost use Rattle.object_machine.specs.Units.{AreFit, AreJoined, AreStarts};
-ghost use Rattle.object_machine.specs.Layout.{AreAscending, EndBelow, LieApart, LieOff, AreAmong, is_grain};
+ghost use Rattle.object_machine.specs.Layout.{AreAscending, EndBelow, HasDisjointObjects, LieOff, AreAmong, is_grain};
 
 use crate::units::Prepared;
 use board_config::Range;
@@ -24,7 +24,7 @@ pub(crate) struct Tables {
     pub(crate) fixed: Vec<Range>,
     pub(crate) ghost grain: { is_grain graph.grain ≡ true },
     pub(crate) ghost below: { EndBelow graph },
-    pub(crate) ghost apart: { LieApart graph },
+    pub(crate) ghost disjoint: { HasDisjointObjects graph },
     pub(crate) ghost off: { LieOff fixed.items graph },
     pub(crate) ghost fit: { AreFit (length graph.objects.items) units.items },
     pub(crate) ghost joined: { AreJoined units.items },

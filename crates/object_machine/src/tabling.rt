@@ -36,14 +36,14 @@ pub(crate) fn tables_of(
 {
     let loaded = loaded_sections(alloc, view)?;
     let objects = objects_alone(alloc, graph)?;
-    let laid = lay_blocks(alloc, view, &loaded, graph, code)?;
+    let block_units = lay_blocks(alloc, view, &loaded, graph, code)?;
     let reached = widened(alloc, &code.indirect)?;
     let fixed = fixed_ranges(alloc, view, board, graph)?;
     Ok(Tables {
         graph: objects,
-        units: laid.units,
-        starts: laid.starts,
-        places: laid.places,
+        units: block_units.units,
+        starts: block_units.starts,
+        places: block_units.places,
         reached,
         fixed,
     })

@@ -6,7 +6,7 @@ use Rattle.word_bits.specs.Words.{plus, word_of}
 use Rattle.word_bits.specs.Memory.{Memory, put, word_at, put_byte, put_word, bytes_at, put_bytes}
 use Rattle.rv_decode.specs.Acts.{loaded, stored}
 use Rattle.paged_store.proofs.Puts.{put_bytes_before, put_bytes_behind, put_bytes-append, put_bytes-word}
-use Rattle.overlay_stubs.specs.Jobs.{unit_bytes, unit_load, unit_store, AreApart}
+use Rattle.overlay_stubs.specs.Jobs.{unit_bytes, unit_load, unit_store, AreDisjoint}
 
 -- the memory after `n` bytes
 abbrev pub after : Memory → ℕ → ℕ → ℕ → Memory
@@ -34,9 +34,9 @@ after_behind mem from to n a above =
     put_bytes_behind (bytes_at mem from n) mem to a (omega arith)
 
 -- what stands in a range apart from the target
-pub after_apart : (mem : Memory) (from to n total b m a : ℕ) → n ≤ total → AreApart to total b m → b ≤ a → a < b + m → after mem from to n a ≡ mem a
-after_apart mem from to n total b m a some (inl first) low high = after_behind mem from to n a (omega arith)
-after_apart mem from to n total b m a some (inr second) low high = after_before mem from to n a (omega arith)
+pub after_disjoint : (mem : Memory) (from to n total b m a : ℕ) → n ≤ total → AreDisjoint to total b m → b ≤ a → a < b + m → after mem from to n a ≡ mem a
+after_disjoint mem from to n total b m a some (inl first) low high = after_behind mem from to n a (omega arith)
+after_disjoint mem from to n total b m a some (inr second) low high = after_before mem from to n a (omega arith)
 
 -- bytes stay bytes
 put_small : (mem : Memory) (at byte : ℕ) → ((a : ℕ) → mem a < 256) → byte < 256 → (a : ℕ) → put mem at byte a < 256
@@ -63,12 +63,12 @@ byte_2 c0 c1 c2 c3 f0 f1 f2 f3 = omega arith
 byte_3 : (c0 c1 c2 c3 : ℕ) → c0 < 256 → c1 < 256 → c2 < 256 → c3 < 256 → c3 ≡ word_of c0 c1 c2 c3 / 16777216 % 256
 byte_3 c0 c1 c2 c3 f0 f1 f2 f3 = omega arith
 
-module _ (mem : Memory) (small : (a : ℕ) → mem a < 256) (from to total : ℕ) (source : from + total < 4294967296) (target : to + total < 4294967296) (apart : AreApart from total to total) where
+module _ (mem : Memory) (small : (a : ℕ) → mem a < 256) (from to total : ℕ) (source : from + total < 4294967296) (target : to + total < 4294967296) (disjoint : AreDisjoint from total to total) where
   -- the source keeps its bytes
   source_kept : (n i : ℕ) → n ≤ total → i < total → after mem from to n (from + i) ≡ mem (from + i)
-  source_kept n i some inside = by apart
+  source_kept n i some inside = by disjoint
     where
-      by : AreApart from total to total → after mem from to n (from + i) ≡ mem (from + i)
+      by : AreDisjoint from total to total → after mem from to n (from + i) ≡ mem (from + i)
       by (inl first) = after_before mem from to n (from + i) (omega arith)
       by (inr second) = after_behind mem from to n (from + i) (omega arith)
 

@@ -15,10 +15,10 @@ use Rattle.flat_machine.specs.State.{State}
 use Rattle.flat_machine.specs.Runs.{Steps}
 use Rattle.flat_machine.proofs.Runs.{steps_joined}
 use Rattle.overlay_stubs.specs.declared.plan.CopyJob.{CopyJob}
-use Rattle.overlay_stubs.specs.Jobs.{sets, unit_bytes, copies_words, turn, copying, turns, job_run, copied, AreApart, IsJob}
+use Rattle.overlay_stubs.specs.Jobs.{sets, unit_bytes, copies_words, turn, copying, turns, job_run, copied, AreDisjoint, IsJob}
 use Rattle.overlay_stubs.specs.Start.{jobs_run, all_copied}
 use Rattle.overlay_stubs.specs.Laws.{CanCopy}
-use Rattle.overlay_stubs.proofs.Copies.{after, after_apart, after_small}
+use Rattle.overlay_stubs.proofs.Copies.{after, after_disjoint, after_small}
 use Rattle.overlay_stubs.proofs.Lines.{with_hart, acted, line_runs, CodeAt, code_kept, code_front, code_behind, plain_line, plain_pc, sets_here, sets_others}
 use Rattle.overlay_stubs.proofs.Turns.{Copied, Leaves, turns_run}
 
@@ -58,7 +58,7 @@ pub record JobDone (a : ℕ) (job : CopyJob) (old new : Hart) : Type 0 where
   pub others : (k : ℕ) → (k ≡ 5 → ⊥) → (k ≡ 7 → ⊥) → (k ≡ 28 → ⊥) → (k ≡ 31 → ⊥) → new.regs k ≡ old.regs k
 
 module _ (s : State) (going : s.outcome ≡ GoesOn) where
-  module _ (job : CopyJob) (a : ℕ) (h : Hart) (is : IsJob job) (can : CanCopy s.map job) (small : (x : ℕ) → h.mem x < 256) (at : h.pc ≡ a) (code : CodeAt s.map h.mem a (copying job)) (spared : AreApart job.to job.bytes a 44) (below : a + 44 < 4294967296) where
+  module _ (job : CopyJob) (a : ℕ) (h : Hart) (is : IsJob job) (can : CanCopy s.map job) (small : (x : ℕ) → h.mem x < 256) (at : h.pc ≡ a) (code : CodeAt s.map h.mem a (copying job)) (spared : AreDisjoint job.to job.bytes a 44) (below : a + 44 < 4294967296) where
     parts : CodeAt s.map h.mem a (heads job ++ turn (copies_words job))
     parts = subst (λ xs. CodeAt s.map h.mem a xs) (in_parts job) code
 
@@ -100,7 +100,7 @@ module _ (s : State) (going : s.outcome ≡ GoesOn) where
     pc_behind : behind.pc ≡ a + 24
     pc_behind = plain_pc (heads job) s h a (tt, (tt, (tt, (tt, (tt, (tt, tt)))))) at (omega arith)
 
-    spared_turn : AreApart job.to job.bytes a 44 → AreApart job.to job.bytes (a + 24) 20
+    spared_turn : AreDisjoint job.to job.bytes a 44 → AreDisjoint job.to job.bytes (a + 24) 20
     spared_turn (inl before) = inl (omega arith)
     spared_turn (inr past) = inr (omega arith)
 
@@ -108,7 +108,7 @@ module _ (s : State) (going : s.outcome ≡ GoesOn) where
     job_runs =
         let fits = units_fit job (copies_words job) refl is.some in
         let turn_code = code_behind (heads job) (turn (copies_words job)) s.map h.mem a parts in
-        let start : Copied s going (copies_words job) job.from job.to job.bytes (a + 24) is.source is.target is.apart can.0 can.1 h.regs h.mem small turn_code (spared_turn spared) (omega arith) 0 behind =
+        let start : Copied s going (copies_words job) job.from job.to job.bytes (a + 24) is.source is.target is.disjoint can.0 can.1 h.regs h.mem small turn_code (spared_turn spared) (omega arith) 0 behind =
         record {
           x5 = x5_set ∙ omega arith;
           x7 = x7_set ∙ omega arith;
@@ -122,7 +122,7 @@ module _ (s : State) (going : s.outcome ≡ GoesOn) where
         let end : 0 + suc (n - 1) * unit_bytes (copies_words job) ≡ job.bytes =
         ap (λ k. 0 + k * unit_bytes (copies_words job)) one ∙ (omega arith ∙ sym fits.count) in
         let run =
-        turns_run s going (copies_words job) job.from job.to job.bytes (a + 24) is.source is.target is.apart can.0 can.1
+        turns_run s going (copies_words job) job.from job.to job.bytes (a + 24) is.source is.target is.disjoint can.0 can.1
         h.regs h.mem small turn_code (spared_turn spared) (omega arith) (n - 1) 0 behind fits.from fits.to fits.bytes start
         pc_behind end in
         let all = steps_joined 6 (5 * suc (n - 1)) (with_hart s h) (with_hart s behind) (with_hart s run.0) heads_run run.1.0 in
@@ -143,11 +143,11 @@ module _ (s : State) (going : s.outcome ≡ GoesOn) where
       pub others : (k : ℕ) → (k ≡ 5 → ⊥) → (k ≡ 7 → ⊥) → (k ≡ 28 → ⊥) → (k ≡ 31 → ⊥) → new.regs k ≡ old.regs k
       pub code : CodeAt s.map new.mem (a + 4 * length (flat_map copying jobs)) tail
 
-    narrower : (job : CopyJob) (a n : ℕ) → lo ≤ a → a + n ≤ lo + size → AreApart job.to job.bytes lo size → AreApart job.to job.bytes a n
+    narrower : (job : CopyJob) (a n : ℕ) → lo ≤ a → a + n ≤ lo + size → AreDisjoint job.to job.bytes lo size → AreDisjoint job.to job.bytes a n
     narrower job a n low high (inl before) = inl (omega arith)
     narrower job a n low high (inr past) = inr (omega arith)
 
-    pub jobs_done : (jobs : List CopyJob) (tail : List Instr) (a : ℕ) (h : Hart) → All IsJob jobs → All (CanCopy s.map) jobs → All (λ job. AreApart job.to job.bytes lo size) jobs → ((x : ℕ) → h.mem x < 256) → h.pc ≡ a → lo ≤ a → a + 4 * length (flat_map copying jobs ++ tail) ≤ lo + size → CodeAt s.map h.mem a (flat_map copying jobs ++ tail) → (h' : Hart) × (Steps (jobs_run jobs) (with_hart s h) (with_hart s h') × JobsDone jobs tail a h h')
+    pub jobs_done : (jobs : List CopyJob) (tail : List Instr) (a : ℕ) (h : Hart) → All IsJob jobs → All (CanCopy s.map) jobs → All (λ job. AreDisjoint job.to job.bytes lo size) jobs → ((x : ℕ) → h.mem x < 256) → h.pc ≡ a → lo ≤ a → a + 4 * length (flat_map copying jobs ++ tail) ≤ lo + size → CodeAt s.map h.mem a (flat_map copying jobs ++ tail) → (h' : Hart) × (Steps (jobs_run jobs) (with_hart s h) (with_hart s h') × JobsDone jobs tail a h h')
     jobs_done [] tail a h is can spared small at low high code =
         let here : a ≡ a + 4 * 0 = omega arith in
         (h, (refl, record { pc = at ∙ here; mem = refl; others = λ k no5 no7 no28 no31. refl; code = subst (λ x. CodeAt s.map h.mem x tail) here code }))
@@ -161,7 +161,7 @@ module _ (s : State) (going : s.outcome ≡ GoesOn) where
         let fits : a + 44 + 4 * length rest ≤ lo + size = omega arith in
         let is_first = All-head IsJob job jobs is in
         let can_first = All-head (CanCopy s.map) job jobs can in
-        let spared_first = All-head (λ (j : CopyJob). AreApart j.to j.bytes lo size) job jobs spared in
+        let spared_first = All-head (λ (j : CopyJob). AreDisjoint j.to j.bytes lo size) job jobs spared in
         let run =
         job_runs job a h is_first can_first small at (code_front (copying job) rest s.map h.mem a parts)
         (narrower job a 44 low (omega arith) spared_first) (omega arith) in
@@ -169,7 +169,7 @@ module _ (s : State) (going : s.outcome ≡ GoesOn) where
         let done = run.1.1 in
         let still : CodeAt s.map (copied h.mem job) (a + 4 * length (copying job)) rest =
         code_kept rest s.map h.mem (copied h.mem job) (a + 4 * length (copying job)) (omega arith)
-        (λ x above under. after_apart h.mem job.from job.to job.bytes job.bytes lo size x (omega arith) spared_first (omega arith) (omega arith))
+        (λ x above under. after_disjoint h.mem job.from job.to job.bytes job.bytes lo size x (omega arith) spared_first (omega arith) (omega arith))
         (code_behind (copying job) rest s.map h.mem a parts) in
         let step : a + 4 * length (copying job) ≡ a + 44 = omega arith in
         let code_1 : CodeAt s.map h1.mem (a + 44) rest =
@@ -178,7 +178,7 @@ module _ (s : State) (going : s.outcome ≡ GoesOn) where
         subst (λ (m : Memory). (x : ℕ) → m x < 256) (sym done.mem) (after_small h.mem job.from job.to job.bytes small) in
         let others_run =
         jobs_done jobs tail (a + 44) h1 (All-tail IsJob job jobs is) (All-tail (CanCopy s.map) job jobs can)
-        (All-tail (λ (j : CopyJob). AreApart j.to j.bytes lo size) job jobs spared) small_1 done.pc (omega arith) fits code_1 in
+        (All-tail (λ (j : CopyJob). AreDisjoint j.to j.bytes lo size) job jobs spared) small_1 done.pc (omega arith) fits code_1 in
         let all =
         steps_joined (job_run job) (jobs_run jobs) (with_hart s h) (with_hart s h1) (with_hart s others_run.0) run.1.0 others_run.1.0 in
         let last = others_run.1.1 in

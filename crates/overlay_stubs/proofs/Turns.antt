@@ -20,9 +20,9 @@ use Rattle.flat_machine.specs.State.{State}
 use Rattle.flat_machine.specs.Step.{may_access}
 use Rattle.flat_machine.specs.Runs.{Steps}
 use Rattle.flat_machine.proofs.Runs.{steps_joined}
-use Rattle.overlay_stubs.specs.Jobs.{unit_bytes, unit_load, unit_store, turn, AreApart}
+use Rattle.overlay_stubs.specs.Jobs.{unit_bytes, unit_load, unit_store, turn, AreDisjoint}
 use Rattle.overlay_stubs.specs.Laws.{AreMapped}
-use Rattle.overlay_stubs.proofs.Copies.{after, after_apart, unit_more}
+use Rattle.overlay_stubs.proofs.Copies.{after, after_disjoint, unit_more}
 use Rattle.overlay_stubs.proofs.Lines.{with_hart, Fetches, acted, Line, line_runs, CodeAt, code_kept}
 
 -- ---- accesses
@@ -95,7 +95,7 @@ at_once a below = further a 0 (omega arith) ∙ omega arith
 
 -- ---- a job whose turn stands at `top`
 
-module _ (s : State) (going : s.outcome ≡ GoesOn) (words : Bool) (from to total top : ℕ) (source : from + total < 4294967296) (target : to + total < 4294967296) (apart : AreApart from total to total) (reads : AreMapped s.map from total) (writes : AreMapped s.map to total) (old : ℕ → ℕ) (mem : Memory) (small : (a : ℕ) → mem a < 256) (code : CodeAt s.map mem top (turn words)) (spared : AreApart to total top 20) (below : top + 20 < 4294967296) where
+module _ (s : State) (going : s.outcome ≡ GoesOn) (words : Bool) (from to total top : ℕ) (source : from + total < 4294967296) (target : to + total < 4294967296) (disjoint : AreDisjoint from total to total) (reads : AreMapped s.map from total) (writes : AreMapped s.map to total) (old : ℕ → ℕ) (mem : Memory) (small : (a : ℕ) → mem a < 256) (code : CodeAt s.map mem top (turn words)) (spared : AreDisjoint to total top 20) (below : top + 20 < 4294967296) where
   -- `d` bytes were copied
   pub record Copied (d : ℕ) (h : Hart) : Type 0 where
     pub x5 : h.regs 5 ≡ from + d
@@ -107,7 +107,7 @@ module _ (s : State) (going : s.outcome ≡ GoesOn) (words : Bool) (from to tota
   still_there : (d : ℕ) → d ≤ total → CodeAt s.map (after mem from to d) top (turn words)
   still_there d some =
       code_kept (turn words) s.map mem (after mem from to d) top (omega arith)
-      (λ x low high. after_apart mem from to d total top 20 x some spared low (omega arith)) code
+      (λ x low high. after_disjoint mem from to d total top 20 x some spared low (omega arith)) code
 
   abbrev u : ℕ
   u = unit_bytes words
@@ -160,7 +160,7 @@ module _ (s : State) (going : s.outcome ≡ GoesOn) (words : Bool) (from to tota
         ap (λ (m : Memory). stored (unit_store words) m (offset (register h1.regs 7) (pos 0)) (register h1.regs 31)) here.memory
         ∙ (ap (λ a. stored (unit_store words) (after mem from to d) a (register h1.regs 31)) store_at
         ∙ (ap (λ x. stored (unit_store words) (after mem from to d) (to + d) x) value_is
-        ∙ unit_more mem small from to total source target apart words d fits))
+        ∙ unit_more mem small from to total source target disjoint words d fits))
 
     -- the registers
     x5_is : h4.regs 5 ≡ from + (d + unit_bytes words)

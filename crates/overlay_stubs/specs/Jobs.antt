@@ -58,12 +58,12 @@ abbrev pub copied : Memory → CopyJob → Memory
 copied mem job = put_bytes mem job.to (bytes_at mem job.from job.bytes)
 
 -- ranges of `n` and of `m` addresses don't meet
-abbrev pub AreApart : ℕ → ℕ → ℕ → ℕ → Type 0
-AreApart a n b m = (a + n ≤ b) ⊎ (b + m ≤ a)
+abbrev pub AreDisjoint : ℕ → ℕ → ℕ → ℕ → Type 0
+AreDisjoint a n b m = (a + n ≤ b) ⊎ (b + m ≤ a)
 
 -- a job has a byte, and its ranges end below 2 ^ 32 and don't meet
 pub record IsJob (job : CopyJob) : Type 0 where
   pub some : 1 ≤ job.bytes
   pub source : job.from + job.bytes < 4294967296
   pub target : job.to + job.bytes < 4294967296
-  pub apart : AreApart job.from job.bytes job.to job.bytes
+  pub disjoint : AreDisjoint job.from job.bytes job.to job.bytes

@@ -11,7 +11,7 @@ use Rattle.rv_decode.specs.declared.instructions.ImmKind.TheVariants.{Addi}
 use Rattle.rv_decode.specs.Table.{IsEvenWithin}
 use Rattle.rv_decode.specs.Acts.{Registers}
 use Rattle.overlay_stubs.specs.declared.plan.CopyJob.{CopyJob}
-use Rattle.overlay_stubs.specs.Jobs.{copying, copied, job_run, AreApart, IsJob}
+use Rattle.overlay_stubs.specs.Jobs.{copying, copied, job_run, AreDisjoint, IsJob}
 
 -- what a start stub is made of
 pub record StartPlan : Type 0 where
@@ -57,7 +57,7 @@ start_bytes p = 4 * length (start_stub p)
 
 -- no target meets the control words or the stub
 abbrev pub Spares : StartPlan → CopyJob → Type 0
-Spares p job = AreApart job.to job.bytes p.base (64 + start_bytes p)
+Spares p job = AreDisjoint job.to job.bytes p.base (64 + start_bytes p)
 
 -- the stub can stand there, and its jump reaches the entry
 pub record CanStart (p : StartPlan) : Type 0 where

@@ -9,7 +9,7 @@ use Rattle.word_bits.specs.Words.{plus}
 use Rattle.word_bits.specs.Memory.{put_bytes}
 use Rattle.paged_store.specs.Room.{HasRoom}
 use Rattle.paged_store.proofs.Puts.{put_bytes_before, put_bytes_behind, put_bytes_at}
-use Rattle.paged_store.specs.Pages.{page_of, byte_place, paged_bytes, has_page, with_piece, IsZeroPage, AreApart}
+use Rattle.paged_store.specs.Pages.{page_of, byte_place, paged_bytes, has_page, with_piece, IsZeroPage, AreDisjoint}
 
 -- ---- pages and the addresses in them
 
@@ -73,10 +73,10 @@ place_of_address directory at n a inside from to =
     let page : page_of directory a ≡ page_of directory at = ap (slice_index directory) index in
     omega arith
 
-address_of_place : (directory : List ℕ) (at n a : ℕ) → AreApart directory → page_of directory at ≢ 0 → at % 4096 + n ≤ 4096 → byte_place directory at ≤ byte_place directory a → byte_place directory a < byte_place directory at + n → (at ≤ a) × (a < at + n)
-address_of_place directory at n a apart some inside from to =
+address_of_place : (directory : List ℕ) (at n a : ℕ) → AreDisjoint directory → page_of directory at ≢ 0 → at % 4096 + n ≤ 4096 → byte_place directory at ≤ byte_place directory a → byte_place directory a < byte_place directory at + n → (at ≤ a) × (a < at + n)
+address_of_place directory at n a disjoint some inside from to =
     let page : page_of directory at ≡ page_of directory a = omega arith in
-    let index : at / 4096 ≡ a / 4096 = apart (at / 4096) (a / 4096) some page in
+    let index : at / 4096 ≡ a / 4096 = disjoint (at / 4096) (a / 4096) some page in
     (omega arith, omega arith)
 
 -- an address of the span, and any other
@@ -87,38 +87,38 @@ inside_at directory bytes piece at a row fits from to =
     piece_in bytes piece (byte_place directory at) (a - at) (byte_place directory a) fits (place_of_address directory at (length piece) a row from to) within
     ∙ sym (put_bytes_at piece (paged_bytes directory bytes) at (a - at) a here within)
 
-outside_at : (directory bytes piece : List ℕ) (at a : ℕ) → AreApart directory → page_of directory at ≢ 0 → at % 4096 + length piece ≤ 4096 → byte_place directory at + length piece ≤ length bytes → ((at ≤ a) → (a < at + length piece) → ⊥) → paged_bytes directory (with_piece bytes (byte_place directory at) piece) a ≡ paged_bytes directory bytes a
-outside_at directory bytes piece at a apart some row fits out =
+outside_at : (directory bytes piece : List ℕ) (at a : ℕ) → AreDisjoint directory → page_of directory at ≢ 0 → at % 4096 + length piece ≤ 4096 → byte_place directory at + length piece ≤ length bytes → ((at ≤ a) → (a < at + length piece) → ⊥) → paged_bytes directory (with_piece bytes (byte_place directory at) piece) a ≡ paged_bytes directory bytes a
+outside_at directory bytes piece at a disjoint some row fits out =
     elim (cases_lt (byte_place directory a) (byte_place directory at)) [
       | inl below ↦ piece_before bytes piece (byte_place directory at) (byte_place directory a) fits below
       | inr from ↦
           elim (cases_lt (byte_place directory a) (byte_place directory at + length piece)) [
             | inl to ↦
-                let both = address_of_place directory at (length piece) a apart some row from to in absurd (out both.0 both.1)
+                let both = address_of_place directory at (length piece) a disjoint some row from to in absurd (out both.0 both.1)
             | inr behind ↦ piece_behind bytes piece (byte_place directory at) (byte_place directory a) fits behind
           ]
     ]
 
-piece_at : (directory bytes piece : List ℕ) (at a : ℕ) → AreApart directory → page_of directory at ≢ 0 → at % 4096 + length piece ≤ 4096 → byte_place directory at + length piece ≤ length bytes → paged_bytes directory (with_piece bytes (byte_place directory at) piece) a ≡ put_bytes (paged_bytes directory bytes) at piece a
-piece_at directory bytes piece at a apart some row fits =
+piece_at : (directory bytes piece : List ℕ) (at a : ℕ) → AreDisjoint directory → page_of directory at ≢ 0 → at % 4096 + length piece ≤ 4096 → byte_place directory at + length piece ≤ length bytes → paged_bytes directory (with_piece bytes (byte_place directory at) piece) a ≡ put_bytes (paged_bytes directory bytes) at piece a
+piece_at directory bytes piece at a disjoint some row fits =
     elim (cases_lt a at) [
       | inl below ↦
-          outside_at directory bytes piece at a apart some row fits (λ from to. absurd (omega arith))
+          outside_at directory bytes piece at a disjoint some row fits (λ from to. absurd (omega arith))
           ∙ sym (put_bytes_before piece (paged_bytes directory bytes) at a below)
       | inr from ↦
           elim (cases_lt a (at + length piece)) [
             | inl to ↦ inside_at directory bytes piece at a row fits from to
             | inr behind ↦
-                outside_at directory bytes piece at a apart some row fits (λ f to. absurd (omega arith))
+                outside_at directory bytes piece at a disjoint some row fits (λ f to. absurd (omega arith))
                 ∙ sym (put_bytes_behind piece (paged_bytes directory bytes) at a behind)
           ]
     ]
 
 -- a piece inside a page changes the addresses from `at` on
-pub paged_bytes-piece : (directory bytes piece : List ℕ) (at place : ℕ) → AreApart directory → page_of directory at ≢ 0 → at % 4096 + length piece ≤ 4096 → place ≡ byte_place directory at → place + length piece ≤ length bytes → paged_bytes directory (with_piece bytes place piece) ≡ put_bytes (paged_bytes directory bytes) at piece
-paged_bytes-piece directory bytes piece at place apart some row here fits =
+pub paged_bytes-piece : (directory bytes piece : List ℕ) (at place : ℕ) → AreDisjoint directory → page_of directory at ≢ 0 → at % 4096 + length piece ≤ 4096 → place ≡ byte_place directory at → place + length piece ≤ length bytes → paged_bytes directory (with_piece bytes place piece) ≡ put_bytes (paged_bytes directory bytes) at piece
+paged_bytes-piece directory bytes piece at place disjoint some row here fits =
     let inside : byte_place directory at + length piece ≤ length bytes = omega arith in
-    rw here (λ t a. piece_at directory bytes piece at a apart some row inside t)
+    rw here (λ t a. piece_at directory bytes piece at a disjoint some row inside t)
 
 -- ---- a new page
 

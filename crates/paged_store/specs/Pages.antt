@@ -31,8 +31,8 @@ AreInside directory bytes =
     (k : ℕ) → k < length directory → slice_index directory k * 4096 + 4096 ≤ length bytes
 
 -- no page but page 0 serves twice
-abbrev pub AreApart : List ℕ → Type 0
-AreApart directory =
+abbrev pub AreDisjoint : List ℕ → Type 0
+AreDisjoint directory =
     (j k : ℕ) → slice_index directory j ≢ 0 → slice_index directory j ≡ slice_index directory k → j ≡ k
 
 -- a directory has all addresses below 2 ^ 32, or is not there yet

@@ -1,6 +1,6 @@
 ghost use Rattle.std.specs.Prelude.{◌≡◌, ℕ, ◌+◌, ◌<◌, vec_len, slice_index, IsOk, OnOk, OnErr, ◌≤◌, ◌%◌, ◌/◌, length};
 ghost use Rattle.word_bits.specs.Words.{half_of, word_of};
-ghost use Rattle.paged_store.specs.Pages.{IsZeroPage, AreInside, AreApart, IsWhole, IsInPages};
+ghost use Rattle.paged_store.specs.Pages.{IsZeroPage, AreInside, AreDisjoint, IsWhole, IsInPages};
 ghost use Rattle.paged_store.specs.Pages.{with_piece};
 
 use crate::byte_store::ByteStore;
@@ -23,7 +23,7 @@ pub struct PageStore {
     bytes: Vec<u8>,
     ghost zero_page: { IsZeroPage bytes.items },
     ghost inside: { AreInside directory.items bytes.items },
-    ghost apart: { AreApart directory.items },
+    ghost disjoint: { AreDisjoint directory.items },
     ghost whole: { IsWhole directory.items },
     ghost in_pages: { IsInPages bytes.items },
 }

@@ -4,7 +4,7 @@ use Rattle.std.proofs.lemmas.Int.{ints}
 use Rattle.std.proofs.lemmas.List.Sums.{sum_by-cons}
 use Rattle.rv_decode.specs.Table.{OneInstruction}
 use Rattle.placement_programme.specs.declared.variables.VarName.TheVariants.{StaticData}
-use Rattle.profile_runner.specs.Move.{Move}
+use Rattle.profile_runner.specs.Transition.{Transition}
 use Rattle.energy_model.specs.Energy.{Scene, steps_energy, start_job, stub_energy, side_energy, nothing_taken}
 use Rattle.energy_model.specs.Scenes.{scene_of}
 use Rattle.placement_candidates.specs.Stated.{taken_alone, gain_alone}
@@ -34,7 +34,7 @@ less_again x base gain gains is = omega (arith, ints, is)
 none_taken : (base stub : ℕ) → pos (stub + base) ≡ pos (base + stub) -ℤ pos 0
 none_taken base stub = omega (arith, ints)
 
-pub data_sum : (w : Scene) (ms : List Move) (os : List ℕ) → Follows w ms → AreDifferent os → pos (side_energy w (objects_taken os) ms) ≡ pos (steps_energy w nothing_taken ms + stub_energy w nothing_taken) -ℤ gains_of w ms os
+pub data_sum : (w : Scene) (ms : List Transition) (os : List ℕ) → Follows w ms → AreDifferent os → pos (side_energy w (objects_taken os) ms) ≡ pos (steps_energy w nothing_taken ms + stub_energy w nothing_taken) -ℤ gains_of w ms os
 data_sum w ms [] all different = none_taken (steps_energy w nothing_taken ms) (stub_energy w nothing_taken)
 data_sum w ms (o ∷ os) all different =
     let earlier = data_sum w ms os all different.1 in

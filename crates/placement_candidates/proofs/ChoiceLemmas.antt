@@ -16,7 +16,7 @@ use Rattle.placement_programme.specs.Plain.{PlainVar, PlainFullVar}
 use Rattle.placement_programme.specs.Bounds.{AscendWithin}
 use Rattle.placement_programme.specs.Programme.{gain_at, Fits, IsFeasible, gain, energy as programme_energy}
 use Rattle.placement_programme.specs.Rows.{Layout}
-use Rattle.profile_runner.specs.Move.{Move}
+use Rattle.profile_runner.specs.Transition.{Transition}
 use Rattle.energy_model.specs.Energy.{Scene, steps_energy, stub_energy, side_energy, energy, nothing_taken}
 use Rattle.energy_model.specs.Scenes.{scene_of, layout_of}
 use Rattle.placement_candidates.specs.Stated.{gain_alone, data_var, data_vars}
@@ -38,19 +38,19 @@ abbrev object_at : List PlainVar → ℕ → ℕ
 object_at vs k = object_in (kept_name vs k)
 
 -- a variable is of an object below a bound, and has its gain
-record IsOfObject (w : Scene) (ms : List Move) (bound : ℕ) (v : PlainVar) : Type 0 where
+record IsOfObject (w : Scene) (ms : List Transition) (bound : ℕ) (v : PlainVar) : Type 0 where
   pub name : v.name ≡ StaticData (object_in v.name)
   pub saves : pos v.gain ≡ gain_alone w ms (StaticData (object_in v.name))
   pub below : object_in v.name < bound
 
-record AreOfObjects (w : Scene) (ms : List Move) (bound : ℕ) (vs : List PlainVar) : Type 0 where
+record AreOfObjects (w : Scene) (ms : List Transition) (bound : ℕ) (vs : List PlainVar) : Type 0 where
   pub each : (k : ℕ) → k < length vs → IsOfObject w ms bound (slice_index_or vs k no_kept)
   pub ordered : (j k : ℕ) → j < k → k < length vs → object_at vs j < object_at vs k
 
-higher : (w : Scene) (ms : List Move) (n : ℕ) (v : PlainVar) → IsOfObject w ms n v → IsOfObject w ms (suc n) v
+higher : (w : Scene) (ms : List Transition) (n : ℕ) (v : PlainVar) → IsOfObject w ms n v → IsOfObject w ms (suc n) v
 higher w ms n v is = let below = is.below in record { name = is.name; saves = is.saves; below = omega (arith, below) }
 
-none_more : (w : Scene) (ms : List Move) (n : ℕ) (vs : List PlainVar) → AreOfObjects w ms n vs → AreOfObjects w ms (suc n) (vs ++ [])
+none_more : (w : Scene) (ms : List Transition) (n : ℕ) (vs : List PlainVar) → AreOfObjects w ms n vs → AreOfObjects w ms (suc n) (vs ++ [])
 none_more w ms n vs are =
     subst (AreOfObjects w ms (suc n)) (sym (append-nil vs))
     (record { each = λ k below. higher w ms n (slice_index_or vs k no_kept) (are.each k below); ordered = are.ordered })
@@ -66,7 +66,7 @@ cases_last k vs v below =
     let sum = length-append vs (v ∷ []) in
     elim (cases_lt k (length vs)) [ inl less ↦ inl less | inr more ↦ inr (omega (arith, below, more, sum)) ]
 
-one_more : (w : Scene) (ms : List Move) (n : ℕ) (vs : List PlainVar) (v : PlainVar) → AreOfObjects w ms n vs → IsOfObject w ms (suc n) v → object_in v.name ≡ n → AreOfObjects w ms (suc n) (vs ++ v ∷ [])
+one_more : (w : Scene) (ms : List Transition) (n : ℕ) (vs : List PlainVar) (v : PlainVar) → AreOfObjects w ms n vs → IsOfObject w ms (suc n) v → object_in v.name ≡ n → AreOfObjects w ms (suc n) (vs ++ v ∷ [])
 one_more w ms n vs v are is object =
     record {
       each = λ k below. elim (cases_last k vs v below) [
@@ -90,14 +90,14 @@ one_more w ms n vs v are is object =
 
 -- ---- the variables that are kept
 
-data_count : (w : Scene) (l : Layout) (ms : List Move) (n : ℕ) → length (data_vars w l ms n) ≡ n
+data_count : (w : Scene) (l : Layout) (ms : List Transition) (n : ℕ) → length (data_vars w l ms n) ≡ n
 data_count w l ms zero = refl
 data_count w l ms (suc n) =
     let earlier = data_count w l ms n in
     let sum = length-append (data_vars w l ms n) (data_var w l ms n ∷ []) in
     omega (arith, earlier, sum)
 
-data_at : (w : Scene) (l : Layout) (ms : List Move) (n k : ℕ) → k < n → var_in (data_vars w l ms n) k ≡ data_var w l ms k
+data_at : (w : Scene) (l : Layout) (ms : List Transition) (n k : ℕ) → k < n → var_in (data_vars w l ms n) k ≡ data_var w l ms k
 data_at w l ms zero k below = absurd (omega (arith, below))
 data_at w l ms (suc n) k below =
     let count = data_count w l ms n in
@@ -121,7 +121,7 @@ cases_bool : (b : Bool) → (b ≡ true) ⊎ (b ≡ false)
 cases_bool true = inl refl
 cases_bool false = inr refl
 
-kept_data : (w : Scene) (l : Layout) (ms : List Move) (count n : ℕ) → n ≤ count → AreOfObjects w ms n (kept_below (data_vars w l ms count) n)
+kept_data : (w : Scene) (l : Layout) (ms : List Transition) (count n : ℕ) → n ≤ count → AreOfObjects w ms n (kept_below (data_vars w l ms count) n)
 kept_data w l ms count zero le = record { each = λ k below. absurd (omega (arith, below)); ordered = λ j k less below. absurd (omega (arith, below)) }
 kept_data w l ms count (suc n) le =
     let vs = data_vars w l ms count in
@@ -147,14 +147,14 @@ gain_is [] k below = absurd (omega (arith, below))
 gain_is (v ∷ vs) zero below = refl
 gain_is (v ∷ vs) (suc k) below = gain_is vs k (omega (arith, below))
 
-names_are : (w : Scene) (ms : List Move) (bound : ℕ) (vs : List PlainVar) (low : ℕ) (take : List ℕ) → AreOfObjects w ms bound vs → AscendWithin low (length vs) take → map (kept_name vs) take ≡ map StaticData (map (object_at vs) take)
+names_are : (w : Scene) (ms : List Transition) (bound : ℕ) (vs : List PlainVar) (low : ℕ) (take : List ℕ) → AreOfObjects w ms bound vs → AscendWithin low (length vs) take → map (kept_name vs) take ≡ map StaticData (map (object_at vs) take)
 names_are w ms bound vs low [] are within = refl
 names_are w ms bound vs low (k ∷ ks) are within =
     let rest = names_are w ms bound vs (suc k) ks are within.2 in
     ap (λ (n : VarName). n ∷ map (kept_name vs) ks) (are.each k within.1).name
     ∙ ap (λ (ns : List VarName). StaticData (object_at vs k) ∷ ns) rest
 
-not_among : (w : Scene) (ms : List Move) (bound : ℕ) (vs : List PlainVar) (k low : ℕ) (take : List ℕ) → AreOfObjects w ms bound vs → k < low → AscendWithin low (length vs) take → has (map (object_at vs) take) (object_at vs k) ≡ false
+not_among : (w : Scene) (ms : List Transition) (bound : ℕ) (vs : List PlainVar) (k low : ℕ) (take : List ℕ) → AreOfObjects w ms bound vs → k < low → AscendWithin low (length vs) take → has (map (object_at vs) take) (object_at vs k) ≡ false
 not_among w ms bound vs k low [] are less within = refl
 not_among w ms bound vs k low (j ∷ js) are less within =
     let from = within.0 in
@@ -162,7 +162,7 @@ not_among w ms bound vs k low (j ∷ js) are less within =
     let other : (object_at vs k == object_at vs j) ≡ false = grind (arith, nat_tests, before) in
     rw other (not_among w ms bound vs k (suc j) js are (omega (arith, less, from)) within.2)
 
-different : (w : Scene) (ms : List Move) (bound : ℕ) (vs : List PlainVar) (low : ℕ) (take : List ℕ) → AreOfObjects w ms bound vs → AscendWithin low (length vs) take → AreDifferent (map (object_at vs) take)
+different : (w : Scene) (ms : List Transition) (bound : ℕ) (vs : List PlainVar) (low : ℕ) (take : List ℕ) → AreOfObjects w ms bound vs → AscendWithin low (length vs) take → AreDifferent (map (object_at vs) take)
 different w ms bound vs low [] are within = tt
 different w ms bound vs low (k ∷ ks) are within =
     (not_among w ms bound vs k (suc k) ks are (omega arith) within.2, different w ms bound vs (suc k) ks are within.2)
@@ -170,7 +170,7 @@ different w ms bound vs low (k ∷ ks) are within =
 pos_sum : (a b c : ℕ) (z x : ℤ) → a ≡ b + c → pos b ≡ z → pos c ≡ x → pos a ≡ z +ℤ x
 pos_sum a b c z x sum first second = omega (arith, ints, sum, first, second)
 
-gains_are : (w : Scene) (ms : List Move) (bound : ℕ) (vs : List PlainVar) (low : ℕ) (take : List ℕ) → AreOfObjects w ms bound vs → AscendWithin low (length vs) take → pos (sum_by (gain_at vs) take) ≡ gains_of w ms (map (object_at vs) take)
+gains_are : (w : Scene) (ms : List Transition) (bound : ℕ) (vs : List PlainVar) (low : ℕ) (take : List ℕ) → AreOfObjects w ms bound vs → AscendWithin low (length vs) take → pos (sum_by (gain_at vs) take) ≡ gains_of w ms (map (object_at vs) take)
 gains_are w ms bound vs low [] are within = refl
 gains_are w ms bound vs low (k ∷ ks) are within =
     let rest = gains_are w ms bound vs (suc k) ks are within.2 in
@@ -190,7 +190,7 @@ nothing_shape base = omega (arith, ints)
 some_choice : (n x y : ℕ) → (if not false && (suc n == 0) then x else y) ≡ y
 some_choice n x y = let test : (suc n == 0) ≡ false = grind (arith, nat_tests) in rw test refl
 
-off_energy : (w : Scene) (l : Layout) (ms : List Move) (take : List ℕ) → Follows w ms → Fits (stated w l ms).off take → programme_energy (stated w l ms) record { on = false; take = take } ≡ pos (energy w (taken_by (stated w l ms) record { on = false; take = take }) ms)
+off_energy : (w : Scene) (l : Layout) (ms : List Transition) (take : List ℕ) → Follows w ms → Fits (stated w l ms).off take → programme_energy (stated w l ms) record { on = false; take = take } ≡ pos (energy w (taken_by (stated w l ms) record { on = false; take = take }) ms)
 off_energy w l ms [] all fits = nothing_shape (steps_energy w nothing_taken ms)
 off_energy w l ms (k ∷ ks) all fits =
     let count = data_count w l ms (length w.graph.objects.items) in
@@ -207,7 +207,7 @@ off_energy w l ms (k ∷ ks) all fits =
     ∙ (ap (λ (ns : List VarName). pos (side_energy w record { on = false; names = ns } ms)) (sym names)
     ∙ ap pos (sym (some_choice (length (map (kept_name vs) ks)) (steps_energy w (taken_by (stated w l ms) record { on = false; take = take }) ms) (side_energy w (taken_by (stated w l ms) record { on = false; take = take }) ms)))))
 
-stated_energy : (w : Scene) (l : Layout) (ms : List Move) (on : Bool) (take : List ℕ) → Follows w ms → IsFeasible (stated w l ms) record { on = on; take = take } → programme_energy (stated w l ms) record { on = on; take = take } ≡ pos (energy w (taken_by (stated w l ms) record { on = on; take = take }) ms)
+stated_energy : (w : Scene) (l : Layout) (ms : List Transition) (on : Bool) (take : List ℕ) → Follows w ms → IsFeasible (stated w l ms) record { on = on; take = take } → programme_energy (stated w l ms) record { on = on; take = take } ≡ pos (energy w (taken_by (stated w l ms) record { on = on; take = take }) ms)
 stated_energy w l ms true take all feasible = absurd feasible
 stated_energy w l ms false take all feasible = off_energy w l ms take all feasible
 

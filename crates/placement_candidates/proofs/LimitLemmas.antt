@@ -10,13 +10,13 @@ use Rattle.elf_reader.specs.declared.view.ElfView.{ElfView}
 use Rattle.loaded_file.specs.Read.{IsRead}
 use Rattle.loaded_file.specs.Code.{is_code_word}
 use Rattle.loaded_file.specs.Records.{symbol_at}
-use Rattle.loaded_file.proofs.RangeLemmas.{HasExtent, extent_of}
+use Rattle.loaded_file.proofs.RangeLemmas.{HasByteRange, byte_range_of}
 use Rattle.movable_ranges.specs.Fixed.{is_movable}
 use Rattle.board_config.specs.declared.board.Board.{Board}
 use Rattle.object_graph.specs.declared.parts.Object.{Object}
 use Rattle.object_graph.specs.declared.parts.Graph.{Graph}
 use Rattle.object_graph.specs.Graphs.{is_object_of, has_object, IsGraph}
-use Rattle.object_graph.proofs.MovableLemmas.{Moves, movable_parts}
+use Rattle.object_graph.proofs.MovableLemmas.{Movable, movable_parts}
 use Rattle.cell_values.specs.Objects.{absent_object, object_of}
 use Rattle.code_leaders.specs.Words.{any_code_word}
 use Rattle.code_leaders.specs.Leaders.{is_leader}
@@ -53,7 +53,7 @@ blocks_few view c read code none =
     let few : block_count v ≤ 65536 = grind (arith, nat_tests, test) in
     omega (arith, count, starts, few)
 
--- ---- objects: each has a byte, and they stand apart
+-- ---- objects: each has a byte, and they are disjoint
 
 has_itself : (objects : List Object) (k : ℕ) (d : Object) → k < length objects → has_object objects (slice_index_or objects k d).home (slice_index_or objects k d).size ≡ true
 has_itself objects k d below =
@@ -61,24 +61,24 @@ has_itself objects k d below =
     let same : is_object_of o.home o.size o ≡ true = grind (arith, nat_tests) in
     list_any_at (is_object_of o.home o.size) objects k d below same
 
-pub moves_at : (v : PlainView) (board : Board) (g : Graph) (o : ℕ) → IsGraph v board g → o < length g.objects.items → Moves v (object_of g o).home (object_of g o).size
-moves_at v board g o is below =
+pub movable_at : (v : PlainView) (board : Board) (g : Graph) (o : ℕ) → IsGraph v board g → o < length g.objects.items → Movable v (object_of g o).home (object_of g o).size
+movable_at v board g o is below =
     let object = object_of g o in
     let movable : is_movable v board object.home object.size ≡ true = sym (is.objects.exact object.home object.size) ∙ has_itself g.objects.items o absent_object below in
     movable_parts v board object.home object.size movable
 
-extent_at : (v : PlainView) (board : Board) (g : Graph) (o : ℕ) → IsGraph v board g → o < length g.objects.items → HasExtent (object_of g o).home (object_of g o).size
-extent_at v board g o is below =
-    let moves = moves_at v board g o is below in
-    extent_of v (object_of g o).home (object_of g o).size (symbol_at v moves.symbol) moves.of
+byte_range_at : (v : PlainView) (board : Board) (g : Graph) (o : ℕ) → IsGraph v board g → o < length g.objects.items → HasByteRange (object_of g o).home (object_of g o).size
+byte_range_at v board g o is below =
+    let movable = movable_at v board g o is below in
+    byte_range_of v (object_of g o).home (object_of g o).size (symbol_at v movable.symbol) movable.of
 
 home_at_least : (v : PlainView) (board : Board) (g : Graph) (k : ℕ) → IsGraph v board g → k < length g.objects.items → k ≤ (object_of g k).home
 home_at_least v board g zero is below = omega arith
 home_at_least v board g (suc k) is below =
     let earlier = home_at_least v board g k is (omega (arith, below)) in
-    let filled = (extent_at v board g k is (omega (arith, below))).filled in
-    let apart = is.objects.apart k (suc k) absent_object (omega arith) below in
-    omega (arith, earlier, filled, apart)
+    let filled = (byte_range_at v board g k is (omega (arith, below))).filled in
+    let disjoint = is.objects.disjoint k (suc k) absent_object (omega arith) below in
+    omega (arith, earlier, filled, disjoint)
 
 pub objects_few : (v : PlainView) (board : Board) (g : Graph) → IsGraph v board g → length g.objects.items ≤ 4294967296
 objects_few v board g is =
@@ -87,6 +87,6 @@ objects_few v board g is =
       | inr none ↦ omega (arith, none)
       | inl some ↦
           let home = home_at_least v board g (n - 1) is (omega (arith, some)) in
-          let ends = (extent_at v board g (n - 1) is (omega (arith, some))).ends in
+          let ends = (byte_range_at v board g (n - 1) is (omega (arith, some))).ends in
           omega (arith, some, home, ends)
     ]

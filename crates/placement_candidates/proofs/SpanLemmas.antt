@@ -26,7 +26,7 @@ use Rattle.object_graph.specs.declared.parts.Graph.{Graph}
 use Rattle.object_graph.specs.Graphs.{IsGraph}
 use Rattle.cell_values.specs.Objects.{object_of, datum_of}
 use Rattle.placement_programme.specs.Rows.{rounded_up, data_span}
-use Rattle.placement_candidates.proofs.LimitLemmas.{moves_at}
+use Rattle.placement_candidates.proofs.LimitLemmas.{movable_at}
 
 -- ---- segments: each has at most the memory that all have together
 
@@ -88,6 +88,6 @@ span_small grain home n (inr (inr is)) small = rw is (omega (arith, small))
 pub spans_small : (view : ElfView) (board : Board) (g : Graph) → IsRead view → IsLawful board → IsGraph (plain_view view) board g → (k : ℕ) → k < length g.objects.items → data_span board.grain (datum_of g k) < 2 ^ 32
 spans_small view board g read lawful is k below =
     let v = plain_view view in
-    let moves = moves_at v board g k is below in
-    let small = object_small view (object_of g k).home (object_of g k).size (symbol_at v moves.symbol) read moves.of in
+    let movable = movable_at v board g k is below in
+    let small = object_small view (object_of g k).home (object_of g k).size (symbol_at v movable.symbol) read movable.of in
     span_small board.grain (object_of g k).home (object_of g k).size lawful.grain small

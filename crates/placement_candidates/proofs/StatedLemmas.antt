@@ -21,7 +21,7 @@ use Rattle.code_blocks.specs.declared.parts.Code.{Code}
 use Rattle.object_machine.proofs.GraphLemmas.{ends_below}
 use Rattle.region_former.specs.declared.table.RegionTable.{RegionTable}
 use Rattle.profile_runner.specs.declared.counts.Profile.{Profile}
-use Rattle.profile_runner.specs.Move.{Move, move_at}
+use Rattle.profile_runner.specs.Transition.{Transition, transition_at}
 use Rattle.profile_runner.specs.Counts.{plain_rows, row_of, IsTable, accesses_of, is_access_to, sum_below}
 use Rattle.placement_programme.specs.declared.variables.VarName.TheVariants.{StaticData}
 use Rattle.placement_programme.specs.Plain.{PlainFullVar, PlainFullSide, PlainFull}
@@ -29,19 +29,19 @@ use Rattle.placement_programme.specs.Bounds.{AreWeights, value_of, IsWithinFullB
 use Rattle.placement_programme.specs.Rows.{data_span}
 use Rattle.energy_model.specs.Energy.{Scene, steps_energy, into_price, object_rounds, start_job, fence_words, stub_energy, side_energy, nothing_taken}
 use Rattle.profile_runner.proofs.CountLemmas.{sum_same, count_few}
-use Rattle.energy_model.specs.Scenes.{scene_of, layout_of, IsOfOneFile}
+use Rattle.energy_model.specs.Scenes.{scene_of, layout_of, AreOfSameFile}
 use Rattle.placement_candidates.specs.Stated.{taken_alone, gain_alone, data_var, data_vars, data_side, IsDataFull}
 use Rattle.energy_model.specs.Priced.{touches_price}
 use Rattle.energy_model.specs.Base.{IsCounted}
 use Rattle.placement_candidates.specs.Counted.{total, reads_of, writes_of, home_price, moved_price, counted_gain, counted_var, counted_vars, CountsAccesses, stub_price, start_size, counted_rows, counted_side, CanCount}
 use Rattle.energy_model.proofs.SceneLemmas.{follows}
 use Rattle.energy_model.proofs.EnergyLemmas.{more_taken, touched, touches_are, by_regions}
-use Rattle.energy_model.proofs.BaseLemmas.{few_moves, base_stated, home_small, counts_energy}
+use Rattle.energy_model.proofs.BaseLemmas.{few_transitions, base_stated, home_small, counts_energy}
 use Rattle.placement_candidates.proofs.LimitLemmas.{blocks_few, objects_few}
 use Rattle.placement_candidates.proofs.SpanLemmas.{spans_small}
 
-abbrev Given : ElfView → Board → Graph → Code → RegionTable → Profile → List Move → Type 0
-Given view board g c t q ms = IsOfOneFile view board g c t q ms
+abbrev Given : ElfView → Board → Graph → Code → RegionTable → Profile → List Transition → Type 0
+Given view board g c t q ms = AreOfSameFile view board g c t q ms
 
 -- ---- accesses
 
@@ -51,25 +51,25 @@ row_total rows height width count k is below =
     ap (sum_below (λ r. slice_index_or (row_of rows k) r 0)) wide
     ∙ sum_same (λ r. slice_index_or (row_of rows k) r 0) (count k) width (λ r inside. is.counts k r below inside)
 
-reads_are : (view : ElfView) (board : Board) (g : Graph) (c : Code) (t : RegionTable) (q : Profile) (ms : List Move) (k : ℕ) → Given view board g c t q ms → k < length g.objects.items → reads_of q k ≡ touched ms false k (length ms)
+reads_are : (view : ElfView) (board : Board) (g : Graph) (c : Code) (t : RegionTable) (q : Profile) (ms : List Transition) (k : ℕ) → Given view board g c t q ms → k < length g.objects.items → reads_of q k ≡ touched ms false k (length ms)
 reads_are view board g c t q ms k given below =
     let starts = map start_of c.blocks.items in
     row_total (plain_rows q.reads.items) (length g.objects.items) (suc t.count) (accesses_of starts t.of_block.items ms false) k given.run.profile.reads below
     ∙ by_regions starts t.of_block.items ms t.count false k t.within
 
-writes_are : (view : ElfView) (board : Board) (g : Graph) (c : Code) (t : RegionTable) (q : Profile) (ms : List Move) (k : ℕ) → Given view board g c t q ms → k < length g.objects.items → writes_of q k ≡ touched ms true k (length ms)
+writes_are : (view : ElfView) (board : Board) (g : Graph) (c : Code) (t : RegionTable) (q : Profile) (ms : List Transition) (k : ℕ) → Given view board g c t q ms → k < length g.objects.items → writes_of q k ≡ touched ms true k (length ms)
 writes_are view board g c t q ms k given below =
     let starts = map start_of c.blocks.items in
     row_total (plain_rows q.writes.items) (length g.objects.items) (suc t.count) (accesses_of starts t.of_block.items ms true) k given.run.profile.writes below
     ∙ by_regions starts t.of_block.items ms t.count true k t.within
 
-touched_few : (ms : List Move) (write : Bool) (k n : ℕ) → touched ms write k n ≤ n
-touched_few ms write k n = count_few (λ i. is_access_to write k (move_at ms i).access) n
+touched_few : (ms : List Transition) (write : Bool) (k n : ℕ) → touched ms write k n ≤ n
+touched_few ms write k n = count_few (λ i. is_access_to write k (transition_at ms i).access) n
 
-counts_accesses : (view : ElfView) (board : Board) (g : Graph) (c : Code) (t : RegionTable) (q : Profile) (ms : List Move) → Given view board g c t q ms → CountsAccesses g q
+counts_accesses : (view : ElfView) (board : Board) (g : Graph) (c : Code) (t : RegionTable) (q : Profile) (ms : List Transition) → Given view board g c t q ms → CountsAccesses g q
 counts_accesses view board g c t q ms given =
     let few = objects_few (plain_view view) board g given.graph in
-    let moves = few_moves view board g c t q ms given in
+    let transitions = few_transitions view board g c t q ms given in
     let reads = given.run.profile.reads.height_is in
     let writes = given.run.profile.writes.height_is in
     let read_rows = length-map q.reads.items (λ (row : Vec ℕ Global). row.items) in
@@ -81,11 +81,11 @@ counts_accesses view board g c t q ms given =
       reads = λ k below.
           let are = reads_are view board g c t q ms k given below in
           let at_most = touched_few ms false k (length ms) in
-          omega (arith, are, at_most, moves);
+          omega (arith, are, at_most, transitions);
       writes = λ k below.
           let are = writes_are view board g c t q ms k given below in
           let at_most = touched_few ms true k (length ms) in
-          omega (arith, are, at_most, moves);
+          omega (arith, are, at_most, transitions);
     }
 
 -- ---- gains
@@ -109,7 +109,7 @@ stub_alone w k =
 gain_shape : (a b c d : ℕ) → a ≡ c → b ≡ d → pos a -ℤ pos b ≡ pos c -ℤ pos d
 gain_shape a b c d first second = ap (λ n. pos n -ℤ pos b) first ∙ ap (λ n. pos c -ℤ pos n) second
 
-gain_counted : OneInstruction → (view : ElfView) (board : Board) (g : Graph) (c : Code) (t : RegionTable) (q : Profile) (ms : List Move) (k : ℕ) → Given view board g c t q ms → k < length g.objects.items → counted_gain board.prices q g k ≡ gain_alone (scene_of g c t board) ms (StaticData k)
+gain_counted : OneInstruction → (view : ElfView) (board : Board) (g : Graph) (c : Code) (t : RegionTable) (q : Profile) (ms : List Transition) (k : ℕ) → Given view board g c t q ms → k < length g.objects.items → counted_gain board.prices q g k ≡ gain_alone (scene_of g c t board) ms (StaticData k)
 gain_counted one view board g c t q ms k given below =
     let w = scene_of g c t board in
     let prices = board.prices in
@@ -134,7 +134,7 @@ gain_counted one view board g c t q ms k given below =
     (side_energy w nothing_taken ms) (side_energy w (taken_alone (StaticData k)) ms)
     (ap (λ n. n + steps_energy w nothing_taken ms) (stub_empty w)) (ap (λ n. n + steps_energy w (taken_alone (StaticData k)) ms) (stub_alone w k))))
 
-vars_stated : OneInstruction → (view : ElfView) (board : Board) (g : Graph) (c : Code) (t : RegionTable) (q : Profile) (ms : List Move) (n : ℕ) → Given view board g c t q ms → n ≤ length g.objects.items → counted_vars board.prices q g board.grain n ≡ data_vars (scene_of g c t board) (layout_of g c t board) ms n
+vars_stated : OneInstruction → (view : ElfView) (board : Board) (g : Graph) (c : Code) (t : RegionTable) (q : Profile) (ms : List Transition) (n : ℕ) → Given view board g c t q ms → n ≤ length g.objects.items → counted_vars board.prices q g board.grain n ≡ data_vars (scene_of g c t board) (layout_of g c t board) ms n
 vars_stated one view board g c t q ms zero given le = refl
 vars_stated one view board g c t q ms (suc n) given le =
     let w = scene_of g c t board in
@@ -148,7 +148,7 @@ vars_stated one view board g c t q ms (suc n) given le =
 side_path : (a b : ℕ) (rows : List ℕ) (vs us : List PlainFullVar) → a ≡ b → vs ≡ us → ◌≡◌ {A = PlainFullSide} (record { fixed = a; rows = rows; vars = vs }) (record { fixed = b; rows = rows; vars = us })
 side_path a b rows vs us first second = λ i. record { fixed = first i; rows = rows; vars = second i }
 
-pub side_stated : OneInstruction → (view : ElfView) (board : Board) (g : Graph) (c : Code) (t : RegionTable) (q : Profile) (ms : List Move) → Given view board g c t q ms → counted_side board q g (length c.blocks.items) ≡ data_side (scene_of g c t board) (layout_of g c t board) ms
+pub side_stated : OneInstruction → (view : ElfView) (board : Board) (g : Graph) (c : Code) (t : RegionTable) (q : Profile) (ms : List Transition) → Given view board g c t q ms → counted_side board q g (length c.blocks.items) ≡ data_side (scene_of g c t board) (layout_of g c t board) ms
 side_stated one view board g c t q ms given =
     let stub = stub_empty (scene_of g c t board) in
     side_path (stub_price board) (stub_energy (scene_of g c t board) nothing_taken) (counted_rows board (length c.blocks.items)) (counted_vars board.prices q g board.grain (length g.objects.items)) (data_vars (scene_of g c t board) (layout_of g c t board) ms (length g.objects.items)) stub
@@ -189,7 +189,7 @@ job_small prices n lawful few =
     let writes = mul-le n prices.spm_write 4294967296 10000 few lawful.spm_write in
     omega (arith, fetches, reads, writes)
 
-gain_small : (view : ElfView) (board : Board) (g : Graph) (c : Code) (t : RegionTable) (q : Profile) (ms : List Move) (k : ℕ) → Given view board g c t q ms → k < length g.objects.items → unsigned_abs (counted_gain board.prices q g k) ≤ 500000000000000
+gain_small : (view : ElfView) (board : Board) (g : Graph) (c : Code) (t : RegionTable) (q : Profile) (ms : List Transition) (k : ℕ) → Given view board g c t q ms → k < length g.objects.items → unsigned_abs (counted_gain board.prices q g k) ≤ 500000000000000
 gain_small view board g c t q ms k given below =
     let counts = counts_accesses view board g c t q ms given in
     let reads = counts.reads k below in
@@ -203,7 +203,7 @@ gain_small view board g c t q ms k given below =
     let moved = accesses_small (reads_of q k) (writes_of q k) board.prices.spm_read board.prices.spm_write reads writes prices.spm_read prices.spm_write in
     abs_difference (home_price board.prices (reads_of q k) (writes_of q k)) (moved_price board.prices (reads_of q k) (writes_of q k) o) 500000000000000 (omega (arith, home)) (omega (arith, moved, job))
 
-gains_small : (view : ElfView) (board : Board) (g : Graph) (c : Code) (t : RegionTable) (q : Profile) (ms : List Move) (n : ℕ) → Given view board g c t q ms → n ≤ length g.objects.items → sum_by (λ v. unsigned_abs v.gain) (counted_vars board.prices q g board.grain n) ≤ n * 500000000000000
+gains_small : (view : ElfView) (board : Board) (g : Graph) (c : Code) (t : RegionTable) (q : Profile) (ms : List Transition) (n : ℕ) → Given view board g c t q ms → n ≤ length g.objects.items → sum_by (λ v. unsigned_abs v.gain) (counted_vars board.prices q g board.grain n) ≤ n * 500000000000000
 gains_small view board g c t q ms zero given le = omega arith
 gains_small view board g c t q ms (suc n) given le =
     let earlier = gains_small view board g c t q ms n given (omega (arith, le)) in
@@ -239,7 +239,7 @@ rows_small board blocks lawful =
     (first_all (λ n. n < 2 ^ 32) (board.patch.size - start_size board) (replicate blocks 1) (omega (arith, patch))
     (All-replicate (λ n. n < 2 ^ 32) blocks 1 (omega arith)))
 
-side_within : (view : ElfView) (board : Board) (g : Graph) (c : Code) (t : RegionTable) (q : Profile) (ms : List Move) → Given view board g c t q ms → IsWithinFullBounds (counted_side board q g (length c.blocks.items))
+side_within : (view : ElfView) (board : Board) (g : Graph) (c : Code) (t : RegionTable) (q : Profile) (ms : List Transition) → Given view board g c t q ms → IsWithinFullBounds (counted_side board q g (length c.blocks.items))
 side_within view board g c t q ms given =
     let stub = stub_small board given.lawful in
     let gains = gains_small view board g c t q ms (length g.objects.items) given (omega arith) in
@@ -259,10 +259,10 @@ grain_some n (inl is) = omega (arith, is)
 grain_some n (inr (inl is)) = omega (arith, is)
 grain_some n (inr (inr is)) = omega (arith, is)
 
-pub can_count : OneInstruction → (view : ElfView) (board : Board) (g : Graph) (c : Code) (t : RegionTable) (q : Profile) (ms : List Move) → IsOfOneFile view board g c t q ms → CanCount g c.blocks.items board q
+pub can_count : OneInstruction → (view : ElfView) (board : Board) (g : Graph) (c : Code) (t : RegionTable) (q : Profile) (ms : List Transition) → AreOfSameFile view board g c t q ms → CanCount g c.blocks.items board q
 can_count one view board g c t q ms given =
     let small = home_small one view board g c t q ms given in
-    let few = few_moves view board g c t q ms given in
+    let few = few_transitions view board g c t q ms given in
     record {
       energy = counts_energy one view board g c t q ms given;
       accesses = counts_accesses view board g c t q ms given;
@@ -278,11 +278,11 @@ full_path : (a b : ℕ) (s u : PlainFullSide) (o : Option PlainFullSide) → a �
 full_path a b s u o first second third = λ i. record { base = first i; off = second i; on = third i }
 
 -- a programme of what the tables count is that which the run states
-pub full_stated : OneInstruction → (view : ElfView) (board : Board) (g : Graph) (c : Code) (t : RegionTable) (q : Profile) (ms : List Move) (f : PlainFull) → IsOfOneFile view board g c t q ms → IsCounted board.prices c.blocks.items q f.base → f.off ≡ counted_side board q g (length c.blocks.items) → f.on ≡ None → IsDataFull (scene_of g c t board) (layout_of g c t board) ms f
+pub full_stated : OneInstruction → (view : ElfView) (board : Board) (g : Graph) (c : Code) (t : RegionTable) (q : Profile) (ms : List Transition) (f : PlainFull) → AreOfSameFile view board g c t q ms → IsCounted board.prices c.blocks.items q f.base → f.off ≡ counted_side board q g (length c.blocks.items) → f.on ≡ None → IsDataFull (scene_of g c t board) (layout_of g c t board) ms f
 full_stated one view board g c t q ms f given counted off on =
     let base = base_stated one view board g c t q ms f.base given counted in
     let small = home_small one view board g c t q ms given in
-    let few = few_moves view board g c t q ms given in
+    let few = few_transitions view board g c t q ms given in
     let stub = stub_small board given.lawful in
     let gains = gains_small view board g c t q ms (length g.objects.items) given (omega arith) in
     let objects = objects_few (plain_view view) board g given.graph in

@@ -9,10 +9,10 @@ use Rattle.placement_programme.specs.declared.variables.VarName.TheVariants.{Sta
 use Rattle.placement_programme.specs.declared.variables.VarName.{VarName}
 use Rattle.placement_programme.specs.Plain.{PlainVar, PlainProgramme, PlainChoice}
 use Rattle.placement_programme.specs.Programme.{IsFeasible, gain, energy as programme_energy}
-use Rattle.profile_runner.specs.Move.{Move}
+use Rattle.profile_runner.specs.Transition.{Transition}
 use Rattle.profile_runner.specs.declared.counts.Profile.{Profile}
 use Rattle.energy_model.specs.Energy.{Scene, Taken, steps_energy, stub_energy, side_energy, energy, nothing_taken}
-use Rattle.energy_model.specs.Scenes.{scene_of, layout_of, IsOfOneFile}
+use Rattle.energy_model.specs.Scenes.{scene_of, layout_of, AreOfSameFile}
 use Rattle.placement_candidates.specs.Stated.{gain_alone}
 use Rattle.energy_model.specs.Priced.{AreDifferent}
 use Rattle.placement_candidates.specs.Selected.{stated}
@@ -22,18 +22,18 @@ abbrev pub objects_taken : List ℕ → Taken
 objects_taken os = record { on = false; names = map StaticData os }
 
 -- what each saves alone, summed
-abbrev pub gains_of : Scene → List Move → List ℕ → ℤ
-gains_of w moves [] = pos 0
-gains_of w moves (o ∷ os) = gain_alone w moves (StaticData o) +ℤ gains_of w moves os
+abbrev pub gains_of : Scene → List Transition → List ℕ → ℤ
+gains_of w transitions [] = pos 0
+gains_of w transitions (o ∷ os) = gain_alone w transitions (StaticData o) +ℤ gains_of w transitions os
 
 -- for different objects the energy is the base and the fixed cost, less these gains
 abbrev pub DataEnergyAddsUp : Type 0
 DataEnergyAddsUp =
-    (view : ElfView) (board : Board) (g : Graph) (c : Code) (t : RegionTable) (q : Profile) (moves : List Move) (os : List ℕ)
-    → IsOfOneFile view board g c t q moves → AreDifferent os
-    → pos (side_energy (scene_of g c t board) (objects_taken os) moves)
-    ≡ pos (steps_energy (scene_of g c t board) nothing_taken moves + stub_energy (scene_of g c t board) nothing_taken)
-    -ℤ gains_of (scene_of g c t board) moves os
+    (view : ElfView) (board : Board) (g : Graph) (c : Code) (t : RegionTable) (q : Profile) (transitions : List Transition) (os : List ℕ)
+    → AreOfSameFile view board g c t q transitions → AreDifferent os
+    → pos (side_energy (scene_of g c t board) (objects_taken os) transitions)
+    ≡ pos (steps_energy (scene_of g c t board) nothing_taken transitions + stub_energy (scene_of g c t board) nothing_taken)
+    -ℤ gains_of (scene_of g c t board) transitions os
 
 -- ---- choices of the programme that a run states
 
@@ -48,19 +48,19 @@ abbrev pub taken_by : PlainProgramme → PlainChoice → Taken
 taken_by p c = record { on = c.on; names = map (kept_name p.off.vars) c.take }
 
 -- a statement of each feasible choice of each programme that a run states
-abbrev pub OfFeasibleChoices : (Scene → List Move → PlainProgramme → PlainChoice → Type 0) → Type 0
+abbrev pub OfFeasibleChoices : (Scene → List Transition → PlainProgramme → PlainChoice → Type 0) → Type 0
 OfFeasibleChoices Says =
-    (view : ElfView) (board : Board) (g : Graph) (c : Code) (t : RegionTable) (q : Profile) (moves : List Move) (choice : PlainChoice)
-    → IsOfOneFile view board g c t q moves
-    → IsFeasible (stated (scene_of g c t board) (layout_of g c t board) moves) choice
-    → Says (scene_of g c t board) moves (stated (scene_of g c t board) (layout_of g c t board) moves) choice
+    (view : ElfView) (board : Board) (g : Graph) (c : Code) (t : RegionTable) (q : Profile) (transitions : List Transition) (choice : PlainChoice)
+    → AreOfSameFile view board g c t q transitions
+    → IsFeasible (stated (scene_of g c t board) (layout_of g c t board) transitions) choice
+    → Says (scene_of g c t board) transitions (stated (scene_of g c t board) (layout_of g c t board) transitions) choice
 
 -- the energy of a feasible choice is that of the run with what it takes
 abbrev pub EnergyIsOfTheRun : Type 0
 EnergyIsOfTheRun =
-    OfFeasibleChoices (λ w moves programme choice. programme_energy programme choice ≡ pos (energy w (taken_by programme choice) moves))
+    OfFeasibleChoices (λ w transitions programme choice. programme_energy programme choice ≡ pos (energy w (taken_by programme choice) transitions))
 
 -- so a feasible choice saves no more than the base
 abbrev pub GainsAreWithinTheBase : Type 0
 GainsAreWithinTheBase =
-    OfFeasibleChoices (λ w moves programme choice. gain programme choice ≤ℤ pos (steps_energy w nothing_taken moves))
+    OfFeasibleChoices (λ w transitions programme choice. gain programme choice ≤ℤ pos (steps_energy w nothing_taken transitions))

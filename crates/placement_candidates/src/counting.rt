@@ -3,9 +3,9 @@ ghost use Rattle.elf_reader.specs.declared.view.ElfView.{ElfView};
 ghost use Rattle.placement_programme.specs.Plain.{plain_full_var};
 ghost use Rattle.placement_programme.specs.Bounds.{IsWithinFullBounds};
 ghost use Rattle.placement_programme.specs.Views.{plain_full_side, plain_full};
-ghost use Rattle.profile_runner.specs.Move.{Move};
+ghost use Rattle.profile_runner.specs.Transition.{Transition};
 ghost use Rattle.energy_model.specs.Energy.{fence_words};
-ghost use Rattle.energy_model.specs.Scenes.{scene_of, layout_of, IsOfOneFile};
+ghost use Rattle.energy_model.specs.Scenes.{scene_of, layout_of, AreOfSameFile};
 ghost use Rattle.placement_candidates.specs.Stated.{IsDataFull};
 ghost use Rattle.placement_candidates.specs.Counted.{start_size, stub_price, counted_rows, counted_side, CanCount};
 ghost use Rattle.energy_model.specs.Base.{CountsEnergy, IsCounted};
@@ -117,8 +117,8 @@ pub fn full(
     regions: &RegionTable,
     board: &Board,
 ) -> Result<Full, AllocError>
-    requires { (view : ElfView) × ((moves : List Move) × IsOfOneFile view board.now graph.now code.now regions.now profile.now moves) }
-    ensures { IfOk result (λ f. (view : ElfView) (moves : List Move) → IsOfOneFile view board.now graph.now code.now regions.now profile.now moves → IsDataFull (scene_of graph.now code.now regions.now board.now) (layout_of graph.now code.now regions.now board.now) moves (plain_full f)) }
+    requires { (view : ElfView) × ((transitions : List Transition) × AreOfSameFile view board.now graph.now code.now regions.now profile.now transitions) }
+    ensures { IfOk result (λ f. (view : ElfView) (transitions : List Transition) → AreOfSameFile view board.now graph.now code.now regions.now profile.now transitions → IsDataFull (scene_of graph.now code.now regions.now board.now) (layout_of graph.now code.now regions.now board.now) transitions (plain_full f)) }
 {
     one_instruction();
     let _ = regions;

@@ -1,8 +1,8 @@
 ghost use Rattle.std.specs.Prelude.{◌≡◌, List, IfOk};
 ghost use Rattle.elf_reader.specs.declared.view.ElfView.{ElfView};
 ghost use Rattle.placement_programme.specs.Views.{plain_programme};
-ghost use Rattle.profile_runner.specs.Move.{Move};
-ghost use Rattle.energy_model.specs.Scenes.{scene_of, layout_of, IsOfOneFile};
+ghost use Rattle.profile_runner.specs.Transition.{Transition};
+ghost use Rattle.energy_model.specs.Scenes.{scene_of, layout_of, AreOfSameFile};
 ghost use Rattle.placement_candidates.specs.Selected.{stated};
 
 use crate::counting::full;
@@ -26,8 +26,8 @@ pub fn programme(
     regions: &RegionTable,
     board: &Board,
 ) -> Result<Programme, AllocError>
-    requires { (view : ElfView) × ((moves : List Move) × IsOfOneFile view board.now graph.now code.now regions.now profile.now moves) }
-    ensures { IfOk result (λ p. (view : ElfView) (moves : List Move) → IsOfOneFile view board.now graph.now code.now regions.now profile.now moves → plain_programme p ≡ stated (scene_of graph.now code.now regions.now board.now) (layout_of graph.now code.now regions.now board.now) moves) }
+    requires { (view : ElfView) × ((transitions : List Transition) × AreOfSameFile view board.now graph.now code.now regions.now profile.now transitions) }
+    ensures { IfOk result (λ p. (view : ElfView) (transitions : List Transition) → AreOfSameFile view board.now graph.now code.now regions.now profile.now transitions → plain_programme p ≡ stated (scene_of graph.now code.now regions.now board.now) (layout_of graph.now code.now regions.now board.now) transitions) }
 {
     let full = full(alloc, profile, graph, code, regions, board)?;
     match select(alloc, &full) {

@@ -21,7 +21,7 @@ use Rattle.points_to.specs.Points.{IsBlockOf, units_in, units_at}
 use Rattle.points_to.specs.Flows.{AreRows}
 use Rattle.points_to.specs.Nodes.{Adds, Upto, OneEdge, RegisterEdge, RowEdge, UnitEdges, EntryEdge, StepEdge, NextEdges, LeaveEdges, BlockEdges, ArrivalEdge, WordEdge, AllEdges, entry, end_of, hub, memory}
 use Rattle.points_to.specs.declared.flows.Places.{Places}
-use Rattle.reach_graph.specs.declared.arrows.Arrow.{Arrow}
+use Rattle.reach_graph.specs.declared.graph_edges.Edge.{Edge}
 use Rattle.points_to.proofs.EdgeLemmas.{adds_none, adds_both, adds_same, upto_same}
 use Rattle.points_to.proofs.SourceLemmas.{place_flow}
 
@@ -129,10 +129,10 @@ block_whole c g n b f t (inr edge) = BlockEdges.storing edge
 abbrev Or : (ℕ → ℕ → Type 0) → (ℕ → ℕ → Type 0) → ℕ → ℕ → Type 0
 Or S T f t = S f t ⊎ T f t
 
-joined : (S T : ℕ → ℕ → Type 0) (a b c : List (List Arrow)) → Adds S a b → Adds T b c → Adds (Or S T) a c
+joined : (S T : ℕ → ℕ → Type 0) (a b c : List (List Edge)) → Adds S a b → Adds T b c → Adds (Or S T) a c
 joined S T a b c one other = adds_both S T (Or S T) a b c one other (λ f t. (λ edge. edge, λ edge. edge))
 
-pub block_adds : (c : Code) (g : Graph) (n b : ℕ) (rows : List Places) (r0 r1 r2 r3 r4 r5 : List (List Arrow)) → AreRows g.sites.items (units_at c b) rows → Adds (UnitEdges n b g.sites.items (units_at c b)) r0 r1 → Adds (Upto 32 (RowEdge n b rows)) r1 r2 → Adds (NextEdges c n b) r2 r3 → Adds (LeaveEdges c n b) r3 r4 → Adds (OneEdge (end_of n b 0) (memory n)) r4 r5 → Adds (BlockEdges c g n b) r0 r5
+pub block_adds : (c : Code) (g : Graph) (n b : ℕ) (rows : List Places) (r0 r1 r2 r3 r4 r5 : List (List Edge)) → AreRows g.sites.items (units_at c b) rows → Adds (UnitEdges n b g.sites.items (units_at c b)) r0 r1 → Adds (Upto 32 (RowEdge n b rows)) r1 r2 → Adds (NextEdges c n b) r2 r3 → Adds (LeaveEdges c n b) r3 r4 → Adds (OneEdge (end_of n b 0) (memory n)) r4 r5 → Adds (BlockEdges c g n b) r0 r5
 block_adds c g n b rows r0 r1 r2 r3 r4 r5 are units entries next leave store =
     let sites = g.sites.items in
     let us = units_at c b in
@@ -143,16 +143,16 @@ block_adds c g n b rows r0 r1 r2 r3 r4 r5 are units entries next leave store =
     adds_both (Or (Or (Or (UnitEdges n b sites us) (Upto 32 (EntryEdge n b sites us))) (NextEdges c n b)) (LeaveEdges c n b)) (OneEdge (end_of n b 0) (memory n)) (BlockEdges c g n b) r0 r4 r5 three store
     (λ f t. (block_parts c g n b f t, block_whole c g n b f t))
 
-pub leaving_adds : (c : Code) (n b : ℕ) (old new : List (List Arrow)) → is_indirect_end (end_at c b) ≡ true → Adds (Upto 32 (RegisterEdge (end_of n b 0) (hub n 0))) old new → Adds (LeaveEdges c n b) old new
+pub leaving_adds : (c : Code) (n b : ℕ) (old new : List (List Edge)) → is_indirect_end (end_at c b) ≡ true → Adds (Upto 32 (RegisterEdge (end_of n b 0) (hub n 0))) old new → Adds (LeaveEdges c n b) old new
 leaving_adds c n b old new is adds =
     adds_same (Upto 32 (RegisterEdge (end_of n b 0) (hub n 0))) (LeaveEdges c n b) old new adds (λ f t. (λ (_, edges). edges, λ edges. (is, edges)))
 
-pub leaving_none : (c : Code) (n b : ℕ) (a : List (List Arrow)) → is_indirect_end (end_at c b) ≡ false → Adds (LeaveEdges c n b) a a
+pub leaving_none : (c : Code) (n b : ℕ) (a : List (List Edge)) → is_indirect_end (end_at c b) ≡ false → Adds (LeaveEdges c n b) a a
 leaving_none c n b a is = adds_none (LeaveEdges c n b) a (λ f t (on, edges). absurd (cc (on, is)))
 
 -- ---- the other edges
 
-pub arrival_adds : (c : Code) (n i d : ℕ) (old new : List (List Arrow)) → IsStrictlyIncreasing (starts_of c) → IsBlockOf c d → start_at c d ≡ slice_index_or c.indirect.items i 0 → Adds (Upto 32 (RegisterEdge (hub n 0) (entry d 0))) old new → Adds (ArrivalEdge c n i) old new
+pub arrival_adds : (c : Code) (n i d : ℕ) (old new : List (List Edge)) → IsStrictlyIncreasing (starts_of c) → IsBlockOf c d → start_at c d ≡ slice_index_or c.indirect.items i 0 → Adds (Upto 32 (RegisterEdge (hub n 0) (entry d 0))) old new → Adds (ArrivalEdge c n i) old new
 arrival_adds c n i d old new ascending below starts adds =
     adds_same (Upto 32 (RegisterEdge (hub n 0) (entry d 0))) (ArrivalEdge c n i) old new adds (λ f t. (
       λ (e, there, is, edges).
@@ -161,7 +161,7 @@ arrival_adds c n i d old new ascending below starts adds =
       λ edges. (d, below, sym starts, edges),
     ))
 
-pub arrival_none : (c : Code) (n i : ℕ) (a : List (List Arrow)) → has (starts_of c) (slice_index_or c.indirect.items i 0) ≡ false → Adds (ArrivalEdge c n i) a a
+pub arrival_none : (c : Code) (n i : ℕ) (a : List (List Edge)) → has (starts_of c) (slice_index_or c.indirect.items i 0) ≡ false → Adds (ArrivalEdge c n i) a a
 arrival_none c n i a none =
     adds_none (ArrivalEdge c n i) a (λ f t (d, there, is, edges).
     let on : has (starts_of c) (slice_index_or c.indirect.items i 0) ≡ true = ap (has (starts_of c)) is ∙ starts_there c d there in
@@ -177,7 +177,7 @@ all_whole c g n f t (inl (inl edges)) = AllEdges.of_block edges
 all_whole c g n f t (inl (inr edges)) = AllEdges.arriving edges
 all_whole c g n f t (inr edges) = AllEdges.of_word edges
 
-pub all_adds : (c : Code) (g : Graph) (n : ℕ) (r0 r1 r2 r3 : List (List Arrow)) → Adds (Upto (length c.blocks.items) (BlockEdges c g n)) r0 r1 → Adds (Upto (length c.indirect.items) (ArrivalEdge c n)) r1 r2 → Adds (Upto (length g.data_words.items) (WordEdge g n)) r2 r3 → Adds (AllEdges c g n) r0 r3
+pub all_adds : (c : Code) (g : Graph) (n : ℕ) (r0 r1 r2 r3 : List (List Edge)) → Adds (Upto (length c.blocks.items) (BlockEdges c g n)) r0 r1 → Adds (Upto (length c.indirect.items) (ArrivalEdge c n)) r1 r2 → Adds (Upto (length g.data_words.items) (WordEdge g n)) r2 r3 → Adds (AllEdges c g n) r0 r3
 all_adds c g n r0 r1 r2 r3 blocks arrivals words =
     let one = joined (Upto (length c.blocks.items) (BlockEdges c g n)) (Upto (length c.indirect.items) (ArrivalEdge c n)) r0 r1 r2 blocks arrivals in
     adds_both (Or (Upto (length c.blocks.items) (BlockEdges c g n)) (Upto (length c.indirect.items) (ArrivalEdge c n))) (Upto (length g.data_words.items) (WordEdge g n)) (AllEdges c g n) r0 r2 r3 one words

@@ -7,12 +7,12 @@ use Rattle.std.proofs.lemmas.Bool.{cases_eq}
 use Rattle.std.proofs.lemmas.List.{get_or-set_same, get_or-set_other, get_or_append_left, get_or_push, map-set, length-map, get_or-map, length-append}
 use Rattle.std.proofs.Math.ListN.{length-set}
 use Rattle.points_to.specs.Flows.{Has, row}
-use Rattle.reach_graph.specs.Reaching.{arrows_of, arrow_at, no_arrow, row_items, plain_rows}
+use Rattle.reach_graph.specs.Reaching.{edges_of, edge_at, no_edge, row_items, plain_rows}
 use Rattle.points_to.specs.declared.flows.Places.{Places}
 use Rattle.points_to.specs.Nodes.{HasEdge, all_marks, Adds, Upto, OneEdge, PlaceEdge, RegisterEdge, RowEdge, entry, end_of}
-use Rattle.reach_graph.specs.declared.arrows.Arrow.{Arrow}
+use Rattle.reach_graph.specs.declared.graph_edges.Edge.{Edge}
 
-pub adds_none : (S : ℕ → ℕ → Type 0) (a : List (List Arrow)) → ((f t : ℕ) → S f t → ⊥) → Adds S a a
+pub adds_none : (S : ℕ → ℕ → Type 0) (a : List (List Edge)) → ((f t : ℕ) → S f t → ⊥) → Adds S a a
 adds_none S a none = record {
   size = refl;
   edges = λ f t. (λ has. inl has, λ has. elim has [ inl old ↦ old | inr new ↦ absurd (none f t new) ]);
@@ -20,7 +20,7 @@ adds_none S a none = record {
 }
 
 -- two sets one behind the other
-pub adds_both : (S T U : ℕ → ℕ → Type 0) (a b c : List (List Arrow)) → Adds S a b → Adds T b c → ((f t : ℕ) → U f t ↔ (S f t ⊎ T f t)) → Adds U a c
+pub adds_both : (S T U : ℕ → ℕ → Type 0) (a b c : List (List Edge)) → Adds S a b → Adds T b c → ((f t : ℕ) → U f t ↔ (S f t ⊎ T f t)) → Adds U a c
 adds_both S T U a b c one other is = record {
   size = other.size ∙ one.size;
   edges = λ f t. (
@@ -40,7 +40,7 @@ adds_both S T U a b c one other is = record {
 }
 
 -- the same set in other words
-pub adds_same : (S U : ℕ → ℕ → Type 0) (a b : List (List Arrow)) → Adds S a b → ((f t : ℕ) → U f t ↔ S f t) → Adds U a b
+pub adds_same : (S U : ℕ → ℕ → Type 0) (a b : List (List Edge)) → Adds S a b → ((f t : ℕ) → U f t ↔ S f t) → Adds U a b
 adds_same S U a b one is = record {
   size = one.size;
   edges = λ f t. (
@@ -71,14 +71,14 @@ upto_same m P Q f t same = (
 )
 
 -- the next of a sequence
-pub adds_more : (m : ℕ) (P : ℕ → ℕ → ℕ → Type 0) (a b c : List (List Arrow)) → Adds (Upto m P) a b → Adds (P m) b c → Adds (Upto (m + 1) P) a c
+pub adds_more : (m : ℕ) (P : ℕ → ℕ → ℕ → Type 0) (a b c : List (List Edge)) → Adds (Upto m P) a b → Adds (P m) b c → Adds (Upto (m + 1) P) a c
 adds_more m P a b c one other = adds_both (Upto m P) (P m) (Upto (m + 1) P) a b c one other (upto_more m P)
 
-pub adds_first : (P : ℕ → ℕ → ℕ → Type 0) (a : List (List Arrow)) → Adds (Upto 0 P) a a
+pub adds_first : (P : ℕ → ℕ → ℕ → Type 0) (a : List (List Edge)) → Adds (Upto 0 P) a a
 adds_first P a = adds_none (Upto 0 P) a (λ f t up. let low = up.below in omega (arith, low))
 
 -- the first set is empty
-pub adds_second : (P : ℕ → ℕ → ℕ → Type 0) (a : List (List Arrow)) → ((f t : ℕ) → P 0 f t → ⊥) → Adds (Upto 1 P) a a
+pub adds_second : (P : ℕ → ℕ → ℕ → Type 0) (a : List (List Edge)) → ((f t : ℕ) → P 0 f t → ⊥) → Adds (Upto 1 P) a a
 adds_second P a none =
     adds_none (Upto 1 P) a
     (λ f t up.
@@ -88,48 +88,48 @@ adds_second P a none =
 
 -- ---- one edge
 
-abbrev LeadsTo : List Arrow → ℕ → Type 0
-LeadsTo xs t = (i : ℕ) × (i < length xs) × ((arrow_at xs i).to ≡ t)
+abbrev LeadsTo : List Edge → ℕ → Type 0
+LeadsTo xs t = (i : ℕ) × (i < length xs) × ((edge_at xs i).to ≡ t)
 
-to_push : (xs : List Arrow) (a : Arrow) (t : ℕ) → LeadsTo (xs ++ a ∷ []) t ↔ (LeadsTo xs t ⊎ (t ≡ a.to))
+to_push : (xs : List Edge) (a : Edge) (t : ℕ) → LeadsTo (xs ++ a ∷ []) t ↔ (LeadsTo xs t ⊎ (t ≡ a.to))
 to_push xs a t =
     let long = length-append xs (a ∷ []) in (
       λ (i, below, is). elim (cases_eq i (length xs)) [
-        | inl last ↦ inr (sym is ∙ ap (λ (y : Arrow). y.to) (get_or_push xs a no_arrow i (sym last)))
+        | inl last ↦ inr (sym is ∙ ap (λ (y : Edge). y.to) (get_or_push xs a no_edge i (sym last)))
         | inr other ↦
             let inside : i < length xs = omega (arith, below, long, other) in
-            inl (i, inside, ap (λ (y : Arrow). y.to) (sym (get_or_append_left xs (a ∷ []) no_arrow i inside)) ∙ is)
+            inl (i, inside, ap (λ (y : Edge). y.to) (sym (get_or_append_left xs (a ∷ []) no_edge i inside)) ∙ is)
       ],
       λ has. elim has [
-        | inl (i, below, is) ↦ (i, omega (arith, below, long), ap (λ (y : Arrow). y.to) (get_or_append_left xs (a ∷ []) no_arrow i below) ∙ is)
-        | inr last ↦ (length xs, omega (arith, long), ap (λ (y : Arrow). y.to) (get_or_push xs a no_arrow (length xs) refl) ∙ sym last)
+        | inl (i, below, is) ↦ (i, omega (arith, below, long), ap (λ (y : Edge). y.to) (get_or_append_left xs (a ∷ []) no_edge i below) ∙ is)
+        | inr last ↦ (length xs, omega (arith, long), ap (λ (y : Edge). y.to) (get_or_push xs a no_edge (length xs) refl) ∙ sym last)
       ],
     )
 
-full_push : (xs : List Arrow) (a : Arrow) → ((i : ℕ) → i < length xs → (arrow_at xs i).mask ≡ all_marks) → a.mask ≡ all_marks → (i : ℕ) → i < length (xs ++ a ∷ []) → (arrow_at (xs ++ a ∷ []) i).mask ≡ all_marks
+full_push : (xs : List Edge) (a : Edge) → ((i : ℕ) → i < length xs → (edge_at xs i).mask ≡ all_marks) → a.mask ≡ all_marks → (i : ℕ) → i < length (xs ++ a ∷ []) → (edge_at (xs ++ a ∷ []) i).mask ≡ all_marks
 full_push xs a full here i below =
     let long = length-append xs (a ∷ []) in
     elim (cases_eq i (length xs)) [
-      | inl last ↦ ap (λ (y : Arrow). y.mask) (get_or_push xs a no_arrow i (sym last)) ∙ here
+      | inl last ↦ ap (λ (y : Edge). y.mask) (get_or_push xs a no_edge i (sym last)) ∙ here
       | inr other ↦
           let inside : i < length xs = omega (arith, below, long, other) in
-          ap (λ (y : Arrow). y.mask) (get_or_append_left xs (a ∷ []) no_arrow i inside) ∙ full i inside
+          ap (λ (y : Edge). y.mask) (get_or_append_left xs (a ∷ []) no_edge i inside) ∙ full i inside
     ]
 
-pushed_there : (rows : List (List Arrow)) (from f t : ℕ) (a : Arrow) → from < length rows → f ≡ from → HasEdge (set rows from (arrows_of rows from ++ a ∷ [])) f t ↔ (HasEdge rows f t ⊎ (t ≡ a.to))
+pushed_there : (rows : List (List Edge)) (from f t : ℕ) (a : Edge) → from < length rows → f ≡ from → HasEdge (set rows from (edges_of rows from ++ a ∷ [])) f t ↔ (HasEdge rows f t ⊎ (t ≡ a.to))
 pushed_there rows from f t a inside same =
-    let there : arrows_of (set rows from (arrows_of rows from ++ a ∷ [])) f ≡ arrows_of rows f ++ a ∷ [] =
-    ap (arrows_of (set rows from (arrows_of rows from ++ a ∷ []))) same
-    ∙ get_or-set_same rows from (arrows_of rows from ++ a ∷ []) [] inside
-    ∙ ap (λ (k : ℕ). arrows_of rows k ++ a ∷ []) (sym same) in
-    subst (λ (xs : List Arrow). LeadsTo xs t ↔ (LeadsTo (arrows_of rows f) t ⊎ (t ≡ a.to))) (sym there) (to_push (arrows_of rows f) a t)
+    let there : edges_of (set rows from (edges_of rows from ++ a ∷ [])) f ≡ edges_of rows f ++ a ∷ [] =
+    ap (edges_of (set rows from (edges_of rows from ++ a ∷ []))) same
+    ∙ get_or-set_same rows from (edges_of rows from ++ a ∷ []) [] inside
+    ∙ ap (λ (k : ℕ). edges_of rows k ++ a ∷ []) (sym same) in
+    subst (λ (xs : List Edge). LeadsTo xs t ↔ (LeadsTo (edges_of rows f) t ⊎ (t ≡ a.to))) (sym there) (to_push (edges_of rows f) a t)
 
-pushed_elsewhere : (rows : List (List Arrow)) (from f : ℕ) (ys : List Arrow) → f ≢ from → arrows_of (set rows from ys) f ≡ arrows_of rows f
+pushed_elsewhere : (rows : List (List Edge)) (from f : ℕ) (ys : List Edge) → f ≢ from → edges_of (set rows from ys) f ≡ edges_of rows f
 pushed_elsewhere rows from f ys other = get_or-set_other rows from f ys [] other
 
-pub adds_one : (rows : List (List Arrow)) (from : ℕ) (a : Arrow) → from < length rows → a.mask ≡ all_marks → Adds (OneEdge from a.to) rows (set rows from (arrows_of rows from ++ a ∷ []))
+pub adds_one : (rows : List (List Edge)) (from : ℕ) (a : Edge) → from < length rows → a.mask ≡ all_marks → Adds (OneEdge from a.to) rows (set rows from (edges_of rows from ++ a ∷ []))
 adds_one rows from a inside mask = record {
-  size = length-set rows from (arrows_of rows from ++ a ∷ []);
+  size = length-set rows from (edges_of rows from ++ a ∷ []);
   edges = λ f t. elim (cases_eq f from) [
     | inl same ↦
         let there = pushed_there rows from f t a inside same in (
@@ -137,29 +137,29 @@ adds_one rows from a inside mask = record {
           λ has. there.1 (elim has [ inl old ↦ inl old | inr new ↦ inr new.1 ]),
         )
     | inr other ↦
-        let there = pushed_elsewhere rows from f (arrows_of rows from ++ a ∷ []) other in (
-          λ has. inl (subst (λ (xs : List Arrow). LeadsTo xs t) there has),
-          λ has. elim has [ inl old ↦ subst (λ (xs : List Arrow). LeadsTo xs t) (sym there) old | inr new ↦ absurd (other new.0) ],
+        let there = pushed_elsewhere rows from f (edges_of rows from ++ a ∷ []) other in (
+          λ has. inl (subst (λ (xs : List Edge). LeadsTo xs t) there has),
+          λ has. elim has [ inl old ↦ subst (λ (xs : List Edge). LeadsTo xs t) (sym there) old | inr new ↦ absurd (other new.0) ],
         )
   ];
   full = λ full f. elim (cases_eq f from) [
     | inl same ↦
-        let there : arrows_of (set rows from (arrows_of rows from ++ a ∷ [])) f ≡ arrows_of rows from ++ a ∷ [] =
-        ap (arrows_of (set rows from (arrows_of rows from ++ a ∷ []))) same
-        ∙ get_or-set_same rows from (arrows_of rows from ++ a ∷ []) [] inside in
-        subst (λ (xs : List Arrow). (i : ℕ) → i < length xs → (arrow_at xs i).mask ≡ all_marks) (sym there) (full_push (arrows_of rows from) a (full from) mask)
+        let there : edges_of (set rows from (edges_of rows from ++ a ∷ [])) f ≡ edges_of rows from ++ a ∷ [] =
+        ap (edges_of (set rows from (edges_of rows from ++ a ∷ []))) same
+        ∙ get_or-set_same rows from (edges_of rows from ++ a ∷ []) [] inside in
+        subst (λ (xs : List Edge). (i : ℕ) → i < length xs → (edge_at xs i).mask ≡ all_marks) (sym there) (full_push (edges_of rows from) a (full from) mask)
     | inr other ↦
-        subst (λ (xs : List Arrow). (i : ℕ) → i < length xs → (arrow_at xs i).mask ≡ all_marks) (sym (pushed_elsewhere rows from f (arrows_of rows from ++ a ∷ []) other)) (full f)
+        subst (λ (xs : List Edge). (i : ℕ) → i < length xs → (edge_at xs i).mask ≡ all_marks) (sym (pushed_elsewhere rows from f (edges_of rows from ++ a ∷ []) other)) (full f)
   ];
 }
 
-pub push_one : (rows : List (Vec Arrow Global)) (from : ℕ) (old new : Vec Arrow Global) (a : Arrow) → from < length rows → new.items ≡ (get_or rows from old).items ++ a ∷ [] → a.mask ≡ all_marks → Adds (OneEdge from a.to) (plain_rows rows) (plain_rows (set rows from new))
+pub push_one : (rows : List (Vec Edge Global)) (from : ℕ) (old new : Vec Edge Global) (a : Edge) → from < length rows → new.items ≡ (get_or rows from old).items ++ a ∷ [] → a.mask ≡ all_marks → Adds (OneEdge from a.to) (plain_rows rows) (plain_rows (set rows from new))
 push_one rows from old new a inside pushed mask =
     let count = length-map rows row_items in
-    let there : arrows_of (plain_rows rows) from ≡ (get_or rows from old).items = get_or-map row_items rows from old [] inside in
-    let whole : plain_rows (set rows from new) ≡ set (plain_rows rows) from (arrows_of (plain_rows rows) from ++ a ∷ []) =
+    let there : edges_of (plain_rows rows) from ≡ (get_or rows from old).items = get_or-map row_items rows from old [] inside in
+    let whole : plain_rows (set rows from new) ≡ set (plain_rows rows) from (edges_of (plain_rows rows) from ++ a ∷ []) =
     map-set row_items rows from new
-    ∙ ap (set (plain_rows rows) from) (pushed ∙ ap (λ (xs : List Arrow). xs ++ a ∷ []) (sym there)) in
+    ∙ ap (set (plain_rows rows) from) (pushed ∙ ap (λ (xs : List Edge). xs ++ a ∷ []) (sym there)) in
     subst (Adds (OneEdge from a.to) (plain_rows rows)) (sym whole) (adds_one (plain_rows rows) from a (omega (arith, inside, count)) mask)
 
 pub place_one : (from base : ℕ) (places : Places) (y f t : ℕ) → Has places y → PlaceEdge from base places y f t ↔ OneEdge from (base + y) f t

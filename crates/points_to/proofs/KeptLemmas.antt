@@ -14,7 +14,7 @@ use Rattle.std.proofs.lemmas.List.Quantifiers.{all_pairs_push}
 use Rattle.list_checks.proofs.TestLemmas.{neither}
 use Rattle.code_leaders.specs.Early.{has}
 use Rattle.reach_graph.specs.Reaching.{HasMark, word_at, Reaches}
-use Rattle.reach_graph.specs.declared.arrows.Arrow.{Arrow}
+use Rattle.reach_graph.specs.declared.graph_edges.Edge.{Edge}
 use Rattle.reach_graph.proofs.MarkLemmas.{none_in_zero}
 use Rattle.points_to.specs.Nodes.{memory}
 use Rattle.points_to.specs.Tables.{word_of, Kept, AreKept, Keeps, Begins, IsReached}
@@ -162,8 +162,8 @@ begun_more first k w marks inside one begins =
             let at : word_at (slice_set marks (first + k) w) (first + j) ≡ w = ap (λ (i : ℕ). word_at (slice_set marks (first + k) w) (first + i)) same ∙ here in
             subst (λ (v : ℕ). HasMark v j) (sym at) ((one j).1 same)
         | inr other ↦
-            let apart : first + j ≢ first + k = λ e. other (omega (arith, e)) in
-            let at = get_or-set_other marks (first + k) (first + j) w 0 apart in
+            let disjoint : first + j ≢ first + k = λ e. other (omega (arith, e)) in
+            let at = get_or-set_other marks (first + k) (first + j) w 0 disjoint in
             subst (λ (v : ℕ). HasMark v j) (sym at) (begins.there j (omega (arith, low, other)))
       ];
     }
@@ -182,10 +182,10 @@ one_bit m k low =
     )
 
 -- what is kept of the marks that spread
-pub reached_is : (rows : List (List Arrow)) (n first count : ℕ) (start marks : List ℕ) (kept : Kept) → Begins first count start → ((m k : ℕ) → HasMark (word_at marks m) k ↔ Reaches rows start m k) → Keeps marks n kept → IsReached rows n first count kept
-reached_is rows n first count start marks kept begins spread keeps = record {
+pub reached_is : (rows : List (List Edge)) (n first count : ℕ) (start marks : List ℕ) (kept : Kept) → Begins first count start → ((m k : ℕ) → HasMark (word_at marks m) k ↔ Reaches rows start m k) → Keeps marks n kept → IsReached rows n first count kept
+reached_is rows n first count start marks kept begins propagate keeps = record {
   start = start;
   begins = begins;
-  entries = λ m k low. subst (λ (w : ℕ). HasMark w k ↔ Reaches rows start m k) (sym (keeps.entries m low)) (spread m k);
-  in_memory = λ k. subst (λ (w : ℕ). HasMark w k ↔ Reaches rows start (memory n) k) (sym keeps.in_memory) (spread (memory n) k);
+  entries = λ m k low. subst (λ (w : ℕ). HasMark w k ↔ Reaches rows start m k) (sym (keeps.entries m low)) (propagate m k);
+  in_memory = λ k. subst (λ (w : ℕ). HasMark w k ↔ Reaches rows start (memory n) k) (sym keeps.in_memory) (propagate (memory n) k);
 }

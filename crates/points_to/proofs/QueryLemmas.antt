@@ -1,4 +1,4 @@
--- What is kept of the marks along the arrows of a program tells all facts.
+-- What is kept of the marks along the edges of a program tells all facts.
 use Rattle.std.proofs.Common.{◌≡◌, inl, inr, ℕ, ◌+◌, ◌-◌, ◌*◌, ◌/◌, ◌%◌, ◌<◌, ◌≤◌, min, true, false, List, [], ◌∷◌, length, slice_index_or, refl, sym, ◌∙◌, ap, subst, arith}
 use Rattle.std.specs.Prelude.{◌↔◌, IsTrue}
 use Rattle.std.specs.List.Sorted.{IsStrictlyIncreasing}
@@ -12,18 +12,18 @@ use Rattle.code_blocks.specs.Blocks.{start_of}
 use Rattle.code_blocks.specs.Numbers.{starts_of, start_at}
 use Rattle.code_blocks.specs.declared.parts.Unit.{Unit}
 use Rattle.code_blocks.specs.declared.parts.Code.{Code}
-use Rattle.reach_graph.specs.Reaching.{HasMark, arrow_in, AreInside}
-use Rattle.reach_graph.specs.declared.arrows.Arrow.{Arrow}
+use Rattle.reach_graph.specs.Reaching.{HasMark, edge_in, AreInside}
+use Rattle.reach_graph.specs.declared.graph_edges.Edge.{Edge}
 use Rattle.reach_graph.proofs.MarkLemmas.{none_in_zero}
 use Rattle.points_to.specs.Points.{IsBlockOf, units_at, Held, Escaped, Derives, Before, MayHold}
-use Rattle.points_to.specs.Nodes.{SourceEdges, UnitEdges, BlockEdges, AllEdges, AreArrows, entry, memory, loaded, object_node, node_count}
+use Rattle.points_to.specs.Nodes.{SourceEdges, UnitEdges, BlockEdges, AllEdges, AreEdges, entry, memory, loaded, object_node, node_count}
 use Rattle.points_to.specs.Tables.{Kept, kept_word, IsReached, none_kept, AreGroups, group_of, Holds, AreFacts}
 use Rattle.points_to.proofs.BlockLemmas.{same_start, starts_there}
 use Rattle.points_to.proofs.SoundLemmas.{told_entry, told_memory}
 use Rattle.points_to.proofs.TableLemmas.{own_sound, loads_sound, escapes_exact, may_exact}
 use Rattle.points_to.proofs.FactLemmas.{no_facts, of_register}
 
--- ---- arrows lead to nodes
+-- ---- edges lead to nodes
 
 source_below : (n b : ℕ) (sites : List Site) (u : Unit) (us : List Unit) (f t : ℕ) → b < n → SourceEdges n b sites u us f t → t < 64 * n + 34
 source_below n b sites u us f t below (SourceEdges.made x o holder makes up) = let low = up.below in let at = up.edge.2 in omega (arith, below, low, at)
@@ -61,17 +61,17 @@ edge_below c g f t (AllEdges.arriving up) =
     omega (arith, there, low, at)
 edge_below c g f t (AllEdges.of_word up) = let at = up.edge.1 in omega (arith, at)
 
-pub arrows_inside : (c : Code) (g : Graph) (n objects : ℕ) (rows : List (List Arrow)) → n ≡ length c.blocks.items → AreArrows c g n objects rows → AreInside rows (node_count n objects)
-arrows_inside c g n objects rows same are f i f_below i_below =
-    let t = (arrow_in rows f i).to in
+pub edges_inside : (c : Code) (g : Graph) (n objects : ℕ) (rows : List (List Edge)) → n ≡ length c.blocks.items → AreEdges c g n objects rows → AreInside rows (node_count n objects)
+edges_inside c g n objects rows same are f i f_below i_below =
+    let t = (edge_in rows f i).to in
     let edge : AllEdges c g n f t = (are.edges f t).0 (i, i_below, refl) in
     let below = edge_below c g f t (subst (λ (m : ℕ). AllEdges c g m f t) same edge) in
     omega (arith, below, same)
 
 -- ---- what is kept
 
-module _ (c : Code) (g : Graph) (objects count : ℕ) (rows : List (List Arrow)) (loads : Kept) (groups : List Kept) (same : objects ≡ length g.objects.items)
-    (some : IsSomeGraph g) (are : AreArrows c g (length c.blocks.items) objects rows) (loading : IsReached rows (length c.blocks.items) (loaded (length c.blocks.items)) 1 loads)
+module _ (c : Code) (g : Graph) (objects count : ℕ) (rows : List (List Edge)) (loads : Kept) (groups : List Kept) (same : objects ≡ length g.objects.items)
+    (some : IsSomeGraph g) (are : AreEdges c g (length c.blocks.items) objects rows) (loading : IsReached rows (length c.blocks.items) (loaded (length c.blocks.items)) 1 loads)
     (grouping : AreGroups rows (length c.blocks.items) objects count groups) (enough : objects ≤ 64 * count) where
   abbrev n : ℕ
   n = length c.blocks.items
@@ -157,16 +157,16 @@ module _ (c : Code) (g : Graph) (objects count : ℕ) (rows : List (List Arrow))
     escapes = λ o. (stored_sound o, stored_complete o);
   }
 
-pub table_facts : (c : Code) (g : Graph) (n objects first count : ℕ) (rows rows1 rows2 : List (List Arrow)) (loads : Kept) (groups : List Kept) → n ≡ length c.blocks.items
-    → objects ≡ length g.objects.items → IsSomeGraph g → AreArrows c g n objects rows → rows1 ≡ rows → rows2 ≡ rows → first ≡ loaded n → IsReached rows1 n first 1 loads
+pub table_facts : (c : Code) (g : Graph) (n objects first count : ℕ) (rows rows1 rows2 : List (List Edge)) (loads : Kept) (groups : List Kept) → n ≡ length c.blocks.items
+    → objects ≡ length g.objects.items → IsSomeGraph g → AreEdges c g n objects rows → rows1 ≡ rows → rows2 ≡ rows → first ≡ loaded n → IsReached rows1 n first 1 loads
     → AreGroups rows2 n objects count groups → objects ≤ 64 * count → AreFacts c g loads groups
 table_facts c g n objects first count rows rows1 rows2 loads groups blocks same some are one two begins loading grouping enough =
-    let loading1 = subst (λ (rs : List (List Arrow)). IsReached rs n first 1 loads) one loading in
+    let loading1 = subst (λ (rs : List (List Edge)). IsReached rs n first 1 loads) one loading in
     let loading2 = subst (λ (k : ℕ). IsReached rows n k 1 loads) begins loading1 in
     let loading3 = subst (λ (m : ℕ). IsReached rows m (loaded m) 1 loads) blocks loading2 in
-    let grouping1 = subst (λ (rs : List (List Arrow)). AreGroups rs n objects count groups) two grouping in
+    let grouping1 = subst (λ (rs : List (List Edge)). AreGroups rs n objects count groups) two grouping in
     let grouping2 = subst (λ (m : ℕ). AreGroups rows m objects count groups) blocks grouping1 in
-    tells_facts c g objects count rows loads groups same some (subst (λ (m : ℕ). AreArrows c g m objects rows) blocks are) loading3 grouping2 enough
+    tells_facts c g objects count rows loads groups same some (subst (λ (m : ℕ). AreEdges c g m objects rows) blocks are) loading3 grouping2 enough
 
 -- ---- what is looked up
 

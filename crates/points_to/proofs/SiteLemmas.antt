@@ -53,38 +53,38 @@ some_site s t are = λ z. Some (record { at = sym are.at z; kind = sym are.kind 
 
 -- later sites stand elsewhere
 later : (s t : Site) (sites : List Site) → AllPairs (λ x y. x.at + 4 ≤ y.at) (s ∷ sites) → list_any (same_site t) sites ≡ true → t.at ≡ s.at → ⊥
-later s t sites apart found same =
+later s t sites disjoint found same =
     let (k, at) = any_place (same_site t) sites s found in
     let below = at.0 in
     let there = (alike t (slice_index_or sites k s) at.1).at in
-    let far = apart 0 (suc k) s (omega arith) (omega (arith, below)) in
+    let far = disjoint 0 (suc k) s (omega arith) (omega (arith, below)) in
     omega (arith, there, far, same)
 
-rest_apart : (s : Site) (sites : List Site) → AllPairs (λ x y. x.at + 4 ≤ y.at) (s ∷ sites) → AllPairs (λ x y. x.at + 4 ≤ y.at) sites
-rest_apart s sites apart i j d lower below = apart (suc i) (suc j) d (omega (arith, lower)) (omega (arith, below))
+rest_disjoint : (s : Site) (sites : List Site) → AllPairs (λ x y. x.at + 4 ≤ y.at) (s ∷ sites) → AllPairs (λ x y. x.at + 4 ≤ y.at) sites
+rest_disjoint s sites disjoint i j d lower below = disjoint (suc i) (suc j) d (omega (arith, lower)) (omega (arith, below))
 
 one_site : (sites : List Site) (a : ℕ) (s : Site) → AllPairs (λ x y. x.at + 4 ≤ y.at) sites → list_any (same_site s) sites ≡ true → s.at ≡ a → site_at sites a ≡ Some s
-one_site [] a s apart found at = cc
-one_site (t ∷ sites) a s apart found at =
+one_site [] a s disjoint found at = cc
+one_site (t ∷ sites) a s disjoint found at =
     elim (cases_eq t.at a) [
       | inl here ↦
           let is : (t.at == a) ≡ true = grind (arith, nat_tests, here) in
           rw is (elim (either (same_site s t) (list_any (same_site s) sites) found) [
             | inl same ↦ some_site s t (alike s t same)
-            | inr rest ↦ absurd (later t s sites apart rest (omega (arith, here, at)))
+            | inr rest ↦ absurd (later t s sites disjoint rest (omega (arith, here, at)))
           ])
       | inr other ↦
           let is : (t.at == a) ≡ false = grind (arith, nat_tests, other) in
           rw is (elim (either (same_site s t) (list_any (same_site s) sites) found) [
             | inl same ↦ let there = (alike s t same).at in absurd (other (omega (arith, there, at)))
-            | inr rest ↦ one_site sites a s (rest_apart t sites apart) rest at
+            | inr rest ↦ one_site sites a s (rest_disjoint t sites disjoint) rest at
           ])
     ]
 
 -- what a graph finds
 pub site_found : (g : Graph) (a : ℕ) (o : Option Site) → IsSomeGraph g → MatchOption o (list_any (stands_at a) g.sites.items ≡ false) (λ s. (list_any (same_site s) g.sites.items ≡ true) × (s.at ≡ a)) → site_at g.sites.items a ≡ o
 site_found g a None some found = no_site g.sites.items a found
-site_found g a (Some s) some found = one_site g.sites.items a s some.2.sites.apart found.0 found.1
+site_found g a (Some s) some found = one_site g.sites.items a s some.2.sites.disjoint found.0 found.1
 
 pub site_inside : (g : Graph) (a : ℕ) (o : Option Site) → IsSomeGraph g → MatchOption o (list_any (stands_at a) g.sites.items ≡ false) (λ s. (list_any (same_site s) g.sites.items ≡ true) × (s.at ≡ a)) → IfSome o (λ s. s.object < length g.objects.items)
 site_inside g a None some found = tt

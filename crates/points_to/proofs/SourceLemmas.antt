@@ -13,7 +13,7 @@ use Rattle.points_to.specs.Points.{IsHolder, site_at, MakesIn, Makes, Loads}
 use Rattle.points_to.specs.Flows.{written, made_in, made, loads, row, AreRows}
 use Rattle.points_to.specs.Nodes.{Adds, Upto, PlaceEdge, FlowEdge, SourceEdges, UnitEdges, object_node, loaded, end_of}
 use Rattle.points_to.specs.declared.flows.Places.{Places}
-use Rattle.reach_graph.specs.declared.arrows.Arrow.{Arrow}
+use Rattle.reach_graph.specs.declared.graph_edges.Edge.{Edge}
 use Rattle.points_to.proofs.EdgeLemmas.{adds_none, adds_same, upto_same}
 
 makes_in : (kind : SiteKind) (i : Option Instr) (o x : ℕ) → MakesIn kind i x → (made_in kind o i ≡ Some o) × (x ≡ written i)
@@ -108,10 +108,10 @@ gains_one n b sites u us f t is holder = (
 
 -- ---- what the code adds
 
-pub adds_nothing : (n b : ℕ) (sites : List Site) (u : Unit) (us : List Unit) (a : List (List Arrow)) → ((f t : ℕ) → SourceEdges n b sites u us f t → ⊥) → Adds (SourceEdges n b sites u us) a a
+pub adds_nothing : (n b : ℕ) (sites : List Site) (u : Unit) (us : List Unit) (a : List (List Edge)) → ((f t : ℕ) → SourceEdges n b sites u us f t → ⊥) → Adds (SourceEdges n b sites u us) a a
 adds_nothing n b sites u us a none = adds_none (SourceEdges n b sites u us) a none
 
-pub adds_flow : (n b : ℕ) (sites : List Site) (u : Unit) (us : List Unit) (rows : List Places) (x from : ℕ) (old new : List (List Arrow)) → AreRows sites us rows → IsHolder x → ((f t : ℕ) → SourceEdges n b sites u us f t ↔ Upto 32 (FlowEdge n b sites us x from) f t) → Adds (Upto 32 (PlaceEdge from (end_of n b 0) (row rows x))) old new → Adds (SourceEdges n b sites u us) old new
+pub adds_flow : (n b : ℕ) (sites : List Site) (u : Unit) (us : List Unit) (rows : List Places) (x from : ℕ) (old new : List (List Edge)) → AreRows sites us rows → IsHolder x → ((f t : ℕ) → SourceEdges n b sites u us f t ↔ Upto 32 (FlowEdge n b sites us x from) f t) → Adds (Upto 32 (PlaceEdge from (end_of n b 0) (row rows x))) old new → Adds (SourceEdges n b sites u us) old new
 adds_flow n b sites u us rows x from old new are holder is adds =
     adds_same (Upto 32 (PlaceEdge from (end_of n b 0) (row rows x))) (SourceEdges n b sites u us) old new adds
     (λ f t.

@@ -4,19 +4,19 @@ use Rattle.std.specs.Prelude.{◌↔◌}
 use Rattle.std.proofs.Math.ListN.{length-set}
 use Rattle.std.proofs.lemmas.Bool.{cases_eq}
 use Rattle.std.proofs.lemmas.List.{get_or-set_same, get_or-set_other}
-use Rattle.reach_graph.specs.Reaching.{HasMark, word_at, arrow_at, arrows_of, arrow_in, Reaches}
-use Rattle.reach_graph.specs.declared.arrows.Arrow.{Arrow}
+use Rattle.reach_graph.specs.Reaching.{HasMark, word_at, edge_at, edges_of, edge_in, Reaches}
+use Rattle.reach_graph.specs.declared.graph_edges.Edge.{Edge}
 use Rattle.reach_graph.proofs.MarkLemmas.{or_left, or_cases, and_first, and_second}
 use Rattle.points_to.specs.Sweeps.{AreBetween}
 
-pub between_first : (rows : List (List Arrow)) (start : List ℕ) → AreBetween rows start start
+pub between_first : (rows : List (List Edge)) (start : List ℕ) → AreBetween rows start start
 between_first rows start = record { size = refl; kept = λ m k has. has; reached = λ m k has. Reaches.stands m k has }
 
-passed : (rows : List (List Arrow)) (start now : List ℕ) (f i : ℕ) → i < length (arrows_of rows f) → (arrow_in rows f i).to < length now → AreBetween rows start now
-    → AreBetween rows start (slice_set now (arrow_in rows f i).to (bit_or (word_at now (arrow_in rows f i).to) (bit_and (word_at now f) (arrow_in rows f i).mask)))
+passed : (rows : List (List Edge)) (start now : List ℕ) (f i : ℕ) → i < length (edges_of rows f) → (edge_in rows f i).to < length now → AreBetween rows start now
+    → AreBetween rows start (slice_set now (edge_in rows f i).to (bit_or (word_at now (edge_in rows f i).to) (bit_and (word_at now f) (edge_in rows f i).mask)))
 passed rows start now f i inside fits between =
-    let to = (arrow_in rows f i).to in
-    let by = bit_and (word_at now f) (arrow_in rows f i).mask in
+    let to = (edge_in rows f i).to in
+    let by = bit_and (word_at now f) (edge_in rows f i).mask in
     let w = bit_or (word_at now to) by in
     let here : word_at (slice_set now to w) to ≡ w = get_or-set_same now to w 0 fits in record {
       size = length-set now to w ∙ between.size;
@@ -33,20 +33,20 @@ passed rows start now f i inside fits between =
               | inl old ↦ between.reached m k (subst (λ (j : ℕ). HasMark (word_at now j) k) (sym same) old)
               | inr new ↦
                   subst (λ (j : ℕ). Reaches rows start j k) (sym same)
-                  (Reaches.passes f i k (between.reached f k (and_first (word_at now f) (arrow_in rows f i).mask k new)) inside (and_second (word_at now f) (arrow_in rows f i).mask k new))
+                  (Reaches.passes f i k (between.reached f k (and_first (word_at now f) (edge_in rows f i).mask k new)) inside (and_second (word_at now f) (edge_in rows f i).mask k new))
             ]
         | inr other ↦ between.reached m k (subst (λ (v : ℕ). HasMark v k) (get_or-set_other now to m w 0 other) mark)
       ];
     }
 
--- one arrow of a row
-pub between_more : (rows : List (List Arrow)) (start now : List ℕ) (row : List Arrow) (f i : ℕ) → arrows_of rows f ≡ row → i < length row → (arrow_at row i).to < length now → AreBetween rows start now
-    → AreBetween rows start (slice_set now (arrow_at row i).to (bit_or (word_at now (arrow_at row i).to) (bit_and (word_at now f) (arrow_at row i).mask)))
+-- one edge of a row
+pub between_more : (rows : List (List Edge)) (start now : List ℕ) (row : List Edge) (f i : ℕ) → edges_of rows f ≡ row → i < length row → (edge_at row i).to < length now → AreBetween rows start now
+    → AreBetween rows start (slice_set now (edge_at row i).to (bit_or (word_at now (edge_at row i).to) (bit_and (word_at now f) (edge_at row i).mask)))
 between_more rows start now row f i is inside fits between =
-    subst (λ (r : List Arrow). AreBetween rows start (slice_set now (arrow_at r i).to (bit_or (word_at now (arrow_at r i).to) (bit_and (word_at now f) (arrow_at r i).mask)))) is
-    (passed rows start now f i (subst (λ (r : List Arrow). i < length r) (sym is) inside) (subst (λ (r : List Arrow). (arrow_at r i).to < length now) (sym is) fits) between)
+    subst (λ (r : List Edge). AreBetween rows start (slice_set now (edge_at r i).to (bit_or (word_at now (edge_at r i).to) (bit_and (word_at now f) (edge_at r i).mask)))) is
+    (passed rows start now f i (subst (λ (r : List Edge). i < length r) (sym is) inside) (subst (λ (r : List Edge). (edge_at r i).to < length now) (sym is) fits) between)
 
-module _ (rows : List (List Arrow)) (start now : List ℕ) (between : AreBetween rows start now) where
+module _ (rows : List (List Edge)) (start now : List ℕ) (between : AreBetween rows start now) where
   back : (m k : ℕ) → Reaches rows now m k → Reaches rows start m k
   back _ k (Reaches.stands m _ has) = between.reached m k has
   back _ k (Reaches.passes m i _ came inside passes) = Reaches.passes m i k (back m k came) inside passes
@@ -56,4 +56,4 @@ module _ (rows : List (List Arrow)) (start now : List ℕ) (between : AreBetween
   forth _ k (Reaches.passes m i _ came inside passes) = Reaches.passes m i k (forth m k came) inside passes
 
   pub as_far : (marks : List ℕ) → ((m k : ℕ) → HasMark (word_at marks m) k ↔ Reaches rows now m k) → (m k : ℕ) → HasMark (word_at marks m) k ↔ Reaches rows start m k
-  as_far marks spread m k = (λ has. back m k ((spread m k).0 has), λ came. (spread m k).1 (forth m k came))
+  as_far marks propagate m k = (λ has. back m k ((propagate m k).0 has), λ came. (propagate m k).1 (forth m k came))

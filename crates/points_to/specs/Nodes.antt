@@ -11,8 +11,8 @@ use Rattle.code_blocks.specs.declared.parts.Code.{Code}
 use Rattle.points_to.specs.Points.{IsHolder, IsBlockOf, LeadsOn, units_at, site_at, Makes, Loads}
 use Rattle.points_to.specs.Flows.{Leads, Has, row}
 use Rattle.points_to.specs.declared.flows.Places.{Places}
-use Rattle.reach_graph.specs.Reaching.{arrows_of, arrow_in}
-use Rattle.reach_graph.specs.declared.arrows.Arrow.{Arrow}
+use Rattle.reach_graph.specs.Reaching.{edges_of, edge_in}
+use Rattle.reach_graph.specs.declared.graph_edges.Edge.{Edge}
 
 -- ---- numbers of nodes, in a program of `n` blocks: register `x` at the beginning of block `b`; place `y` at its
 -- end, memory being place 0; register `y` on the way to any indirect leader; memory; what is loaded; object `o`
@@ -43,14 +43,14 @@ node_count n objects = 64 * n + 34 + objects
 unfoldable pub all_marks : ℕ
 all_marks = 18446744073709551615
 
-abbrev pub HasEdge : List (List Arrow) → ℕ → ℕ → Type 0
-HasEdge rows f t = (i : ℕ) × (i < length (arrows_of rows f)) × ((arrow_in rows f i).to ≡ t)
+abbrev pub HasEdge : List (List Edge) → ℕ → ℕ → Type 0
+HasEdge rows f t = (i : ℕ) × (i < length (edges_of rows f)) × ((edge_in rows f i).to ≡ t)
 
-abbrev pub AreFull : List (List Arrow) → Type 0
-AreFull rows = (f i : ℕ) → i < length (arrows_of rows f) → (arrow_in rows f i).mask ≡ all_marks
+abbrev pub AreFull : List (List Edge) → Type 0
+AreFull rows = (f i : ℕ) → i < length (edges_of rows f) → (edge_in rows f i).mask ≡ all_marks
 
 -- `new` has the edges of `old` and those of a set, and no others
-pub record Adds (S : ℕ → ℕ → Type 0) (old new : List (List Arrow)) : Type 0 where
+pub record Adds (S : ℕ → ℕ → Type 0) (old new : List (List Edge)) : Type 0 where
   pub size : length new ≡ length old
   pub edges : (f t : ℕ) → HasEdge new f t ↔ (HasEdge old f t ⊎ S f t)
   pub full : AreFull old → AreFull new
@@ -132,8 +132,8 @@ pub data AllEdges (c : Code) (g : Graph) (n f t : ℕ) : Type 0 where
   arriving : Upto (length c.indirect.items) (ArrivalEdge c n) f t → AllEdges c g n f t
   of_word : Upto (length g.data_words.items) (WordEdge g n) f t → AllEdges c g n f t
 
--- the arrows of a program: an edge each, and no others
-pub record AreArrows (c : Code) (g : Graph) (n objects : ℕ) (rows : List (List Arrow)) : Type 0 where
+-- the edges of a program: an edge each, and no others
+pub record AreEdges (c : Code) (g : Graph) (n objects : ℕ) (rows : List (List Edge)) : Type 0 where
   pub size : length rows ≡ node_count n objects
   pub edges : (f t : ℕ) → HasEdge rows f t ↔ AllEdges c g n f t
   pub full : AreFull rows

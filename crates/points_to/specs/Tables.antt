@@ -5,7 +5,7 @@ use Rattle.object_graph.specs.declared.parts.Graph.{Graph}
 use Rattle.code_blocks.specs.Numbers.{starts_of}
 use Rattle.code_blocks.specs.declared.parts.Code.{Code}
 use Rattle.reach_graph.specs.Reaching.{HasMark, word_at, Reaches}
-use Rattle.reach_graph.specs.declared.arrows.Arrow.{Arrow}
+use Rattle.reach_graph.specs.declared.graph_edges.Edge.{Edge}
 use Rattle.points_to.specs.Points.{IsBlockOf, Before, Escapes}
 use Rattle.points_to.specs.Nodes.{entry, memory, object_node}
 use Rattle.points_to.specs.declared.reached.Reached.{Reached}
@@ -51,7 +51,7 @@ pub record Begins (first count : ℕ) (marks : List ℕ) : Type 0 where
   pub there : (k : ℕ) → k < count → HasMark (word_at marks (first + k)) k
 
 -- what such marks reach
-pub record IsReached (rows : List (List Arrow)) (n first count : ℕ) (kept : Kept) : Type 0 where
+pub record IsReached (rows : List (List Edge)) (n first count : ℕ) (kept : Kept) : Type 0 where
   pub start : List ℕ
   pub begins : Begins first count start
   pub entries : (m k : ℕ) → m < 32 * n → HasMark (kept_word kept m) k ↔ Reaches rows start m k
@@ -65,7 +65,7 @@ abbrev pub group_at : List Kept → ℕ → Kept
 group_at groups j = slice_index_or groups j none_kept
 
 -- the first `count` groups of 64 objects
-pub record AreGroups (rows : List (List Arrow)) (n objects count : ℕ) (groups : List Kept) : Type 0 where
+pub record AreGroups (rows : List (List Edge)) (n objects count : ℕ) (groups : List Kept) : Type 0 where
   pub size : length groups ≡ count
   pub each : (j : ℕ) → j < count → IsReached rows n (object_node n (64 * j)) (min 64 (objects - 64 * j)) (group_at groups j)
 

@@ -4,7 +4,7 @@ ghost use Rattle.std.specs.List.Sorted.{IsStrictlyIncreasing};
 ghost use Rattle.object_graph.specs.Lookups.{IsSomeGraph};
 ghost use Rattle.code_blocks.specs.Edges.{is_indirect_end};
 ghost use Rattle.code_blocks.specs.Numbers.{starts_of, end_at};
-ghost use Rattle.points_to.specs.Nodes.{Adds, AreArrows, Upto, StepEdge, NextEdges, LeaveEdges, BlockEdges, ArrivalEdge, WordEdge, AllEdges, node_count};
+ghost use Rattle.points_to.specs.Nodes.{Adds, AreEdges, Upto, StepEdge, NextEdges, LeaveEdges, BlockEdges, ArrivalEdge, WordEdge, AllEdges, node_count};
 ghost use Rattle.reach_graph.specs.Reaching.{plain_rows};
 
 use crate::edges::{push, push_registers, push_rows};
@@ -13,42 +13,42 @@ use crate::nodes::Nodes;
 use crate::sources::push_units;
 use code_blocks::{Code, End};
 use object_graph::Graph;
-use reach_graph::Arrow;
+use reach_graph::Edge;
 use std::alloc::{AllocError, Global};
 
 /// Adds the edges from the end of a block to the beginning of each of some blocks.
 fn push_steps(
-    arrows: &mut [Vec<Arrow>],
+    graph_edges: &mut [Vec<Edge>],
     nodes: Nodes,
     block: u32,
     numbers: &[u32],
 ) -> Result<(), AllocError>
-    requires room { length arrows.old ≡ node_count nodes.blocks nodes.objects }
+    requires room { length graph_edges.old ≡ node_count nodes.blocks nodes.objects }
     requires block { block < nodes.blocks }
     requires numbers { All (λ d. d < nodes.blocks) numbers.now }
-    ensures { OnOk result (Adds (Upto (length numbers.now) (StepEdge nodes.blocks block numbers.now)) (plain_rows arrows.old) (plain_rows arrows.new)) }
+    ensures { OnOk result (Adds (Upto (length numbers.now) (StepEdge nodes.blocks block numbers.now)) (plain_rows graph_edges.old) (plain_rows graph_edges.new)) }
 {
     for i in 0..numbers.len() {
-        push_registers(arrows, nodes.end(block), nodes.entry(numbers[i]))?;
+        push_registers(graph_edges, nodes.end(block), nodes.entry(numbers[i]))?;
     }
     Ok(())
 }
 
 /// Adds those along the direct edges of a block.
 fn push_next(
-    arrows: &mut [Vec<Arrow>],
+    graph_edges: &mut [Vec<Edge>],
     nodes: Nodes,
     code: &Code,
     block: u32,
 ) -> Result<(), AllocError>
-    requires room { length arrows.old ≡ node_count nodes.blocks nodes.objects }
+    requires room { length graph_edges.old ≡ node_count nodes.blocks nodes.objects }
     requires block { block < nodes.blocks }
     requires blocks { nodes.blocks ≡ length code.now.blocks.items }
     requires ascending { IsStrictlyIncreasing (starts_of code.now) }
-    ensures { OnOk result (Adds (NextEdges code.now nodes.blocks block) (plain_rows arrows.old) (plain_rows arrows.new)) }
+    ensures { OnOk result (Adds (NextEdges code.now nodes.blocks block) (plain_rows graph_edges.old) (plain_rows graph_edges.new)) }
 {
     let numbers = code.successors(block);
-    push_steps(arrows, nodes, block, numbers.as_slice())?;
+    push_steps(graph_edges, nodes, block, numbers.as_slice())?;
     Ok(())
 }
 
@@ -69,18 +69,18 @@ fn is_indirect(end: &End) -> bool
 
 /// Adds those from the end of a block to the way to any indirect leader, if it may lead there.
 fn push_leaving(
-    arrows: &mut [Vec<Arrow>],
+    graph_edges: &mut [Vec<Edge>],
     nodes: Nodes,
     code: &Code,
     block: u32,
 ) -> Result<(), AllocError>
-    requires room { length arrows.old ≡ node_count nodes.blocks nodes.objects }
+    requires room { length graph_edges.old ≡ node_count nodes.blocks nodes.objects }
     requires block { block < nodes.blocks }
     requires blocks { nodes.blocks ≡ length code.now.blocks.items }
-    ensures { OnOk result (Adds (LeaveEdges code.now nodes.blocks block) (plain_rows arrows.old) (plain_rows arrows.new)) }
+    ensures { OnOk result (Adds (LeaveEdges code.now nodes.blocks block) (plain_rows graph_edges.old) (plain_rows graph_edges.new)) }
 {
     if is_indirect(&code.blocks[block as usize].end) {
-        push_registers(arrows, nodes.end(block), nodes.hub())?;
+        push_registers(graph_edges, nodes.end(block), nodes.hub())?;
         return Ok(());
     }
     Ok(())
@@ -88,101 +88,101 @@ fn push_leaving(
 
 /// Adds all edges that begin in a block. `rows` is a table to work in.
 fn push_block(
-    arrows: &mut [Vec<Arrow>],
+    graph_edges: &mut [Vec<Edge>],
     nodes: Nodes,
     code: &Code,
     graph: &Graph,
     block: u32,
     rows: &mut [Places],
 ) -> Result<(), AllocError>
-    requires room { length arrows.old ≡ node_count nodes.blocks nodes.objects }
+    requires room { length graph_edges.old ≡ node_count nodes.blocks nodes.objects }
     requires block { block < nodes.blocks }
     requires blocks { nodes.blocks ≡ length code.now.blocks.items }
     requires objects { nodes.objects ≡ length graph.now.objects.items }
     requires ascending { IsStrictlyIncreasing (starts_of code.now) }
     requires graph { IsSomeGraph graph.now }
     requires whole { length rows.old ≡ 32 }
-    ensures { OnOk result (Adds (BlockEdges code.now graph.now nodes.blocks block) (plain_rows arrows.old) (plain_rows arrows.new)) }
+    ensures { OnOk result (Adds (BlockEdges code.now graph.now nodes.blocks block) (plain_rows graph_edges.old) (plain_rows graph_edges.new)) }
 {
     push_units(
-        arrows,
+        graph_edges,
         nodes,
         graph,
         block,
         &code.blocks[block as usize].units,
         rows,
     )?;
-    push_rows(arrows, nodes, block, rows)?;
-    push_next(arrows, nodes, code, block)?;
-    push_leaving(arrows, nodes, code, block)?;
-    push(arrows, nodes.end(block), nodes.memory())?;
+    push_rows(graph_edges, nodes, block, rows)?;
+    push_next(graph_edges, nodes, code, block)?;
+    push_leaving(graph_edges, nodes, code, block)?;
+    push(graph_edges, nodes.end(block), nodes.memory())?;
     Ok(())
 }
 
 /// Adds those of all blocks.
 fn push_blocks(
-    arrows: &mut [Vec<Arrow>],
+    graph_edges: &mut [Vec<Edge>],
     nodes: Nodes,
     code: &Code,
     graph: &Graph,
 ) -> Result<(), AllocError>
-    requires room { length arrows.old ≡ node_count nodes.blocks nodes.objects }
+    requires room { length graph_edges.old ≡ node_count nodes.blocks nodes.objects }
     requires blocks { nodes.blocks ≡ length code.now.blocks.items }
     requires objects { nodes.objects ≡ length graph.now.objects.items }
     requires ascending { IsStrictlyIncreasing (starts_of code.now) }
     requires graph { IsSomeGraph graph.now }
-    ensures { OnOk result (Adds (Upto (length code.now.blocks.items) (BlockEdges code.now graph.now nodes.blocks)) (plain_rows arrows.old) (plain_rows arrows.new)) }
+    ensures { OnOk result (Adds (Upto (length code.now.blocks.items) (BlockEdges code.now graph.now nodes.blocks)) (plain_rows graph_edges.old) (plain_rows graph_edges.new)) }
 {
     let mut rows = [NO_PLACES; 32];
     for block in 0..nodes.blocks {
-        push_block(arrows, nodes, code, graph, block, &mut rows)?;
+        push_block(graph_edges, nodes, code, graph, block, &mut rows)?;
     }
     Ok(())
 }
 
 /// Adds the edges from the way to any indirect leader to the block at an address.
 fn push_arrival(
-    arrows: &mut [Vec<Arrow>],
+    graph_edges: &mut [Vec<Edge>],
     nodes: Nodes,
     code: &Code,
     i: usize,
 ) -> Result<(), AllocError>
-    requires room { length arrows.old ≡ node_count nodes.blocks nodes.objects }
+    requires room { length graph_edges.old ≡ node_count nodes.blocks nodes.objects }
     requires i { i < length code.now.indirect.items }
     requires blocks { nodes.blocks ≡ length code.now.blocks.items }
     requires ascending { IsStrictlyIncreasing (starts_of code.now) }
-    ensures { OnOk result (Adds (ArrivalEdge code.now nodes.blocks i) (plain_rows arrows.old) (plain_rows arrows.new)) }
+    ensures { OnOk result (Adds (ArrivalEdge code.now nodes.blocks i) (plain_rows graph_edges.old) (plain_rows graph_edges.new)) }
 {
     if let Some(block) = code.block_at(code.indirect[i]) {
-        push_registers(arrows, nodes.hub(), nodes.entry(block))?;
+        push_registers(graph_edges, nodes.hub(), nodes.entry(block))?;
         return Ok(());
     }
     Ok(())
 }
 
 /// Adds those to all indirect leaders.
-fn push_arrivals(arrows: &mut [Vec<Arrow>], nodes: Nodes, code: &Code) -> Result<(), AllocError>
-    requires room { length arrows.old ≡ node_count nodes.blocks nodes.objects }
+fn push_arrivals(graph_edges: &mut [Vec<Edge>], nodes: Nodes, code: &Code) -> Result<(), AllocError>
+    requires room { length graph_edges.old ≡ node_count nodes.blocks nodes.objects }
     requires blocks { nodes.blocks ≡ length code.now.blocks.items }
     requires ascending { IsStrictlyIncreasing (starts_of code.now) }
-    ensures { OnOk result (Adds (Upto (length code.now.indirect.items) (ArrivalEdge code.now nodes.blocks)) (plain_rows arrows.old) (plain_rows arrows.new)) }
+    ensures { OnOk result (Adds (Upto (length code.now.indirect.items) (ArrivalEdge code.now nodes.blocks)) (plain_rows graph_edges.old) (plain_rows graph_edges.new)) }
 {
     for i in 0..code.indirect.len() {
-        push_arrival(arrows, nodes, code, i)?;
+        push_arrival(graph_edges, nodes, code, i)?;
     }
     Ok(())
 }
 
 /// Adds an edge to memory from the object of each word of data.
-fn push_words(arrows: &mut [Vec<Arrow>], nodes: Nodes, graph: &Graph) -> Result<(), AllocError>
-    requires room { length arrows.old ≡ node_count nodes.blocks nodes.objects }
+fn push_words(graph_edges: &mut [Vec<Edge>], nodes: Nodes, graph: &Graph) -> Result<(), AllocError>
+    requires room { length graph_edges.old ≡ node_count nodes.blocks nodes.objects }
     requires objects { nodes.objects ≡ length graph.now.objects.items }
     requires graph { IsSomeGraph graph.now }
-    ensures { OnOk result (Adds (Upto (length graph.now.data_words.items) (WordEdge graph.now nodes.blocks)) (plain_rows arrows.old) (plain_rows arrows.new)) }
+    ensures { OnOk result (Adds (Upto (length graph.now.data_words.items) (WordEdge graph.now nodes.blocks)) (plain_rows graph_edges.old) (plain_rows graph_edges.new)) }
 {
     for i in 0..graph.data_words.len() {
         push(
-            arrows,
+            graph_edges,
             nodes.object(graph.data_words[i].object),
             nodes.memory(),
         )?;
@@ -192,26 +192,26 @@ fn push_words(arrows: &mut [Vec<Arrow>], nodes: Nodes, graph: &Graph) -> Result<
 
 /// Adds all edges of a program.
 fn push_all(
-    arrows: &mut [Vec<Arrow>],
+    graph_edges: &mut [Vec<Edge>],
     nodes: Nodes,
     code: &Code,
     graph: &Graph,
 ) -> Result<(), AllocError>
-    requires room { length arrows.old ≡ node_count nodes.blocks nodes.objects }
+    requires room { length graph_edges.old ≡ node_count nodes.blocks nodes.objects }
     requires blocks { nodes.blocks ≡ length code.now.blocks.items }
     requires objects { nodes.objects ≡ length graph.now.objects.items }
     requires ascending { IsStrictlyIncreasing (starts_of code.now) }
     requires graph { IsSomeGraph graph.now }
-    ensures { OnOk result (Adds (AllEdges code.now graph.now nodes.blocks) (plain_rows arrows.old) (plain_rows arrows.new)) }
+    ensures { OnOk result (Adds (AllEdges code.now graph.now nodes.blocks) (plain_rows graph_edges.old) (plain_rows graph_edges.new)) }
 {
-    push_blocks(arrows, nodes, code, graph)?;
-    push_arrivals(arrows, nodes, code)?;
-    push_words(arrows, nodes, graph)?;
+    push_blocks(graph_edges, nodes, code, graph)?;
+    push_arrivals(graph_edges, nodes, code)?;
+    push_words(graph_edges, nodes, graph)?;
     Ok(())
 }
 
-/// As many nodes without arrows.
-fn no_arrows(alloc: Global, count: u32) -> Result<Vec<Vec<Arrow>>, AllocError>
+/// As many nodes without edges.
+fn no_edges(alloc: Global, count: u32) -> Result<Vec<Vec<Edge>>, AllocError>
     ensures { IfOk result (λ rows. plain_rows rows.items ≡ replicate count []) }
 {
     let mut rows = Vec::new(alloc);
@@ -221,20 +221,20 @@ fn no_arrows(alloc: Global, count: u32) -> Result<Vec<Vec<Arrow>>, AllocError>
     Ok(rows)
 }
 
-/// The arrows of a program's graph.
-pub(crate) fn arrows_of(
+/// The edges of a program's graph.
+pub(crate) fn edges_of(
     alloc: Global,
     nodes: Nodes,
     code: &Code,
     graph: &Graph,
-) -> Result<Vec<Vec<Arrow>>, AllocError>
+) -> Result<Vec<Vec<Edge>>, AllocError>
     requires blocks { nodes.blocks ≡ length code.now.blocks.items }
     requires objects { nodes.objects ≡ length graph.now.objects.items }
     requires ascending { IsStrictlyIncreasing (starts_of code.now) }
     requires graph { IsSomeGraph graph.now }
-    ensures { IfOk result (λ rows. AreArrows code.now graph.now nodes.blocks nodes.objects (plain_rows rows.items)) }
+    ensures { IfOk result (λ rows. AreEdges code.now graph.now nodes.blocks nodes.objects (plain_rows rows.items)) }
 {
-    let mut rows = no_arrows(alloc, nodes.count())?;
+    let mut rows = no_edges(alloc, nodes.count())?;
     push_all(&mut rows, nodes, code, graph)?;
     Ok(rows)
 }

@@ -4,50 +4,50 @@ ghost use Rattle.reach_graph.specs.Reaching.{plain_rows};
 
 use crate::flows::Places;
 use crate::nodes::Nodes;
-use reach_graph::Arrow;
+use reach_graph::Edge;
 use std::alloc::AllocError;
 
 /// Adds an edge.
-pub(crate) fn push(arrows: &mut [Vec<Arrow>], from: u32, to: u32) -> Result<(), AllocError>
-    requires { from < length arrows.old }
-    ensures { OnOk result (Adds (OneEdge from to) (plain_rows arrows.old) (plain_rows arrows.new)) }
+pub(crate) fn push(graph_edges: &mut [Vec<Edge>], from: u32, to: u32) -> Result<(), AllocError>
+    requires { from < length graph_edges.old }
+    ensures { OnOk result (Adds (OneEdge from to) (plain_rows graph_edges.old) (plain_rows graph_edges.new)) }
 {
-    arrows[from as usize].push(Arrow { to, mask: u64::MAX })?;
+    graph_edges[from as usize].push(Edge { to, mask: u64::MAX })?;
     Ok(())
 }
 
 /// Adds the edges from a node to the places of a set, whose nodes begin at `base`.
 pub(crate) fn push_places(
-    arrows: &mut [Vec<Arrow>],
+    graph_edges: &mut [Vec<Edge>],
     from: u32,
     base: u32,
     places: Places,
 ) -> Result<(), AllocError>
-    requires from { from < length arrows.old }
+    requires from { from < length graph_edges.old }
     requires base { base + 32 < 2 ^ 32 }
-    ensures { OnOk result (Adds (Upto 32 (PlaceEdge from base places)) (plain_rows arrows.old) (plain_rows arrows.new)) }
+    ensures { OnOk result (Adds (Upto 32 (PlaceEdge from base places)) (plain_rows graph_edges.old) (plain_rows graph_edges.new)) }
 {
     for y in 0..32 {
-        push_place(arrows, from, base, places, y)?;
+        push_place(graph_edges, from, base, places, y)?;
     }
     Ok(())
 }
 
 /// Adds the edge to one of them, if the set has it.
 fn push_place(
-    arrows: &mut [Vec<Arrow>],
+    graph_edges: &mut [Vec<Edge>],
     from: u32,
     base: u32,
     places: Places,
     y: u8,
 ) -> Result<(), AllocError>
-    requires from { from < length arrows.old }
+    requires from { from < length graph_edges.old }
     requires base { base + 32 < 2 ^ 32 }
     requires y { y < 32 }
-    ensures { OnOk result (Adds (PlaceEdge from base places y) (plain_rows arrows.old) (plain_rows arrows.new)) }
+    ensures { OnOk result (Adds (PlaceEdge from base places y) (plain_rows graph_edges.old) (plain_rows graph_edges.new)) }
 {
     if places.has(y) {
-        push(arrows, from, base + u32::from(y))?;
+        push(graph_edges, from, base + u32::from(y))?;
         return Ok(());
     }
     Ok(())
@@ -55,51 +55,51 @@ fn push_place(
 
 /// Adds an edge from each register to itself, from the nodes that begin at `from` to those that begin at `to`.
 pub(crate) fn push_registers(
-    arrows: &mut [Vec<Arrow>],
+    graph_edges: &mut [Vec<Edge>],
     from: u32,
     to: u32,
 ) -> Result<(), AllocError>
-    requires from { from + 32 < length arrows.old }
+    requires from { from + 32 < length graph_edges.old }
     requires fits { from + 32 < 2 ^ 32 }
     requires to { to + 32 < 2 ^ 32 }
-    ensures { OnOk result (Adds (Upto 32 (RegisterEdge from to)) (plain_rows arrows.old) (plain_rows arrows.new)) }
+    ensures { OnOk result (Adds (Upto 32 (RegisterEdge from to)) (plain_rows graph_edges.old) (plain_rows graph_edges.new)) }
 {
     for y in 1..32 {
-        push(arrows, from + y, to + y)?;
+        push(graph_edges, from + y, to + y)?;
     }
     Ok(())
 }
 
 /// Adds the edges from the registers at the beginning of a block, by the rows of its table.
 pub(crate) fn push_rows(
-    arrows: &mut [Vec<Arrow>],
+    graph_edges: &mut [Vec<Edge>],
     nodes: Nodes,
     block: u32,
     rows: &[Places],
 ) -> Result<(), AllocError>
-    requires room { length arrows.old ≡ node_count nodes.blocks nodes.objects }
+    requires room { length graph_edges.old ≡ node_count nodes.blocks nodes.objects }
     requires block { block < nodes.blocks }
     requires whole { length rows.now ≡ 32 }
-    ensures { OnOk result (Adds (Upto 32 (RowEdge nodes.blocks block rows.now)) (plain_rows arrows.old) (plain_rows arrows.new)) }
+    ensures { OnOk result (Adds (Upto 32 (RowEdge nodes.blocks block rows.now)) (plain_rows graph_edges.old) (plain_rows graph_edges.new)) }
 {
     for x in 1..32 {
-        push_row(arrows, nodes, block, x, rows[x as usize])?;
+        push_row(graph_edges, nodes, block, x, rows[x as usize])?;
     }
     Ok(())
 }
 
 /// Adds those from one register, by its row.
 fn push_row(
-    arrows: &mut [Vec<Arrow>],
+    graph_edges: &mut [Vec<Edge>],
     nodes: Nodes,
     block: u32,
     x: u32,
     places: Places,
 ) -> Result<(), AllocError>
-    requires room { length arrows.old ≡ node_count nodes.blocks nodes.objects }
+    requires room { length graph_edges.old ≡ node_count nodes.blocks nodes.objects }
     requires block { block < nodes.blocks }
     requires x { x < 32 }
-    ensures { OnOk result (Adds (Upto 32 (PlaceEdge (entry block x) (end_of nodes.blocks block 0) places)) (plain_rows arrows.old) (plain_rows arrows.new)) }
+    ensures { OnOk result (Adds (Upto 32 (PlaceEdge (entry block x) (end_of nodes.blocks block 0) places)) (plain_rows graph_edges.old) (plain_rows graph_edges.new)) }
 {
-    push_places(arrows, nodes.entry(block) + x, nodes.end(block), places)
+    push_places(graph_edges, nodes.entry(block) + x, nodes.end(block), places)
 }

@@ -6,14 +6,14 @@ ghost use Rattle.code_blocks.specs.Numbers.{starts_of};
 ghost use Rattle.points_to.specs.Nodes.{node_count, object_node};
 ghost use Rattle.points_to.specs.Tables.{IsReached, AreGroups, IsTableOf, plain};
 
-use crate::blocks::arrows_of;
+use crate::blocks::edges_of;
 use crate::nodes::Nodes;
 use crate::reached::Reached;
 use crate::starting::reached_from;
 use crate::table::PointsTable;
 use code_blocks::Code;
 use object_graph::Graph;
-use reach_graph::Arrow;
+use reach_graph::Edge;
 use std::alloc::{AllocError, Global};
 
 /// Which registers may hold addresses of each object where each block of a program begins, and which objects escape:
@@ -27,9 +27,9 @@ pub fn points(alloc: Global, code: &Code, graph: &Graph) -> Result<PointsTable, 
     ensures { IfOk result (IsTableOf code.now graph.now) }
 {
     let nodes = Nodes::of(code, graph)?;
-    let arrows = arrows_of(alloc, nodes, code, graph)?;
-    let loads = reached_from(alloc, nodes, &arrows, nodes.loaded(), 1)?;
-    let groups = groups_of(alloc, nodes, &arrows)?;
+    let graph_edges = edges_of(alloc, nodes, code, graph)?;
+    let loads = reached_from(alloc, nodes, &graph_edges, nodes.loaded(), 1)?;
+    let groups = groups_of(alloc, nodes, &graph_edges)?;
     let leaders = leaders_of(alloc, code)?;
     Ok(PointsTable {
         leaders,
@@ -50,15 +50,15 @@ fn leaders_of(alloc: Global, code: &Code) -> Result<Vec<u32>, AllocError>
 }
 
 /// What the objects reach, 64 at a time.
-fn groups_of(alloc: Global, nodes: Nodes, arrows: &[Vec<Arrow>]) -> Result<Vec<Reached>, AllocError>
-    requires room { length arrows.now ≡ node_count nodes.blocks nodes.objects }
-    requires inside { AreInside (plain_rows arrows.now) (node_count nodes.blocks nodes.objects) }
-    ensures { IfOk result (λ groups. AreGroups (plain_rows arrows.now) nodes.blocks nodes.objects ((nodes.objects + 63) / 64) (map plain groups.items)) }
+fn groups_of(alloc: Global, nodes: Nodes, graph_edges: &[Vec<Edge>]) -> Result<Vec<Reached>, AllocError>
+    requires room { length graph_edges.now ≡ node_count nodes.blocks nodes.objects }
+    requires inside { AreInside (plain_rows graph_edges.now) (node_count nodes.blocks nodes.objects) }
+    ensures { IfOk result (λ groups. AreGroups (plain_rows graph_edges.now) nodes.blocks nodes.objects ((nodes.objects + 63) / 64) (map plain groups.items)) }
 {
     let count = (nodes.objects + 63) / 64;
     let mut groups = Vec::new(alloc);
     for j in 0..count {
-        groups.push(group(alloc, nodes, arrows, 64 * j)?)?;
+        groups.push(group(alloc, nodes, graph_edges, 64 * j)?)?;
     }
     Ok(groups)
 }
@@ -67,14 +67,14 @@ fn groups_of(alloc: Global, nodes: Nodes, arrows: &[Vec<Arrow>]) -> Result<Vec<R
 fn group(
     alloc: Global,
     nodes: Nodes,
-    arrows: &[Vec<Arrow>],
+    graph_edges: &[Vec<Edge>],
     first: u32,
 ) -> Result<Reached, AllocError>
-    requires room { length arrows.now ≡ node_count nodes.blocks nodes.objects }
-    requires inside { AreInside (plain_rows arrows.now) (node_count nodes.blocks nodes.objects) }
+    requires room { length graph_edges.now ≡ node_count nodes.blocks nodes.objects }
+    requires inside { AreInside (plain_rows graph_edges.now) (node_count nodes.blocks nodes.objects) }
     requires first { first < nodes.objects }
-    ensures { IfOk result (λ r. IsReached (plain_rows arrows.now) nodes.blocks (object_node nodes.blocks first) (min 64 (nodes.objects - first)) (plain r)) }
+    ensures { IfOk result (λ r. IsReached (plain_rows graph_edges.now) nodes.blocks (object_node nodes.blocks first) (min 64 (nodes.objects - first)) (plain r)) }
 {
     let count = (nodes.objects - first).min(64);
-    reached_from(alloc, nodes, arrows, nodes.object(first), count)
+    reached_from(alloc, nodes, graph_edges, nodes.object(first), count)
 }

@@ -13,23 +13,23 @@ use crate::nodes::Nodes;
 use crate::units::{loads, made, written};
 use code_blocks::Unit;
 use object_graph::{Graph, Site};
-use reach_graph::Arrow;
+use reach_graph::Edge;
 use std::alloc::AllocError;
 
 /// Adds the edges of what a unit makes or loads, where the rows tell where the units behind it lead.
 fn push_sources(
-    arrows: &mut [Vec<Arrow>],
+    graph_edges: &mut [Vec<Edge>],
     nodes: Nodes,
     block: u32,
     unit: &Unit,
     site: Option<Site>,
     rows: &[Places],
 ) -> Result<(), AllocError>
-    requires room { length arrows.old ≡ node_count nodes.blocks nodes.objects }
+    requires room { length graph_edges.old ≡ node_count nodes.blocks nodes.objects }
     requires block { block < nodes.blocks }
     requires object { IfSome site (λ s. s.object < nodes.objects) }
     requires whole { length rows.now ≡ 32 }
-    ensures { (sites : List Site) (us : List Unit) → site_at sites unit.now.at ≡ site → AreRows sites us rows.now → OnOk result (Adds (SourceEdges nodes.blocks block sites unit.now us) (plain_rows arrows.old) (plain_rows arrows.new)) }
+    ensures { (sites : List Site) (us : List Unit) → site_at sites unit.now.at ≡ site → AreRows sites us rows.now → OnOk result (Adds (SourceEdges nodes.blocks block sites unit.now us) (plain_rows graph_edges.old) (plain_rows graph_edges.new)) }
 {
     let to = written(unit.instr);
     if to == 0 || to > 31 {
@@ -37,7 +37,7 @@ fn push_sources(
     }
     if let Some(object) = made(site, unit.instr) {
         push_places(
-            arrows,
+            graph_edges,
             nodes.object(object),
             nodes.end(block),
             rows[to as usize],
@@ -45,7 +45,7 @@ fn push_sources(
         return Ok(());
     }
     if loads(unit.instr) {
-        push_places(arrows, nodes.loaded(), nodes.end(block), rows[to as usize])?;
+        push_places(graph_edges, nodes.loaded(), nodes.end(block), rows[to as usize])?;
         return Ok(());
     }
     Ok(())
@@ -53,26 +53,26 @@ fn push_sources(
 
 /// Adds the edges of what the units of a block make or load, and leaves in `rows` where the units lead.
 pub(crate) fn push_units(
-    arrows: &mut [Vec<Arrow>],
+    graph_edges: &mut [Vec<Edge>],
     nodes: Nodes,
     graph: &Graph,
     block: u32,
     units: &[Unit],
     rows: &mut [Places],
 ) -> Result<(), AllocError>
-    requires room { length arrows.old ≡ node_count nodes.blocks nodes.objects }
+    requires room { length graph_edges.old ≡ node_count nodes.blocks nodes.objects }
     requires block { block < nodes.blocks }
     requires graph { IsSomeGraph graph.now }
     requires objects { nodes.objects ≡ length graph.now.objects.items }
     requires whole { length rows.old ≡ 32 }
-    ensures edges { OnOk result (Adds (UnitEdges nodes.blocks block graph.now.sites.items units.now) (plain_rows arrows.old) (plain_rows arrows.new)) }
+    ensures edges { OnOk result (Adds (UnitEdges nodes.blocks block graph.now.sites.items units.now) (plain_rows graph_edges.old) (plain_rows graph_edges.new)) }
     ensures rows { OnOk result (AreRows graph.now.sites.items units.now rows.new) }
 {
     begin(rows);
     for k in (0..units.len()).rev() {
         let unit = &units[k];
         let site = graph.site_at(unit.at);
-        push_sources(arrows, nodes, block, unit, site, rows)?;
+        push_sources(graph_edges, nodes, block, unit, site, rows)?;
         go_back(rows, unit, site);
     }
     Ok(())

@@ -7,46 +7,46 @@ use crate::marks::one_mark;
 use crate::nodes::Nodes;
 use crate::reached::Reached;
 use crate::sweeping::sweep;
-use reach_graph::{Arrow, spread};
+use reach_graph::{Edge, propagate};
 use std::alloc::{AllocError, Global};
 
 /// What marks reach of which mark `k` begins at the `k`-th of `count` nodes from `first` on.
 pub(crate) fn reached_from(
     alloc: Global,
     nodes: Nodes,
-    arrows: &[Vec<Arrow>],
+    graph_edges: &[Vec<Edge>],
     first: u32,
     count: u32,
 ) -> Result<Reached, AllocError>
-    requires room { length arrows.now ≡ node_count nodes.blocks nodes.objects }
-    requires inside { AreInside (plain_rows arrows.now) (node_count nodes.blocks nodes.objects) }
+    requires room { length graph_edges.now ≡ node_count nodes.blocks nodes.objects }
+    requires inside { AreInside (plain_rows graph_edges.now) (node_count nodes.blocks nodes.objects) }
     requires last { first + count ≤ node_count nodes.blocks nodes.objects }
     requires few { count ≤ 64 }
-    ensures { IfOk result (λ r. IsReached (plain_rows arrows.now) nodes.blocks first count (plain r)) }
+    ensures { IfOk result (λ r. IsReached (plain_rows graph_edges.now) nodes.blocks first count (plain r)) }
 {
     let mut marks = vec![in alloc; 0; nodes.count() as usize]?;
-    reach(alloc, nodes, arrows, first, count, &mut marks)
+    reach(alloc, nodes, graph_edges, first, count, &mut marks)
 }
 
 /// The same, over `marks` without any.
 fn reach(
     alloc: Global,
     nodes: Nodes,
-    arrows: &[Vec<Arrow>],
+    graph_edges: &[Vec<Edge>],
     first: u32,
     count: u32,
     marks: &mut [u64],
 ) -> Result<Reached, AllocError>
-    requires room { length arrows.now ≡ node_count nodes.blocks nodes.objects }
-    requires inside { AreInside (plain_rows arrows.now) (node_count nodes.blocks nodes.objects) }
+    requires room { length graph_edges.now ≡ node_count nodes.blocks nodes.objects }
+    requires inside { AreInside (plain_rows graph_edges.now) (node_count nodes.blocks nodes.objects) }
     requires last { first + count ≤ node_count nodes.blocks nodes.objects }
     requires few { count ≤ 64 }
     requires bare { marks.old ≡ replicate (node_count nodes.blocks nodes.objects) 0 }
-    ensures { IfOk result (λ r. IsReached (plain_rows arrows.now) nodes.blocks first count (plain r)) }
+    ensures { IfOk result (λ r. IsReached (plain_rows graph_edges.now) nodes.blocks first count (plain r)) }
 {
     begin_marks(marks, first, count);
-    sweep(nodes, arrows, first, count, marks);
-    spread(alloc, arrows, marks)?;
+    sweep(nodes, graph_edges, first, count, marks);
+    propagate(alloc, graph_edges, marks)?;
     let reached = Reached::of(alloc, nodes, marks)?;
     Ok(reached)
 }

@@ -1,4 +1,4 @@
--- Before the first move nothing is counted.
+-- Before the first transition nothing is counted.
 use Rattle.std.proofs.Common.{◌≡◌, ◌∙◌, ℕ, zero, suc, ◌<◌, ◌≤◌, true, false, List, [], length, replicate, slice_index_or, refl, sym, ap, subst, arith}
 use Rattle.std.proofs.lemmas.List.{length-replicate}
 use Rattle.profile_runner.specs.Counts.{plain_rows, count_in, sum_below, IsList, IsTable, arrivals_of, edges_of, accesses_of, switches_of}

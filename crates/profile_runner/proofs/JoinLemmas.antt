@@ -65,26 +65,26 @@ and_not x y is = rw is refl
 
 -- edges from other blocks count nothing
 skipped : (xs ys : List Edge) (a b : ℕ) → ((k : ℕ) (d : Edge) → k < length xs → (slice_index_or xs k d).from ≡ a → ⊥) → count_in (xs ++ ys) a b ≡ count_in ys a b
-skipped [] ys a b apart = refl
-skipped (e ∷ xs) ys a b apart =
+skipped [] ys a b disjoint = refl
+skipped (e ∷ xs) ys a b disjoint =
     if_false ((e.from == a) && (e.to == b)) e.count (count_in (xs ++ ys) a b)
-    (and_not (e.from == a) (e.to == b) (eq_not e.from a (apart 0 e (omega arith))))
-    ∙ skipped xs ys a b (λ k d below. apart (suc k) d (omega (arith, below)))
+    (and_not (e.from == a) (e.to == b) (eq_not e.from a (disjoint 0 e (omega arith))))
+    ∙ skipped xs ys a b (λ k d below. disjoint (suc k) d (omega (arith, below)))
 
 if_same : (b : Bool) (m x y : ℕ) → x ≡ y → (if b then m else x) ≡ (if b then m else y)
 if_same b m x y same = rw same refl
 
 none_counted : (ys : List Edge) (a b : ℕ) → ((k : ℕ) (d : Edge) → k < length ys → (slice_index_or ys k d).from ≡ a → ⊥) → count_in ys a b ≡ 0
-none_counted [] a b apart = refl
-none_counted (e ∷ ys) a b apart =
+none_counted [] a b disjoint = refl
+none_counted (e ∷ ys) a b disjoint =
     if_false ((e.from == a) && (e.to == b)) e.count (count_in ys a b)
-    (and_not (e.from == a) (e.to == b) (eq_not e.from a (apart 0 e (omega arith))))
-    ∙ none_counted ys a b (λ k d below. apart (suc k) d (omega (arith, below)))
+    (and_not (e.from == a) (e.to == b) (eq_not e.from a (disjoint 0 e (omega arith))))
+    ∙ none_counted ys a b (λ k d below. disjoint (suc k) d (omega (arith, below)))
 
 unchanged : (xs ys : List Edge) (a b : ℕ) → ((k : ℕ) (d : Edge) → k < length ys → (slice_index_or ys k d).from ≡ a → ⊥) → count_in (xs ++ ys) a b ≡ count_in xs a b
-unchanged [] ys a b apart = none_counted ys a b apart
-unchanged (e ∷ xs) ys a b apart =
-    if_same ((e.from == a) && (e.to == b)) e.count (count_in (xs ++ ys) a b) (count_in xs a b) (unchanged xs ys a b apart)
+unchanged [] ys a b disjoint = none_counted ys a b disjoint
+unchanged (e ∷ xs) ys a b disjoint =
+    if_same ((e.from == a) && (e.to == b)) e.count (count_in (xs ++ ys) a b) (count_in xs a b) (unchanged xs ys a b disjoint)
 
 -- ---- all rows below a place
 

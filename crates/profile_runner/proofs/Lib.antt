@@ -1,7 +1,7 @@
 pub mod EdgeLemmas
 pub mod CountLemmas
 pub mod TestLemmas
-pub mod MoveLemmas
+pub mod TransitionLemmas
 pub mod TallyLemmas
 pub mod JoinLemmas
 pub mod FillLemmas

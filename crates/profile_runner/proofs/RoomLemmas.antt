@@ -1,8 +1,8 @@
--- Fewer moves than 2 ^ 64 leave room for one more in each count.
+-- Fewer transitions than 2 ^ 64 leave room for one more in each count.
 use Rattle.std.proofs.Common.{◌≡◌, ℕ, suc, ◌<◌, ◌≤◌, true, false, List, length, slice_index_or, Option, Some, None, Vec, refl, arith}
 use Rattle.std.specs.Global.{Global}
 use Rattle.std.proofs.lemmas.List.{length-map}
-use Rattle.profile_runner.specs.Move.{Move}
+use Rattle.profile_runner.specs.Transition.{Transition}
 use Rattle.profile_runner.specs.Standing.{region_of, entered}
 use Rattle.profile_runner.specs.Counts.{plain_rows, entry, arrivals_of, accesses_of, switches_of, IsList, IsTable}
 use Rattle.profile_runner.specs.Tallies.{IsBlockAt, block_now, region_now, plain_edges, edge_row}
@@ -19,7 +19,7 @@ table_room : (rows : List (List ℕ)) (h w j k n : ℕ) (f : ℕ → ℕ → ℕ
 table_room rows h w j k n f is row column le few =
     let here = is.counts j k row column in omega (arith, here, le, few)
 
-change_room : (starts regions : List ℕ) (last size before after : ℕ) (ms : List Move) (t : Tally) → IsTally starts regions last size ms t → length ms < 18446744073709551615 → before ≤ last → after ≤ last → HasRoomToChange t.changes before after
+change_room : (starts regions : List ℕ) (last size before after : ℕ) (ms : List Transition) (t : Tally) → IsTally starts regions last size ms t → length ms < 18446744073709551615 → before ≤ last → after ≤ last → HasRoomToChange t.changes before after
 change_room starts regions last size before after ms t is few first second =
     let low : before < suc last = omega (arith, first) in
     let high : after < suc last = omega (arith, second) in
@@ -38,7 +38,7 @@ change_room starts regions last size before after ms t is few first second =
       enter = list_room t.changes.enters.items (suc last) after (length ms) _ is.enters_are high (is.few_enters after high) few;
     }
 
-begin_room : (starts regions : List ℕ) (last size pc : ℕ) (ms : List Move) (t : Tally) (coming : Option ℕ) → IsTally starts regions last size ms t → length ms < 18446744073709551615 → length regions ≡ length starts → ((k : ℕ) → region_of regions k ≤ last) → IsBlockAt starts pc coming → (coming ≡ None → t.units < 4294967295) → HasRoomToBegin regions coming t
+begin_room : (starts regions : List ℕ) (last size pc : ℕ) (ms : List Transition) (t : Tally) (coming : Option ℕ) → IsTally starts regions last size ms t → length ms < 18446744073709551615 → length regions ≡ length starts → ((k : ℕ) → region_of regions k ≤ last) → IsBlockAt starts pc coming → (coming ≡ None → t.units < 4294967295) → HasRoomToBegin regions coming t
 begin_room starts regions last size pc ms t None is few same fit at units = units refl
 begin_room starts regions last size pc ms t (Some k) is few same fit at units =
     let below = at.2 in
@@ -50,7 +50,7 @@ begin_room starts regions last size pc ms t (Some k) is few same fit at units =
       change = change_room starts regions last size t.region (entered t.region (region_of regions k)) ms t is few is.region_fits (entered_fits last t.region (region_of regions k) is.region_fits (fit k));
     }
 
-access_room : (starts regions : List ℕ) (last size region : ℕ) (ms : List Move) (t : Tally) → IsTally starts regions last size ms t → length ms < 18446744073709551615 → region ≤ last → HasRoomToAccess region (plain_rows t.reads.items) (plain_rows t.writes.items)
+access_room : (starts regions : List ℕ) (last size region : ℕ) (ms : List Transition) (t : Tally) → IsTally starts regions last size ms t → length ms < 18446744073709551615 → region ≤ last → HasRoomToAccess region (plain_rows t.reads.items) (plain_rows t.writes.items)
 access_room starts regions last size region ms t is few fits =
     let low : region < suc last = omega (arith, fits) in
     let reads = is.reads_are.height_is in
@@ -64,7 +64,7 @@ access_room starts regions last size region ms t is few fits =
           table_room (plain_rows t.writes.items) size (suc last) j region (length ms) (accesses_of starts regions ms true) is.writes_are (omega (arith, writes, below)) low (count_few _ (length ms)) few;
     }
 
-lead_room : (starts regions : List ℕ) (last size block : ℕ) (ms : List Move) (t : Tally) (next : Option ℕ) → IsTally starts regions last size ms t → length ms < 18446744073709551615 → block < length starts → HasRoomToLead next block (plain_edges t.edges.items)
+lead_room : (starts regions : List ℕ) (last size block : ℕ) (ms : List Transition) (t : Tally) (next : Option ℕ) → IsTally starts regions last size ms t → length ms < 18446744073709551615 → block < length starts → HasRoomToLead next block (plain_edges t.edges.items)
 lead_room starts regions last size block ms t None is few below = tt
 lead_room starts regions last size block ms t (Some b) is few below =
     let height = is.edges_are.height_is in
@@ -75,7 +75,7 @@ lead_room starts regions last size block ms t (Some b) is few below =
       edge = few_of 0 block (length starts) (length ms) (edge_row (plain_edges t.edges.items) block) from few;
     }
 
-pub room : (starts regions : List ℕ) (last size pc : ℕ) (ms : List Move) (t : Tally) (coming next : Option ℕ) → IsTally starts regions last size ms t → length ms < 18446744073709551615 → length regions ≡ length starts → ((k : ℕ) → region_of regions k ≤ last) → IsBlockAt starts pc coming → (coming ≡ None → t.units < 4294967295) → HasRoom regions coming next t
+pub room : (starts regions : List ℕ) (last size pc : ℕ) (ms : List Transition) (t : Tally) (coming next : Option ℕ) → IsTally starts regions last size ms t → length ms < 18446744073709551615 → length regions ≡ length starts → ((k : ℕ) → region_of regions k ≤ last) → IsBlockAt starts pc coming → (coming ≡ None → t.units < 4294967295) → HasRoom regions coming next t
 room starts regions last size pc ms t coming next is few same fit at units =
     record {
       step = let steps = is.steps_are in omega (arith, steps, few);

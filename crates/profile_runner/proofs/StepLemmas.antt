@@ -1,4 +1,4 @@
--- A step that was taken and counted, as one move more.
+-- A step that was taken and counted, as one transition more.
 use Rattle.std.proofs.Common.{◌≡◌, ◌∙◌, inl, inr, ℕ, zero, suc, ◌+◌, ◌*◌, ◌≤◌, true, List, [], ◌∷◌, ◌++◌, length, Option, Some, None, refl, sym, subst, arith}
 use Rattle.std.specs.List.{All}
 use Rattle.rv_decode.specs.declared.instructions.Instr.{Instr}
@@ -11,15 +11,15 @@ use Rattle.object_machine.specs.Program.{Program}
 use Rattle.object_machine.specs.State.{SourceState}
 use Rattle.object_machine.specs.Step.{Performs}
 use Rattle.object_machine.specs.Machine.{state_of, IsProgram}
-use Rattle.profile_runner.specs.Move.{Move, is_going}
+use Rattle.profile_runner.specs.Transition.{Transition, is_going}
 use Rattle.profile_runner.specs.Standing.{region_of}
 use Rattle.profile_runner.specs.Tallies.{IsBlockAt, IsNext, units_now}
 use Rattle.profile_runner.specs.Running.{IsMachineOf, IsComing, WhileGoing, IsSoFar, IsCounted}
 use Rattle.profile_runner.specs.declared.tally.Tally.{Tally}
-use Rattle.profile_runner.proofs.MoveLemmas.{one_longer}
+use Rattle.profile_runner.proofs.TransitionLemmas.{one_longer}
 use Rattle.profile_runner.proofs.TallyLemmas.{IsOneMore, tally_more}
 use Rattle.object_machine.proofs.LeadLemmas.{performs_lead}
-use Rattle.profile_runner.proofs.RunLemmas.{step_move, performed, same_outcome, moves_more}
+use Rattle.profile_runner.proofs.RunLemmas.{step_transition, performed, same_outcome, transitions_more}
 
 -- ---- what is known while the machine goes on
 
@@ -70,7 +70,7 @@ no_block : (starts : List ℕ) (pc : ℕ) (next : Option ℕ) → IsBlockAt star
 no_block starts pc None at is begins = cc
 no_block starts pc (Some k) at is begins = cc
 
-next_comes : (starts : List ℕ) (p : Program) (s u : SourceState) (e : Event) (read : Option Instr) (ms : List Move) (old new : Tally) (coming next : Option ℕ) → KnowsBlocks starts p → Performs p s e u read → u.outcome ≡ GoesOn → IsNext starts (is_going e.outcome) u.pc next → new.units ≡ units_now coming old.units → (coming ≡ None → 4 * old.units ≤ s.pc) → (length ms ≡ 0 → ⊥) → IsComing starts u.pc ms new next
+next_comes : (starts : List ℕ) (p : Program) (s u : SourceState) (e : Event) (read : Option Instr) (ms : List Transition) (old new : Tally) (coming next : Option ℕ) → KnowsBlocks starts p → Performs p s e u read → u.outcome ≡ GoesOn → IsNext starts (is_going e.outcome) u.pc next → new.units ≡ units_now coming old.units → (coming ≡ None → 4 * old.units ≤ s.pc) → (length ms ≡ 0 → ⊥) → IsComing starts u.pc ms new next
 next_comes starts p s u e read ms old new coming next knows performs on next_is units behind longer =
     let outcome : e.outcome ≡ GoesOn = same_outcome p s u e read performs ∙ on in
     let at : IsBlockAt starts u.pc next = subst (λ (o : Outcome). IsNext starts (is_going o) u.pc next) outcome next_is in
@@ -87,17 +87,17 @@ next_comes starts p s u e read ms old new coming next knows performs on next_is 
 pub so_far_more : (starts regions : List ℕ) (last size : ℕ) (p : Program) (s : SourceState) (i : ℕ) (m n : Source) (old new : Tally) (coming next : Option ℕ) → KnowsBlocks starts p → ((k : ℕ) → region_of regions k ≤ last) → (state_of p m).outcome ≡ GoesOn → IsSoFar starts regions last size p s i m old coming → IsCounted starts regions p m n coming next old new → IsSoFar starts regions last size p s (suc i) n new next
 so_far_more starts regions last size p s i m n old new coming next knows fit going far counted =
     let (read, performs) = performed (state_of p m).outcome p (state_of p m) (state_of p n) counted.event going counted.step in
-    let move = step_move (state_of p m) counted.event (state_of p n) in
-    let now = going_is (state_of p m).outcome (IsComing starts (state_of p m).pc far.moves old coming) going far.next in
-    let one : IsOneMore starts regions last far.moves move coming next =
+    let transition = step_transition (state_of p m) counted.event (state_of p n) in
+    let now = going_is (state_of p m).outcome (IsComing starts (state_of p m).pc far.transitions old coming) going far.next in
+    let one : IsOneMore starts regions last far.transitions transition coming next =
     record { begun_is = now.at; next_is = counted.next_is; first_begins = now.first; regions_fit = fit } in
-    let longer = one_longer far.moves move in
+    let longer = one_longer far.transitions transition in
     record {
       is = counted.is;
-      moves = far.moves ++ move ∷ [];
-      run = moves_more p i s (state_of p m) (state_of p n) far.moves counted.event read far.run going performs;
+      transitions = far.transitions ++ transition ∷ [];
+      run = transitions_more p i s (state_of p m) (state_of p n) far.transitions counted.event read far.run going performs;
       few = let few = far.few in omega (arith, longer, few);
-      tally = tally_more starts regions last size far.moves move coming next old new far.tally counted.counted one;
+      tally = tally_more starts regions last size far.transitions transition coming next old new far.tally counted.counted one;
       next = while_going (state_of p n).outcome _ (λ on.
-          next_comes starts p (state_of p m) (state_of p n) counted.event read (far.moves ++ move ∷ []) old new coming next knows performs on counted.next_is counted.counted.units_are now.behind (λ none. absurd (omega (arith, none, longer))));
+          next_comes starts p (state_of p m) (state_of p n) counted.event read (far.transitions ++ transition ∷ []) old new coming next knows performs on counted.next_is counted.counted.units_are now.behind (λ none. absurd (omega (arith, none, longer))));
     }

@@ -1,9 +1,9 @@
--- What was counted, with one move more.
+-- What was counted, with one transition more.
 use Rattle.std.proofs.Common.{◌≡◌, ◌∙◌, inl, inr, ℕ, zero, suc, ◌+◌, ◌<◌, ◌≤◌, ◌==◌, Bool, true, false, ◌&&◌, if◌then◌else◌, List, [], ◌∷◌, ◌++◌, length, set, Option, Some, None, refl, sym, ap, subst, arith, get_or-set_same, get_or-set_other}
 use Rattle.std.proofs.Math.ListN.{length-set}
 use Rattle.std.proofs.lemmas.Bool.{cases_eq}
 use Rattle.code_leaders.specs.Early.{has}
-use Rattle.profile_runner.specs.Move.{Move}
+use Rattle.profile_runner.specs.Transition.{Transition}
 use Rattle.profile_runner.specs.Standing.{number_of, region_of, entered, block_of, units_run, current}
 use Rattle.profile_runner.specs.Counts.{plain_rows, count_in, arrivals_of, edges_of, accesses_of, switches_of}
 use Rattle.profile_runner.specs.Tallies.{IsBlockAt, IsNext, is_coming, is_led, block_now, region_now, is_switch, is_leave, is_enter, is_access_in, plain_edges, edge_row, with_edge, AreFrom, AreRows, LedTo}
@@ -13,7 +13,7 @@ use Rattle.profile_runner.specs.declared.tally.Tally.{Tally}
 use Rattle.profile_runner.proofs.CountLemmas.{list_more, table_more, sum_more}
 use Rattle.profile_runner.proofs.EdgeLemmas.{are_still, are_more, counts_more}
 use Rattle.profile_runner.proofs.TestLemmas.{block_choice, units_choice, region_choice, coming_test, led_test, switch_leave, switch_enter, eq_refl, eq_not}
-use Rattle.profile_runner.proofs.MoveLemmas.{one_longer, block_here, units_here, current_here, arrivals_more, edges_more, accesses_more, switches_more}
+use Rattle.profile_runner.proofs.TransitionLemmas.{one_longer, block_here, units_here, current_here, arrivals_more, edges_more, accesses_more, switches_more}
 
 -- ---- edges
 
@@ -101,23 +101,23 @@ at_most : (b : Bool) (sum more n : ℕ) → more ≡ sum + (if b then 1 else 0) 
 at_most true sum more n is le = omega (arith, is, le)
 at_most false sum more n is le = omega (arith, is, le)
 
-pub record IsOneMore (starts regions : List ℕ) (last : ℕ) (ms : List Move) (m : Move) (coming next : Option ℕ) : Type 0 where
+pub record IsOneMore (starts regions : List ℕ) (last : ℕ) (ms : List Transition) (m : Transition) (coming next : Option ℕ) : Type 0 where
   pub begun_is : IsBlockAt starts m.at coming
   pub next_is : IsNext starts m.goes_on m.next next
   pub first_begins : length ms ≡ 0 → has starts m.at ≡ true
   pub regions_fit : (k : ℕ) → region_of regions k ≤ last
 
-leaves_sum : (starts regions : List ℕ) (last : ℕ) (ms : List Move) (m : Move) (old new s : ℕ) → current starts regions ms (length ms) ≡ old → current starts regions (ms ++ m ∷ []) (suc (length ms)) ≡ new → new ≤ last → leaves_of starts regions last (ms ++ m ∷ []) s ≡ leaves_of starts regions last ms s + (if is_leave old new s then 1 else 0)
+leaves_sum : (starts regions : List ℕ) (last : ℕ) (ms : List Transition) (m : Transition) (old new s : ℕ) → current starts regions ms (length ms) ≡ old → current starts regions (ms ++ m ∷ []) (suc (length ms)) ≡ new → new ≤ last → leaves_of starts regions last (ms ++ m ∷ []) s ≡ leaves_of starts regions last ms s + (if is_leave old new s then 1 else 0)
 leaves_sum starts regions last ms m old new s was is fits =
     sum_more (switches_of starts regions ms s) (switches_of starts regions (ms ++ m ∷ []) s) (is_leave old new s) new (suc last) (omega (arith, fits))
     (λ r below. switches_more starts regions ms m old new s r was is ∙ test_is _ _ _ (switch_leave old new s r))
 
-enters_sum : (starts regions : List ℕ) (last : ℕ) (ms : List Move) (m : Move) (old new r : ℕ) → current starts regions ms (length ms) ≡ old → current starts regions (ms ++ m ∷ []) (suc (length ms)) ≡ new → old ≤ last → enters_of starts regions last (ms ++ m ∷ []) r ≡ enters_of starts regions last ms r + (if is_enter old new r then 1 else 0)
+enters_sum : (starts regions : List ℕ) (last : ℕ) (ms : List Transition) (m : Transition) (old new r : ℕ) → current starts regions ms (length ms) ≡ old → current starts regions (ms ++ m ∷ []) (suc (length ms)) ≡ new → old ≤ last → enters_of starts regions last (ms ++ m ∷ []) r ≡ enters_of starts regions last ms r + (if is_enter old new r then 1 else 0)
 enters_sum starts regions last ms m old new r was is fits =
     sum_more (λ s. switches_of starts regions ms s r) (λ s. switches_of starts regions (ms ++ m ∷ []) s r) (is_enter old new r) old (suc last) (omega (arith, fits))
     (λ s below. switches_more starts regions ms m old new s r was is ∙ test_is _ _ _ (switch_enter old new s r))
 
-pub tally_more : (starts regions : List ℕ) (last size : ℕ) (ms : List Move) (m : Move) (coming next : Option ℕ) (old new : Tally) → IsTally starts regions last size ms old → HasCounted regions coming m.access next old new → IsOneMore starts regions last ms m coming next → IsTally starts regions last size (ms ++ m ∷ []) new
+pub tally_more : (starts regions : List ℕ) (last size : ℕ) (ms : List Transition) (m : Transition) (coming next : Option ℕ) (old new : Tally) → IsTally starts regions last size ms old → HasCounted regions coming m.access next old new → IsOneMore starts regions last ms m coming next → IsTally starts regions last size (ms ++ m ∷ []) new
 tally_more starts regions last size ms m coming next old new t c one =
     let longer = one_longer ms m in
     let block : block_of starts (ms ++ m ∷ []) (length ms) ≡ new.block =

@@ -30,7 +30,7 @@ no_switch b s r =
       | inr differs ↦
           elim (cases_eq b s) [
             | inl here ↦ rw (here, eq_not s r differs, and-false (s == s)) refl
-            | inr apart_there ↦ rw (eq_not b s apart_there, eq_not s r differs) refl
+            | inr disjoint_there ↦ rw (eq_not b s disjoint_there, eq_not s r differs) refl
           ]
     ]
 
@@ -48,9 +48,9 @@ one_switch b a differs s r =
             | inl here ↦
                 let elsewhere : (a == r) ≡ false = eq_not a r (λ is. differs (here ∙ (same ∙ sym is))) in
                 rw (elsewhere, and-false (b == s), and-false (not (s == r))) refl
-            | inr apart_there ↦ rw (eq_not b s apart_there, and-false (not (s == r))) refl
+            | inr disjoint_there ↦ rw (eq_not b s disjoint_there, and-false (not (s == r))) refl
           ]
-      | inr apart ↦ rw (eq_not s r apart) refl
+      | inr disjoint ↦ rw (eq_not s r disjoint) refl
     ]
 
 pub one_leave : (b a : ℕ) → (b ≡ a → ⊥) → (s : ℕ) → is_number b s ≡ is_leave b a s

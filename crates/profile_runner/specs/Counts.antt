@@ -5,28 +5,28 @@ use Rattle.std.specs.List.{All, AllPairs}
 use Rattle.list_checks.specs.Sorted.{count_below}
 use Rattle.object_machine.specs.declared.events.Access.{Access}
 use Rattle.object_machine.specs.declared.events.Outcome.{Outcome}
-use Rattle.profile_runner.specs.Move.{Move, move_at}
+use Rattle.profile_runner.specs.Transition.{Transition, transition_at}
 use Rattle.profile_runner.specs.Standing.{begins, number_of, block_of, units_run, current}
 use Rattle.profile_runner.specs.declared.counts.Edge.{Edge}
 use Rattle.profile_runner.specs.declared.counts.Profile.{Profile}
 
--- ---- counts over the moves
+-- ---- counts over the transitions
 
 -- how often block `b` began
-abbrev pub arrivals_of : List ℕ → List Move → ℕ → ℕ
-arrivals_of starts moves b =
-    count_below (λ i. begins starts moves i && (number_of starts (move_at moves i).at == b)) (length moves)
+abbrev pub arrivals_of : List ℕ → List Transition → ℕ → ℕ
+arrivals_of starts transitions b =
+    count_below (λ i. begins starts transitions i && (number_of starts (transition_at transitions i).at == b)) (length transitions)
 
 -- how often control went from block `a` to block `b`: counted with the unit that goes there, also where the run ends
 -- before `b` begins
-abbrev pub is_edge : List ℕ → List Move → ℕ → ℕ → ℕ → Bool
-is_edge starts moves a b i =
-    (move_at moves i).goes_on
-    && (block_of starts moves i == a)
-    && (nat_lt b (length starts) && (number_of starts (move_at moves i).next == b))
+abbrev pub is_edge : List ℕ → List Transition → ℕ → ℕ → ℕ → Bool
+is_edge starts transitions a b i =
+    (transition_at transitions i).goes_on
+    && (block_of starts transitions i == a)
+    && (nat_lt b (length starts) && (number_of starts (transition_at transitions i).next == b))
 
-abbrev pub edges_of : List ℕ → List Move → ℕ → ℕ → ℕ
-edges_of starts moves a b = count_below (is_edge starts moves a b) (length moves)
+abbrev pub edges_of : List ℕ → List Transition → ℕ → ℕ → ℕ
+edges_of starts transitions a b = count_below (is_edge starts transitions a b) (length transitions)
 
 -- how often an object was read, or written, while a region was current
 abbrev pub same_direction : Bool → Bool → Bool
@@ -36,18 +36,18 @@ abbrev pub is_access_to : Bool → ℕ → Option Access → Bool
 is_access_to write o None = false
 is_access_to write o (Some a) = (a.object == o) && same_direction write a.write
 
-abbrev pub accesses_of : List ℕ → List ℕ → List Move → Bool → ℕ → ℕ → ℕ
-accesses_of starts regions moves write o r =
+abbrev pub accesses_of : List ℕ → List ℕ → List Transition → Bool → ℕ → ℕ → ℕ
+accesses_of starts regions transitions write o r =
     count_below
-    (λ i. is_access_to write o (move_at moves i).access && (current starts regions moves (suc i) == r))
-    (length moves)
+    (λ i. is_access_to write o (transition_at transitions i).access && (current starts regions transitions (suc i) == r))
+    (length transitions)
 
 -- how often the current region changed from `s` to `r`
-abbrev pub switches_of : List ℕ → List ℕ → List Move → ℕ → ℕ → ℕ
-switches_of starts regions moves s r =
+abbrev pub switches_of : List ℕ → List ℕ → List Transition → ℕ → ℕ → ℕ
+switches_of starts regions transitions s r =
     count_below
-    (λ i. not (s == r) && ((current starts regions moves i == s) && (current starts regions moves (suc i) == r)))
-    (length moves)
+    (λ i. not (s == r) && ((current starts regions transitions i == s) && (current starts regions transitions (suc i) == r)))
+    (length transitions)
 
 -- ---- tables of counts
 
@@ -90,18 +90,18 @@ pub record AreEdges (edges : List Edge) (size : ℕ) (count : ℕ → ℕ → �
   pub positive : All (λ e. 0 < e.count) edges
   pub counts : (a b : ℕ) → a < size → b < size → count_in edges a b ≡ count a b
 
--- ---- the profile of the moves of a run, of which there is one at least
+-- ---- the profile of the transitions of a run, of which there is one at least
 
 -- `size` objects may move, and there are regions 1 to `last`
-pub record IsProfile (starts regions : List ℕ) (last size : ℕ) (moves : List Move) (outcome : Outcome) (q : Profile) : Type 0 where
-  pub steps : q.steps ≡ length moves
+pub record IsProfile (starts regions : List ℕ) (last size : ℕ) (transitions : List Transition) (outcome : Outcome) (q : Profile) : Type 0 where
+  pub steps : q.steps ≡ length transitions
   pub outcome_is : q.outcome ≡ outcome
-  pub arrivals : IsList q.arrivals.items (length starts) (arrivals_of starts moves)
-  pub edges : AreEdges q.edges.items (length starts) (edges_of starts moves)
-  pub last_block : q.last.0 ≡ block_of starts moves (length moves - 1)
-  pub last_units : q.last.1 ≡ units_run starts moves (length moves - 1)
-  pub reads : IsTable (plain_rows q.reads.items) size (suc last) (accesses_of starts regions moves false)
-  pub writes : IsTable (plain_rows q.writes.items) size (suc last) (accesses_of starts regions moves true)
-  pub switches : IsTable (plain_rows q.switches.items) (suc last) (suc last) (switches_of starts regions moves)
-  pub leaves : IsList q.leaves.items (suc last) (λ s. sum_below (switches_of starts regions moves s) (suc last))
-  pub enters : IsList q.enters.items (suc last) (λ r. sum_below (λ s. switches_of starts regions moves s r) (suc last))
+  pub arrivals : IsList q.arrivals.items (length starts) (arrivals_of starts transitions)
+  pub edges : AreEdges q.edges.items (length starts) (edges_of starts transitions)
+  pub last_block : q.last.0 ≡ block_of starts transitions (length transitions - 1)
+  pub last_units : q.last.1 ≡ units_run starts transitions (length transitions - 1)
+  pub reads : IsTable (plain_rows q.reads.items) size (suc last) (accesses_of starts regions transitions false)
+  pub writes : IsTable (plain_rows q.writes.items) size (suc last) (accesses_of starts regions transitions true)
+  pub switches : IsTable (plain_rows q.switches.items) (suc last) (suc last) (switches_of starts regions transitions)
+  pub leaves : IsList q.leaves.items (suc last) (λ s. sum_below (switches_of starts regions transitions s) (suc last))
+  pub enters : IsList q.enters.items (suc last) (λ r. sum_below (λ s. switches_of starts regions transitions s r) (suc last))

@@ -1,6 +1,6 @@
 pub use Rattle.object_machine.specs.Step
-pub mod Move
-pub mod Moves
+pub mod Transition
+pub mod Transitions
 pub mod Standing
 pub mod Counts
 pub mod Tallies

@@ -16,8 +16,8 @@ use Rattle.object_machine.specs.Step.{Step}
 use Rattle.object_machine.specs.Program.{Program, program_of}
 use Rattle.object_machine.specs.State.{SourceState}
 use Rattle.object_machine.specs.Machine.{state_of, IsProgram}
-use Rattle.profile_runner.specs.Move.{Move, is_going}
-use Rattle.profile_runner.specs.Moves.{Moves}
+use Rattle.profile_runner.specs.Transition.{Transition, is_going}
+use Rattle.profile_runner.specs.Transitions.{Transitions}
 use Rattle.profile_runner.specs.Counts.{IsProfile}
 use Rattle.profile_runner.specs.Tallies.{IsBlockAt, IsNext}
 use Rattle.profile_runner.specs.Tally.{IsTally, HasCounted}
@@ -49,20 +49,20 @@ fault_of (AddressFault pc why) = Some (FaultAt pc why)
 
 pub record Profiles (starts regions : List ℕ) (last size : ℕ) (p : Program) (n : ℕ) (s t : SourceState) (q : Profile) : Type 0 where
   pub no_fault : fault_of t.outcome ≡ None
-  pub moves : List Move
-  pub run : Moves p n s moves t
-  pub profile : IsProfile starts regions last size moves t.outcome q
+  pub transitions : List Transition
+  pub run : Transitions p n s transitions t
+  pub profile : IsProfile starts regions last size transitions t.outcome q
 
-pub record MeetsFault (p : Program) (n : ℕ) (s t : SourceState) (pc why : ℕ) : Type 0 where
+pub record RunsIntoFault (p : Program) (n : ℕ) (s t : SourceState) (pc why : ℕ) : Type 0 where
   pub fault : fault_of t.outcome ≡ Some (FaultAt pc why)
-  pub moves : List Move
-  pub run : Moves p n s moves t
+  pub transitions : List Transition
+  pub run : Transitions p n s transitions t
 
 -- a profile, where the run meets no address fault; that fault, where it meets one; or no memory was left
-abbrev pub TellsOfRun : List ℕ → List ℕ → ℕ → ℕ → Program → ℕ → SourceState → SourceState → Result Profile ProfileFault → Type 0
-TellsOfRun starts regions last size p n s t (Ok q) = Profiles starts regions last size p n s t q
-TellsOfRun starts regions last size p n s t (Err (FaultAt pc why)) = MeetsFault p n s t pc why
-TellsOfRun starts regions last size p n s t (Err Memory) = Unit {0}
+abbrev pub ReportsOfRun : List ℕ → List ℕ → ℕ → ℕ → Program → ℕ → SourceState → SourceState → Result Profile ProfileFault → Type 0
+ReportsOfRun starts regions last size p n s t (Ok q) = Profiles starts regions last size p n s t q
+ReportsOfRun starts regions last size p n s t (Err (FaultAt pc why)) = RunsIntoFault p n s t pc why
+ReportsOfRun starts regions last size p n s t (Err Memory) = Unit {0}
 
 -- ---- while it is made
 
@@ -74,11 +74,11 @@ pub record IsMachineOf (starts : List ℕ) (m : Source) : Type 0 where
   pub blocks : (a : ℕ) → some.is_block a ≡ has starts a
   pub reached : (a : ℕ) → some.is_reached a ≡ true → some.is_block a ≡ true
 
--- what is known of the next unit: which block begins there, if one does; with the first move one does; and a unit
+-- what is known of the next unit: which block begins there, if one does; with the first transition one does; and a unit
 -- of 4 bytes stands for each that ran of its block
-pub record IsComing (starts : List ℕ) (pc : ℕ) (moves : List Move) (t : Tally) (coming : Option ℕ) : Type 0 where
+pub record IsComing (starts : List ℕ) (pc : ℕ) (transitions : List Transition) (t : Tally) (coming : Option ℕ) : Type 0 where
   pub at : IsBlockAt starts pc coming
-  pub first : length moves ≡ 0 → has starts pc ≡ true
+  pub first : length transitions ≡ 0 → has starts pc ≡ true
   pub behind : coming ≡ None → 4 * t.units ≤ pc
 
 abbrev pub WhileGoing : Outcome → Type 0 → Type 0
@@ -89,11 +89,11 @@ WhileGoing (AddressFault pc why) P = Unit {0}
 
 pub record IsSoFar (starts regions : List ℕ) (last size : ℕ) (p : Program) (s : SourceState) (i : ℕ) (m : Source) (t : Tally) (coming : Option ℕ) : Type 0 where
   pub is : IsProgram p m
-  pub moves : List Move
-  pub run : Moves p i s moves (state_of p m)
-  pub few : length moves ≤ i
-  pub tally : IsTally starts regions last size moves t
-  pub next : WhileGoing (state_of p m).outcome (IsComing starts (state_of p m).pc moves t coming)
+  pub transitions : List Transition
+  pub run : Transitions p i s transitions (state_of p m)
+  pub few : length transitions ≤ i
+  pub tally : IsTally starts regions last size transitions t
+  pub next : WhileGoing (state_of p m).outcome (IsComing starts (state_of p m).pc transitions t coming)
 
 -- a step was taken and counted
 pub record IsCounted (starts regions : List ℕ) (p : Program) (old new : Source) (coming next : Option ℕ) (t y : Tally) : Type 0 where
@@ -105,6 +105,6 @@ pub record IsCounted (starts regions : List ℕ) (p : Program) (old new : Source
 
 -- all steps were taken
 pub record IsAll (starts regions : List ℕ) (last size : ℕ) (p : Program) (s t : SourceState) (n : ℕ) (y : Tally) : Type 0 where
-  pub moves : List Move
-  pub run : Moves p n s moves t
-  pub tally : IsTally starts regions last size moves y
+  pub transitions : List Transition
+  pub run : Transitions p n s transitions t
+  pub tally : IsTally starts regions last size transitions y

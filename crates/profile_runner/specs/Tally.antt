@@ -2,7 +2,7 @@
 use Rattle.std.specs.Prelude.{◌≡◌, ℕ, suc, ◌<◌, ◌≤◌, true, false, List, [], length, replicate, slice_index, Option, Some, None}
 use Rattle.std.specs.List.{All}
 use Rattle.object_machine.specs.declared.events.Access.{Access}
-use Rattle.profile_runner.specs.Move.{Move}
+use Rattle.profile_runner.specs.Transition.{Transition}
 use Rattle.profile_runner.specs.Standing.{region_of, entered, block_of, units_run, current}
 use Rattle.profile_runner.specs.Counts.{plain_rows, row_of, entry, arrivals_of, edges_of, accesses_of, switches_of, sum_below, IsList, IsTable}
 use Rattle.profile_runner.specs.Tallies.{Adds, AddsIn, is_coming, block_now, units_now, region_now, is_switch, is_leave, is_enter, is_access_in, Ascend, plain_edges, edge_row, AreRows, LedTo}
@@ -87,32 +87,32 @@ pub record HasCounted (regions : List ℕ) (coming : Option ℕ) (access : Optio
   pub writes_add : AddsIn (plain_rows old.writes.items) (plain_rows new.writes.items) (is_access_in true access new.region)
   pub changes_add : HasChanged old.changes new.changes old.region new.region
 
--- ---- what was counted of the moves so far
+-- ---- what was counted of the transitions so far
 
 -- how often a region was left, and entered
-abbrev pub leaves_of : List ℕ → List ℕ → ℕ → List Move → ℕ → ℕ
-leaves_of starts regions last moves s = sum_below (switches_of starts regions moves s) (suc last)
+abbrev pub leaves_of : List ℕ → List ℕ → ℕ → List Transition → ℕ → ℕ
+leaves_of starts regions last transitions s = sum_below (switches_of starts regions transitions s) (suc last)
 
-abbrev pub enters_of : List ℕ → List ℕ → ℕ → List Move → ℕ → ℕ
-enters_of starts regions last moves r = sum_below (λ s. switches_of starts regions moves s r) (suc last)
+abbrev pub enters_of : List ℕ → List ℕ → ℕ → List Transition → ℕ → ℕ
+enters_of starts regions last transitions r = sum_below (λ s. switches_of starts regions transitions s r) (suc last)
 
-pub record IsTally (starts regions : List ℕ) (last size : ℕ) (moves : List Move) (t : Tally) : Type 0 where
-  pub steps_are : t.steps ≡ length moves
-  pub arrivals_are : IsList t.arrivals.items (length starts) (arrivals_of starts moves)
-  pub edges_are : AreRows (plain_edges t.edges.items) (length starts) (length moves) (edges_of starts moves)
-  pub reads_are : IsTable (plain_rows t.reads.items) size (suc last) (accesses_of starts regions moves false)
-  pub writes_are : IsTable (plain_rows t.writes.items) size (suc last) (accesses_of starts regions moves true)
-  pub switches_are : IsTable (plain_rows t.changes.switches.items) (suc last) (suc last) (switches_of starts regions moves)
-  pub leaves_are : IsList t.changes.leaves.items (suc last) (leaves_of starts regions last moves)
-  pub enters_are : IsList t.changes.enters.items (suc last) (enters_of starts regions last moves)
-  -- each region was left and entered at most once a move
-  pub few_leaves : (s : ℕ) → s < suc last → leaves_of starts regions last moves s ≤ length moves
-  pub few_enters : (r : ℕ) → r < suc last → enters_of starts regions last moves r ≤ length moves
-  pub region_is : t.region ≡ current starts regions moves (length moves)
+pub record IsTally (starts regions : List ℕ) (last size : ℕ) (transitions : List Transition) (t : Tally) : Type 0 where
+  pub steps_are : t.steps ≡ length transitions
+  pub arrivals_are : IsList t.arrivals.items (length starts) (arrivals_of starts transitions)
+  pub edges_are : AreRows (plain_edges t.edges.items) (length starts) (length transitions) (edges_of starts transitions)
+  pub reads_are : IsTable (plain_rows t.reads.items) size (suc last) (accesses_of starts regions transitions false)
+  pub writes_are : IsTable (plain_rows t.writes.items) size (suc last) (accesses_of starts regions transitions true)
+  pub switches_are : IsTable (plain_rows t.changes.switches.items) (suc last) (suc last) (switches_of starts regions transitions)
+  pub leaves_are : IsList t.changes.leaves.items (suc last) (leaves_of starts regions last transitions)
+  pub enters_are : IsList t.changes.enters.items (suc last) (enters_of starts regions last transitions)
+  -- each region was left and entered at most once a transition
+  pub few_leaves : (s : ℕ) → s < suc last → leaves_of starts regions last transitions s ≤ length transitions
+  pub few_enters : (r : ℕ) → r < suc last → enters_of starts regions last transitions r ≤ length transitions
+  pub region_is : t.region ≡ current starts regions transitions (length transitions)
   pub region_fits : t.region ≤ last
   pub block_fits : t.block < length starts
-  pub block_is : (i : ℕ) → length moves ≡ suc i → t.block ≡ block_of starts moves i
-  pub units_are : (i : ℕ) → length moves ≡ suc i → t.units ≡ units_run starts moves i
+  pub block_is : (i : ℕ) → length transitions ≡ suc i → t.block ≡ block_of starts transitions i
+  pub units_are : (i : ℕ) → length transitions ≡ suc i → t.units ≡ units_run starts transitions i
 
 -- nothing was counted yet, and the run begins in block `first`
 pub record IsNew (blocks size last first : ℕ) (t : Tally) : Type 0 where

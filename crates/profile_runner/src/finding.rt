@@ -2,7 +2,7 @@ ghost use Rattle.std.specs.Prelude.{◌≡◌, ◌+◌, ◌<◌, true, false, le
 ghost use Rattle.std.specs.List.Sorted.{IsStrictlyIncreasing};
 ghost use Rattle.code_leaders.specs.Early.{has};
 ghost use Rattle.code_blocks.specs.Numbers.{starts_of};
-ghost use Rattle.profile_runner.specs.Move.{is_going};
+ghost use Rattle.profile_runner.specs.Transition.{is_going};
 ghost use Rattle.profile_runner.specs.Tallies.{IsBlockAt, IsNext};
 
 use code_blocks::Code;

@@ -1,5 +1,5 @@
 ghost use Rattle.std.specs.Prelude.{◌≡◌, ◌<◌, ℕ, List, length, IfOk};
-ghost use Rattle.profile_runner.specs.Move.{Move};
+ghost use Rattle.profile_runner.specs.Transition.{Transition};
 ghost use Rattle.profile_runner.specs.Counts.{IsProfile};
 ghost use Rattle.profile_runner.specs.Tallies.{plain_edges, joined_below};
 ghost use Rattle.profile_runner.specs.Tally.{IsTally};
@@ -15,7 +15,7 @@ pub(crate) fn profile_of(
     tally: Tally,
     outcome: Outcome,
 ) -> Result<Profile, AllocError>
-    ensures { IfOk result (λ q. (starts regions : List ℕ) (last size : ℕ) (moves : List Move) → IsTally starts regions last size moves tally → 0 < length moves → IsProfile starts regions last size moves outcome q) }
+    ensures { IfOk result (λ q. (starts regions : List ℕ) (last size : ℕ) (transitions : List Transition) → IsTally starts regions last size transitions tally → 0 < length transitions → IsProfile starts regions last size transitions outcome q) }
 {
     let edges = joined(alloc, &tally.edges)?;
     Ok(Profile {

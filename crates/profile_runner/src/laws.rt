@@ -1,19 +1,19 @@
 // Laws of the definitions: functions that do nothing, whose contracts are what is proved.
-ghost use Rattle.profile_runner.specs.Laws.{MovesAreSteps, MovesAreDetermined, MovesAreFew};
+ghost use Rattle.profile_runner.specs.Laws.{TransitionsAreSteps, TransitionsAreDetermined, TransitionsAreFew};
 
-/// The moves of a run lead where its steps do.
-pub fn moves_are_steps()
-    ensures { MovesAreSteps }
+/// The transitions of a run lead where its steps do.
+pub fn transitions_are_steps()
+    ensures { TransitionsAreSteps }
 {}
 
-/// A run has one list of moves.
-pub fn moves_are_determined()
-    ensures { MovesAreDetermined }
+/// A run has one list of transitions.
+pub fn transitions_are_determined()
+    ensures { TransitionsAreDetermined }
 {
     rv_decode::one_instruction();
 }
 
-/// A run has no more moves than steps.
-pub fn moves_are_few()
-    ensures { MovesAreFew }
+/// A run has no more transitions than steps.
+pub fn transitions_are_few()
+    ensures { TransitionsAreFew }
 {}

@@ -15,5 +15,5 @@ mod tally;
 
 pub use counts::{Edge, Profile};
 pub use fault::ProfileFault;
-pub use laws::{moves_are_determined, moves_are_few, moves_are_steps};
+pub use laws::{transitions_are_determined, transitions_are_few, transitions_are_steps};
 pub use running::profile;

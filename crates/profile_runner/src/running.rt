@@ -6,7 +6,7 @@ ghost use Rattle.object_machine.specs.Program.{Program};
 ghost use Rattle.object_machine.specs.Machine.{state_of, IsProgram};
 ghost use Rattle.profile_runner.specs.Tallies.{IsBlockAt, block_now};
 ghost use Rattle.profile_runner.specs.Tally.{HasRoom, IsNew};
-ghost use Rattle.profile_runner.specs.Running.{HasStarted, fault_of, IsMachineOf, IsCounted, IsAll, TellsOfRun};
+ghost use Rattle.profile_runner.specs.Running.{HasStarted, fault_of, IsMachineOf, IsCounted, IsAll, ReportsOfRun};
 
 use crate::counts::Profile;
 use crate::fault::ProfileFault;
@@ -38,7 +38,7 @@ pub fn profile(
     requires regions { length regions.now.of_block.items ≡ length code.now.blocks.items }
     requires some { 0 < n }
     ensures program { OnOk result ((p : Program) → IsProgram p source.old → IsProgram p source.new) }
-    ensures run { (p : Program) → IsProgram p source.old → TellsOfRun (starts_of code.now) regions.now.of_block.items regions.now.count (length graph.now.objects.items) p n (state_of p source.old) (state_of p source.new) result }
+    ensures run { (p : Program) → IsProgram p source.old → ReportsOfRun (starts_of code.now) regions.now.of_block.items regions.now.count (length graph.now.objects.items) p n (state_of p source.old) (state_of p source.new) result }
 {
     let first = first_block(code, source.at());
     let blocks = code.blocks.len();

@@ -1,3 +1,3 @@
 pub mod MarkLemmas
 pub mod QueueLemmas
-pub mod SpreadLemmas
+pub mod PropagationLemmas

@@ -1,3 +1,3 @@
 pub mod Reaching
 pub mod Queues
-pub mod Spreading
+pub mod Propagation

@@ -1,8 +1,8 @@
--- Which marks come to which nodes of a directed graph, whose arrows let some marks pass.
+-- Which marks come to which nodes of a directed graph, whose edges let some marks pass.
 use Rattle.std.specs.Prelude.{◌≡◌, ℕ, ◌<◌, List, [], map, length, slice_index_or, Vec}
 use Rattle.std.specs.Global.{Global}
 use Rattle.std.specs.Int.{bit_at}
-use Rattle.reach_graph.specs.declared.arrows.Arrow.{Arrow}
+use Rattle.reach_graph.specs.declared.edges.Edge.{Edge}
 
 -- mark `k` is bit `k` of a word
 abbrev pub HasMark : ℕ → ℕ → Type 0
@@ -12,32 +12,32 @@ HasMark word k = bit_at word k ≡ 1
 abbrev pub word_at : List ℕ → ℕ → ℕ
 word_at marks n = slice_index_or marks n 0
 
-abbrev pub no_arrow : Arrow
-no_arrow = record { to = 0; mask = 0 }
+abbrev pub no_edge : Edge
+no_edge = record { to = 0; mask = 0 }
 
--- the arrows of node `n`, and arrow `i` of some
-abbrev pub arrows_of : List (List Arrow) → ℕ → List Arrow
-arrows_of rows n = slice_index_or rows n []
+-- the edges of node `n`, and edge `i` of some
+abbrev pub edges_of : List (List Edge) → ℕ → List Edge
+edges_of rows n = slice_index_or rows n []
 
-abbrev pub arrow_at : List Arrow → ℕ → Arrow
-arrow_at row i = slice_index_or row i no_arrow
+abbrev pub edge_at : List Edge → ℕ → Edge
+edge_at row i = slice_index_or row i no_edge
 
-abbrev pub arrow_in : List (List Arrow) → ℕ → ℕ → Arrow
-arrow_in rows n i = arrow_at (arrows_of rows n) i
+abbrev pub edge_in : List (List Edge) → ℕ → ℕ → Edge
+edge_in rows n i = edge_at (edges_of rows n) i
 
-abbrev pub row_items : Vec Arrow Global → List Arrow
+abbrev pub row_items : Vec Edge Global → List Edge
 row_items row = row.items
 
-abbrev pub plain_rows : List (Vec Arrow Global) → List (List Arrow)
+abbrev pub plain_rows : List (Vec Edge Global) → List (List Edge)
 plain_rows rows = map row_items rows
 
--- all arrows lead to nodes below `count`
-abbrev pub AreInside : List (List Arrow) → ℕ → Type 0
-AreInside rows count = (n i : ℕ) → n < length rows → i < length (arrows_of rows n) → (arrow_in rows n i).to < count
+-- all edges lead to nodes below `count`
+abbrev pub AreInside : List (List Edge) → ℕ → Type 0
+AreInside rows count = (n i : ℕ) → n < length rows → i < length (edges_of rows n) → (edge_in rows n i).to < count
 
 -- The least relation with these rules: a mark that stands at a node at the start comes there; and a mark that comes
--- to a node passes along each of its arrows that lets it.
-pub data Reaches (rows : List (List Arrow)) (marks : List ℕ) : ℕ → ℕ → Type 0 where
+-- to a node passes along each of its edges that lets it.
+pub data Reaches (rows : List (List Edge)) (marks : List ℕ) : ℕ → ℕ → Type 0 where
   stands : (n k : ℕ) → HasMark (word_at marks n) k → Reaches rows marks n k
-  passes : (n i k : ℕ) → Reaches rows marks n k → i < length (arrows_of rows n) → HasMark (arrow_in rows n i).mask k
-      → Reaches rows marks (arrow_in rows n i).to k
+  passes : (n i k : ℕ) → Reaches rows marks n k → i < length (edges_of rows n) → HasMark (edge_in rows n i).mask k
+      → Reaches rows marks (edge_in rows n i).to k

@@ -1,10 +1,10 @@
 //! Which marks come to which nodes of a directed graph: the least table that holds those at the start and lets them
-//! pass along the arrows.
+//! pass along the edges.
 #![tactic(auto)]
 
-mod arrows;
+mod edges;
 mod queue;
-mod spreading;
+mod propagation;
 
-pub use arrows::Arrow;
-pub use spreading::spread;
+pub use edges::Edge;
+pub use propagation::propagate;

@@ -17,7 +17,7 @@ use Rattle.code_blocks.specs.declared.parts.Code.{Code}
 use Rattle.region_former.specs.Naming.{is_some_of}
 use Rattle.region_former.specs.Flow.{block_count, owner_at, is_of, leads_to, leads_into_at, leads_into}
 use Rattle.region_former.specs.Reaching.{enters_at}
-use Rattle.region_former.specs.Spreading.{row_of}
+use Rattle.region_former.specs.Propagation.{row_of}
 use Rattle.region_former.specs.Rows.{truth_at, begins_there, leads_there, AreRows}
 
 -- ---- numbers and starts
@@ -48,8 +48,8 @@ is_number c a k b ascending (within, at) below =
 -- ---- marks of blocks
 
 here_marked : (o t n : Bool) → t ≡ true → n ≡ false → true ≡ (o || (t && not n))
-here_marked true t n is apart = refl
-here_marked false t n is apart = rw (is, apart) refl
+here_marked true t n is disjoint = refl
+here_marked false t n is disjoint = rw (is, disjoint) refl
 
 not_marked : (o t n : Bool) → t && n ≡ false → o ≡ (o || (t && n))
 not_marked true t n none = refl
@@ -70,8 +70,8 @@ entered_there old k b ra rk rb t below is same other =
     elim place [
       | inl here ↦
           let marked : truth_at (set old k true) b ≡ true = rw (sym here) (get_or-set_same old k true false below) in
-          let apart : (ra == rb) ≡ false = not_equal ra rb (λ e. other (same here ∙ sym e)) in
-          marked ∙ here_marked (truth_at old b) t (ra == rb) (is ∙ is_equal k b here) apart
+          let disjoint : (ra == rb) ≡ false = not_equal ra rb (λ e. other (same here ∙ sym e)) in
+          marked ∙ here_marked (truth_at old b) t (ra == rb) (is ∙ is_equal k b here) disjoint
       | inr there ↦
           get_or-set_other old k b true false (λ e. there (sym e))
           ∙ not_marked (truth_at old b) t (not (ra == rb)) (not_first t (not (ra == rb)) (is ∙ not_equal k b there))

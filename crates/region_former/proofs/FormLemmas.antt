@@ -116,7 +116,7 @@ emptied regions b is empty =
 
 pub filled : (regions : Vec (Vec (String Global) Global) Global) (b : Bool) → b ≡ (vec_len regions == 0) → b ≡ false → 0 < length (plain_regions regions)
 filled regions b is some =
-    let apart : (vec_len regions == 0) ≡ false = sym is ∙ some in
-    let len : 0 < vec_len regions = grind (arith, nat_tests, apart) in
+    let disjoint : (vec_len regions == 0) ≡ false = sym is ∙ some in
+    let len : 0 < vec_len regions = grind (arith, nat_tests, disjoint) in
     let count = length-map regions.items plain_texts in
     omega (arith, len, count, regions.ok.0)

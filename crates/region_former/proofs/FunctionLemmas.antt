@@ -1,4 +1,4 @@
--- The function that starts at an address, among functions that are apart.
+-- The function that starts at an address, among functions that are disjoint.
 use Rattle.std.proofs.Common.{◌≡◌, ◌⊎◌, inl, inr, ℕ, zero, suc, ◌+◌, ◌<◌, ◌≤◌, ◌==◌, nat_le, nat_lt, Bool, true, false, not, ◌&&◌, List, length, slice_index_or, Option, Some, None, refl, sym, arith}
 use Rattle.std.specs.List.{All, list_any}
 use Rattle.std.proofs.lemmas.Bool.{cases_order, both_ways}
@@ -31,12 +31,12 @@ taken test j is = rw is refl
 equal : (x a : ℕ) → x ≡ a → (x == a) ≡ true
 equal x a same = grind (arith, nat_tests, same)
 
-starts_apart : (functions : List Function) (a j : ℕ) → (((function_in functions j).start < a) ⊎ (a < (function_in functions j).start)) → place_if_starts functions a j ≡ None
-starts_apart functions a j apart =
-    left_out ((function_in functions j).start == a) j (differs (function_in functions j).start a apart)
+starts_disjoint : (functions : List Function) (a j : ℕ) → (((function_in functions j).start < a) ⊎ (a < (function_in functions j).start)) → place_if_starts functions a j ≡ None
+starts_disjoint functions a j disjoint =
+    left_out ((function_in functions j).start == a) j (differs (function_in functions j).start a disjoint)
 
 ends : (functions : List Function) (i j : ℕ) → AreOrdered functions → i < j → j < length functions → (function_in functions i).start + (function_in functions i).size ≤ (function_in functions j).start
-ends functions i j ordered lower below = ordered.apart i j no_function lower below
+ends functions i j ordered lower below = ordered.disjoint i j no_function lower below
 
 has_byte : (functions : List Function) (i : ℕ) → AreOrdered functions → i < length functions → 0 < (function_in functions i).size
 has_byte functions i ordered below = ordered.filled i no_function below
@@ -52,7 +52,7 @@ starts_there functions a j ordered below starts =
     (λ i lower.
     let end = ends functions i j ordered lower below in
     let some = has_byte functions i ordered (omega (arith, lower, below)) in
-    starts_apart functions a i (inl (omega (arith, end, some, starts)))))
+    starts_disjoint functions a i (inl (omega (arith, end, some, starts)))))
     (taken ((function_in functions j).start == a) j (equal (function_in functions j).start a starts))
 
 -- the address lies in function `j`, which starts elsewhere
@@ -63,14 +63,14 @@ none_starts functions a j ordered below lies elsewhere =
     none_below (place_if_starts functions a) (length functions)
     (λ i within.
     elim (cases_order i j) [
-      | inl same ↦ rw same (starts_apart functions a j (inl before))
+      | inl same ↦ rw same (starts_disjoint functions a j (inl before))
       | inr other ↦ elim other [
         | inl lower ↦
             let end = ends functions i j ordered lower below in
-            starts_apart functions a i (inl (omega (arith, end, before)))
+            starts_disjoint functions a i (inl (omega (arith, end, before)))
         | inr higher ↦
             let end = ends functions j i ordered higher within in
-            starts_apart functions a i (inr (omega (arith, end, to)))
+            starts_disjoint functions a i (inr (omega (arith, end, to)))
       ]
     ])
 

@@ -1,7 +1,7 @@
 pub mod FunctionLemmas
 pub mod BlockLemmas
 pub mod ListingLemmas
-pub mod SpreadLemmas
+pub mod PropagationLemmas
 pub mod MarkLemmas
 pub mod OrderLemmas
 pub mod FormLemmas

@@ -13,11 +13,11 @@ use Rattle.code_blocks.specs.declared.parts.Function.{Function}
 use Rattle.region_former.specs.Naming.{is_some_of, function_in}
 use Rattle.region_former.specs.Flow.{block_count, owner_at, is_of, leads_to, leads_into_at, leads_into, called_address, lies_at, calls, IsPlace, IsOrderly}
 use Rattle.region_former.specs.Reaching.{is_of_driver, driver_calls, is_root, root_number, root_region, enters_at, enters, Chain, here, further, Leads, LeadsAlone, IsReached, by_one, by_none_or_several}
-use Rattle.region_former.specs.Spreading.{covers, mark_at, row_of, LeadTwo, IsTold, SpreadsOut, AreBelow, first_mark, IsMark, region_by}
+use Rattle.region_former.specs.Propagation.{covers, mark_at, row_of, LeadTwo, IsTold, PropagatesOut, AreBelow, first_mark, IsMark, region_by}
 use Rattle.region_former.specs.Rows.{truth_at, leads_there, AreRows}
-use Rattle.region_former.specs.declared.spreading.Reached.{Reached}
-use Rattle.region_former.specs.declared.spreading.Reached.TheVariants.{ByNone, ByOne, BySeveral}
-use Rattle.region_former.proofs.SpreadLemmas.{row_inside}
+use Rattle.region_former.specs.declared.propagation.Reached.{Reached}
+use Rattle.region_former.specs.declared.propagation.Reached.TheVariants.{ByNone, ByOne, BySeveral}
+use Rattle.region_former.proofs.PropagationLemmas.{row_inside}
 
 past_functions : (fs : List Function) (k : ℕ) → length fs ≤ k → function_in fs k ≡ no_function
 past_functions [] k out = refl
@@ -89,8 +89,8 @@ module _ (root : ℕ → Bool) (step : ℕ → ℕ → Bool) where
       λ k alone.
       let one = alone.alone told.one told.first in
       let other = alone.alone told.other told.second in
-      let apart = told.two in
-      grind (arith, nat_tests, one, other, apart)
+      let disjoint = told.two in
+      grind (arith, nat_tests, one, other, disjoint)
 
   chain_covered : (marks : List Reached) → ((f g k : ℕ) → step f g ≡ true → covers (mark_at marks f) k ≡ true → covers (mark_at marks g) k ≡ true)
       → (k f : ℕ) → covers (mark_at marks k) k ≡ true → Chain step k f → covers (mark_at marks f) k ≡ true
@@ -112,7 +112,7 @@ pub are_marks : (c : Code) (driver : Option ℕ) (roots : List Bool) (rows : Lis
     → length old ≡ length c.functions.items
     → ((g : ℕ) → g < length c.functions.items → truth_at roots g ≡ is_root c driver g)
     → ((f : ℕ) → f < length c.functions.items → mark_at old f ≡ first_mark f (truth_at roots f))
-    → SpreadsOut old rows new → (f : ℕ) → IsMark (is_root c driver) (enters c driver) f (mark_at new f)
+    → PropagatesOut old rows new → (f : ℕ) → IsMark (is_root c driver) (enters c driver) f (mark_at new f)
 are_marks c driver roots rows old new orderly one_each are long same first s f =
     let root = is_root c driver in
     let step = enters c driver in

@@ -4,12 +4,12 @@ use Rattle.std.specs.List.{All, list_any}
 use Rattle.std.proofs.lemmas.Bool.{both_ways}
 use Rattle.std.proofs.lemmas.Bool.Decides.{nat_tests}
 use Rattle.std.proofs.lemmas.List.{length-map, get_or-map}
-use Rattle.list_checks.specs.Tests.{any_below, meets}
+use Rattle.list_checks.specs.Tests.{any_below, ranges_overlap}
 use Rattle.list_checks.proofs.TestLemmas.{both, not_true}
 use Rattle.elf_reader.specs.File.{PlainView}
 use Rattle.loaded_file.specs.Records.{symbol_at}
 use Rattle.code_leaders.specs.Early.{has}
-use Rattle.code_blocks.specs.Functions.{is_function, lies_in_range, comes_before, functions_meet, keeps_out, IsKept}
+use Rattle.code_blocks.specs.Functions.{is_function, lies_in_range, comes_before, functions_overlap, keeps_out, IsKept}
 use Rattle.code_blocks.specs.Blocks.{name_of, no_function, IsFunction, IsFunctionOf, IsBlock, IsCode}
 use Rattle.code_blocks.specs.declared.parts.Block.{Block}
 use Rattle.code_blocks.specs.declared.parts.Code.{Code}
@@ -25,9 +25,9 @@ never false is = refl
 starts_first : (x s a y t b : ℕ) → nat_lt x y || (x == y) && (nat_lt t s || (s == t) && nat_lt a b) ≡ true → x ≤ y
 starts_first x s a y t b is = grind (arith, nat_tests, is)
 
-ends_before : (b : Bool) (x s y t : ℕ) → b && meets x s y t ≡ false → b ≡ true → x ≤ y → 0 < s → 0 < t → x + s ≤ y
-ends_before b x s y t apart is le some more =
-    let none : meets x s y t ≡ false = rw is at apart in
+ends_before : (b : Bool) (x s y t : ℕ) → b && ranges_overlap x s y t ≡ false → b ≡ true → x ≤ y → 0 < s → 0 < t → x + s ≤ y
+ends_before b x s y t disjoint is le some more =
+    let none : ranges_overlap x s y t ≡ false = rw is at disjoint in
     grind (arith, nat_tests, none, le, some, more)
 
 positive : (n : ℕ) → nat_lt 0 n ≡ true → 0 < n
@@ -44,14 +44,14 @@ kept_size : (v : PlainView) (kept : List ℕ) (k : ℕ) → IsKept v kept → ha
 kept_size v kept k are found =
     has_size v k (both (is_function v k) (not (list_any (keeps_out v k) kept)) (sym (are.exact k) ∙ found)).0
 
-kept_apart : (v : PlainView) (kept : List ℕ) (k j : ℕ) → IsKept v kept → has kept k ≡ true → has kept j ≡ true → comes_before v k j ≡ true → (symbol_at v k).value + (symbol_at v k).size ≤ (symbol_at v j).value
-kept_apart v kept k j are first second before =
+kept_disjoint : (v : PlainView) (kept : List ℕ) (k j : ℕ) → IsKept v kept → has kept k ≡ true → has kept j ≡ true → comes_before v k j ≡ true → (symbol_at v k).value + (symbol_at v k).size ≤ (symbol_at v j).value
+kept_disjoint v kept k j are first second before =
     let parts = both (is_function v j) (not (list_any (keeps_out v j) kept)) (sym (are.exact j) ∙ second) in
     let free = not_true (list_any (keeps_out v j) kept) parts.1 in
-    let apart = never (keeps_out v j k) (λ out. both_ways _ free (any_in (keeps_out v j) kept k first out)) in
+    let disjoint = never (keeps_out v j k) (λ out. both_ways _ free (any_in (keeps_out v j) kept k first out)) in
     let x = symbol_at v k in
     let y = symbol_at v j in
-    ends_before (comes_before v k j) x.value x.size y.value y.size apart before (starts_first x.value x.size k y.value y.size j before) (kept_size v kept k are first) (kept_size v kept j are second)
+    ends_before (comes_before v k j) x.value x.size y.value y.size disjoint before (starts_first x.value x.size k y.value y.size j before) (kept_size v kept k are first) (kept_size v kept j are second)
 
 named_at : (v : PlainView) (c : Code) (i : ℕ) (d : Function) → i < length c.functions.items → has (map name_of c.functions.items) (slice_index_or c.functions.items i d).name ≡ true
 named_at v c i d below =
@@ -64,7 +64,7 @@ are_ordered v c code =
     let fs = c.functions.items in
     let count = length-map fs name_of in
     record {
-      apart = λ i j d lower below.
+      disjoint = λ i j d lower below.
           let within : i < length fs = omega (arith, lower, below) in
           let f = slice_index_or fs i d in
           let g = slice_index_or fs j d in
@@ -72,7 +72,7 @@ are_ordered v c code =
           let first = get_or-map name_of fs i d 0 within in
           let second = get_or-map name_of fs j d 0 below in
           let before : comes_before v f.name g.name ≡ true = (λ t. comes_before v (sym first t) (sym second t)) ∙ ordered in
-          let ends = kept_apart v (map name_of fs) f.name g.name code.kept (named_at v c i d within) (named_at v c j d below) before in
+          let ends = kept_disjoint v (map name_of fs) f.name g.name code.kept (named_at v c i d within) (named_at v c j d below) before in
           let told = code.functions i d within in
           let other = code.functions j d below in
           let start = told.start in

@@ -15,6 +15,6 @@ plain_fault (region.TwoRegions name) = two_regions (string_bytes name)
 plain_fault region.Memory = memory
 
 -- a result tells of the first check that fails, or that no memory was left: Ok exactly where none fails
-abbrev pub TellsFirst : {T : Type 0} → Result T RegionFault → Option Fault → Type 0
-TellsFirst (Ok value) first = first ≡ None
-TellsFirst (Err fault) first = (fault ≡ region.Memory) ⊎ (first ≡ Some (plain_fault fault))
+abbrev pub ReportsFirst : {T : Type 0} → Result T RegionFault → Option Fault → Type 0
+ReportsFirst (Ok value) first = first ≡ None
+ReportsFirst (Err fault) first = (fault ≡ region.Memory) ⊎ (first ≡ Some (plain_fault fault))

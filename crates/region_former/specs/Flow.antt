@@ -55,7 +55,7 @@ lies_at c (Some address) g = lies_in_function address (function_in c.functions.i
 abbrev pub calls : Code → ℕ → ℕ → Bool
 calls c a g = lies_at c (called_address (end_at c a)) g
 
--- what holds of all code: its functions are apart, its blocks and the leaders that a register may name ascend, and
+-- what holds of all code: its functions are disjoint, its blocks and the leaders that a register may name ascend, and
 -- the function of each block is one of its functions
 abbrev pub IsPlace : ℕ → Option ℕ → Type 0
 IsPlace n None = Unit

@@ -11,4 +11,4 @@ pub mod Regions
 pub mod Listed
 pub mod Rows
 pub mod Made
-pub mod Spreading
+pub mod Propagation

@@ -5,7 +5,7 @@ use Rattle.list_checks.specs.First.{unless, first_below}
 use Rattle.elf_reader.specs.File.{PlainView}
 use Rattle.loaded_file.specs.Records.{symbol_at}
 use Rattle.code_blocks.specs.Blocks.{no_function}
-use Rattle.code_blocks.specs.Kept.{AreApart}
+use Rattle.code_blocks.specs.Kept.{AreDisjoint}
 use Rattle.code_blocks.specs.declared.parts.Function.{Function}
 
 -- an answer is `k`
@@ -39,5 +39,5 @@ function_named v functions name = first_below (named_by v functions name) (lengt
 
 -- functions that each have a byte, and end where a later one begins, or before
 pub record AreOrdered (functions : List Function) : Type 0 where
-  pub apart : AreApart functions
+  pub disjoint : AreDisjoint functions
   pub filled : All (λ f. 0 < f.size) functions

@@ -8,7 +8,7 @@ use Rattle.code_blocks.specs.declared.parts.Code.{Code}
 use Rattle.region_former.specs.Naming.{is_some_of}
 use Rattle.region_former.specs.Flow.{block_count, is_of}
 use Rattle.region_former.specs.Reaching.{enters_at}
-use Rattle.region_former.specs.Spreading.{row_of}
+use Rattle.region_former.specs.Propagation.{row_of}
 
 -- truth value `k`; false behind the last
 abbrev pub truth_at : List Bool → ℕ → Bool

@@ -3,7 +3,7 @@ ghost use Rattle.elf_reader.specs.File.{plain_view};
 ghost use Rattle.board_config.specs.Board.{plain_regions};
 ghost use Rattle.code_blocks.specs.Blocks.{IsCode};
 ghost use Rattle.region_former.specs.Naming.{AreOrdered};
-ghost use Rattle.region_former.specs.Faults.{TellsFirst};
+ghost use Rattle.region_former.specs.Faults.{ReportsFirst};
 ghost use Rattle.region_former.specs.Flow.{block_count, owner_at, IsOrderly};
 ghost use Rattle.region_former.specs.Borders.{region_in};
 ghost use Rattle.region_former.specs.Regions.{region_fault, IsFormed};
@@ -39,7 +39,7 @@ pub fn regions(
     requires code { IsCode (plain_view view.now) code.now }
     requires few { length board.now.regions.items ≤ 8 }
     requires dead { length has_dead.now ≡ length code.now.blocks.items }
-    ensures fault { TellsFirst result (region_fault (plain_view view.now) code.now board.now) }
+    ensures fault { ReportsFirst result (region_fault (plain_view view.now) code.now board.now) }
     ensures table { IfOk result (IsFormed (plain_view view.now) code.now board.now has_dead.now) }
 {
     let functions = function_regions(alloc, code, view, board)?;
@@ -58,7 +58,7 @@ fn function_regions(
 ) -> Result<FunctionRegions, RegionFault>
     requires orderly { IsOrderly code.now }
     requires few { length board.now.regions.items ≤ 8 }
-    ensures fault { TellsFirst result (region_fault (plain_view view.now) code.now board.now) }
+    ensures fault { ReportsFirst result (region_fault (plain_view view.now) code.now board.now) }
     ensures regions { IfOk result (AreOfFunctions (plain_view view.now) code.now board.now) }
 {
     if board.regions.is_empty() {

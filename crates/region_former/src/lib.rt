@@ -8,7 +8,7 @@ mod forming;
 mod listing;
 mod naming;
 mod reaching;
-mod spreading;
+mod propagation;
 mod table;
 
 pub use fault::RegionFault;

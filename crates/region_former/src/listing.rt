@@ -4,7 +4,7 @@ ghost use Rattle.board_config.specs.Board.{plain_texts};
 ghost use Rattle.region_former.specs.Naming.{AreOrdered};
 ghost use Rattle.region_former.specs.Listing.{list_at, listed_region, name_fault, list_fault, listing_fault};
 ghost use Rattle.region_former.specs.Listed.{AreListed, plain_lists};
-ghost use Rattle.region_former.specs.Faults.{TellsFirst};
+ghost use Rattle.region_former.specs.Faults.{ReportsFirst};
 
 use crate::fault::RegionFault;
 use crate::naming::function_named;
@@ -21,7 +21,7 @@ pub(crate) fn listed_regions(
 ) -> Result<Vec<u32>, RegionFault>
     requires ordered { AreOrdered code.now.functions.items }
     requires few { length lists.now ≤ 8 }
-    ensures fault { TellsFirst result (listing_fault (plain_view view.now) code.now.functions.items (plain_lists lists.now)) }
+    ensures fault { ReportsFirst result (listing_fault (plain_view view.now) code.now.functions.items (plain_lists lists.now)) }
     ensures one_each { IfOk result (λ regions. length regions.items ≡ length code.now.functions.items) }
     ensures regions { IfOk result (λ regions. (f : ℕ) → f < length code.now.functions.items → slice_index_or regions.items f 0 ≡ listed_region (plain_view view.now) code.now.functions.items (plain_lists lists.now) f (length lists.now)) }
 {
@@ -48,7 +48,7 @@ fn take_list(
     requires list { i < length lists.now }
     requires few { length lists.now ≤ 8 }
     requires listed { AreListed (plain_view view.now) code.now.functions.items (plain_lists lists.now) i 0 regions.old }
-    ensures fault { TellsFirst result (list_fault (plain_view view.now) code.now.functions.items (plain_lists lists.now) i) }
+    ensures fault { ReportsFirst result (list_fault (plain_view view.now) code.now.functions.items (plain_lists lists.now) i) }
     ensures listed { OnOk result (AreListed (plain_view view.now) code.now.functions.items (plain_lists lists.now) (i + 1) 0 regions.new) }
 {
     for j in 0..names_in(lists, i) {
@@ -83,7 +83,7 @@ fn take_name(
     requires name { j < length (list_at (plain_lists lists.now) i) }
     requires few { length lists.now ≤ 8 }
     requires listed { AreListed (plain_view view.now) code.now.functions.items (plain_lists lists.now) i j regions.old }
-    ensures fault { TellsFirst result (name_fault (plain_view view.now) code.now.functions.items (plain_lists lists.now) i j) }
+    ensures fault { ReportsFirst result (name_fault (plain_view view.now) code.now.functions.items (plain_lists lists.now) i j) }
     ensures listed { OnOk result (AreListed (plain_view view.now) code.now.functions.items (plain_lists lists.now) i (j + 1) regions.new) }
 {
     let name = &lists[i][j];

@@ -4,12 +4,12 @@ ghost use Rattle.code_blocks.specs.Blocks.{count_below};
 ghost use Rattle.region_former.specs.Naming.{is_some_of};
 ghost use Rattle.region_former.specs.Flow.{block_count, leads_into, IsPlace, IsOrderly};
 ghost use Rattle.region_former.specs.Reaching.{is_of_driver, driver_calls, is_root, enters, root_count, root_region, IsReached};
-ghost use Rattle.region_former.specs.Spreading.{row_of, mark_at, first_mark, IsMark, region_by};
+ghost use Rattle.region_former.specs.Propagation.{row_of, mark_at, first_mark, IsMark, region_by};
 ghost use Rattle.region_former.specs.Rows.{truth_at, leads_there, AreRows};
 ghost use Rattle.code_leaders.specs.Early.{has};
 
 use crate::flow::{called_function, owner_of, successors_of};
-use crate::spreading::{Reached, spread_out};
+use crate::propagation::{Reached, propagate_out};
 use code_blocks::Code;
 use std::alloc::{AllocError, Global};
 
@@ -129,7 +129,7 @@ fn marks(
 {
     let rows = rows(alloc, code, driver)?;
     let mut marks = first_marks(alloc, roots)?;
-    spread_out(alloc, &mut marks, &rows)?;
+    propagate_out(alloc, &mut marks, &rows)?;
     Ok(marks)
 }
 

@@ -12,7 +12,7 @@ use Rattle.loaded_file.specs.Records.{symbol_at}
 use Rattle.elf_writer.specs.declared.parts.SymbolMove.{SymbolMove}
 use Rattle.elf_writer.specs.Conditions.{AreOfTwoSymbols}
 use Rattle.board_config.specs.declared.board.Board.{Board}
-use Rattle.loaded_file.specs.Ranges.{has_extent, has_owner, has_range, is_symbol_of}
+use Rattle.loaded_file.specs.Ranges.{has_byte_range, has_owner, has_range, is_symbol_of}
 use Rattle.object_graph.specs.Graphs.{IsGraph}
 use Rattle.object_graph.specs.declared.parts.Graph.{Graph}
 use Rattle.cell_values.specs.Objects.{object_of}
@@ -167,11 +167,11 @@ two_true a b first last = rw (first, last) refl
 all_true : (a b c d : Bool) → a ≡ true → b ≡ true → c ≡ true → d ≡ true → a && b && c && d ≡ true
 all_true a b c d first second third last = rw (first, second, third, last) refl
 
-extent_some : (v : PlainView) (s : PlainSymbol) → has_range v s ≡ true → 0 < s.size
-extent_some v s range =
-    let front = both ((s.kind == 1) && has_extent s) (has_owner v s) range in
-    let extent = both (s.kind == 1) (has_extent s) front.0 in
-    let two = both (nat_lt 0 s.size && nat_lt 0 s.value) (nat_le (s.value + s.size) 4294967295) extent.1 in
+byte_range_some : (v : PlainView) (s : PlainSymbol) → has_range v s ≡ true → 0 < s.size
+byte_range_some v s range =
+    let front = both ((s.kind == 1) && has_byte_range s) (has_owner v s) range in
+    let byte_range = both (s.kind == 1) (has_byte_range s) front.0 in
+    let two = both (nat_lt 0 s.size && nat_lt 0 s.value) (nat_le (s.value + s.size) 4294967295) byte_range.1 in
     ltb-true 0 s.size (both (nat_lt 0 s.size) (nat_lt 0 s.value) two.0).0
 
 -- a symbol has the value where one of the objects has its range and stands there
@@ -209,7 +209,7 @@ value_same v board g places taken m is listed are =
         let one = both (has_range v s) (s.value == (object_of g o).home) two.0 in
         let home = eqb-true s.value (object_of g o).home one.1 in
         let size = eqb-true s.size (object_of g o).size two.1 in
-        let some : 0 < s.size = extent_some v s one.0 in
+        let some : 0 < s.size = byte_range_some v s one.0 in
         let bytes : has_bytes g s.value s.size o ≡ true =
         two_true ((object_of g o).home == s.value) ((object_of g o).size == s.size) (eq-eqb (object_of g o).home s.value (sym home)) (eq-eqb (object_of g o).size s.size (sym size)) in
         let found = value_found v board g places s.value s.size taken k 0 is some below bytes in

@@ -82,7 +82,7 @@ byte_in_words (w ∷ ws) (suc k) i below inside =
     let place : 4 * suc k + i ≡ suc (suc (suc (suc (4 * k + i)))) = omega arith in
     ap (slice_index (words_bytes (w ∷ ws))) place ∙ rest
 
--- ---- addresses apart
+-- ---- disjoint addresses
 
 off_word : (x a : ℕ) → IsOffWord a x → within x 4 a ≡ false
 off_word x a (inl before) = grind (arith, nat_tests, before)

@@ -4,7 +4,7 @@ use Rattle.std.proofs.lemmas.Bool.{cases_eq, eqb-true, eq-eqb, ltb-true, leb-tru
 use Rattle.std.proofs.lemmas.Bool.Decides.{nat_tests}
 use Rattle.std.proofs.lemmas.List.Folds.{list_any_at}
 use Rattle.word_bits.specs.Words.{plus}
-use Rattle.list_checks.specs.Tests.{any_below, lies_in, meets}
+use Rattle.list_checks.specs.Tests.{any_below, lies_in, ranges_overlap}
 use Rattle.list_checks.proofs.TestLemmas.{both, any_at, any_found}
 use Rattle.elf_reader.specs.Sections.{bit_of, stands_in_file}
 use Rattle.elf_reader.specs.File.{PlainSegment, PlainSection, PlainView, section_of, view_in}
@@ -12,23 +12,23 @@ use Rattle.list_checks.proofs.FirstLemmas.{both_none, holds as holds_test}
 use Rattle.elf_reader.specs.HeaderChecks.{size_fault, header_fault}
 use Rattle.elf_reader.specs.Faults.{first_fault}
 use Rattle.elf_reader.specs.Image.{has_byte}
-use Rattle.elf_reader.specs.Loaded.{section_at, segment_at, is_loaded, meets_section}
-use Rattle.elf_reader.proofs.SegmentLemmas.{none_of_headers, load_segments_apart}
+use Rattle.elf_reader.specs.Loaded.{section_at, segment_at, is_loaded, overlaps_section}
+use Rattle.elf_reader.proofs.SegmentLemmas.{none_of_headers, load_segments_disjoint}
 use Rattle.elf_reader.proofs.LoadedLemmas.{nth_segment, HasAddress, only_segment, load_segments_placed, loaded_found, loaded_below, section_is}
 use Rattle.loaded_file.specs.Code.{is_code_word}
 use Rattle.loaded_file.specs.Records.{reloc_at}
 use Rattle.loaded_file.proofs.WordLemmas.{lies_from, lies_to}
 use Rattle.elf_writer.specs.declared.parts.Patch.{Patch}
-use Rattle.elf_writer.specs.Conditions.{has_word, PatchesLoadedWord, ArePatchesApart}
+use Rattle.elf_writer.specs.Conditions.{has_word, PatchesLoadedWord, ArePatchesDisjoint}
 use Rattle.elf_writer.specs.Images.{StandsAt}
 use Rattle.elf_writer.proofs.FitLemmas.{contents_held}
 use Rattle.board_config.specs.declared.board.Board.{Board}
-use Rattle.sound_relocations.specs.Sound.{displacement, is_sound_word}
+use Rattle.rewritable_relocations.specs.Rewritable.{displacement, is_rewritable_word}
 use Rattle.movable_ranges.specs.Fixed.{leads_to}
 use Rattle.object_graph.specs.Graphs.{gives_word, same_word, IsGraph}
 use Rattle.object_graph.specs.declared.parts.Object.{Object}
 use Rattle.object_graph.specs.declared.parts.Graph.{Graph}
-use Rattle.object_graph.proofs.SoundLemmas.{HoldsData, sound_word}
+use Rattle.object_graph.proofs.RewritableLemmas.{HoldsData, rewritable_word}
 use Rattle.cell_values.specs.Objects.{object_of}
 use Rattle.cell_values.proofs.GraphObjects.{object_moves}
 use Rattle.result_setups.proofs.Sites.{object_same, leads_means}
@@ -36,7 +36,7 @@ use Rattle.result_setups.proofs.HomeStart.{word_itself}
 use Rattle.result_setups.proofs.Words.{code_range}
 use Rattle.relocator.specs.SiteWords.{no_word, data_word_at}
 use Rattle.relink_core.specs.Making.{place_in, patch_of}
-use Rattle.relink_core.proofs.StubLemmas.{ranges_apart}
+use Rattle.relink_core.proofs.StubLemmas.{ranges_disjoint}
 
 -- ---- words of loaded sections
 
@@ -78,20 +78,20 @@ data_held v board g k is below =
     let r = reloc_at v j in
     let inside = ltb-true d.object (length g.objects.items) parts.0 in
     let moved =
-    subst (λ (x : Object). (r.at == d.at) && leads_to v x.home x.size j && is_sound_word v j r && (displacement v x.home r == d.offset) ≡ true)
+    subst (λ (x : Object). (r.at == d.at) && leads_to v x.home x.size j && is_rewritable_word v j r && (displacement v x.home r == d.offset) ≡ true)
     (object_same g d.object inside) found.2 in
     let home : ℕ = (object_of g d.object).home in
     let n : ℕ = (object_of g d.object).size in
-    let three = both ((r.at == d.at) && leads_to v home n j && is_sound_word v j r) (displacement v home r == d.offset) moved in
-    let two = both ((r.at == d.at) && leads_to v home n j) (is_sound_word v j r) three.0 in
+    let three = both ((r.at == d.at) && leads_to v home n j && is_rewritable_word v j r) (displacement v home r == d.offset) moved in
+    let two = both ((r.at == d.at) && leads_to v home n j) (is_rewritable_word v j r) three.0 in
     let one = both (r.at == d.at) (leads_to v home n j) two.0 in
     let means = leads_means v 1 home n j found.1 (word_kind v j two.1) one.1 in
-    let word = sound_word v board home n j (object_moves v board g d.object is.objects inside) means in
+    let word = rewritable_word v board home n j (object_moves v board g d.object is.objects inside) means in
     let there = eqb-true r.at d.at one.0 in
     let held = data_here v r.at word.holds.0 word.holds.1 in
     (word.holds.0, subst (λ (a : ℕ). HoldsWord v a word.holds.0) there held)
   where
-    word_kind : (v : PlainView) (j : ℕ) → is_sound_word v j (reloc_at v j) ≡ true → (reloc_at v j).kind ≡ 1
+    word_kind : (v : PlainView) (j : ℕ) → is_rewritable_word v j (reloc_at v j) ≡ true → (reloc_at v j).kind ≡ 1
     word_kind v j sound = grind (arith, nat_tests, sound)
 
     data_here : (v : PlainView) (a k : ℕ) → HoldsData v a k → HoldsWord v a k
@@ -126,7 +126,7 @@ place_held file a k none holds =
     let v = view_in file in
     let s = section_at v k in
     let headers = none_of_headers file none in
-    let apart = load_segments_apart file headers in
+    let disjoint = load_segments_disjoint file headers in
     let placed = load_segments_placed file headers in
     let found = loaded_found v k holds.loaded in
     let g = found.0 in
@@ -146,7 +146,7 @@ place_held file a k none holds =
           let last = found.1.ends in
           let has : has_byte t a ≡ true = grind (arith, nat_tests, from, to, starts, ends) in
           let address : HasAddress t a = record { from = omega (arith, from, first); to = omega (arith, to, last) } in
-          let here = place_at v.segments g a found.1.below has (only_segment file v.segments apart placed g a found.1.below address) in
+          let here = place_at v.segments g a found.1.below has (only_segment file v.segments disjoint placed g a found.1.below address) in
           let same : t.offset + (a - t.vaddr) ≡ s.offset + (a - s.addr) = omega (arith, from, starts, aligned) in
           here ∙ ap (λ (n : ℕ). n % 4294967296) same
     ]
@@ -195,10 +195,10 @@ stands_loaded v p k a below stands =
     three_true : (a b c : Bool) → a ≡ true → b ≡ true → c ≡ true → a && b && c ≡ true
     three_true a b c first second third = rw (first, second, third) refl
 
--- two patched words at addresses apart stand apart in the file
-off_other : (v : PlainView) (k j g : ℕ) (s : PlainSection) → (k ≡ j → ⊥) → (section_at v j).kind ≡ 1 → meets_section v k s.offset s.size j ≡ false → meets s.offset s.size (section_at v j).offset (section_at v j).size ≡ false
+-- two patched words at disjoint addresses are disjoint in the file
+off_other : (v : PlainView) (k j g : ℕ) (s : PlainSection) → (k ≡ j → ⊥) → (section_at v j).kind ≡ 1 → overlaps_section v k s.offset s.size j ≡ false → ranges_overlap s.offset s.size (section_at v j).offset (section_at v j).size ≡ false
 off_other v k j g s other kind off =
-    last_false (not (j == k)) (stands_in_file (section_at v j).kind) (meets s.offset s.size (section_at v j).offset (section_at v j).size)
+    last_false (not (j == k)) (stands_in_file (section_at v j).kind) (ranges_overlap s.offset s.size (section_at v j).offset (section_at v j).size)
     (differ j k (λ same. other (sym same))) (ap stands_in_file kind) off
   where
     differ : (j k : ℕ) → (j ≡ k → ⊥) → not (j == k) ≡ true
@@ -207,8 +207,8 @@ off_other v k j g s other kind off =
     last_false : (a b c : Bool) → a ≡ true → b ≡ true → a && b && c ≡ false → c ≡ false
     last_false a b c first second none = sym (rw (first, second) refl) ∙ none
 
-pub stand_apart : (v : PlainView) (p q : Patch) (k j a b : ℕ) → k < length v.sections → j < length v.sections → StandsAt v p k a → StandsAt v q j b → a + 4 ≤ b → ArePatchesApart p q
-stand_apart v p q k j a b below_k below_j one other order =
+pub stand_disjoint : (v : PlainView) (p q : Patch) (k j a b : ℕ) → k < length v.sections → j < length v.sections → StandsAt v p k a → StandsAt v q j b → a + 4 ≤ b → ArePatchesDisjoint p q
+stand_disjoint v p q k j a b below_k below_j one other order =
     let from = one.from in
     let to = one.to in
     let place = one.place in
@@ -231,7 +231,7 @@ stand_apart v p q k j a b below_k below_j one other order =
                 absurd (omega (arith, wrong, right))
             | inl filled ↦
                 let off = off_other v k j found.0 s differ other.kind (filled.own.section j below_j) in
-                elim (ranges_apart s.offset s.size t.offset t.size off (omega (arith, from, to)) (omega (arith, from_other, to_other))) [
+                elim (ranges_disjoint s.offset s.size t.offset t.size off (omega (arith, from, to)) (omega (arith, from_other, to_other))) [
                   | inl before ↦ inl (omega (arith, before, place, place_other, from, from_other, to, to_other))
                   | inr behind ↦ inr (omega (arith, behind, place, place_other, from, from_other, to, to_other))
                 ]

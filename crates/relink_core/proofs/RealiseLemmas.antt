@@ -59,13 +59,13 @@ use Rattle.relink_core.proofs.ResultLemmas.{AreGraphs, is_moved}
 -- ---- the analysis
 
 -- no check failed: neither those of the file, nor those of a result's program headers and of the patch range
-pub record IsReady (file : List ℕ) (board : Board) (g : Graph) : Type 0 where
+pub record IsAnalysable (file : List ℕ) (board : Board) (g : Graph) : Type 0 where
   pub accepted : IsAccepted file board g
   pub headers : headers_fault (program_header_count file) ≡ None
   pub patch : least_patch board.fence_i ≤ board.patch.size
 
-pub ready : (file : List ℕ) (board : Board) (a : Analysis) → IsAnalysisOf file board a → IsReady file board a.graph
-ready file board a is =
+pub prepared : (file : List ℕ) (board : Board) (a : Analysis) → IsAnalysisOf file board a → IsAnalysable file board a.graph
+prepared file board a is =
     let v = view_in file in
     let sound = passes file board is.passes in
     let all = both_none (file_fault file) (view_fault v board) is.passes in
@@ -86,7 +86,7 @@ ready file board a is =
     }
 
 pub is_read : (file : List ℕ) (board : Board) (a : Analysis) → IsAnalysisOf file board a → IsRead a.view
-is_read file board a is = (file, is.is_file, (ready file board a is).accepted.none)
+is_read file board a is = (file, is.is_file, (prepared file board a is).accepted.none)
 
 laid : (file : List ℕ) (board : Board) (g : Graph) → IsAccepted file board g → IsLaidOut (view_in file) board g
 laid file board g accepted = record { lawful = accepted.lawful; layout = accepted.layout; graph = accepted.graph }
@@ -114,20 +114,20 @@ pub few_symbols : (file : List ℕ) (board : Board) (a : Analysis) → IsAnalysi
 few_symbols file board a is = symbols_few a.view (is_read file board a is)
 
 pub no_fault : (file : List ℕ) (board : Board) (a : Analysis) → IsAnalysisOf file board a → first_fault a.view.bytes.now ≡ None
-no_fault file board a is = ap first_fault is.is_file.bytes ∙ (ready file board a is).accepted.none
+no_fault file board a is = ap first_fault is.is_file.bytes ∙ (prepared file board a is).accepted.none
 
 -- ---- the choice
 
-pub movable : (file : List ℕ) (board : Board) (g : Graph) (p : PlainProgramme) (c : PlainChoice) → IsReady file board g → IsDataChoice board g p c → CanMove board g (taken_objects p.off.vars c.take)
-movable file board g p c ready is =
-    let accepted = ready.accepted in
+pub movable : (file : List ℕ) (board : Board) (g : Graph) (p : PlainProgramme) (c : PlainChoice) → IsAnalysable file board g → IsDataChoice board g p c → CanMove board g (taken_objects p.off.vars c.take)
+movable file board g p c prepared is =
+    let accepted = prepared.accepted in
     let grain = accepted.graph.grain in
     can_move places_fit (view_in file) board g p c (taken_objects p.off.vars c.take) (subst IsGrain (sym grain) accepted.lawful.grain) (laid file board g accepted)
-    (can_lay_out board g p c grain is) (choice_takes board g p c grain is) ready.patch
+    (can_lay_out board g p c grain is) (choice_takes board g p c grain is) prepared.patch
 
-pub stub_can_start : (file : List ℕ) (v : PlainView) (board : Board) (g : Graph) (places : Places) (taken : List ℕ) → v ≡ view_in file → IsReady file board g → ArePlacesOf board g taken places → CanMove board g taken → CanStart (start_plan_of v board g places taken)
-stub_can_start file v board g places taken same ready are can =
-    let accepted = ready.accepted in
+pub stub_can_start : (file : List ℕ) (v : PlainView) (board : Board) (g : Graph) (places : Places) (taken : List ℕ) → v ≡ view_in file → IsAnalysable file board g → ArePlacesOf board g taken places → CanMove board g taken → CanStart (start_plan_of v board g places taken)
+stub_can_start file v board g places taken same prepared are can =
+    let accepted = prepared.accepted in
     let off = homes_off file board g accepted in
     let there = can_start file board g taken accepted off can in
     let here : CanStart (start_plan_of (view_in file) board g places taken) =
@@ -150,24 +150,24 @@ made_of view board g places taken patches given s moves listed same_patches same
       all = same_moves ∙ all ∙ ap (moves_below (plain_view view) g places taken) (sym (length-map view.symbols.items plain_symbol));
     }
 
-addable : (file : List ℕ) (board : Board) (g : Graph) (places : Places) (taken : List ℕ) (patches : List Patch) (s : NewSegment) (moves : List SymbolMove) → IsReady file board g → ArePlacesOf board g taken places → CanMove board g taken → IsMade (view_in file) board g places taken patches s moves → (0 < length s.content) × (length s.content ≤ board.patch.size)
-addable file board g places taken patches s moves ready are can made =
+addable : (file : List ℕ) (board : Board) (g : Graph) (places : Places) (taken : List ℕ) (patches : List Patch) (s : NewSegment) (moves : List SymbolMove) → IsAnalysable file board g → ArePlacesOf board g taken places → CanMove board g taken → IsMade (view_in file) board g places taken patches s moves → (0 < length s.content) × (length s.content ≤ board.patch.size)
+addable file board g places taken patches s moves prepared are can made =
     let same = plan_same (view_in file) board g places taken can.placing.listed are in
     let size = segment_size (start_plan_of (view_in file) board g places taken) s made.segment in
     let bytes = ap start_bytes same in
     let fits = stub_fits file board g taken can in
     (omega (arith, size), omega (arith, size, bytes, fits))
 
-writable_here : (file : List ℕ) (board : Board) (g : Graph) (places : Places) (taken : List ℕ) (patches : List Patch) (s : NewSegment) (moves : List SymbolMove) → IsReady file board g → ArePlacesOf board g taken places → CanMove board g taken → IsMade (view_in file) board g places taken patches s moves → IsWritable (view_in file) patches (Some s) moves
-writable_here file board g places taken patches s moves ready are can made =
-    let sized = addable file board g places taken patches s moves ready are can made in
+writable_here : (file : List ℕ) (board : Board) (g : Graph) (places : Places) (taken : List ℕ) (patches : List Patch) (s : NewSegment) (moves : List SymbolMove) → IsAnalysable file board g → ArePlacesOf board g taken places → CanMove board g taken → IsMade (view_in file) board g places taken patches s moves → IsWritable (view_in file) patches (Some s) moves
+writable_here file board g places taken patches s moves prepared are can made =
+    let sized = addable file board g places taken patches s moves prepared are can made in
     subst (λ (ms : List SymbolMove). IsWritable (view_in file) patches (Some s) ms) (sym made.all)
-    (is_writable file board g places taken patches s ready.accepted ready.headers (codes file board g ready.accepted) can.placing.listed are made.for made.segment.base sized.0 sized.1)
+    (is_writable file board g places taken patches s prepared.accepted prepared.headers (codes file board g prepared.accepted) can.placing.listed are made.for made.segment.base sized.0 sized.1)
 
-pub may_be_written : (file : List ℕ) (v : PlainView) (board : Board) (g : Graph) (places : Places) (taken : List ℕ) (patches : List Patch) (s : NewSegment) (moves : List SymbolMove) → v ≡ view_in file → IsReady file board g → ArePlacesOf board g taken places → CanMove board g taken → IsMade v board g places taken patches s moves → IsWritable v patches (Some s) moves
-may_be_written file v board g places taken patches s moves same ready are can made =
+pub may_be_written : (file : List ℕ) (v : PlainView) (board : Board) (g : Graph) (places : Places) (taken : List ℕ) (patches : List Patch) (s : NewSegment) (moves : List SymbolMove) → v ≡ view_in file → IsAnalysable file board g → ArePlacesOf board g taken places → CanMove board g taken → IsMade v board g places taken patches s moves → IsWritable v patches (Some s) moves
+may_be_written file v board g places taken patches s moves same prepared are can made =
     subst (λ (w : PlainView). IsWritable w patches (Some s) moves) (sym same)
-    (writable_here file board g places taken patches s moves ready are can
+    (writable_here file board g places taken patches s moves prepared are can
     (subst (λ (w : PlainView). IsMade w board g places taken patches s moves) same made))
 
 -- the file that is written is the result
@@ -175,11 +175,11 @@ pub record IsWritten (v : PlainView) (patches : List Patch) (s : NewSegment) (mo
   pub bytes : out ≡ written v patches (Some s) moves
   pub reads : view_in out ≡ written_view v patches (Some s) moves
 
-finished_here : (file : List ℕ) (board : Board) (g : Graph) (places : Places) (taken : List ℕ) (patches : List Patch) (s : NewSegment) (moves : List SymbolMove) (out : List ℕ) → IsReady file board g → ArePlacesOf board g taken places → CanMove board g taken → IsMade (view_in file) board g places taken patches s moves → IsWritten (view_in file) patches s moves out → MovesData file board g taken out
-finished_here file board g places taken patches s moves out ready are can made is =
+finished_here : (file : List ℕ) (board : Board) (g : Graph) (places : Places) (taken : List ℕ) (patches : List Patch) (s : NewSegment) (moves : List SymbolMove) (out : List ℕ) → IsAnalysable file board g → ArePlacesOf board g taken places → CanMove board g taken → IsMade (view_in file) board g places taken patches s moves → IsWritten (view_in file) patches s moves out → MovesData file board g taken out
+finished_here file board g places taken patches s moves out prepared are can made is =
     let v = view_in file in
-    let accepted = ready.accepted in
-    let sized = addable file board g places taken patches s moves ready are can made in
+    let accepted = prepared.accepted in
+    let sized = addable file board g places taken patches s moves prepared are can made in
     let off = homes_off file board g accepted in
     let all = moves_below v g places taken (length v.symbols) in
     is_moved file board g places taken patches s out
@@ -190,22 +190,22 @@ finished_here file board g places taken patches s moves out ready are can made i
         listed = can.placing.listed;
         are = are;
         for = made.for;
-        writable = subst (λ (ms : List SymbolMove). IsWritable v patches (Some s) ms) made.all (writable_here file board g places taken patches s moves ready are can made);
+        writable = subst (λ (ms : List SymbolMove). IsWritable v patches (Some s) ms) made.all (writable_here file board g places taken patches s moves prepared are can made);
         base = made.segment.base;
         inside = sized.1;
       };
       graphs = graphs file board g accepted;
       can = can;
       start = can_start file board g taken accepted off can;
-      addable = is_addable file board g s accepted ready.headers made.segment.base sized.0 sized.1;
+      addable = is_addable file board g s accepted prepared.headers made.segment.base sized.0 sized.1;
       segment = made.segment;
       bytes = subst (λ (ms : List SymbolMove). out ≡ written v patches (Some s) ms) made.all is.bytes;
       view = subst (λ (ms : List SymbolMove). view_in out ≡ written_view v patches (Some s) ms) made.all is.reads;
     })
 
-pub finished : (file : List ℕ) (v : PlainView) (board : Board) (g : Graph) (places : Places) (taken : List ℕ) (patches : List Patch) (s : NewSegment) (moves : List SymbolMove) (out : List ℕ) → v ≡ view_in file → IsReady file board g → ArePlacesOf board g taken places → CanMove board g taken → IsMade v board g places taken patches s moves → IsWritten v patches s moves out → MovesData file board g taken out
-finished file v board g places taken patches s moves out same ready are can made is =
-    finished_here file board g places taken patches s moves out ready are can
+pub finished : (file : List ℕ) (v : PlainView) (board : Board) (g : Graph) (places : Places) (taken : List ℕ) (patches : List Patch) (s : NewSegment) (moves : List SymbolMove) (out : List ℕ) → v ≡ view_in file → IsAnalysable file board g → ArePlacesOf board g taken places → CanMove board g taken → IsMade v board g places taken patches s moves → IsWritten v patches s moves out → MovesData file board g taken out
+finished file v board g places taken patches s moves out same prepared are can made is =
+    finished_here file board g places taken patches s moves out prepared are can
     (subst (λ (w : PlainView). IsMade w board g places taken patches s moves) same made)
     (subst (λ (w : PlainView). IsWritten w patches s moves out) same is)
 
@@ -261,6 +261,6 @@ none_taken take b is empty =
 
 pub some_taken : (take : Vec ℕ Global) (b : Bool) → b ≡ (vec_len take == 0) → b ≡ false → 0 < length take.items
 some_taken take b is some =
-    let apart : (vec_len take == 0) ≡ false = sym is ∙ some in
-    let len : 0 < vec_len take = grind (arith, nat_tests, apart) in
+    let disjoint : (vec_len take == 0) ≡ false = sym is ∙ some in
+    let len : 0 < vec_len take = grind (arith, nat_tests, disjoint) in
     omega (arith, len, take.ok.0)

@@ -66,11 +66,11 @@ dead_there c b leader t ascending inside begins tells = (
 )
 
 -- a list that tells so of the first n blocks
-abbrev pub TellsBelow : Code → ℕ → List Bool → Type 0
-TellsBelow c n marks = (b : ℕ) → b < n → (slice_index_or marks b false ≡ true) ↔ HasDead c b
+abbrev pub ReportsBelow : Code → ℕ → List Bool → Type 0
+ReportsBelow c n marks = (b : ℕ) → b < n → (slice_index_or marks b false ≡ true) ↔ HasDead c b
 
 pub told_more : (c : Code) (k n : ℕ) (t : Bool) (marks new : List Bool) → new ≡ marks ++ t ∷ [] → length marks ≡ k → n ≡ k + 1
-    → TellsBelow c k marks → ((t ≡ true) ↔ HasDead c k) → TellsBelow c n new
+    → ReportsBelow c k marks → ((t ≡ true) ↔ HasDead c k) → ReportsBelow c n new
 told_more c k n t marks new is size next told here b below =
     subst (λ ms. (slice_index_or ms b false ≡ true) ↔ HasDead c b) (sym is)
     (elim (cases_lt b k) [

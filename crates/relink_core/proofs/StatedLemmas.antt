@@ -9,7 +9,7 @@ use Rattle.board_config.specs.declared.board.Board.{Board}
 use Rattle.object_graph.specs.declared.parts.Graph.{Graph}
 use Rattle.code_blocks.specs.declared.parts.Code.{Code}
 use Rattle.region_former.specs.declared.table.RegionTable.{RegionTable}
-use Rattle.profile_runner.specs.Move.{Move}
+use Rattle.profile_runner.specs.Transition.{Transition}
 use Rattle.placement_programme.specs.declared.variables.VarName.{VarName}
 use Rattle.placement_programme.specs.declared.variables.VarName.TheVariants.{StaticData}
 use Rattle.placement_programme.specs.Plain.{PlainVar, PlainChoice, PlainFullVar}
@@ -22,7 +22,7 @@ use Rattle.placement_candidates.specs.Selected.{no_var, var_in, is_kept, plain_k
 use Rattle.cell_values.specs.Objects.{datum_of}
 use Rattle.relink_core.specs.Choices.{StandsBefore, AreInOrder, IsDataSide, IsDataChoice}
 
-module _ (board : Board) (g : Graph) (c : Code) (t : RegionTable) (moves : List Move) where
+module _ (board : Board) (g : Graph) (c : Code) (t : RegionTable) (moves : List Transition) where
   abbrev scene : Scene
   scene = scene_of g c t board
 

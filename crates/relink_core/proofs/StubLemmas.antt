@@ -11,7 +11,7 @@ use Rattle.std.proofs.Math.Nat.{min-le_left, min-le_right, le-max_left, le-max_r
 use Rattle.word_bits.specs.Words.{minus}
 use Rattle.list_checks.specs.First.{unless, first_below}
 use Rattle.list_checks.proofs.FirstLemmas.{both_none, holds}
-use Rattle.list_checks.specs.Tests.{meets}
+use Rattle.list_checks.specs.Tests.{ranges_overlap}
 use Rattle.list_checks.proofs.TestLemmas.{not_true}
 use Rattle.rv_decode.specs.Table.{IsWithin, IsEvenWithin}
 use Rattle.rv_decode.specs.declared.instructions.Instr.TheVariants.{Jal}
@@ -23,12 +23,12 @@ use Rattle.loaded_file.specs.Code.{is_code_word}
 use Rattle.code_leaders.specs.Words.{any_code_word}
 use Rattle.code_blocks.specs.Blocks.{is_any, code_fault}
 use Rattle.code_blocks.specs.declared.fault.CodeFault.TheVariants.{NoText, EntryNotLeader}
-use Rattle.object_graph.specs.LayoutFaults.{has_code, least_below, greatest_below, span_of, patch_far_fault, spm_meets_patch_fault, places_fault, layout_fault, spm_overlap_fault, patch_overlap_fault}
-use Rattle.object_graph.specs.declared.fault.GraphFault.TheVariants.{SpmMeetsPatch}
+use Rattle.object_graph.specs.LayoutFaults.{has_code, least_below, greatest_below, span_of, patch_far_fault, spm_overlaps_patch_fault, places_fault, layout_fault, spm_overlap_fault, patch_overlap_fault}
+use Rattle.object_graph.specs.declared.fault.GraphFault.TheVariants.{SpmOverlapsPatch}
 use Rattle.object_graph.specs.declared.parts.Graph.{Graph}
 use Rattle.object_graph.proofs.LookupLemmas.{laid_out}
 use Rattle.cell_values.specs.Objects.{absent_object, object_of, objects_of}
-use Rattle.overlay_stubs.specs.Jobs.{AreApart, IsJob}
+use Rattle.overlay_stubs.specs.Jobs.{AreDisjoint, IsJob}
 use Rattle.overlay_stubs.specs.Start.{StartPlan, before_jump, start_at, jump_at, start_bytes, distance, fences, Spares, CanStart}
 use Rattle.overlay_stubs.proofs.WordLemmas.{bytes_are}
 use Rattle.result_setups.specs.HomeLaws.{IsAccepted}
@@ -44,9 +44,9 @@ use Rattle.relink_core.specs.Making.{start_place, AreOfGraph, ArePlacesOf, CanMo
 
 -- ---- ranges
 
--- what lies in a range that another one shares no address with is apart from that
-apart_of : (home size base span to : ℕ) → 0 < size → base ≤ to → to + size ≤ base + span → ((i j : ℕ) → i < size → j < span → home + i ≡ base + j → ⊥) → AreApart home size to size
-apart_of home size base span to some from end off =
+-- what lies in a range that another one shares no address with is disjoint from that
+disjoint_of : (home size base span to : ℕ) → 0 < size → base ≤ to → to + size ≤ base + span → ((i j : ℕ) → i < size → j < span → home + i ≡ base + j → ⊥) → AreDisjoint home size to size
+disjoint_of home size base span to some from end off =
     elim (cases_lt base (home + size)) [
       | inr before ↦ inl (omega (arith, before, from))
       | inl reaches ↦ elim (cases_lt home (base + span)) [
@@ -58,15 +58,15 @@ apart_of home size base span to some from end off =
       ]
     ]
 
-pub ranges_apart : (b m c n : ℕ) → meets b m c n ≡ false → 0 < m → 0 < n → (b + m ≤ c) ⊎ (c + n ≤ b)
-ranges_apart b m c n off some some_other =
+pub ranges_disjoint : (b m c n : ℕ) → ranges_overlap b m c n ≡ false → 0 < m → 0 < n → (b + m ≤ c) ⊎ (c + n ≤ b)
+ranges_disjoint b m c n off some some_other =
     elim (cases_lt c (b + m)) [
       | inr before ↦ inl before
       | inl reaches ↦ elim (cases_lt b (c + n)) [
         | inr behind ↦ inr behind
         | inl begins ↦
-            let meeting : meets b m c n ≡ true = grind (arith, nat_tests, some, some_other, reaches, begins) in
-            absurd (cc (off, meeting))
+            let overlapping : ranges_overlap b m c n ≡ true = grind (arith, nat_tests, some, some_other, reaches, begins) in
+            absurd (cc (off, overlapping))
       ]
     ]
 
@@ -188,7 +188,7 @@ entry_is_code v none =
 pub record IsLaid (v : PlainView) (board : Board) : Type 0 where
   pub patch : first_below (patch_overlap_fault v board) (length v.segments) ≡ None
   pub near : span_of v board ≤ 1048576
-  pub spm : meets board.spm.base board.spm.size board.patch.base board.patch.size ≡ false
+  pub spm : ranges_overlap board.spm.base board.spm.size board.patch.base board.patch.size ≡ false
 
 pub is_laid : (v : PlainView) (board : Board) → layout_fault v board ≡ None → IsLaid v board
 is_laid v board none =
@@ -196,11 +196,11 @@ is_laid v board none =
     let first = both_none (first_below (spm_overlap_fault v board) (length v.segments)) _ places in
     let second = both_none (first_below (patch_overlap_fault v board) (length v.segments)) _ first.1 in
     let third = both_none (patch_far_fault v board) _ second.1 in
-    let fourth = both_none (spm_meets_patch_fault board) _ third.1 in
+    let fourth = both_none (spm_overlaps_patch_fault board) _ third.1 in
     record {
       patch = second.0;
       near = leb-true _ _ (holds (nat_le (span_of v board) 1048576) _ third.0);
-      spm = not_true (meets board.spm.base board.spm.size board.patch.base board.patch.size) (holds _ SpmMeetsPatch fourth.0);
+      spm = not_true (ranges_overlap board.spm.base board.spm.size board.patch.base board.patch.size) (holds _ SpmOverlapsPatch fourth.0);
     }
 
 pub is_near : (file : List ℕ) (board : Board) (g : Graph) → IsAccepted file board g → IsNear (view_in file) board
@@ -260,14 +260,14 @@ job_is file board g taken o accepted off placing below lies =
       some = some;
       source = (object_extends (view_in file) board g o accepted.graph.objects).ends;
       target = placing.fit.below o;
-      apart = apart_of (object_of g o).home (object_of g o).size board.spm.base board.spm.size ((data_placing board g taken).place o) some lies.from lies.to (off o);
+      disjoint = disjoint_of (object_of g o).home (object_of g o).size board.spm.base board.spm.size ((data_placing board g taken).place o) some lies.from lies.to (off o);
     }
 
-spares : (board : Board) (g : Graph) (place : ℕ → ℕ) (p : StartPlan) (o : ℕ) → p.base ≡ board.patch.base → meets board.spm.base board.spm.size board.patch.base board.patch.size ≡ false → 0 < board.spm.size → 0 < board.patch.size → 64 + start_bytes p ≤ board.patch.size → LiesIn board.spm (objects_of g) place o → Spares p (start_job (objects_of g) place o)
+spares : (board : Board) (g : Graph) (place : ℕ → ℕ) (p : StartPlan) (o : ℕ) → p.base ≡ board.patch.base → ranges_overlap board.spm.base board.spm.size board.patch.base board.patch.size ≡ false → 0 < board.spm.size → 0 < board.patch.size → 64 + start_bytes p ≤ board.patch.size → LiesIn board.spm (objects_of g) place o → Spares p (start_job (objects_of g) place o)
 spares board g place p o base off some some_patch inside lies =
     let from = lies.from in
     let to = lies.to in
-    elim (ranges_apart board.spm.base board.spm.size board.patch.base board.patch.size off some some_patch) [
+    elim (ranges_disjoint board.spm.base board.spm.size board.patch.base board.patch.size off some some_patch) [
       | inl before ↦ inl (omega (arith, before, to, base))
       | inr behind ↦ inr (omega (arith, behind, from, base, inside))
     ]

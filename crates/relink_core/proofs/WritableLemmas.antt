@@ -8,7 +8,7 @@ use Rattle.std.proofs.lemmas.List.Elements.{All-map}
 use Rattle.std.proofs.lemmas.List.Folds.{list_any_at}
 use Rattle.list_checks.specs.First.{unless}
 use Rattle.list_checks.proofs.FirstLemmas.{none_at, both_none, holds}
-use Rattle.list_checks.specs.Tests.{meets}
+use Rattle.list_checks.specs.Tests.{ranges_overlap}
 use Rattle.list_checks.proofs.TestLemmas.{not_true}
 use Rattle.elf_reader.specs.Layout.{file_header, program_header_count, program_header}
 use Rattle.elf_reader.specs.File.{is_load, segments_at, segments_below, PlainView, view_in}
@@ -20,11 +20,11 @@ use Rattle.elf_reader.proofs.LoadedLemmas.{loaded_found}
 use Rattle.elf_writer.specs.Pieces.{words_bytes, padding}
 use Rattle.elf_writer.specs.declared.parts.Patch.{Patch}
 use Rattle.elf_writer.specs.Parts.{NewSegment}
-use Rattle.elf_writer.specs.Conditions.{PatchesLoadedWord, ArePatchesApart, IsClearOf, IsAddable, IsWritable}
+use Rattle.elf_writer.specs.Conditions.{PatchesLoadedWord, ArePatchesDisjoint, IsClearOf, IsAddable, IsWritable}
 use Rattle.elf_writer.proofs.FitLemmas.{length_written, number_within, table_inside}
 use Rattle.board_config.specs.declared.board.Board.{Board}
 use Rattle.loaded_file.specs.Code.{is_code_word}
-use Rattle.object_graph.specs.LayoutFaults.{segment_meets, patch_overlap_fault}
+use Rattle.object_graph.specs.LayoutFaults.{segment_overlaps, patch_overlap_fault}
 use Rattle.object_graph.specs.Graphs.{IsGraph}
 use Rattle.object_graph.specs.declared.parts.Graph.{Graph}
 use Rattle.overlay_stubs.specs.Start.{StartPlan, start_stub, start_bytes}
@@ -36,7 +36,7 @@ use Rattle.relocator.specs.SiteWords.{site_at, is_entry, AreSiteWords}
 use Rattle.relink_core.specs.Faults.{headers_fault}
 use Rattle.relink_core.specs.Making.{patch_of, AreOfGraph, ArePlacesOf, ArePatchesFor, IsStartSegment, moves_below}
 use Rattle.relink_core.proofs.StubLemmas.{entry_is_code, is_laid, is_near}
-use Rattle.relink_core.proofs.PatchPlaces.{HoldsWord, code_held, data_held, patch_stands, stands_loaded, stand_apart}
+use Rattle.relink_core.proofs.PatchPlaces.{HoldsWord, code_held, data_held, patch_stands, stands_loaded, stand_disjoint}
 use Rattle.relink_core.proofs.MoveLemmas.{below_all, moves_are}
 
 -- ---- the new segment
@@ -106,7 +106,7 @@ small_file file none =
 -- ---- all
 
 -- a part of a range that another one doesn't meet
-clear_part : (b m c n k : ℕ) → meets b m c n ≡ false → k ≤ n → meets b m c k ≡ false
+clear_part : (b m c n k : ℕ) → ranges_overlap b m c n ≡ false → k ≤ n → ranges_overlap b m c k ≡ false
 clear_part b m c n k off part = grind (arith, nat_tests, off, part)
 
 pub is_addable : (file : List ℕ) (board : Board) (g : Graph) (s : NewSegment) → IsAccepted file board g → headers_fault (program_header_count file) ≡ None → s.base ≡ board.patch.base → 0 < length s.content → length s.content ≤ board.patch.size → IsAddable (view_in file) s
@@ -121,9 +121,9 @@ is_addable file board g s accepted headers base some inside =
       clear = λ k d below.
           let at = get_or_default v.segments k d no_segment below in
           let none = none_at (patch_overlap_fault v board) (length v.segments) k below laid.patch in
-          let off = not_true (segment_meets (segment_at v k) board.patch) (holds _ _ none) in
+          let off = not_true (segment_overlaps (segment_at v k) board.patch) (holds _ _ none) in
           let clear : IsClearOf s (segment_at v k) =
-          subst (λ (b : ℕ). meets (segment_at v k).vaddr (segment_at v k).memsz b (length s.content) ≡ false) (sym base)
+          subst (λ (b : ℕ). ranges_overlap (segment_at v k).vaddr (segment_at v k).memsz b (length s.content) ≡ false) (sym base)
           (clear_part (segment_at v k).vaddr (segment_at v k).memsz board.patch.base board.patch.size (length s.content) off inside) in
           subst (IsClearOf s) (sym at) clear;
       ends = omega (arith, base, inside, ends);
@@ -170,7 +170,7 @@ is_writable file board g places taken patches s accepted headers codes listed ar
     (λ j d below.
     let h = held j d below in
     stands_loaded v (patch_of v (get_or words j d)) h.0 (get_or words j d).0 h.1.below (patch_stands file (get_or words j d) h.0 accepted.none h.1)) in
-    let apart : AllPairs ArePatchesApart (map (patch_of v) words) =
+    let disjoint : AllPairs ArePatchesDisjoint (map (patch_of v) words) =
     λ i j d before below.
     let count = length-map words (patch_of v) in
     let inside_j : j < length words = omega (arith, below, count) in
@@ -179,11 +179,11 @@ is_writable file board g places taken patches s accepted headers codes listed ar
     let f = get_or words j (0, 0) in
     let one = held i (0, 0) inside_i in
     let other = held j (0, 0) inside_j in
-    let here = stand_apart v (patch_of v e) (patch_of v f) one.0 other.0 e.0 f.0 one.1.below other.1.below (patch_stands file e one.0 accepted.none one.1) (patch_stands file f other.0 accepted.none other.1) (for.new.apart i j (0, 0) before inside_j) in
+    let here = stand_disjoint v (patch_of v e) (patch_of v f) one.0 other.0 e.0 f.0 one.1.below other.1.below (patch_stands file e one.0 accepted.none one.1) (patch_stands file f other.0 accepted.none other.1) (for.new.disjoint i j (0, 0) before inside_j) in
     let first = get_or-map (patch_of v) words i (0, 0) d inside_i in
     let last = get_or-map (patch_of v) words j (0, 0) d inside_j in
-    subst (λ (p : Patch). ArePatchesApart p (get_or (map (patch_of v) words) j d)) (sym first)
-    (subst (λ (p : Patch). ArePatchesApart (patch_of v e) p) (sym last) here) in
+    subst (λ (p : Patch). ArePatchesDisjoint p (get_or (map (patch_of v) words) j d)) (sym first)
+    (subst (λ (p : Patch). ArePatchesDisjoint (patch_of v e) p) (sym last) here) in
     let put = for.put in
     let number = number_within file s.base in
     let table = table_inside file accepted.none (some_header file board g accepted) in
@@ -194,7 +194,7 @@ is_writable file board g places taken patches s accepted headers codes listed ar
     let pad : padding (length file) < 4 = omega arith in
     record {
       patched = subst (All (PatchesLoadedWord v)) (sym put) patched;
-      apart = subst (AllPairs ArePatchesApart) (sym put) apart;
+      disjoint = subst (AllPairs ArePatchesDisjoint) (sym put) disjoint;
       symbols = below_all v g places taken (length v.symbols);
       distinct = (moves_are v board g places taken accepted.graph listed are).distinct;
       allowed = addable;

@@ -87,9 +87,9 @@ pub data IsFirst (file : List ℕ) (board : Board) (fault : AnalyseFault) : Type
       → fault ≡ analyse.Region part → IsFirst file board fault
 
 -- a result tells of the first fault, or that no memory was left: Ok exactly where there is none
-abbrev pub TellsAnalysis : {T : Type 0} → List ℕ → Board → Result T AnalyseFault → Type 0
-TellsAnalysis file board (Ok value) = IsFaultless file board
-TellsAnalysis file board (Err fault) = (fault ≡ analyse.Memory) ⊎ IsFirst file board fault
+abbrev pub ReportsAnalysis : {T : Type 0} → List ℕ → Board → Result T AnalyseFault → Type 0
+ReportsAnalysis file board (Ok value) = IsFaultless file board
+ReportsAnalysis file board (Err fault) = (fault ≡ analyse.Memory) ⊎ IsFirst file board fault
 
 -- so does that of the regions of a view's code
 pub record IsOfRegions (v : PlainView) (c : Code) (board : Board) (fault : AnalyseFault) : Type 0 where
@@ -97,6 +97,6 @@ pub record IsOfRegions (v : PlainView) (c : Code) (board : Board) (fault : Analy
   pub first : region_fault v c board ≡ Some (plain_fault part)
   pub fault_is : fault ≡ analyse.Region part
 
-abbrev pub TellsRegions : {T : Type 0} → PlainView → Code → Board → Result T AnalyseFault → Type 0
-TellsRegions v c board (Ok value) = region_fault v c board ≡ None
-TellsRegions v c board (Err fault) = (fault ≡ analyse.Memory) ⊎ IsOfRegions v c board fault
+abbrev pub ReportsRegions : {T : Type 0} → PlainView → Code → Board → Result T AnalyseFault → Type 0
+ReportsRegions v c board (Ok value) = region_fault v c board ≡ None
+ReportsRegions v c board (Err fault) = (fault ≡ analyse.Memory) ⊎ IsOfRegions v c board fault

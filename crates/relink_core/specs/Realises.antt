@@ -82,7 +82,7 @@ pub record IsWrittenOver (v : PlainView) (board : Board) (g : Graph) (pl : Placi
 
 -- ---- what is taken
 
--- the result of a file in which objects are moved: they stand apart in the scratchpad, as their homes modulo the
+-- the result of a file in which objects are moved: they are disjoint in the scratchpad, as their homes modulo the
 -- grain; sites and words of data make the addresses of the places; a start stub copies the objects, in their order;
 -- and all else of the loaded memory is as it was
 pub record MovesData (file : List ℕ) (board : Board) (g : Graph) (taken : List ℕ) (out : List ℕ) : Type 0 where

@@ -22,7 +22,7 @@ pub record HasDeadAt (c : Code) (leader : ℕ) : Type 0 where
   pub dead : Live c leader register → ⊥
 
 -- a list that tells so of each block
-pub record TellsDead (c : Code) (has_dead : List Bool) : Type 0 where
+pub record ReportsDead (c : Code) (has_dead : List Bool) : Type 0 where
   pub one_each : length has_dead ≡ length c.blocks.items
   pub each : (b : ℕ) → b < length c.blocks.items → (slice_index_or has_dead b false ≡ true) ↔ HasDead c b
 
@@ -30,5 +30,5 @@ pub record TellsDead (c : Code) (has_dead : List Bool) : Type 0 where
 -- it has no dead register, or can't be entered through a stub for another reason.
 pub record AreRegions (v : PlainView) (c : Code) (board : Board) (t : RegionTable) : Type 0 where
   pub has_dead : List Bool
-  pub tells_dead : TellsDead c has_dead
+  pub tells_dead : ReportsDead c has_dead
   pub is_formed : IsFormed v c board has_dead t

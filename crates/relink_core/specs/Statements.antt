@@ -4,7 +4,7 @@ use Rattle.board_config.specs.declared.board.Board.{Board}
 use Rattle.object_graph.specs.declared.parts.Graph.{Graph}
 use Rattle.code_blocks.specs.declared.parts.Code.{Code}
 use Rattle.region_former.specs.declared.table.RegionTable.{RegionTable}
-use Rattle.profile_runner.specs.Move.{Move}
+use Rattle.profile_runner.specs.Transition.{Transition}
 use Rattle.placement_programme.specs.Plain.{PlainChoice}
 use Rattle.placement_programme.specs.Programme.{IsFeasible}
 use Rattle.energy_model.specs.Scenes.{scene_of, layout_of}
@@ -15,6 +15,6 @@ use Rattle.relink_core.specs.Choices.{IsDataChoice}
 -- off side, which has the rows for the graph and the board, and its variables are those of different objects, in order
 abbrev pub StatedIsRealisable : Type 0
 StatedIsRealisable =
-    (board : Board) (g : Graph) (code : Code) (t : RegionTable) (moves : List Move) (c : PlainChoice)
+    (board : Board) (g : Graph) (code : Code) (t : RegionTable) (moves : List Transition) (c : PlainChoice)
     → IsFeasible (stated (scene_of g code t board) (layout_of g code t board) moves) c
     → IsDataChoice board g (stated (scene_of g code t board) (layout_of g code t board) moves) c

@@ -1,6 +1,6 @@
 ghost use Rattle.std.specs.Prelude.{◌≡◌, ◌↔◌, ◌<◌, true, IfOk, OnOk, IfErr, None, option_map};
 ghost use Rattle.std.specs.List.Sorted.{IsStrictlyIncreasing};
-ghost use Rattle.list_checks.specs.First.{Tells, TellsUnless};
+ghost use Rattle.list_checks.specs.First.{Reports, ReportsUnless};
 ghost use Rattle.elf_reader.specs.Faults.{first_fault};
 ghost use Rattle.elf_reader.specs.File.{IsFile, plain_view, view_in};
 ghost use Rattle.board_config.specs.Board.{IsLawful};
@@ -12,8 +12,8 @@ ghost use Rattle.code_blocks.specs.Numbers.{starts_of};
 ghost use Rattle.liveness.specs.Tables.{IsTableOf};
 ghost use Rattle.points_to.specs.Tables.{IsTableOf as IsPointsOf};
 ghost use Rattle.relink_core.specs.declared.fault.AnalyseFault.TheVariants as analyse;
-ghost use Rattle.relink_core.specs.Faults.{IsOutermost, headers_fault, file_fault, least_patch, patch_fault, places_fault, view_fault, analyse_fault, TellsAnalysis, TellsRegions};
-ghost use Rattle.relink_core.specs.Regions.{HasDeadAt, TellsDead, AreRegions};
+ghost use Rattle.relink_core.specs.Faults.{IsOutermost, headers_fault, file_fault, least_patch, patch_fault, places_fault, view_fault, analyse_fault, ReportsAnalysis, ReportsRegions};
+ghost use Rattle.relink_core.specs.Regions.{HasDeadAt, ReportsDead, AreRegions};
 
 use crate::fault::AnalyseFault;
 use board_config::Board;
@@ -78,7 +78,7 @@ pub fn analyse<'a>(
     board: &Board,
 ) -> Result<Analysis<'a>, AnalyseFault>
     requires lawful { IsLawful board.now }
-    ensures fault { TellsAnalysis bytes.now board.now result }
+    ensures fault { ReportsAnalysis bytes.now board.now result }
     ensures file { IfOk result (λ a. IsFile bytes.now a.view) }
     ensures graph { IfOk result (λ a. IsGraph (view_in bytes.now) board.now a.graph) }
     ensures code { IfOk result (λ a. IsCode (view_in bytes.now) a.code) }
@@ -112,7 +112,7 @@ pub fn points_of(alloc: Global, analysis: &Analysis) -> Result<PointsTable, Allo
 
 /// The view, the graph and the code of a program.
 fn parts_of<'a>(alloc: Global, bytes: &'a [u8], board: &Board) -> Result<Parts<'a>, AnalyseFault>
-    ensures fault { TellsUnless AnalyseFault.Memory result (analyse_fault bytes.now board.now) }
+    ensures fault { ReportsUnless AnalyseFault.Memory result (analyse_fault bytes.now board.now) }
     ensures file { IfOk result (λ a. IsFile bytes.now a.view) }
     ensures graph { IfOk result (λ a. IsGraph (view_in bytes.now) board.now a.graph) }
     ensures code { IfOk result (λ a. IsCode (view_in bytes.now) a.code) }
@@ -135,7 +135,7 @@ fn regions_of(
     requires lawful { IsLawful board.now }
     requires code { IsCode (plain_view view.now) code.now }
     requires live { IsTableOf code.now live.now }
-    ensures fault { TellsRegions (plain_view view.now) code.now board.now result }
+    ensures fault { ReportsRegions (plain_view view.now) code.now board.now result }
     ensures regions { IfOk result (AreRegions (plain_view view.now) code.now board.now) }
     ensures inner { IfErr result IsOutermost }
 {
@@ -147,7 +147,7 @@ fn regions_of(
 fn dead_marks(alloc: Global, code: &Code, live: &LiveTable) -> Result<Vec<bool>, AllocError>
     requires ascending { IsStrictlyIncreasing (starts_of code.now) }
     requires live { IsTableOf code.now live.now }
-    ensures { IfOk result (λ marks. TellsDead code.now marks.items) }
+    ensures { IfOk result (λ marks. ReportsDead code.now marks.items) }
 {
     let mut marks = Vec::with_capacity(alloc, code.blocks.len())?;
     for b in 0..code.blocks.len() {
@@ -165,7 +165,7 @@ fn has_dead(live: &LiveTable, leader: u32) -> bool
 
 /// The view of a file to which a program header may be added.
 fn read_extendable<'a>(alloc: Global, bytes: &'a [u8]) -> Result<ElfView<'a>, AnalyseFault>
-    ensures fault { TellsUnless AnalyseFault.Memory result (file_fault bytes.now) }
+    ensures fault { ReportsUnless AnalyseFault.Memory result (file_fault bytes.now) }
     ensures file { IfOk result (IsFile bytes.now) }
     ensures sound { OnOk result (first_fault bytes.now ≡ None) }
     ensures inner { IfErr result IsOutermost }
@@ -179,7 +179,7 @@ fn read_extendable<'a>(alloc: Global, bytes: &'a [u8]) -> Result<ElfView<'a>, An
 
 /// One more program header may be added to `count`.
 fn check_headers(count: u32) -> Result<(), AnalyseFault>
-    ensures fault { Tells result (headers_fault count) }
+    ensures fault { Reports result (headers_fault count) }
     ensures inner { IfErr result IsOutermost }
 {
     if count == MOST_PROGRAM_HEADERS {
@@ -194,7 +194,7 @@ fn check_headers(count: u32) -> Result<(), AnalyseFault>
 /// The graph of a program that lies where it may, on a board whose patch range is large enough.
 fn placed_graph(alloc: Global, view: &ElfView, board: &Board) -> Result<Graph, AnalyseFault>
     requires { IsRead view.now }
-    ensures fault { TellsUnless AnalyseFault.Memory result (places_fault (plain_view view.now) board.now) }
+    ensures fault { ReportsUnless AnalyseFault.Memory result (places_fault (plain_view view.now) board.now) }
     ensures graph { IfOk result (IsGraph (plain_view view.now) board.now) }
     ensures inner { IfErr result IsOutermost }
 {
@@ -207,7 +207,7 @@ fn placed_graph(alloc: Global, view: &ElfView, board: &Board) -> Result<Graph, A
 
 /// The patch range has room for the control words and the start stub.
 fn check_patch(board: &Board) -> Result<(), AnalyseFault>
-    ensures fault { Tells result (patch_fault board.now) }
+    ensures fault { Reports result (patch_fault board.now) }
     ensures inner { IfErr result IsOutermost }
 {
     let need = least_patch(board.fence_i);
@@ -234,7 +234,7 @@ fn least_patch(fence_i: bool) -> u32
 /// The code of a program.
 fn code_of(alloc: Global, view: &ElfView) -> Result<Code, AnalyseFault>
     requires { IsRead view.now }
-    ensures fault { TellsUnless AnalyseFault.Memory result (option_map analyse.Code (code_fault (plain_view view.now))) }
+    ensures fault { ReportsUnless AnalyseFault.Memory result (option_map analyse.Code (code_fault (plain_view view.now))) }
     ensures code { IfOk result (IsCode (plain_view view.now)) }
     ensures inner { IfErr result IsOutermost }
 {

@@ -11,12 +11,12 @@ use Rattle.object_machine.specs.Program.{program_of}
 use Rattle.object_machine.specs.State.{SourceState}
 use Rattle.object_machine.specs.Start as start
 use Rattle.region_former.specs.declared.table.RegionTable.{RegionTable}
-use Rattle.profile_runner.specs.Running.{fault_of, TellsOfRun}
+use Rattle.profile_runner.specs.Running.{fault_of, ReportsOfRun}
 use Rattle.profile_runner.specs.declared.counts.Profile.{Profile}
 use Rattle.profile_runner.specs.declared.fault.ProfileFault.{ProfileFault}
 use Rattle.profile_runner.specs.declared.fault.ProfileFault.TheVariants.{AddressFault as FaultAt, Memory}
 use Rattle.printed_lines.specs.Endings.{IsAddressFault}
-use Rattle.relinking.specs.Runs.{TellsCounts}
+use Rattle.relinking.specs.Runs.{ReportsCounts}
 
 pub faulted : (o : Outcome) (pc why : ℕ) → fault_of o ≡ Some (FaultAt pc why) → o ≡ AddressFault pc why
 faulted GoesOn pc why e = absurd (cc)
@@ -33,13 +33,13 @@ unfaulted (AddressFault a b) e f = absurd (cc)
 -- what is told of a run from the start
 pub told_counts : (v : PlainView) (board : Board) (g : Graph) (c : Code) (t : RegionTable) (input : List ℕ) (first last : SourceState) (result : Result Profile ProfileFault)
     → first ≡ start.start_of v (program_of v board g) g input
-    → TellsOfRun (starts_of c) t.of_block.items t.count (length g.objects.items) (program_of v board g) board.steps first last result
-    → TellsCounts v board g c t input result
+    → ReportsOfRun (starts_of c) t.of_block.items t.count (length g.objects.items) (program_of v board g) board.steps first last result
+    → ReportsCounts v board g c t input result
 told_counts v board g c t input first last result same told =
     let p = program_of v board g in (
       last,
-      subst (λ (s : SourceState). TellsOfRun (starts_of c) t.of_block.items t.count (length g.objects.items) p board.steps s last result) same told,
+      subst (λ (s : SourceState). ReportsOfRun (starts_of c) t.of_block.items t.count (length g.objects.items) p board.steps s last result) same told,
     )
 
-pub no_memory : (v : PlainView) (board : Board) (g : Graph) (c : Code) (t : RegionTable) (input : List ℕ) → TellsCounts v board g c t input (Err Memory)
+pub no_memory : (v : PlainView) (board : Board) (g : Graph) (c : Code) (t : RegionTable) (input : List ℕ) → ReportsCounts v board g c t input (Err Memory)
 no_memory v board g c t input = (start.start_of v (program_of v board g) g input, tt)

@@ -19,16 +19,16 @@ use Rattle.std.proofs.lemmas.Int.{ints}
 use Rattle.placement_programme.specs.Programme.{IsFeasible, gain}
 use Rattle.placement_candidates.specs.Adding.{taken_by}
 use Rattle.placement_programme.specs.Plain.{PlainProgramme, PlainChoice}
-use Rattle.profile_runner.specs.Move.{Move}
+use Rattle.profile_runner.specs.Transition.{Transition}
 use Rattle.profile_runner.specs.Running.{Profiles}
 use Rattle.profile_runner.specs.declared.counts.Profile.{Profile}
 use Rattle.rv_decode.proofs.Meaning.{same_instruction}
 use Rattle.energy_model.specs.Energy.{Scene, energy}
 use Rattle.placement_candidates.specs.Selected.{stated}
-use Rattle.energy_model.specs.Scenes.{scene_of, layout_of, IsOfOneFile}
+use Rattle.energy_model.specs.Scenes.{scene_of, layout_of, AreOfSameFile}
 use Rattle.placement_candidates.proofs.ChoiceLemmas.{is_of_the_run}
 use Rattle.relink_core.specs.Faults.{least_patch}
-use Rattle.relinking.specs.StatedRun.{EnergiesAreOf}
+use Rattle.relinking.specs.ProgrammeOfRun.{EnergiesAreOf}
 
 start_fits : (fence : Bool) (size : ℕ) → least_patch fence ≤ size → 84 + (if fence then 4 else 0) ≤ size
 start_fits true size room = omega (arith, room)
@@ -40,7 +40,7 @@ pub of_one_file : (view : ElfView) (board : Board) (g : Graph) (c : Code) (t : R
     → code_fault (plain_view view) ≡ None → least_patch board.fence_i ≤ board.patch.size → is_leader (plain_view view) view.entry ≡ true
     → length t.of_block.items ≡ length c.blocks.items
     → (made : Profiles (starts_of c) t.of_block.items t.count (length g.objects.items) (program_of (plain_view view) board g) board.steps (start_of (plain_view view) (program_of (plain_view view) board g) g input) last q)
-    → IsOfOneFile view board g c t q made.moves
+    → AreOfSameFile view board g c t q made.moves
 of_one_file view board g c t input q last read lawful is_graph is_code no_fault room entry one_each made =
     record {
       read = read;
@@ -61,8 +61,8 @@ of_one_file view board g c t input q last read lawful is_graph is_code no_fault 
     }
 
 -- the energies of what the run states are those of the run
-pub energies_of : (view : ElfView) (board : Board) (g : Graph) (c : Code) (t : RegionTable) (q : Profile) (moves : List Move) (p : PlainProgramme)
-    → IsOfOneFile view board g c t q moves → p ≡ stated (scene_of g c t board) (layout_of g c t board) moves
+pub energies_of : (view : ElfView) (board : Board) (g : Graph) (c : Code) (t : RegionTable) (q : Profile) (moves : List Transition) (p : PlainProgramme)
+    → AreOfSameFile view board g c t q moves → p ≡ stated (scene_of g c t board) (layout_of g c t board) moves
     → EnergiesAreOf (scene_of g c t board) moves p
 energies_of view board g c t q moves p one is =
     let w = scene_of g c t board in
@@ -76,6 +76,6 @@ at_most_base : (base : ℕ) (saved : ℤ) (n : ℕ) → pos base -ℤ saved ≡ 
 at_most_base base saved n is = omega (arith, ints, is)
 
 -- a choice whose energy is that of a run saves no more than the base
-pub within_base : (w : Scene) (moves : List Move) (p : PlainProgramme) → EnergiesAreOf w moves p
+pub within_base : (w : Scene) (moves : List Transition) (p : PlainProgramme) → EnergiesAreOf w moves p
     → (c : PlainChoice) → IsFeasible p c → gain p c ≤ℤ pos p.base
 within_base w moves p energies c feasible = at_most_base p.base (gain p c) (energy w (taken_by p c) moves) (energies c feasible)

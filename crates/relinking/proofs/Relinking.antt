@@ -19,19 +19,19 @@ use Rattle.relink_core.specs.declared.fault.AnalyseFault.{AnalyseFault}
 use Rattle.relink_core.specs.declared.fault.AnalyseFault.TheVariants as analyse
 use Rattle.relink_core.proofs.StatedLemmas.{stated_choice}
 use Rattle.profile_runner.specs.Counts.{plain_rows}
-use Rattle.profile_runner.proofs.RunLemmas.{moves_steps}
+use Rattle.profile_runner.proofs.RunLemmas.{transitions_steps}
 use Rattle.result_setups.specs.HomeLaws.{program_in, source_start}
-use Rattle.relinking.specs.Runs.{TellsCounts}
-use Rattle.relinking.specs.StatedRun.{StatesProgramme}
+use Rattle.relinking.specs.Runs.{ReportsCounts}
+use Rattle.relinking.specs.ProgrammeOfRun.{StatesProgramme}
 use Rattle.printed_lines.specs.MovedLines.{moved_lines, start_in}
-use Rattle.relinking.specs.Relink.{TellsRelink, analyse_relink, profile_relink}
+use Rattle.relinking.specs.Relink.{ReportsRelink, analyse_relink, profile_relink}
 use Rattle.printed_lines.proofs.MovedPlaces.{moved_same}
 use Rattle.relinking.proofs.Counting.{faulted}
 
 -- ---- what is told
 
 pub analysis_tells : (file : List ℕ) (board : Board) (input : List ℕ) (fault : AnalyseFault) → (fault ≡ analyse.Memory) ⊎ IsFirst file board fault
-    → TellsRelink file board input (analyse_relink fault)
+    → ReportsRelink file board input (analyse_relink fault)
 analysis_tells file board input (analyse.Elf part) (inl memory) = absurd (cc)
 analysis_tells file board input (analyse.Elf part) (inr first) = first
 analysis_tells file board input (analyse.Graph part) (inl memory) = absurd (cc)
@@ -47,17 +47,17 @@ analysis_tells file board input analyse.Memory told = tt
 -- ---- the run
 
 pub run_tells : (file : List ℕ) (board : Board) (v : PlainView) (g : Graph) (c : Code) (t : RegionTable) (input : List ℕ) (fault : ProfileFault)
-    → v ≡ view_in file → IsFaultless file board → IsGraph (view_in file) board g → TellsCounts v board g c t input (Err fault)
-    → TellsRelink file board input (profile_relink fault)
+    → v ≡ view_in file → IsFaultless file board → IsGraph (view_in file) board g → ReportsCounts v board g c t input (Err fault)
+    → ReportsRelink file board input (profile_relink fault)
 run_tells file board v g c t input (profile.AddressFault pc why) same no_fault is_graph told =
-    let (last, meets) = subst (λ (u : PlainView). TellsCounts u board g c t input (Err (profile.AddressFault pc why))) same told in (
+    let (last, ranges_overlap) = subst (λ (u : PlainView). ReportsCounts u board g c t input (Err (profile.AddressFault pc why))) same told in (
       no_fault,
       record {
         graph = g;
         is_graph = is_graph;
         last = last;
-        taken = moves_steps (program_in file board g) board.steps (source_start file board g input) last meets.moves meets.run;
-        outcome_is = sym (faulted last.outcome pc why meets.fault);
+        taken = transitions_steps (program_in file board g) board.steps (source_start file board g input) last ranges_overlap.moves ranges_overlap.run;
+        outcome_is = sym (faulted last.outcome pc why ranges_overlap.fault);
       },
     )
 run_tells file board v g c t input profile.Memory same no_fault is_graph told = tt

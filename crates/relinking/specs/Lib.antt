@@ -1,5 +1,5 @@
 pub mod Runs
-pub mod StatedRun
+pub mod ProgrammeOfRun
 pub mod FoundChoice
 pub mod Relink
 pub mod Report

@@ -20,7 +20,7 @@ use Rattle.relink_core.specs.declared.fault.AnalyseFault.{AnalyseFault}
 use Rattle.relink_core.specs.declared.fault.AnalyseFault.TheVariants as analyse
 use Rattle.relinking.specs.FoundChoice.{is_optimal, IsFound}
 use Rattle.relinking.specs.Runs.{RunsProgram}
-use Rattle.relinking.specs.StatedRun.{StatesProgramme}
+use Rattle.relinking.specs.ProgrammeOfRun.{StatesProgramme}
 use Rattle.relinking.specs.declared.making.Relinked.{Relinked}
 use Rattle.relinking.specs.declared.making.RelinkFault.{RelinkFault}
 use Rattle.relinking.specs.declared.making.RelinkFault.TheVariants as relink
@@ -46,12 +46,12 @@ pub record Relinks (file : List ℕ) (board : Board) (input : List ℕ) (r : Rel
   pub relinks : RelinksBy file board found.graph found.code found.regions input r
 
 -- why a file is not relinked: the first fault of its analysis, or, where that has none, the address fault of its run
-abbrev pub TellsRelink : List ℕ → Board → List ℕ → RelinkFault → Type 0
-TellsRelink file board input (relink.Analyse fault) = IsFirst file board fault
-TellsRelink file board input (relink.Profile (profile.AddressFault pc why)) =
+abbrev pub ReportsRelink : List ℕ → Board → List ℕ → RelinkFault → Type 0
+ReportsRelink file board input (relink.Analyse fault) = IsFirst file board fault
+ReportsRelink file board input (relink.Profile (profile.AddressFault pc why)) =
     IsFaultless file board × RunsProgram file board input (AddressFault pc why)
-TellsRelink file board input (relink.Profile profile.Memory) = ⊥
-TellsRelink file board input relink.Memory = Unit {0}
+ReportsRelink file board input (relink.Profile profile.Memory) = ⊥
+ReportsRelink file board input relink.Memory = Unit {0}
 
 -- a part's want of memory is that of relinking
 abbrev pub analyse_relink : AnalyseFault → RelinkFault

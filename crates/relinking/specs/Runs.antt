@@ -14,7 +14,7 @@ use Rattle.object_machine.specs.Runs.{Steps}
 use Rattle.object_machine.specs.declared.events.Outcome.{Outcome}
 use Rattle.result_setups.specs.HomeLaws.{program_in, source_start}
 use Rattle.region_former.specs.declared.table.RegionTable.{RegionTable}
-use Rattle.profile_runner.specs.Running.{TellsOfRun}
+use Rattle.profile_runner.specs.Running.{ReportsOfRun}
 use Rattle.profile_runner.specs.declared.counts.Profile.{Profile}
 use Rattle.profile_runner.specs.declared.fault.ProfileFault.{ProfileFault}
 use Rattle.relink_core.specs.Choices.{IsAnalysisOf}
@@ -36,8 +36,8 @@ pub record RunsProgram (file : List ℕ) (board : Board) (input : List ℕ) (out
   pub outcome_is : outcome ≡ last.outcome
 
 -- a profile of the program's run, by a table of regions, or its address fault, or that no memory was left
-abbrev pub TellsCounts : PlainView → Board → Graph → Code → RegionTable → List ℕ → Result Profile ProfileFault → Type 0
-TellsCounts v board g c t input result =
+abbrev pub ReportsCounts : PlainView → Board → Graph → Code → RegionTable → List ℕ → Result Profile ProfileFault → Type 0
+ReportsCounts v board g c t input result =
     (last : SourceState)
-    × TellsOfRun (starts_of c) t.of_block.items t.count (length g.objects.items) (program_of v board g) board.steps
+    × ReportsOfRun (starts_of c) t.of_block.items t.count (length g.objects.items) (program_of v board g) board.steps
     (start_of v (program_of v board g) g input) last result

@@ -10,4 +10,4 @@ mod stating;
 pub use finding::{Solution, find_choice};
 pub use making::{RelinkFault, Relinked, relink, relink_analysed};
 pub use reporting::relink_report;
-pub use stating::{counted, stated_run};
+pub use stating::{profile_of_run, programme_of_run};

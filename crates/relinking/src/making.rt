@@ -1,12 +1,12 @@
 ghost use Rattle.std.specs.Prelude.{◌≡◌, ℕ, List, Err, IfOk, IfErr};
 ghost use Rattle.elf_reader.specs.File.{plain_view};
 ghost use Rattle.board_config.specs.Board.{IsLawful};
-ghost use Rattle.relinking.specs.Runs.{TellsCounts};
-ghost use Rattle.relinking.specs.Relink.{RelinksBy, Relinks, TellsRelink};
+ghost use Rattle.relinking.specs.Runs.{ReportsCounts};
+ghost use Rattle.relinking.specs.Relink.{RelinksBy, Relinks, ReportsRelink};
 ghost use Rattle.relinking.specs.Runs.{IsAnalysed};
 
 use crate::finding::find_choice;
-use crate::stating::stated_run;
+use crate::stating::programme_of_run;
 use board_config::Board;
 use branch_bound::Found;
 use placement_programme::Programme;
@@ -83,7 +83,7 @@ pub fn relink(
 ) -> Result<Relinked, RelinkFault>
     requires lawful { IsLawful board.now }
     ensures ok { IfOk result (Relinks elf.now board.now input.now) }
-    ensures err { IfErr result (TellsRelink elf.now board.now input.now) }
+    ensures err { IfErr result (ReportsRelink elf.now board.now input.now) }
 {
     let analysis = analyse(alloc, elf, board)?;
     match relink_analysed(alloc, &analysis, board, input) {
@@ -103,9 +103,9 @@ pub fn relink_analysed(
 ) -> Result<Relinked, ProfileFault>
     requires { (file : List ℕ) × IsAnalysed file board.now analysis.now }
     ensures ok { IfOk result (λ r. (file : List ℕ) → IsAnalysed file board.now analysis.now → RelinksBy file board.now analysis.now.graph analysis.now.code analysis.now.regions input.now r) }
-    ensures err { IfErr result (λ fault. TellsCounts (plain_view analysis.now.view) board.now analysis.now.graph analysis.now.code analysis.now.regions input.now (Err fault)) }
+    ensures err { IfErr result (λ fault. ReportsCounts (plain_view analysis.now.view) board.now analysis.now.graph analysis.now.code analysis.now.regions input.now (Err fault)) }
 {
-    let programme = stated_run(alloc, analysis, board, input)?;
+    let programme = programme_of_run(alloc, analysis, board, input)?;
     let solution = find_choice(alloc, &programme, board.nodes)?;
     let result = realise(alloc, analysis, board, &programme, &solution.found.choice)?;
     Ok(Relinked {

@@ -1,7 +1,7 @@
 ghost use Rattle.std.specs.Prelude.{ℕ, List};
 ghost use Rattle.elf_reader.specs.File.{plain_view};
-ghost use Rattle.relinking.specs.Runs.{IsAnalysed, TellsCounts};
-ghost use Rattle.relinking.specs.StatedRun.{TellsProgramme};
+ghost use Rattle.relinking.specs.Runs.{IsAnalysed, ReportsCounts};
+ghost use Rattle.relinking.specs.ProgrammeOfRun.{ReportsProgramme};
 
 use board_config::Board;
 use object_machine::Source;
@@ -14,14 +14,14 @@ use std::alloc::Global;
 /// Runs an analysed program for the board's steps, and counts what happens.
 ///
 /// The error is the address fault of the run. `Memory` comes only where no memory was left.
-pub fn counted(
+pub fn profile_of_run(
     alloc: Global,
     analysis: &Analysis<'_>,
     board: &Board,
     input: &[u8],
 ) -> Result<Profile, ProfileFault>
     requires { (file : List ℕ) × IsAnalysed file board.now analysis.now }
-    ensures { TellsCounts (plain_view analysis.now.view) board.now analysis.now.graph analysis.now.code analysis.now.regions input.now result }
+    ensures { ReportsCounts (plain_view analysis.now.view) board.now analysis.now.graph analysis.now.code analysis.now.regions input.now result }
 {
     let mut source = Source::new(
         alloc,
@@ -47,16 +47,16 @@ pub fn counted(
 /// The programme of a placement that the run of an analysed program states, for the board's steps.
 ///
 /// The error is the address fault of the run. `Memory` comes only where no memory was left.
-pub fn stated_run(
+pub fn programme_of_run(
     alloc: Global,
     analysis: &Analysis<'_>,
     board: &Board,
     input: &[u8],
 ) -> Result<Programme, ProfileFault>
     requires { (file : List ℕ) × IsAnalysed file board.now analysis.now }
-    ensures { TellsProgramme (plain_view analysis.now.view) board.now analysis.now.graph analysis.now.code analysis.now.regions input.now result }
+    ensures { ReportsProgramme (plain_view analysis.now.view) board.now analysis.now.graph analysis.now.code analysis.now.regions input.now result }
 {
-    let counts = counted(alloc, analysis, board, input)?;
+    let counts = profile_of_run(alloc, analysis, board, input)?;
     match programme(
         alloc,
         &counts,

@@ -15,8 +15,8 @@ use Rattle.relocator.specs.declared.items.Item.{Item}
 use Rattle.relocator.specs.declared.slots.Slot.{Slot}
 use Rattle.relocator.specs.Slots.{is_code, items_of, first_slots}
 use Rattle.relocator.specs.Placing.{puts, placed, chosen_slots, place_of}
-use Rattle.relocator.specs.Laws.{CanLayOut, IsLaidOut, LiesWithin, IsPresent, AreApart, AreApartIn, no_slot, slot_at, StandsIn, StandsAtHome, AreObjectsOff, PlacesFit, ObjectsOffCodeSlots}
-use Rattle.relocator.proofs.SlotLemmas.{slot_keeps, slots_apart}
+use Rattle.relocator.specs.Laws.{CanLayOut, IsLaidOut, LiesWithin, IsPresent, AreDisjoint, AreDisjointIn, no_slot, slot_at, StandsIn, StandsAtHome, AreObjectsOff, PlacesFit, ObjectsOffCodeSlots}
+use Rattle.relocator.proofs.SlotLemmas.{slot_keeps, slots_disjoint}
 use Rattle.relocator.proofs.WeightLemmas.{IsSized}
 use Rattle.relocator.proofs.PlaceLemmas.{choice_fits, slots_within}
 use Rattle.relocator.proofs.StandLemmas.{puts_one, puts_present, puts_data, stands}
@@ -29,7 +29,7 @@ pub record AreLaid (g : Graph) (regions : ℕ) (board : Board) (region : ℕ) (s
   pub grain : IsGrain g.grain
   pub sized : All (λ s. IsSized g regions s.name s.span) slots
   pub within : All (LiesWithin board.spm) slots
-  pub apart : AllPairs (AreApartIn region) slots
+  pub disjoint : AllPairs (AreDisjointIn region) slots
   pub times : All (λ s. IsTimes g.grain s.at) slots
 
 pub are_laid : (v : PlainView) (g : Graph) (regions : ℕ) (board : Board) (p : PlainProgramme) (c : PlainChoice) (region : ℕ) → IsLaidOut v board g → CanLayOut g regions board p c → AreLaid g regions board region (chosen_slots board p c)
@@ -44,24 +44,24 @@ are_laid v g regions board p c region laid can =
       grain = grain;
       sized = slot_keeps (λ name span. IsSized g regions name span) (first_slots board.spm.base items) items fit.sized;
       within = slots_within g regions board.spm items fit;
-      apart = slots_apart board.spm.base items region;
+      disjoint = slots_disjoint board.spm.base items region;
       times = slots_times g.grain board.spm.base items (base_times g.grain board.spm.base (subst (λ (n : ℕ). board.spm.base % n ≡ 0) (sym laid.graph.grain) base)) spans;
     }
 
 -- two slots of what is present
-two_apart : (region : ℕ) (slots : List Slot) (k l : ℕ) → AllPairs (AreApartIn region) slots → k ≢ l → k < length slots → l < length slots → IsPresent region (slot_at slots k) → IsPresent region (slot_at slots l) → AreApart (slot_at slots k) (slot_at slots l)
-two_apart region slots k l apart other below below_too here there =
+two_disjoint : (region : ℕ) (slots : List Slot) (k l : ℕ) → AllPairs (AreDisjointIn region) slots → k ≢ l → k < length slots → l < length slots → IsPresent region (slot_at slots k) → IsPresent region (slot_at slots l) → AreDisjoint (slot_at slots k) (slot_at slots l)
+two_disjoint region slots k l disjoint other below below_too here there =
     elim (cases_lt k l) [
-      | inl before ↦ apart k l no_slot before below_too here there
-      | inr behind ↦ turned (slot_at slots l) (slot_at slots k) (apart l k no_slot (omega (arith, behind, other)) below there here)
+      | inl before ↦ disjoint k l no_slot before below_too here there
+      | inr behind ↦ turned (slot_at slots l) (slot_at slots k) (disjoint l k no_slot (omega (arith, behind, other)) below there here)
     ]
   where
-    turned : (s t : Slot) → AreApart s t → AreApart t s
+    turned : (s t : Slot) → AreDisjoint s t → AreDisjoint t s
     turned s t (inl before) = inr before
     turned s t (inr behind) = inl behind
 
--- places within two ranges that are apart differ
-differ : (s t : Slot) (a n b m i j : ℕ) → AreApart s t → s.at ≤ a → a + n ≤ s.at + s.span → t.at ≤ b → b + m ≤ t.at + t.span → i < n → j < m → a + i ≡ b + j → ⊥
+-- places within two ranges that are disjoint differ
+differ : (s t : Slot) (a n b m i j : ℕ) → AreDisjoint s t → s.at ≤ a → a + n ≤ s.at + s.span → t.at ≤ b → b + m ≤ t.at + t.span → i < n → j < m → a + i ≡ b + j → ⊥
 differ s t a n b m i j (inl before) from to other_from other_to inside inside_other same = omega (arith, before, from, to, other_from, other_to, inside, inside_other, same)
 differ s t a n b m i j (inr behind) from to other_from other_to inside inside_other same = omega (arith, behind, from, to, other_from, other_to, inside, inside_other, same)
 
@@ -139,8 +139,8 @@ module _ (v : PlainView) (g : Graph) (regions : ℕ) (board : Board) (region : �
       spot : (at low i base total span size : ℕ) → base ≤ at → at + span ≤ base + total → low + size ≤ span → i < size → (n : ℕ) × ((n < total) × (at + low + i ≡ base + n))
       spot at low i base total span size from to room inside = (at - base + low + i, (omega (arith, from, to, room, inside), omega (arith, from)))
 
-  apart : (o p i j : ℕ) → (o ≡ p → ⊥) → i < (object_of g o).size → j < (object_of g p).size → place o + i ≡ place p + j → ⊥
-  apart o p i j other inside inside_other same = elim (where_is o) [
+  disjoint : (o p i j : ℕ) → (o ≡ p → ⊥) → i < (object_of g o).size → j < (object_of g p).size → place o + i ≡ place p + j → ⊥
+  disjoint o p i j other inside inside_other same = elim (where_is o) [
     | inl here ↦ elim (where_is p) [
       | inl there ↦ both_moved o p i j other inside inside_other same here.0 here.1 there.0 there.1
       | inr home ↦ off_home o p i j here.0 here.1 home inside inside_other same
@@ -159,13 +159,13 @@ module _ (v : PlainView) (g : Graph) (regions : ℕ) (board : Board) (region : �
           let s = slot_at slots k in
           let t = slot_at slots l in
           let two : k ≢ l = λ e. other (puts_one s.name region o p here.puts (subst (λ (n : ℕ). puts (slot_at slots n).name region p ≡ true) (sym e) there.puts)) in
-          let separate = two_apart region slots k l are.apart two here.below there.below (puts_present s.name region o here.puts) (puts_present t.name region p there.puts) in
+          let separate = two_disjoint region slots k l are.disjoint two here.below there.below (puts_present s.name region o here.puts) (puts_present t.name region p there.puts) in
           let first = lies g slots region o (place o) k here in
           let second = lies g slots region p (place p) l there in
           differ s t (place o) (object_of g o).size (place p) (object_of g p).size i j separate first.from first.to second.from second.to inside inside_other same
 
   pub fits : Fit (objects_of g) place
-  fits = record { grain = are.grain; congruent = congruent; positive = positive; below = below; apart = apart }
+  fits = record { grain = are.grain; congruent = congruent; positive = positive; below = below; disjoint = disjoint }
 
   pub off_code : (k o i j : ℕ) → k < length slots → is_code (slot_at slots k).name ≡ true → IsPresent region (slot_at slots k) → i < (object_of g o).size → j < (slot_at slots k).span → place o + i ≡ (slot_at slots k).at + j → ⊥
   off_code k o i j inside_list code present inside inside_span same = elim (where_is o) [
@@ -175,7 +175,7 @@ module _ (v : PlainView) (g : Graph) (regions : ℕ) (board : Board) (region : �
         let s = slot_at slots m in
         let t = slot_at slots k in
         let two : m ≢ k = λ e. absurd (cc (puts_data s.name region o st.puts, ap (λ (n : ℕ). is_code (slot_at slots n).name) e, code)) in
-        let separate = two_apart region slots m k are.apart two st.below inside_list (puts_present s.name region o st.puts) present in
+        let separate = two_disjoint region slots m k are.disjoint two st.below inside_list (puts_present s.name region o st.puts) present in
         let first = lies g slots region o (place o) m st in
         differ s t (place o) (object_of g o).size t.at t.span i j separate first.from first.to (omega arith) (omega arith) inside inside_span same
     | inr home ↦

@@ -5,7 +5,7 @@ use Rattle.std.proofs.lemmas.Bool.{cases_lt, eqb-true}
 use Rattle.std.proofs.lemmas.Bool.Decides.{nat_tests}
 use Rattle.std.proofs.lemmas.List.{length_push, get_or_append_left, get_or-append_right, get_or_push}
 use Rattle.std.proofs.lemmas.List.Folds.{list_any_at, list_any-append}
-use Rattle.list_checks.specs.Tests.{meets}
+use Rattle.list_checks.specs.Tests.{ranges_overlap}
 use Rattle.list_checks.proofs.TestLemmas.{either, both}
 use Rattle.elf_reader.specs.File.{PlainView}
 use Rattle.board_config.specs.declared.board.Board.{Board}
@@ -52,13 +52,13 @@ site_more v g places region_at n entries more e grown at new are = subst (λ (es
 
 -- the entry of a site stands before that of a word of data
 separate_at : (v : PlainView) (board : Board) (g : Graph) (places : Places) (region_at : List ℕ) (xs ys : List (ℕ × ℕ)) → IsGraph v board g → AreOfSites v g places region_at (length g.sites.items) xs → AreOfWords g places (length g.data_words.items) ys
-    → (i j : ℕ) → i < j → j < length xs + length ys → meets (entry_of (xs ++ ys) i).0 4 (entry_of (xs ++ ys) j).0 4 ≡ false
+    → (i j : ℕ) → i < j → j < length xs + length ys → ranges_overlap (entry_of (xs ++ ys) i).0 4 (entry_of (xs ++ ys) j).0 4 ≡ false
 separate_at v board g places region_at xs ys is sites words i j before below =
     elim (cases_lt j (length xs)) [
       | inl first ↦
           let here = at_site i (omega (arith, before, first)) in
           let there = at_site j first in
-          let order : (site_at g i).at + 4 ≤ (site_at g j).at = is.sites.apart i j _ before (omega (arith, first, count)) in
+          let order : (site_at g i).at + 4 ≤ (site_at g j).at = is.sites.disjoint i j _ before (omega (arith, first, count)) in
           behind_none (entry_of (xs ++ ys) i).0 (entry_of (xs ++ ys) j).0 (omega (arith, here, there, order))
       | inr second ↦
           let there = at_word j second below in
@@ -71,7 +71,7 @@ separate_at v board g places region_at xs ys is sites words i j before below =
                 grind (arith, nat_tests, here, there, none)
             | inr also ↦
                 let here = at_word i also (omega (arith, before, below)) in
-                let order : (data_word_at g (i - length xs)).at + 4 ≤ (data_word_at g (j - length xs)).at = is.data_words.apart (i - length xs) (j - length xs) _ (omega (arith, before, also)) (omega (arith, second, below, word_count)) in
+                let order : (data_word_at g (i - length xs)).at + 4 ≤ (data_word_at g (j - length xs)).at = is.data_words.disjoint (i - length xs) (j - length xs) _ (omega (arith, before, also)) (omega (arith, second, below, word_count)) in
                 behind_none (entry_of (xs ++ ys) i).0 (entry_of (xs ++ ys) j).0 (omega (arith, here, there, order))
           ]
     ]
@@ -82,7 +82,7 @@ separate_at v board g places region_at xs ys is sites words i j before below =
     word_count : length ys ≡ length g.data_words.items
     word_count = words.long
 
-    behind_none : (a b : ℕ) → a + 4 ≤ b → meets a 4 b 4 ≡ false
+    behind_none : (a b : ℕ) → a + 4 ≤ b → ranges_overlap a 4 b 4 ≡ false
     behind_none a b order = grind (arith, nat_tests, order)
 
     at_site : (k : ℕ) → k < length xs → (entry_of (xs ++ ys) k).0 ≡ (site_at g k).at
@@ -95,8 +95,8 @@ pub all_separate : (v : PlainView) (board : Board) (g : Graph) (places : Places)
 all_separate v board g places region_at xs ys is sites words i j d before below =
     let long = length-append xs ys in
     let none = separate_at v board g places region_at xs ys is sites words i j before (omega (arith, long, below)) in
-    subst (λ (x : ℕ × ℕ). meets x.0 4 (get_or (xs ++ ys) j d).0 4 ≡ false) (any_default (xs ++ ys) i (0, 0) d (omega (arith, before, below)))
-    (subst (λ (x : ℕ × ℕ). meets (entry_of (xs ++ ys) i).0 4 x.0 4 ≡ false) (any_default (xs ++ ys) j (0, 0) d below) none)
+    subst (λ (x : ℕ × ℕ). ranges_overlap x.0 4 (get_or (xs ++ ys) j d).0 4 ≡ false) (any_default (xs ++ ys) i (0, 0) d (omega (arith, before, below)))
+    (subst (λ (x : ℕ × ℕ). ranges_overlap (entry_of (xs ++ ys) i).0 4 x.0 4 ≡ false) (any_default (xs ++ ys) j (0, 0) d below) none)
   where
     any_default : (es : List (ℕ × ℕ)) (k : ℕ) (d e : ℕ × ℕ) → k < length es → get_or es k d ≡ get_or es k e
     any_default [] k d e below = absurd (omega (arith, below))
@@ -130,7 +130,7 @@ pub are_site_words : (v : PlainView) (g : Graph) (places : Places) (region_at : 
     → AreInOrder address_of zs → ((test : ℕ × ℕ → Bool) → list_any test zs ≡ list_any test (xs ++ ys))
     → AreSiteWords v g places region_at zs
 are_site_words v g places region_at xs ys zs sites words order same = record {
-  apart = order;
+  disjoint = order;
   sites = λ k below.
       let e = entry_of xs k in
       let long = sites.long in

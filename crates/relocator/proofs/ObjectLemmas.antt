@@ -3,14 +3,14 @@ use Rattle.std.proofs.Common.{◌≡◌, ◌∙◌, ℕ, ◌+◌, ◌-◌, ◌<�
 use Rattle.std.proofs.lemmas.Bool.Decides.{nat_tests}
 use Rattle.list_checks.specs.First.{unless, first_below}
 use Rattle.list_checks.proofs.FirstLemmas.{both_none, none_at}
-use Rattle.list_checks.specs.Tests.{lies_in, meets}
+use Rattle.list_checks.specs.Tests.{lies_in, ranges_overlap}
 use Rattle.elf_reader.specs.File.{PlainView}
 use Rattle.elf_reader.specs.Loaded.{segment_at}
 use Rattle.elf_reader.proofs.LoadedLemmas.{loaded_found}
 use Rattle.board_config.specs.declared.board.Board.{Board}
 use Rattle.loaded_file.specs.Records.{symbol_at}
 use Rattle.loaded_file.specs.Ranges.{owner_of}
-use Rattle.object_graph.specs.LayoutFaults.{segment_meets, spm_overlap_fault, patch_overlap_fault, patch_far_fault, spm_meets_patch_fault, spm_at_zero_fault, no_area_fault, places_fault, too_many_fault, layout_fault}
+use Rattle.object_graph.specs.LayoutFaults.{segment_overlaps, spm_overlap_fault, patch_overlap_fault, patch_far_fault, spm_overlaps_patch_fault, spm_at_zero_fault, no_area_fault, places_fault, too_many_fault, layout_fault}
 use Rattle.object_graph.specs.declared.fault.GraphFault.{GraphFault}
 use Rattle.object_graph.specs.declared.fault.GraphFault.TheVariants.{SpmOverlap, SpmAtZero}
 use Rattle.object_graph.specs.Graphs.{IsObjects}
@@ -26,11 +26,11 @@ holds true fault none = refl
 holds false fault none = absurd (cc)
 
 -- no segment meets the scratchpad
-no_overlap : (v : PlainView) (board : Board) (g : ℕ) → layout_fault v board ≡ None → g < length v.segments → not (segment_meets (segment_at v g) board.spm) ≡ true
+no_overlap : (v : PlainView) (board : Board) (g : ℕ) → layout_fault v board ≡ None → g < length v.segments → not (segment_overlaps (segment_at v g) board.spm) ≡ true
 no_overlap v board g layout below =
     let places = (both_none (places_fault v board) (too_many_fault v board) layout).0 in
     let first = (both_none (first_below (spm_overlap_fault v board) (length v.segments)) _ places).0 in
-    holds (not (segment_meets (segment_at v g) board.spm)) (SpmOverlap (segment_at v g).index) (none_at (spm_overlap_fault v board) (length v.segments) g below first)
+    holds (not (segment_overlaps (segment_at v g) board.spm)) (SpmOverlap (segment_at v g).index) (none_at (spm_overlap_fault v board) (length v.segments) g below first)
 
 -- and the scratchpad begins behind address 0
 pub scratchpad_placed : (v : PlainView) (board : Board) → layout_fault v board ≡ None → 16 ≤ board.spm.base
@@ -39,7 +39,7 @@ scratchpad_placed v board layout =
     let second = (both_none (first_below (spm_overlap_fault v board) (length v.segments)) _ places).1 in
     let third = (both_none (first_below (patch_overlap_fault v board) (length v.segments)) _ second).1 in
     let fourth = (both_none (patch_far_fault v board) _ third).1 in
-    let fifth = (both_none (spm_meets_patch_fault board) _ fourth).1 in
+    let fifth = (both_none (spm_overlaps_patch_fault board) _ fourth).1 in
     let none = (both_none (spm_at_zero_fault board) (first_below (no_area_fault v board) (length v.segments)) fifth).0 in
     let tested = holds _ SpmAtZero none in
     grind (arith, nat_tests, tested)
@@ -50,7 +50,7 @@ lies_from base total start size lies = grind (arith, nat_tests, lies)
 lies_to : (base total start size : ℕ) → lies_in base total start size ≡ true → start + size ≤ base + total
 lies_to base total start size lies = grind (arith, nat_tests, lies)
 
-no_shared : (a n b m i j : ℕ) → not (meets a n b m) ≡ true → i < n → j < m → a + i ≡ b + j → ⊥
+no_shared : (a n b m i j : ℕ) → not (ranges_overlap a n b m) ≡ true → i < n → j < m → a + i ≡ b + j → ⊥
 no_shared a n b m i j none first second same = grind (arith, nat_tests, none, first, second, same)
 
 within_segment : (a n home i : ℕ) → a ≤ home + i → home + i < a + n → (k : ℕ) × ((k < n) × (a + k ≡ home + i))

@@ -9,7 +9,7 @@ use Rattle.placement_programme.specs.declared.variables.VarName.{VarName}
 use Rattle.relocator.specs.declared.items.Item.{Item}
 use Rattle.relocator.specs.declared.slots.Slot.{Slot}
 use Rattle.relocator.specs.Slots.{region_of, bytes_in, moved_on, slots_from, first_slots, slots_of}
-use Rattle.relocator.specs.Laws.{IsPresent, AreApartIn}
+use Rattle.relocator.specs.Laws.{IsPresent, AreDisjointIn}
 
 -- ---- one item more
 
@@ -79,7 +79,7 @@ slots_in_row next (i ∷ is) =
     (All-weaker (IsBetween (moved_on next i) is) (InRow (record { name = i.name; at = next (region_of i.name); span = i.span })) (behind_first next i is) rest (slots_between (moved_on next i) is))
     (slots_in_row (moved_on next i) is)
 
--- ---- apart
+-- ---- disjoint
 
 -- what stands throughout ends where regions begin
 static_first : (base : ℕ) (items : List Item) (r : ℕ) → r ≢ 0 → first_slots base items r ≡ first_slots base items 0 + bytes_in 0 items
@@ -95,7 +95,7 @@ before_regions base items s t static other first second =
     subst (λ (r : ℕ). s.at + s.span ≤ first_slots base items r + bytes_in r items) static first.to in
     omega (arith, begins, from, to)
 
-together : (base : ℕ) (items : List Item) (region : ℕ) (s t : Slot) → InRow s t → IsBetween (first_slots base items) items s → IsBetween (first_slots base items) items t → AreApartIn region s t
+together : (base : ℕ) (items : List Item) (region : ℕ) (s t : Slot) → InRow s t → IsBetween (first_slots base items) items s → IsBetween (first_slots base items) items t → AreDisjointIn region s t
 together base items region s t row first second here there =
     elim (cases_eq (region_of s.name) (region_of t.name)) [
       | inl same ↦ inl (row same)
@@ -112,8 +112,8 @@ together base items region s t row first second here there =
     owned region s other (inl static) = absurd (other static)
     owned region s other (inr own) = own
 
-pub slots_apart : (base : ℕ) (items : List Item) (region : ℕ) → AllPairs (AreApartIn region) (slots_of base items)
-slots_apart base items region i j d before below =
+pub slots_disjoint : (base : ℕ) (items : List Item) (region : ℕ) → AllPairs (AreDisjointIn region) (slots_of base items)
+slots_disjoint base items region i j d before below =
     let next = first_slots base items in
     let between = slots_between next items in
     together base items region (get_or (slots_from next items) i d) (get_or (slots_from next items) j d)

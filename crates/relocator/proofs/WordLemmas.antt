@@ -4,7 +4,7 @@ use Rattle.std.proofs.lemmas.Bool.{eqb-true, ltb-true}
 use Rattle.std.proofs.lemmas.Bool.Decides.{nat_tests}
 use Rattle.std.proofs.lemmas.List.{get_or_default}
 use Rattle.std.proofs.lemmas.List.Folds.{list_any_at}
-use Rattle.list_checks.specs.Tests.{any_below, meets}
+use Rattle.list_checks.specs.Tests.{any_below, ranges_overlap}
 use Rattle.list_checks.proofs.TestLemmas.{either, both, not_true, any_found, none_at}
 use Rattle.rv_decode.specs.Fields.{opcode_of, rd_of, rs1_of, rs2_of, u_immediate}
 use Rattle.word_bits.specs.Words.{lower_half}
@@ -13,10 +13,10 @@ use Rattle.rv_decode.specs.declared.instructions.ImmKind.TheVariants.{Addi}
 use Rattle.elf_reader.specs.File.{PlainView}
 use Rattle.elf_reader.specs.declared.view.Reloc.{Reloc}
 use Rattle.loaded_file.specs.Code.{is_code_word, image_word}
-use Rattle.loaded_file.specs.Records.{reloc_at, counts, target, is_mute, width_of}
-use Rattle.sound_relocations.specs.Sound.{is_meant, displacement, holds_data, cuts_range, changes_word, is_sound_word, is_sound_high, is_sound_low, is_sound_pair, distance, names_high}
+use Rattle.loaded_file.specs.Records.{reloc_at, counts, target, is_hint, width_of}
+use Rattle.rewritable_relocations.specs.Rewritable.{is_meant, displacement, holds_data, cuts_range, changes_word, is_rewritable_word, is_rewritable_high, is_rewritable_low, is_rewritable_pair, distance, names_high}
 use Rattle.movable_ranges.specs.Fixed.{leads_to}
-use Rattle.loaded_file.proofs.ExtentLemmas.{both_made}
+use Rattle.loaded_file.proofs.ByteRangeLemmas.{both_made}
 use Rattle.object_graph.specs.declared.parts.Object.{Object}
 use Rattle.object_graph.specs.declared.parts.SiteKind.{SiteKind}
 use Rattle.object_graph.specs.declared.parts.SiteKind.TheVariants.{Hi, LowI, LowS}
@@ -24,7 +24,7 @@ use Rattle.object_graph.specs.declared.parts.Site.{Site}
 use Rattle.object_graph.specs.declared.parts.DataWord.{DataWord}
 use Rattle.object_graph.specs.Graphs.{object_at, makes_part, gives_directly, gives_low_of, gives_offset, gives_site, same_part, same_site, IsSites, gives_word, same_word, IsWords}
 use Rattle.object_graph.specs.Laws.{HasLower, StoresAtLower}
-use Rattle.object_graph.proofs.SoundLemmas.{high_parts, low_parts, pair_parts}
+use Rattle.object_graph.proofs.RewritableLemmas.{high_parts, low_parts, pair_parts}
 use Rattle.object_graph.proofs.LeadLemmas.{has_lower, stores_at_lower, paired_low}
 use Rattle.relocator.specs.Gathering.{CanRewrite}
 use Rattle.relocator.specs.SiteWords.{no_site, no_word}
@@ -95,9 +95,9 @@ by_itself : (v : PlainView) (part : SiteKind) (home n offset j : ℕ) → makes_
 by_itself v part home n offset j makes gives =
     let r = reloc_at v j in
     let w = image_word v r.at in
-    let high = is_sound_high v r in
-    let low = is_sound_low v r in
-    let pair = is_sound_pair v r in
+    let high = is_rewritable_high v r in
+    let low = is_rewritable_low v r in
+    let pair = is_rewritable_pair v r in
     let two = both (leads_to v home n j && (high || low || pair)) (displacement v home r == offset) gives in
     let one = both (leads_to v home n j) (high || low || pair) two.0 in
     let near = both (counts v r && is_meant v home n r) (nat_le (displacement v home r) n) one.0 in
@@ -126,9 +126,9 @@ by_high v part home n offset j below makes counted given =
     let found = any_found (gives_low_of v home n offset j) (length v.relocs) given in
     let r = reloc_at v found.0 in
     let names = names_high v r low in
-    let three = both (leads_to v home n found.0 && is_sound_pair v r && names) (displacement v home r == offset) found.2 in
-    let two = both (leads_to v home n found.0 && is_sound_pair v r) names three.0 in
-    let pair = pair_parts v r (both (leads_to v home n found.0) (is_sound_pair v r) two.0).1 in
+    let three = both (leads_to v home n found.0 && is_rewritable_pair v r && names) (displacement v home r == offset) found.2 in
+    let two = both (leads_to v home n found.0 && is_rewritable_pair v r) names three.0 in
+    let pair = pair_parts v r (both (leads_to v home n found.0) (is_rewritable_pair v r) two.0).1 in
     let is = paired_low v r j pair below counted two.1 in
     elim is.part [
       | inl wide ↦ made v part j makes counted is.code (of_lower part low.kind w makes (inr wide.0) (lower_of w (distance v r) wide.1))
@@ -227,7 +227,7 @@ word_listed v objects words k is below =
     let r = reloc_at v j in
     let o = object_at objects d.object in
     let leads = leads_to v o.home o.size j in
-    let sound = is_sound_word v j r in
+    let sound = is_rewritable_word v j r in
     let three = both ((r.at == d.at) && leads && sound) (displacement v o.home r == d.offset) found.2 in
     let two = both ((r.at == d.at) && leads) sound three.0 in
     let changes = any_below (changes_word v j r.at) (length v.relocs) in
@@ -244,19 +244,19 @@ last_false : (a b c d : Bool) → a ≡ true → b ≡ true → c ≡ true → a
 last_false a b c d first second third none = sym (rw (first, second, third) refl) ∙ none
 
 -- a site and a word of data share no byte
-pub site_off_word : (v : PlainView) (count : ℕ) (s : Site) (d : DataWord) → IsListed v count s → IsWordListed v count d → meets s.at 4 d.at 4 ≡ false
+pub site_off_word : (v : PlainView) (count : ℕ) (s : Site) (d : DataWord) → IsListed v count s → IsWordListed v count d → ranges_overlap s.at 4 d.at 4 ≡ false
 site_off_word v count s d site word =
     let none = none_at (changes_word v word.by (reloc_at v word.by).at) (length v.relocs) site.by site.below word.alone in
     let r = site.rewrites in
-    apart (reloc_at v site.by).at (reloc_at v site.by).kind s.at (reloc_at v word.by).at d.at site.by word.by (reloc_at v word.by).kind (counts v (reloc_at v site.by))
+    disjoint (reloc_at v site.by).at (reloc_at v site.by).kind s.at (reloc_at v word.by).at d.at site.by word.by (reloc_at v word.by).kind (counts v (reloc_at v site.by))
     site.at word.at r.least r.most word.kind (λ same. subst (λ (n : ℕ). (reloc_at v n).kind ≡ (reloc_at v word.by).kind) (sym same) refl) r.counted none
   where
-    apart : (a kind b c d j i own : ℕ) (counted : Bool) → a ≡ b → c ≡ d → 22 < kind → kind < 29 → own ≡ 1 → (j ≡ i → kind ≡ own) → counted ≡ true → not (j == i) && counted && not (is_mute kind) && meets c 4 a (width_of kind) ≡ false → meets b 4 d 4 ≡ false
-    apart a kind b c d j i own counted at_a at_c least most is_own other is_counted none =
+    disjoint : (a kind b c d j i own : ℕ) (counted : Bool) → a ≡ b → c ≡ d → 22 < kind → kind < 29 → own ≡ 1 → (j ≡ i → kind ≡ own) → counted ≡ true → not (j == i) && counted && not (is_hint kind) && ranges_overlap c 4 a (width_of kind) ≡ false → ranges_overlap b 4 d 4 ≡ false
+    disjoint a kind b c d j i own counted at_a at_c least most is_own other is_counted none =
         let differ : j ≢ i = λ same. let e = other same in omega (arith, e, is_own, least) in
         let width : width_of kind ≡ 4 = grind (arith, nat_tests, least, most) in
-        let loud : is_mute kind ≡ false = grind (arith, nat_tests, least, most) in
-        let none_there : meets c 4 a 4 ≡ false = subst (λ (n : ℕ). meets c 4 a n ≡ false) width (last_false (not (j == i)) counted (not (is_mute kind)) (meets c 4 a (width_of kind)) (grind (arith, nat_tests, differ)) is_counted (rw loud refl) none) in
+        let loud : is_hint kind ≡ false = grind (arith, nat_tests, least, most) in
+        let none_there : ranges_overlap c 4 a 4 ≡ false = subst (λ (n : ℕ). ranges_overlap c 4 a n ≡ false) width (last_false (not (j == i)) counted (not (is_hint kind)) (ranges_overlap c 4 a (width_of kind)) (grind (arith, nat_tests, differ)) is_counted (rw loud refl) none) in
         grind (arith, nat_tests, at_a, at_c, none_there)
 
 -- what a site of the list tells of its address, which is that of its relocation

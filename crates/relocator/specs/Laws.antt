@@ -48,16 +48,16 @@ abbrev pub IsPresent : ℕ → Slot → Type 0
 IsPresent region s = (region_of s.name ≡ 0) ⊎ (region_of s.name ≡ region)
 
 -- two slots share no byte
-abbrev pub AreApart : Slot → Slot → Type 0
-AreApart s t = (s.at + s.span ≤ t.at) ⊎ (t.at + t.span ≤ s.at)
+abbrev pub AreDisjoint : Slot → Slot → Type 0
+AreDisjoint s t = (s.at + s.span ≤ t.at) ⊎ (t.at + t.span ≤ s.at)
 
-abbrev pub AreApartIn : ℕ → Slot → Slot → Type 0
-AreApartIn region s t = IsPresent region s → IsPresent region t → AreApart s t
+abbrev pub AreDisjointIn : ℕ → Slot → Slot → Type 0
+AreDisjointIn region s t = IsPresent region s → IsPresent region t → AreDisjoint s t
 
 -- those of what is present together don't
-abbrev pub SlotsApart : Type 0
-SlotsApart =
-    (board : Board) (p : PlainProgramme) (c : PlainChoice) (region : ℕ) → AllPairs (AreApartIn region) (chosen_slots board p c)
+abbrev pub SlotsDisjoint : Type 0
+SlotsDisjoint =
+    (board : Board) (p : PlainProgramme) (c : PlainChoice) (region : ℕ) → AllPairs (AreDisjointIn region) (chosen_slots board p c)
 
 -- ---- places
 
@@ -87,7 +87,7 @@ ObjectsStand =
     ⊎ StandsAtHome g (chosen_slots board p c) region o (place_of g board p c region o)
 
 -- in each region the places are such at which objects may stand: congruent to their homes modulo the grain, behind
--- address 0 and below 2 ^ 32, and apart, those of the objects that stay among them
+-- address 0 and below 2 ^ 32, and disjoint, those of the objects that stay among them
 abbrev pub PlacesFit : Type 0
 PlacesFit =
     (v : PlainView) (g : Graph) (regions : ℕ) (board : Board) (p : PlainProgramme) (c : PlainChoice) (region : ℕ)

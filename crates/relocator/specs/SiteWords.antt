@@ -80,7 +80,7 @@ has_entry entries a w = list_any (is_entry a w) entries
 
 -- the list has a new word for each site and for each word of data, and no others; by address, and no two share a byte
 pub record AreSiteWords (v : PlainView) (g : Graph) (places : Places) (region_at : List ℕ) (entries : List (ℕ × ℕ)) : Type 0 where
-  pub apart : AllPairs (λ d e. d.0 + 4 ≤ e.0) entries
+  pub disjoint : AllPairs (λ d e. d.0 + 4 ≤ e.0) entries
   pub sites : (k : ℕ) → k < length g.sites.items → (w : ℕ) × ((has_entry entries (site_at g k).at w ≡ true) × IsNewAtSite v g places region_at k w)
   pub data_words : (k : ℕ) → k < length g.data_words.items → has_entry entries (data_word_at g k).at (word_address g places k) ≡ true
   pub only : (a w : ℕ) → has_entry entries a w ≡ true → IsNewWord v g places region_at a w

@@ -1,5 +1,5 @@
 // Laws of the definitions: functions that do nothing, whose contracts are what is proved.
-ghost use Rattle.relocator.specs.Laws.{SlotsInside, SlotsApart, ObjectsStand, PlacesFit, HomesOffScratchpad, ObjectsOffCodeSlots, WholeSideHasSpace};
+ghost use Rattle.relocator.specs.Laws.{SlotsInside, SlotsDisjoint, ObjectsStand, PlacesFit, HomesOffScratchpad, ObjectsOffCodeSlots, WholeSideHasSpace};
 ghost use Rattle.relocator.specs.Examples.{TableHasSpace};
 
 /// The slots of a feasible choice lie in the scratchpad.
@@ -8,8 +8,8 @@ pub fn slots_inside()
 {}
 
 /// Slots of what is in the scratchpad at one time share no byte.
-pub fn slots_apart()
-    ensures { SlotsApart }
+pub fn slots_disjoint()
+    ensures { SlotsDisjoint }
 {}
 
 /// Each object stands wholly in a slot that is its own, or at home.

@@ -49,7 +49,7 @@ pub fn site_words(
 /// Puts words, of which no two meet, in the order of their addresses.
 fn sort_words(words: &mut Vec<(u32, u32)>)
     requires { AreSeparate address_of words.old.items }
-    ensures apart { AreInOrder address_of words.new.items }
+    ensures disjoint { AreInOrder address_of words.new.items }
     ensures same { (test : ℕ × ℕ → Bool) → list_any test words.new.items ≡ list_any test words.old.items }
 {
     words.sort_unstable_by_key(|entry| entry.0);

@@ -6,7 +6,7 @@ use Rattle.std.proofs.lemmas.Bool.Decides.{nat_tests}
 use Rattle.std.proofs.lemmas.List.Elements.{All-head, All-tail}
 use Rattle.std.proofs.lemmas.List.Folds.{list_any_at}
 use Rattle.word_bits.specs.Words.{plus, word_of}
-use Rattle.list_checks.specs.Tests.{meets}
+use Rattle.list_checks.specs.Tests.{ranges_overlap}
 use Rattle.elf_reader.specs.File.{PlainView, view_in}
 use Rattle.elf_reader.specs.Image.{image_of}
 use Rattle.elf_reader.specs.Loaded.{section_at}
@@ -90,7 +90,7 @@ module _ (file : List ℕ) (board : Board) (g : Graph) (accepted : IsAccepted fi
   listed_target : (k : ℕ) (d : Site) → k < length g.sites.items → target_at g.sites.items (slice_index_or g.sites.items k d).at ≡ Some (record { object = (slice_index_or g.sites.items k d).object; offset = (slice_index_or g.sites.items k d).offset })
   listed_target k d below =
       let s : Site = slice_index_or g.sites.items k d in
-      found_target g.sites.items s.at s accepted.graph.sites.apart (list_any_at _ g.sites.items k d below (itself s)) refl
+      found_target g.sites.items s.at s accepted.graph.sites.disjoint (list_any_at _ g.sites.items k d below (itself s)) refl
 
   pub target_code : (u : ℕ) (t : Target) → target_at g.sites.items u ≡ Some t → is_code_word v u ≡ true
   target_code u t at =
@@ -127,8 +127,8 @@ module _ (file : List ℕ) (board : Board) (g : Graph) (accepted : IsAccepted fi
 
   -- ---- off words of data
 
-  apart_off : (a u at : ℕ) → meets at 4 u 4 ≡ false → u ≤ a → a < u + 4 → at ≤ a → a < at + 4 → ⊥
-  apart_off a u at apart above under from to = both_ways (meets at 4 u 4) apart (grind (arith, nat_tests, above, under, from, to))
+  disjoint_off : (a u at : ℕ) → ranges_overlap at 4 u 4 ≡ false → u ≤ a → a < u + 4 → at ≤ a → a < at + 4 → ⊥
+  disjoint_off a u at disjoint above under from to = both_ways (ranges_overlap at 4 u 4) disjoint (grind (arith, nat_tests, above, under, from, to))
 
   off_words : (u a : ℕ) → is_code_word v u ≡ true → u ≤ a → a < u + 4 → All (λ (d : DataWord). IsOffWord a d.at) g.data_words.items
   off_words u a code above under k e below =
@@ -137,9 +137,9 @@ module _ (file : List ℕ) (board : Board) (g : Graph) (accepted : IsAccepted fi
       let home : ℕ = (object_of g d.object).home in
       let n : ℕ = (object_of g d.object).size in
       let moves = object_moves v board g d.object accepted.graph.objects given.1.below in
-      let apart = data_off_code file board home n given.0 u accepted.none moves given.1.means code in
-      let here : meets d.at 4 u 4 ≡ false = subst (λ (x : ℕ). meets x 4 u 4 ≡ false) given.1.at apart in
-      off_or_in a d.at (λ from to. apart_off a u d.at here above under from to)
+      let disjoint = data_off_code file board home n given.0 u accepted.none moves given.1.means code in
+      let here : ranges_overlap d.at 4 u 4 ≡ false = subst (λ (x : ℕ). ranges_overlap x 4 u 4 ≡ false) given.1.at disjoint in
+      off_or_in a d.at (λ from to. disjoint_off a u d.at here above under from to)
 
   -- ---- bytes and words that are kept
 

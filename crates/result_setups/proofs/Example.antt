@@ -143,13 +143,13 @@ below : (o : ℕ) → place o + one.size o < 4294967296
 below zero = omega arith
 below (suc o) = omega arith
 
-apart : (o p i j : ℕ) → (o ≡ p → ⊥) → i < one.size o → j < one.size p → place o + i ≡ place p + j → ⊥
-apart zero zero i j other first second same = other refl
-apart zero (suc p) i j other first second same = absurd (omega arith)
-apart (suc o) p i j other first second same = absurd (omega arith)
+disjoint : (o p i j : ℕ) → (o ≡ p → ⊥) → i < one.size o → j < one.size p → place o + i ≡ place p + j → ⊥
+disjoint zero zero i j other first second same = other refl
+disjoint zero (suc p) i j other first second same = absurd (omega arith)
+disjoint (suc o) p i j other first second same = absurd (omega arith)
 
 fit : Fit one place
-fit = record { grain = inl refl; congruent = congruent; positive = positive; below = below; apart = apart }
+fit = record { grain = inl refl; congruent = congruent; positive = positive; below = below; disjoint = disjoint }
 
 at_home : (o : ℕ) → is_taken placing o ≡ false → place o ≡ one.home o
 at_home zero none = absurd (cc)
@@ -167,7 +167,7 @@ abbrev plan : StartPlan
 plan = record { base = 589824; entry = 65536; fence_i = false; jobs = start_job one place 0 ∷ [] }
 
 job : IsJob (start_job one place 0)
-job = record { some = omega arith; source = omega arith; target = omega arith; apart = inl (omega arith) }
+job = record { some = omega arith; source = omega arith; target = omega arith; disjoint = inl (omega arith) }
 
 starts : CanStart plan
 unfolding copying

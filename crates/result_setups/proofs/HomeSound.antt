@@ -2,7 +2,7 @@
 use Rattle.std.proofs.Common.{◌≡◌, inl, inr, ℕ, ◌+◌, ◌*◌, ◌/◌, ◌<◌, true, false, List, Some, sym, subst, arith}
 use Rattle.std.proofs.lemmas.Bool.{cases_Bool, both_ways}
 use Rattle.std.proofs.lemmas.Bool.Decides.{nat_tests}
-use Rattle.list_checks.specs.Tests.{meets}
+use Rattle.list_checks.specs.Tests.{ranges_overlap}
 use Rattle.elf_reader.specs.File.{view_in}
 use Rattle.elf_reader.specs.Loadable.{AreLoadable}
 use Rattle.elf_reader.proofs.SegmentLemmas.{none_of_headers, load_segments_loadable}
@@ -41,7 +41,7 @@ inside_at : (home n i : ℕ) → i < n → inside home n (home + i) ≡ true
 inside_at home n i below = grind (arith, nat_tests, below)
 
 -- a byte of a range, in the word of code that has the byte
-shares_word : (home n i b : ℕ) → i < n → b ≡ (home + i) / 4 * 4 → meets home n b 4 ≡ true
+shares_word : (home n i b : ℕ) → i < n → b ≡ (home + i) / 4 * 4 → ranges_overlap home n b 4 ≡ true
 shares_word home n i b below is = grind (arith, nat_tests, below, is)
 
 module _ (file : List ℕ) (board : Board) (g : Graph) (accepted : IsAccepted file board g) where
@@ -81,10 +81,10 @@ module _ (file : List ℕ) (board : Board) (g : Graph) (accepted : IsAccepted fi
       elim (cases_Bool (is_code_byte (view_in file) (home + i))) [
         | inr other ↦ other
         | inl code ↦
-            let apart =
+            let disjoint =
             objects_off_code file board home n ((home + i) / 4 * 4) accepted.none
             (object_moves (view_in file) board g o accepted.graph.objects (object_below g o i below)) code in
-            absurd (both_ways _ apart (shares_word home n i ((home + i) / 4 * 4) below (omega arith)))
+            absurd (both_ways _ disjoint (shares_word home n i ((home + i) / 4 * 4) below (omega arith)))
       ]
 
   code_off_fixed : (a : ℕ) → is_code_byte (view_in file) a ≡ true → is_fixed_memory (view_in file) board a ≡ false

@@ -19,7 +19,7 @@ use Rattle.flat_machine.proofs.Words.{start_words}
 use Rattle.loaded_file.specs.Code.{image_word}
 use Rattle.loaded_file.specs.Records.{reloc_at}
 use Rattle.loaded_file.proofs.WordLemmas.{lies_to}
-use Rattle.sound_relocations.specs.Sound.{displacement, is_sound_word}
+use Rattle.rewritable_relocations.specs.Rewritable.{displacement, is_rewritable_word}
 use Rattle.movable_ranges.specs.Fixed.{leads_to}
 use Rattle.object_graph.specs.Graphs.{gives_word, same_word}
 use Rattle.object_graph.specs.Laws.{MeansBy, lead}
@@ -27,7 +27,7 @@ use Rattle.object_graph.specs.declared.parts.Object.{Object}
 use Rattle.object_graph.specs.declared.parts.DataWord.{DataWord}
 use Rattle.object_graph.specs.declared.parts.Graph.{Graph}
 use Rattle.object_graph.proofs.LeadLemmas.{data_words_lead}
-use Rattle.object_graph.proofs.SoundLemmas.{sound_word}
+use Rattle.object_graph.proofs.RewritableLemmas.{rewritable_word}
 use Rattle.code_leaders.specs.Leaders.{is_leader}
 use Rattle.code_leaders.proofs.LeaderLemmas.{both_pass, leader_is_code}
 use Rattle.code_blocks.proofs.EntryLemmas.{entry_leads}
@@ -36,7 +36,7 @@ use Rattle.cell_values.specs.Objects.{object_of, objects_of}
 use Rattle.cell_values.specs.declared.values.Val.TheVariants.{Int}
 use Rattle.cell_values.specs.declared.values.Cell.{Cell}
 use Rattle.cell_values.specs.declared.values.Cell.TheVariants.{Part}
-use Rattle.cell_values.specs.Makers.{ByLui}
+use Rattle.cell_values.specs.Origins.{ByLui}
 use Rattle.cell_values.specs.Stands.{Places, Stands, CellStands, CellHoldsWord, address_word, kept_uppers}
 use Rattle.cell_values.proofs.Stores.{first_cells as each_of_four}
 use Rattle.object_machine.specs.State.{value}
@@ -132,12 +132,12 @@ module _ (file : List ℕ) (board : Board) (g : Graph) (accepted : IsAccepted fi
   gives_parts d j below inside gives =
       let r = reloc_at v j in
       let moved =
-      subst (λ (x : Object). (r.at == d.at) && leads_to v x.home x.size j && is_sound_word v j r && (displacement v x.home r == d.offset) ≡ true)
+      subst (λ (x : Object). (r.at == d.at) && leads_to v x.home x.size j && is_rewritable_word v j r && (displacement v x.home r == d.offset) ≡ true)
       (object_same g d.object below) gives in
       let home : ℕ = (object_of g d.object).home in
       let n : ℕ = (object_of g d.object).size in
-      let three = both ((r.at == d.at) && leads_to v home n j && is_sound_word v j r) (displacement v home r == d.offset) moved in
-      let two = both ((r.at == d.at) && leads_to v home n j) (is_sound_word v j r) three.0 in
+      let three = both ((r.at == d.at) && leads_to v home n j && is_rewritable_word v j r) (displacement v home r == d.offset) moved in
+      let two = both ((r.at == d.at) && leads_to v home n j) (is_rewritable_word v j r) three.0 in
       let one = both (r.at == d.at) (leads_to v home n j) two.0 in
       record {
         below = below;
@@ -146,7 +146,7 @@ module _ (file : List ℕ) (board : Board) (g : Graph) (accepted : IsAccepted fi
         behind = eqb-true (displacement v home r) d.offset three.1;
       }
     where
-      word_kind : (j : ℕ) → is_sound_word v j (reloc_at v j) ≡ true → (reloc_at v j).kind ≡ 1
+      word_kind : (j : ℕ) → is_rewritable_word v j (reloc_at v j) ≡ true → (reloc_at v j).kind ≡ 1
       word_kind j sound = grind (arith, nat_tests, sound)
 
   pub word_given : (d : DataWord) (k : ℕ) (e : DataWord) → k < length g.data_words.items → slice_index_or g.data_words.items k e ≡ d → (j : ℕ) × GivesWord v g d j
@@ -173,7 +173,7 @@ module _ (file : List ℕ) (board : Board) (g : Graph) (accepted : IsAccepted fi
       let whole : image_word v d.at ≡ address_word place d.object d.offset =
       subst (λ (a : ℕ). image_word v a ≡ lead v home j) at leads.1
       ∙ plain_sum home n d.offset (displacement v home (reloc_at v j)) far leads.0 ends in
-      let held = (sound_word v board home n j moves gives.means).holds in
+      let held = (rewritable_word v board home n j moves gives.means).holds in
       let last = section_ends v held.0 (loadable file board g accepted) held.1.loaded in
       let to = lies_to (section_at v held.0).addr (section_at v held.0).size (reloc_at v j).at 4 held.1.lies in
       record {

@@ -4,7 +4,7 @@ use Rattle.std.specs.Prelude.{All}
 use Rattle.elf_reader.specs.File.{view_in}
 use Rattle.board_config.specs.declared.board.Board.{Board}
 use Rattle.loaded_file.specs.Records.{symbol_at}
-use Rattle.loaded_file.proofs.RangeLemmas.{extent_of}
+use Rattle.loaded_file.proofs.RangeLemmas.{byte_range_of}
 use Rattle.object_graph.specs.declared.parts.Graph.{Graph}
 use Rattle.object_graph.proofs.MovableLemmas.{movable_parts}
 use Rattle.overlay_stubs.specs.Start.{StartPlan, jobs_run, start_run}
@@ -42,7 +42,7 @@ module _ (file : List ℕ) (board : Board) (g : Graph) (pl : Placing) (accepted 
       let n : ℕ = (object_of g o).size in
       let moves =
       movable_parts v board home n (object_moves v board g o accepted.graph.objects (placing.listed k d below)) in
-      (extent_of v home n (symbol_at v moves.symbol) moves.of).filled
+      (byte_range_of v home n (symbol_at v moves.symbol) moves.of).filled
 
   stub_short : jobs_run (start_jobs g pl) ≤ 6 * board.spm.size
   stub_short =

@@ -5,7 +5,7 @@ use Rattle.std.proofs.lemmas.Bool.{cases_Bool, both_ways, eqb-true}
 use Rattle.std.proofs.lemmas.Bool.Decides.{nat_tests}
 use Rattle.list_checks.specs.First.{first_below}
 use Rattle.list_checks.proofs.FirstLemmas as order
-use Rattle.list_checks.specs.Tests.{any_below, meets}
+use Rattle.list_checks.specs.Tests.{any_below, ranges_overlap}
 use Rattle.list_checks.proofs.TestLemmas.{either, both, not_true, any_found}
 use Rattle.elf_reader.specs.Layout.{section_count}
 use Rattle.elf_reader.specs.Sections.{stands_in_file}
@@ -13,15 +13,15 @@ use Rattle.elf_reader.specs.File.{PlainSegment, PlainSection, PlainView, view_in
 use Rattle.elf_reader.specs.Faults.{first_fault}
 use Rattle.elf_reader.specs.SectionChecks.{header_places_fault, table_start_fault, section_place_fault, section_places_fault}
 use Rattle.elf_reader.specs.Image.{has_byte}
-use Rattle.elf_reader.specs.Loaded.{section_at, segment_at, is_loaded, meets_section}
-use Rattle.elf_reader.proofs.SegmentLemmas.{none_of_headers, load_segments_apart}
+use Rattle.elf_reader.specs.Loaded.{section_at, segment_at, is_loaded, overlaps_section}
+use Rattle.elf_reader.proofs.SegmentLemmas.{none_of_headers, load_segments_disjoint}
 use Rattle.elf_reader.proofs.SectionLemmas.{none_of_sections, none_of_section_headers}
 use Rattle.elf_reader.proofs.LoadedLemmas.{Loads, IsFilled, HasAddress, loaded_found, loaded_below, loads_address, only_segment, load_segments_placed, section_is}
 use Rattle.board_config.specs.declared.board.Board.{Board}
 use Rattle.board_config.specs.declared.board.Range.{Range}
 use Rattle.loaded_file.specs.Ranges.{inside}
 use Rattle.object_graph.specs.Sites.{in_range, file_place, in_symbol_table, holds_changed_byte}
-use Rattle.object_graph.specs.LayoutFaults.{segment_meets, spm_overlap_fault, patch_overlap_fault, places_fault, too_many_fault, layout_fault}
+use Rattle.object_graph.specs.LayoutFaults.{segment_overlaps, spm_overlap_fault, patch_overlap_fault, places_fault, too_many_fault, layout_fault}
 use Rattle.object_graph.specs.declared.fault.GraphFault.TheVariants.{SpmOverlap, PatchOverlap}
 use Rattle.code_leaders.proofs.LeaderLemmas.{both_pass}
 
@@ -41,7 +41,7 @@ refuted b never =
 
 -- ---- the ELF header and the symbol table
 
-off_file_header : (file : List ℕ) (k : ℕ) → first_fault file ≡ None → k < section_count file → stands_in_file (section_of file k).kind ≡ true → meets (section_of file k).offset (section_of file k).size 0 52 ≡ false
+off_file_header : (file : List ℕ) (k : ℕ) → first_fault file ≡ None → k < section_count file → stands_in_file (section_of file k).kind ≡ true → ranges_overlap (section_of file k).offset (section_of file k).size 0 52 ≡ false
 off_file_header file k none below stands =
     let headers = none_of_section_headers file (none_of_sections file none) in
     let after_table = (order.both_none (header_places_fault file) _ headers).1 in
@@ -51,10 +51,10 @@ off_file_header file k none below stands =
     let passed = order.both_none _ _ (rw stands at here) in
     not_true _ (order.holds _ _ passed.1)
 
-in_header : (offset size i place : ℕ) → i < size → place ≡ offset + i → nat_lt place 52 ≡ true → meets offset size 0 52 ≡ true
+in_header : (offset size i place : ℕ) → i < size → place ≡ offset + i → nat_lt place 52 ≡ true → ranges_overlap offset size 0 52 ≡ true
 in_header offset size i place below is small = grind (arith, nat_tests, below, is, small)
 
-in_table : (offset size other more i place : ℕ) → i < size → place ≡ offset + i → inside other more place ≡ true → meets offset size other more ≡ true
+in_table : (offset size other more i place : ℕ) → i < size → place ≡ offset + i → inside other more place ≡ true → ranges_overlap offset size other more ≡ true
 in_table offset size other more i place below is has = grind (arith, nat_tests, below, is, has)
 
 other_kind : (v : PlainView) (k j : ℕ) → (section_at v k).kind ≡ 1 → (section_at v j).kind ≡ 2 → not (j == k) ≡ true
@@ -83,8 +83,8 @@ module _ (file : List ℕ) (none : first_fault file ≡ None) (k : ℕ) (loaded 
       let own : stands_in_file (section_at v k).kind ≡ true = rw kind refl in
       let stands : stands_in_file (section_of file k).kind ≡ true =
       subst (λ (s : PlainSection). stands_in_file s.kind ≡ true) same own in
-      let off : meets (section_at v k).offset (section_at v k).size 0 52 ≡ false =
-      subst (λ (s : PlainSection). meets s.offset s.size 0 52 ≡ false) (sym same) (off_file_header file k none count stands) in
+      let off : ranges_overlap (section_at v k).offset (section_at v k).size 0 52 ≡ false =
+      subst (λ (s : PlainSection). ranges_overlap s.offset s.size 0 52 ≡ false) (sym same) (off_file_header file k none count stands) in
       both_ways _ off (in_header (section_at v k).offset (section_at v k).size i place below is small)
 
   not_in_table : (g : ℕ) → IsFilled v k g (section_at v k) (segment_at v g) → (place : ℕ) → place ≡ (section_at v k).offset + i → any_below (in_symbol_table v place) (length v.sections) ≡ true → ⊥
@@ -96,11 +96,11 @@ module _ (file : List ℕ) (none : first_fault file ≡ None) (k : ℕ) (loaded 
       let parts = both (u.kind == 2) (inside u.offset u.size place) there.2 in
       let kind = eqb-true u.kind 2 parts.0 in
       let stands : stands_in_file u.kind ≡ true = rw kind refl in
-      let both_meet : meets_section v k s.offset s.size j ≡ true =
-      both_pass (not (j == k) && stands_in_file u.kind) (meets s.offset s.size u.offset u.size)
+      let both_overlap : overlaps_section v k s.offset s.size j ≡ true =
+      both_pass (not (j == k) && stands_in_file u.kind) (ranges_overlap s.offset s.size u.offset u.size)
       (both_pass (not (j == k)) (stands_in_file u.kind) (other_kind v k j filled.kind kind) stands)
       (in_table s.offset s.size u.offset u.size i place below is parts.1) in
-      both_ways _ (filled.own.section j there.1) both_meet
+      both_ways _ (filled.own.section j there.1) both_overlap
 
   not_changed : (g h : ℕ) → h ≡ g → Loads v k g → holds_changed_byte v a h ≡ true → ⊥
   not_changed g h same facts changed =
@@ -128,17 +128,17 @@ module _ (file : List ℕ) (none : first_fault file ≡ None) (k : ℕ) (loaded 
       let there = any_found (holds_changed_byte v a) (length v.segments) changed in
       let has = (both (has_byte (segment_at v there.0) a) _ there.2).0 in
       let same =
-      only_segment file v.segments (load_segments_apart file held) (load_segments_placed file held) found.0 a found.1.below
+      only_segment file v.segments (load_segments_disjoint file held) (load_segments_placed file held) found.0 a found.1.below
       (loads_address v k found.0 i found.1 below) there.0 there.1 has in
       not_changed found.0 there.0 same found.1 there.2)
 
   -- ---- the scratchpad and the patch range
 
-  off_range : (t : PlainSegment) (r : Range) → HasAddress t a → segment_meets t r ≡ false → in_range r a ≡ false
-  off_range t r has apart =
+  off_range : (t : PlainSegment) (r : Range) → HasAddress t a → segment_overlaps t r ≡ false → in_range r a ≡ false
+  off_range t r has disjoint =
       let from = has.from in
       let to = has.to in
-      refuted (in_range r a) (λ is. both_ways _ apart (grind (arith, nat_tests, from, to, is)))
+      refuted (in_range r a) (λ is. both_ways _ disjoint (grind (arith, nat_tests, from, to, is)))
 
   pub loaded_kept : (board : Board) → layout_fault v board ≡ None → IsKept v board a
   loaded_kept board layout =
@@ -151,7 +151,7 @@ module _ (file : List ℕ) (none : first_fault file ≡ None) (k : ℕ) (loaded 
       let spm = order.none_at (spm_overlap_fault v board) (length v.segments) found.0 found.1.below first.0 in
       let patch = order.none_at (patch_overlap_fault v board) (length v.segments) found.0 found.1.below second.0 in
       record {
-        spm = off_range t board.spm has (not_true _ (order.holds (not (segment_meets t board.spm)) (SpmOverlap t.index) spm));
-        patch = off_range t board.patch has (not_true _ (order.holds (not (segment_meets t board.patch)) (PatchOverlap t.index) patch));
+        spm = off_range t board.spm has (not_true _ (order.holds (not (segment_overlaps t board.spm)) (SpmOverlap t.index) spm));
+        patch = off_range t board.patch has (not_true _ (order.holds (not (segment_overlaps t board.patch)) (PatchOverlap t.index) patch));
         unchanged = unchanged;
       }

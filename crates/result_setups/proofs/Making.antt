@@ -14,7 +14,7 @@ use Rattle.elf_reader.specs.File.{PlainView, view_in}
 use Rattle.board_config.specs.declared.board.Board.{Board}
 use Rattle.loaded_file.specs.Code.{image_word}
 use Rattle.loaded_file.specs.Records.{reloc_at, symbol_of}
-use Rattle.sound_relocations.specs.Sound.{displacement, is_pair_low}
+use Rattle.rewritable_relocations.specs.Rewritable.{displacement, is_pair_low}
 use Rattle.movable_ranges.specs.Fixed.{is_movable}
 use Rattle.object_graph.specs.Laws.{LoadsUpper, AddsUpper, StoresAtLower, HasLower, GivesSite, lead, reach}
 use Rattle.object_graph.specs.declared.parts.Graph.{Graph}
@@ -22,7 +22,7 @@ use Rattle.object_graph.proofs.LeadLemmas.{high_sites_lead, low_sites_lead, low_
 use Rattle.cell_values.specs.Objects.{object_of, objects_of}
 use Rattle.cell_values.specs.Operations.{low_site}
 use Rattle.cell_values.specs.declared.values.Val.TheVariants.{Hi}
-use Rattle.cell_values.specs.Makers.{Maker, ByLui, ByAuipc, Mixed}
+use Rattle.cell_values.specs.Origins.{Origin, ByLui, ByAuipc, Mixed}
 use Rattle.cell_values.specs.Stands.{Stands, address_word}
 use Rattle.object_machine.specs.Program.{Program, Target, target_at, named_by}
 use Rattle.object_machine.specs.Paired.{finds_named}
@@ -76,7 +76,7 @@ module _ (file : List ℕ) (board : Board) (g : Graph) (accepted : IsAccepted fi
   -- ---- low parts
 
   -- where the AUIPC that is named makes no part, no upper part is found
-  no_parts : (a : ℕ) (z : ℤ) → p.named u ≡ Some a → ((o d : ℕ) → MakesPart p (ByAuipc a) o d → ⊥) → (m k : Maker) (o d w : ℕ) → w < 4294967296 → IsMade p m (Hi o d) → finds_named (p.named u) m (Hi o d) ≡ true → Stands p.objects (l.place 0) (l.upper 0) m (Hi o d) w → Stands p.objects (l.place 0) (l.upper 0) k (low_site p.objects (Hi o d) t.object t.offset) (offset w z)
+  no_parts : (a : ℕ) (z : ℤ) → p.named u ≡ Some a → ((o d : ℕ) → MakesPart p (ByAuipc a) o d → ⊥) → (m k : Origin) (o d w : ℕ) → w < 4294967296 → IsMade p m (Hi o d) → finds_named (p.named u) m (Hi o d) ≡ true → Stands p.objects (l.place 0) (l.upper 0) m (Hi o d) w → Stands p.objects (l.place 0) (l.upper 0) k (low_site p.objects (Hi o d) t.object t.offset) (offset w z)
   no_parts a z named never ByLui k o d w word made found stands =
       let other : finds_named (Some a) ByLui (Hi o d) ≡ true = rw named at found in absurd (cc)
   no_parts a z named never Mixed k o d w word made found stands =

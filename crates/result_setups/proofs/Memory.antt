@@ -21,7 +21,7 @@ use Rattle.loaded_file.specs.Ranges.{has_range, inside}
 use Rattle.loaded_file.proofs.RangeLemmas.{IsOf}
 use Rattle.movable_ranges.specs.Fixed.{is_movable}
 use Rattle.object_graph.specs.Sites.{in_range, no_area, in_area, in_code_range, in_object, holds_changed_byte, is_fixed_memory}
-use Rattle.object_graph.specs.LayoutFaults.{segment_lies_in, lies_in_area, spm_overlap_fault, patch_overlap_fault, patch_far_fault, spm_meets_patch_fault, spm_at_zero_fault, no_area_fault, places_fault, too_many_fault, layout_fault}
+use Rattle.object_graph.specs.LayoutFaults.{segment_lies_in, lies_in_area, spm_overlap_fault, patch_overlap_fault, patch_far_fault, spm_overlaps_patch_fault, spm_at_zero_fault, no_area_fault, places_fault, too_many_fault, layout_fault}
 use Rattle.object_graph.specs.declared.fault.GraphFault.TheVariants.{NoArea}
 use Rattle.object_graph.proofs.MovableLemmas.{movable_parts}
 use Rattle.code_leaders.proofs.LeaderLemmas.{left_passes, right_passes, both_pass}
@@ -79,7 +79,7 @@ module _ (v : PlainView) (board : Board) (layout : layout_fault v board ≡ None
       let second = (both_none (first_below (spm_overlap_fault v board) (length v.segments)) _ places).1 in
       let third = (both_none (first_below (patch_overlap_fault v board) (length v.segments)) _ second).1 in
       let fourth = (both_none (patch_far_fault v board) _ third).1 in
-      let fifth = (both_none (spm_meets_patch_fault board) _ fourth).1 in
+      let fifth = (both_none (spm_overlaps_patch_fault board) _ fourth).1 in
       (both_none (spm_at_zero_fault board) _ fifth).1
 
   segment_mapped : (g a : ℕ) → g < length v.segments → (segment_at v g).vaddr ≤ a → a < (segment_at v g).vaddr + (segment_at v g).memsz → mapping.is_mapped (mapped_ranges board) a ≡ true

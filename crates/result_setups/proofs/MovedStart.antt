@@ -34,7 +34,7 @@ use Rattle.cell_values.specs.Objects.{Objects, object_of, objects_of}
 use Rattle.cell_values.specs.declared.values.Val.TheVariants.{Int}
 use Rattle.cell_values.specs.declared.values.Cell.{Cell}
 use Rattle.cell_values.specs.declared.values.Cell.TheVariants.{Part}
-use Rattle.cell_values.specs.Makers.{ByLui}
+use Rattle.cell_values.specs.Origins.{ByLui}
 use Rattle.cell_values.specs.Stands.{Places, Fit, Stands, CellStands, moved_uppers}
 use Rattle.object_machine.specs.State.{value}
 use Rattle.object_machine.specs.Start.{in_word, first_cell, where_memory}
@@ -76,22 +76,22 @@ module _ (spm : Range) (os : Objects) (place : Places) (fit : Fit os place) wher
       (λ k d below. outside a (slice_index_or taken k d) off (lies k d below))
 
   -- a byte of one object is outside the targets of all others
-  apart : (o k i : ℕ) → (o ≡ k → ⊥) → i < os.size o → IsOutside (place o + i) (start_job os place k)
-  apart o k i other below =
+  disjoint : (o k i : ℕ) → (o ≡ k → ⊥) → i < os.size o → IsOutside (place o + i) (start_job os place k)
+  disjoint o k i other below =
       elim (cases_lt (place o + i) (place k)) [
         | inl before ↦ inl before
         | inr from ↦ elim (cases_lt (place o + i) (place k + os.size k)) [
           | inr behind ↦ inr behind
           | inl to ↦
               let same : place o + i ≡ place k + (place o + i - place k) = omega (arith, from) in
-              absurd (fit.apart o k i (place o + i - place k) other below (omega (arith, from, to)) same)
+              absurd (fit.disjoint o k i (place o + i - place k) other below (omega (arith, from, to)) same)
         ]
       ]
 
   others_outside : (o i : ℕ) (taken : List ℕ) → i < os.size o → AllPairs AreTwo (o ∷ taken) → All (IsOutside (place o + i)) (map (start_job os place) taken)
   others_outside o i taken below distinct =
       All-map (IsOutside (place o + i)) (start_job os place) taken
-      (λ k d inside. apart o (slice_index_or taken k d) i (distinct 0 (suc k) d (omega arith) (omega (arith, inside))) below)
+      (λ k d inside. disjoint o (slice_index_or taken k d) i (distinct 0 (suc k) d (omega arith) (omega (arith, inside))) below)
 
   -- each byte of an object that is moved is copied from its home
   pub copied_cell : (mem : Memory) (taken : List ℕ) (o i : ℕ) → All (LiesIn spm os place) taken → AllPairs AreTwo taken → list_any (λ k. k == o) taken ≡ true → i < os.size o → in_range spm (os.home o + i) ≡ false → all_copied mem (map (start_job os place) taken) (place o + i) ≡ mem (os.home o + i)

@@ -15,7 +15,7 @@ use Rattle.board_config.specs.declared.board.Board.{Board}
 use Rattle.loaded_file.specs.Code.{is_code_word, image_word}
 use Rattle.loaded_file.specs.Records.{reloc_at, counts, target, is_call_kind}
 use Rattle.elf_reader.specs.declared.view.Reloc.{Reloc}
-use Rattle.sound_relocations.specs.Sound.{u_high, distance, is_unpaired, is_call_at, is_sound_pair}
+use Rattle.rewritable_relocations.specs.Rewritable.{u_high, distance, is_unpaired, is_call_at, is_rewritable_pair}
 use Rattle.object_graph.specs.declared.parts.Graph.{Graph}
 use Rattle.object_graph.specs.declared.parts.SiteKind.{SiteKind}
 use Rattle.object_graph.specs.declared.parts.SiteKind.TheVariants.{Hi, LowI, LowS}
@@ -73,8 +73,8 @@ module _ (p : Program) (v w : PlainView) (board : Board) (pl : Placing) (u : ℕ
 
 -- ---- the words of a call are no sites
 
--- no relocation of a call is at the AUIPC of a sound pair
-no_call : (v : PlainView) (r : Reloc) → is_sound_pair v r ≡ true → any_below (is_call_at v r.at) (length v.relocs) ≡ false
+-- no relocation of a call is at the AUIPC of a rewritable pair
+no_call : (v : PlainView) (r : Reloc) → is_rewritable_pair v r ≡ true → any_below (is_call_at v r.at) (length v.relocs) ≡ false
 no_call v r sound =
     let opcode = opcode_of (image_word v r.at) == 23 in
     let calls = any_below (is_call_at v r.at) (length v.relocs) in

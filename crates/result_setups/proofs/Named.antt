@@ -3,20 +3,20 @@ use Rattle.std.proofs.Common.{◌≡◌, inl, inr, ℕ, ◌<◌, ◌==◌, Bool,
 use Rattle.std.proofs.lemmas.Bool.{eqb-true}
 use Rattle.std.proofs.lemmas.Bool.Decides.{nat_tests}
 use Rattle.list_checks.specs.First.{first_below}
-use Rattle.list_checks.specs.Tests.{meets}
+use Rattle.list_checks.specs.Tests.{ranges_overlap}
 use Rattle.list_checks.proofs.TestLemmas.{both}
 use Rattle.rv_decode.specs.Fields.{opcode_of}
 use Rattle.elf_reader.specs.File.{PlainView}
 use Rattle.board_config.specs.declared.board.Board.{Board}
 use Rattle.loaded_file.specs.Code.{image_word}
 use Rattle.loaded_file.specs.Records.{reloc_at, counts, symbol_of}
-use Rattle.sound_relocations.specs.Sound.{is_pair_low, names_high}
+use Rattle.rewritable_relocations.specs.Rewritable.{is_pair_low, names_high}
 use Rattle.movable_ranges.specs.Fixed.{is_movable}
 use Rattle.object_graph.specs.Graphs.{IsObjects, IsSites}
 use Rattle.object_graph.specs.Laws.{StoresAtLower, HasLower, GivesSite, LoadsUpper, lead, reach}
 use Rattle.object_graph.specs.declared.parts.Graph.{Graph}
 use Rattle.object_graph.proofs.LeadLemmas.{high_sites_lead, low_sites_lead, low_stores_lead, paired_sites_lead}
-use Rattle.object_graph.proofs.SiteLemmas.{sites_apart}
+use Rattle.object_graph.proofs.SiteLemmas.{sites_disjoint}
 use Rattle.code_leaders.proofs.LeaderLemmas.{both_pass}
 use Rattle.cell_values.specs.Objects.{object_of}
 use Rattle.object_machine.specs.Program.{Target, target_at, named_by}
@@ -116,10 +116,10 @@ named_gives v board g u a j t objects sites names there auipc =
       site = low_gives v home n j i high.1.makes.means.below names.counted high.1.makes.leads high.1.pair named;
     }
 
-same_meets : (a b u : ℕ) → a ≡ u → b ≡ u → meets a 4 b 4 ≡ true
-same_meets a b u first second = grind (arith, nat_tests, first, second)
+same_overlaps : (a b u : ℕ) → a ≡ u → b ≡ u → ranges_overlap a 4 b 4 ≡ true
+same_overlaps a b u first second = grind (arith, nat_tests, first, second)
 
 -- two relocations that give sites at one word are the same
 pub one_at : (v : PlainView) (board : Board) (u i j : ℕ) → GivesSite v board i → GivesSite v board j → (reloc_at v i).at ≡ u → (reloc_at v j).at ≡ u → i ≡ j
 one_at v board u i j gives other at at' =
-    sites_apart v board i j gives other (same_meets (reloc_at v i).at (reloc_at v j).at u at at')
+    sites_disjoint v board i j gives other (same_overlaps (reloc_at v i).at (reloc_at v j).at u at at')

@@ -16,5 +16,5 @@ homes_fit v board g is grain =
       congruent = λ o. refl;
       positive = λ o. (object_extends v board g o is).placed;
       below = λ o. (object_extends v board g o is).ends;
-      apart = λ o p i j other inside inside_other same. objects_differ v board g o p i j is other inside inside_other same;
+      disjoint = λ o p i j other inside inside_other same. objects_differ v board g o p i j is other inside inside_other same;
     }

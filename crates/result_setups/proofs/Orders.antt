@@ -15,7 +15,7 @@ pub record IsOrdered {X : Type 0} (IsFit : X → Type 0) (IsBefore : X → X →
 
 -- what is asked of a test and of an order: an element passes its own test, all of a sort that pass one test are the
 -- same, and no two stand before each other
-pub record Tells {X : Type 0} (IsFit : X → Type 0) (IsBefore : X → X → Type 0) (same : X → X → Bool) : Type 0 where
+pub record Reports {X : Type 0} (IsFit : X → Type 0) (IsBefore : X → X → Type 0) (same : X → X → Bool) : Type 0 where
   pub itself : (a : X) → same a a ≡ true
   pub one : (a b c : X) → IsFit b → IsFit c → same a b ≡ true → same a c ≡ true → b ≡ c
   pub strict : (a b : X) → IsFit a → IsBefore a b → IsBefore b a → ⊥
@@ -27,7 +27,7 @@ record FoundBehind {X : Type 0} (IsFit : X → Type 0) (IsBefore : X → X → T
   passes : same a element ≡ true
   order : IsBefore x element
 
-module _ {X : Type 0} (IsFit : X → Type 0) (IsBefore : X → X → Type 0) (same : X → X → Bool) (tells : Tells IsFit IsBefore same) where
+module _ {X : Type 0} (IsFit : X → Type 0) (IsBefore : X → X → Type 0) (same : X → X → Bool) (tells : Reports IsFit IsBefore same) where
   behind : (x : X) (xs : List X) (a : X) → IsOrdered IsFit IsBefore (x ∷ xs) → list_any (same a) xs ≡ true → FoundBehind IsFit IsBefore same x a
   behind x xs a ordered found =
       let there = element_found (same a) xs a found in

@@ -20,7 +20,7 @@ use Rattle.code_leaders.proofs.LeaderLemmas.{both_pass}
 use Rattle.result_setups.proofs.Numbers.{same_number}
 use Rattle.result_setups.proofs.Sites.{itself}
 use Rattle.result_setups.proofs.HomeStart.{word_itself}
-use Rattle.result_setups.proofs.Orders.{Tells, same_lists}
+use Rattle.result_setups.proofs.Orders.{Reports, same_lists}
 
 -- ---- objects
 
@@ -78,7 +78,7 @@ objects_full v board objects is k d below =
     let size = of.size in
     record { named = is.named k d below; filled = omega (arith, filled, size) }
 
-objects_tell : (v : PlainView) → Tells (IsFull v) (λ a b. a.home + a.size ≤ b.home) same_range
+objects_tell : (v : PlainView) → Reports (IsFull v) (λ a b. a.home + a.size ≤ b.home) same_range
 objects_tell v =
     record {
       itself = range_itself;
@@ -89,14 +89,14 @@ objects_tell v =
 pub one_objects : (v : PlainView) (board : Board) (objects others : List Object) → IsObjects v board objects → IsObjects v board others → objects ≡ others
 one_objects v board objects others first second =
     same_lists (IsFull v) (λ (a b : Object). a.home + a.size ≤ b.home) same_range (objects_tell v) objects others
-    (record { pairs = first.apart; fit = objects_full v board objects first })
-    (record { pairs = second.apart; fit = objects_full v board others second })
+    (record { pairs = first.disjoint; fit = objects_full v board objects first })
+    (record { pairs = second.disjoint; fit = objects_full v board others second })
     (λ o. first.exact o.home o.size ∙ sym (second.exact o.home o.size))
 
 -- ---- lists of what stands four bytes apart, of which a test tells each
 
-apart_lists : {A : Type 0} (at : A → ℕ) (same : A → A → Bool) → ((a : A) → same a a ≡ true) → ((a b : A) → same a b ≡ true → a ≡ b) → (xs ys : List A) → AllPairs (λ (a b : A). at a + 4 ≤ at b) xs → AllPairs (λ (a b : A). at a + 4 ≤ at b) ys → ((a : A) → list_any (same a) xs ≡ list_any (same a) ys) → xs ≡ ys
-apart_lists {A = A} at same itself one xs ys first second exact =
+disjoint_lists : {A : Type 0} (at : A → ℕ) (same : A → A → Bool) → ((a : A) → same a a ≡ true) → ((a b : A) → same a b ≡ true → a ≡ b) → (xs ys : List A) → AllPairs (λ (a b : A). at a + 4 ≤ at b) xs → AllPairs (λ (a b : A). at a + 4 ≤ at b) ys → ((a : A) → list_any (same a) xs ≡ list_any (same a) ys) → xs ≡ ys
+disjoint_lists {A = A} at same itself one xs ys first second exact =
     same_lists (λ (a : A). Unit {0}) (λ (a b : A). at a + 4 ≤ at b) same
     (record {
       itself = itself;
@@ -134,7 +134,7 @@ one_site s t same =
 
 pub one_sites : (v : PlainView) (objects others : List Object) (sites more : List Site) → objects ≡ others → IsSites v objects sites → IsSites v others more → sites ≡ more
 one_sites v objects others sites more same first second =
-    apart_lists (λ (s : Site). s.at) same_site itself one_site sites more first.apart second.apart
+    disjoint_lists (λ (s : Site). s.at) same_site itself one_site sites more first.disjoint second.disjoint
     (λ s. first.exact s ∙ ap (λ (all : List Object). is_site_of_list v all s) same ∙ sym (second.exact s))
 
 -- ---- words of data
@@ -150,5 +150,5 @@ one_word d e same =
 
 pub one_words : (v : PlainView) (objects others : List Object) (words more : List DataWord) → objects ≡ others → IsWords v objects words → IsWords v others more → words ≡ more
 one_words v objects others words more same first second =
-    apart_lists (λ (d : DataWord). d.at) same_word word_itself one_word words more first.apart second.apart
+    disjoint_lists (λ (d : DataWord). d.at) same_word word_itself one_word words more first.disjoint second.disjoint
     (λ d. first.exact d ∙ ap (λ (all : List Object). is_word_of_list v all d) same ∙ sym (second.exact d))

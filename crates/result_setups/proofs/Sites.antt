@@ -7,7 +7,7 @@ use Rattle.list_checks.specs.Tests.{any_below}
 use Rattle.list_checks.proofs.TestLemmas.{either, both, any_found, any_at}
 use Rattle.elf_reader.specs.File.{PlainView}
 use Rattle.loaded_file.specs.Records.{reloc_at, counts}
-use Rattle.sound_relocations.specs.Sound.{is_meant, displacement, is_sound_high, is_sound_low, is_sound_pair, names_high}
+use Rattle.rewritable_relocations.specs.Rewritable.{is_meant, displacement, is_rewritable_high, is_rewritable_low, is_rewritable_pair, names_high}
 use Rattle.movable_ranges.specs.Fixed.{leads_to, gives_pair, is_site_of}
 use Rattle.object_graph.specs.Graphs.{makes_part, gives_directly, gives_low_of, gives_offset, object_at, no_object, gives_site, is_site_of_list, same_part, same_site, IsSites}
 use Rattle.object_graph.specs.Laws.{MeansBy}
@@ -16,7 +16,7 @@ use Rattle.object_graph.specs.declared.parts.SiteKind.{SiteKind}
 use Rattle.object_graph.specs.declared.parts.SiteKind.TheVariants.{Hi, LowI, LowS}
 use Rattle.object_graph.specs.declared.parts.Site.{Site}
 use Rattle.object_graph.specs.declared.parts.Graph.{Graph}
-use Rattle.object_graph.proofs.SoundLemmas.{high_parts, low_parts, pair_parts}
+use Rattle.object_graph.proofs.RewritableLemmas.{high_parts, low_parts, pair_parts}
 use Rattle.code_leaders.proofs.LeaderLemmas.{left_passes, right_passes, both_pass}
 use Rattle.cell_values.specs.Objects.{absent_object, object_of}
 use Rattle.object_machine.specs.Program.{Target, target_at}
@@ -87,7 +87,7 @@ pub record Makes (v : PlainView) (kind home n offset u j : ℕ) : Type 0 where
 -- that of an AUIPC whose low parts fit it
 pub record MakesHigh (v : PlainView) (home n offset u i : ℕ) : Type 0 where
   pub makes : Makes v 23 home n offset u i
-  pub pair : is_sound_pair v (reloc_at v i) ≡ true
+  pub pair : is_rewritable_pair v (reloc_at v i) ≡ true
 
 -- relocation `j` makes the low part of the AUIPC of relocation `i`
 pub record MakesLow (v : PlainView) (home n offset u j i : ℕ) : Type 0 where
@@ -112,19 +112,19 @@ leads_means v kind home n j below is leads =
     let one = both (counts v r) (is_meant v home n r) two.0 in
     record { below = below; is_kind = is; counted = one.0; meant = one.1 }
 
--- a relocation of a sound kind gives a site by itself
-direct_site : (v : PlainView) (home n j : ℕ) → leads_to v home n j ≡ true → is_sound_high v (reloc_at v j) || is_sound_low v (reloc_at v j) || is_sound_pair v (reloc_at v j) ≡ true → is_site_of v home n j ≡ true
+-- a relocation of a rewritable kind gives a site by itself
+direct_site : (v : PlainView) (home n j : ℕ) → leads_to v home n j ≡ true → is_rewritable_high v (reloc_at v j) || is_rewritable_low v (reloc_at v j) || is_rewritable_pair v (reloc_at v j) ≡ true → is_site_of v home n j ≡ true
 direct_site v home n j leads sound =
-    left_passes (leads_to v home n j && (is_sound_high v (reloc_at v j) || is_sound_low v (reloc_at v j) || is_sound_pair v (reloc_at v j)))
+    left_passes (leads_to v home n j && (is_rewritable_high v (reloc_at v j) || is_rewritable_low v (reloc_at v j) || is_rewritable_pair v (reloc_at v j)))
     (counts v (reloc_at v j) && any_below (gives_pair v home n j) (length v.relocs))
     (both_pass (leads_to v home n j) _ leads sound)
 
 directly : (v : PlainView) (home n offset u j : ℕ) → j < length v.relocs → (reloc_at v j).at ≡ u → gives_directly v home n offset j ≡ true → SiteBy v home n offset u
 directly v home n offset u j below at gives =
     let r = reloc_at v j in
-    let high = is_sound_high v r in
-    let low = is_sound_low v r in
-    let pair = is_sound_pair v r in
+    let high = is_rewritable_high v r in
+    let low = is_rewritable_low v r in
+    let pair = is_rewritable_pair v r in
     let two = both (leads_to v home n j && (high || low || pair)) (displacement v home r == offset) gives in
     let one = both (leads_to v home n j) (high || low || pair) two.0 in
     let site = direct_site v home n j one.0 one.1 in
@@ -143,14 +143,14 @@ directly v home n offset u j below at gives =
     ]
 
 -- the low part of an AUIPC gives a site
-pub low_gives : (v : PlainView) (home n j i : ℕ) → i < length v.relocs → counts v (reloc_at v j) ≡ true → leads_to v home n i ≡ true → is_sound_pair v (reloc_at v i) ≡ true → names_high v (reloc_at v i) (reloc_at v j) ≡ true → is_site_of v home n j ≡ true
+pub low_gives : (v : PlainView) (home n j i : ℕ) → i < length v.relocs → counts v (reloc_at v j) ≡ true → leads_to v home n i ≡ true → is_rewritable_pair v (reloc_at v i) ≡ true → names_high v (reloc_at v i) (reloc_at v j) ≡ true → is_site_of v home n j ≡ true
 low_gives v home n j i below counted leads pair names =
-    right_passes (leads_to v home n j && (is_sound_high v (reloc_at v j) || is_sound_low v (reloc_at v j) || is_sound_pair v (reloc_at v j)))
+    right_passes (leads_to v home n j && (is_rewritable_high v (reloc_at v j) || is_rewritable_low v (reloc_at v j) || is_rewritable_pair v (reloc_at v j)))
     (counts v (reloc_at v j) && any_below (gives_pair v home n j) (length v.relocs))
     (both_pass (counts v (reloc_at v j)) (any_below (gives_pair v home n j) (length v.relocs)) counted
     (any_at (gives_pair v home n j) (length v.relocs) i below
-    (both_pass (leads_to v home n i && is_sound_pair v (reloc_at v i)) (names_high v (reloc_at v i) (reloc_at v j))
-    (both_pass (leads_to v home n i) (is_sound_pair v (reloc_at v i)) leads pair) names)))
+    (both_pass (leads_to v home n i && is_rewritable_pair v (reloc_at v i)) (names_high v (reloc_at v i) (reloc_at v j))
+    (both_pass (leads_to v home n i) (is_rewritable_pair v (reloc_at v i)) leads pair) names)))
 
 by_its_high : (v : PlainView) (home n offset u j : ℕ) → j < length v.relocs → (reloc_at v j).at ≡ u → counts v (reloc_at v j) ≡ true → any_below (gives_low_of v home n offset j) (length v.relocs) ≡ true → SiteBy v home n offset u
 by_its_high v home n offset u j below at counted given =
@@ -158,9 +158,9 @@ by_its_high v home n offset u j below at counted given =
     let i = found.0 in
     let r = reloc_at v i in
     let names = names_high v r (reloc_at v j) in
-    let three = both (leads_to v home n i && is_sound_pair v r && names) (displacement v home r == offset) found.2 in
-    let two = both (leads_to v home n i && is_sound_pair v r) names three.0 in
-    let one = both (leads_to v home n i) (is_sound_pair v r) two.0 in
+    let three = both (leads_to v home n i && is_rewritable_pair v r && names) (displacement v home r == offset) found.2 in
+    let two = both (leads_to v home n i && is_rewritable_pair v r) names three.0 in
+    let one = both (leads_to v home n i) (is_rewritable_pair v r) two.0 in
     by_low j i
     (record {
       below = below;
@@ -173,7 +173,7 @@ by_its_high v home n offset u j below at counted given =
           at = refl;
           behind = eqb-true (displacement v home r) offset three.1;
           leads = one.0;
-          site = direct_site v home n i one.0 (right_passes (is_sound_high v r || is_sound_low v r) (is_sound_pair v r) one.1);
+          site = direct_site v home n i one.0 (right_passes (is_rewritable_high v r || is_rewritable_low v r) (is_rewritable_pair v r) one.1);
         };
         pair = one.1;
       };
@@ -231,8 +231,8 @@ high_target v g t i is below high =
     let same = object_same g t.object below in
     let far : (displacement v (object_of g t.object).home r == t.offset) ≡ true = let is_far = high.makes.behind in grind (arith, nat_tests, is_far) in
     let direct : gives_directly v (object_of g t.object).home (object_of g t.object).size t.offset i ≡ true =
-    both_pass (leads_to v (object_of g t.object).home (object_of g t.object).size i && (is_sound_high v r || is_sound_low v r || is_sound_pair v r)) _
-    (both_pass (leads_to v (object_of g t.object).home (object_of g t.object).size i) _ high.makes.leads (right_passes (is_sound_high v r || is_sound_low v r) (is_sound_pair v r) high.pair)) far in
+    both_pass (leads_to v (object_of g t.object).home (object_of g t.object).size i && (is_rewritable_high v r || is_rewritable_low v r || is_rewritable_pair v r)) _
+    (both_pass (leads_to v (object_of g t.object).home (object_of g t.object).size i) _ high.makes.leads (right_passes (is_rewritable_high v r || is_rewritable_low v r) (is_rewritable_pair v r) high.pair)) far in
     let gives : gives_offset v (object_of g t.object).home (object_of g t.object).size t.offset i ≡ true = left_passes _ _ direct in
     let as_at : gives_offset v (object_at g.objects.items t.object).home (object_at g.objects.items t.object).size t.offset i ≡ true =
     subst (λ (x : Object). gives_offset v x.home x.size t.offset i ≡ true) (sym same) gives in
@@ -240,4 +240,4 @@ high_target v g t i is below high =
     both_pass ((r.at == r.at) && makes_part Hi r.kind) _ (both_pass (r.at == r.at) (makes_part Hi r.kind) (same_number r.at) kind) as_at in
     let listed : is_site_of_list v g.objects.items s ≡ true =
     both_pass (nat_lt t.object (length g.objects.items)) _ (grind (arith, nat_tests, below)) (any_at (gives_site v g.objects.items s) (length v.relocs) i high.makes.means.below passes) in
-    found_target g.sites.items s.at s is.apart (is.exact s ∙ listed) refl
+    found_target g.sites.items s.at s is.disjoint (is.exact s ∙ listed) refl

@@ -1,4 +1,4 @@
--- A step doesn't look at the AUIPC that a low part names; and where none is named, and every maker is a LUI, each step
+-- A step doesn't look at the AUIPC that a low part names; and where none is named, and every origin is a LUI, each step
 -- is paired.
 use Rattle.std.proofs.Common.{◌≡◌, ◌∙◌, ℕ, zero, suc, ◌+◌, ◌==◌, Bool, true, false, not, ◌&&◌, ◌||◌, if◌then◌else◌, List, [], ◌∷◌, take, Option, Some, None, ℤ, refl, ap}
 use Rattle.list_checks.specs.First.{first_below}
@@ -15,13 +15,13 @@ use Rattle.cell_values.specs.Comparisons.{compare}
 use Rattle.cell_values.specs.declared.values.Val.{Val}
 use Rattle.cell_values.specs.declared.values.Val.TheVariants.{Int, Addr, Hi}
 use Rattle.cell_values.specs.declared.values.Cell.TheVariants.{Byte}
-use Rattle.cell_values.specs.Makers.{ByLui, is_by_auipc, takes_low, takes_lows}
+use Rattle.cell_values.specs.Origins.{ByLui, is_by_auipc, takes_low, takes_lows}
 use Rattle.object_machine.specs.Program.{Program, Target}
 use Rattle.object_machine.specs.State.{SourceState, value, wrote}
 use Rattle.object_machine.specs.Places.{Where, InFixed, InObject, Nowhere, located, byte_place, read_fault, write_fault, address_of}
 use Rattle.object_machine.specs.Memory.{cell_at, stored_at}
 use Rattle.object_machine.specs.Flow.{jumps_by, branches, calls_pair}
-use Rattle.object_machine.specs.Calls.{a0, a1, a2, a7, answered, exits, and_byte, plain_bytes, appends, unread, writes_from, writes, taken_count, unwritten, put_input, with_input, reads_into, reads, calls_by}
+use Rattle.object_machine.specs.Calls.{a0, a1, a2, a7, answered, exits, and_byte, plain_bytes, appends, unread, writes_from, writes, consumed_count, unwritten, put_input, with_input, reads_into, reads, calls_by}
 use Rattle.object_machine.specs.Step.{loads_from, stores_to, load_place, store_place, acts, one_word, next_state}
 use Rattle.object_machine.specs.Paired.{at_start, is_paired_site, uses_base, is_paired_by, is_paired_step}
 use Rattle.result_setups.specs.Moved.{unnamed}
@@ -104,8 +104,8 @@ module _ (p : Program) where
 
     reads_same : (x : Val) → reads p s x ≡ reads q s x
     reads_same (Int n) =
-        reads_into_same (taken_count s n) (first_below (unwritten p s) (taken_count s n))
-        ∙ ap (λ (f : ℕ → Option ℕ). reads_into q s (taken_count s n) (first_below f (taken_count s n)))
+        reads_into_same (consumed_count s n) (first_below (unwritten p s) (consumed_count s n))
+        ∙ ap (λ (f : ℕ → Option ℕ). reads_into q s (consumed_count s n) (first_below f (consumed_count s n)))
         (λ t i. unwritten_same i t)
     reads_same x = refl
 

@@ -3,7 +3,7 @@ use Rattle.std.specs.Prelude.{◌≡◌, ◌⊎◌, ℕ, ◌<◌, true, List, le
 use Rattle.elf_reader.specs.File.{PlainView}
 use Rattle.board_config.specs.declared.board.Board.{Board}
 use Rattle.loaded_file.specs.Records.{reloc_at, counts}
-use Rattle.sound_relocations.specs.Sound.{is_pair_low}
+use Rattle.rewritable_relocations.specs.Rewritable.{is_pair_low}
 use Rattle.object_graph.specs.Graphs.{IsGraph}
 use Rattle.object_graph.specs.declared.parts.Graph.{Graph}
 use Rattle.object_machine.specs.Program.{program_of}

@@ -65,7 +65,7 @@ unwritten f rd a k other =
     elim (cases_eq rd 0) [
       | inl is_zero ↦ grind (arith, nat_tests)
       | inr nonzero ↦
-          let apart : k ≢ rd = λ same. other (subst (λ j. Contains (without_zero (rd ∷ [])) j) (sym same) (first rd [] nonzero)) in
+          let disjoint : k ≢ rd = λ same. other (subst (λ j. Contains (without_zero (rd ∷ [])) j) (sym same) (first rd [] nonzero)) in
           grind (arith, nat_tests)
     ]
 

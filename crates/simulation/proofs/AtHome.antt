@@ -4,7 +4,7 @@ use Rattle.std.proofs.lemmas.Bool.{cond_both}
 use Rattle.cell_values.specs.declared.values.Val.TheVariants.{Int}
 use Rattle.cell_values.specs.declared.values.Cell.{Cell}
 use Rattle.cell_values.specs.declared.values.Cell.TheVariants.{Byte, Part, Mist}
-use Rattle.cell_values.specs.Makers.{ByLui}
+use Rattle.cell_values.specs.Origins.{ByLui}
 use Rattle.flat_machine.specs.State.{State}
 use Rattle.object_machine.specs.declared.events.Outcome.{Outcome}
 use Rattle.object_machine.specs.declared.events.Outcome.TheVariants.{GoesOn, Exited, Trapped, AddressFault}
@@ -12,13 +12,13 @@ use Rattle.object_machine.specs.Program.{Program}
 use Rattle.object_machine.specs.State.{SourceState, value}
 use Rattle.object_machine.specs.Start.{first_fixed, first_cells}
 use Rattle.object_machine.specs.Step.{next_state}
-use Rattle.object_machine.specs.Paired.{Makers, makers_after}
+use Rattle.object_machine.specs.Paired.{Origins, origins_after}
 use Rattle.simulation.specs.Setups.{Setup, Sound}
 use Rattle.simulation.specs.Made.{IsMade, CellIsMade, AreMade}
 use Rattle.simulation.specs.Relation.{Alike, After}
 use Rattle.simulation.specs.Rules.{LiveRules, all_live}
 use Rattle.simulation.specs.Laws.{at_home, IsUnit, AllAtHome, UnitsAtHome, RunsAtHome, MadeAtStart, MadeStays}
-use Rattle.simulation.proofs.OneUnit.{Ready}
+use Rattle.simulation.proofs.OneUnit.{StepPremises}
 use Rattle.simulation.proofs.Dispatch.{unit_steps}
 use Rattle.simulation.proofs.Next.{Lands, next_lands}
 use Rattle.simulation.proofs.MadeSteps.{StayMade, next_made}
@@ -34,7 +34,7 @@ all_live_rules p =
 
 pub units_at_home : UnitsAtHome
 units_at_home p l r s m t read sound unit alike made at reads paired =
-    let ready : Ready p l all_live at_home r s m t =
+    let premises : StepPremises p l all_live at_home r s m t =
     record {
       sound = sound;
       unit = unit;
@@ -44,7 +44,7 @@ units_at_home p l r s m t read sound unit alike made at reads paired =
       made = made;
       at = at;
     } in
-    unit_steps p l all_live at_home r s m t read ready reads paired
+    unit_steps p l all_live at_home r s m t read premises reads paired
 
 -- ---- upper parts
 
@@ -70,14 +70,14 @@ made_at_start v p g input =
 
 -- ---- runs
 
-pub record AtHome (p : Program) (l : Setup) (r : ℕ) (s : SourceState) (m : Makers) (t : State) : Type 0 where
+pub record AtHome (p : Program) (l : Setup) (r : ℕ) (s : SourceState) (m : Origins) (t : State) : Type 0 where
   pub alike : Alike p l all_live r s.pc s m t
   pub made : AreMade p s m
   pub at : at_home s.pc t.hart.pc
   pub unit : IsUnit p s.pc
 
 module _ (p : Program) (l : Setup) (r : ℕ) (sound : Sound p l r) (units : AllAtHome p l r) where
-  home_ends : (o : Outcome) (s : SourceState) (m : Makers) (t : State) → s.outcome ≡ o → Lands p s → StayMade p s m → After o p l all_live at_home r s m t → Ends o (AtHome p l r) s m t
+  home_ends : (o : Outcome) (s : SourceState) (m : Origins) (t : State) → s.outcome ≡ o → Lands p s → StayMade p s m → After o p l all_live at_home r s m t → Ends o (AtHome p l r) s m t
   home_ends GoesOn s m t is lands made after =
       record { alike = after.0; made = made is; at = after.1; unit = lands is }
   home_ends (Exited code) s m t is lands made after = after
@@ -87,7 +87,7 @@ module _ (p : Program) (l : Setup) (r : ℕ) (sound : Sound p l r) (units : AllA
   home_kept : KeptBySteps p 2 (AtHome p l r)
   home_kept s m t read home reads paired =
       let n : SourceState = next_state p s read in
-      let made : Makers = makers_after p s m read in
+      let made : Origins = origins_after p s m read in
       let leads =
       units_at_home p l r s m t read sound (units s.pc home.unit) home.alike home.made home.at reads paired in (
         leads.0,
@@ -103,7 +103,7 @@ module _ (p : Program) (l : Setup) (r : ℕ) (sound : Sound p l r) (units : AllA
         ),
       )
 
-  home_going : (s : SourceState) (m : Makers) (t : State) → AtHome p l r s m t → Going s t
+  home_going : (s : SourceState) (m : Origins) (t : State) → AtHome p l r s m t → Going s t
   home_going s m t home =
       record { source = home.alike.source_going; flat = home.alike.going; output = home.alike.output }
 

@@ -14,7 +14,7 @@ use Rattle.cell_values.specs.declared.values.Val.{Val}
 use Rattle.cell_values.specs.declared.values.Val.TheVariants.{Int, Addr}
 use Rattle.cell_values.specs.declared.values.Cell.{Cell}
 use Rattle.cell_values.specs.declared.values.Cell.TheVariants.{Byte}
-use Rattle.cell_values.specs.Makers.{Maker}
+use Rattle.cell_values.specs.Origins.{Origin}
 use Rattle.cell_values.specs.Stands.{Stands, CellStands, CellHoldsWord}
 use Rattle.cell_values.specs.Cells.{put_at}
 use Rattle.object_machine.specs.Program.{Program}
@@ -22,12 +22,12 @@ use Rattle.object_machine.specs.State.{SourceState}
 use Rattle.object_machine.specs.Places.{Where, InFixed, InObject, Nowhere, in_fixed, byte_place, read_fault, write_fault}
 use Rattle.object_machine.specs.Memory.{cell_at, stored_at}
 use Rattle.object_machine.specs.Calls.{put_input}
-use Rattle.object_machine.specs.Paired.{Makers, maker_at}
+use Rattle.object_machine.specs.Paired.{Origins, origin_at}
 use Rattle.simulation.specs.Setups.{Setup, Sound}
 use Rattle.simulation.proofs.Places.{all_mapped_each}
 
 -- what `Alike` says of memory
-pub record MemoryAlike (p : Program) (l : Setup) (r : ℕ) (s : SourceState) (m : Makers) (mem : Memory) : Type 0 where
+pub record MemoryAlike (p : Program) (l : Setup) (r : ℕ) (s : SourceState) (m : Origins) (mem : Memory) : Type 0 where
   pub fixed : (a : ℕ) → p.is_fixed a ≡ true → CellStands (l.place r) (l.upper r) (m.fixed a) (s.fixed a) (mem a)
   pub cells : (o i : ℕ) → i < p.objects.size o → CellStands (l.place r) (l.upper r) (m.cells o i) (s.cells o i) (mem (l.place r o + i))
   pub fixed_words : (a : ℕ) → p.is_fixed a ≡ true → CellHoldsWord (s.fixed a)
@@ -70,10 +70,10 @@ module _ (p : Program) (l : Setup) (r : ℕ) where
   object_word : Sound p l r → (o d i w : ℕ) → d + i < p.objects.size o → w ≡ plus (l.place r o) d → w + i ≡ l.place r o + (d + i)
   object_word sound o d i w inside stands = let below = sound.fit.below o in omega arith
 
-  pub byte_goes : Sound p l r → (maker : Maker) (x : Val) (w i : ℕ) → Stands p.objects (l.place r) (l.upper r) maker x w → read_fault (byte_place p x i) ≡ None → GoesTo p l r (byte_place p x i) (w + i)
-  byte_goes sound maker (Int a) w i stands free =
+  pub byte_goes : Sound p l r → (origin : Origin) (x : Val) (w i : ℕ) → Stands p.objects (l.place r) (l.upper r) origin x w → read_fault (byte_place p x i) ≡ None → GoesTo p l r (byte_place p x i) (w + i)
+  byte_goes sound origin (Int a) w i stands free =
       fixed_goes (a + i) (w + i) (omega arith) (if p.is_held (a + i) then 4 else 3) (p.is_fixed (a + i)) refl free
-  byte_goes sound maker (Addr o d) w i stands free =
+  byte_goes sound origin (Addr o d) w i stands free =
       object_at sound o d i w stands (nat_lt (d + i) (p.objects.size o)) refl free
     where
       object_at : Sound p l r → (o d i w : ℕ) → w ≡ plus (l.place r o) d → (test : Bool) → nat_lt (d + i) (p.objects.size o) ≡ test → read_fault (if test then InObject o (d + i) else Nowhere 1) ≡ None → GoesTo p l r (if test then InObject o (d + i) else Nowhere 1) (w + i)
@@ -81,7 +81,7 @@ module _ (p : Program) (l : Setup) (r : ℕ) where
           let inside : d + i < p.objects.size o = grind (arith, nat_tests) in
           (object_word sound o d i w inside stands, inside)
       object_at sound o d i w stands false is free = cc
-  byte_goes sound maker x w i stands free = cc
+  byte_goes sound origin x w i stands free = cc
 
   -- where a place that can be reached lies on the flat machine
   pub goes_below : Sound p l r → (x : Where) (w : ℕ) → GoesTo p l r x w → w < 4294967296
@@ -115,8 +115,8 @@ moves map w n word below mapped =
 
 -- ---- bytes of memory
 
-module _ (p : Program) (l : Setup) (r : ℕ) (sound : Sound p l r) (m : Makers) where
-  pub goes_stands : (s : SourceState) (mem : Memory) → MemoryAlike p l r s m mem → (x : Where) (w : ℕ) → GoesTo p l r x w → CellStands (l.place r) (l.upper r) (maker_at m x 0) (cell_at s x 0) (mem w)
+module _ (p : Program) (l : Setup) (r : ℕ) (sound : Sound p l r) (m : Origins) where
+  pub goes_stands : (s : SourceState) (mem : Memory) → MemoryAlike p l r s m mem → (x : Where) (w : ℕ) → GoesTo p l r x w → CellStands (l.place r) (l.upper r) (origin_at m x 0) (cell_at s x 0) (mem w)
   goes_stands s mem alike (InFixed a) w goes =
       let none : a + 0 ≡ a = omega arith in
       subst (λ b. CellStands (l.place r) (l.upper r) (m.fixed b) (s.fixed b) (mem w)) (sym none)
@@ -129,9 +129,9 @@ module _ (p : Program) (l : Setup) (r : ℕ) (sound : Sound p l r) (m : Makers) 
 
   -- ---- one byte put into fixed memory
 
-  chosen : (test : Bool) (maker : Maker) (c : Cell) (v b : ℕ) → CellStands (l.place r) (l.upper r) maker c v → CellStands (l.place r) (l.upper r) maker (if test then Byte b else c) (if test then b else v)
-  chosen true maker c v b stands = refl
-  chosen false maker c v b stands = stands
+  chosen : (test : Bool) (origin : Origin) (c : Cell) (v b : ℕ) → CellStands (l.place r) (l.upper r) origin c v → CellStands (l.place r) (l.upper r) origin (if test then Byte b else c) (if test then b else v)
+  chosen true origin c v b stands = refl
+  chosen false origin c v b stands = stands
 
   chosen_word : (test : Bool) (c : Cell) (b : ℕ) → b < 256 → CellHoldsWord c → CellHoldsWord (if test then Byte b else c)
   chosen_word true c b byte word = byte
@@ -177,8 +177,8 @@ module _ (p : Program) (l : Setup) (r : ℕ) (sound : Sound p l r) (m : Makers) 
         | inl same ↦ same_object q j same within stands
         | inr other ↦
             let cells : put_at s.cells o (put_at (s.cells o) d (Byte b)) q ≡ s.cells q = cell_off s.cells o (put_at (s.cells o) d (Byte b)) q other in
-            let apart = sound.fit.apart q o j d other within inside in
-            let byte = put_off mem (l.place r o + d) b (l.place r q + j) apart in
+            let disjoint = sound.fit.disjoint q o j d other within inside in
+            let byte = put_off mem (l.place r o + d) b (l.place r q + j) disjoint in
             subst (λ c. CellStands (l.place r) (l.upper r) (m.cells q j) (c j) (put mem (l.place r o + d) b (l.place r q + j))) (sym cells)
             (subst (λ v. CellStands (l.place r) (l.upper r) (m.cells q j) (s.cells q j) v) (sym byte) stands)
       ]
@@ -192,8 +192,8 @@ module _ (p : Program) (l : Setup) (r : ℕ) (sound : Sound p l r) (m : Makers) 
                 (put_here mem (l.place r o + d) b))
             | inr other ↦
                 let cell = cell_off (s.cells o) d (Byte b) j other in
-                let apart : l.place r o + j ≡ l.place r o + d → ⊥ = λ equal. other (omega arith) in
-                let byte = put_off mem (l.place r o + d) b (l.place r o + j) apart in
+                let disjoint : l.place r o + j ≡ l.place r o + d → ⊥ = λ equal. other (omega arith) in
+                let byte = put_off mem (l.place r o + d) b (l.place r o + j) disjoint in
                 subst (λ c. CellStands (l.place r) (l.upper r) (m.cells o j) c (put mem (l.place r o + d) b (l.place r o + j))) (sym cell)
                 (subst (λ v. CellStands (l.place r) (l.upper r) (m.cells o j) (s.cells o j) v) (sym byte) stands)
           ]

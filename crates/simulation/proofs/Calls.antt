@@ -22,20 +22,20 @@ use Rattle.cell_values.specs.declared.values.Val.TheVariants.{Int}
 use Rattle.cell_values.specs.declared.values.Cell.{Cell}
 use Rattle.cell_values.specs.declared.values.Cell.TheVariants.{Byte}
 use Rattle.cell_values.specs.Laws.{HoldsWord}
-use Rattle.cell_values.specs.Makers.{Maker}
+use Rattle.cell_values.specs.Origins.{Origin}
 use Rattle.cell_values.specs.Stands.{Stands, CellStands}
 use Rattle.object_machine.specs.Program.{Program, Target}
 use Rattle.object_machine.specs.State.{SourceState, Values, value, wrote, faulted}
 use Rattle.object_machine.specs.Places.{Where, InFixed, InObject, Nowhere, byte_place, read_fault}
 use Rattle.object_machine.specs.Memory.{cell_at, stored_at}
-use Rattle.object_machine.specs.Calls.{a0, a1, a2, a7, answered, exits, and_byte, plain_bytes, appends, unread, writes_from, writes, taken_count, unwritten, put_input, with_input, reads_into, reads, calls_number, calls_by}
-use Rattle.object_machine.specs.Paired.{Makers, maker_at}
+use Rattle.object_machine.specs.Calls.{a0, a1, a2, a7, answered, exits, and_byte, plain_bytes, appends, unread, writes_from, writes, consumed_count, unwritten, put_input, with_input, reads_into, reads, calls_number, calls_by}
+use Rattle.object_machine.specs.Paired.{Origins, origin_at}
 use Rattle.object_machine.specs.Step.{Reads, acts}
 use Rattle.flat_machine.proofs.Words.{answered_words}
 use Rattle.simulation.specs.Setups.{Setup}
 use Rattle.simulation.specs.Units.{StandsFor}
 use Rattle.simulation.specs.Relation.{Alike, After}
-use Rattle.simulation.proofs.OneUnit.{Ready, StepsAs}
+use Rattle.simulation.proofs.OneUnit.{StepPremises, StepsAs}
 use Rattle.simulation.proofs.Steps.{after_going, with_writes, wrote_on, reads_on, keeps_on, acts_leads, performs_leads}
 use Rattle.simulation.proofs.CallMemory.{MemoryAlike, GoesTo, byte_goes, goes_below, goes_mapped, goes_stands, read_too, moves, input_put}
 
@@ -75,23 +75,23 @@ input_keeps p x (b ∷ bytes) i s =
 -- ---- the call
 
 -- the flat machine behind the call is as the other machine where that is `next`
-abbrev pub Carries : Program → Setup → (ℕ → ℕ → Type 0) → (ℕ → ℕ → Type 0) → ℕ → SourceState → Makers → SourceState → State → Type 0
+abbrev pub Carries : Program → Setup → (ℕ → ℕ → Type 0) → (ℕ → ℕ → Type 0) → ℕ → SourceState → Origins → SourceState → State → Type 0
 Carries p l live arrive r s m next after =
     acts p s Ecall (p.site s.pc) ≡ next → After next.outcome p l live arrive r next m after
 
-module _ (p : Program) (l : Setup) (live arrive : ℕ → ℕ → Type 0) (r : ℕ) (s : SourceState) (m : Makers) (t : State) (ready : Ready p l live arrive r s m t) (single : p.is_pair s.pc ≡ false) (means : Reads (p.word s.pc) (Some Ecall)) where
+module _ (p : Program) (l : Setup) (live arrive : ℕ → ℕ → Type 0) (r : ℕ) (s : SourceState) (m : Origins) (t : State) (premises : StepPremises p l live arrive r s m t) (single : p.is_pair s.pc ≡ false) (means : Reads (p.word s.pc) (Some Ecall)) where
   -- the registers that a call reads
   argument : (k : ℕ) → Contains (used Ecall) k → Stands p.objects (l.place r) (l.upper r) (m.regs k) (value s.regs k) (register t.hart.regs k)
-  argument k has = (reads_on p l live arrive r s m t Ecall ready single means k (inr has)).stands
+  argument k has = (reads_on p l live arrive r s m t Ecall premises single means k (inr has)).stands
 
   memory : MemoryAlike p l r s m t.hart.mem
   memory = record {
-    fixed = ready.alike.fixed;
-    cells = ready.alike.cells;
-    fixed_words = ready.alike.fixed_words;
-    cell_words = ready.alike.cell_words;
-    still = ready.alike.still;
-    bytes = ready.alike.words.hart.mem;
+    fixed = premises.alike.fixed;
+    cells = premises.alike.cells;
+    fixed_words = premises.alike.fixed_words;
+    cell_words = premises.alike.cell_words;
+    still = premises.alike.still;
+    bytes = premises.alike.words.hart.mem;
   }
 
   -- ---- an answer
@@ -101,16 +101,16 @@ module _ (p : Program) (l : Setup) (live arrive : ℕ → ℕ → Type 0) (r : �
 
   goes : (u : SourceState) (v : State) (n : ℕ) → Alike p l live r s.pc u m v → v.hart.pc ≡ s.pc → n < 4294967296 → acts p s Ecall (p.site s.pc) ≡ answered_next u n → After u.outcome p l live arrive r (answered_next u n) m (flat.answered v n)
   goes u v n alike at word same =
-      let below = ready.unit.below in
+      let below = premises.unit.below in
       let next : plus v.hart.pc 4 ≡ s.pc + 4 = omega arith in
       let behind : Alike p l live r (s.pc + 4) (answered_next u n) m (flat.answered v n) =
       wrote_on p l live r s.pc (s.pc + 4) u m v alike 10 n (Int n) m.regs (with_register v.hart.regs 10 n)
       (λ k lives other.
-      keeps_on p l live arrive r s m t Ecall ready single means (answered_next u n) same alike.source_going k lives (a0_alone k other))
+      keeps_on p l live arrive r s m t Ecall premises single means (answered_next u n) same alike.source_going k lives (a0_alone k other))
       (λ k other. refl) (with_writes v.hart.regs 10 n) refl word (plus v.hart.pc 4)
       (answered_words v n word alike.words) in
       after_going p l live arrive r t (answered_next u n) m (flat.answered v n) alike.source_going behind
-      (subst (λ a. arrive (s.pc + 4) a) (sym next) (ready.home (s.pc + 4)))
+      (subst (λ a. arrive (s.pc + 4) a) (sym next) (premises.home (s.pc + 4)))
 
   -- the call answers a number: the states but for the answer are alike
   answers : (u : SourceState) (v : State) (n : ℕ) → Alike p l live r s.pc u m v → v.hart.pc ≡ s.pc → n < 4294967296 → Carries p l live arrive r s m (answered p s u n) (flat.answered v n)
@@ -123,7 +123,7 @@ module _ (p : Program) (l : Setup) (live arrive : ℕ → ℕ → Type 0) (r : �
   -- ---- exit
 
   exit_call : (x : Val) → Stands p.objects (l.place r) (l.upper r) (m.regs 10) x (flat.a0 t) → Carries p l live arrive r s m (exits s x) (flat.exited t)
-  exit_call (Int n) stands = λ same. (ap (λ w. flat_outcome.TheVariants.Exited (w % 256)) stands, ready.alike.output)
+  exit_call (Int n) stands = λ same. (ap (λ w. flat_outcome.TheVariants.Exited (w % 256)) stands, premises.alike.output)
   exit_call x stands = λ same. tt
 
   -- ---- the bytes behind a1
@@ -132,48 +132,48 @@ module _ (p : Program) (l : Setup) (live arrive : ℕ → ℕ → Type 0) (r : �
   a1_stands = argument 11 (1, omega arith, refl)
 
   goes_to : (i : ℕ) → read_fault (byte_place p (a1 s) i) ≡ None → GoesTo p l r (byte_place p (a1 s) i) (flat.a1 t + i)
-  goes_to i free = byte_goes p l r ready.sound (m.regs 11) (a1 s) (flat.a1 t) i a1_stands free
+  goes_to i free = byte_goes p l r premises.sound (m.regs 11) (a1 s) (flat.a1 t) i a1_stands free
 
   can_move_all : (n : ℕ) → ((i : ℕ) → i < n → read_fault (byte_place p (a1 s) i) ≡ None) → can_move t.map (flat.a1 t) n ≡ true
   can_move_all n free =
-      subst (λ map. can_move map (flat.a1 t) n ≡ true) (sym ready.alike.map)
-      (moves l.map (flat.a1 t) n (ready.alike.words.hart.regs 11)
-      (λ i before. goes_below p l r ready.sound (byte_place p (a1 s) i) (flat.a1 t + i) (goes_to i (free i before)))
-      (λ i before. goes_mapped p l r ready.sound (byte_place p (a1 s) i) (flat.a1 t + i) (goes_to i (free i before))))
+      subst (λ map. can_move map (flat.a1 t) n ≡ true) (sym premises.alike.map)
+      (moves l.map (flat.a1 t) n (premises.alike.words.hart.regs 11)
+      (λ i before. goes_below p l r premises.sound (byte_place p (a1 s) i) (flat.a1 t + i) (goes_to i (free i before)))
+      (λ i before. goes_mapped p l r premises.sound (byte_place p (a1 s) i) (flat.a1 t + i) (goes_to i (free i before))))
 
   -- ---- write
 
-  byte_more : (before bytes : List ℕ) (o : Option (List ℕ)) (maker : Maker) (c : Cell) (v : ℕ) → ((xs : List ℕ) → o ≡ Some xs → before ≡ xs) → CellStands (l.place r) (l.upper r) maker c v → and_byte o c ≡ Some bytes → before ++ v ∷ [] ≡ bytes
-  byte_more before bytes (Some xs) maker (Byte b) v earlier stands same =
+  byte_more : (before bytes : List ℕ) (o : Option (List ℕ)) (origin : Origin) (c : Cell) (v : ℕ) → ((xs : List ℕ) → o ≡ Some xs → before ≡ xs) → CellStands (l.place r) (l.upper r) origin c v → and_byte o c ≡ Some bytes → before ++ v ∷ [] ≡ bytes
+  byte_more before bytes (Some xs) origin (Byte b) v earlier stands same =
       let first = earlier xs refl in
       let grown : xs ++ b ∷ [] ≡ bytes = cc in
       rw (first, stands) grown
-  byte_more before bytes o maker c v earlier stands same = cc
+  byte_more before bytes o origin c v earlier stands same = cc
 
   plain_same : (n : ℕ) → ((i : ℕ) → i < n → read_fault (byte_place p (a1 s) i) ≡ None) → (bytes : List ℕ) → plain_bytes p s n ≡ Some bytes → bytes_at t.hart.mem (flat.a1 t) n ≡ bytes
   plain_same zero free bytes same = cc
   plain_same (suc n) free bytes same =
-      byte_more (bytes_at t.hart.mem (flat.a1 t) n) bytes (plain_bytes p s n) (maker_at m (byte_place p (a1 s) n) 0)
+      byte_more (bytes_at t.hart.mem (flat.a1 t) n) bytes (plain_bytes p s n) (origin_at m (byte_place p (a1 s) n) 0)
       (cell_at s (byte_place p (a1 s) n) 0) (t.hart.mem (flat.a1 t + n))
       (λ xs plain. plain_same n (λ i before. free i (omega arith)) xs plain)
-      (goes_stands p l r ready.sound m s t.hart.mem memory (byte_place p (a1 s) n) (flat.a1 t + n) (goes_to n (free n (omega arith))))
+      (goes_stands p l r premises.sound m s t.hart.mem memory (byte_place p (a1 s) n) (flat.a1 t + n) (goes_to n (free n (omega arith))))
       same
 
   with_output : (bytes written : List ℕ) → written ≡ bytes → Alike p l live r s.pc (record s { output = s.output ++ bytes }) m (record t { output = t.output ++ written })
   with_output bytes written same = record {
-    regs = ready.alike.regs;
-    values = ready.alike.values;
-    fixed = ready.alike.fixed;
-    cells = ready.alike.cells;
-    fixed_words = ready.alike.fixed_words;
-    cell_words = ready.alike.cell_words;
-    still = ready.alike.still;
-    map = ready.alike.map;
-    going = ready.alike.going;
-    source_going = ready.alike.source_going;
-    words = record { hart = ready.alike.words.hart; input = ready.alike.words.input };
-    input = ready.alike.input;
-    output = ap (λ (xs : List ℕ). xs ++ written) ready.alike.output ∙ ap (λ (xs : List ℕ). s.output ++ xs) same;
+    regs = premises.alike.regs;
+    values = premises.alike.values;
+    fixed = premises.alike.fixed;
+    cells = premises.alike.cells;
+    fixed_words = premises.alike.fixed_words;
+    cell_words = premises.alike.cell_words;
+    still = premises.alike.still;
+    map = premises.alike.map;
+    going = premises.alike.going;
+    source_going = premises.alike.source_going;
+    words = record { hart = premises.alike.words.hart; input = premises.alike.words.input };
+    input = premises.alike.input;
+    output = ap (λ (xs : List ℕ). xs ++ written) premises.alike.output ∙ ap (λ (xs : List ℕ). s.output ++ xs) same;
   }
 
   plain_on : first_below (unread p s) (flat.a2 t) ≡ None → (o : Option (List ℕ)) → plain_bytes p s (flat.a2 t) ≡ o → Carries p l live arrive r s m (appends p s (flat.a2 t) o) (flat.written t)
@@ -185,7 +185,7 @@ module _ (p : Program) (l : Setup) (live arrive : ℕ → ℕ → Type 0) (r : �
       subst (λ test. Carries p l live arrive r s m (appends p s (flat.a2 t) (Some bytes)) (if test then record (flat.answered t (flat.a2 t)) { output = t.output ++ bytes_at t.hart.mem (flat.a1 t) (flat.a2 t) } else trap t))
       (sym (can_move_all (flat.a2 t) free))
       (answers (record s { output = s.output ++ bytes }) (record t { output = t.output ++ bytes_at t.hart.mem (flat.a1 t) (flat.a2 t) }) (flat.a2 t)
-      (with_output bytes written same) ready.at (ready.alike.words.hart.regs 12))
+      (with_output bytes written same) premises.at (premises.alike.words.hart.regs 12))
   plain_on none None plain = λ same. tt
 
   unread_on : (o : Option ℕ) → first_below (unread p s) (flat.a2 t) ≡ o → Carries p l live arrive r s m (writes_from p s (flat.a2 t) o) (flat.written t)
@@ -211,7 +211,7 @@ module _ (p : Program) (l : Setup) (live arrive : ℕ → ℕ → Type 0) (r : �
       if can_move t.map (flat.a1 t) k then flat.answered (with_bytes k input) k else trap t
 
   source_input : AreBytes s.input
-  source_input = subst AreBytes ready.alike.input ready.alike.words.input
+  source_input = subst AreBytes premises.alike.input premises.alike.words.input
 
   input_stands : (k : ℕ) → ((i : ℕ) → i < k → read_fault (byte_place p (a1 s) i) ≡ None) → MemoryAlike p l r (put_input p s (a1 s) 0 (take k s.input)) m (put_bytes t.hart.mem (flat.a1 t) (take k s.input))
   input_stands k free =
@@ -219,7 +219,7 @@ module _ (p : Program) (l : Setup) (live arrive : ℕ → ℕ → Type 0) (r : �
       let short : length (take k s.input) ≤ k = grind (arith, nat_tests) in
       let start : flat.a1 t + 0 ≡ flat.a1 t = omega arith in
       subst (λ w. MemoryAlike p l r (put_input p s (a1 s) 0 (take k s.input)) m (put_bytes t.hart.mem w (take k s.input))) start
-      (input_put p l r ready.sound m (a1 s) (flat.a1 t) (take k s.input) 0 s t.hart.mem memory
+      (input_put p l r premises.sound m (a1 s) (flat.a1 t) (take k s.input) 0 s t.hart.mem memory
       (All-take IsByte k s.input source_input) (λ j from before. goes_to j (free j (omega arith))))
 
   with_taken : (k : ℕ) → ((i : ℕ) → i < k → read_fault (byte_place p (a1 s) i) ≡ None) → Alike p l live r s.pc (with_input p s k) m (with_bytes k s.input)
@@ -229,26 +229,26 @@ module _ (p : Program) (l : Setup) (live arrive : ℕ → ℕ → Type 0) (r : �
       record {
         regs = λ j lives.
             subst (λ (regs : Values). Stands p.objects (l.place r) (l.upper r) (m.regs j) (value regs j) (register t.hart.regs j)) (sym kept.regs)
-            (ready.alike.regs j lives);
-        values = λ j lives. subst (λ (regs : Values). HoldsWord (value regs j)) (sym kept.regs) (ready.alike.values j lives);
+            (premises.alike.regs j lives);
+        values = λ j lives. subst (λ (regs : Values). HoldsWord (value regs j)) (sym kept.regs) (premises.alike.values j lives);
         fixed = memories.fixed;
         cells = memories.cells;
         fixed_words = memories.fixed_words;
         cell_words = memories.cell_words;
         still = memories.still;
-        map = ready.alike.map;
-        going = ready.alike.going;
-        source_going = kept.outcome ∙ ready.alike.source_going;
+        map = premises.alike.map;
+        going = premises.alike.going;
+        source_going = kept.outcome ∙ premises.alike.source_going;
         words = record {
           hart = record {
-            pc = ready.alike.words.hart.pc;
-            regs = ready.alike.words.hart.regs;
+            pc = premises.alike.words.hart.pc;
+            regs = premises.alike.words.hart.regs;
             mem = memories.bytes;
           };
           input = All-drop IsByte k s.input source_input;
         };
         input = refl;
-        output = ready.alike.output ∙ sym kept.output;
+        output = premises.alike.output ∙ sym kept.output;
       }
 
   unwritten_on : (k : ℕ) → k < 4294967296 → (o : Option ℕ) → first_below (unwritten p s) k ≡ o → Carries p l live arrive r s m (reads_into p s k o) (read_as k s.input)
@@ -257,16 +257,16 @@ module _ (p : Program) (l : Setup) (live arrive : ℕ → ℕ → Type 0) (r : �
       λ i before. read_too p (byte_place p (a1 s) i) (none_at (unwritten p s) k i before none) in
       subst (λ test. Carries p l live arrive r s m (reads_into p s k None) (if test then flat.answered (with_bytes k s.input) k else trap t))
       (sym (can_move_all k free))
-      (answers (with_input p s k) (with_bytes k s.input) k (with_taken k free) ready.at word)
+      (answers (with_input p s k) (with_bytes k s.input) k (with_taken k free) premises.at word)
   unwritten_on k word (Some why) some = λ same. tt
 
   read_call : (x : Val) → Stands p.objects (l.place r) (l.upper r) (m.regs 12) x (flat.a2 t) → Carries p l live arrive r s m (reads p s x) (flat.read t)
   read_call (Int n) stands =
-      let asked : flat.a2 t < 4294967296 = ready.alike.words.hart.regs 12 in
-      let word : taken_count s (flat.a2 t) < 4294967296 = grind (arith, nat_tests) in
-      subst (λ k. Carries p l live arrive r s m (reads_into p s (taken_count s k) (first_below (unwritten p s) (taken_count s k))) (flat.read t)) stands
-      (subst (λ (input : List ℕ). Carries p l live arrive r s m (reads_into p s (taken_count s (flat.a2 t)) (first_below (unwritten p s) (taken_count s (flat.a2 t)))) (read_as (min (flat.a2 t) (length input)) input)) (sym ready.alike.input)
-      (unwritten_on (taken_count s (flat.a2 t)) word (first_below (unwritten p s) (taken_count s (flat.a2 t))) refl))
+      let asked : flat.a2 t < 4294967296 = premises.alike.words.hart.regs 12 in
+      let word : consumed_count s (flat.a2 t) < 4294967296 = grind (arith, nat_tests) in
+      subst (λ k. Carries p l live arrive r s m (reads_into p s (consumed_count s k) (first_below (unwritten p s) (consumed_count s k))) (flat.read t)) stands
+      (subst (λ (input : List ℕ). Carries p l live arrive r s m (reads_into p s (consumed_count s (flat.a2 t)) (first_below (unwritten p s) (consumed_count s (flat.a2 t)))) (read_as (min (flat.a2 t) (length input)) input)) (sym premises.alike.input)
+      (unwritten_on (consumed_count s (flat.a2 t)) word (first_below (unwritten p s) (consumed_count s (flat.a2 t))) refl))
   read_call x stands = λ same. tt
 
   -- ---- by number
@@ -281,7 +281,7 @@ module _ (p : Program) (l : Setup) (live arrive : ℕ → ℕ → Type 0) (r : �
       (picked (flat.a7 t == 64) (writes p s (a2 s)) _ (flat.written t) _ (write_call (a2 s) (argument 12 (2, omega arith, refl)))
       (picked (flat.a7 t == 63) (reads p s (a2 s)) (answered p s s 4294967258) (flat.read t) (flat.answered t 4294967258)
       (read_call (a2 s) (argument 12 (2, omega arith, refl)))
-      (answers s t 4294967258 ready.alike ready.at (omega arith))))
+      (answers s t 4294967258 premises.alike premises.at (omega arith))))
 
   any_call : (x : Val) → Stands p.objects (l.place r) (l.upper r) (m.regs 17) x (flat.a7 t) → Carries p l live arrive r s m (calls_by p s x) (flat.call t)
   any_call (Int n) stands = subst (λ k. Carries p l live arrive r s m (calls_number p s k) (flat.call t)) stands number_call
@@ -296,11 +296,11 @@ stands_for_call : (p : Program) (l : Setup) (r u : ℕ) (site : Option Target) (
 stands_for_call p l r u None j same = same
 stands_for_call p l r u (Some target) j same = same
 
-pub call_steps : (p : Program) (l : Setup) (live arrive : ℕ → ℕ → Type 0) (r : ℕ) (s : SourceState) (m : Makers) (t : State) → StepsAs p l live arrive r s m t Ecall
-call_steps p l live arrive r s m t single ready means paired =
-    let word = ready.unit.one (Some Ecall) single means in
+pub call_steps : (p : Program) (l : Setup) (live arrive : ℕ → ℕ → Type 0) (r : ℕ) (s : SourceState) (m : Origins) (t : State) → StepsAs p l live arrive r s m t Ecall
+call_steps p l live arrive r s m t single premises means paired =
+    let word = premises.unit.one (Some Ecall) single means in
     let same = stands_for_call p l r s.pc (p.site s.pc) word.1.0 word.1.1.1.1.1 in
     let flat_means : Means word.0 Ecall = subst (λ j. Means word.0 j) same word.1.1.1.0 in
-    acts_leads p l live arrive r s m t Ecall ready single means
-    (performs_leads p l live arrive r s m t Ecall ready single means word.0 Ecall (calls_by p s (a7 s)) m word.1.1.0 flat_means
-    (call_after p l live arrive r s m t ready single means))
+    acts_leads p l live arrive r s m t Ecall premises single means
+    (performs_leads p l live arrive r s m t Ecall premises single means word.0 Ecall (calls_by p s (a7 s)) m word.1.1.0 flat_means
+    (call_after p l live arrive r s m t premises single means))

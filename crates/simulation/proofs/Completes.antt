@@ -6,7 +6,7 @@ use Rattle.cell_values.specs.Objects.{home_address}
 use Rattle.cell_values.specs.Operations.{same_chunk, low_site}
 use Rattle.cell_values.specs.declared.values.Val.{Val}
 use Rattle.cell_values.specs.declared.values.Val.TheVariants.{Addr, Hi, Unknown}
-use Rattle.cell_values.specs.Makers.{Maker, ByLui, ByAuipc, Mixed}
+use Rattle.cell_values.specs.Origins.{Origin, ByLui, ByAuipc, Mixed}
 use Rattle.cell_values.specs.Stands.{Stands, address_word, auipc_word, moved_uppers}
 use Rattle.cell_values.proofs.Sites.{low_sites_stand, paired_sites_stand}
 use Rattle.object_machine.specs.Program.{Program, Target}
@@ -20,12 +20,12 @@ some_same g h same = cc
 
 -- what a low site leaves stands, if it does where the upper part is one
 module _ (p : Program) (l : Setup) (r u : ℕ) (g : Target) (z : ℤ) where
-  abbrev Here : Maker → Maker → Val → ℕ → Type 0
+  abbrev Here : Origin → Origin → Val → ℕ → Type 0
   Here m k x w =
       IsMade p m x → finds_named (p.named u) m x ≡ true → Stands p.objects (l.place r) (l.upper r) m x w
       → Stands p.objects (l.place r) (l.upper r) k (low_site p.objects x g.object g.offset) (offset w z)
 
-  pub by_uppers : ((m k : Maker) (o d w : ℕ) → w < 4294967296 → Here m k (Hi o d) w) → Completes p l r u g z
+  pub by_uppers : ((m k : Origin) (o d w : ℕ) → w < 4294967296 → Here m k (Hi o d) w) → Completes p l r u g z
   by_uppers uppers m k (Hi o d) w word made found stands = uppers m k o d w word made found stands
   by_uppers uppers m k x w word made found stands = tt
 
@@ -42,7 +42,7 @@ module _ (p : Program) (l : Setup) (r u : ℕ) (g : Target) (z : ℤ) where
       (low_sites_stand p.objects (l.place r) (l.upper r) sound.fit sound.lui k (Hi o d) g.object g.offset w word by_lui))
 
   -- ---- where the words of the file stay: a site on a LUI, and one on the AUIPC that its relocation names
-  lui_completes : Sound p l r → p.named u ≡ None → z ≡ lower_half (address_word (l.place r) g.object g.offset) → (m k : Maker) (o d w : ℕ) → w < 4294967296 → Here m k (Hi o d) w
+  lui_completes : Sound p l r → p.named u ≡ None → z ≡ lower_half (address_word (l.place r) g.object g.offset) → (m k : Origin) (o d w : ℕ) → w < 4294967296 → Here m k (Hi o d) w
   lui_completes sound named is ByLui k o d w word made found stands =
       subst (λ y. Stands p.objects (l.place r) (l.upper r) k (low_site p.objects (Hi o d) g.object g.offset) (offset w y))
       (sym is)
@@ -56,7 +56,7 @@ module _ (p : Program) (l : Setup) (r u : ℕ) (g : Target) (z : ℤ) where
   kept_completes sound named is = by_uppers (lui_completes sound named is)
 
   module _ (a : ℕ) (named : p.named u ≡ Some a) (site : p.site a ≡ Some g) (makes : l.upper r (ByAuipc a) g.object g.offset ≡ Some (auipc_word (l.place r) a g.object g.offset)) (below : a < 4294967296) (is : z ≡ lower_half (minus (address_word (l.place r) g.object g.offset) a)) where
-    address_made : (k : Maker) (w : ℕ) → Stands p.objects (l.place r) (l.upper r) (ByAuipc a) (Hi g.object g.offset) w → Stands p.objects (l.place r) (l.upper r) k (low_site p.objects (Hi g.object g.offset) g.object g.offset) (offset w z)
+    address_made : (k : Origin) (w : ℕ) → Stands p.objects (l.place r) (l.upper r) (ByAuipc a) (Hi g.object g.offset) w → Stands p.objects (l.place r) (l.upper r) k (low_site p.objects (Hi g.object g.offset) g.object g.offset) (offset w z)
     address_made k w stands =
         let word : w ≡ auipc_word (l.place r) a g.object g.offset = rw makes at stands in
         let whole = paired_sites_stand (l.place r) a g.object g.offset below in
@@ -64,7 +64,7 @@ module _ (p : Program) (l : Setup) (r u : ℕ) (g : Target) (z : ℤ) where
         cond_both ((g.object == g.object) && same_chunk p.objects.grain (home_address p.objects g.object g.offset) (home_address p.objects g.object g.offset))
         (Addr g.object g.offset) Unknown (λ x. Stands p.objects (l.place r) (l.upper r) k x (offset w z)) (λ near. made) (λ far. tt)
 
-    auipc_completes : (m k : Maker) (o d w : ℕ) → w < 4294967296 → Here m k (Hi o d) w
+    auipc_completes : (m k : Origin) (o d w : ℕ) → w < 4294967296 → Here m k (Hi o d) w
     auipc_completes ByLui k o d w word made found stands =
         let other : finds_named (Some a) ByLui (Hi o d) ≡ true = rw named at found in absurd (cc)
     auipc_completes Mixed k o d w word made found stands =

@@ -5,7 +5,7 @@ use Rattle.rv_decode.specs.declared.instructions.Instr.TheVariants.{Lui, Auipc, 
 use Rattle.flat_machine.specs.State.{State}
 use Rattle.object_machine.specs.Program.{Program}
 use Rattle.object_machine.specs.State.{SourceState}
-use Rattle.object_machine.specs.Paired.{Makers}
+use Rattle.object_machine.specs.Paired.{Origins}
 use Rattle.simulation.specs.Setups.{Setup}
 use Rattle.simulation.proofs.OneUnit.{StepsOn, StepsAs}
 use Rattle.simulation.proofs.Uppers.{lui_steps, auipc_steps}
@@ -16,7 +16,7 @@ use Rattle.simulation.proofs.Loads.{load_steps}
 use Rattle.simulation.proofs.Stores.{store_steps}
 use Rattle.simulation.proofs.Calls.{call_steps}
 
-module _ (p : Program) (l : Setup) (live arrive : ℕ → ℕ → Type 0) (r : ℕ) (s : SourceState) (m : Makers) (t : State) where
+module _ (p : Program) (l : Setup) (live arrive : ℕ → ℕ → Type 0) (r : ℕ) (s : SourceState) (m : Origins) (t : State) where
   steps_as : (i : Instr) → StepsAs p l live arrive r s m t i
   steps_as (Lui rd n) = lui_steps p l live arrive r s m t rd n
   steps_as (Auipc rd n) = auipc_steps p l live arrive r s m t rd n

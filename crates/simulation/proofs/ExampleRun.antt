@@ -19,7 +19,7 @@ use Rattle.cell_values.specs.Objects.{Objects}
 use Rattle.cell_values.specs.Laws.{HoldsWord}
 use Rattle.cell_values.specs.declared.values.Val.TheVariants.{Int}
 use Rattle.cell_values.specs.declared.values.Cell.TheVariants.{Byte}
-use Rattle.cell_values.specs.Makers.{ByLui}
+use Rattle.cell_values.specs.Origins.{ByLui}
 use Rattle.cell_values.specs.Stands.{Places, Stands, kept_uppers}
 use Rattle.cell_values.proofs.Makes.{kept_uppers_make}
 use Rattle.object_machine.specs.declared.events.Outcome.TheVariants.{GoesOn}
@@ -103,7 +103,7 @@ sound =
         congruent = λ o. grind (arith, nat_tests);
         positive = λ o. grind (arith, nat_tests);
         below = λ o. grind (arith, nat_tests);
-        apart = λ o q i j other first second same. grind (arith, nat_tests);
+        disjoint = λ o q i j other first second same. grind (arith, nat_tests);
       };
       lui = (kept_uppers_make place).0;
       upper_words = (kept_uppers_make place).1;

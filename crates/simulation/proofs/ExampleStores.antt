@@ -21,7 +21,7 @@ use Rattle.cell_values.specs.Laws.{HoldsWord}
 use Rattle.cell_values.specs.declared.values.Val.{Val}
 use Rattle.cell_values.specs.declared.values.Val.TheVariants.{Int}
 use Rattle.cell_values.specs.declared.values.Cell.TheVariants.{Byte}
-use Rattle.cell_values.specs.Makers.{ByLui}
+use Rattle.cell_values.specs.Origins.{ByLui}
 use Rattle.cell_values.specs.Stands.{Places, Fit, Stands, moved_uppers}
 use Rattle.cell_values.proofs.Makes.{moved_uppers_make}
 use Rattle.cell_values.specs.Cells.{put_at}
@@ -100,7 +100,7 @@ objects_fit =
       congruent = λ o. grind (arith, nat_tests);
       positive = λ o. grind (arith, nat_tests);
       below = λ o. grind (arith, nat_tests);
-      apart = λ o q i j other first second same. grind (arith, nat_tests);
+      disjoint = λ o q i j other first second same. grind (arith, nat_tests);
     }
 
 site_small : (test : Bool) (t : Target) → (if test then Some target else None) ≡ Some t → t.offset < 4294967296

@@ -13,7 +13,7 @@ use Rattle.flat_machine.specs.State.{State}
 use Rattle.flat_machine.specs.Step.{performed}
 use Rattle.flat_machine.specs.Sizes.{HasWords}
 use Rattle.cell_values.specs.Laws.{HoldsWord}
-use Rattle.cell_values.specs.Makers.{Maker}
+use Rattle.cell_values.specs.Origins.{Origin}
 use Rattle.cell_values.specs.Stands.{Stands, CellStands, CellHoldsWord}
 use Rattle.cell_values.proofs.Loads.{join_stands, pieces_stand, halves_stand}
 use Rattle.cell_values.proofs.Keeps.{cells_keep_words}
@@ -24,19 +24,19 @@ use Rattle.object_machine.specs.Places.{Where, InFixed, InObject, Nowhere, read_
 use Rattle.object_machine.specs.Memory.{cell_at, loaded_value}
 use Rattle.object_machine.specs.Flow.{falls_on}
 use Rattle.object_machine.specs.Step.{Reads, acts, load_place, loads_from}
-use Rattle.object_machine.specs.Paired.{Makers, maker_at, loaded_maker, made_in, is_paired_site}
+use Rattle.object_machine.specs.Paired.{Origins, origin_at, loaded_origin, made_in, is_paired_site}
 use Rattle.simulation.specs.Setups.{Setup, Sound}
 use Rattle.simulation.specs.Made.{IsMade}
 use Rattle.simulation.specs.Units.{StandsAt, StandsFor, OneWordAt}
 use Rattle.simulation.specs.Relation.{Alike, After, Leads}
-use Rattle.simulation.proofs.OneUnit.{Ready, StepsAs}
-use Rattle.simulation.proofs.Steps.{ready_fetches, fetched_words, fault_leads, falls_leads, after_going, put_there, put_other, with_writes, wrote_on, one_read, one_written, paired_by, Operand, reads_on, keeps_on, acts_leads, performs_leads, falls_home}
+use Rattle.simulation.proofs.OneUnit.{StepPremises, StepsAs}
+use Rattle.simulation.proofs.Steps.{premises_fetches, fetched_words, fault_leads, falls_leads, after_going, put_there, put_other, with_writes, wrote_on, one_read, one_written, paired_by, Operand, reads_on, keeps_on, acts_leads, performs_leads, falls_home}
 use Rattle.simulation.proofs.Places.{Reaches, Goes, Offsets, IsNamed, load_is_width, goes_access, reached_below, reached_access}
 
 -- ---- what a load takes
 
-module _ (p : Program) (l : Setup) (live : ℕ → ℕ → Type 0) (r u : ℕ) (s : SourceState) (m : Makers) (t : State) (sound : Sound p l r) (alike : Alike p l live r u s m t) where
-  cell_stands : (n : ℕ) (x : Where) (at : ℕ) → Reaches p l r n x at → (i b : ℕ) → i < n → b ≡ at + i → CellStands (l.place r) (l.upper r) (maker_at m x i) (cell_at s x i) (t.hart.mem b)
+module _ (p : Program) (l : Setup) (live : ℕ → ℕ → Type 0) (r u : ℕ) (s : SourceState) (m : Origins) (t : State) (sound : Sound p l r) (alike : Alike p l live r u s m t) where
+  cell_stands : (n : ℕ) (x : Where) (at : ℕ) → Reaches p l r n x at → (i b : ℕ) → i < n → b ≡ at + i → CellStands (l.place r) (l.upper r) (origin_at m x i) (cell_at s x i) (t.hart.mem b)
   cell_stands n (InFixed a) at reached i b below is =
       let here = reached.0 in
       let same : a + i ≡ b = omega arith in
@@ -55,32 +55,32 @@ module _ (p : Program) (l : Setup) (live : ℕ → ℕ → Type 0) (r u : ℕ) (
   cell_holds n (InObject o d) at reached i below = let inside = reached.1 in alike.cell_words o (d + i) (omega arith)
   cell_holds n (Nowhere why) at reached i below = absurd reached
 
-  byte_stands : (n : ℕ) (x : Where) (at : ℕ) → Reaches p l r n x at → 0 < n → CellStands (l.place r) (l.upper r) (maker_at m x 0) (cell_at s x 0) (t.hart.mem at)
+  byte_stands : (n : ℕ) (x : Where) (at : ℕ) → Reaches p l r n x at → 0 < n → CellStands (l.place r) (l.upper r) (origin_at m x 0) (cell_at s x 0) (t.hart.mem at)
   byte_stands n x at reached some = cell_stands n x at reached 0 at some (omega arith)
 
-  later_stands : (n : ℕ) (x : Where) (at : ℕ) → Reaches p l r n x at → (i : ℕ) → i < n → CellStands (l.place r) (l.upper r) (maker_at m x i) (cell_at s x i) (t.hart.mem (plus at i))
+  later_stands : (n : ℕ) (x : Where) (at : ℕ) → Reaches p l r n x at → (i : ℕ) → i < n → CellStands (l.place r) (l.upper r) (origin_at m x i) (cell_at s x i) (t.hart.mem (plus at i))
   later_stands n x at reached i below =
       let end = reached_below p l r sound n x at (omega arith) reached in
       cell_stands n x at reached i (plus at i) below (omega arith)
 
-  pub loaded_stands : (kind : LoadKind) (x : Where) (at : ℕ) → Reaches p l r (load_width kind) x at → Stands p.objects (l.place r) (l.upper r) (loaded_maker kind m x) (loaded_value kind s x) (loaded kind t.hart.mem at)
+  pub loaded_stands : (kind : LoadKind) (x : Where) (at : ℕ) → Reaches p l r (load_width kind) x at → Stands p.objects (l.place r) (l.upper r) (loaded_origin kind m x) (loaded_value kind s x) (loaded kind t.hart.mem at)
   loaded_stands Lb x at reached =
-      (pieces_stand p.objects (l.place r) (l.upper r) (maker_at m x 0) (cell_at s x 0) (t.hart.mem at)
+      (pieces_stand p.objects (l.place r) (l.upper r) (origin_at m x 0) (cell_at s x 0) (t.hart.mem at)
       (alike.words.hart.mem at) (byte_stands 1 x at reached (omega arith))).1
   loaded_stands Lbu x at reached =
-      (pieces_stand p.objects (l.place r) (l.upper r) (maker_at m x 0) (cell_at s x 0) (t.hart.mem at)
+      (pieces_stand p.objects (l.place r) (l.upper r) (origin_at m x 0) (cell_at s x 0) (t.hart.mem at)
       (alike.words.hart.mem at) (byte_stands 1 x at reached (omega arith))).0
   loaded_stands Lh x at reached =
-      (halves_stand p.objects (l.place r) (l.upper r) (maker_at m x 0) (maker_at m x 1) (maker_at m x 0) (cell_at s x 0)
+      (halves_stand p.objects (l.place r) (l.upper r) (origin_at m x 0) (origin_at m x 1) (origin_at m x 0) (cell_at s x 0)
       (cell_at s x 1) (t.hart.mem at) (t.hart.mem (plus at 1)) (byte_stands 2 x at reached (omega arith))
       (later_stands 2 x at reached 1 (omega arith))).1
   loaded_stands Lhu x at reached =
-      (halves_stand p.objects (l.place r) (l.upper r) (maker_at m x 0) (maker_at m x 1) (maker_at m x 0) (cell_at s x 0)
+      (halves_stand p.objects (l.place r) (l.upper r) (origin_at m x 0) (origin_at m x 1) (origin_at m x 0) (cell_at s x 0)
       (cell_at s x 1) (t.hart.mem at) (t.hart.mem (plus at 1)) (byte_stands 2 x at reached (omega arith))
       (later_stands 2 x at reached 1 (omega arith))).0
   loaded_stands Lw x at reached =
-      join_stands p.objects (l.place r) (l.upper r) sound.upper_words sound.mixes (maker_at m x 0) (maker_at m x 1)
-      (maker_at m x 2) (maker_at m x 3) (cell_at s x 0) (cell_at s x 1) (cell_at s x 2) (cell_at s x 3) (t.hart.mem at)
+      join_stands p.objects (l.place r) (l.upper r) sound.upper_words sound.mixes (origin_at m x 0) (origin_at m x 1)
+      (origin_at m x 2) (origin_at m x 3) (cell_at s x 0) (cell_at s x 1) (cell_at s x 2) (cell_at s x 3) (t.hart.mem at)
       (t.hart.mem (plus at 1)) (t.hart.mem (plus at 2)) (t.hart.mem (plus at 3)) (alike.words.hart.mem at)
       (alike.words.hart.mem (plus at 1)) (alike.words.hart.mem (plus at 2)) (alike.words.hart.mem (plus at 3))
       (byte_stands 4 x at reached (omega arith)) (later_stands 4 x at reached 1 (omega arith))
@@ -103,7 +103,7 @@ module _ (p : Program) (l : Setup) (live : ℕ → ℕ → Type 0) (r u : ℕ) (
 -- ---- the unit
 
 -- a step is paired where the base finds what the site names
-pub named_base : (p : Program) (s : SourceState) (m : Makers) (rs1 : ℕ) (site : Option Target) → IsMade p (m.regs rs1) (value s.regs rs1) → is_paired_site p s m rs1 site ≡ true → IsNamed p s.pc site (m.regs rs1) (value s.regs rs1)
+pub named_base : (p : Program) (s : SourceState) (m : Origins) (rs1 : ℕ) (site : Option Target) → IsMade p (m.regs rs1) (value s.regs rs1) → is_paired_site p s m rs1 site ≡ true → IsNamed p s.pc site (m.regs rs1) (value s.regs rs1)
 named_base p s m rs1 None made paired = tt
 named_base p s m rs1 (Some t) made paired = (made, paired)
 
@@ -112,65 +112,65 @@ stands_load : (p : Program) (l : Setup) (r u : ℕ) (kind : LoadKind) (rd rs1 : 
 stands_load p l r u kind rd rs1 imm j None is = (imm, (is, refl))
 stands_load p l r u kind rd rs1 imm j (Some t) is = is
 
-module _ (p : Program) (l : Setup) (live arrive : ℕ → ℕ → Type 0) (r : ℕ) (s : SourceState) (m : Makers) (t : State) (kind : LoadKind) (rd rs1 : ℕ) (imm : ℤ) (single : p.is_pair s.pc ≡ false) (ready : Ready p l live arrive r s m t) (reads : Reads (p.word s.pc) (Some (Load kind rd rs1 imm))) (w : ℕ) (z : ℤ) (stands : StandsAt l r s.pc w) (means : Means w (Load kind rd rs1 z)) where
+module _ (p : Program) (l : Setup) (live arrive : ℕ → ℕ → Type 0) (r : ℕ) (s : SourceState) (m : Origins) (t : State) (kind : LoadKind) (rd rs1 : ℕ) (imm : ℤ) (single : p.is_pair s.pc ≡ false) (premises : StepPremises p l live arrive r s m t) (reads : Reads (p.word s.pc) (Some (Load kind rd rs1 imm))) (w : ℕ) (z : ℤ) (stands : StandsAt l r s.pc w) (means : Means w (Load kind rd rs1 z)) where
   performs_load : (at : ℕ) → at ≡ offset (register t.hart.regs rs1) z → can_access t.map at (load_width kind) ≡ true → performed t (Load kind rd rs1 z) ≡ record t { hart = after_write t.hart rd (loaded kind t.hart.mem at) }
   performs_load at is may = let access = rw is at may in rw (is, access) refl
 
-  load_after : (x : Where) (at : ℕ) → at ≡ offset (register t.hart.regs rs1) z → at % load_width kind ≡ 0 → Reaches p l r (load_width kind) x at → acts p s (Load kind rd rs1 imm) (p.site s.pc) ≡ record (wrote s rd (loaded_value kind s x)) { pc = s.pc + 4 } → Leads 2 p l live arrive r (record (wrote s rd (loaded_value kind s x)) { pc = s.pc + 4 }) (made_in m rd (loaded_maker kind m x)) t
+  load_after : (x : Where) (at : ℕ) → at ≡ offset (register t.hart.regs rs1) z → at % load_width kind ≡ 0 → Reaches p l r (load_width kind) x at → acts p s (Load kind rd rs1 imm) (p.site s.pc) ≡ record (wrote s rd (loaded_value kind s x)) { pc = s.pc + 4 } → Leads 2 p l live arrive r (record (wrote s rd (loaded_value kind s x)) { pc = s.pc + 4 }) (made_in m rd (loaded_origin kind m x)) t
   load_after x at is aligned reached acted =
       let i : Instr = Load kind rd rs1 imm in
       let j : Instr = Load kind rd rs1 z in
       let n : SourceState = record (wrote s rd (loaded_value kind s x)) { pc = s.pc + 4 } in
-      let maker : Maker = loaded_maker kind m x in
+      let origin : Origin = loaded_origin kind m x in
       let t' : State = record t { hart = after_write t.hart rd (loaded kind t.hart.mem at) } in
       let may : can_access t.map at (load_width kind) ≡ true =
-      subst (λ q. can_access q at (load_width kind) ≡ true) (sym ready.alike.map)
-      (reached_access p l r ready.sound (load_width kind) x at aligned reached) in
+      subst (λ q. can_access q at (load_width kind) ≡ true) (sym premises.alike.map)
+      (reached_access p l r premises.sound (load_width kind) x at aligned reached) in
       let performs : performed t j ≡ t' = performs_load at is may in
       let words : HasWords t' =
       subst HasWords performs
-      (fetched_words l r s.pc w t (ready_fetches p l live arrive r s m t ready) stands j means) in
+      (fetched_words l r s.pc w t (premises_fetches p l live arrive r s m t premises) stands j means) in
       let put_stands =
       subst (λ k. Stands p.objects (l.place r) (l.upper r) k (loaded_value kind s x) (loaded kind t.hart.mem at))
-      (sym (put_there m.regs rd maker))
-      (loaded_stands p l live r s.pc s m t ready.sound ready.alike kind x at reached) in
+      (sym (put_there m.regs rd origin))
+      (loaded_stands p l live r s.pc s m t premises.sound premises.alike kind x at reached) in
       let keeps : (k : ℕ) → live (s.pc + 4) k → (k ≡ rd → ⊥) → live s.pc k =
       λ k lives other.
-      keeps_on p l live arrive r s m t i ready single reads n acted ready.alike.source_going k lives
+      keeps_on p l live arrive r s m t i premises single reads n acted premises.alike.source_going k lives
       (λ has. other (one_written rd k has)) in
-      let alike : Alike p l live r (s.pc + 4) n (made_in m rd maker) t' =
-      wrote_on p l live r s.pc (s.pc + 4) s m t ready.alike rd (loaded kind t.hart.mem at) (loaded_value kind s x)
-      (put_at m.regs rd maker) (with_register t.hart.regs rd (loaded kind t.hart.mem at)) keeps
-      (put_other m.regs rd maker) (with_writes t.hart.regs rd (loaded kind t.hart.mem at)) put_stands
-      (loaded_holds p l live r s.pc s m t ready.sound ready.alike kind x at reached) (plus t.hart.pc 4) words in
-      performs_leads p l live arrive r s m t i ready single reads w j n (made_in m rd maker) stands means
-      (subst (λ q. After n.outcome p l live arrive r n (made_in m rd maker) q) (sym performs)
-      (after_going p l live arrive r t n (made_in m rd maker) t' ready.alike.source_going alike
-      (falls_home p l live arrive r s m t i ready single reads)))
+      let alike : Alike p l live r (s.pc + 4) n (made_in m rd origin) t' =
+      wrote_on p l live r s.pc (s.pc + 4) s m t premises.alike rd (loaded kind t.hart.mem at) (loaded_value kind s x)
+      (put_at m.regs rd origin) (with_register t.hart.regs rd (loaded kind t.hart.mem at)) keeps
+      (put_other m.regs rd origin) (with_writes t.hart.regs rd (loaded kind t.hart.mem at)) put_stands
+      (loaded_holds p l live r s.pc s m t premises.sound premises.alike kind x at reached) (plus t.hart.pc 4) words in
+      performs_leads p l live arrive r s m t i premises single reads w j n (made_in m rd origin) stands means
+      (subst (λ q. After n.outcome p l live arrive r n (made_in m rd origin) q) (sym performs)
+      (after_going p l live arrive r t n (made_in m rd origin) t' premises.alike.source_going alike
+      (falls_home p l live arrive r s m t i premises single reads)))
 
-  load_on : (x : Where) (at : ℕ) → at ≡ offset (register t.hart.regs rs1) z → at % load_width kind ≡ 0 → Reaches p l r (load_width kind) x at → acts p s (Load kind rd rs1 imm) (p.site s.pc) ≡ falls_on p s (wrote s rd (loaded_value kind s x)) → Leads 2 p l live arrive r (falls_on p s (wrote s rd (loaded_value kind s x))) (made_in m rd (loaded_maker kind m x)) t
+  load_on : (x : Where) (at : ℕ) → at ≡ offset (register t.hart.regs rs1) z → at % load_width kind ≡ 0 → Reaches p l r (load_width kind) x at → acts p s (Load kind rd rs1 imm) (p.site s.pc) ≡ falls_on p s (wrote s rd (loaded_value kind s x)) → Leads 2 p l live arrive r (falls_on p s (wrote s rd (loaded_value kind s x))) (made_in m rd (loaded_origin kind m x)) t
   load_on x at is aligned reached acted =
-      falls_leads p l live arrive r t s (wrote s rd (loaded_value kind s x)) (made_in m rd (loaded_maker kind m x))
+      falls_leads p l live arrive r t s (wrote s rd (loaded_value kind s x)) (made_in m rd (loaded_origin kind m x))
       (λ falls. load_after x at is aligned reached (acted ∙ falls))
 
-  load_leads : (x : Where) → acts p s (Load kind rd rs1 imm) (p.site s.pc) ≡ loads_from p s kind rd x (read_fault x) → Goes p l r (load_width kind) x (offset (register t.hart.regs rs1) z) → Leads 2 p l live arrive r (loads_from p s kind rd x (read_fault x)) (made_in m rd (loaded_maker kind m x)) t
+  load_leads : (x : Where) → acts p s (Load kind rd rs1 imm) (p.site s.pc) ≡ loads_from p s kind rd x (read_fault x) → Goes p l r (load_width kind) x (offset (register t.hart.regs rs1) z) → Leads 2 p l live arrive r (loads_from p s kind rd x (read_fault x)) (made_in m rd (loaded_origin kind m x)) t
   load_leads (InFixed a) acted goes = load_on (InFixed a) (offset (register t.hart.regs rs1) z) refl goes.0 goes.1 acted
   load_leads (InObject o d) acted goes =
       load_on (InObject o d) (offset (register t.hart.regs rs1) z) refl goes.0 goes.1 acted
   load_leads (Nowhere why) acted goes =
-      fault_leads p l live arrive r t (faulted s why) (made_in m rd (loaded_maker kind m (Nowhere why))) s.pc why refl
+      fault_leads p l live arrive r t (faulted s why) (made_in m rd (loaded_origin kind m (Nowhere why))) s.pc why refl
 
-pub load_steps : (p : Program) (l : Setup) (live arrive : ℕ → ℕ → Type 0) (r : ℕ) (s : SourceState) (m : Makers) (t : State) (kind : LoadKind) (rd rs1 : ℕ) (imm : ℤ) → StepsAs p l live arrive r s m t (Load kind rd rs1 imm)
-load_steps p l live arrive r s m t kind rd rs1 imm single ready reads paired =
+pub load_steps : (p : Program) (l : Setup) (live arrive : ℕ → ℕ → Type 0) (r : ℕ) (s : SourceState) (m : Origins) (t : State) (kind : LoadKind) (rd rs1 : ℕ) (imm : ℤ) → StepsAs p l live arrive r s m t (Load kind rd rs1 imm)
+load_steps p l live arrive r s m t kind rd rs1 imm single premises reads paired =
     let i : Instr = Load kind rd rs1 imm in
-    let home : OneWordAt p l r s.pc (Some i) = ready.unit.one (Some i) single reads in
+    let home : OneWordAt p l r s.pc (Some i) = premises.unit.one (Some i) single reads in
     let found = stands_load p l r s.pc kind rd rs1 imm home.1.0 (p.site s.pc) home.1.1.1.1.1 in
     let means = subst (λ q. Means home.0 q) found.1.0 home.1.1.1.0 in
-    let base : Operand p l r rs1 s m t = reads_on p l live arrive r s m t i ready single reads rs1 (one_read rs1) in
-    let named = named_base p s m rs1 (p.site s.pc) (ready.made.regs rs1) (paired_by p s m i single paired) in
+    let base : Operand p l r rs1 s m t = reads_on p l live arrive r s m t i premises single reads rs1 (one_read rs1) in
+    let named = named_base p s m rs1 (p.site s.pc) (premises.made.regs rs1) (paired_by p s m i single paired) in
     let goes =
-    goes_access p l r ready.sound (load_width kind) (load_is_width kind) s.pc (p.site s.pc) (m.regs rs1)
+    goes_access p l r premises.sound (load_width kind) (load_is_width kind) s.pc (p.site s.pc) (m.regs rs1)
     (value s.regs rs1) (register t.hart.regs rs1) imm found.0 base.word found.1.1 named base.stands in
-    acts_leads p l live arrive r s m t i ready single reads
-    (load_leads p l live arrive r s m t kind rd rs1 imm single ready reads home.0 found.0 home.1.1.0 means
+    acts_leads p l live arrive r s m t i premises single reads
+    (load_leads p l live arrive r s m t kind rd rs1 imm single premises reads home.0 found.0 home.1.1.0 means
     (load_place p s kind rs1 imm (p.site s.pc)) refl goes)

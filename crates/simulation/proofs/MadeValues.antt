@@ -15,7 +15,7 @@ use Rattle.cell_values.specs.declared.values.Val.{Val}
 use Rattle.cell_values.specs.declared.values.Val.TheVariants.{Int, Addr, Hi, Low, Piece, Unknown}
 use Rattle.cell_values.specs.declared.values.Cell.{Cell}
 use Rattle.cell_values.specs.declared.values.Cell.TheVariants.{Byte, Part, Mist}
-use Rattle.cell_values.specs.Makers.{Maker, ByLui, ByAuipc, Mixed, same_maker, joined_maker}
+use Rattle.cell_values.specs.Origins.{Origin, ByLui, ByAuipc, Mixed, same_origin, joined_origin}
 use Rattle.cell_values.proofs.Stores.{first_cells}
 use Rattle.object_machine.specs.Program.{Program}
 use Rattle.object_machine.specs.State.{Cells}
@@ -29,10 +29,10 @@ IsNoPart (Hi o d) = ⊥
 IsNoPart (Piece hi o d k) = ⊥
 IsNoPart x = Unit {0}
 
-pub no_part_made : (p : Program) (maker : Maker) (x : Val) → IsNoPart x → IsMade p maker x
-no_part_made p maker (Hi o d) none = absurd none
-no_part_made p maker (Piece hi o d k) none = absurd none
-no_part_made p maker x none = tt
+pub no_part_made : (p : Program) (origin : Origin) (x : Val) → IsNoPart x → IsMade p origin x
+no_part_made p origin (Hi o d) none = absurd none
+no_part_made p origin (Piece hi o d k) none = absurd none
+no_part_made p origin x none = tt
 
 pub chosen : (test : Bool) (x y : Val) → IsNoPart x → IsNoPart y → IsNoPart (if test then x else y)
 chosen true x y first second = first
@@ -119,50 +119,50 @@ module _ (os : Objects) where
 -- ---- loads
 
 module _ (p : Program) where
-  pub byte_made : (extend : ℕ → ℕ) (maker : Maker) (c : Cell) → CellIsMade p maker c → IsMade p maker (byte_value extend c)
-  byte_made extend maker (Byte b) made = tt
-  byte_made extend maker (Part true o d k) made = made
-  byte_made extend maker (Part false o d k) made = tt
-  byte_made extend maker Mist made = tt
+  pub byte_made : (extend : ℕ → ℕ) (origin : Origin) (c : Cell) → CellIsMade p origin c → IsMade p origin (byte_value extend c)
+  byte_made extend origin (Byte b) made = tt
+  byte_made extend origin (Part true o d k) made = made
+  byte_made extend origin (Part false o d k) made = tt
+  byte_made extend origin Mist made = tt
 
-  pub half_made : (extend : ℕ → ℕ) (maker : Maker) (c d : Cell) → IsMade p maker (half_value extend c d)
-  half_made extend maker (Byte a) (Byte b) = tt
-  half_made extend maker c d = tt
+  pub half_made : (extend : ℕ → ℕ) (origin : Origin) (c d : Cell) → IsMade p origin (half_value extend c d)
+  half_made extend origin (Byte a) (Byte b) = tt
+  half_made extend origin c d = tt
 
-  -- of parts of one word that have two makers, an AUIPC made one
-  two_makers : (a b : Maker) (o d : ℕ) → same_maker a b ≡ false → MakesPart p a o d → MakesPart p b o d → MakesPart p Mixed o d
-  two_makers ByLui ByLui o d other first second = absurd (cc)
-  two_makers (ByAuipc a) b o d other first second = (a, first)
-  two_makers Mixed b o d other first second = first
-  two_makers ByLui (ByAuipc b) o d other first second = (b, second)
-  two_makers ByLui Mixed o d other first second = second
+  -- of parts of one word that have two origins, an AUIPC made one
+  two_origins : (a b : Origin) (o d : ℕ) → same_origin a b ≡ false → MakesPart p a o d → MakesPart p b o d → MakesPart p Mixed o d
+  two_origins ByLui ByLui o d other first second = absurd (cc)
+  two_origins (ByAuipc a) b o d other first second = (a, first)
+  two_origins Mixed b o d other first second = first
+  two_origins ByLui (ByAuipc b) o d other first second = (b, second)
+  two_origins ByLui Mixed o d other first second = second
 
-  joined_made : (a b c e : Maker) (o d : ℕ) → MakesPart p a o d → MakesPart p b o d → MakesPart p c o d → MakesPart p e o d → IsMade p (joined_maker a b c e) (Hi o d)
+  joined_made : (a b c e : Origin) (o d : ℕ) → MakesPart p a o d → MakesPart p b o d → MakesPart p c o d → MakesPart p e o d → IsMade p (joined_origin a b c e) (Hi o d)
   joined_made a b c e o d first second third fourth =
-      by_tests (same_maker a b) (same_maker a c) (same_maker a e) refl refl refl
+      by_tests (same_origin a b) (same_origin a c) (same_origin a e) refl refl refl
     where
-      by_tests : (x y z : Bool) → same_maker a b ≡ x → same_maker a c ≡ y → same_maker a e ≡ z → MakesPart p (if x && y && z then a else Mixed) o d
+      by_tests : (x y z : Bool) → same_origin a b ≡ x → same_origin a c ≡ y → same_origin a e ≡ z → MakesPart p (if x && y && z then a else Mixed) o d
       by_tests true true true ab ac ae = first
-      by_tests true true false ab ac ae = two_makers a e o d ae first fourth
-      by_tests true false z ab ac ae = two_makers a c o d ac first third
-      by_tests false y z ab ac ae = two_makers a b o d ab first second
+      by_tests true true false ab ac ae = two_origins a e o d ae first fourth
+      by_tests true false z ab ac ae = two_origins a c o d ac first third
+      by_tests false y z ab ac ae = two_origins a b o d ab first second
 
-  part_made : (maker : Maker) (o d j : ℕ) (c : Cell) → is_part true o d j c ≡ true → CellIsMade p maker c → MakesPart p maker o d
-  part_made maker o d j (Part true q e k) is made =
+  part_made : (origin : Origin) (o d j : ℕ) (c : Cell) → is_part true o d j c ≡ true → CellIsMade p origin c → MakesPart p origin o d
+  part_made origin o d j (Part true q e k) is made =
       let two = both ((o == q) && (d == e)) (j == k) is in
       let one = both (o == q) (d == e) two.0 in
       let object : q ≡ o = sym (eqb-true o q one.0) in
       let offset : e ≡ d = sym (eqb-true d e one.1) in
-      subst (λ (x : ℕ). MakesPart p maker o x) offset (subst (λ (x : ℕ). MakesPart p maker x e) object made)
-  part_made maker o d j (Part false q e k) is made = absurd (cc)
-  part_made maker o d j (Byte b) is made = absurd (cc)
-  part_made maker o d j Mist is made = absurd (cc)
+      subst (λ (x : ℕ). MakesPart p origin o x) offset (subst (λ (x : ℕ). MakesPart p origin x e) object made)
+  part_made origin o d j (Part false q e k) is made = absurd (cc)
+  part_made origin o d j (Byte b) is made = absurd (cc)
+  part_made origin o d j Mist is made = absurd (cc)
 
-  pub join_made : (a b c e : Maker) (first second third fourth : Cell) → CellIsMade p a first → CellIsMade p b second → CellIsMade p c third → CellIsMade p e fourth → IsMade p (joined_maker a b c e) (join first second third fourth)
+  pub join_made : (a b c e : Origin) (first second third fourth : Cell) → CellIsMade p a first → CellIsMade p b second → CellIsMade p c third → CellIsMade p e fourth → IsMade p (joined_origin a b c e) (join first second third fourth)
   join_made a b c e (Byte i) (Byte j) (Byte k) (Byte n) made made2 made3 made4 = tt
   join_made a b c e (Part true o d k) second third fourth made made2 made3 made4 =
       cond_both ((k == 0) && is_part true o d 1 second && is_part true o d 2 third && is_part true o d 3 fourth)
-      (whole_word true o d) Unknown (IsMade p (joined_maker a b c e))
+      (whole_word true o d) Unknown (IsMade p (joined_origin a b c e))
       (λ parts.
       let three = both ((k == 0) && is_part true o d 1 second && is_part true o d 2 third) (is_part true o d 3 fourth) parts in
       let two = both ((k == 0) && is_part true o d 1 second) (is_part true o d 2 third) three.0 in
@@ -172,44 +172,44 @@ module _ (p : Program) where
       (λ other. tt)
   join_made a b c e (Part false o d k) second third fourth made made2 made3 made4 =
       cond_both ((k == 0) && is_part false o d 1 second && is_part false o d 2 third && is_part false o d 3 fourth)
-      (whole_word false o d) Unknown (IsMade p (joined_maker a b c e)) (λ parts. tt) (λ other. tt)
+      (whole_word false o d) Unknown (IsMade p (joined_origin a b c e)) (λ parts. tt) (λ other. tt)
   join_made a b c e first second third fourth made made2 made3 made4 = tt
 
   -- ---- stores
 
-  pub split_made : (maker : Maker) (x : Val) → IsMade p maker x → (k : ℕ) → k < 4 → CellIsMade p maker (slice_index_or (split x) k Mist)
-  split_made maker (Int n) made =
-      first_cells (λ k. CellIsMade p maker (slice_index_or (split (Int n)) k Mist)) tt tt tt tt
-  split_made maker (Addr o d) made =
-      first_cells (λ k. CellIsMade p maker (slice_index_or (split (Addr o d)) k Mist)) tt tt tt tt
-  split_made maker (Hi o d) made =
-      first_cells (λ k. CellIsMade p maker (slice_index_or (split (Hi o d)) k Mist)) made made made made
-  split_made maker (Low n) made =
-      first_cells (λ k. CellIsMade p maker (slice_index_or (split (Low n)) k Mist)) tt tt tt tt
-  split_made maker (Piece true o d j) made =
-      first_cells (λ k. CellIsMade p maker (slice_index_or (split (Piece true o d j)) k Mist)) made tt tt tt
-  split_made maker (Piece false o d j) made =
-      first_cells (λ k. CellIsMade p maker (slice_index_or (split (Piece false o d j)) k Mist)) tt tt tt tt
-  split_made maker Unknown made =
-      first_cells (λ k. CellIsMade p maker (slice_index_or (split Unknown) k Mist)) tt tt tt tt
+  pub split_made : (origin : Origin) (x : Val) → IsMade p origin x → (k : ℕ) → k < 4 → CellIsMade p origin (slice_index_or (split x) k Mist)
+  split_made origin (Int n) made =
+      first_cells (λ k. CellIsMade p origin (slice_index_or (split (Int n)) k Mist)) tt tt tt tt
+  split_made origin (Addr o d) made =
+      first_cells (λ k. CellIsMade p origin (slice_index_or (split (Addr o d)) k Mist)) tt tt tt tt
+  split_made origin (Hi o d) made =
+      first_cells (λ k. CellIsMade p origin (slice_index_or (split (Hi o d)) k Mist)) made made made made
+  split_made origin (Low n) made =
+      first_cells (λ k. CellIsMade p origin (slice_index_or (split (Low n)) k Mist)) tt tt tt tt
+  split_made origin (Piece true o d j) made =
+      first_cells (λ k. CellIsMade p origin (slice_index_or (split (Piece true o d j)) k Mist)) made tt tt tt
+  split_made origin (Piece false o d j) made =
+      first_cells (λ k. CellIsMade p origin (slice_index_or (split (Piece false o d j)) k Mist)) tt tt tt tt
+  split_made origin Unknown made =
+      first_cells (λ k. CellIsMade p origin (slice_index_or (split Unknown) k Mist)) tt tt tt tt
 
-  -- cells and makers that change at the same places
-  pub changed_made : (old new : Cells) (old_makers new_makers : ℕ → Maker) (k n : ℕ) (xs : ℕ → Cell) (maker : Maker) → ChangedIn old new k n xs → ChangedIn old_makers new_makers k n (λ i. maker) → ((a : ℕ) → CellIsMade p (old_makers a) (old a)) → ((i : ℕ) → i < n → CellIsMade p maker (xs i)) → (a : ℕ) → CellIsMade p (new_makers a) (new a)
-  changed_made old new old_makers new_makers k n xs maker cells makers before put a =
+  -- cells and origins that change at the same places
+  pub changed_made : (old new : Cells) (old_origins new_origins : ℕ → Origin) (k n : ℕ) (xs : ℕ → Cell) (origin : Origin) → ChangedIn old new k n xs → ChangedIn old_origins new_origins k n (λ i. origin) → ((a : ℕ) → CellIsMade p (old_origins a) (old a)) → ((i : ℕ) → i < n → CellIsMade p origin (xs i)) → (a : ℕ) → CellIsMade p (new_origins a) (new a)
+  changed_made old new old_origins new_origins k n xs origin cells origins before put a =
       elim (cases_lt a k) [
         | inl low ↦ elsewhere (λ i below same. omega arith)
         | inr high ↦ elim (cases_lt (a - k) n) [ inl below ↦ here below high | inr beyond ↦ elsewhere (λ i below same. omega arith) ]
       ]
     where
-      elsewhere : ((i : ℕ) → i < n → a ≡ k + i → ⊥) → CellIsMade p (new_makers a) (new a)
+      elsewhere : ((i : ℕ) → i < n → a ≡ k + i → ⊥) → CellIsMade p (new_origins a) (new a)
       elsewhere other =
           let cell = cells.outside a other in
-          let made = makers.outside a other in
+          let made = origins.outside a other in
           rw (cell, made) (before a)
 
-      here : a - k < n → k ≤ a → CellIsMade p (new_makers a) (new a)
+      here : a - k < n → k ≤ a → CellIsMade p (new_origins a) (new a)
       here below high =
           let same : k + (a - k) ≡ a = omega arith in
           let cell : new a ≡ xs (a - k) = subst (λ b. new b ≡ xs (a - k)) same (cells.inside (a - k) below) in
-          let made : new_makers a ≡ maker = subst (λ b. new_makers b ≡ maker) same (makers.inside (a - k) below) in
+          let made : new_origins a ≡ origin = subst (λ b. new_origins b ≡ origin) same (origins.inside (a - k) below) in
           rw (cell, made) (put (a - k) below)

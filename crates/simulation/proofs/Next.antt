@@ -19,7 +19,7 @@ use Rattle.object_machine.specs.State.{SourceState, value, wrote, faulted}
 use Rattle.object_machine.specs.Places.{Where, read_fault, write_fault}
 use Rattle.object_machine.specs.Memory.{loaded_value, stored_at, stored_cells}
 use Rattle.object_machine.specs.Flow.{falls_on, jumps, jumps_by, branches, pair_link, calls_pair}
-use Rattle.object_machine.specs.Calls.{a0, a2, a7, answered, exits, plain_bytes, appends, unread, writes_from, writes, taken_count, unwritten, with_input, reads_into, reads, calls_number, calls_by}
+use Rattle.object_machine.specs.Calls.{a0, a2, a7, answered, exits, plain_bytes, appends, unread, writes_from, writes, consumed_count, unwritten, with_input, reads_into, reads, calls_number, calls_by}
 use Rattle.object_machine.specs.Step.{upper_value, imm_result, loads_from, stores_to, load_place, store_place, acts, one_word, next_state}
 use Rattle.simulation.specs.Laws.{IsUnit, OfBlock, ReachedBy, Behind}
 
@@ -83,7 +83,7 @@ module _ (p : Program) (s : SourceState) (unit : IsUnit p s.pc) (single : p.is_p
   reads_into_land k (Some why) = fault_lands p s why
 
   reads_land : (x : Val) → Lands p (reads p s x)
-  reads_land (Int n) = reads_into_land (taken_count s n) (first_below (unwritten p s) (taken_count s n))
+  reads_land (Int n) = reads_into_land (consumed_count s n) (first_below (unwritten p s) (consumed_count s n))
   reads_land x = fault_lands p s 8
 
   number_lands : (n : ℕ) → Lands p (calls_number p s n)

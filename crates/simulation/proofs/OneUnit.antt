@@ -6,14 +6,14 @@ use Rattle.flat_machine.specs.State.{State}
 use Rattle.object_machine.specs.Program.{Program}
 use Rattle.object_machine.specs.State.{SourceState}
 use Rattle.object_machine.specs.Step.{Reads, next_state}
-use Rattle.object_machine.specs.Paired.{Makers, makers_after, is_paired_step}
+use Rattle.object_machine.specs.Paired.{Origins, origins_after, is_paired_step}
 use Rattle.simulation.specs.Setups.{Setup, Sound}
 use Rattle.simulation.specs.Made.{AreMade}
 use Rattle.simulation.specs.Relation.{Alike, Leads}
 use Rattle.simulation.specs.Rules.{LiveRules, UnitAt}
 
 -- both machines are at the home of a unit
-pub record Ready (p : Program) (l : Setup) (live arrive : ℕ → ℕ → Type 0) (r : ℕ) (s : SourceState) (m : Makers) (t : State) : Type 0 where
+pub record StepPremises (p : Program) (l : Setup) (live arrive : ℕ → ℕ → Type 0) (r : ℕ) (s : SourceState) (m : Origins) (t : State) : Type 0 where
   pub sound : Sound p l r
   pub unit : UnitAt p l r s.pc
   pub rules : LiveRules p live
@@ -23,11 +23,11 @@ pub record Ready (p : Program) (l : Setup) (live arrive : ℕ → ℕ → Type 0
   pub at : t.hart.pc ≡ s.pc
 
 -- a paired step that reads this leads on
-abbrev pub StepsOn : Program → Setup → (ℕ → ℕ → Type 0) → (ℕ → ℕ → Type 0) → ℕ → SourceState → Makers → State → Option Instr → Type 0
+abbrev pub StepsOn : Program → Setup → (ℕ → ℕ → Type 0) → (ℕ → ℕ → Type 0) → ℕ → SourceState → Origins → State → Option Instr → Type 0
 StepsOn p l live arrive r s m t read =
-    Ready p l live arrive r s m t → Reads (p.word s.pc) read → is_paired_step p s m read ≡ true
-    → Leads 2 p l live arrive r (next_state p s read) (makers_after p s m read) t
+    StepPremises p l live arrive r s m t → Reads (p.word s.pc) read → is_paired_step p s m read ≡ true
+    → Leads 2 p l live arrive r (next_state p s read) (origins_after p s m read) t
 
 -- one that is an instruction, and no call of two words
-abbrev pub StepsAs : Program → Setup → (ℕ → ℕ → Type 0) → (ℕ → ℕ → Type 0) → ℕ → SourceState → Makers → State → Instr → Type 0
+abbrev pub StepsAs : Program → Setup → (ℕ → ℕ → Type 0) → (ℕ → ℕ → Type 0) → ℕ → SourceState → Origins → State → Instr → Type 0
 StepsAs p l live arrive r s m t i = p.is_pair s.pc ≡ false → StepsOn p l live arrive r s m t (Some i)

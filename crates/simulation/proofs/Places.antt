@@ -19,7 +19,7 @@ use Rattle.cell_values.specs.Objects.{IsGrain, home_address}
 use Rattle.cell_values.specs.Operations.{op_imm, low_site}
 use Rattle.cell_values.specs.declared.values.Val.{Val}
 use Rattle.cell_values.specs.declared.values.Val.TheVariants.{Int, Addr, Hi, Low, Piece, Unknown}
-use Rattle.cell_values.specs.Makers.{Maker}
+use Rattle.cell_values.specs.Origins.{Origin}
 use Rattle.cell_values.specs.Stands.{Stands, address_word}
 use Rattle.object_machine.specs.Program.{Program, Target}
 use Rattle.object_machine.specs.Places.{Where, InFixed, InObject, Nowhere, fault_from, in_fixed, located, address_of}
@@ -45,7 +45,7 @@ Offsets p l r u None imm z = z ≡ imm
 Offsets p l r u (Some t) imm z = Completes p l r u t z
 
 -- the base of a site finds the upper part that its relocation names
-abbrev pub IsNamed : Program → ℕ → Option Target → Maker → Val → Type 0
+abbrev pub IsNamed : Program → ℕ → Option Target → Origin → Val → Type 0
 IsNamed p u None m x = Unit {0}
 IsNamed p u (Some t) m x = IsMade p m x × (finds_named (p.named u) m x ≡ true)
 
@@ -125,7 +125,7 @@ module _ (p : Program) (l : Setup) (r : ℕ) (sound : Sound p l r) where
       (λ other. tt)
 
   -- a value that an address may be
-  pub goes_value : (width : ℕ) → IsWidth width → (m : Maker) (x : Val) (at : ℕ) → Stands p.objects (l.place r) (l.upper r) m x at → Goes p l r width (located p width x) at
+  pub goes_value : (width : ℕ) → IsWidth width → (m : Origin) (x : Val) (at : ℕ) → Stands p.objects (l.place r) (l.upper r) m x at → Goes p l r width (located p width x) at
   goes_value width wide m (Int a) at stands = goes_number width a at stands
   goes_value width wide m (Addr o d) at stands = goes_object width wide o d at stands
   goes_value width wide m (Hi o d) at stands = tt
@@ -134,7 +134,7 @@ module _ (p : Program) (l : Setup) (r : ℕ) (sound : Sound p l r) where
   goes_value width wide m Unknown at stands = tt
 
   -- without a site numbers and addresses alone go somewhere
-  goes_plain : (width : ℕ) → IsWidth width → (m : Maker) (x : Val) (w : ℕ) (imm : ℤ) → Stands p.objects (l.place r) (l.upper r) m x w → Goes p l r width (located p width (op_imm p.objects Addi x imm)) (offset w imm)
+  goes_plain : (width : ℕ) → IsWidth width → (m : Origin) (x : Val) (w : ℕ) (imm : ℤ) → Stands p.objects (l.place r) (l.upper r) m x w → Goes p l r width (located p width (op_imm p.objects Addi x imm)) (offset w imm)
   goes_plain width wide m (Int a) w imm stands = goes_number width (offset a imm) (offset w imm) (rw stands refl)
   goes_plain width wide m (Addr o d) w imm stands = goes_object width wide o (offset d imm) (offset w imm) (omega arith)
   goes_plain width wide m (Hi o d) w imm stands = tt
@@ -142,7 +142,7 @@ module _ (p : Program) (l : Setup) (r : ℕ) (sound : Sound p l r) where
   goes_plain width wide m (Piece hi o d k) w imm stands = tt
   goes_plain width wide m Unknown w imm stands = tt
 
-  pub goes_access : (width : ℕ) → IsWidth width → (u : ℕ) (site : Option Target) (m : Maker) (x : Val) (w : ℕ) (imm z : ℤ) → w < 4294967296 → Offsets p l r u site imm z → IsNamed p u site m x → Stands p.objects (l.place r) (l.upper r) m x w → Goes p l r width (located p width (address_of p site x imm)) (offset w z)
+  pub goes_access : (width : ℕ) → IsWidth width → (u : ℕ) (site : Option Target) (m : Origin) (x : Val) (w : ℕ) (imm z : ℤ) → w < 4294967296 → Offsets p l r u site imm z → IsNamed p u site m x → Stands p.objects (l.place r) (l.upper r) m x w → Goes p l r width (located p width (address_of p site x imm)) (offset w z)
   goes_access width wide u None m x w imm z word offsets named stands = rw offsets (goes_plain width wide m x w imm stands)
   goes_access width wide u (Some t) m x w imm z word completes named stands =
       goes_value width wide m (low_site p.objects x t.object t.offset) (offset w z) (completes m m x w word named.0 named.1 stands)

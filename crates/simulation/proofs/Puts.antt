@@ -1,4 +1,4 @@
--- Tables of which some entries in a row are changed: memory, cells and makers after stores.
+-- Tables of which some entries in a row are changed: memory, cells and origins after stores.
 use Rattle.std.proofs.Common.{◌≡◌, ℕ, zero, suc, ◌+◌, ◌%◌, ◌<◌, ◌≤◌, List, [], ◌∷◌, length, slice_index_or, refl, sym, ◌∙◌, subst, arith}
 use Rattle.std.proofs.lemmas.Bool.Decides.{nat_tests}
 use Rattle.std.proofs.lemmas.List.{get_or-take, length-take-le}
@@ -12,10 +12,10 @@ use Rattle.cell_values.specs.declared.values.Val.{Val}
 use Rattle.cell_values.specs.declared.values.Val.TheVariants.{Int, Addr, Hi, Low, Piece, Unknown}
 use Rattle.cell_values.specs.declared.values.Cell.{Cell}
 use Rattle.cell_values.specs.declared.values.Cell.TheVariants.{Mist}
-use Rattle.cell_values.specs.Makers.{Maker}
+use Rattle.cell_values.specs.Origins.{Origin}
 use Rattle.object_machine.specs.State.{Cells}
 use Rattle.object_machine.specs.Memory.{stored_cells}
-use Rattle.object_machine.specs.Paired.{put_makers}
+use Rattle.object_machine.specs.Paired.{put_origins}
 
 -- `n` entries from `k` on are `xs`, and all others are as they were
 pub record ChangedIn {A : Type 0} (old new : ℕ → A) (k n : ℕ) (xs : ℕ → A) : Type 0 where
@@ -31,15 +31,15 @@ unfolding put_at
 put_elsewhere table k a x other = grind (arith, nat_tests)
 
 changed_none : {A : Type 0} (old : ℕ → A) (k : ℕ) (xs : ℕ → A) → ChangedIn old old k 0 xs
-changed_none old k xs = record { inside = λ i below. absurd (omega arith); outside = λ a apart. refl }
+changed_none old k xs = record { inside = λ i below. absurd (omega arith); outside = λ a disjoint. refl }
 
 -- one entry is changed before those behind it
 changed_first : {A : Type 0} (old new : ℕ → A) (k n : ℕ) (x : A) (xs : ℕ → A) → xs 0 ≡ x → ChangedIn (put_at old k x) new (k + 1) n (λ i. xs (suc i)) → ChangedIn old new k (suc n) xs
 changed_first old new k n x xs first rest = record {
   inside = at;
-  outside = λ a apart.
-      let kept = rest.outside a (λ i below same. apart (suc i) (omega arith) (omega arith)) in
-      kept ∙ put_elsewhere old k a x (λ same. apart 0 (omega arith) (omega arith));
+  outside = λ a disjoint.
+      let kept = rest.outside a (λ i below same. disjoint (suc i) (omega arith) (omega arith)) in
+      kept ∙ put_elsewhere old k a x (λ same. disjoint 0 (omega arith) (omega arith));
 }
   where
     at : (i : ℕ) → i < suc n → new (k + i) ≡ xs i
@@ -50,18 +50,18 @@ changed_first old new k n x xs first rest = record {
         let place : k + 1 + i ≡ k + suc i = omega arith in
         subst (λ a. new a ≡ xs (suc i)) place (rest.inside i (omega arith))
 
--- cells and makers that are put in a row
+-- cells and origins that are put in a row
 pub cells_changed : (cs : List Cell) (table : Cells) (k : ℕ) → ChangedIn table (put_cells table k cs) k (length cs) (λ i. slice_index_or cs i Mist)
 cells_changed [] table k = changed_none table k (λ i. slice_index_or [] i Mist)
 cells_changed (c ∷ cs) table k =
     changed_first table (put_cells (put_at table k c) (k + 1) cs) k (length cs) c (λ i. slice_index_or (c ∷ cs) i Mist) refl
     (cells_changed cs (put_at table k c) (k + 1))
 
-pub makers_changed : (n : ℕ) (table : ℕ → Maker) (k : ℕ) (maker : Maker) → ChangedIn table (put_makers table k maker n) k n (λ i. maker)
-makers_changed zero table k maker = changed_none table k (λ i. maker)
-makers_changed (suc n) table k maker =
-    changed_first table (put_makers (put_at table k maker) (k + 1) maker n) k n maker (λ i. maker) refl
-    (makers_changed n (put_at table k maker) (k + 1) maker)
+pub origins_changed : (n : ℕ) (table : ℕ → Origin) (k : ℕ) (origin : Origin) → ChangedIn table (put_origins table k origin n) k n (λ i. origin)
+origins_changed zero table k origin = changed_none table k (λ i. origin)
+origins_changed (suc n) table k origin =
+    changed_first table (put_origins (put_at table k origin) (k + 1) origin n) k n origin (λ i. origin) refl
+    (origins_changed n (put_at table k origin) (k + 1) origin)
 
 pub changed_as : {A : Type 0} (old new : ℕ → A) (k n : ℕ) (xs ys : ℕ → A) → ((i : ℕ) → i < n → xs i ≡ ys i) → ChangedIn old new k n xs → ChangedIn old new k n ys
 changed_as old new k n xs ys same changed =
@@ -106,7 +106,7 @@ byte_changed mem at byte bytes first = record { inside = inside; outside = outsi
     inside (suc i) below = absurd (omega arith)
 
     outside : (a : ℕ) → ((i : ℕ) → i < 1 → a ≡ at + i → ⊥) → put mem at byte a ≡ mem a
-    outside a apart = let none = apart 0 (omega arith) in grind (arith, nat_tests)
+    outside a disjoint = let none = disjoint 0 (omega arith) in grind (arith, nat_tests)
 
 half_changed : (mem : Memory) (at value : ℕ) → at + 2 ≤ 4294967296 → ChangedIn mem (put_half mem at value) at 2 (byte_of value)
 unfolding put
@@ -118,9 +118,9 @@ half_changed mem at value below = record { inside = inside; outside = outside }
     inside (suc (suc i)) less = absurd (omega arith)
 
     outside : (a : ℕ) → ((i : ℕ) → i < 2 → a ≡ at + i → ⊥) → put_half mem at value a ≡ mem a
-    outside a apart =
-        let first = apart 0 (omega arith) in
-        let second = apart 1 (omega arith) in
+    outside a disjoint =
+        let first = disjoint 0 (omega arith) in
+        let second = disjoint 1 (omega arith) in
         grind (arith, nat_tests)
 
 word_changed : (mem : Memory) (at value : ℕ) → at + 4 ≤ 4294967296 → ChangedIn mem (put_word mem at value) at 4 (byte_of value)
@@ -135,11 +135,11 @@ word_changed mem at value below = record { inside = inside; outside = outside }
     inside (suc (suc (suc (suc i)))) less = absurd (omega arith)
 
     outside : (a : ℕ) → ((i : ℕ) → i < 4 → a ≡ at + i → ⊥) → put_word mem at value a ≡ mem a
-    outside a apart =
-        let first = apart 0 (omega arith) in
-        let second = apart 1 (omega arith) in
-        let third = apart 2 (omega arith) in
-        let fourth = apart 3 (omega arith) in
+    outside a disjoint =
+        let first = disjoint 0 (omega arith) in
+        let second = disjoint 1 (omega arith) in
+        let third = disjoint 2 (omega arith) in
+        let fourth = disjoint 3 (omega arith) in
         grind (arith, nat_tests)
 
 pub stored_changed : (kind : StoreKind) (mem : Memory) (at value : ℕ) → at + store_width kind ≤ 4294967296 → ChangedIn mem (stored kind mem at value) at (store_width kind) (byte_of value)

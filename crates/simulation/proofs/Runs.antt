@@ -13,7 +13,7 @@ use Rattle.object_machine.specs.Program.{Program}
 use Rattle.object_machine.specs.State.{SourceState}
 use Rattle.object_machine.specs.Step.{Reads, next_state}
 use Rattle.object_machine.specs.Runs.{Steps, HasEnded}
-use Rattle.object_machine.specs.Paired.{Makers, makers_after, is_paired_step, PairedFrom, PairedSteps}
+use Rattle.object_machine.specs.Paired.{Origins, origins_after, is_paired_step, PairedFrom, PairedSteps}
 use Rattle.object_machine.proofs.RunLemmas.{ended_steps}
 use Rattle.simulation.specs.Relation.{KeepsPace}
 use Rattle.simulation.specs.Laws.{EndsAlike, Keeps}
@@ -26,18 +26,18 @@ pub record Going (s : SourceState) (t : State) : Type 0 where
   pub output : t.output ≡ s.output
 
 -- behind a step the machines are related again, or ended alike
-abbrev pub Ends : Outcome → (SourceState → Makers → State → Type 0) → SourceState → Makers → State → Type 0
+abbrev pub Ends : Outcome → (SourceState → Origins → State → Type 0) → SourceState → Origins → State → Type 0
 Ends GoesOn Related s m t = Related s m t
 Ends outcome Related s m t = EndsAlike outcome s t
 
-abbrev pub Stepped : ℕ → (SourceState → Makers → State → Type 0) → SourceState → Makers → State → Type 0
+abbrev pub Stepped : ℕ → (SourceState → Origins → State → Type 0) → SourceState → Origins → State → Type 0
 Stepped bound Related s m t =
     (es : List FlatEvent) × ((t' : State) × (Does es t t' × (KeepsPace 1 bound s.outcome (length es) × Ends s.outcome Related s m t')))
 
-abbrev pub KeptBySteps : Program → ℕ → (SourceState → Makers → State → Type 0) → Type 0
+abbrev pub KeptBySteps : Program → ℕ → (SourceState → Origins → State → Type 0) → Type 0
 KeptBySteps p bound Related =
-    (s : SourceState) (m : Makers) (t : State) (read : Option Instr) → Related s m t → Reads (p.word s.pc) read
-    → is_paired_step p s m read ≡ true → Stepped bound Related (next_state p s read) (makers_after p s m read) t
+    (s : SourceState) (m : Origins) (t : State) (read : Option Instr) → Related s m t → Reads (p.word s.pc) read
+    → is_paired_step p s m read ≡ true → Stepped bound Related (next_state p s read) (origins_after p s m read) t
 
 -- ---- steps of the flat machine
 
@@ -103,8 +103,8 @@ keeps_next p n bound j s s' t t' steps pace rest keeps =
     keeps_behind (suc n) n (suc n * bound) (n * bound) j s' t t' steps
     (λ going. let one = pace.least (went_on p n s s' rest going) in omega (arith, one)) (omega (arith, short, count)) keeps
 
-module _ (p : Program) (bound : ℕ) (Related : SourceState → Makers → State → Type 0) (goes : (s : SourceState) (m : Makers) (t : State) → Related s m t → Going s t) (step : KeptBySteps p bound Related) where
-  rest_keeps : (n : ℕ) (s s' : SourceState) (m : Makers) (t : State) → ((s : SourceState) (m : Makers) (t : State) → Related s m t → PairedSteps p n s m s' → Keeps n (n * bound) s' t) → (outcome : Outcome) → s.outcome ≡ outcome → Ends outcome Related s m t → PairedSteps p n s m s' → Keeps n (n * bound) s' t
+module _ (p : Program) (bound : ℕ) (Related : SourceState → Origins → State → Type 0) (goes : (s : SourceState) (m : Origins) (t : State) → Related s m t → Going s t) (step : KeptBySteps p bound Related) where
+  rest_keeps : (n : ℕ) (s s' : SourceState) (m : Origins) (t : State) → ((s : SourceState) (m : Origins) (t : State) → Related s m t → PairedSteps p n s m s' → Keeps n (n * bound) s' t) → (outcome : Outcome) → s.outcome ≡ outcome → Ends outcome Related s m t → PairedSteps p n s m s' → Keeps n (n * bound) s' t
   rest_keeps n s s' m t more GoesOn is ends steps = more s m t ends steps
   rest_keeps n s s' m t more (Exited code) is ends steps =
       keeps_ended p n (n * bound) (Exited code) s s' t is tt ends (is_run p n s s' m steps)
@@ -113,7 +113,7 @@ module _ (p : Program) (bound : ℕ) (Related : SourceState → Makers → State
   rest_keeps n s s' m t more (AddressFault pc why) is ends steps =
       keeps_ended p n (n * bound) (AddressFault pc why) s s' t is tt ends (is_run p n s s' m steps)
 
-  pub keeps_runs : (n : ℕ) (s s' : SourceState) (m : Makers) (t : State) → Related s m t → PairedSteps p n s m s' → Keeps n (n * bound) s' t
+  pub keeps_runs : (n : ℕ) (s s' : SourceState) (m : Origins) (t : State) → Related s m t → PairedSteps p n s m s' → Keeps n (n * bound) s' t
   keeps_runs zero s s' m t related steps =
       let here = goes s m t related in
       keeps_here 0 (0 * bound) s s' t steps (λ going. omega arith)
@@ -124,7 +124,7 @@ module _ (p : Program) (bound : ℕ) (Related : SourceState → Makers → State
       subst (λ o. PairedFrom o (PairedSteps p n) p s m s') here.source steps in
       let read = going.0 in
       let next : SourceState = next_state p s read in
-      let made : Makers = makers_after p s m read in
+      let made : Origins = origins_after p s m read in
       let one = step s m t read related going.1.0 going.1.1.0 in
       keeps_next p n bound (length one.0) next s' t one.1.0 (steps_of_events one.0 t one.1.0 one.1.1.0) one.1.1.1.0
       (is_run p n next s' made going.1.1.1)

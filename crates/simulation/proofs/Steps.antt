@@ -24,7 +24,7 @@ use Rattle.flat_machine.proofs.Words.{step_words}
 use Rattle.cell_values.specs.Laws.{HoldsWord}
 use Rattle.cell_values.specs.declared.values.Val.{Val}
 use Rattle.cell_values.specs.declared.values.Val.TheVariants.{Int}
-use Rattle.cell_values.specs.Makers.{Maker}
+use Rattle.cell_values.specs.Origins.{Origin}
 use Rattle.cell_values.specs.Stands.{Stands}
 use Rattle.cell_values.specs.Cells.{put_at}
 use Rattle.object_machine.specs.declared.events.Outcome.TheVariants.{GoesOn, AddressFault}
@@ -32,11 +32,11 @@ use Rattle.object_machine.specs.Program.{Program}
 use Rattle.object_machine.specs.State.{Values, SourceState, value, with_value, wrote, faulted}
 use Rattle.object_machine.specs.Flow.{falls_on, jumps}
 use Rattle.object_machine.specs.Step.{Reads, acts, next_state}
-use Rattle.object_machine.specs.Paired.{Makers, makers_by, makers_after, is_paired_by, is_paired_step}
+use Rattle.object_machine.specs.Paired.{Origins, origins_by, origins_after, is_paired_by, is_paired_step}
 use Rattle.simulation.specs.Setups.{Setup}
 use Rattle.simulation.specs.Units.{StandsAt}
 use Rattle.simulation.specs.Relation.{Alike, After, KeepsPace, Leads}
-use Rattle.simulation.proofs.OneUnit.{Ready}
+use Rattle.simulation.proofs.OneUnit.{StepPremises}
 
 -- ---- what is fetched
 
@@ -89,48 +89,48 @@ module _ (l : Setup) (r u w : ℕ) (t : State) (here : Fetches l r u t) (stands 
             (sym may_fetch) (None, step)),
       )
 
-pub ready_fetches : (p : Program) (l : Setup) (live arrive : ℕ → ℕ → Type 0) (r : ℕ) (s : SourceState) (m : Makers) (t : State) → Ready p l live arrive r s m t → Fetches l r s.pc t
-ready_fetches p l live arrive r s m t ready =
+pub premises_fetches : (p : Program) (l : Setup) (live arrive : ℕ → ℕ → Type 0) (r : ℕ) (s : SourceState) (m : Origins) (t : State) → StepPremises p l live arrive r s m t → Fetches l r s.pc t
+premises_fetches p l live arrive r s m t premises =
     record {
-      at = ready.at;
-      map = ready.alike.map;
-      going = ready.alike.going;
-      words = ready.alike.words;
-      still = ready.alike.still;
+      at = premises.at;
+      map = premises.alike.map;
+      going = premises.alike.going;
+      words = premises.alike.words;
+      still = premises.alike.still;
     }
 
 -- ---- where steps lead
 
 module _ (p : Program) (l : Setup) (live arrive : ℕ → ℕ → Type 0) (r : ℕ) (t : State) where
   -- by one event and by two
-  pub leads_one : (n : SourceState) (m : Makers) (e : FlatEvent) (t' : State) → Step t e t' → After n.outcome p l live arrive r n m t' → Leads 2 p l live arrive r n m t
+  pub leads_one : (n : SourceState) (m : Origins) (e : FlatEvent) (t' : State) → Step t e t' → After n.outcome p l live arrive r n m t' → Leads 2 p l live arrive r n m t
   leads_one n m e t' step after = (e ∷ [], (t', ((t', (step, refl)), (record { least = λ going. omega arith; most = omega arith }, after))))
 
-  pub leads_two : (n : SourceState) (m : Makers) (e f : FlatEvent) (t' t'' : State) → Step t e t' → Step t' f t'' → After n.outcome p l live arrive r n m t'' → Leads 2 p l live arrive r n m t
+  pub leads_two : (n : SourceState) (m : Origins) (e f : FlatEvent) (t' t'' : State) → Step t e t' → Step t' f t'' → After n.outcome p l live arrive r n m t'' → Leads 2 p l live arrive r n m t
   leads_two n m e f t' t'' step more after =
       (e ∷ f ∷ [], (t'', ((t', (step, (t'', (more, refl)))), (record { least = λ going. omega arith; most = omega arith }, after))))
 
   -- a fault promises nothing
-  pub fault_leads : (n : SourceState) (m : Makers) (pc why : ℕ) → n.outcome ≡ AddressFault pc why → Leads 2 p l live arrive r n m t
+  pub fault_leads : (n : SourceState) (m : Origins) (pc why : ℕ) → n.outcome ≡ AddressFault pc why → Leads 2 p l live arrive r n m t
   fault_leads n m pc why fault =
       let none : KeepsPace 1 2 n.outcome 0 = record { least = λ going. absurd (cc); most = omega arith } in
       ([], (t, (refl, (none, subst (λ o. After o p l live arrive r n m t) (sym fault) tt))))
 
   -- to the next word, to a block, or into a fault
-  pub falls_leads : (s s' : SourceState) (m : Makers) → (falls_on p s s' ≡ record s' { pc = s.pc + 4 } → Leads 2 p l live arrive r (record s' { pc = s.pc + 4 }) m t) → Leads 2 p l live arrive r (falls_on p s s') m t
+  pub falls_leads : (s s' : SourceState) (m : Origins) → (falls_on p s s' ≡ record s' { pc = s.pc + 4 } → Leads 2 p l live arrive r (record s' { pc = s.pc + 4 }) m t) → Leads 2 p l live arrive r (falls_on p s s') m t
   falls_leads s s' m on =
       cond_both (p.falls s.pc) (record s' { pc = s.pc + 4 }) (faulted s 6) (λ n. Leads 2 p l live arrive r n m t)
       (λ falls. on (cond-true (p.falls s.pc) (record s' { pc = s.pc + 4 }) (faulted s 6) falls))
       (λ other. fault_leads (faulted s 6) m s.pc 6 refl)
 
-  pub jumps_leads : (s s' : SourceState) (a : ℕ) (m : Makers) → (jumps p s a s' ≡ record s' { pc = a } → Leads 2 p l live arrive r (record s' { pc = a }) m t) → Leads 2 p l live arrive r (jumps p s a s') m t
+  pub jumps_leads : (s s' : SourceState) (a : ℕ) (m : Origins) → (jumps p s a s' ≡ record s' { pc = a } → Leads 2 p l live arrive r (record s' { pc = a }) m t) → Leads 2 p l live arrive r (jumps p s a s') m t
   jumps_leads s s' a m on =
       cond_both (p.is_block a) (record s' { pc = a }) (faulted s 6) (λ n. Leads 2 p l live arrive r n m t)
       (λ block. on (cond-true (p.is_block a) (record s' { pc = a }) (faulted s 6) block))
       (λ other. fault_leads (faulted s 6) m s.pc 6 refl)
 
   -- where the other machine goes on
-  pub after_going : (n : SourceState) (m : Makers) (t' : State) → n.outcome ≡ GoesOn → Alike p l live r n.pc n m t' → arrive n.pc t'.hart.pc → After n.outcome p l live arrive r n m t'
+  pub after_going : (n : SourceState) (m : Origins) (t' : State) → n.outcome ≡ GoesOn → Alike p l live r n.pc n m t' → arrive n.pc t'.hart.pc → After n.outcome p l live arrive r n m t'
   after_going n m t' going alike arrives = subst (λ o. After o p l live arrive r n m t') (sym going) (alike, arrives)
 
 -- ---- registers
@@ -161,13 +161,13 @@ pub register_other : (f : Registers) (rd w k : ℕ) → (k ≡ rd → ⊥) → r
 unfolding put
 register_other f rd w k other = grind (arith, nat_tests)
 
-pub put_there : (table : ℕ → Maker) (k : ℕ) (maker : Maker) → put_at table k maker k ≡ maker
+pub put_there : (table : ℕ → Origin) (k : ℕ) (origin : Origin) → put_at table k origin k ≡ origin
 unfolding put_at
-put_there table k maker = grind (arith, nat_tests)
+put_there table k origin = grind (arith, nat_tests)
 
-pub put_other : (table : ℕ → Maker) (k : ℕ) (maker : Maker) (j : ℕ) → (j ≡ k → ⊥) → put_at table k maker j ≡ table j
+pub put_other : (table : ℕ → Origin) (k : ℕ) (origin : Origin) (j : ℕ) → (j ≡ k → ⊥) → put_at table k origin j ≡ table j
 unfolding put_at
-put_other table k maker j other = grind (arith, nat_tests)
+put_other table k origin j other = grind (arith, nat_tests)
 
 -- nothing but register `rd` was written: the flat machine has `w` there, if it isn't x0
 pub record Writes (rd w : ℕ) (old new : Registers) : Type 0 where
@@ -178,29 +178,29 @@ pub with_writes : (f : Registers) (rd w : ℕ) → Writes rd w f (with_register 
 with_writes f rd w = record { here = register_wrote f rd w; others = register_other f rd w }
 
 -- the registers of a state `s` and of one that is like it at `u`, after a write of `x` and `w`, for a unit at `v`
-module _ (p : Program) (l : Setup) (live : ℕ → ℕ → Type 0) (r u v : ℕ) (s : SourceState) (m : Makers) (t : State) (alike : Alike p l live r u s m t) (rd w : ℕ) (x : Val) (makers : ℕ → Maker) (f : Registers) (keeps : (k : ℕ) → live v k → (k ≡ rd → ⊥) → live u k) (made : (k : ℕ) → (k ≡ rd → ⊥) → makers k ≡ m.regs k) (writes : Writes rd w t.hart.regs f) (stands : Stands p.objects (l.place r) (l.upper r) (makers rd) x w) (holds : HoldsWord x) where
-  zero_stands : (k : ℕ) → k ≡ 0 → Stands p.objects (l.place r) (l.upper r) (makers k) (value (with_value s.regs rd x) k) (register f k)
+module _ (p : Program) (l : Setup) (live : ℕ → ℕ → Type 0) (r u v : ℕ) (s : SourceState) (m : Origins) (t : State) (alike : Alike p l live r u s m t) (rd w : ℕ) (x : Val) (origins : ℕ → Origin) (f : Registers) (keeps : (k : ℕ) → live v k → (k ≡ rd → ⊥) → live u k) (made : (k : ℕ) → (k ≡ rd → ⊥) → origins k ≡ m.regs k) (writes : Writes rd w t.hart.regs f) (stands : Stands p.objects (l.place r) (l.upper r) (origins rd) x w) (holds : HoldsWord x) where
+  zero_stands : (k : ℕ) → k ≡ 0 → Stands p.objects (l.place r) (l.upper r) (origins k) (value (with_value s.regs rd x) k) (register f k)
   zero_stands k is =
       let first = value_zero (with_value s.regs rd x) k is in
       let second = register_zero f k is in
       rw (first, second) refl
 
-  there_stands : (k : ℕ) → k ≡ rd → (k ≡ 0 → ⊥) → Stands p.objects (l.place r) (l.upper r) (makers k) (value (with_value s.regs rd x) k) (register f k)
+  there_stands : (k : ℕ) → k ≡ rd → (k ≡ 0 → ⊥) → Stands p.objects (l.place r) (l.upper r) (origins k) (value (with_value s.regs rd x) k) (register f k)
   there_stands k same other =
       let first = value_wrote s.regs rd k x same other in
       let second : register f k ≡ w = subst (λ j. (j ≡ 0 → ⊥) → register f j ≡ w) (sym same) writes.here other in
-      let third : Stands p.objects (l.place r) (l.upper r) (makers k) x w =
-      subst (λ j. Stands p.objects (l.place r) (l.upper r) (makers j) x w) (sym same) stands in
+      let third : Stands p.objects (l.place r) (l.upper r) (origins k) x w =
+      subst (λ j. Stands p.objects (l.place r) (l.upper r) (origins j) x w) (sym same) stands in
       rw (first, second) third
 
-  other_stands : (k : ℕ) → live v k → (k ≡ rd → ⊥) → Stands p.objects (l.place r) (l.upper r) (makers k) (value (with_value s.regs rd x) k) (register f k)
+  other_stands : (k : ℕ) → live v k → (k ≡ rd → ⊥) → Stands p.objects (l.place r) (l.upper r) (origins k) (value (with_value s.regs rd x) k) (register f k)
   other_stands k lives other =
       let first = value_other s.regs rd k x other in
       let second = writes.others k other in
       let third = made k other in
       rw (first, second, third) (alike.regs k (keeps k lives other))
 
-  pub regs_wrote : (k : ℕ) → live v k → Stands p.objects (l.place r) (l.upper r) (makers k) (value (with_value s.regs rd x) k) (register f k)
+  pub regs_wrote : (k : ℕ) → live v k → Stands p.objects (l.place r) (l.upper r) (origins k) (value (with_value s.regs rd x) k) (register f k)
   regs_wrote k lives =
       elim (cases_eq k 0) [
         | inl is ↦ zero_stands k is
@@ -218,7 +218,7 @@ module _ (p : Program) (l : Setup) (live : ℕ → ℕ → Type 0) (r u v : ℕ)
       ]
 
   -- the states are alike again, with the pc's anywhere
-  pub wrote_on : (c : ℕ) → HasWords (record t { hart = record { pc = c; regs = f; mem = t.hart.mem } }) → Alike p l live r v (record (wrote s rd x) { pc = v }) (record m { regs = makers }) (record t { hart = record { pc = c; regs = f; mem = t.hart.mem } })
+  pub wrote_on : (c : ℕ) → HasWords (record t { hart = record { pc = c; regs = f; mem = t.hart.mem } }) → Alike p l live r v (record (wrote s rd x) { pc = v }) (record m { regs = origins }) (record t { hart = record { pc = c; regs = f; mem = t.hart.mem } })
   wrote_on c words =
       record {
         regs = regs_wrote;
@@ -266,23 +266,23 @@ pub none_written : (j : ℕ) → Contains [] j → ⊥
 none_written j has = grind (arith, common_steps)
 
 -- what makes the step of one instruction a paired one
-pub paired_by : (p : Program) (s : SourceState) (m : Makers) (i : Instr) → p.is_pair s.pc ≡ false → is_paired_step p s m (Some i) ≡ true → is_paired_by p s m i ≡ true
+pub paired_by : (p : Program) (s : SourceState) (m : Origins) (i : Instr) → p.is_pair s.pc ≡ false → is_paired_step p s m (Some i) ≡ true → is_paired_by p s m i ≡ true
 paired_by p s m i single paired = rw single at paired
 
 -- what both machines read in a register
-pub record Operand (p : Program) (l : Setup) (r k : ℕ) (s : SourceState) (m : Makers) (t : State) : Type 0 where
+pub record Operand (p : Program) (l : Setup) (r k : ℕ) (s : SourceState) (m : Origins) (t : State) : Type 0 where
   pub stands : Stands p.objects (l.place r) (l.upper r) (m.regs k) (value s.regs k) (register t.hart.regs k)
   pub holds : HoldsWord (value s.regs k)
   pub word : register t.hart.regs k < 4294967296
 
 -- an instruction that is no call of two words
-module _ (p : Program) (l : Setup) (live arrive : ℕ → ℕ → Type 0) (r : ℕ) (s : SourceState) (m : Makers) (t : State) (i : Instr) (ready : Ready p l live arrive r s m t) (single : p.is_pair s.pc ≡ false) (reads : Reads (p.word s.pc) (Some i)) where
+module _ (p : Program) (l : Setup) (live arrive : ℕ → ℕ → Type 0) (r : ℕ) (s : SourceState) (m : Origins) (t : State) (i : Instr) (premises : StepPremises p l live arrive r s m t) (single : p.is_pair s.pc ≡ false) (reads : Reads (p.word s.pc) (Some i)) where
   live_read : (k : ℕ) → live s.pc k → Operand p l r k s m t
   live_read k lives =
       record {
-        stands = ready.alike.regs k lives;
-        holds = ready.alike.values k lives;
-        word = register_word t.hart.regs k ready.alike.words.hart.regs;
+        stands = premises.alike.regs k lives;
+        holds = premises.alike.values k lives;
+        word = register_word t.hart.regs k premises.alike.words.hart.regs;
       }
 
   zero_read : (k : ℕ) → k ≡ 0 → Operand p l r k s m t
@@ -297,40 +297,40 @@ module _ (p : Program) (l : Setup) (live arrive : ℕ → ℕ → Type 0) (r : �
 
   pub reads_on : (k : ℕ) → (k ≡ 0) ⊎ Contains (used i) k → Operand p l r k s m t
   reads_on k (inl is) = zero_read k is
-  reads_on k (inr has) = live_read k (ready.rules.uses s.pc k i single reads has)
+  reads_on k (inr has) = live_read k (premises.rules.uses s.pc k i single reads has)
 
   pub next_acts : next_state p s (Some i) ≡ acts p s i (p.site s.pc)
   next_acts = rw single refl
 
-  pub next_makers : makers_after p s m (Some i) ≡ makers_by p s m i
-  next_makers = rw single refl
+  pub next_origins : origins_after p s m (Some i) ≡ origins_by p s m i
+  next_origins = rw single refl
 
   -- what matters behind it and isn't written matters at it
   pub keeps_on : (n : SourceState) → acts p s i (p.site s.pc) ≡ n → n.outcome ≡ GoesOn → (k : ℕ) → live n.pc k → (Contains (defined i) k → ⊥) → live s.pc k
   keeps_on n is =
       subst (λ q. q.outcome ≡ GoesOn → (k : ℕ) → live q.pc k → (Contains (defined i) k → ⊥) → live s.pc k) (next_acts ∙ is)
-      (λ going k lives other. ready.rules.keeps s i k ready.alike.source_going single reads going lives other)
+      (λ going k lives other. premises.rules.keeps s i k premises.alike.source_going single reads going lives other)
 
   -- it leads where its own effect leads
-  pub acts_leads : Leads 2 p l live arrive r (acts p s i (p.site s.pc)) (makers_by p s m i) t → Leads 2 p l live arrive r (next_state p s (Some i)) (makers_after p s m (Some i)) t
-  acts_leads leads = rw (next_acts, next_makers) leads
+  pub acts_leads : Leads 2 p l live arrive r (acts p s i (p.site s.pc)) (origins_by p s m i) t → Leads 2 p l live arrive r (next_state p s (Some i)) (origins_after p s m (Some i)) t
+  acts_leads leads = rw (next_acts, next_origins) leads
 
   -- into a fault
-  pub faults_both : (why : ℕ) → acts p s i (p.site s.pc) ≡ faulted s why → Leads 2 p l live arrive r (next_state p s (Some i)) (makers_after p s m (Some i)) t
+  pub faults_both : (why : ℕ) → acts p s i (p.site s.pc) ≡ faulted s why → Leads 2 p l live arrive r (next_state p s (Some i)) (origins_after p s m (Some i)) t
   faults_both why effect =
       acts_leads
-      (subst (λ n. Leads 2 p l live arrive r n (makers_by p s m i) t) (sym effect)
-      (fault_leads p l live arrive r t (faulted s why) (makers_by p s m i) s.pc why refl))
+      (subst (λ n. Leads 2 p l live arrive r n (origins_by p s m i) t) (sym effect)
+      (fault_leads p l live arrive r t (faulted s why) (origins_by p s m i) s.pc why refl))
 
   -- and the flat machine at an instruction that stands for it
-  pub performs_leads : (w : ℕ) (j : Instr) (n : SourceState) (m' : Makers) → StandsAt l r s.pc w → Means w j → After n.outcome p l live arrive r n m' (performed t j) → Leads 2 p l live arrive r n m' t
+  pub performs_leads : (w : ℕ) (j : Instr) (n : SourceState) (m' : Origins) → StandsAt l r s.pc w → Means w j → After n.outcome p l live arrive r n m' (performed t j) → Leads 2 p l live arrive r n m' t
   performs_leads w j n m' stands means after =
       leads_one p l live arrive r t n m' (event_of t j) (performed t j)
-      (fetches l r s.pc w t (ready_fetches p l live arrive r s m t ready) stands j means) after
+      (fetches l r s.pc w t (premises_fetches p l live arrive r s m t premises) stands j means) after
 
   -- the flat pc at the next word
   pub next_pc : plus t.hart.pc 4 ≡ s.pc + 4
-  next_pc = let below = ready.unit.below in let here = ready.at in omega arith
+  next_pc = let below = premises.unit.below in let here = premises.at in omega arith
 
   pub falls_home : arrive (s.pc + 4) (plus t.hart.pc 4)
-  falls_home = subst (λ a. arrive (s.pc + 4) a) (sym next_pc) (ready.home (s.pc + 4))
+  falls_home = subst (λ a. arrive (s.pc + 4) a) (sym next_pc) (premises.home (s.pc + 4))

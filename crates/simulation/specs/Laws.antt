@@ -11,7 +11,7 @@ use Rattle.object_machine.specs.Program.{Program}
 use Rattle.object_machine.specs.State.{SourceState}
 use Rattle.object_machine.specs.Step.{Reads, next_state}
 use Rattle.object_machine.specs.Start.{start_of}
-use Rattle.object_machine.specs.Paired.{Makers, at_start, makers_after, is_paired_step, PairedSteps}
+use Rattle.object_machine.specs.Paired.{Origins, at_start, origins_after, is_paired_step, PairedSteps}
 use Rattle.flat_machine.specs.declared.events.FlatOutcome as flat
 use Rattle.simulation.specs.Setups.{Setup, Sound}
 use Rattle.simulation.specs.Made.{AreMade}
@@ -25,10 +25,10 @@ at_home u a = a ≡ u
 -- a unit at its home: one step of a paired run, and one or two of the flat machine
 abbrev pub UnitsAtHome : Type 0
 UnitsAtHome =
-    (p : Program) (l : Setup) (r : ℕ) (s : SourceState) (m : Makers) (t : State) (read : Option Instr)
+    (p : Program) (l : Setup) (r : ℕ) (s : SourceState) (m : Origins) (t : State) (read : Option Instr)
     → Sound p l r → UnitAt p l r s.pc → Alike p l all_live r s.pc s m t → AreMade p s m
     → at_home s.pc t.hart.pc → Reads (p.word s.pc) read → is_paired_step p s m read ≡ true
-    → Leads 2 p l all_live at_home r (next_state p s read) (makers_after p s m read) t
+    → Leads 2 p l all_live at_home r (next_state p s read) (origins_after p s m read) t
 
 -- the AUIPC beside an upper part made it: at the start of a program, and behind each step that goes on
 abbrev pub MadeAtStart : Type 0
@@ -37,8 +37,8 @@ MadeAtStart =
 
 abbrev pub MadeStays : Type 0
 MadeStays =
-    (p : Program) (s : SourceState) (m : Makers) (read : Option Instr) → AreMade p s m → Reads (p.word s.pc) read
-    → (next_state p s read).outcome ≡ GoesOn → AreMade p (next_state p s read) (makers_after p s m read)
+    (p : Program) (s : SourceState) (m : Origins) (read : Option Instr) → AreMade p s m → Reads (p.word s.pc) read
+    → (next_state p s read).outcome ≡ GoesOn → AreMade p (next_state p s read) (origins_after p s m read)
 
 -- ---- runs
 
@@ -68,7 +68,7 @@ AllAtHome p l r = (u : ℕ) → IsUnit p u → UnitAt p l r u
 -- two steps each
 abbrev pub RunsAtHome : Type 0
 RunsAtHome =
-    (p : Program) (l : Setup) (r n : ℕ) (s s' : SourceState) (m : Makers) (t : State)
+    (p : Program) (l : Setup) (r n : ℕ) (s s' : SourceState) (m : Origins) (t : State)
     → Sound p l r → AllAtHome p l r → IsUnit p s.pc → Alike p l all_live r s.pc s m t → AreMade p s m
     → at_home s.pc t.hart.pc
     → PairedSteps p n s m s' → Keeps n (n * 2) s' t

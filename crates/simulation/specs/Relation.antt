@@ -12,13 +12,13 @@ use Rattle.object_machine.specs.declared.events.Outcome.{Outcome}
 use Rattle.object_machine.specs.declared.events.Outcome.TheVariants.{GoesOn, Exited, Trapped, AddressFault}
 use Rattle.object_machine.specs.Program.{Program}
 use Rattle.object_machine.specs.State.{SourceState, value}
-use Rattle.object_machine.specs.Paired.{Makers}
+use Rattle.object_machine.specs.Paired.{Origins}
 use Rattle.simulation.specs.Setups.{Setup}
 
 -- while region `r` is current and the unit at `u` is next, `t` is like `s`, whose upper parts have the
--- makers `m`: live registers, fixed memory and objects hold words that the values may be, what stands still
+-- origins `m`: live registers, fixed memory and objects hold words that the values may be, what stands still
 -- is as it was, and both have the same input left and wrote the same
-pub record Alike (p : Program) (l : Setup) (live : ℕ → ℕ → Type 0) (r u : ℕ) (s : SourceState) (m : Makers) (t : State) : Type 0 where
+pub record Alike (p : Program) (l : Setup) (live : ℕ → ℕ → Type 0) (r u : ℕ) (s : SourceState) (m : Origins) (t : State) : Type 0 where
   pub regs : (k : ℕ) → live u k → Stands p.objects (l.place r) (l.upper r) (m.regs k) (value s.regs k) (register t.hart.regs k)
   pub values : (k : ℕ) → live u k → HoldsWord (value s.regs k)
   pub fixed : (a : ℕ) → p.is_fixed a ≡ true → CellStands (l.place r) (l.upper r) (m.fixed a) (s.fixed a) (t.hart.mem a)
@@ -36,7 +36,7 @@ pub record Alike (p : Program) (l : Setup) (live : ℕ → ℕ → Type 0) (r u 
 -- how the flat machine is behind a unit, by the outcome of the other: where that goes on, they are alike and
 -- the flat pc is where it may arrive at the next unit; where it ended, the flat machine ended alike; a fault
 -- promises nothing
-abbrev pub After : Outcome → Program → Setup → (ℕ → ℕ → Type 0) → (ℕ → ℕ → Type 0) → ℕ → SourceState → Makers → State → Type 0
+abbrev pub After : Outcome → Program → Setup → (ℕ → ℕ → Type 0) → (ℕ → ℕ → Type 0) → ℕ → SourceState → Origins → State → Type 0
 After GoesOn p l live arrive r s m t = Alike p l live r s.pc s m t × arrive s.pc t.hart.pc
 After (Exited code) p l live arrive r s m t = (t.outcome ≡ flat.TheVariants.Exited code) × (t.output ≡ s.output)
 After (Trapped pc) p l live arrive r s m t =
@@ -50,6 +50,6 @@ pub record KeepsPace (n bound : ℕ) (outcome : Outcome) (steps : ℕ) : Type 0 
   pub most : steps ≤ bound
 
 -- steps of the flat machine that keep pace with one lead from `t` to such a state
-abbrev pub Leads : ℕ → Program → Setup → (ℕ → ℕ → Type 0) → (ℕ → ℕ → Type 0) → ℕ → SourceState → Makers → State → Type 0
+abbrev pub Leads : ℕ → Program → Setup → (ℕ → ℕ → Type 0) → (ℕ → ℕ → Type 0) → ℕ → SourceState → Origins → State → Type 0
 Leads bound p l live arrive r s m t =
     (es : List FlatEvent) × ((t' : State) × (Does es t t' × (KeepsPace 1 bound s.outcome (length es) × After s.outcome p l live arrive r s m t')))

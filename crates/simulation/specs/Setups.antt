@@ -18,7 +18,7 @@ pub record Setup : Type 0 where
   pub still : ℕ → Memory
 
 -- what must hold of a setup while a region is current: the objects may stand at their places; memory that
--- the program reads and writes is mapped; and fixed memory, objects and what stands still are apart
+-- the program reads and writes is mapped; and fixed memory, objects and what stands still are disjoint
 pub record Sound (p : Program) (l : Setup) (r : ℕ) : Type 0 where
   pub fit : Fit p.objects (l.place r)
   pub lui : MakesByLui (l.place r) (l.upper r)

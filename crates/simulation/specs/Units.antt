@@ -10,7 +10,7 @@ use Rattle.rv_decode.specs.declared.instructions.ImmKind.TheVariants.{Addi}
 use Rattle.flat_machine.specs.Mapping.{can_access}
 use Rattle.cell_values.specs.Operations.{low_site}
 use Rattle.cell_values.specs.declared.values.Val.{Val}
-use Rattle.cell_values.specs.Makers.{Maker, ByLui, ByAuipc}
+use Rattle.cell_values.specs.Origins.{Origin, ByLui, ByAuipc}
 use Rattle.cell_values.specs.Stands.{Is, Stands}
 use Rattle.object_machine.specs.Program.{Program, Target}
 use Rattle.object_machine.specs.Step.{Reads}
@@ -27,7 +27,7 @@ pub record StandsAt (l : Setup) (r a w : ℕ) : Type 0 where
 -- the immediate `z` completes each upper part that the low site at `u` may find
 abbrev pub Completes : Program → Setup → ℕ → ℕ → Target → ℤ → Type 0
 Completes p l r u t z =
-    (m k : Maker) (x : Val) (w : ℕ) → w < 4294967296 → IsMade p m x → finds_named (p.named u) m x ≡ true
+    (m k : Origin) (x : Val) (w : ℕ) → w < 4294967296 → IsMade p m x → finds_named (p.named u) m x ≡ true
     → Stands p.objects (l.place r) (l.upper r) m x w
     → Stands p.objects (l.place r) (l.upper r) k (low_site p.objects x t.object t.offset) (offset w z)
 

@@ -9,7 +9,7 @@ put_same mem at byte = grind (arith, nat_tests)
 
 pub put_other : (mem : Memory) (at byte a : ℕ) → a ≢ at → put mem at byte a ≡ mem a
 unfolding put
-put_other mem at byte a apart = grind (arith, nat_tests)
+put_other mem at byte a disjoint = grind (arith, nat_tests)
 
 -- what is put below a bound among what is below it
 pub put_below : (bound : ℕ) (mem : Memory) (at byte : ℕ) → ((a : ℕ) → mem a < bound) → byte < bound → (a : ℕ) → put mem at byte a < bound

@@ -61,14 +61,14 @@ impl<S: ByteStore> Flat<S> {
     {
         let at = self.register(A1);
         let asked = self.register(A2) as usize;
-        let n = asked.min(self.input.len() - self.taken);
+        let n = asked.min(self.input.len() - self.consumed);
         if !has_move(&self.map, at, n as u32) {
             self.trap();
             return Ok(());
         }
         self.store
-            .set_bytes(at, &self.input[self.taken..self.taken + n])?;
-        self.taken += n;
+            .set_bytes(at, &self.input[self.consumed..self.consumed + n])?;
+        self.consumed += n;
         self.write(A0, n as u32);
         Ok(())
     }

@@ -126,8 +126,8 @@ impl<S: ByteStore> Flat<S> {
         ensures { state_of S.byte_at self.new
             ≡ performed (state_of S.byte_at self.old) (Instr.Branch kind rs1 rs2 off) }
     {
-        let taken = takes(kind, self.register(rs1), self.register(rs2));
-        self.pc = self.pc.wrapping_add_signed(if taken { off } else { 4 });
+        let consumed = takes(kind, self.register(rs1), self.register(rs2));
+        self.pc = self.pc.wrapping_add_signed(if consumed { off } else { 4 });
     }
 
     /// An operation on a register and an immediate.

@@ -30,7 +30,7 @@ impl Source {
     ghost use Rattle.std.specs.Prelude.{◌≡◌, ℕ, ◌+◌, ◌<◌, ◌≤◌, ◌++◌, take, drop, length, MatchOption, IfOk, OnOk, OnErr, Some, None};
     ghost use Rattle.list_checks.specs.First.{first_below};
     ghost use Rattle.object_machine.specs.Flow.{falls_on};
-    ghost use Rattle.object_machine.specs.Calls.{a1, a7, answered, exits, plain_bytes, unread, appends, writes_from, writes, unwritten, put_input, with_input, reads_into, reads, taken_count, calls_number, calls_by, a0, a2};
+    ghost use Rattle.object_machine.specs.Calls.{a1, a7, answered, exits, plain_bytes, unread, appends, writes_from, writes, unwritten, put_input, with_input, reads_into, reads, consumed_count, calls_number, calls_by, a0, a2};
     ghost use Rattle.cell_values.specs.Objects.{IsOfGraph};
     ghost use Rattle.object_machine.specs.Memory.{cell_at};
     ghost use Rattle.object_machine.specs.Places.{byte_place, read_fault, write_fault};
@@ -228,15 +228,15 @@ impl Source {
 
     /// How many bytes of the input a call that asks for `asked` takes.
     fn input_count(&self, asked: u32) -> u32
-        ensures count { result ≡ taken_count (seen_state self.now) asked }
-        ensures left { self.now.taken + result ≤ length self.now.input.items }
+        ensures count { result ≡ consumed_count (seen_state self.now) asked }
+        ensures left { self.now.consumed + result ≤ length self.now.input.items }
     {
-        (asked as usize).min(self.input.len() - self.taken) as u32
+        (asked as usize).min(self.input.len() - self.consumed) as u32
     }
 
     /// Puts the next `n` bytes of the input at a1.
     fn read_bytes(&mut self, n: u32) -> Result<(), AllocError>
-        requires { self.old.taken + n ≤ length self.old.input.items }
+        requires { self.old.consumed + n ≤ length self.old.input.items }
         ensures ok { OnOk result (Becomes self.old self.new (reads_into (seen self.old) (seen_state self.old) n (first_below (unwritten (seen self.old) (seen_state self.old)) n))) }
         ensures err { OnErr result (Becomes self.old self.new (seen_state self.old)) }
     {
@@ -274,7 +274,7 @@ impl Source {
 
     /// Puts them where they can be written, and answers their number.
     fn take_bytes(&mut self, n: u32) -> Result<(), AllocError>
-        requires left { self.old.taken + n ≤ length self.old.input.items }
+        requires left { self.old.consumed + n ≤ length self.old.input.items }
         requires room { first_below (unwritten (seen self.old) (seen_state self.old)) n ≡ None }
         ensures ok { OnOk result (Becomes self.old self.new (answered (seen self.old) (seen_state self.old) (with_input (seen self.old) (seen_state self.old) n) n)) }
         ensures err { OnErr result (Becomes self.old self.new (seen_state self.old)) }
@@ -295,7 +295,7 @@ impl Source {
 
     /// Moves the next `n` bytes of the input to a1.
     fn take_input(&mut self, n: u32) -> Result<(), AllocError>
-        requires left { self.old.taken + n ≤ length self.old.input.items }
+        requires left { self.old.consumed + n ≤ length self.old.input.items }
         requires room { first_below (unwritten (seen self.old) (seen_state self.old)) n ≡ None }
         ensures ok { OnOk result (Becomes self.old self.new (with_input (seen self.old) (seen_state self.old) n)) }
         ensures err { OnErr result (Becomes self.old self.new (seen_state self.old)) }
@@ -303,7 +303,7 @@ impl Source {
     {
         match self.put_input(n) {
             Ok(()) => {
-                self.taken += n as usize;
+                self.consumed += n as usize;
                 Ok(())
             }
             Err(error) => Err(error),
@@ -312,13 +312,13 @@ impl Source {
 
     /// Puts the next `n` bytes of the input at a1; they stay in the input.
     fn put_input(&mut self, n: u32) -> Result<(), AllocError>
-        requires left { self.old.taken + n ≤ length self.old.input.items }
+        requires left { self.old.consumed + n ≤ length self.old.input.items }
         requires room { first_below (unwritten (seen self.old) (seen_state self.old)) n ≡ None }
         ensures ok { let s = seen_state self.old in
             OnOk result (Becomes self.old self.new (put_input (seen self.old) s (a1 s) 0 (take n s.input))) }
         ensures err { OnErr result (Becomes self.old self.new (seen_state self.old)) }
         ensures place { self.new.place ≡ self.old.place }
-        ensures taken { self.new.taken ≡ self.old.taken }
+        ensures consumed { self.new.consumed ≡ self.old.consumed }
         ensures input { self.new.input ≡ self.old.input }
     {
         if n == 0 {
@@ -340,7 +340,7 @@ impl Source {
         ensures ok { OnOk result (Becomes self.old self.new (stored_from (seen_state self.old) start.now cells.now)) }
         ensures err { OnErr result (Becomes self.old self.new (seen_state self.old)) }
         ensures place { self.new.place ≡ self.old.place }
-        ensures taken { self.new.taken ≡ self.old.taken }
+        ensures consumed { self.new.consumed ≡ self.old.consumed }
         ensures input { self.new.input ≡ self.old.input }
     {
         match *start {
@@ -352,10 +352,10 @@ impl Source {
 
     /// The next `n` bytes of the input as cells.
     fn input_cells(&self, n: u32) -> Result<Vec<Cell>, AllocError>
-        requires { self.now.taken + n ≤ length self.now.input.items }
-        ensures { IfOk result (λ cells. cells.items ≡ byte_cells (take n (drop self.now.taken self.now.input.items))) }
+        requires { self.now.consumed + n ≤ length self.now.input.items }
+        ensures { IfOk result (λ cells. cells.items ≡ byte_cells (take n (drop self.now.consumed self.now.input.items))) }
     {
-        let from = self.taken;
+        let from = self.consumed;
         let alloc = *self.input.allocator();
         self.input[from..from + n as usize]
             .iter()

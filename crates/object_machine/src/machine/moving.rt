@@ -132,10 +132,10 @@ impl Source {
     }
 
     /// Branches, if it is known whether.
-    pub(super) fn branch_if(&mut self, taken: Option<bool>, off: i32)
-        ensures { Becomes self.old self.new (branches (seen self.old) (seen_state self.old) off taken) }
+    pub(super) fn branch_if(&mut self, consumed: Option<bool>, off: i32)
+        ensures { Becomes self.old self.new (branches (seen self.old) (seen_state self.old) off consumed) }
     {
-        match taken {
+        match consumed {
             Some(true) => self.jump(self.pc.wrapping_add_signed(off)),
             Some(false) => self.jump(self.pc + 4),
             None => self.fault(UNKNOWN_BRANCH),

@@ -155,8 +155,8 @@ impl Source {
     {
         let first = self.register(rs1);
         let second = self.register(rs2);
-        let taken = compare(kind, &first, &second, &self.tables.graph);
-        self.branch_if(taken, off);
+        let consumed = compare(kind, &first, &second, &self.tables.graph);
+        self.branch_if(consumed, off);
     }
 
     /// An operation on a register and an immediate, or at a site the low part of an address.

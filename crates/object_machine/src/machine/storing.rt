@@ -119,7 +119,7 @@ impl Source {
         ensures state { OnOk result (Becomes self.old self.new (stored_at (seen_state self.old) (InFixed at) cells.now)) }
         ensures err { OnErr result (Becomes self.old self.new (seen_state self.old)) }
         ensures place { self.new.place ≡ self.old.place }
-        ensures taken { self.new.taken ≡ self.old.taken }
+        ensures consumed { self.new.consumed ≡ self.old.consumed }
         ensures input { self.new.input ≡ self.old.input }
     {
         match self.memory.set_all(at, cells) {
@@ -141,7 +141,7 @@ impl Source {
         ensures state { OnOk result (Becomes self.old self.new (stored_at (seen_state self.old) (InObject object offset) cells.now)) }
         ensures err { OnErr result (Becomes self.old self.new (seen_state self.old)) }
         ensures place { self.new.place ≡ self.old.place }
-        ensures taken { self.new.taken ≡ self.old.taken }
+        ensures consumed { self.new.consumed ≡ self.old.consumed }
         ensures input { self.new.input ≡ self.old.input }
     {
         let at = self.home_of(object) + offset;

@@ -3,7 +3,7 @@ use Rattle.std.specs.List.{count_by}
 use Rattle.placement_programme.specs.Views.{plain_side}
 use Rattle.certificate_checker.specs.declared.trees.Tree.{Tree}
 use Rattle.branch_bound.specs.declared.visiting.Visit.{Visit}
-use Rattle.branch_bound.specs.Searching.{Tells, Visits, HasLevels}
+use Rattle.branch_bound.specs.Searching.{Reports, Visits, HasLevels}
 use Rattle.certificate_checker.specs.Fixings.{is_free}
 use Rattle.certificate_checker.specs.declared.fixings.Fixing.{Fixing}
 use Rattle.certificate_checker.specs.declared.fixings.Fixing.TheVariants.{Zero, One}
@@ -29,7 +29,7 @@ returns-in-None-clause-tells t c =
     let from : start ≤ best = omega (arith, order, grows) in
     let visits = subst (λ (v : Visit). Visits s best marks v) c.in-Open.is c.in_ok-tree.ensures.visits in
     let branches : Branches s start marks j best = record { from_start = from; fails = visits.0; greatest = visits.1; here = c.in_ok-tree.ensures.here } in
-    let first = subst (λ (o : Option Tree). Tells s start (slice_set marks j One) c.search.new.run.best.gain c.visit.new.run.left c.search.new.run.left o) c.in-None.is (c.in_ok-search.ensures.tells start from) in
+    let first = subst (λ (o : Option Tree). Reports s start (slice_set marks j One) c.search.new.run.best.gain c.visit.new.run.left c.search.new.run.left o) c.in-None.is (c.in_ok-search.ensures.tells start from) in
     tells_first s start marks j best c.search.new.run.best.gain c.args.run.now.left c.visit.new.run.left c.search.new.run.left branches c.in_ok-search.ensures.grows (omega (arith, used, some)) first
 
 pub search-requires-2 : goal.search-requires-2
@@ -62,9 +62,9 @@ returns-in-None-2-clause-tells t c =
     let from : start ≤ best = omega (arith, order, grows) in
     let visits = subst (λ (v : Visit). Visits s best marks v) c.in-Open.is c.in_ok-tree.ensures.visits in
     let branches : Branches s start marks j best = record { from_start = from; fails = visits.0; greatest = visits.1; here = c.in_ok-tree.ensures.here } in
-    let first = subst (λ (o : Option Tree). Tells s start (slice_set marks j One) between middle second o) c.in-Some.is (c.in_ok-search.ensures.tells start from) in
-    let there = subst (λ (m : List Fixing). Tells s start m more second after c.in_ok-search-2.field-0) (zero_marks marks c.search.new.marks j c.in_ok-search.ensures.kept) (c.in_ok-search-2.ensures.tells start (omega (arith, from, grows_one))) in
-    let last = subst (λ (o : Option Tree). Tells s start (slice_set marks j Zero) more second after o) c.in-None-2.is there in
+    let first = subst (λ (o : Option Tree). Reports s start (slice_set marks j One) between middle second o) c.in-Some.is (c.in_ok-search.ensures.tells start from) in
+    let there = subst (λ (m : List Fixing). Reports s start m more second after c.in_ok-search-2.field-0) (zero_marks marks c.search.new.marks j c.in_ok-search.ensures.kept) (c.in_ok-search-2.ensures.tells start (omega (arith, from, grows_one))) in
+    let last = subst (λ (o : Option Tree). Reports s start (slice_set marks j Zero) more second after o) c.in-None-2.is there in
     tells_second s start marks j best between more c.args.run.now.left middle second after c.in-Some.tree branches grows_one c.in_ok-search-2.ensures.grows (omega (arith, used, some)) first last
 
 pub returns-clause-kept : goal.returns-clause-kept
@@ -104,7 +104,7 @@ returns-clause-tells t c =
     let from : start ≤ best = omega (arith, order, grows) in
     let visits = subst (λ (v : Visit). Visits s best marks v) c.in-Open.is c.in_ok-tree.ensures.visits in
     let branches : Branches s start marks j best = record { from_start = from; fails = visits.0; greatest = visits.1; here = c.in_ok-tree.ensures.here } in
-    let first = subst (λ (o : Option Tree). Tells s start (slice_set marks j One) between middle second o) c.in-Some.is (c.in_ok-search.ensures.tells start from) in
-    let there = subst (λ (m : List Fixing). Tells s start m more second after c.in_ok-search-2.field-0) (zero_marks marks c.search.new.marks j c.in_ok-search.ensures.kept) (c.in_ok-search-2.ensures.tells start (omega (arith, from, grows_one))) in
-    let last = subst (λ (o : Option Tree). Tells s start (slice_set marks j Zero) more second after o) c.in-Some-2.is there in
+    let first = subst (λ (o : Option Tree). Reports s start (slice_set marks j One) between middle second o) c.in-Some.is (c.in_ok-search.ensures.tells start from) in
+    let there = subst (λ (m : List Fixing). Reports s start m more second after c.in_ok-search-2.field-0) (zero_marks marks c.search.new.marks j c.in_ok-search.ensures.kept) (c.in_ok-search-2.ensures.tells start (omega (arith, from, grows_one))) in
+    let last = subst (λ (o : Option Tree). Reports s start (slice_set marks j Zero) more second after o) c.in-Some-2.is there in
     tells_both s start marks j best between more c.args.run.now.left middle second after c.in-Some.tree c.in-Some-2.tree c.in_ok-branch_on.field-0 branches c.in_ok-search-2.ensures.grows (omega (arith, used, some)) first last c.in_ok-branch_on.ensures

@@ -2,7 +2,7 @@ use Rattle.std.proofs.Common.{◌≡◌, ◌∙◌, suc, nat_le, subst}
 use Rattle.std.specs.List.{count_by}
 use Rattle.placement_programme.specs.Views.{plain_side}
 use Rattle.certificate_checker.specs.Shows.{all_free}
-use Rattle.branch_bound.specs.Searching.{Tells, HasLevels}
+use Rattle.branch_bound.specs.Searching.{Reports, HasLevels}
 use Rattle.certificate_checker.specs.Fixings.{is_free}
 use Rattle.branch_bound.proofs.SolveLemmas.{root_levels}
 use Rattle.branch_bound.proofs.solving.search_side.Goals as goal
@@ -18,4 +18,4 @@ returns-clause-tells c =
     λ start order.
     let s = plain_side c.args.side.now in
     let is : c.deref_mut.result.now ≡ all_free s = c.deref_mut.ensures.value ∙ c.in_ok-marks.ensures in
-    subst (λ m. Tells s start m c.search.new.run.best.gain c.args.left c.search.new.run.left c.in_ok-tree.tree) is (c.in_ok-tree.ensures.tells start order)
+    subst (λ m. Reports s start m c.search.new.run.best.gain c.args.left c.search.new.run.left c.in_ok-tree.tree) is (c.in_ok-tree.ensures.tells start order)

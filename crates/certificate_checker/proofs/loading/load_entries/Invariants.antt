@@ -7,5 +7,5 @@ use Rattle.certificate_checker.proofs.loading.load_entries.Given as goal
 abbrev pub invariant-loop : goal.invariant-loop
 invariant-loop l =
     (ms : List (ℕ × ℕ))
-    × ((with_front ms (entries_at l.total (l.count - l.counter) l.loaded.reach l.rest) ≡ entries_at l.total l.count 0 l.bytes)
-    × IsLoaded l.rows l.multipliers l.loaded.reach l.loaded.bound ms)
+    × ((with_front ms (entries_at l.total (l.count - l.counter) l.loaded.row_end l.rest) ≡ entries_at l.total l.count 0 l.bytes)
+    × IsLoaded l.rows l.multipliers l.loaded.row_end l.loaded.bound ms)

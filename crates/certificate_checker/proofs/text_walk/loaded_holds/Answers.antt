@@ -6,4 +6,4 @@ use Rattle.certificate_checker.proofs.text_walk.loaded_holds.Goals as goal
 pub returns : goal.returns
 returns c ms loaded =
     let side = c.args.task.now.side.now in
-    dense_tested (plain_side side) c.args.task.now.best c.args.marks.now c.args.multipliers.now c.args.scale c.args.loaded.now.reach c.args.loaded.now.bound ms c.sums_hold.result side.bounds loaded (omega arith) c.requires.least c.requires.most c.sums_hold.ensures
+    dense_tested (plain_side side) c.args.task.now.best c.args.marks.now c.args.multipliers.now c.args.scale c.args.loaded.now.row_end c.args.loaded.now.bound ms c.sums_hold.result side.bounds loaded (omega arith) c.requires.least c.requires.most c.sums_hold.ensures

@@ -15,7 +15,7 @@ returns c =
     let task = c.args.task.now in
     let loads = c.in_ok-loaded.ensures.loads in
     let tree = dual c.in_ok-scale.scale loads.0 in
-    let loaded = subst (λ rows. IsLoaded rows c.load_entries.new.multipliers c.in_ok-loaded.loaded.reach c.in_ok-loaded.loaded.bound loads.0) c.deref.ensures.value loads.1.1 in (
+    let loaded = subst (λ rows. IsLoaded rows c.load_entries.new.multipliers c.in_ok-loaded.loaded.row_end c.in_ok-loaded.loaded.bound loads.0) c.deref.ensures.value loads.1.1 in (
       tree,
       (
         dual_read task.total c.args.bytes.now c.in_ok-scale.scale c.in_ok-scale.rest.now c.in_ok-count.count c.in_ok-count.rest.now loads.0 c.in_ok-loaded.rest.now c.in_ok-scale.ensures.gives c.in_ok-count.ensures loads.1.0,

@@ -3,8 +3,8 @@ use Rattle.elf_reader.specs.File.{plain_view}
 use Rattle.code_blocks.proofs.CodeLemmas.{is_code}
 use Rattle.code_blocks.proofs.building.code_from.Goals as goal
 
-pub all_blocks-requires-clause-apart : goal.all_blocks-requires-clause-apart
-all_blocks-requires-clause-apart c = rw c.deref.ensures.value c.in_ok-functions.ensures.apart
+pub all_blocks-requires-clause-disjoint : goal.all_blocks-requires-clause-disjoint
+all_blocks-requires-clause-disjoint c = rw c.deref.ensures.value c.in_ok-functions.ensures.disjoint
 
 pub returns : goal.returns
 returns c =

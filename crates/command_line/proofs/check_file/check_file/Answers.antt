@@ -2,27 +2,27 @@ use Rattle.std.proofs.lemmas.Result.{err_from_is_err_and}
 use Rattle.placement_programme.specs.Views.{plain_programme}
 use Rattle.energy_model.specs.Scenes.{scene_of}
 use Rattle.relinking.proofs.Energies.{within_base}
-use Rattle.command_line.proofs.Analysing.{profiled_refused}
-use Rattle.command_line.proofs.Profiling.{counts_refused}
-use Rattle.command_line.proofs.Certificates.{run_refused_first, certificate_told, states_of}
+use Rattle.command_line.proofs.Analysing.{profiled_rejected}
+use Rattle.command_line.proofs.Profiling.{counts_rejected}
+use Rattle.command_line.proofs.Certificates.{run_rejected_first, certificate_told, states_of}
 use Rattle.command_line.proofs.check_file.check_file.Goals as goal
 
 pub returns-in_err-opened-clause-err : goal.returns-in_err-opened-clause-err
 returns-in_err-opened-clause-err c =
     let p = err_from_is_err_and c.from_residual.result c.from_residual.ensures.1 in
     rw (p.1, p.2)
-    (run_refused_first c.args.board.now c.args.file.now c.args.input.now c.args.cert.now _
-    (profiled_refused c.args.board.now c.args.file.now c.args.input.now _ c.in_err-opened.ensures.err))
+    (run_rejected_first c.args.board.now c.args.file.now c.args.input.now c.args.cert.now _
+    (profiled_rejected c.args.board.now c.args.file.now c.args.input.now _ c.in_err-opened.ensures.err))
 
-pub stated_run-requires : goal.stated_run-requires
-stated_run-requires c = (c.args.file.now, c.in_ok-opened.ensures.ok.analysed)
+pub programme_of_run-requires : goal.programme_of_run-requires
+programme_of_run-requires c = (c.args.file.now, c.in_ok-opened.ensures.ok.analysed)
 
 pub returns-in_err-programme-clause-err : goal.returns-in_err-programme-clause-err
 returns-in_err-programme-clause-err c =
     let p = err_from_is_err_and c.from_residual-in_err-programme.result c.from_residual-in_err-programme.ensures.1 in
     rw (p.1, p.2)
-    (run_refused_first c.args.board.now c.args.file.now c.args.input.now c.args.cert.now _
-    (counts_refused c.args.board.now c.args.file.now c.args.input.now c.in_ok-opened.opened _ c.in_ok-opened.ensures.ok c.in_err-programme.ensures))
+    (run_rejected_first c.args.board.now c.args.file.now c.args.input.now c.args.cert.now _
+    (counts_rejected c.args.board.now c.args.file.now c.args.input.now c.in_ok-opened.opened _ c.in_ok-opened.ensures.ok c.in_err-programme.ensures))
 
 pub checked-requires : goal.checked-requires
 checked-requires c =

@@ -1,13 +1,13 @@
 use Rattle.std.proofs.Common.{arith}
 use Rattle.std.proofs.lemmas.Result.{err_from_is_err_and}
 use Rattle.placement_programme.specs.Views.{plain_programme, plain_choice}
-use Rattle.command_line.proofs.Certificates.{may_report_read, text_reported, text_refused, unspelled_refused}
+use Rattle.command_line.proofs.Certificates.{may_report_read, text_reported, text_rejected, unspelled_rejected}
 use Rattle.command_line.proofs.check_file.checked.Goals as goal
 
 pub returns-in_err-verdict-clause-err : goal.returns-in_err-verdict-clause-err
 returns-in_err-verdict-clause-err c =
     let p = err_from_is_err_and c.from_residual-in_err-verdict.result c.from_residual-in_err-verdict.ensures.1 in
-    rw (p.1, p.2) (unspelled_refused (plain_programme c.args.programme.now) c.args.cert.now _ c.in_err-verdict.ensures.answers)
+    rw (p.1, p.2) (unspelled_rejected (plain_programme c.args.programme.now) c.args.cert.now _ c.in_err-verdict.ensures.answers)
 
 pub answer-requires-clause-feasible : goal.answer-requires-clause-feasible
 answer-requires-clause-feasible c =
@@ -20,5 +20,5 @@ returns-in-Ok-clause-ok c =
 
 pub returns-clause-err : goal.returns-clause-err
 returns-clause-err c =
-    text_refused (plain_programme c.args.programme.now) c.args.nodes c.args.cert.now (plain_choice c.check_text.new.room.choice)
+    text_rejected (plain_programme c.args.programme.now) c.args.nodes c.args.cert.now (plain_choice c.check_text.new.room.choice)
     (λ i. omega (arith, c.type_inv.cert i)) c.in_ok-verdict.verdict c.in-Err.fault c.in_ok-verdict.ensures.answers c.in-Err.ensures.err

@@ -6,20 +6,20 @@ use Rattle.object_machine.specs.Program.{program_of}
 use Rattle.object_machine.specs.Start.{start_of}
 use Rattle.loaded_file.proofs.WordLemmas.{same_view}
 use Rattle.relinking.proofs.Analysed.{may_state}
-use Rattle.command_line.proofs.Analysing.{compared_refused}
-use Rattle.command_line.proofs.ComparingFiles.{compared_files, has_ending, relinked_refused, comparison_refused, comparison_answered}
+use Rattle.command_line.proofs.Analysing.{compared_rejected}
+use Rattle.command_line.proofs.ComparingFiles.{compared_files, has_ending, relinked_rejected, comparison_rejected, comparison_answered}
 use Rattle.command_line.proofs.compare_files.compare_files.Goals as goal
 
 pub returns-in_err-opened-clause-err : goal.returns-in_err-opened-clause-err
 returns-in_err-opened-clause-err c =
     let p = err_from_is_err_and c.from_residual.result c.from_residual.ensures.1 in
-    rw (p.1, p.2) (compared_refused c.args.board.now c.args.file.now c.args.relinked.now c.args.input.now _ c.in_err-opened.ensures.err)
+    rw (p.1, p.2) (compared_rejected c.args.board.now c.args.file.now c.args.relinked.now c.args.input.now _ c.in_err-opened.ensures.err)
 
 pub returns-in_err-view-clause-err : goal.returns-in_err-view-clause-err
 returns-in_err-view-clause-err c =
     let p = err_from_is_err_and c.from_residual-in_err-view.result c.from_residual-in_err-view.ensures.1 in
     rw (p.1, p.2)
-    (relinked_refused c.args.board.now c.args.file.now c.args.relinked.now c.args.input.now c.in_ok-opened.opened.board c.in_ok-opened.ensures.ok.accepts _ c.in_err-view.ensures.fault)
+    (relinked_rejected c.args.board.now c.args.file.now c.args.relinked.now c.args.input.now c.in_ok-opened.opened.board c.in_ok-opened.ensures.ok.accepts _ c.in_err-view.ensures.fault)
 
 pub compare-requires-clause-read : goal.compare-requires-clause-read
 compare-requires-clause-read c =
@@ -62,6 +62,6 @@ returns-clause-err c =
     let o = c.in_ok-opened.opened in
     let is = c.in_ok-opened.ensures.ok in
     let view = c.in_ok-view.view in
-    comparison_refused c.args.board.now c.args.file.now c.args.relinked.now c.args.input.now o.board is.accepts c.in_ok-comparison.comparison _ c.in_ok-view.ensures.fault
+    comparison_rejected c.args.board.now c.args.file.now c.args.relinked.now c.args.input.now o.board is.accepts c.in_ok-comparison.comparison _ c.in_ok-view.ensures.fault
     (compared_files c.args.board.now c.args.file.now c.args.relinked.now c.args.input.now o c.in_ok-comparison.comparison (plain_view view) is (same_view c.args.relinked.now view c.in_ok-view.ensures.file) c.in_ok-comparison.ensures)
     c.in-Err.ensures.err

@@ -1,4 +1,4 @@
-use Rattle.command_line.proofs.Endings.{performs, refused_delivery, refused_preparing}
+use Rattle.command_line.proofs.Endings.{performs, rejected_delivery, rejected_preparing}
 use Rattle.command_line.proofs.performing.perform_command.Goals as goal
 
 pub returns-in-Ok-deliver-clause-ok : goal.returns-in-Ok-deliver-clause-ok
@@ -6,7 +6,7 @@ returns-in-Ok-deliver-clause-ok g c = performs _ _ _ _ _ _ _ c.in-Ok.ensures.ok 
 
 pub returns-in-Err-deliver-clause-err : goal.returns-in-Err-deliver-clause-err
 returns-in-Err-deliver-clause-err g c =
-    refused_delivery _ _ _ _ _ _ _ _ c.in-Ok.ensures.ok c.in-Err-deliver.ensures.err
+    rejected_delivery _ _ _ _ _ _ _ _ c.in-Ok.ensures.ok c.in-Err-deliver.ensures.err
 
 pub returns-in-Err-clause-err : goal.returns-in-Err-clause-err
-returns-in-Err-clause-err g c = refused_preparing _ _ _ _ _ _ c.in-Err.ensures.err c.new.ensures
+returns-in-Err-clause-err g c = rejected_preparing _ _ _ _ _ _ c.in-Err.ensures.err c.new.ensures

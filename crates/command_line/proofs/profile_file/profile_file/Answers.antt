@@ -1,21 +1,21 @@
 use Rattle.std.proofs.lemmas.Result.{err_from_is_err_and}
 use Rattle.elf_reader.specs.File.{plain_view}
-use Rattle.command_line.proofs.Analysing.{profiled_refused}
-use Rattle.command_line.proofs.Profiling.{counts_refused, has_lines, profiles_to}
+use Rattle.command_line.proofs.Analysing.{profiled_rejected}
+use Rattle.command_line.proofs.Profiling.{counts_rejected, has_lines, profiles_to}
 use Rattle.command_line.proofs.profile_file.profile_file.Goals as goal
 
 pub returns-in_err-opened-clause-err : goal.returns-in_err-opened-clause-err
 returns-in_err-opened-clause-err c =
     let p = err_from_is_err_and c.from_residual.result c.from_residual.ensures.1 in
-    rw (p.1, p.2) (profiled_refused c.args.board.now c.args.file.now c.args.input.now _ c.in_err-opened.ensures.err)
+    rw (p.1, p.2) (profiled_rejected c.args.board.now c.args.file.now c.args.input.now _ c.in_err-opened.ensures.err)
 
-pub counted-requires : goal.counted-requires
-counted-requires c = (c.args.file.now, c.in_ok-opened.ensures.ok.analysed)
+pub profile_of_run-requires : goal.profile_of_run-requires
+profile_of_run-requires c = (c.args.file.now, c.in_ok-opened.ensures.ok.analysed)
 
 pub returns-in_err-counts-clause-err : goal.returns-in_err-counts-clause-err
 returns-in_err-counts-clause-err c =
     let p = err_from_is_err_and c.from_residual-in_err-counts.result c.from_residual-in_err-counts.ensures.1 in
-    rw (p.1, p.2) (counts_refused c.args.board.now c.args.file.now c.args.input.now c.in_ok-opened.opened _ c.in_ok-opened.ensures.ok c.in_err-counts.ensures)
+    rw (p.1, p.2) (counts_rejected c.args.board.now c.args.file.now c.args.input.now c.in_ok-opened.opened _ c.in_ok-opened.ensures.ok c.in_err-counts.ensures)
 
 pub profile_lines-requires-clause-ending : goal.profile_lines-requires-clause-ending
 profile_lines-requires-clause-ending c =

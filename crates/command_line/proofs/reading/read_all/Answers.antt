@@ -1,9 +1,9 @@
 use Rattle.std.proofs.Common.{map}
 use Rattle.command_line.specs.Command.{plain_named}
-use Rattle.command_line.proofs.Readings.{one_refused, is_named}
+use Rattle.command_line.proofs.Readings.{one_rejected, is_named}
 use Rattle.command_line.proofs.reading.read_all.Goals as goal
 
 pub returns-in-Err-clause-err : goal.returns-in-Err-clause-err
 returns-in-Err-clause-err g c =
-    one_refused (map plain_named c.args.names.now) _ (g.S.Shelf.view c.args.shelf.now) (g.S.Shelf.view c.loop-named.shelf) (g.S.Shelf.view c.push_text.new.shelf) c.in-Err.fault
+    one_rejected (map plain_named c.args.names.now) _ (g.S.Shelf.view c.args.shelf.now) (g.S.Shelf.view c.loop-named.shelf) (g.S.Shelf.view c.push_text.new.shelf) c.in-Err.fault
     (is_named c.args.names.now c.loop-named.named-index _ c.loop-named-test.true) c.loop-named.invariant.same c.in-Err.ensures.err

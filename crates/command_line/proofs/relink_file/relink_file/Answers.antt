@@ -5,14 +5,14 @@ use Rattle.placement_programme.specs.Views.{plain_programme, plain_choice}
 use Rattle.relinking.specs.FoundChoice.{is_optimal}
 use Rattle.relinking.specs.Report.{IsRelinkReport}
 use Rattle.relinking.proofs.Analysed.{findings}
-use Rattle.command_line.proofs.Analysing.{opened_view, profiled_refused}
-use Rattle.command_line.proofs.Profiling.{counts_refused}
+use Rattle.command_line.proofs.Analysing.{opened_view, profiled_rejected}
+use Rattle.command_line.proofs.Profiling.{counts_rejected}
 use Rattle.command_line.proofs.relink_file.relink_file.Goals as goal
 
 pub returns-in_err-opened-clause-err : goal.returns-in_err-opened-clause-err
 returns-in_err-opened-clause-err c =
     let p = err_from_is_err_and c.from_residual.result c.from_residual.ensures.1 in
-    rw (p.1, p.2) (profiled_refused c.args.board.now c.args.file.now c.args.input.now _ c.in_err-opened.ensures.err)
+    rw (p.1, p.2) (profiled_rejected c.args.board.now c.args.file.now c.args.input.now _ c.in_err-opened.ensures.err)
 
 pub relink_analysed-requires : goal.relink_analysed-requires
 relink_analysed-requires c = (c.args.file.now, c.in_ok-opened.ensures.ok.analysed)
@@ -20,7 +20,7 @@ relink_analysed-requires c = (c.args.file.now, c.in_ok-opened.ensures.ok.analyse
 pub returns-in_err-relinked-clause-err : goal.returns-in_err-relinked-clause-err
 returns-in_err-relinked-clause-err c =
     let p = err_from_is_err_and c.from_residual-in_err-relinked.result c.from_residual-in_err-relinked.ensures.1 in
-    rw (p.1, p.2) (counts_refused c.args.board.now c.args.file.now c.args.input.now c.in_ok-opened.opened _ c.in_ok-opened.ensures.ok c.in_err-relinked.ensures.err)
+    rw (p.1, p.2) (counts_rejected c.args.board.now c.args.file.now c.args.input.now c.in_ok-opened.opened _ c.in_ok-opened.ensures.ok c.in_err-relinked.ensures.err)
 
 pub relink_report-requires : goal.relink_report-requires
 relink_report-requires c =

@@ -7,7 +7,7 @@ use Rattle.object_machine.specs.Program.{program_of}
 use Rattle.object_machine.specs.State.{SourceState}
 use Rattle.object_machine.specs.Machine.{state_of}
 use Rattle.compare_runner.specs.declared.comparing.Comparison.TheVariants.{SourceFault}
-use Rattle.compare_runner.specs.Comparing.{SourceEnds, Tells, JudgesRun}
+use Rattle.compare_runner.specs.Comparing.{SourceEnds, Reports, JudgesRun}
 use Rattle.compare_runner.proofs.FarLemmas.{judged_run, judged_told}
 use Rattle.compare_runner.proofs.comparing.compare.Goals as goal
 
@@ -23,7 +23,7 @@ returns-in-AddressFault c =
     let ran = c.in_ok-taken.ensures p c.in_ok-program.ensures.program in
     let ends = subst (λ (x : SourceState). SourceEnds p c.args.n x taken end) c.in_ok-program.ensures.start ran.1 in
     let fault = c.in-AddressFault in
-    let told = subst (λ (o : Outcome). Tells o (JudgesRun board taken end start) (SourceFault fault.pc fault.why)) (sym fault.is ∙ c.outcome-outcome.ensures p) refl in
+    let told = subst (λ (o : Outcome). Reports o (JudgesRun board taken end start) (SourceFault fault.pc fault.why)) (sym fault.is ∙ c.outcome-outcome.ensures p) refl in
     (taken, (end, (ends, told)))
 
 pub returns : goal.returns

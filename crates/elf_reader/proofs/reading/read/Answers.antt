@@ -1,7 +1,7 @@
 use Rattle.std.proofs.Common.{arith}
 use Rattle.std.proofs.lemmas.List.Elements.{All-from_get_or}
 use Rattle.elf_reader.specs.Loadable.{IsByte, AreBytes}
-use Rattle.elf_reader.proofs.SegmentLemmas.{load_segments_loadable, load_segments_apart}
+use Rattle.elf_reader.proofs.SegmentLemmas.{load_segments_loadable, load_segments_disjoint}
 use Rattle.elf_reader.proofs.reading.read.Goals as goal
 
 pub returns-clause-loadable : goal.returns-clause-loadable
@@ -10,6 +10,6 @@ returns-clause-loadable c =
     let bytes : AreBytes file = All-from_get_or IsByte file 0 (λ k below. let fits = c.type_inv.bytes k in omega (arith, fits)) in
     rw c.in_ok-view_of.ensures.segments (load_segments_loadable file bytes c.in_ok-check_program_headers.ensures.fault)
 
-pub returns-clause-apart : goal.returns-clause-apart
-returns-clause-apart c =
-    rw c.in_ok-view_of.ensures.segments (load_segments_apart c.args.bytes.now c.in_ok-check_program_headers.ensures.fault)
+pub returns-clause-disjoint : goal.returns-clause-disjoint
+returns-clause-disjoint c =
+    rw c.in_ok-view_of.ensures.segments (load_segments_disjoint c.args.bytes.now c.in_ok-check_program_headers.ensures.fault)

@@ -1,6 +1,6 @@
 use Rattle.std.proofs.Common.{arith}
 use Rattle.std.proofs.lemmas.Result.{on_ok_weaker}
-use Rattle.hex_image.proofs.RunLemmas.{pushed_joined, pushed_apart}
+use Rattle.hex_image.proofs.RunLemmas.{pushed_joined, pushed_disjoint}
 use Rattle.hex_image.proofs.reading.push_byte.Goals as goal
 
 pub returns-then-from-len : goal.returns-then-from-len
@@ -10,5 +10,5 @@ returns-then-from-len c =
 pub returns : goal.returns
 returns c =
     on_ok_weaker c.push_run-2.result
-    (λ pushed. pushed_apart c.args.runs.now.items c.push-2.new.self.items c.pop.new.self.items c.in-Some.last _ c.args.address c.args.byte c.in-Some.ensures.items c.in_ok-push-2.ensures.items (λ meets. c.if-from-len.false (omega arith)) pushed)
+    (λ pushed. pushed_disjoint c.args.runs.now.items c.push-2.new.self.items c.pop.new.self.items c.in-Some.last _ c.args.address c.args.byte c.in-Some.ensures.items c.in_ok-push-2.ensures.items (λ ranges_overlap. c.if-from-len.false (omega arith)) pushed)
     c.push_run-2.ensures

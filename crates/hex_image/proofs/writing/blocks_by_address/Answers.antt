@@ -13,7 +13,7 @@ returns-clause-runs c =
     let segments = segments_of c.args.view.now in
     let sort = c.in_ok-sort_by_key.ensures in
     let order = IsNonDecreasingBy-from_sort_by_key (λ (b : Block). b.start) _ sort.sorted (λ a r q k. search rules) in
-    sorted_blocks _ _ (filled_runs segments) c.in_ok-blocks.ensures.runs (filled_filled (map segment_run segments)) (filled_disjoint segments c.requires.loadable c.requires.apart) sort.permutation order
+    sorted_blocks _ _ (filled_runs segments) c.in_ok-blocks.ensures.runs (filled_filled (map segment_run segments)) (filled_disjoint segments c.requires.loadable c.requires.disjoint) sort.permutation order
 
 pub returns-clause-placed : goal.returns-clause-placed
 returns-clause-placed c = All-permutation IsPlaced _ _ c.in_ok-sort_by_key.ensures.permutation c.in_ok-blocks.ensures.placed

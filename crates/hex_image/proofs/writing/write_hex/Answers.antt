@@ -13,4 +13,4 @@ returns-clause-text c =
     c.in_ok-push_tail.ensures ∙ whole_text c.push_blocks.new.text.bytes.items pieces c.args.view.now.entry taken
 
 pub returns-clause-records : goal.returns-clause-records
-returns-clause-records c = rw (returns-clause-text c) (newlines_counted (segments_of c.args.view.now) c.args.view.now.entry c.requires.loadable c.requires.apart)
+returns-clause-records c = rw (returns-clause-text c) (newlines_counted (segments_of c.args.view.now) c.args.view.now.entry c.requires.loadable c.requires.disjoint)

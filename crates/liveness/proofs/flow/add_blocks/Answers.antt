@@ -4,8 +4,8 @@ use Rattle.std.proofs.lemmas.List.{length-replicate}
 use Rattle.code_blocks.specs.declared.parts.Unit.{Unit}
 use Rattle.reach_graph.specs.Reaching.{HasMark, plain_rows}
 use Rattle.liveness.specs.Summaries.{UsedFirst, PassesOver}
-use Rattle.liveness.specs.Flows.{BlockArrows, MaskArrows}
-use Rattle.liveness.proofs.ArrowLemmas.{adds_none, adds_both}
+use Rattle.liveness.specs.Flows.{BlockEdges, MaskEdges}
+use Rattle.liveness.proofs.GraphEdgeLemmas.{adds_none, adds_both}
 use Rattle.liveness.proofs.EdgeLemmas.{no_blocks, blocks_more}
 use Rattle.liveness.proofs.TableLemmas.{no_marks, marks_more, block_units}
 use Rattle.liveness.proofs.flow.add_blocks.Goals as goal
@@ -13,7 +13,7 @@ use Rattle.liveness.proofs.flow.add_blocks.Goals as goal
 pub loop-block-init : goal.loop-block-init
 loop-block-init c =
     record {
-      arrows = adds_none (BlockArrows c.args.code.now c.args.hub 0) (plain_rows c.args.rows.now) (no_blocks c.args.code.now c.args.hub);
+      edges = adds_none (BlockEdges c.args.code.now c.args.hub 0) (plain_rows c.args.rows.now) (no_blocks c.args.code.now c.args.hub);
       marks = no_marks c.args.code.now (c.args.hub + 1) c.args.words.now c.requires.words;
     }
 
@@ -28,9 +28,9 @@ loop-block-preserved c =
     let size : length c.args.words.now ≡ hub + 1 = ap length c.requires.words ∙ length-replicate {A = ℕ} (hub + 1) 0 in
     let fits : b < length c.loop-block.words = omega (arith, size, c.loop-block.auto.words, c.loop-block-test.true) in
     record {
-      arrows =
-          adds_both (BlockArrows code hub b) (MaskArrows code hub b done.result.kept) (BlockArrows code hub (b + 1)) (plain_rows c.args.rows.now) (plain_rows c.loop-block.rows)
-          (plain_rows c.add_block.new.rows) c.loop-block.invariant.arrows c.in_ok-add_block.ensures
+      edges =
+          adds_both (BlockEdges code hub b) (MaskEdges code hub b done.result.kept) (BlockEdges code hub (b + 1)) (plain_rows c.args.rows.now) (plain_rows c.loop-block.rows)
+          (plain_rows c.add_block.new.rows) c.loop-block.invariant.edges c.in_ok-add_block.ensures
           (blocks_more code hub b done.result.kept
           (subst (λ (us : List Unit). (x : ℕ) → x < 32 → HasMark done.result.kept x ↔ PassesOver us x) (sym units) done.ensures.kept));
       marks =

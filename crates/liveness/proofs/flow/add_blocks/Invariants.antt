@@ -1,10 +1,10 @@
 use Rattle.reach_graph.specs.Reaching.{plain_rows}
-use Rattle.liveness.specs.Flows.{Adds, BlockArrows, AreMarks}
+use Rattle.liveness.specs.Flows.{Adds, BlockEdges, AreMarks}
 use Rattle.liveness.proofs.flow.add_blocks.Given as goal
 
 abbrev pub invariant-loop-block : goal.invariant-loop-block
 invariant-loop-block l =
     record {
-      arrows : Adds (BlockArrows l.code l.hub l.block) (plain_rows l.fn.rows) (plain_rows l.rows);
+      edges : Adds (BlockEdges l.code l.hub l.block) (plain_rows l.fn.rows) (plain_rows l.rows);
       marks : AreMarks l.code l.block l.words;
     }

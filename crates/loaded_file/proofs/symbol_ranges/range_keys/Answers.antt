@@ -2,8 +2,8 @@ use Rattle.std.proofs.Common.{◌∙◌, sym, ap, arith}
 use Rattle.std.proofs.lemmas.List.{get_or-map}
 use Rattle.elf_reader.specs.File.{plain_symbol, plain_view}
 use Rattle.loaded_file.specs.Records.{no_symbol}
-use Rattle.loaded_file.specs.Extents.{is_key_of}
-use Rattle.loaded_file.proofs.ExtentLemmas.{one_more}
+use Rattle.loaded_file.specs.ByteRanges.{is_key_of}
+use Rattle.loaded_file.proofs.ByteRangeLemmas.{one_more}
 use Rattle.loaded_file.proofs.symbol_ranges.range_keys.Goals as goal
 
 pub loop-k-preserved : goal.loop-k-preserved

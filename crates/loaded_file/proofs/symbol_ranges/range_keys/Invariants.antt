@@ -3,7 +3,7 @@ use Rattle.std.specs.List.{list_any}
 use Rattle.list_checks.specs.Tests.{any_below}
 use Rattle.elf_reader.specs.File.{plain_view}
 use Rattle.loaded_file.specs.Ranges.{is_symbol_of}
-use Rattle.loaded_file.specs.Extents.{is_key_of}
+use Rattle.loaded_file.specs.ByteRanges.{is_key_of}
 use Rattle.loaded_file.proofs.symbol_ranges.range_keys.Given as goal
 
 abbrev pub invariant-loop-k : goal.invariant-loop-k

@@ -1,4 +1,4 @@
-use Rattle.loaded_file.proofs.ExtentLemmas.{ok_then}
+use Rattle.loaded_file.proofs.ByteRangeLemmas.{ok_then}
 use Rattle.movable_ranges.proofs.MarkLemmas.{none_of}
 use Rattle.movable_ranges.proofs.marks.no_marks.Goals as goal
 

@@ -1,5 +1,5 @@
 use Rattle.std.proofs.Common.{◌≡◌}
-use Rattle.movable_ranges.specs.Apart.{unmarked_below}
+use Rattle.movable_ranges.specs.Disjoint.{unmarked_below}
 use Rattle.movable_ranges.proofs.marks.unmarked.Given as goal
 
 abbrev pub invariant-loop-k : goal.invariant-loop-k

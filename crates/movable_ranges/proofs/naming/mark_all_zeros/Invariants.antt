@@ -2,7 +2,7 @@ use Rattle.std.proofs.Common.{◌≡◌, length}
 use Rattle.list_checks.specs.Tests.{any_below}
 use Rattle.elf_reader.specs.File.{plain_view}
 use Rattle.movable_ranges.specs.Fixed.{stands_in_zeros}
-use Rattle.movable_ranges.specs.Apart.{AddsRule}
+use Rattle.movable_ranges.specs.Disjoint.{AddsRule}
 use Rattle.movable_ranges.proofs.naming.mark_all_zeros.Given as goal
 
 abbrev pub invariant-loop-k : goal.invariant-loop-k

@@ -2,7 +2,7 @@ use Rattle.std.proofs.Common.{◌≡◌, length}
 use Rattle.list_checks.specs.Tests.{any_below}
 use Rattle.elf_reader.specs.File.{plain_view}
 use Rattle.movable_ranges.specs.Fixed.{has_listed_name}
-use Rattle.movable_ranges.specs.Apart.{AddsRule}
+use Rattle.movable_ranges.specs.Disjoint.{AddsRule}
 use Rattle.movable_ranges.proofs.naming.mark_listed.Given as goal
 
 abbrev pub invariant-loop-k : goal.invariant-loop-k

@@ -1,7 +1,7 @@
 use Rattle.std.proofs.Common.{◌∙◌}
 use Rattle.elf_reader.specs.File.{plain_view}
 use Rattle.movable_ranges.specs.Shares.{is_shared_from}
-use Rattle.movable_ranges.proofs.ApartLemmas.{pass_more}
+use Rattle.movable_ranges.proofs.DisjointLemmas.{pass_more}
 use Rattle.movable_ranges.proofs.sharing.mark_shared.Goals as goal
 
 pub loop-i-preserved : goal.loop-i-preserved

@@ -2,11 +2,11 @@ use Rattle.std.proofs.Common.{sym, subst}
 use Rattle.elf_reader.specs.File.{plain_view}
 use Rattle.elf_reader.specs.declared.view.Reloc.{Reloc}
 use Rattle.loaded_file.specs.Records.{reloc_at, counts}
-use Rattle.sound_relocations.proofs.ListLemmas.{reloc_is}
-use Rattle.movable_ranges.specs.Apart.{Finds}
+use Rattle.rewritable_relocations.proofs.ListLemmas.{reloc_is}
+use Rattle.movable_ranges.specs.Disjoint.{Finds}
 use Rattle.movable_ranges.specs.Meant.{leads_inside}
 use Rattle.movable_ranges.specs.Shares.{shares_from}
-use Rattle.movable_ranges.proofs.ApartLemmas.{behind_open, behind_shut}
+use Rattle.movable_ranges.proofs.DisjointLemmas.{behind_open, behind_shut}
 use Rattle.movable_ranges.proofs.sharing.shared_place.Goals as goal
 
 pub returns-then-is_sharing-clause-found : goal.returns-then-is_sharing-clause-found

@@ -1,7 +1,7 @@
 use Rattle.std.proofs.Common.{◌≡◌, ◌∙◌, ◌<◌, ◌≤◌, true, sym, ap, subst, arith}
 use Rattle.elf_reader.specs.File.{plain_view}
 use Rattle.loaded_file.specs.Records.{reloc_at, counts}
-use Rattle.loaded_file.specs.Extents.{extent_at}
+use Rattle.loaded_file.specs.ByteRanges.{byte_range_at}
 use Rattle.object_graph.proofs.GivenLemmas.{lead_far, lead_found}
 use Rattle.object_graph.proofs.RangeLemmas.{reloc_is, offset_is}
 use Rattle.object_graph.proofs.leads.lead_of.Goals as goal

@@ -3,8 +3,8 @@ use Rattle.std.proofs.lemmas.List.Sorted.{IsNonDecreasingBy-from_sort_by_key, li
 use Rattle.object_graph.proofs.SortLemmas.{sorted_words}
 use Rattle.object_graph.proofs.placed.sort_placed.Goals as goal
 
-pub returns-clause-apart : goal.returns-clause-apart
-returns-clause-apart g c =
+pub returns-clause-disjoint : goal.returns-clause-disjoint
+returns-clause-disjoint g c =
     let place = g.T.Placed.place in
     let sort = c.sort_unstable_by_key.ensures in
     let order = IsNonDecreasingBy-from_sort_by_key place _ sort.sorted (λ a r q k. search rules) in

@@ -2,7 +2,7 @@ use Rattle.std.proofs.Common.{◌≡◌, ◌∙◌, true, false, sym, ap}
 use Rattle.elf_reader.specs.File.{plain_view}
 use Rattle.elf_reader.specs.declared.view.Reloc.{Reloc}
 use Rattle.loaded_file.specs.Records.{reloc_at}
-use Rattle.sound_relocations.specs.Sound.{is_pair_low}
+use Rattle.rewritable_relocations.specs.Rewritable.{is_pair_low}
 use Rattle.object_graph.proofs.GivenLemmas.{low_is_site, alone_is_site}
 use Rattle.object_graph.proofs.RangeLemmas.{reloc_is}
 use Rattle.object_graph.proofs.sites.site_of.Goals as goal

@@ -14,7 +14,7 @@ returns c =
     let begins : last.base ≤ c.args.address = c.count_begun-begun.ensures.begun (begun - 1) (omega arith) in
     distance_tells last.base last.size c.args.address begins
     ∙ last_tells c.args.ranges.now c.args.address begun (begun - 1) record {
-      apart = c.requires;
+      disjoint = c.requires;
       bound = c.count_begun-begun.ensures.bound;
       begins = c.count_begun-begun.ensures.begun;
       later = c.count_begun-begun.ensures.later;

@@ -5,8 +5,8 @@ use Rattle.code_blocks.specs.Blocks.{IsBlock}
 use Rattle.code_blocks.specs.declared.parts.Unit.{Unit}
 use Rattle.code_blocks.specs.declared.parts.Block.{Block}
 use Rattle.object_machine.specs.declared.units.Prepared.{Prepared}
-use Rattle.object_machine.specs.Preparing.{ArePrepared, IsLaid}
-use Rattle.object_machine.proofs.LaidLemmas.{piece_of, laid_more}
+use Rattle.object_machine.specs.Preparing.{ArePrepared, IsBlockUnits}
+use Rattle.object_machine.proofs.BlockUnitsLemmas.{piece_of, block_units_more}
 use Rattle.object_machine.proofs.TableLemmas.{block_is_code}
 use Rattle.object_machine.proofs.preparing.lay_blocks.Goals as goal
 
@@ -27,11 +27,11 @@ loop-i-preserved c board =
     let block : IsBlock v functions b = subst (IsBlock v functions) (sym is) (c.requires.code.blocks i b below) in
     let are : ArePrepared v g b.units.items (length b.units.items) rs = subst (λ (xs : List Unit). ArePrepared v g xs (length xs) rs) c.deref.ensures.value c.in_ok-units.ensures in
     let piece = piece_of view board g functions b rs c.requires.read starts_code block are in
-    let units : c.lay.new.laid.units.items ≡ c.loop-i.laid.units.items ++ rs = c.in_ok-lay.ensures.units ∙ ap (λ (xs : List Prepared). c.loop-i.laid.units.items ++ xs) c.deref-in-loop-i.ensures.value in
-    laid_more v board g blocks i c.loop-i.laid c.lay.new.laid b rs below (sym is) (c.loop-i.invariant board) piece units c.in_ok-lay.ensures.starts c.in_ok-lay.ensures.places
+    let units : c.lay.new.block_units.units.items ≡ c.loop-i.block_units.units.items ++ rs = c.in_ok-lay.ensures.units ∙ ap (λ (xs : List Prepared). c.loop-i.block_units.units.items ++ xs) c.deref-in-loop-i.ensures.value in
+    block_units_more v board g blocks i c.loop-i.block_units c.lay.new.block_units b rs below (sym is) (c.loop-i.invariant board) piece units c.in_ok-lay.ensures.starts c.in_ok-lay.ensures.places
 
 pub returns : goal.returns
 returns c board =
     let blocks = c.args.code.now.blocks.items in
     let all : c.loop-i.i ≡ length blocks = omega arith in
-    subst (λ (n : ℕ). IsLaid (plain_view c.args.view.now) board c.args.graph.now blocks n c.loop-i.laid) all (c.loop-i.invariant board)
+    subst (λ (n : ℕ). IsBlockUnits (plain_view c.args.view.now) board c.args.graph.now blocks n c.loop-i.block_units) all (c.loop-i.invariant board)

@@ -1,6 +1,6 @@
 use Rattle.std.proofs.Common.{◌<◌, length, arith}
 use Rattle.elf_reader.specs.File.{plain_view}
-use Rattle.object_machine.proofs.LaidLemmas.{prepared_more}
+use Rattle.object_machine.proofs.BlockUnitsLemmas.{prepared_more}
 use Rattle.object_machine.proofs.preparing.prepared_units.Goals as goal
 
 pub loop-k-preserved : goal.loop-k-preserved

@@ -11,16 +11,16 @@ invariant_of-result c =
     let board = c.args.board.now in
     let g = c.args.graph.now in
     let code = c.args.code.now in
-    let laid = c.in_ok-laid.laid in
+    let block_units = c.in_ok-block_units.block_units in
     let reached = c.in_ok-reached.reached.items in
     let fixed = c.in_ok-fixed.fixed.items in
     let agrees = fixed_agrees v board fixed c.requires.lawful c.in_ok-fixed.ensures.exact in
     let is_reached = c.in_ok-reached.ensures ∙ c.deref-2.ensures.value in
-    let are = are_tables v board g c.in_ok-objects.objects code laid reached fixed c.requires.graph c.requires.grain c.requires.code c.in_ok-objects.ensures (c.in_ok-laid.ensures board) is_reached agrees in
+    let are = are_tables v board g c.in_ok-objects.objects code block_units reached fixed c.requires.graph c.requires.grain c.requires.code c.in_ok-objects.ensures (c.in_ok-block_units.ensures board) is_reached agrees in
     record {
       grain = are.grain;
       below = are.below;
-      apart = are.apart;
+      disjoint = are.disjoint;
       off = are.off;
       fit = are.fit;
       joined = are.joined;
@@ -28,7 +28,7 @@ invariant_of-result c =
       ascending = are.ascending;
       reached_ascending = are.reached_ascending;
       among = are.among;
-      ranges = c.in_ok-fixed.ensures.apart;
+      ranges = c.in_ok-fixed.ensures.disjoint;
     }
 
 pub returns-clause-program : goal.returns-clause-program
@@ -37,4 +37,4 @@ returns-clause-program c =
     let board = c.args.board.now in
     let agrees = fixed_agrees v board c.in_ok-fixed.fixed.items c.requires.lawful c.in_ok-fixed.ensures.exact in
     let is_reached = c.in_ok-reached.ensures ∙ c.deref-2.ensures.value in
-    agree v board c.args.graph.now c.args.code.now c.in_ok-laid.laid _ c.requires.code c.in_ok-objects.ensures (c.in_ok-laid.ensures board) refl refl is_reached agrees
+    agree v board c.args.graph.now c.args.code.now c.in_ok-block_units.block_units _ c.requires.code c.in_ok-objects.ensures (c.in_ok-block_units.ensures board) refl refl is_reached agrees

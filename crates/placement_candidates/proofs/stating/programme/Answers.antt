@@ -3,5 +3,5 @@ use Rattle.placement_candidates.specs.Selected.{selected}
 use Rattle.placement_candidates.proofs.stating.programme.Goals as goal
 
 pub returns-in-Ok : goal.returns-in-Ok
-returns-in-Ok c = λ view moves given.
-    c.in-Ok.ensures ∙ ap selected (c.in_ok-full.ensures view moves given).is
+returns-in-Ok c = λ view transitions given.
+    c.in-Ok.ensures ∙ ap selected (c.in_ok-full.ensures view transitions given).is

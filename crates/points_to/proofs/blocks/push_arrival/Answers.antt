@@ -9,8 +9,8 @@ pub returns-in-Some : goal.returns-in-Some
 returns-in-Some c =
     let n = c.args.nodes.blocks in
     let d = c.in-Some.block in
-    let old = plain_rows c.args.arrows.now in
-    let new = plain_rows c.push_registers.new.arrows in
+    let old = plain_rows c.args.graph_edges.now in
+    let new = plain_rows c.push_registers.new.graph_edges in
     let (below, starts) = c.in-Some.ensures in
     let e : c.index.result.now ≡ slice_index_or c.args.code.now.indirect.items c.args.i 0 = grind (arith, common_steps) in
     let one = subst (λ (q : ℕ). Adds (Upto 32 (RegisterEdge q c.entry.result)) old new) c.hub.ensures c.in_ok-push_registers.ensures in

@@ -10,4 +10,4 @@ loop-i-preserved c = adds_more c.loop-i.i (ArrivalEdge c.args.code.now c.args.no
 pub returns : goal.returns
 returns c =
     let all : c.loop-i.i ≡ length c.args.code.now.indirect.items = omega arith in
-    subst (λ (m : ℕ). Adds (Upto m (ArrivalEdge c.args.code.now c.args.nodes.blocks)) (plain_rows c.args.arrows.now) (plain_rows c.loop-i.arrows)) all c.loop-i.invariant
+    subst (λ (m : ℕ). Adds (Upto m (ArrivalEdge c.args.code.now c.args.nodes.blocks)) (plain_rows c.args.graph_edges.now) (plain_rows c.loop-i.graph_edges)) all c.loop-i.invariant

@@ -10,4 +10,4 @@ loop-block-preserved c = adds_more c.loop-block.block (BlockEdges c.args.code.no
 pub returns : goal.returns
 returns c =
     let all : c.loop-block.block ≡ length c.args.code.now.blocks.items = omega (arith, c.requires.blocks) in
-    subst (λ (m : ℕ). Adds (Upto m (BlockEdges c.args.code.now c.args.graph.now c.args.nodes.blocks)) (plain_rows c.args.arrows.now) (plain_rows c.loop-block.arrows)) all c.loop-block.invariant
+    subst (λ (m : ℕ). Adds (Upto m (BlockEdges c.args.code.now c.args.graph.now c.args.nodes.blocks)) (plain_rows c.args.graph_edges.now) (plain_rows c.loop-block.graph_edges)) all c.loop-block.invariant

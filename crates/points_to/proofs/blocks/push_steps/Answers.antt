@@ -10,8 +10,8 @@ loop-i-preserved c =
     let b = c.args.block in
     let numbers = c.args.numbers.now in
     let i = c.loop-i.i in
-    let now = plain_rows c.loop-i.arrows in
-    let new = plain_rows c.push_registers.new.arrows in
+    let now = plain_rows c.loop-i.graph_edges in
+    let new = plain_rows c.push_registers.new.graph_edges in
     let one = subst (λ (q : ℕ). Adds (Upto 32 (RegisterEdge q c.entry.result)) now new) c.end.ensures c.in_ok-push_registers.ensures in
     let two = subst (λ (q : ℕ). Adds (Upto 32 (RegisterEdge (end_of n b 0) q)) now new) c.entry.ensures one in
-    adds_more i (StepEdge n b numbers) (plain_rows c.args.arrows.now) now new c.loop-i.invariant two
+    adds_more i (StepEdge n b numbers) (plain_rows c.args.graph_edges.now) now new c.loop-i.invariant two

@@ -29,17 +29,17 @@ loop-i-preserved c =
     let g = c.args.graph.now in
     let i = c.loop-i.i in
     let o = (slice_index_or g.data_words.items i no_word).object in
-    let now = plain_rows c.loop-i.arrows in
-    let new = plain_rows c.push.new.arrows in
+    let now = plain_rows c.loop-i.graph_edges in
+    let new = plain_rows c.push.new.graph_edges in
     let inside : i < length g.data_words.items = omega arith in
     let w = c.index.result.now in
     let object : w.object ≡ o = ap (λ (d : DataWord). d.object) (c.index.ensures ∙ get_or_default g.data_words.items i w no_word inside) in
     let one = subst (λ (q : ℕ). Adds (OneEdge q c.memory.result) now new) c.object.ensures c.in_ok-push.ensures in
     let two = subst (λ (q : ℕ). Adds (OneEdge (object_node n w.object) q) now new) c.memory.ensures one in
     let three = subst (λ (q : ℕ). Adds (OneEdge (object_node n q) (memory n)) now new) object two in
-    adds_more i (WordEdge g n) (plain_rows c.args.arrows.now) now new c.loop-i.invariant three
+    adds_more i (WordEdge g n) (plain_rows c.args.graph_edges.now) now new c.loop-i.invariant three
 
 pub returns : goal.returns
 returns c =
     let all : c.loop-i.i ≡ length c.args.graph.now.data_words.items = omega arith in
-    subst (λ (m : ℕ). Adds (Upto m (WordEdge c.args.graph.now c.args.nodes.blocks)) (plain_rows c.args.arrows.now) (plain_rows c.loop-i.arrows)) all c.loop-i.invariant
+    subst (λ (m : ℕ). Adds (Upto m (WordEdge c.args.graph.now c.args.nodes.blocks)) (plain_rows c.args.graph_edges.now) (plain_rows c.loop-i.graph_edges)) all c.loop-i.invariant

@@ -6,4 +6,4 @@ use Rattle.points_to.proofs.edges.push.Goals as goal
 pub returns : goal.returns
 unfolding all_marks
 returns c =
-    push_one c.args.arrows.now c.args.from c.index-arrows-from.result c.push.new.self (record { to = c.args.to; mask = 18446744073709551615 }) c.requires c.in_ok-push.ensures.items refl
+    push_one c.args.graph_edges.now c.args.from c.index-graph_edges-from.result c.push.new.self (record { to = c.args.to; mask = 18446744073709551615 }) c.requires c.in_ok-push.ensures.items refl

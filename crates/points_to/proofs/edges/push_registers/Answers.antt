@@ -15,4 +15,4 @@ loop-y-preserved c =
 pub returns : goal.returns
 returns c =
     let all : c.loop-y.y ≡ 32 = omega arith in
-    subst (λ (m : ℕ). Adds (Upto m (RegisterEdge c.args.from c.args.to)) (plain_rows c.args.arrows.now) (plain_rows c.loop-y.arrows)) all c.loop-y.invariant
+    subst (λ (m : ℕ). Adds (Upto m (RegisterEdge c.args.from c.args.to)) (plain_rows c.args.graph_edges.now) (plain_rows c.loop-y.graph_edges)) all c.loop-y.invariant

@@ -17,4 +17,4 @@ loop-x-preserved c =
 pub returns : goal.returns
 returns c =
     let all : c.loop-x.x ≡ 32 = omega arith in
-    subst (λ (m : ℕ). Adds (Upto m (RowEdge c.args.nodes.blocks c.args.block c.args.rows.now)) (plain_rows c.args.arrows.now) (plain_rows c.loop-x.arrows)) all c.loop-x.invariant
+    subst (λ (m : ℕ). Adds (Upto m (RowEdge c.args.nodes.blocks c.args.block c.args.rows.now)) (plain_rows c.args.graph_edges.now) (plain_rows c.loop-x.graph_edges)) all c.loop-x.invariant

@@ -8,4 +8,4 @@ use Rattle.points_to.proofs.sources.push_units.Given as goal
 abbrev pub invariant-loop-k : goal.invariant-loop-k
 invariant-loop-k l =
     AreRows l.graph.sites.items (drop l.k l.units) l.rows
-    × Adds (UnitEdges l.nodes.blocks l.block l.graph.sites.items (drop l.k l.units)) (plain_rows l.fn.arrows) (plain_rows l.arrows)
+    × Adds (UnitEdges l.nodes.blocks l.block l.graph.sites.items (drop l.k l.units)) (plain_rows l.fn.graph_edges) (plain_rows l.graph_edges)

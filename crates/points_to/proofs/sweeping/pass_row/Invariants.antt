@@ -1,8 +1,8 @@
 use Rattle.std.proofs.Common.{◌≡◌, ℕ, List}
-use Rattle.reach_graph.specs.Reaching.{arrows_of}
-use Rattle.reach_graph.specs.declared.arrows.Arrow.{Arrow}
+use Rattle.reach_graph.specs.Reaching.{edges_of}
+use Rattle.reach_graph.specs.declared.graph_edges.Edge.{Edge}
 use Rattle.points_to.specs.Sweeps.{AreBetween}
 use Rattle.points_to.proofs.sweeping.pass_row.Given as goal
 
 abbrev pub invariant-loop-i : goal.invariant-loop-i
-invariant-loop-i l = (rows : List (List Arrow)) (start : List ℕ) → arrows_of rows l.node ≡ l.row → AreBetween rows start l.fn.marks → AreBetween rows start l.marks
+invariant-loop-i l = (rows : List (List Edge)) (start : List ℕ) → edges_of rows l.node ≡ l.row → AreBetween rows start l.fn.marks → AreBetween rows start l.marks

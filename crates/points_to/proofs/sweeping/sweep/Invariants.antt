@@ -4,4 +4,4 @@ use Rattle.points_to.specs.Sweeps.{AreBetween}
 use Rattle.points_to.proofs.sweeping.sweep.Given as goal
 
 abbrev pub invariant-loop-block : goal.invariant-loop-block
-invariant-loop-block l = (start : List ℕ) → AreBetween (plain_rows l.arrows) start l.fn.marks → AreBetween (plain_rows l.arrows) start l.marks
+invariant-loop-block l = (start : List ℕ) → AreBetween (plain_rows l.graph_edges) start l.fn.marks → AreBetween (plain_rows l.graph_edges) start l.marks

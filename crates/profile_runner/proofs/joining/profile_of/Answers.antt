@@ -8,8 +8,8 @@ use Rattle.profile_runner.proofs.JoinLemmas.{edges_joined}
 use Rattle.profile_runner.proofs.joining.profile_of.Goals as goal
 
 pub returns : goal.returns
-returns c starts regions last size moves t some =
-    let before : length moves ≡ suc (length moves - 1) = omega (arith, some) in
+returns c starts regions last size transitions t some =
+    let before : length transitions ≡ suc (length transitions - 1) = omega (arith, some) in
     let rows = plain_edges c.args.tally.edges.items in
     let count : length c.args.tally.edges.items ≡ length starts = sym (length-map c.args.tally.edges.items _) ∙ t.edges_are.height_is in
     let edges : c.in_ok-edges.edges.items ≡ joined_below rows (length starts) =
@@ -18,9 +18,9 @@ returns c starts regions last size moves t some =
       steps = t.steps_are;
       outcome_is = refl;
       arrivals = t.arrivals_are;
-      edges = subst (λ (es : List Edge). AreEdges es (length starts) (edges_of starts moves)) (sym edges) (edges_joined rows (length starts) (length moves) (edges_of starts moves) t.edges_are);
-      last_block = t.block_is (length moves - 1) before;
-      last_units = t.units_are (length moves - 1) before;
+      edges = subst (λ (es : List Edge). AreEdges es (length starts) (edges_of starts transitions)) (sym edges) (edges_joined rows (length starts) (length transitions) (edges_of starts transitions) t.edges_are);
+      last_block = t.block_is (length transitions - 1) before;
+      last_units = t.units_are (length transitions - 1) before;
       reads = t.reads_are;
       writes = t.writes_are;
       switches = t.switches_are;

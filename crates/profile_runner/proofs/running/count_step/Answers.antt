@@ -1,6 +1,6 @@
 use Rattle.std.proofs.Common.{ℕ, subst}
 use Rattle.code_blocks.specs.Numbers.{starts_of}
-use Rattle.profile_runner.specs.Move.{is_going}
+use Rattle.profile_runner.specs.Transition.{is_going}
 use Rattle.profile_runner.specs.Tallies.{IsNext}
 use Rattle.profile_runner.proofs.running.count_step.Goals as goal
 

@@ -44,4 +44,4 @@ returns-in-Ok-clause-run c p is =
     let none = sym c.fault_of.ensures ∙ not_some c.fault_of.result c.in_default.not-Some in
     tells_profile (starts_of code) regions.of_block.items regions.count (length graph.objects.items) p c.args.n (state_of p c.args.source.now) c.take_steps.new.source c.take_steps.new.tally c.in-Ok.profile c.outcome.result c.outcome-2.result (c.outcome.ensures p) none (c.outcome-2.ensures p) c.requires.some
     (goes_at_first graph code c.args.source.now p c.requires.started) all
-    (λ moves tally some. c.in-Ok.ensures (starts_of code) regions.of_block.items regions.count (length graph.objects.items) moves tally some)
+    (λ transitions tally some. c.in-Ok.ensures (starts_of code) regions.of_block.items regions.count (length graph.objects.items) transitions tally some)

@@ -1,7 +1,7 @@
 use Rattle.std.proofs.Common.{◌≡◌, ◌∙◌, ◌<◌, ◌≤◌, ℕ, suc, ◌+◌, true, false, sym, ap, subst, arith}
 use Rattle.code_blocks.specs.Numbers.{starts_of}
 use Rattle.object_machine.specs.Machine.{state_of}
-use Rattle.profile_runner.specs.Move.{is_going}
+use Rattle.profile_runner.specs.Transition.{is_going}
 use Rattle.profile_runner.specs.Tallies.{block_now}
 use Rattle.profile_runner.specs.Tally.{IsNew}
 use Rattle.profile_runner.specs.Running.{IsSoFar}

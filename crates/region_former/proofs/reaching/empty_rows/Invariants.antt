@@ -1,5 +1,5 @@
 use Rattle.std.proofs.Common.{◌≡◌, ℕ, length, []}
-use Rattle.region_former.specs.Spreading.{row_of}
+use Rattle.region_former.specs.Propagation.{row_of}
 use Rattle.region_former.proofs.reaching.empty_rows.Given as goal
 
 abbrev pub invariant-loop : goal.invariant-loop

@@ -1,6 +1,6 @@
-use Rattle.region_former.specs.Spreading.{first_mark}
+use Rattle.region_former.specs.Propagation.{first_mark}
 use Rattle.region_former.specs.Rows.{truth_at, Lists}
-use Rattle.region_former.specs.declared.spreading.Reached.TheVariants.{ByNone}
+use Rattle.region_former.specs.declared.propagation.Reached.TheVariants.{ByNone}
 use Rattle.region_former.proofs.reaching.first_marks.Given as goal
 
 abbrev pub invariant-loop-f : goal.invariant-loop-f

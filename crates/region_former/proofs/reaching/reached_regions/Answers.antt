@@ -1,9 +1,9 @@
 use Rattle.std.proofs.Common.{◌≡◌, ◌∙◌, ℕ, ◌<◌, Bool, List, length, min, slice_index_or, sym, ap, subst}
 use Rattle.code_blocks.specs.Blocks.{count_below}
 use Rattle.region_former.specs.Reaching.{is_root, root_region}
-use Rattle.region_former.specs.Spreading.{mark_at, region_by}
+use Rattle.region_former.specs.Propagation.{mark_at, region_by}
 use Rattle.region_former.specs.Rows.{truth_at}
-use Rattle.region_former.specs.declared.spreading.Reached.{Reached}
+use Rattle.region_former.specs.declared.propagation.Reached.{Reached}
 use Rattle.region_former.proofs.MarkLemmas.{reached, count_same}
 use Rattle.region_former.proofs.reaching.reached_regions.Goals as goal
 

@@ -1,4 +1,4 @@
-use Rattle.region_former.specs.Spreading.{mark_at, region_by}
+use Rattle.region_former.specs.Propagation.{mark_at, region_by}
 use Rattle.region_former.specs.Rows.{Lists}
 use Rattle.region_former.proofs.reaching.regions_by.Given as goal
 

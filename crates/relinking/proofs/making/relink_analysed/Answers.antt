@@ -3,7 +3,7 @@ use Rattle.std.proofs.lemmas.Result.{err_from_is_err_and}
 use Rattle.elf_reader.specs.File.{PlainView, plain_view}
 use Rattle.loaded_file.proofs.WordLemmas.{same_view}
 use Rattle.placement_programme.specs.Views.{plain_programme, plain_choice}
-use Rattle.relinking.specs.StatedRun.{StatesProgramme}
+use Rattle.relinking.specs.ProgrammeOfRun.{StatesProgramme}
 use Rattle.relinking.proofs.Counting.{no_memory}
 use Rattle.relinking.proofs.Relinking.{states_data}
 use Rattle.relinking.proofs.making.relink_analysed.Goals as goal

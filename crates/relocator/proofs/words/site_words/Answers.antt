@@ -25,5 +25,5 @@ pub returns : goal.returns
 returns c =
     let xs = c.in_ok-words.words.items in
     let grown = c.in_ok-extend_from_slice.ensures.items ∙ ap (λ (ys : List (ℕ × ℕ)). xs ++ ys) c.deref.ensures.value in
-    are_site_words (plain_view c.args.view.now) c.args.graph.now c.args.places.now c.args.region_at.now xs c.in_ok-data_words.data_words.items c.sort_words.new.words.items c.in_ok-words.ensures c.in_ok-data_words.ensures c.sort_words.ensures.apart
+    are_site_words (plain_view c.args.view.now) c.args.graph.now c.args.places.now c.args.region_at.now xs c.in_ok-data_words.data_words.items c.sort_words.new.words.items c.in_ok-words.ensures c.in_ok-data_words.ensures c.sort_words.ensures.disjoint
     (λ test. c.sort_words.ensures.same test ∙ ap (λ (es : List (ℕ × ℕ)). list_any test es) grown)

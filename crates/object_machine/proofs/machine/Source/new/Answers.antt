@@ -48,7 +48,7 @@ invariant_of-result c =
       below = omega (arith, below, is_at);
       values = zeros_of_graph t.graph 32;
       cells = subst (λ (cells : ℕ → Cell). (a : ℕ) → IsCellOfGraph t.graph (cells a)) (sym memory) (first_of_graph t.graph image words named);
-      taken_of_input = omega arith;
+      consumed_of_input = omega arith;
     }
 
 pub returns-clause-start : goal.returns-clause-start

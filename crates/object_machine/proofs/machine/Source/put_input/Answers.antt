@@ -14,7 +14,7 @@ use Rattle.object_machine.proofs.machine.Source.put_input.Goals as goal
 pub put_from-requires-clause-room : goal.put_from-requires-clause-room
 put_from-requires-clause-room c i below =
     let m = c.args.self.now in
-    let count : length c.deref.result.now ≡ c.args.n = ap length (c.deref.ensures.value ∙ c.in-Ok.ensures) ∙ input_length m.input.items m.taken c.args.n c.requires.left in
+    let count : length c.deref.result.now ≡ c.args.n = ap length (c.deref.ensures.value ∙ c.in-Ok.ensures) ∙ input_length m.input.items m.consumed c.args.n c.requires.left in
     let less : i < c.args.n = omega (arith, below, count) in
     subst (λ (x : Val). write_fault (seen m) (byte_place (seen m) x i) ≡ None) (sym c.register-start.ensures.value)
     (none_at (unwritten (seen m) (seen_state m)) c.args.n i less c.requires.room)
@@ -22,15 +22,15 @@ put_from-requires-clause-room c i below =
 pub put_from-requires-clause-of : goal.put_from-requires-clause-of
 put_from-requires-clause-of c =
     let m = c.args.self.now in
-    subst (All (IsCellOfGraph m.tables.graph)) (sym (c.deref.ensures.value ∙ c.in-Ok.ensures)) (bytes_of_graph m.tables.graph (take c.args.n (drop m.taken m.input.items)))
+    subst (All (IsCellOfGraph m.tables.graph)) (sym (c.deref.ensures.value ∙ c.in-Ok.ensures)) (bytes_of_graph m.tables.graph (take c.args.n (drop m.consumed m.input.items)))
 
 pub returns-in-Ok-clause-ok : goal.returns-in-Ok-clause-ok
 returns-in-Ok-clause-ok c =
     let m = c.args.self.now in
     let p = seen m in
     let s = seen_state m in
-    let bytes : List ℕ = take c.args.n (drop m.taken m.input.items) in
-    let count = bytes_length m.input.items m.taken c.args.n c.requires.left in
+    let bytes : List ℕ = take c.args.n (drop m.consumed m.input.items) in
+    let count = bytes_length m.input.items m.consumed c.args.n c.requires.left in
     let room : HasRoom p (a1 s) (length bytes) = λ i below. none_at (unwritten p s) c.args.n i (omega (arith, below, count)) c.requires.room in
     let whole : put_input p s (a1 s) 0 bytes ≡ stored_from s (a1 s) (byte_cells bytes) = input_stored p s (a1 s) bytes (omega arith) room in
     let cells : c.deref.result.now ≡ byte_cells bytes = c.deref.ensures.value ∙ c.in-Ok.ensures in

@@ -14,7 +14,7 @@ invariant_of-self c =
       below = m.below;
       values = m.values;
       cells = store_of_graph m.tables.graph c.set_all.result (cells_of m.memory) (cells_of c.set_all.new.self) (c.home_of.result + c.args.offset) c.args.cells.now c.set_all.ensures.set c.set_all.ensures.err m.cells c.requires.of;
-      taken_of_input = m.taken_of_input;
+      consumed_of_input = m.consumed_of_input;
     }
 
 pub returns-in-Ok-clause-state : goal.returns-in-Ok-clause-state

@@ -15,7 +15,7 @@ invariant_of-self c =
       below = m.below;
       values = All-set (IsOfGraph m.tables.graph) m.regs c.from.result c.args.v c.requires.of m.values;
       cells = m.cells;
-      taken_of_input = m.taken_of_input;
+      consumed_of_input = m.consumed_of_input;
     }
 
 pub returns-then-rd-ne0-clause-state : goal.returns-then-rd-ne0-clause-state

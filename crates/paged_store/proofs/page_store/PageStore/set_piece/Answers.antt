@@ -14,4 +14,4 @@ pub returns-clause-bytes : goal.returns-clause-bytes
 returns-clause-bytes c =
     let old = c.args.self.now in
     rw c.put_piece.ensures.items
-    (paged_bytes-piece old.directory.items old.bytes.items c.args.piece.now c.args.at c.place-place.result old.apart c.requires.page c.requires.inside c.place-place.ensures.place (omega arith))
+    (paged_bytes-piece old.directory.items old.bytes.items c.args.piece.now c.args.at c.place-place.result old.disjoint c.requires.page c.requires.inside c.place-place.ensures.place (omega arith))

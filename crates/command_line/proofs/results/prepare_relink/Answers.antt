@@ -1,0 +1,22 @@
+use Rattle.std.proofs.Common.{◌∷◌, [], refl, ℕ, List, sym, subst}
+use Rattle.command_line.specs.Command.{relink_command}
+use Rattle.command_line.specs.Meaning.{RejectsInputs, relinks}
+use Rattle.command_line.proofs.CommandFaults.{relink_rejected}
+use Rattle.command_line.proofs.Readings.{contents_of_three}
+use Rattle.command_line.proofs.results.prepare_relink.Goals as goal
+
+pub returns-in_ok-written_twice-in-Ok-clause-ok : goal.returns-in_ok-written_twice-in-Ok-clause-ok
+returns-in_ok-written_twice-in-Ok-clause-ok c f b i =
+    let are = contents_of_three c.args.texts.now c.index-texts-0.result c.index-texts-1.result c.index-texts-2.result _ _ _ c.requires c.index-texts-0.is c.index-texts-1.is c.index-texts-2.is c.deref.ensures.value c.deref-2.ensures.value c.deref-3.ensures.value in
+    let made = c.in_ok-written_twice-in-Ok.ensures in
+    record {
+      outputs = c.in-Ok.relinked.certificate.items ∷ c.in-Ok.relinked.file.items ∷ [];
+      yields = rw made.text (relinks f b i _ _ _ _ _ _ _ refl (sym are) refl c.in-Ok.ensures.ok);
+      prepared_outputs = rw made.outputs (c.in_ok-first-in-Ok.ensures, (c.in_ok-second-in-Ok.ensures, tt));
+      print_fault = made.print_fault;
+    }
+
+pub returns-in-Err-clause-err : goal.returns-in-Err-clause-err
+returns-in-Err-clause-err c f b i =
+    let are = contents_of_three c.args.texts.now c.index-texts-0.result c.index-texts-1.result c.index-texts-2.result _ _ _ c.requires c.index-texts-0.is c.index-texts-1.is c.index-texts-2.is c.deref.ensures.value c.deref-2.ensures.value c.deref-3.ensures.value in
+    subst (λ (ts : List (List ℕ)). RejectsInputs (relink_command f b i c.args.out.now c.args.cert.now) ts c.in-Err.fault) are (relink_rejected _ _ _ _ c.in-Err.ensures.err f b i _ _)

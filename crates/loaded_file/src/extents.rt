@@ -1,8 +1,0 @@
-/// Bytes at an address.
-#[derive(Clone, Copy, Debug, PartialEq, Eq)]
-pub struct Extent {
-    /// The address of the first byte.
-    pub home: u32,
-    /// How many bytes they are.
-    pub size: u32,
-}

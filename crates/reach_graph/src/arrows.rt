@@ -1,8 +1,0 @@
-/// An arrow of a node leads to another node, and lets some marks pass.
-#[derive(Clone, Copy, Debug, PartialEq, Eq)]
-pub struct Arrow {
-    /// The node to which it leads.
-    pub to: u32,
-    /// The marks that pass: mark `k` is bit `k`, from 0 to 63.
-    pub mask: u64,
-}

@@ -1,0 +1,34 @@
+use Rattle.placement_programme.specs.Views.{plain_programme}
+use Rattle.relinking.proofs.Counting.{unfaulted}
+use Rattle.relinking.proofs.Energies.{of_one_file, energies_of}
+use Rattle.relinking.proofs.Analysed.{may_state}
+use Rattle.relinking.proofs.stating.programme_of_run.Goals as goal
+
+pub programme-requires : goal.programme-requires
+programme-requires c =
+    let analysis = c.args.analysis.now in
+    let may = may_state c.requires.0 c.args.board.now analysis c.requires.1 in
+    let (last, made) = c.in_ok-counts.ensures in (
+      analysis.view,
+      (
+        made.moves,
+        of_one_file analysis.view c.args.board.now analysis.graph analysis.code analysis.regions c.args.input.now c.in_ok-counts.counts last
+            may.read c.requires.1.analysis.lawful may.graph may.code may.no_fault may.room may.entry c.requires.1.regions.is_formed.one_each made,
+      ),
+    )
+
+pub returns-in-Ok : goal.returns-in-Ok
+returns-in-Ok c =
+    let analysis = c.args.analysis.now in
+    let may = may_state c.requires.0 c.args.board.now analysis c.requires.1 in
+    let (last, made) = c.in_ok-counts.ensures in
+    let one = of_one_file analysis.view c.args.board.now analysis.graph analysis.code analysis.regions c.args.input.now c.in_ok-counts.counts last
+    may.read c.requires.1.analysis.lawful may.graph may.code may.no_fault may.room may.entry c.requires.1.regions.is_formed.one_each made in
+    record {
+      moves = made.moves;
+      last = last;
+      run = made.run;
+      no_address_fault = unfaulted last.outcome made.no_fault;
+      energies = energies_of analysis.view c.args.board.now analysis.graph analysis.code analysis.regions c.in_ok-counts.counts made.moves (plain_programme c.in-Ok.programme) one (c.in-Ok.ensures analysis.view made.moves one);
+      programme_is = c.in-Ok.ensures analysis.view made.moves one;
+    }

@@ -1,0 +1,7 @@
+use Rattle.std.proofs.Common.{◌≡◌}
+use Rattle.elf_reader.specs.File.{plain_view}
+use Rattle.rewritable_relocations.specs.Marks.{rewritable_below}
+use Rattle.rewritable_relocations.proofs.marks.rewritable_kinds.Given as goal
+
+abbrev pub invariant-loop-i : goal.invariant-loop-i
+invariant-loop-i l = l.marks.items ≡ rewritable_below (plain_view l.view) l.i

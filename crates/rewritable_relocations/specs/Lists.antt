@@ -1,0 +1,114 @@
+-- The sorted lists of a view by which each relocation is compared with all symbols and all others.
+use Rattle.std.specs.Prelude.{◌≡◌, ℕ, ◌+◌, ◌*◌, ◌==◌, Bool, not, ◌&&◌, ◌||◌, if◌then◌else◌, List, length}
+use Rattle.std.specs.Int.{cast_unsigned, w32}
+use Rattle.std.specs.List.{count_by, list_any}
+use Rattle.word_bits.specs.Words.{upper_half}
+use Rattle.list_checks.specs.Tests.{any_below}
+use Rattle.rv_decode.specs.Fields.{opcode_of}
+use Rattle.elf_reader.specs.File.{PlainView}
+use Rattle.elf_reader.specs.declared.view.Reloc.{Reloc}
+use Rattle.loaded_file.specs.Code.{is_code_word, image_word}
+use Rattle.loaded_file.specs.Records.{symbol_at, reloc_at, counts, symbol_of, is_hint, is_call_kind, width_of}
+use Rattle.loaded_file.specs.Ranges.{has_range}
+use Rattle.list_checks.specs.Sorted.{IsSorted, count_below}
+use Rattle.rewritable_relocations.specs.Rewritable.{is_addi, is_load_word, is_store_word, i_low, s_low, u_high, distance, is_pair_low}
+use Rattle.rewritable_relocations.specs.declared.lists.RelocationLists.{RelocationLists}
+use Rattle.rewritable_relocations.specs.declared.lists.Listed.{Listed}
+use Rattle.rewritable_relocations.specs.declared.lists.Listed.TheVariants.{RangeStart, RangeEnd, ChangeStart, ChangeEnd, Call, LowKey}
+
+-- place `k` passes a test, and its value another one
+abbrev pub passes_with : (ℕ → Bool) → (ℕ → ℕ) → (ℕ → Bool) → ℕ → Bool
+passes_with test value asked k = test k && asked (value k)
+
+-- a sorted list has the values of the places below n that pass a test
+pub record IsListOf (test : ℕ → Bool) (value : ℕ → ℕ) (n : ℕ) (list : List ℕ) : Type 0 where
+  pub sorted : IsSorted list
+  pub any : (asked : ℕ → Bool) → list_any asked list ≡ any_below (passes_with test value asked) n
+  pub counted : (asked : ℕ → Bool) → count_by asked list ≡ count_below (passes_with test value asked) n
+
+-- symbol `k` is that of an object, whose range begins and ends there
+abbrev pub is_ranged : PlainView → ℕ → Bool
+is_ranged v k = has_range v (symbol_at v k)
+
+abbrev pub range_start : PlainView → ℕ → ℕ
+range_start v k = (symbol_at v k).value
+
+abbrev pub range_end : PlainView → ℕ → ℕ
+range_end v k = (symbol_at v k).value + (symbol_at v k).size
+
+-- relocation `j` changes bytes, which begin and end there
+abbrev pub is_changing : PlainView → ℕ → Bool
+is_changing v j = counts v (reloc_at v j) && not (is_hint (reloc_at v j).kind)
+
+abbrev pub change_start : PlainView → ℕ → ℕ
+change_start v j = (reloc_at v j).at
+
+abbrev pub change_end : PlainView → ℕ → ℕ
+change_end v j = (reloc_at v j).at + width_of (reloc_at v j).kind
+
+-- relocation `j` is of a call
+abbrev pub is_calling : PlainView → ℕ → Bool
+is_calling v j = counts v (reloc_at v j) && is_call_kind (reloc_at v j).kind
+
+-- relocation `j` is of the low part of a pair
+abbrev pub is_lower : PlainView → ℕ → Bool
+is_lower v j = counts v (reloc_at v j) && is_pair_low (reloc_at v j).kind
+
+-- the twelve bits that an instruction takes by the low relocation of a pair, PCREL_LO12_I (24) or
+-- PCREL_LO12_S (25); 4096, which no twelve bits are, where it takes none
+abbrev pub form_part : ℕ → ℕ → ℕ
+form_part w kind =
+    if (kind == 24) && (is_addi w || is_load_word w) then i_low w
+    else if (kind == 25) && is_store_word w then s_low w
+    else 4096
+
+abbrev pub low_part : PlainView → Reloc → ℕ
+low_part v r =
+    if (cast_unsigned w32 r.addend == 0) && is_code_word v r.at then form_part (image_word v r.at) r.kind
+    else 4096
+
+-- the AUIPC that relocation `j` names, and its low part, as one number
+abbrev pub low_key : PlainView → ℕ → ℕ
+low_key v j = (symbol_of v (reloc_at v j)).value * 8192 + low_part v (reloc_at v j)
+
+-- a PCREL_HI20 (23) of an AUIPC (23) of the upper part of the distance
+abbrev pub is_upper_pair : PlainView → Reloc → Bool
+is_upper_pair v r =
+    (r.kind == 23)
+    && is_code_word v r.at
+    && (opcode_of (image_word v r.at) == 23)
+    && (u_high (image_word v r.at) == upper_half (distance v r))
+
+-- how many symbols or relocations a list is of, which of them it has, and their numbers
+abbrev pub count_of : Listed → PlainView → ℕ
+count_of RangeStart v = length v.symbols
+count_of RangeEnd v = length v.symbols
+count_of ChangeStart v = length v.relocs
+count_of ChangeEnd v = length v.relocs
+count_of Call v = length v.relocs
+count_of LowKey v = length v.relocs
+
+abbrev pub is_listed : Listed → PlainView → ℕ → Bool
+is_listed RangeStart v = is_ranged v
+is_listed RangeEnd v = is_ranged v
+is_listed ChangeStart v = is_changing v
+is_listed ChangeEnd v = is_changing v
+is_listed Call v = is_calling v
+is_listed LowKey v = is_lower v
+
+abbrev pub number_of : Listed → PlainView → ℕ → ℕ
+number_of RangeStart v = range_start v
+number_of RangeEnd v = range_end v
+number_of ChangeStart v = change_start v
+number_of ChangeEnd v = change_end v
+number_of Call v = change_start v
+number_of LowKey v = low_key v
+
+-- the lists are those of a view
+pub record AreListsOf (v : PlainView) (lists : RelocationLists) : Type 0 where
+  pub range_starts : IsListOf (is_ranged v) (range_start v) (length v.symbols) lists.range_starts.items
+  pub range_ends : IsListOf (is_ranged v) (range_end v) (length v.symbols) lists.range_ends.items
+  pub starts : IsListOf (is_changing v) (change_start v) (length v.relocs) lists.starts.items
+  pub ends : IsListOf (is_changing v) (change_end v) (length v.relocs) lists.ends.items
+  pub calls : IsListOf (is_calling v) (change_start v) (length v.relocs) lists.calls.items
+  pub low_keys : IsListOf (is_lower v) (low_key v) (length v.relocs) lists.low_keys.items

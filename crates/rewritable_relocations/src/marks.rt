@@ -1,0 +1,57 @@
+ghost use Rattle.std.specs.Prelude.{◌≡◌, ◌<◌, length, IfOk};
+ghost use Rattle.elf_reader.specs.File.{plain_view};
+ghost use Rattle.loaded_file.specs.Marks.{all_loaded};
+ghost use Rattle.loaded_file.specs.Read.{IsRead};
+ghost use Rattle.rewritable_relocations.specs.Rewritable.{is_rewritable_kind};
+ghost use Rattle.rewritable_relocations.specs.Marks.{all_rewritable};
+ghost use Rattle.rewritable_relocations.specs.Lists.{AreListsOf};
+
+use crate::listing::relocation_lists;
+use crate::lists::RelocationLists;
+use crate::pairs::{is_rewritable_high, is_rewritable_low, is_rewritable_pair};
+use crate::words::is_rewritable_word;
+use elf_reader::ElfView;
+use std::alloc::{AllocError, Global};
+
+/// Whether each relocation of a view tells all that is to be known of how its address is made, in the order
+/// of the relocations: a word of data that holds it, the instructions of its upper and its lower part, and
+/// pairs relative to an AUIPC (RISC-V psABI, "Absolute Addresses" and "PC-Relative Symbol Addresses").
+/// `loaded` are the marks of the loaded sections. It fails only where no memory was left.
+///
+/// The time grows with (s + r) log (s + r), where s and r are the numbers of symbols and relocations.
+pub fn rewritable_kinds(alloc: Global, view: &ElfView, loaded: &[bool]) -> Result<Vec<bool>, AllocError>
+    requires read { IsRead view.now }
+    requires marks { loaded.now ≡ all_loaded (plain_view view.now) }
+    ensures { IfOk result (λ marks. marks.items ≡ all_rewritable (plain_view view.now)) }
+{
+    let lists = relocation_lists(alloc, view, loaded)?;
+    let mut marks = Vec::new(alloc);
+    for i in 0..view.relocs.len() {
+        marks.push(is_rewritable_kind(view, loaded, &lists, i))?;
+    }
+    Ok(marks)
+}
+
+/// By these marks, relocation `i` is of a rewritable kind.
+pub fn is_rewritable(view: &ElfView, rewritable: &[bool], i: usize) -> bool
+    requires rewritable { rewritable.now ≡ all_rewritable (plain_view view.now) }
+    requires below { i < length view.now.relocs.items }
+    ensures { result ≡ is_rewritable_kind (plain_view view.now) i }
+{
+    rewritable[i]
+}
+
+/// Relocation `i` is of a rewritable kind.
+fn is_rewritable_kind(view: &ElfView, loaded: &[bool], lists: &RelocationLists, i: usize) -> bool
+    requires read { IsRead view.now }
+    requires marks { loaded.now ≡ all_loaded (plain_view view.now) }
+    requires lists { AreListsOf (plain_view view.now) lists.now }
+    requires below { i < length view.now.relocs.items }
+    ensures { result ≡ is_rewritable_kind (plain_view view.now) i }
+{
+    let reloc = &view.relocs[i];
+    is_rewritable_word(view, loaded, lists, i)
+        || is_rewritable_high(view, loaded, reloc)
+        || is_rewritable_low(view, loaded, reloc)
+        || is_rewritable_pair(view, loaded, lists, i)
+}

@@ -1,0 +1,89 @@
+ghost use Rattle.std.specs.Prelude.{◌≡◌, ◌<◌, ◌==◌, not, ◌&&◌, if◌then◌else◌, length};
+ghost use Rattle.list_checks.specs.Tests.{any_below};
+ghost use Rattle.elf_reader.specs.File.{plain_view};
+ghost use Rattle.loaded_file.specs.Marks.{all_loaded};
+ghost use Rattle.loaded_file.specs.Code.{image_word};
+ghost use Rattle.loaded_file.specs.Records.{reloc_at, target};
+ghost use Rattle.loaded_file.specs.Read.{IsRead};
+ghost use Rattle.rewritable_relocations.specs.Rewritable.{holds_data, cuts_range, changes_word, is_rewritable_word};
+ghost use Rattle.rewritable_relocations.specs.Lists.{is_changing, AreListsOf};
+
+use crate::listing::{change_start, is_changing};
+use crate::lists::RelocationLists;
+use crate::standing::data_word;
+use elf_reader::{ElfView, R_RISCV_32, Reloc};
+use list_checks::{count_under, has_inside};
+use loaded_file::target;
+
+/// Relocation `i` is of a word of data that holds its target, and that nothing else changes.
+pub(crate) fn is_rewritable_word(
+    view: &ElfView,
+    loaded: &[bool],
+    lists: &RelocationLists,
+    i: usize,
+) -> bool
+    requires read { IsRead view.now }
+    requires marks { loaded.now ≡ all_loaded (plain_view view.now) }
+    requires lists { AreListsOf (plain_view view.now) lists.now }
+    requires below { i < length view.now.relocs.items }
+    ensures { result ≡ is_rewritable_word (plain_view view.now) i (reloc_at (plain_view view.now) i) }
+{
+    let reloc = &view.relocs[i];
+    reloc.kind == R_RISCV_32
+        && holds_target(view, loaded, reloc)
+        && stands_alone(view, loaded, lists, i)
+}
+
+/// The word of data that a relocation changes holds its target.
+fn holds_target(view: &ElfView, loaded: &[bool], reloc: &Reloc) -> bool
+    requires read { IsRead view.now }
+    requires marks { loaded.now ≡ all_loaded (plain_view view.now) }
+    ensures { result ≡ any_below (holds_data (plain_view view.now) reloc.now.at) (length (plain_view view.now).sections) && (image_word (plain_view view.now) reloc.now.at == target (plain_view view.now) reloc.now) }
+{
+    match data_word(view, loaded, reloc.at) {
+        Some(word) => word == target(view, reloc),
+        None => false,
+    }
+}
+
+/// The word of relocation `i` is cut by no range of an object, and no other relocation changes it.
+fn stands_alone(view: &ElfView, loaded: &[bool], lists: &RelocationLists, i: usize) -> bool
+    requires marks { loaded.now ≡ all_loaded (plain_view view.now) }
+    requires lists { AreListsOf (plain_view view.now) lists.now }
+    requires below { i < length view.now.relocs.items }
+    ensures { result ≡ not (any_below (cuts_range (plain_view view.now) (reloc_at (plain_view view.now) i).at) (length (plain_view view.now).symbols)) && not (any_below (changes_word (plain_view view.now) i (reloc_at (plain_view view.now) i).at) (length (plain_view view.now).relocs)) }
+{
+    !cuts_range(view, lists, i) && !is_shared(view, loaded, lists, i)
+}
+
+/// The word of relocation `i` lies partly in the range of an object: one begins or ends inside it.
+fn cuts_range(view: &ElfView, lists: &RelocationLists, i: usize) -> bool
+    requires lists { AreListsOf (plain_view view.now) lists.now }
+    requires below { i < length view.now.relocs.items }
+    ensures { result ≡ any_below (cuts_range (plain_view view.now) (reloc_at (plain_view view.now) i).at) (length (plain_view view.now).symbols) }
+{
+    let second = change_start(view, i) + 1;
+    has_inside(&lists.range_starts, second, 3) || has_inside(&lists.range_ends, second, 3)
+}
+
+/// Another relocation changes the word of relocation `i`: of those that begin before the word's end, more
+/// than itself end behind its start.
+fn is_shared(view: &ElfView, loaded: &[bool], lists: &RelocationLists, i: usize) -> bool
+    requires marks { loaded.now ≡ all_loaded (plain_view view.now) }
+    requires lists { AreListsOf (plain_view view.now) lists.now }
+    requires below { i < length view.now.relocs.items }
+    ensures { result ≡ any_below (changes_word (plain_view view.now) i (reloc_at (plain_view view.now) i).at) (length (plain_view view.now).relocs) }
+{
+    let at = change_start(view, i);
+    let itself = own_changes(view, loaded, i);
+    count_under(&lists.ends, at + 1) + itself < count_under(&lists.starts, at + 4)
+}
+
+/// How many of the relocations that change the word of relocation `i` are itself.
+fn own_changes(view: &ElfView, loaded: &[bool], i: usize) -> usize
+    requires marks { loaded.now ≡ all_loaded (plain_view view.now) }
+    requires below { i < length view.now.relocs.items }
+    ensures { result ≡ (if is_changing (plain_view view.now) i then 1 else 0) }
+{
+    if is_changing(view, loaded, i) { 1 } else { 0 }
+}
