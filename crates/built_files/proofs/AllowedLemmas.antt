@@ -13,8 +13,6 @@ use Rattle.elf_reader.specs.Loaded.{no_section, section_at, is_loaded}
 use Rattle.elf_reader.specs.declared.view.ElfView.{ElfView}
 use Rattle.elf_reader.specs.declared.view.Segment.{Segment}
 use Rattle.elf_reader.specs.declared.view.Section.{Section}
-use Rattle.loaded_file.specs.Marks.{all_loaded}
-use Rattle.loaded_file.proofs.LoadedSections.{mark_is}
 use Rattle.elf_writer.specs.declared.parts.Patch.{Patch}
 use Rattle.elf_writer.specs.declared.parts.SymbolMove.{SymbolMove}
 use Rattle.elf_writer.specs.Changes.{changed}
@@ -30,19 +28,16 @@ all_three a b c x y z = rw (x, y, z) refl
 
 pub word_found :
     (view : ElfView)
-    (marks : List Bool)
     (at k : ℕ)
     (d : Section)
-    → marks ≡ all_loaded (plain_view view)
     → k < length view.sections.items
-    → get_or marks k false ≡ true
+    → is_loaded (plain_view view) k ≡ true
     → (get_or view.sections.items k d).kind ≡ 1
     → lies_in (get_or view.sections.items k d).offset (get_or view.sections.items k d).size at 4 ≡ true
     → is_loaded_word (plain_view view) at ≡ true
-word_found view marks at k d marks_are below marked kind lies =
+word_found view at k d below loaded kind lies =
     let v = plain_view view in
     let is : section_at v k ≡ plain_section (get_or view.sections.items k d) = get_or-map plain_section view.sections.items k d no_section below in
-    let loaded : is_loaded v k ≡ true = sym (mark_is view marks k marks_are below) ∙ marked in
     let within : k < length v.sections = rw length-map below in
     let of_kind : ((section_at v k).kind == 1) ≡ true = rw (is, kind) refl in
     let inside : lies_in (section_at v k).offset (section_at v k).size at 4 ≡ true = rw is lies in

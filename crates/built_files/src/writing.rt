@@ -2,7 +2,6 @@ ghost use Rattle.std.specs.Prelude.{◌≡◌, ℕ, ◌<◌, ◌≤◌, ◌*◌,
 ghost use Rattle.elf_reader.specs.File.{IsFile, plain_view};
 ghost use Rattle.elf_reader.specs.Faults.{first_fault};
 ghost use Rattle.list_checks.specs.Tests.{lies_in, ranges_overlap};
-ghost use Rattle.loaded_file.specs.Marks.{all_loaded};
 ghost use Rattle.elf_writer.specs.Parts.{new_segment};
 ghost use Rattle.elf_writer.specs.Conditions.{is_loaded_word, IsAddable, IsWritable};
 
@@ -10,7 +9,7 @@ use crate::cases::Case;
 use anyhow::{Result, bail};
 use elf_reader::{ElfView, Section, Segment, read};
 use elf_writer::{Patch, SegmentBytes, SymbolMove, write};
-use loaded_file::loaded_sections;
+use loaded_file::LoadedFile;
 use std::alloc::Global;
 use text_lines::numbers;
 
@@ -27,14 +26,12 @@ fn holds_word(section: &Section, at: u32) -> bool
 
 /// The word at `at` lies in the file bytes of section `k`, which is loaded.
 #[tactic(auto, using(crate::proofs::AllowedLemmas::word_found))]
-fn has_word(view: &ElfView, loaded: &Vec<bool>, at: u32, k: usize) -> bool
-    requires marks { loaded.now.items ≡ all_loaded (plain_view view.now) }
-    requires below { k < length view.now.sections.items }
-    requires marked { k < length loaded.now.items }
-    ensures { result ≡ true → is_loaded_word (plain_view view.now) at ≡ true }
+fn has_word(file: &LoadedFile, at: u32, k: usize) -> bool
+    requires below { k < length file.now.view.now.sections.items }
+    ensures { result ≡ true → is_loaded_word (plain_view file.now.view.now) at ≡ true }
 {
-    let section = &view.sections[k];
-    if !loaded[k] || section.kind != 1 {
+    let section = &file.view.sections[k];
+    if !file.is_loaded(k) || section.kind != 1 {
         return false;
     }
     holds_word(section, at)
@@ -82,35 +79,32 @@ fn is_addable(view: &ElfView, new: &SegmentBytes) -> bool
 
 /// The patch, the segment and the moved symbol may be written, the patch into section `k`.
 fn may_add(
-    view: &ElfView,
-    loaded: &Vec<bool>,
+    file: &LoadedFile,
     k: usize,
     patch: Patch,
     segment: &SegmentBytes,
     change: SymbolMove,
 ) -> bool
-    requires file { IsFile view.now.bytes.now view.now }
-    requires sound { first_fault view.now.bytes.now ≡ None }
-    requires marks { loaded.now.items ≡ all_loaded (plain_view view.now) }
-    ensures { result ≡ true → IsWritable (plain_view view.now) (patch ∷ []) (Some (new_segment segment.now)) (change ∷ []) }
+    requires file { IsFile file.now.view.now.bytes.now file.now.view.now }
+    requires sound { first_fault file.now.view.now.bytes.now ≡ None }
+    ensures { result ≡ true → IsWritable (plain_view file.now.view.now) (patch ∷ []) (Some (new_segment segment.now)) (change ∷ []) }
 {
-    if !may_patch(view, loaded, k, patch) || change.symbol as usize >= view.symbols.len() {
+    if !may_patch(file, k, patch) || change.symbol as usize >= file.view.symbols.len() {
         return false;
     }
-    is_addable(view, segment)
+    is_addable(file.view, segment)
 }
 
 /// The patch may be written without a segment, into section `k`.
-fn may_patch(view: &ElfView, loaded: &Vec<bool>, k: usize, patch: Patch) -> bool
-    requires file { IsFile view.now.bytes.now view.now }
-    requires sound { first_fault view.now.bytes.now ≡ None }
-    requires marks { loaded.now.items ≡ all_loaded (plain_view view.now) }
-    ensures { result ≡ true → IsWritable (plain_view view.now) (patch ∷ []) None [] }
+fn may_patch(file: &LoadedFile, k: usize, patch: Patch) -> bool
+    requires file { IsFile file.now.view.now.bytes.now file.now.view.now }
+    requires sound { first_fault file.now.view.now.bytes.now ≡ None }
+    ensures { result ≡ true → IsWritable (plain_view file.now.view.now) (patch ∷ []) None [] }
 {
-    if k >= view.sections.len() || k >= loaded.len() {
+    if k >= file.view.sections.len() {
         return false;
     }
-    has_word(view, loaded, patch.offset, k)
+    has_word(file, patch.offset, k)
 }
 
 /// What is to be written: a patch in section `k`, and where one is given a segment of these bytes and a moved symbol.
@@ -150,14 +144,22 @@ fn read_change(alloc: Global, text: &str) -> Result<Change> {
 /// The file with the change, if it may be written.
 fn changed(alloc: Global, bytes: &[u8], change: &Change) -> Result<Option<Vec<u8>>> {
     let view = read(alloc, bytes)?;
-    let loaded = loaded_sections(alloc, &view)?;
+    changed_view(alloc, &view, change)
+}
+
+/// A file that was read with the change, if it may be written.
+fn changed_view(alloc: Global, view: &ElfView, change: &Change) -> Result<Option<Vec<u8>>>
+    requires file { IsFile view.now.bytes.now view.now }
+    requires sound { first_fault view.now.bytes.now ≡ None }
+{
+    let file = LoadedFile::of(alloc, view)?;
     let patch = change.patch;
     match &change.segment {
-        Some((new, moved)) if may_add(&view, &loaded, change.k, patch, new, *moved) => {
-            Ok(Some(write(alloc, &view, &[patch], Some(new), &[*moved])?))
+        Some((new, moved)) if may_add(&file, change.k, patch, new, *moved) => {
+            Ok(Some(write(alloc, view, &[patch], Some(new), &[*moved])?))
         }
-        None if may_patch(&view, &loaded, change.k, patch) => {
-            Ok(Some(write(alloc, &view, &[patch], None, &[])?))
+        None if may_patch(&file, change.k, patch) => {
+            Ok(Some(write(alloc, view, &[patch], None, &[])?))
         }
         _ => Ok(None),
     }

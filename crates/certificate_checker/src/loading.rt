@@ -61,7 +61,10 @@ pub(crate) fn load_entries<'a>(
     ensures small { IfOk result (λ x. x.0.bound < 2 ^ 113) }
 {
     multipliers.fill(0);
-    let mut loaded = Loaded { row_end: 0, bound: 0 };
+    let mut loaded = Loaded {
+        row_end: 0,
+        bound: 0,
+    };
     let mut rest = bytes;
     for _ in 0..count {
         let (found, after) = entry(loaded.row_end, total, rest)?;

@@ -2,7 +2,6 @@ ghost use Rattle.std.specs.Prelude.{◌≡◌, ◌^◌, ◌<◌, nat_le, min, le
 ghost use Rattle.std.specs.List.{All};
 ghost use Rattle.list_checks.specs.First.{◌or_else◌, unless, Reports, ReportsUnless};
 ghost use Rattle.elf_reader.specs.File.{plain_view};
-ghost use Rattle.loaded_file.specs.Marks.{all_loaded};
 ghost use Rattle.loaded_file.specs.Code.{is_code_word};
 ghost use Rattle.loaded_file.specs.Read.{IsRead};
 ghost use Rattle.code_leaders.specs.Words.{any_code_word};
@@ -17,7 +16,7 @@ use crate::texts::has_text;
 use crate::walking::walk_from;
 use code_leaders::{Leaders, leaders};
 use elf_reader::ElfView;
-use loaded_file::{is_code_word, loaded_sections};
+use loaded_file::{LoadedFile, is_code_word};
 use std::alloc::{AllocError, Global};
 
 /// The most blocks that a program may have.
@@ -33,25 +32,24 @@ pub fn blocks(alloc: Global, view: &ElfView) -> Result<Code, CodeFault>
     ensures fault { ReportsUnless CodeFault.Memory result (code_fault (plain_view view.now)) }
     ensures code { IfOk result (IsCode (plain_view view.now)) }
 {
-    let loaded = loaded_sections(alloc, view)?;
-    check_entry(view, &loaded)?;
-    let leaders = leaders(alloc, view, &loaded)?;
+    let file = LoadedFile::of(alloc, view)?;
+    check_entry(&file)?;
+    let leaders = leaders(alloc, &file)?;
     check_count(view, &leaders)?;
-    match code_from(alloc, view, &loaded, leaders) {
+    match code_from(alloc, &file, leaders) {
         Ok(code) => Ok(code),
         Err(_) => Err(CodeFault::Memory),
     }
 }
 
 /// There is code, and the entry is a word of it.
-fn check_entry(view: &ElfView, loaded: &[bool]) -> Result<(), CodeFault>
-    requires { loaded.now ≡ all_loaded (plain_view view.now) }
-    ensures { Reports result (unless (any_code_word (plain_view view.now) is_any) CodeFault.NoText or_else unless (is_code_word (plain_view view.now) (plain_view view.now).entry) CodeFault.EntryNotLeader) }
+fn check_entry(file: &LoadedFile) -> Result<(), CodeFault>
+    ensures { Reports result (unless (any_code_word (plain_view file.now.view.now) is_any) CodeFault.NoText or_else unless (is_code_word (plain_view file.now.view.now) (plain_view file.now.view.now).entry) CodeFault.EntryNotLeader) }
 {
-    if !has_text(view, loaded) {
+    if !has_text(file) {
         return Err(CodeFault::NoText);
     }
-    if !is_code_word(view, loaded, view.entry) {
+    if !is_code_word(file, file.view.entry) {
         return Err(CodeFault::EntryNotLeader);
     }
     Ok(())
@@ -82,46 +80,38 @@ fn count_blocks(view: &ElfView, leaders: &Leaders) -> usize
 }
 
 /// The code of which these are the leaders.
-fn code_from(
-    alloc: Global,
-    view: &ElfView,
-    loaded: &[bool],
-    leaders: Leaders,
-) -> Result<Code, AllocError>
-    requires read { IsRead view.now }
-    requires marks { loaded.now ≡ all_loaded (plain_view view.now) }
-    requires leaders { IsLeaders (plain_view view.now) leaders }
-    ensures { IfOk result (IsCode (plain_view view.now)) }
+fn code_from(alloc: Global, file: &LoadedFile, leaders: Leaders) -> Result<Code, AllocError>
+    requires read { IsRead file.now.view.now }
+    requires leaders { IsLeaders (plain_view file.now.view.now) leaders }
+    ensures { IfOk result (IsCode (plain_view file.now.view.now)) }
 {
-    let functions = kept_functions(alloc, view, loaded)?;
-    let blocks = all_blocks(alloc, view, loaded, &leaders, &functions)?;
+    let functions = kept_functions(alloc, file)?;
+    let blocks = all_blocks(alloc, file, &leaders, &functions)?;
     Ok(Code {
         functions,
         blocks,
         indirect: leaders.indirect,
-        entry: view.entry,
+        entry: file.view.entry,
     })
 }
 
 /// The block at each leader.
 fn all_blocks(
     alloc: Global,
-    view: &ElfView,
-    loaded: &[bool],
+    file: &LoadedFile,
     leaders: &Leaders,
     functions: &[Function],
 ) -> Result<Vec<Block>, AllocError>
-    requires read { IsRead view.now }
-    requires marks { loaded.now ≡ all_loaded (plain_view view.now) }
-    requires leaders { IsLeaders (plain_view view.now) leaders.now }
+    requires read { IsRead file.now.view.now }
+    requires leaders { IsLeaders (plain_view file.now.view.now) leaders.now }
     requires disjoint { AreDisjoint functions.now }
     requires few { length functions.now < 2 ^ 32 }
     ensures starts { IfOk result (λ blocks. map start_of blocks.items ≡ leaders.now.all.items) }
-    ensures blocks { IfOk result (λ blocks. All (IsBlock (plain_view view.now) functions.now) blocks.items) }
+    ensures blocks { IfOk result (λ blocks. All (IsBlock (plain_view file.now.view.now) functions.now) blocks.items) }
 {
     let mut blocks = Vec::new(alloc);
     for start in &leaders.all {
-        let block = block_from(alloc, view, loaded, leaders, functions, *start)?;
+        let block = block_from(alloc, file, leaders, functions, *start)?;
         blocks.push(block)?;
     }
     Ok(blocks)
@@ -130,21 +120,19 @@ fn all_blocks(
 /// The block that begins at `start`.
 fn block_from(
     alloc: Global,
-    view: &ElfView,
-    loaded: &[bool],
+    file: &LoadedFile,
     leaders: &Leaders,
     functions: &[Function],
     start: u32,
 ) -> Result<Block, AllocError>
-    requires read { IsRead view.now }
-    requires marks { loaded.now ≡ all_loaded (plain_view view.now) }
-    requires leaders { IsLeaders (plain_view view.now) leaders.now }
+    requires read { IsRead file.now.view.now }
+    requires leaders { IsLeaders (plain_view file.now.view.now) leaders.now }
     requires disjoint { AreDisjoint functions.now }
     requires few { length functions.now < 2 ^ 32 }
     ensures start { IfOk result (λ block. block.start ≡ start) }
-    ensures block { IfOk result (IsBlock (plain_view view.now) functions.now) }
+    ensures block { IfOk result (IsBlock (plain_view file.now.view.now) functions.now) }
 {
-    let walk = walk_from(alloc, view, loaded, leaders, start)?;
+    let walk = walk_from(alloc, file, leaders, start)?;
     Ok(Block {
         start,
         units: walk.units,

@@ -2,7 +2,6 @@ ghost use Rattle.std.specs.Prelude.{◌≡◌, ℕ, ◌+◌, ◌++◌, ◌∷◌
 ghost use Rattle.std.specs.List.{All, list_any};
 ghost use Rattle.std.specs.List.Sorted.{IsPartitionPoint};
 ghost use Rattle.elf_reader.specs.File.{plain_view};
-ghost use Rattle.loaded_file.specs.Marks.{all_loaded};
 ghost use Rattle.loaded_file.specs.Records.{symbol_at};
 ghost use Rattle.loaded_file.specs.Read.{IsRead};
 ghost use Rattle.code_blocks.specs.Blocks.{IsFunction, IsFunctionOf, name_of};
@@ -11,21 +10,17 @@ ghost use Rattle.code_blocks.specs.Kept.{name_in, AreKeys, AreKept, AreDisjoint}
 use crate::candidates::function_keys;
 use crate::parts::Function;
 use elf_reader::ElfView;
+use loaded_file::LoadedFile;
 use std::alloc::{AllocError, Global};
 
 /// The functions of a program, by start: of those that overlap the first, and of those that start together the
 /// largest.
-pub(crate) fn kept_functions(
-    alloc: Global,
-    view: &ElfView,
-    loaded: &[bool],
-) -> Result<Vec<Function>, AllocError>
-    requires read { IsRead view.now }
-    requires marks { loaded.now ≡ all_loaded (plain_view view.now) }
-    ensures { IfOk result (λ functions. AreKept (plain_view view.now) functions.items) }
+pub(crate) fn kept_functions(alloc: Global, file: &LoadedFile) -> Result<Vec<Function>, AllocError>
+    requires read { IsRead file.now.view.now }
+    ensures { IfOk result (λ functions. AreKept (plain_view file.now.view.now) functions.items) }
 {
-    let keys = function_keys(alloc, view, loaded)?;
-    keep_disjoint(alloc, view, &keys)
+    let keys = function_keys(alloc, file)?;
+    keep_disjoint(alloc, file.view, &keys)
 }
 
 /// Those functions, of all in their order, that meet no earlier one that is kept.

@@ -3,22 +3,20 @@ ghost use Rattle.list_checks.specs.Tests.{any_below};
 ghost use Rattle.list_checks.specs.First.{first_below};
 ghost use Rattle.elf_reader.specs.File.{plain_view};
 ghost use Rattle.elf_reader.specs.Loaded.{section_at};
-ghost use Rattle.loaded_file.specs.Marks.{all_loaded};
 ghost use Rattle.loaded_file.specs.Code.{holds_code, is_code_word, image_word};
 ghost use Rattle.loaded_file.specs.Read.{IsRead};
 ghost use Rattle.code_blocks.specs.Ends.{range_at};
 
 use elf_reader::ElfView;
-use loaded_file::{holds_code, word_in};
+use loaded_file::{LoadedFile, holds_code, word_in};
 
 /// The lowest code range that holds the word at `address`.
-pub(crate) fn lowest_range(view: &ElfView, loaded: &[bool], address: u32) -> Option<usize>
-    requires { loaded.now ≡ all_loaded (plain_view view.now) }
-    ensures first { result ≡ first_below (range_at (plain_view view.now) address) (length (plain_view view.now).sections) }
-    ensures holds { MatchOption result (any_below (holds_code (plain_view view.now) address) (length (plain_view view.now).sections) ≡ false) (λ k. holds_code (plain_view view.now) address k ≡ true) }
+pub(crate) fn lowest_range(file: &LoadedFile, address: u32) -> Option<usize>
+    ensures first { result ≡ first_below (range_at (plain_view file.now.view.now) address) (length (plain_view file.now.view.now).sections) }
+    ensures holds { MatchOption result (any_below (holds_code (plain_view file.now.view.now) address) (length (plain_view file.now.view.now).sections) ≡ false) (λ k. holds_code (plain_view file.now.view.now) address k ≡ true) }
 {
-    for k in 0..view.sections.len() {
-        if holds_code(view, loaded, address, k) {
+    for k in 0..file.view.sections.len() {
+        if holds_code(file, address, k) {
             return Some(k);
         }
     }
@@ -36,14 +34,13 @@ pub(crate) fn words_from(view: &ElfView, k: usize, address: u32) -> u32
 }
 
 /// The word of code at `address`.
-pub(crate) fn code_word(view: &ElfView, loaded: &[bool], address: u32) -> u32
-    requires read { IsRead view.now }
-    requires marks { loaded.now ≡ all_loaded (plain_view view.now) }
-    requires code { is_code_word (plain_view view.now) address ≡ true }
-    ensures { result ≡ image_word (plain_view view.now) address }
+pub(crate) fn code_word(file: &LoadedFile, address: u32) -> u32
+    requires read { IsRead file.now.view.now }
+    requires code { is_code_word (plain_view file.now.view.now) address ≡ true }
+    ensures { result ≡ image_word (plain_view file.now.view.now) address }
 {
-    match lowest_range(view, loaded, address) {
-        Some(k) => word_in(view, k, address),
+    match lowest_range(file, address) {
+        Some(k) => word_in(file.view, k, address),
         None => 0,
     }
 }

@@ -4,7 +4,6 @@ ghost use Rattle.word_bits.specs.Words.{offset};
 ghost use Rattle.rv_decode.specs.Fields.{rd_of, j_immediate};
 ghost use Rattle.rv_decode.specs.Table.{Means, MeansNothing};
 ghost use Rattle.elf_reader.specs.File.{plain_view};
-ghost use Rattle.loaded_file.specs.Marks.{all_loaded};
 ghost use Rattle.loaded_file.specs.Code.{image_word};
 ghost use Rattle.loaded_file.specs.Read.{IsRead};
 ghost use Rattle.code_leaders.specs.Words.{links};
@@ -21,7 +20,7 @@ use code_leaders::{
     Leaders, branch_target, has_meaning, is_branch, is_ebreak, is_jal, is_jalr, jal_target, links,
     pair_target,
 };
-use elf_reader::ElfView;
+use loaded_file::LoadedFile;
 use rv_decode::{decode, rd};
 
 /// The unit that `word` begins, which stands at `address`.
@@ -44,23 +43,21 @@ pub(crate) fn unit_at(leaders: &Leaders, address: u32, word: u32) -> Unit
 /// How a block ends behind its unit at `address`, if it does: by the unit, of which `word` is the first word,
 /// or where the next block begins.
 pub(crate) fn end_behind(
-    view: &ElfView,
-    loaded: &[bool],
+    file: &LoadedFile,
     leaders: &Leaders,
     address: u32,
     word: u32,
 ) -> Option<End>
-    requires read { IsRead view.now }
-    requires marks { loaded.now ≡ all_loaded (plain_view view.now) }
-    requires leaders { IsLeaders (plain_view view.now) leaders.now }
-    requires word { word ≡ image_word (plain_view view.now) address }
+    requires read { IsRead file.now.view.now }
+    requires leaders { IsLeaders (plain_view file.now.view.now) leaders.now }
+    requires word { word ≡ image_word (plain_view file.now.view.now) address }
     requires fits { address + 4 < 2 ^ 32 }
-    ensures { result ≡ end_behind (plain_view view.now) address }
+    ensures { result ≡ end_behind (plain_view file.now.view.now) address }
 {
     if !has_meaning(word) {
         return Some(End::Stop);
     }
-    match jump_end(view, loaded, leaders, address, word) {
+    match jump_end(file, leaders, address, word) {
         Some(end) => Some(end),
         None => fall_end(leaders, address),
     }
@@ -81,22 +78,15 @@ fn fall_end(leaders: &Leaders, address: u32) -> Option<End>
 }
 
 /// The end that the unit at `address` makes, if it is a jump or EBREAK.
-fn jump_end(
-    view: &ElfView,
-    loaded: &[bool],
-    leaders: &Leaders,
-    address: u32,
-    word: u32,
-) -> Option<End>
-    requires read { IsRead view.now }
-    requires marks { loaded.now ≡ all_loaded (plain_view view.now) }
-    requires leaders { IsLeaders (plain_view view.now) leaders.now }
-    requires word { word ≡ image_word (plain_view view.now) address }
+fn jump_end(file: &LoadedFile, leaders: &Leaders, address: u32, word: u32) -> Option<End>
+    requires read { IsRead file.now.view.now }
+    requires leaders { IsLeaders (plain_view file.now.view.now) leaders.now }
+    requires word { word ≡ image_word (plain_view file.now.view.now) address }
     requires fits { address + 4 < 2 ^ 32 }
-    ensures { result ≡ jump_end (plain_view view.now) address }
+    ensures { result ≡ jump_end (plain_view file.now.view.now) address }
 {
     if leaders.is_pair(address) {
-        Some(pair_end(view, loaded, address, word))
+        Some(pair_end(file, address, word))
     } else if is_branch(word) {
         Some(End::Branch {
             target: branch_target(address, word),
@@ -114,14 +104,13 @@ fn jump_end(
 }
 
 /// The end of a call pair at `address`.
-fn pair_end(view: &ElfView, loaded: &[bool], address: u32, word: u32) -> End
-    requires read { IsRead view.now }
-    requires marks { loaded.now ≡ all_loaded (plain_view view.now) }
-    requires pair { is_call_pair (plain_view view.now) address ≡ true }
-    requires word { word ≡ image_word (plain_view view.now) address }
-    ensures { result ≡ pair_end (plain_view view.now) address }
+fn pair_end(file: &LoadedFile, address: u32, word: u32) -> End
+    requires read { IsRead file.now.view.now }
+    requires pair { is_call_pair (plain_view file.now.view.now) address ≡ true }
+    requires word { word ≡ image_word (plain_view file.now.view.now) address }
+    ensures { result ≡ pair_end (plain_view file.now.view.now) address }
 {
-    let second = code_word(view, loaded, address + 4);
+    let second = code_word(file, address + 4);
     let target = pair_target(address, word, second);
     call_or(second, target, address + 8, End::Tail { target })
 }

@@ -2,7 +2,6 @@ ghost use Rattle.std.specs.Prelude.{◌≡◌, ℕ, ◌+◌, ◌-◌, ◌/◌, �
 ghost use Rattle.std.specs.List.{All};
 ghost use Rattle.elf_reader.specs.File.{plain_view};
 ghost use Rattle.elf_reader.specs.Loaded.{section_at};
-ghost use Rattle.loaded_file.specs.Marks.{all_loaded};
 ghost use Rattle.loaded_file.specs.Code.{holds_code};
 ghost use Rattle.loaded_file.specs.Read.{IsRead};
 ghost use Rattle.code_leaders.specs.AllLeaders.{IsLeaders};
@@ -14,8 +13,7 @@ use crate::parts::Unit;
 use crate::ranges::{lowest_range, words_from};
 use crate::steps::{end_behind, unit_at};
 use code_leaders::Leaders;
-use elf_reader::ElfView;
-use loaded_file::word_in;
+use loaded_file::{LoadedFile, word_in};
 use std::alloc::{AllocError, Global};
 
 /// What a walk through the words of a block finds.
@@ -30,18 +28,16 @@ pub(crate) struct Walk {
 /// The units and the end of the block that begins at `start`.
 pub(crate) fn walk_from(
     alloc: Global,
-    view: &ElfView,
-    loaded: &[bool],
+    file: &LoadedFile,
     leaders: &Leaders,
     start: u32,
 ) -> Result<Walk, AllocError>
-    requires read { IsRead view.now }
-    requires marks { loaded.now ≡ all_loaded (plain_view view.now) }
-    requires leaders { IsLeaders (plain_view view.now) leaders.now }
-    ensures { IfOk result (IsWalk (plain_view view.now) start (words_left (plain_view view.now) start)) }
+    requires read { IsRead file.now.view.now }
+    requires leaders { IsLeaders (plain_view file.now.view.now) leaders.now }
+    ensures { IfOk result (IsWalk (plain_view file.now.view.now) start (words_left (plain_view file.now.view.now) start)) }
 {
-    match lowest_range(view, loaded, start) {
-        Some(k) => walk_in(alloc, view, loaded, leaders, k, start),
+    match lowest_range(file, start) {
+        Some(k) => walk_in(alloc, file, leaders, k, start),
         None => Ok(Walk {
             units: Vec::new(alloc),
             end: End::Stop,
@@ -52,24 +48,22 @@ pub(crate) fn walk_from(
 /// Those of the block that begins at `start` in code range `k`.
 fn walk_in(
     alloc: Global,
-    view: &ElfView,
-    loaded: &[bool],
+    file: &LoadedFile,
     leaders: &Leaders,
     k: usize,
     start: u32,
 ) -> Result<Walk, AllocError>
-    requires read { IsRead view.now }
-    requires marks { loaded.now ≡ all_loaded (plain_view view.now) }
-    requires leaders { IsLeaders (plain_view view.now) leaders.now }
-    requires holds { holds_code (plain_view view.now) start k ≡ true }
-    ensures { IfOk result (IsWalk (plain_view view.now) start (((section_at (plain_view view.now) k).addr + (section_at (plain_view view.now) k).size - start) / 4)) }
+    requires read { IsRead file.now.view.now }
+    requires leaders { IsLeaders (plain_view file.now.view.now) leaders.now }
+    requires holds { holds_code (plain_view file.now.view.now) start k ≡ true }
+    ensures { IfOk result (IsWalk (plain_view file.now.view.now) start (((section_at (plain_view file.now.view.now) k).addr + (section_at (plain_view file.now.view.now) k).size - start) / 4)) }
 {
     let mut units = Vec::new(alloc);
-    for i in 0..words_from(view, k, start) {
+    for i in 0..words_from(file.view, k, start) {
         let address = start + 4 * i;
-        let word = word_in(view, k, address);
+        let word = word_in(file.view, k, address);
         units.push(unit_at(leaders, address, word))?;
-        if let Some(end) = end_behind(view, loaded, leaders, address, word) {
+        if let Some(end) = end_behind(file, leaders, address, word) {
             return Ok(Walk { units, end });
         }
     }

@@ -2,7 +2,6 @@ ghost use Rattle.std.specs.Prelude.{◌≡◌, ℕ, ◌<◌, ◌==◌, ◌&&◌,
 ghost use Rattle.std.specs.List.Sorted.{IsStrictlyIncreasing};
 ghost use Rattle.list_checks.specs.Tests.{any_below};
 ghost use Rattle.elf_reader.specs.File.{plain_view};
-ghost use Rattle.loaded_file.specs.Marks.{all_loaded};
 ghost use Rattle.loaded_file.specs.Code.{is_code_word};
 ghost use Rattle.loaded_file.specs.Records.{symbol_at};
 ghost use Rattle.loaded_file.specs.Read.{IsRead};
@@ -11,21 +10,20 @@ ghost use Rattle.code_leaders.specs.Early.{has};
 
 use crate::flow::{FlowRule, add_flow};
 use crate::search::arrange;
-use elf_reader::{ElfView, STT_FUNC};
-use loaded_file::{counts, is_code_word, target};
+use elf_reader::STT_FUNC;
+use loaded_file::{LoadedFile, counts, is_code_word, target};
 use std::alloc::{AllocError, Global};
 
 /// The addresses at which basic blocks begin by the rules that rest on no call pair, in ascending order and
-/// each once. `loaded` are the marks of the loaded sections. It fails only where no memory was left.
-pub fn early_leaders(alloc: Global, view: &ElfView, loaded: &[bool]) -> Result<Vec<u32>, AllocError>
-    requires read { IsRead view.now }
-    requires marks { loaded.now ≡ all_loaded (plain_view view.now) }
+/// each once. It fails only where no memory was left.
+pub fn early_leaders(alloc: Global, file: &LoadedFile) -> Result<Vec<u32>, AllocError>
+    requires read { IsRead file.now.view.now }
     ensures ascending { IfOk result (λ leaders. IsStrictlyIncreasing leaders.items) }
-    ensures exact { IfOk result (λ leaders. (a : ℕ) → has leaders.items a ≡ is_early (plain_view view.now) a) }
+    ensures exact { IfOk result (λ leaders. (a : ℕ) → has leaders.items a ≡ is_early (plain_view file.now.view.now) a) }
 {
     let mut leaders = Vec::new(alloc);
-    add_named(&mut leaders, view, loaded)?;
-    add_flow(&mut leaders, view, loaded, FlowRule::All)?;
+    add_named(&mut leaders, file)?;
+    add_flow(&mut leaders, file, FlowRule::All)?;
     arrange(&mut leaders);
     Ok(leaders)
 }
@@ -33,14 +31,12 @@ pub fn early_leaders(alloc: Global, view: &ElfView, loaded: &[bool]) -> Result<V
 /// Adds an address where it is a word of code.
 pub(crate) fn add_leader(
     leaders: &mut Vec<u32>,
-    view: &ElfView,
-    loaded: &[bool],
+    file: &LoadedFile,
     address: u32,
 ) -> Result<(), AllocError>
-    requires { loaded.now ≡ all_loaded (plain_view view.now) }
-    ensures { OnOk result ((a : ℕ) → has leaders.new.items a ≡ has leaders.old.items a || is_code_word (plain_view view.now) a && (address == a)) }
+    ensures { OnOk result ((a : ℕ) → has leaders.new.items a ≡ has leaders.old.items a || is_code_word (plain_view file.now.view.now) a && (address == a)) }
 {
-    if !is_code_word(view, loaded, address) {
+    if !is_code_word(file, address) {
         return Ok(());
     }
     leaders.push(address)?;
@@ -48,72 +44,53 @@ pub(crate) fn add_leader(
 }
 
 /// Adds the entry, the addresses of functions, and those that relocations make.
-pub(crate) fn add_named(
-    leaders: &mut Vec<u32>,
-    view: &ElfView,
-    loaded: &[bool],
-) -> Result<(), AllocError>
-    requires { loaded.now ≡ all_loaded (plain_view view.now) }
-    ensures { OnOk result ((a : ℕ) → has leaders.new.items a ≡ has leaders.old.items a || is_code_word (plain_view view.now) a && is_named (plain_view view.now) a) }
+pub(crate) fn add_named(leaders: &mut Vec<u32>, file: &LoadedFile) -> Result<(), AllocError>
+    ensures { OnOk result ((a : ℕ) → has leaders.new.items a ≡ has leaders.old.items a || is_code_word (plain_view file.now.view.now) a && is_named (plain_view file.now.view.now) a) }
 {
-    add_leader(leaders, view, loaded, view.entry)?;
-    add_functions(leaders, view, loaded)?;
-    add_addresses(leaders, view, loaded)
+    add_leader(leaders, file, file.view.entry)?;
+    add_functions(leaders, file)?;
+    add_addresses(leaders, file)
 }
 
-fn add_functions(leaders: &mut Vec<u32>, view: &ElfView, loaded: &[bool]) -> Result<(), AllocError>
-    requires { loaded.now ≡ all_loaded (plain_view view.now) }
-    ensures { OnOk result ((a : ℕ) → has leaders.new.items a ≡ has leaders.old.items a || is_code_word (plain_view view.now) a && any_below (is_function_at (plain_view view.now) a) (length (plain_view view.now).symbols)) }
+fn add_functions(leaders: &mut Vec<u32>, file: &LoadedFile) -> Result<(), AllocError>
+    ensures { OnOk result ((a : ℕ) → has leaders.new.items a ≡ has leaders.old.items a || is_code_word (plain_view file.now.view.now) a && any_below (is_function_at (plain_view file.now.view.now) a) (length (plain_view file.now.view.now).symbols)) }
 {
-    for k in 0..view.symbols.len() {
-        add_function(leaders, view, loaded, k)?;
+    for k in 0..file.view.symbols.len() {
+        add_function(leaders, file, k)?;
     }
     Ok(())
 }
 
 /// Adds the address of symbol `k` where it is of a function.
-fn add_function(
-    leaders: &mut Vec<u32>,
-    view: &ElfView,
-    loaded: &[bool],
-    k: usize,
-) -> Result<(), AllocError>
-    requires marks { loaded.now ≡ all_loaded (plain_view view.now) }
-    requires below { k < length view.now.symbols.items }
-    ensures { OnOk result ((a : ℕ) → has leaders.new.items a ≡ has leaders.old.items a || is_code_word (plain_view view.now) a && is_function_at (plain_view view.now) a k) }
+fn add_function(leaders: &mut Vec<u32>, file: &LoadedFile, k: usize) -> Result<(), AllocError>
+    requires below { k < length file.now.view.now.symbols.items }
+    ensures { OnOk result ((a : ℕ) → has leaders.new.items a ≡ has leaders.old.items a || is_code_word (plain_view file.now.view.now) a && is_function_at (plain_view file.now.view.now) a k) }
 {
-    let symbol = &view.symbols[k];
+    let symbol = &file.view.symbols[k];
     if symbol.kind == STT_FUNC {
-        add_leader(leaders, view, loaded, symbol.value)
+        add_leader(leaders, file, symbol.value)
     } else {
         Ok(())
     }
 }
 
-fn add_addresses(leaders: &mut Vec<u32>, view: &ElfView, loaded: &[bool]) -> Result<(), AllocError>
-    requires { loaded.now ≡ all_loaded (plain_view view.now) }
-    ensures { OnOk result ((a : ℕ) → has leaders.new.items a ≡ has leaders.old.items a || is_code_word (plain_view view.now) a && any_below (makes_address (plain_view view.now) a) (length (plain_view view.now).relocs)) }
+fn add_addresses(leaders: &mut Vec<u32>, file: &LoadedFile) -> Result<(), AllocError>
+    ensures { OnOk result ((a : ℕ) → has leaders.new.items a ≡ has leaders.old.items a || is_code_word (plain_view file.now.view.now) a && any_below (makes_address (plain_view file.now.view.now) a) (length (plain_view file.now.view.now).relocs)) }
 {
-    for i in 0..view.relocs.len() {
-        add_address(leaders, view, loaded, i)?;
+    for i in 0..file.view.relocs.len() {
+        add_address(leaders, file, i)?;
     }
     Ok(())
 }
 
 /// Adds the address that relocation `i` makes.
-fn add_address(
-    leaders: &mut Vec<u32>,
-    view: &ElfView,
-    loaded: &[bool],
-    i: usize,
-) -> Result<(), AllocError>
-    requires marks { loaded.now ≡ all_loaded (plain_view view.now) }
-    requires below { i < length view.now.relocs.items }
-    ensures { OnOk result ((a : ℕ) → has leaders.new.items a ≡ has leaders.old.items a || is_code_word (plain_view view.now) a && makes_address (plain_view view.now) a i) }
+fn add_address(leaders: &mut Vec<u32>, file: &LoadedFile, i: usize) -> Result<(), AllocError>
+    requires below { i < length file.now.view.now.relocs.items }
+    ensures { OnOk result ((a : ℕ) → has leaders.new.items a ≡ has leaders.old.items a || is_code_word (plain_view file.now.view.now) a && makes_address (plain_view file.now.view.now) a i) }
 {
-    let reloc = &view.relocs[i];
-    if counts(view, loaded, reloc) && !makes_no_address(reloc.kind) {
-        add_leader(leaders, view, loaded, target(view, reloc))
+    let reloc = &file.view.relocs[i];
+    if counts(file, reloc) && !makes_no_address(reloc.kind) {
+        add_leader(leaders, file, target(file.view, reloc))
     } else {
         Ok(())
     }

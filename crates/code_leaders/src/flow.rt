@@ -2,7 +2,6 @@ ghost use Rattle.std.specs.Prelude.{◌≡◌, ℕ, IsTrue, ◌+◌, ◌*◌, �
 ghost use Rattle.list_checks.specs.Tests.{any_below, lies_in};
 ghost use Rattle.elf_reader.specs.File.{plain_view};
 ghost use Rattle.elf_reader.specs.Loaded.{section_at};
-ghost use Rattle.loaded_file.specs.Marks.{all_loaded};
 ghost use Rattle.loaded_file.specs.Code.{is_code_range, holds_code, is_code_word, image_word};
 ghost use Rattle.loaded_file.specs.Read.{IsRead};
 ghost use Rattle.code_leaders.specs.Words.{is_branch, is_jal, is_jalr, links, code_word, passes_at, passes_in, any_code_word};
@@ -14,7 +13,7 @@ use crate::early::add_leader;
 use crate::meanings::{is_branch, is_jal, is_jalr, links};
 use crate::targets::{branch_target, jal_target};
 use elf_reader::{ElfView, Section};
-use loaded_file::{is_code_range, word_in};
+use loaded_file::{LoadedFile, is_code_range, word_in};
 use std::alloc::AllocError;
 
 /// Which leaders the words of code make.
@@ -29,16 +28,14 @@ pub(crate) enum FlowRule {
 /// Adds the leaders that words of code make by a rule.
 pub(crate) fn add_flow(
     leaders: &mut Vec<u32>,
-    view: &ElfView,
-    loaded: &[bool],
+    file: &LoadedFile,
     rule: FlowRule,
 ) -> Result<(), AllocError>
-    requires read { IsRead view.now }
-    requires marks { loaded.now ≡ all_loaded (plain_view view.now) }
-    ensures { OnOk result ((a : ℕ) → has leaders.new.items a ≡ has leaders.old.items a || is_code_word (plain_view view.now) a && any_code_word (plain_view view.now) (leads_by rule (plain_view view.now) a)) }
+    requires read { IsRead file.now.view.now }
+    ensures { OnOk result ((a : ℕ) → has leaders.new.items a ≡ has leaders.old.items a || is_code_word (plain_view file.now.view.now) a && any_code_word (plain_view file.now.view.now) (leads_by rule (plain_view file.now.view.now) a)) }
 {
-    for k in 0..view.sections.len() {
-        add_range(leaders, view, loaded, rule, k)?;
+    for k in 0..file.view.sections.len() {
+        add_range(leaders, file, rule, k)?;
     }
     Ok(())
 }
@@ -46,18 +43,16 @@ pub(crate) fn add_flow(
 /// Adds those of section `k`, if it is a code range.
 fn add_range(
     leaders: &mut Vec<u32>,
-    view: &ElfView,
-    loaded: &[bool],
+    file: &LoadedFile,
     rule: FlowRule,
     k: usize,
 ) -> Result<(), AllocError>
-    requires read { IsRead view.now }
-    requires marks { loaded.now ≡ all_loaded (plain_view view.now) }
-    requires below { k < length view.now.sections.items }
-    ensures { OnOk result ((a : ℕ) → has leaders.new.items a ≡ has leaders.old.items a || is_code_word (plain_view view.now) a && passes_in (plain_view view.now) (leads_by rule (plain_view view.now) a) k) }
+    requires read { IsRead file.now.view.now }
+    requires below { k < length file.now.view.now.sections.items }
+    ensures { OnOk result ((a : ℕ) → has leaders.new.items a ≡ has leaders.old.items a || is_code_word (plain_view file.now.view.now) a && passes_in (plain_view file.now.view.now) (leads_by rule (plain_view file.now.view.now) a) k) }
 {
-    if is_code_range(view, loaded, k) {
-        add_words(leaders, view, loaded, rule, k)
+    if is_code_range(file, k) {
+        add_words(leaders, file, rule, k)
     } else {
         Ok(())
     }
@@ -65,19 +60,17 @@ fn add_range(
 
 fn add_words(
     leaders: &mut Vec<u32>,
-    view: &ElfView,
-    loaded: &[bool],
+    file: &LoadedFile,
     rule: FlowRule,
     k: usize,
 ) -> Result<(), AllocError>
-    requires read { IsRead view.now }
-    requires marks { loaded.now ≡ all_loaded (plain_view view.now) }
-    requires below { k < length view.now.sections.items }
-    requires range { is_code_range (plain_view view.now) k ≡ true }
-    ensures { OnOk result ((a : ℕ) → has leaders.new.items a ≡ has leaders.old.items a || is_code_word (plain_view view.now) a && any_below (passes_at (plain_view view.now) (leads_by rule (plain_view view.now) a) k) ((section_at (plain_view view.now) k).size / 4 + 1)) }
+    requires read { IsRead file.now.view.now }
+    requires below { k < length file.now.view.now.sections.items }
+    requires range { is_code_range (plain_view file.now.view.now) k ≡ true }
+    ensures { OnOk result ((a : ℕ) → has leaders.new.items a ≡ has leaders.old.items a || is_code_word (plain_view file.now.view.now) a && any_below (passes_at (plain_view file.now.view.now) (leads_by rule (plain_view file.now.view.now) a) k) ((section_at (plain_view file.now.view.now) k).size / 4 + 1)) }
 {
-    for i in 0..word_bound(view, k) {
-        add_word(leaders, view, loaded, rule, k, i)?;
+    for i in 0..word_bound(file.view, k) {
+        add_word(leaders, file, rule, k, i)?;
     }
     Ok(())
 }
@@ -93,20 +86,18 @@ fn word_bound(view: &ElfView, k: usize) -> u32
 /// Adds those of word `i` of code range `k`, if the range has that word.
 fn add_word(
     leaders: &mut Vec<u32>,
-    view: &ElfView,
-    loaded: &[bool],
+    file: &LoadedFile,
     rule: FlowRule,
     k: usize,
     i: u32,
 ) -> Result<(), AllocError>
-    requires read { IsRead view.now }
-    requires marks { loaded.now ≡ all_loaded (plain_view view.now) }
-    requires below { k < length view.now.sections.items }
-    requires range { is_code_range (plain_view view.now) k ≡ true }
-    ensures { OnOk result ((a : ℕ) → has leaders.new.items a ≡ has leaders.old.items a || is_code_word (plain_view view.now) a && passes_at (plain_view view.now) (leads_by rule (plain_view view.now) a) k i) }
+    requires read { IsRead file.now.view.now }
+    requires below { k < length file.now.view.now.sections.items }
+    requires range { is_code_range (plain_view file.now.view.now) k ≡ true }
+    ensures { OnOk result ((a : ℕ) → has leaders.new.items a ≡ has leaders.old.items a || is_code_word (plain_view file.now.view.now) a && passes_at (plain_view file.now.view.now) (leads_by rule (plain_view file.now.view.now) a) k i) }
 {
-    match code_word(view, k, i) {
-        Some(address) => add_flow_at(leaders, view, loaded, rule, k, address),
+    match code_word(file.view, k, i) {
+        Some(address) => add_flow_at(leaders, file, rule, k, address),
         None => Ok(()),
     }
 }
@@ -148,58 +139,52 @@ fn holds_word(section: &Section, address: u64) -> bool
 /// Adds the leaders that the word at `address` of code range `k` makes.
 fn add_flow_at(
     leaders: &mut Vec<u32>,
-    view: &ElfView,
-    loaded: &[bool],
+    file: &LoadedFile,
     rule: FlowRule,
     k: usize,
     address: u32,
 ) -> Result<(), AllocError>
-    requires read { IsRead view.now }
-    requires marks { loaded.now ≡ all_loaded (plain_view view.now) }
-    requires holds { holds_code (plain_view view.now) address k ≡ true }
-    ensures { OnOk result ((a : ℕ) → has leaders.new.items a ≡ has leaders.old.items a || is_code_word (plain_view view.now) a && leads_by rule (plain_view view.now) a address) }
+    requires read { IsRead file.now.view.now }
+    requires holds { holds_code (plain_view file.now.view.now) address k ≡ true }
+    ensures { OnOk result ((a : ℕ) → has leaders.new.items a ≡ has leaders.old.items a || is_code_word (plain_view file.now.view.now) a && leads_by rule (plain_view file.now.view.now) a address) }
 {
-    let word = word_in(view, k, address);
+    let word = word_in(file.view, k, address);
     match rule {
-        FlowRule::All => add_flow_of(leaders, view, loaded, address, word),
-        FlowRule::Links => add_link_return(leaders, view, loaded, address, word),
+        FlowRule::All => add_flow_of(leaders, file, address, word),
+        FlowRule::Links => add_link_return(leaders, file, address, word),
     }
 }
 
 /// Adds where `word`, which stands at `address`, goes, and what is behind it.
 fn add_flow_of(
     leaders: &mut Vec<u32>,
-    view: &ElfView,
-    loaded: &[bool],
+    file: &LoadedFile,
     address: u32,
     word: u32,
 ) -> Result<(), AllocError>
-    requires marks { loaded.now ≡ all_loaded (plain_view view.now) }
-    requires word { word ≡ image_word (plain_view view.now) address }
+    requires word { word ≡ image_word (plain_view file.now.view.now) address }
     requires fits { address + 4 < 2 ^ 32 }
-    ensures { OnOk result ((a : ℕ) → has leaders.new.items a ≡ has leaders.old.items a || is_code_word (plain_view view.now) a && flows_to (plain_view view.now) a address) }
+    ensures { OnOk result ((a : ℕ) → has leaders.new.items a ≡ has leaders.old.items a || is_code_word (plain_view file.now.view.now) a && flows_to (plain_view file.now.view.now) a address) }
 {
-    add_target(leaders, view, loaded, address, word)?;
-    add_return(leaders, view, loaded, address, word)?;
+    add_target(leaders, file, address, word)?;
+    add_return(leaders, file, address, word)?;
     Ok(())
 }
 
 /// Adds where `word`, which stands at `address`, goes if it is a branch or a JAL.
 fn add_target(
     leaders: &mut Vec<u32>,
-    view: &ElfView,
-    loaded: &[bool],
+    file: &LoadedFile,
     address: u32,
     word: u32,
 ) -> Result<(), AllocError>
-    requires marks { loaded.now ≡ all_loaded (plain_view view.now) }
-    requires word { word ≡ image_word (plain_view view.now) address }
-    ensures { OnOk result ((a : ℕ) → has leaders.new.items a ≡ has leaders.old.items a || is_code_word (plain_view view.now) a && goes_to (plain_view view.now) a address) }
+    requires word { word ≡ image_word (plain_view file.now.view.now) address }
+    ensures { OnOk result ((a : ℕ) → has leaders.new.items a ≡ has leaders.old.items a || is_code_word (plain_view file.now.view.now) a && goes_to (plain_view file.now.view.now) a address) }
 {
     if is_branch(word) {
-        add_leader(leaders, view, loaded, branch_target(address, word))
+        add_leader(leaders, file, branch_target(address, word))
     } else if is_jal(word) {
-        add_leader(leaders, view, loaded, jal_target(address, word))
+        add_leader(leaders, file, jal_target(address, word))
     } else {
         Ok(())
     }
@@ -208,18 +193,16 @@ fn add_target(
 /// Adds what is behind `word`, which stands at `address`, if that comes back.
 fn add_return(
     leaders: &mut Vec<u32>,
-    view: &ElfView,
-    loaded: &[bool],
+    file: &LoadedFile,
     address: u32,
     word: u32,
 ) -> Result<(), AllocError>
-    requires marks { loaded.now ≡ all_loaded (plain_view view.now) }
-    requires word { word ≡ image_word (plain_view view.now) address }
+    requires word { word ≡ image_word (plain_view file.now.view.now) address }
     requires fits { address + 4 < 2 ^ 32 }
-    ensures { OnOk result ((a : ℕ) → has leaders.new.items a ≡ has leaders.old.items a || is_code_word (plain_view view.now) a && comes_back (plain_view view.now) a address) }
+    ensures { OnOk result ((a : ℕ) → has leaders.new.items a ≡ has leaders.old.items a || is_code_word (plain_view file.now.view.now) a && comes_back (plain_view file.now.view.now) a address) }
 {
     if comes_back(word) {
-        add_leader(leaders, view, loaded, address + 4)
+        add_leader(leaders, file, address + 4)
     } else {
         Ok(())
     }
@@ -235,18 +218,16 @@ fn comes_back(word: u32) -> bool
 /// Adds what is behind `word`, which stands at `address`, if it is a jump that links.
 fn add_link_return(
     leaders: &mut Vec<u32>,
-    view: &ElfView,
-    loaded: &[bool],
+    file: &LoadedFile,
     address: u32,
     word: u32,
 ) -> Result<(), AllocError>
-    requires marks { loaded.now ≡ all_loaded (plain_view view.now) }
-    requires word { word ≡ image_word (plain_view view.now) address }
+    requires word { word ≡ image_word (plain_view file.now.view.now) address }
     requires fits { address + 4 < 2 ^ 32 }
-    ensures { OnOk result ((a : ℕ) → has leaders.new.items a ≡ has leaders.old.items a || is_code_word (plain_view view.now) a && link_comes_back (plain_view view.now) a address) }
+    ensures { OnOk result ((a : ℕ) → has leaders.new.items a ≡ has leaders.old.items a || is_code_word (plain_view file.now.view.now) a && link_comes_back (plain_view file.now.view.now) a address) }
 {
     if is_linking_jump(word) {
-        add_leader(leaders, view, loaded, address + 4)
+        add_leader(leaders, file, address + 4)
     } else {
         Ok(())
     }

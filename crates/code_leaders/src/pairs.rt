@@ -2,7 +2,6 @@
 ghost use Rattle.std.specs.Prelude.{◌≡◌, ℕ, ◌+◌, ◌^◌, ◌<◌, ◌==◌, true, false, ◌&&◌, ◌||◌, length, IfOk, MatchOption, OnOk};
 ghost use Rattle.list_checks.specs.Tests.{any_below};
 ghost use Rattle.elf_reader.specs.File.{plain_view};
-ghost use Rattle.loaded_file.specs.Marks.{all_loaded};
 ghost use Rattle.loaded_file.specs.Code.{holds_code, is_code_word, image_word};
 ghost use Rattle.loaded_file.specs.Records.{is_call_kind, counts};
 ghost use Rattle.loaded_file.specs.Read.{IsRead};
@@ -14,8 +13,8 @@ ghost use Rattle.code_leaders.specs.Early.{has};
 use crate::meanings::{is_auipc, is_jalr, links};
 use crate::search::{arrange, has_address};
 use crate::targets::pair_target;
-use elf_reader::{ElfView, Reloc};
-use loaded_file::{counts, holds_code, is_code_word, target, word_in};
+use elf_reader::Reloc;
+use loaded_file::{LoadedFile, counts, holds_code, is_code_word, target, word_in};
 use rv_decode::{rd, rs1};
 use std::alloc::{AllocError, Global};
 
@@ -23,93 +22,67 @@ use std::alloc::{AllocError, Global};
 /// rest on no call pair. It fails only where no memory was left.
 pub(crate) fn call_pairs(
     alloc: Global,
-    view: &ElfView,
-    loaded: &[bool],
+    file: &LoadedFile,
     early: &[u32],
 ) -> Result<Vec<u32>, AllocError>
-    requires read { IsRead view.now }
-    requires marks { loaded.now ≡ all_loaded (plain_view view.now) }
-    requires early { (a : ℕ) → has early.now a ≡ is_early (plain_view view.now) a }
-    ensures { IfOk result (λ pairs. AreThose (is_call_pair (plain_view view.now)) pairs.items) }
+    requires read { IsRead file.now.view.now }
+    requires early { (a : ℕ) → has early.now a ≡ is_early (plain_view file.now.view.now) a }
+    ensures { IfOk result (λ pairs. AreThose (is_call_pair (plain_view file.now.view.now)) pairs.items) }
 {
-    let barred = barred(alloc, view, loaded, early)?;
+    let barred = barred(alloc, file, early)?;
     let mut pairs = Vec::new(alloc);
-    add_pairs(&mut pairs, view, loaded, &barred)?;
+    add_pairs(&mut pairs, file, &barred)?;
     arrange(&mut pairs);
     Ok(pairs)
 }
 
 /// Where no JALR of a pair stands: on early leaders, and where relocations of calls lead to.
-fn barred(
-    alloc: Global,
-    view: &ElfView,
-    loaded: &[bool],
-    early: &[u32],
-) -> Result<Vec<u32>, AllocError>
-    requires marks { loaded.now ≡ all_loaded (plain_view view.now) }
-    requires early { (a : ℕ) → has early.now a ≡ is_early (plain_view view.now) a }
-    ensures { IfOk result (λ barred. AreThose (is_barred (plain_view view.now)) barred.items) }
+fn barred(alloc: Global, file: &LoadedFile, early: &[u32]) -> Result<Vec<u32>, AllocError>
+    requires early { (a : ℕ) → has early.now a ≡ is_early (plain_view file.now.view.now) a }
+    ensures { IfOk result (λ barred. AreThose (is_barred (plain_view file.now.view.now)) barred.items) }
 {
     let mut barred = early.to_vec(alloc)?;
-    add_call_targets(&mut barred, view, loaded)?;
+    add_call_targets(&mut barred, file)?;
     arrange(&mut barred);
     Ok(barred)
 }
 
-fn add_call_targets(
-    addresses: &mut Vec<u32>,
-    view: &ElfView,
-    loaded: &[bool],
-) -> Result<(), AllocError>
-    requires { loaded.now ≡ all_loaded (plain_view view.now) }
-    ensures { OnOk result ((a : ℕ) → has addresses.new.items a ≡ has addresses.old.items a || any_below (calls (plain_view view.now) a) (length (plain_view view.now).relocs)) }
+fn add_call_targets(addresses: &mut Vec<u32>, file: &LoadedFile) -> Result<(), AllocError>
+    ensures { OnOk result ((a : ℕ) → has addresses.new.items a ≡ has addresses.old.items a || any_below (calls (plain_view file.now.view.now) a) (length (plain_view file.now.view.now).relocs)) }
 {
-    for i in 0..view.relocs.len() {
-        add_call_target(addresses, view, loaded, i)?;
+    for i in 0..file.view.relocs.len() {
+        add_call_target(addresses, file, i)?;
     }
     Ok(())
 }
 
 /// Adds where relocation `i` leads to, if it is of a call.
-fn add_call_target(
-    addresses: &mut Vec<u32>,
-    view: &ElfView,
-    loaded: &[bool],
-    i: usize,
-) -> Result<(), AllocError>
-    requires marks { loaded.now ≡ all_loaded (plain_view view.now) }
-    requires below { i < length view.now.relocs.items }
-    ensures { OnOk result ((a : ℕ) → has addresses.new.items a ≡ has addresses.old.items a || calls (plain_view view.now) a i) }
+fn add_call_target(addresses: &mut Vec<u32>, file: &LoadedFile, i: usize) -> Result<(), AllocError>
+    requires below { i < length file.now.view.now.relocs.items }
+    ensures { OnOk result ((a : ℕ) → has addresses.new.items a ≡ has addresses.old.items a || calls (plain_view file.now.view.now) a i) }
 {
-    let reloc = &view.relocs[i];
-    if !is_call(view, loaded, reloc) {
+    let reloc = &file.view.relocs[i];
+    if !is_call(file, reloc) {
         return Ok(());
     }
-    addresses.push(target(view, reloc))?;
+    addresses.push(target(file.view, reloc))?;
     Ok(())
 }
 
 /// A relocation counts, and is CALL or CALL_PLT (RISC-V psABI, "Relocations").
-fn is_call(view: &ElfView, loaded: &[bool], reloc: &Reloc) -> bool
-    requires { loaded.now ≡ all_loaded (plain_view view.now) }
-    ensures { result ≡ counts (plain_view view.now) reloc.now && is_call_kind reloc.now.kind }
+fn is_call(file: &LoadedFile, reloc: &Reloc) -> bool
+    ensures { result ≡ counts (plain_view file.now.view.now) reloc.now && is_call_kind reloc.now.kind }
 {
-    counts(view, loaded, reloc) && matches!(reloc.kind, 18 | 19)
+    counts(file, reloc) && matches!(reloc.kind, 18 | 19)
 }
 
-fn add_pairs(
-    pairs: &mut Vec<u32>,
-    view: &ElfView,
-    loaded: &[bool],
-    barred: &[u32],
-) -> Result<(), AllocError>
-    requires read { IsRead view.now }
-    requires marks { loaded.now ≡ all_loaded (plain_view view.now) }
-    requires barred { AreThose (is_barred (plain_view view.now)) barred.now }
-    ensures { OnOk result ((p : ℕ) → has pairs.new.items p ≡ has pairs.old.items p || may_be_pair (plain_view view.now) p && any_below (is_call_by (plain_view view.now) p) (length (plain_view view.now).relocs)) }
+fn add_pairs(pairs: &mut Vec<u32>, file: &LoadedFile, barred: &[u32]) -> Result<(), AllocError>
+    requires read { IsRead file.now.view.now }
+    requires barred { AreThose (is_barred (plain_view file.now.view.now)) barred.now }
+    ensures { OnOk result ((p : ℕ) → has pairs.new.items p ≡ has pairs.old.items p || may_be_pair (plain_view file.now.view.now) p && any_below (is_call_by (plain_view file.now.view.now) p) (length (plain_view file.now.view.now).relocs)) }
 {
-    for i in 0..view.relocs.len() {
-        add_pair(pairs, view, loaded, barred, i)?;
+    for i in 0..file.view.relocs.len() {
+        add_pair(pairs, file, barred, i)?;
     }
     Ok(())
 }
@@ -117,19 +90,17 @@ fn add_pairs(
 /// Adds where relocation `i` stands, if it makes the words there a pair.
 fn add_pair(
     pairs: &mut Vec<u32>,
-    view: &ElfView,
-    loaded: &[bool],
+    file: &LoadedFile,
     barred: &[u32],
     i: usize,
 ) -> Result<(), AllocError>
-    requires read { IsRead view.now }
-    requires marks { loaded.now ≡ all_loaded (plain_view view.now) }
-    requires barred { AreThose (is_barred (plain_view view.now)) barred.now }
-    requires below { i < length view.now.relocs.items }
-    ensures { OnOk result ((p : ℕ) → has pairs.new.items p ≡ has pairs.old.items p || may_be_pair (plain_view view.now) p && is_call_by (plain_view view.now) p i) }
+    requires read { IsRead file.now.view.now }
+    requires barred { AreThose (is_barred (plain_view file.now.view.now)) barred.now }
+    requires below { i < length file.now.view.now.relocs.items }
+    ensures { OnOk result ((p : ℕ) → has pairs.new.items p ≡ has pairs.old.items p || may_be_pair (plain_view file.now.view.now) p && is_call_by (plain_view file.now.view.now) p i) }
 {
-    let reloc = &view.relocs[i];
-    if !makes_pair(view, loaded, barred, reloc) {
+    let reloc = &file.view.relocs[i];
+    if !makes_pair(file, barred, reloc) {
         return Ok(());
     }
     pairs.push(reloc.at)?;
@@ -137,28 +108,26 @@ fn add_pair(
 }
 
 /// A relocation is of a call, and the words where it stands are a pair to where it leads.
-fn makes_pair(view: &ElfView, loaded: &[bool], barred: &[u32], reloc: &Reloc) -> bool
-    requires read { IsRead view.now }
-    requires marks { loaded.now ≡ all_loaded (plain_view view.now) }
-    requires barred { AreThose (is_barred (plain_view view.now)) barred.now }
-    ensures { result ≡ makes_pair (plain_view view.now) reloc.now }
+fn makes_pair(file: &LoadedFile, barred: &[u32], reloc: &Reloc) -> bool
+    requires read { IsRead file.now.view.now }
+    requires barred { AreThose (is_barred (plain_view file.now.view.now)) barred.now }
+    ensures { result ≡ makes_pair (plain_view file.now.view.now) reloc.now }
 {
-    is_call(view, loaded, reloc) && is_pair_to(view, loaded, barred, reloc.at, target(view, reloc))
+    is_call(file, reloc) && is_pair_to(file, barred, reloc.at, target(file.view, reloc))
 }
 
 /// The words at `at` and behind it may be a pair to `to`.
-fn is_pair_to(view: &ElfView, loaded: &[bool], barred: &[u32], at: u32, to: u32) -> bool
-    requires read { IsRead view.now }
-    requires marks { loaded.now ≡ all_loaded (plain_view view.now) }
-    requires barred { AreThose (is_barred (plain_view view.now)) barred.now }
-    ensures { result ≡ may_be_pair (plain_view view.now) at && (pair_target (plain_view view.now) at == to) }
+fn is_pair_to(file: &LoadedFile, barred: &[u32], at: u32, to: u32) -> bool
+    requires read { IsRead file.now.view.now }
+    requires barred { AreThose (is_barred (plain_view file.now.view.now)) barred.now }
+    ensures { result ≡ may_be_pair (plain_view file.now.view.now) at && (pair_target (plain_view file.now.view.now) at == to) }
 {
-    let Some((first, second)) = pair_words(view, loaded, at) else {
+    let Some((first, second)) = pair_words(file, at) else {
         return false;
     };
     let goes_to = pair_target(at, first, second);
     fits_pair(first, second)
-        && is_code_word(view, loaded, goes_to)
+        && is_code_word(file, goes_to)
         && !has_address(barred, at + 4)
         && goes_to == to
 }
@@ -175,37 +144,34 @@ fn fits_pair(first: u32, second: u32) -> bool
 }
 
 /// The words at `at` and behind it, where both are code.
-pub(crate) fn pair_words(view: &ElfView, loaded: &[bool], at: u32) -> Option<(u32, u32)>
-    requires read { IsRead view.now }
-    requires marks { loaded.now ≡ all_loaded (plain_view view.now) }
-    ensures words { MatchOption result (are_code_words (plain_view view.now) at ≡ false) (λ words. (are_code_words (plain_view view.now) at ≡ true) × (words.0 ≡ image_word (plain_view view.now) at) × (words.1 ≡ image_word (plain_view view.now) (at + 4)) × (at + 8 < 2 ^ 32)) }
+pub(crate) fn pair_words(file: &LoadedFile, at: u32) -> Option<(u32, u32)>
+    requires read { IsRead file.now.view.now }
+    ensures words { MatchOption result (are_code_words (plain_view file.now.view.now) at ≡ false) (λ words. (are_code_words (plain_view file.now.view.now) at ≡ true) × (words.0 ≡ image_word (plain_view file.now.view.now) at) × (words.1 ≡ image_word (plain_view file.now.view.now) (at + 4)) × (at + 8 < 2 ^ 32)) }
 {
-    let first = code_word_at(view, loaded, at)?;
-    let second = code_word_at(view, loaded, at + 4)?;
+    let first = code_word_at(file, at)?;
+    let second = code_word_at(file, at + 4)?;
     Some((first, second))
 }
 
 /// The word at `address`, where it is code.
-fn code_word_at(view: &ElfView, loaded: &[bool], address: u32) -> Option<u32>
-    requires read { IsRead view.now }
-    requires marks { loaded.now ≡ all_loaded (plain_view view.now) }
-    ensures { MatchOption result (is_code_word (plain_view view.now) address ≡ false) (λ word. (is_code_word (plain_view view.now) address ≡ true) × (word ≡ image_word (plain_view view.now) address) × (address + 4 < 2 ^ 32)) }
+fn code_word_at(file: &LoadedFile, address: u32) -> Option<u32>
+    requires read { IsRead file.now.view.now }
+    ensures { MatchOption result (is_code_word (plain_view file.now.view.now) address ≡ false) (λ word. (is_code_word (plain_view file.now.view.now) address ≡ true) × (word ≡ image_word (plain_view file.now.view.now) address) × (address + 4 < 2 ^ 32)) }
 {
     if address % 4 != 0 {
         return None;
     }
-    word_in_code(view, loaded, address)
+    word_in_code(file, address)
 }
 
 /// The four bytes from `address`, where a code range holds them.
-fn word_in_code(view: &ElfView, loaded: &[bool], address: u32) -> Option<u32>
-    requires read { IsRead view.now }
-    requires marks { loaded.now ≡ all_loaded (plain_view view.now) }
-    ensures { MatchOption result (any_below (holds_code (plain_view view.now) address) (length (plain_view view.now).sections) ≡ false) (λ word. (any_below (holds_code (plain_view view.now) address) (length (plain_view view.now).sections) ≡ true) × (word ≡ image_word (plain_view view.now) address) × (address + 4 < 2 ^ 32)) }
+fn word_in_code(file: &LoadedFile, address: u32) -> Option<u32>
+    requires read { IsRead file.now.view.now }
+    ensures { MatchOption result (any_below (holds_code (plain_view file.now.view.now) address) (length (plain_view file.now.view.now).sections) ≡ false) (λ word. (any_below (holds_code (plain_view file.now.view.now) address) (length (plain_view file.now.view.now).sections) ≡ true) × (word ≡ image_word (plain_view file.now.view.now) address) × (address + 4 < 2 ^ 32)) }
 {
-    for k in 0..view.sections.len() {
-        if holds_code(view, loaded, address, k) {
-            return Some(word_in(view, k, address));
+    for k in 0..file.view.sections.len() {
+        if holds_code(file, address, k) {
+            return Some(word_in(file.view, k, address));
         }
     }
     None

@@ -38,7 +38,12 @@ pub fn check_file(
 }
 
 /// Checks a certificate for a programme, and makes the report on its choice.
-fn checked(alloc: Global, programme: &Programme, nodes: u64, cert: &[u8]) -> Result<String, CommandFault>
+fn checked(
+    alloc: Global,
+    programme: &Programme,
+    nodes: u64,
+    cert: &[u8],
+) -> Result<String, CommandFault>
     requires within { (c : PlainChoice) → IsFeasible (plain_programme programme.now) c → gain (plain_programme programme.now) c ≤ℤ pos programme.now.base }
     ensures ok { IfOk result (λ report. ReportsText (plain_programme programme.now) nodes cert.now (string_bytes report)) }
     ensures err { IfErr result (RejectsText (plain_programme programme.now) cert.now) }

@@ -5,9 +5,9 @@ ghost use Rattle.command_line.specs.Delivery.{ArePrepared, SetsPrepared, FailsTo
 ghost use Rattle.command_line.specs.declared.faults.CommandFault.TheVariants as command_fault;
 ghost use Rattle.shelf_io.specs.Shelf.{SetsName};
 
+use crate::diagnostic::Diagnostic;
 use crate::faults::CommandFault;
 use crate::printing::put_piece;
-use crate::diagnostic::Diagnostic;
 use shelf_io::{Shelf, ShelfFault, Sink};
 use std::alloc::{AllocError, Global};
 

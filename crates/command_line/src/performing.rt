@@ -4,9 +4,9 @@ ghost use Rattle.command_line.specs.Performing.{IsPrepared, RejectsPreparing, Pe
 
 use crate::commands::Command;
 use crate::delivery::{PreparedResult, deliver};
+use crate::diagnostic::Diagnostic;
 use crate::faults::CommandFault;
 use crate::reading::read_all;
-use crate::diagnostic::Diagnostic;
 use crate::results::prepare_result;
 use shelf_io::{Shelf, Sink};
 use std::alloc::Global;

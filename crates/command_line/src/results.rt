@@ -65,7 +65,11 @@ pub fn prepare_result<'a>(
     }
 }
 
-fn prepare_run<'a>(alloc: Global, out: &'a str, texts: &[Vec<u8>]) -> Result<PreparedResult<'a>, CommandFault>
+fn prepare_run<'a>(
+    alloc: Global,
+    out: &'a str,
+    texts: &[Vec<u8>],
+) -> Result<PreparedResult<'a>, CommandFault>
     requires { length texts.now ≡ 3 }
     ensures ok { IfOk result (λ prepared. (f b i : List ℕ)
         → IsPreparedFor (run_command f b i out.now) (contents texts.now) prepared) }
@@ -152,7 +156,12 @@ fn prepare_show<'a>(alloc: Global, texts: &[Vec<u8>]) -> Result<PreparedResult<'
     }
 }
 
-fn prepare_gen<'a>(alloc: Global, seed: u32, kernels: u32, out: &'a str) -> Result<PreparedResult<'a>, CommandFault>
+fn prepare_gen<'a>(
+    alloc: Global,
+    seed: u32,
+    kernels: u32,
+    out: &'a str,
+) -> Result<PreparedResult<'a>, CommandFault>
     requires some { 1 ≤ kernels }
     requires few { kernels ≤ 64 }
     ensures ok { IfOk result (IsPreparedFor (gen_command seed kernels out.now) []) }
@@ -170,7 +179,11 @@ fn kernels_line(alloc: Global, kernels: u32) -> Result<String, AllocError>
     format!(in alloc; "kernels {kernels}\n")
 }
 
-fn prepare_hex<'a>(alloc: Global, out: &'a str, texts: &[Vec<u8>]) -> Result<PreparedResult<'a>, CommandFault>
+fn prepare_hex<'a>(
+    alloc: Global,
+    out: &'a str,
+    texts: &[Vec<u8>],
+) -> Result<PreparedResult<'a>, CommandFault>
     requires { length texts.now ≡ 1 }
     ensures ok { IfOk result (λ prepared. (f : List ℕ)
         → IsPreparedFor (hex_command f out.now) (contents texts.now) prepared) }
@@ -183,7 +196,10 @@ fn prepare_hex<'a>(alloc: Global, out: &'a str, texts: &[Vec<u8>]) -> Result<Pre
     }
 }
 
-fn prepare_hex_check<'a>(alloc: Global, texts: &[Vec<u8>]) -> Result<PreparedResult<'a>, CommandFault>
+fn prepare_hex_check<'a>(
+    alloc: Global,
+    texts: &[Vec<u8>],
+) -> Result<PreparedResult<'a>, CommandFault>
     requires { length texts.now ≡ 2 }
     ensures ok { IfOk result (λ prepared. (f h : List ℕ)
         → IsPreparedFor (hex_check_command f h) (contents texts.now) prepared) }

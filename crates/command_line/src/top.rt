@@ -3,9 +3,9 @@ ghost use Rattle.command_line.specs.Command.{texts};
 ghost use Rattle.command_line.specs.Answers.{IsDone, HasCause, EndsRejected, Answers};
 
 use crate::commands::parse;
+use crate::diagnostic::Diagnostic;
 use crate::faults::CommandFault;
 use crate::performing::perform_command;
-use crate::diagnostic::Diagnostic;
 use shelf_io::{Shelf, Sink};
 use std::alloc::Global;
 

@@ -111,12 +111,7 @@ pub(crate) fn add_arrivals(rows: &mut [Vec<Edge>], code: &Code, hub: u32) -> Res
 }
 
 /// Adds the one from the block at an address, if one begins there.
-fn add_arrival(
-    rows: &mut [Vec<Edge>],
-    code: &Code,
-    leader: u32,
-    hub: u32,
-) -> Result<(), AllocError>
+fn add_arrival(rows: &mut [Vec<Edge>], code: &Code, leader: u32, hub: u32) -> Result<(), AllocError>
     requires ascending { IsStrictlyIncreasing (starts_of code.now) }
     requires nodes { length rows.old ≡ hub + 1 }
     requires hub { hub ≡ length code.now.blocks.items }

@@ -1,18 +1,19 @@
 //! Of a file: which sections are loaded, which words are code, which relocations count, and the ranges of its objects.
 #![tactic(auto)]
 
+mod byte_ranges;
 mod code_ranges;
 mod code_words;
-mod byte_ranges;
+mod file;
 mod loaded;
 mod overlaps;
 mod records;
 mod symbol_ranges;
 
-pub use code_ranges::{holds_code, is_code_range, is_code_word, is_loaded};
-pub use code_words::{content_word, word_in};
 pub use byte_ranges::ByteRange;
-pub use loaded::loaded_sections;
+pub use code_ranges::{holds_code, is_code_range, is_code_word};
+pub use code_words::{content_word, word_in};
+pub use file::LoadedFile;
 pub use overlaps::overlapped;
 pub use records::{counts, symbol_value, target};
 pub use symbol_ranges::{has_range, object_ranges};

@@ -47,7 +47,11 @@ fn further_end(furthest_end: u64, range: &ByteRange) -> u64
     ensures { result ≡ further_end furthest_end range.now }
 {
     let end = end_of(range);
-    if furthest_end < end { end } else { furthest_end }
+    if furthest_end < end {
+        end
+    } else {
+        furthest_end
+    }
 }
 
 /// The address behind the last byte of a range.

@@ -1,18 +1,16 @@
 ghost use Rattle.std.specs.Prelude.{◌≡◌};
 ghost use Rattle.elf_reader.specs.File.{plain_view};
-ghost use Rattle.loaded_file.specs.Marks.{all_loaded};
 ghost use Rattle.loaded_file.specs.Records.{symbol_at, counts, target};
 
-use crate::code_ranges::is_loaded;
+use crate::file::LoadedFile;
 use elf_reader::{ElfView, Reloc};
 
-/// A relocation counts: the section that it changes is loaded. `loaded` are the marks of the loaded sections.
-pub fn counts(view: &ElfView, loaded: &[bool], reloc: &Reloc) -> bool
-    requires { loaded.now ≡ all_loaded (plain_view view.now) }
-    ensures { result ≡ counts (plain_view view.now) reloc.now }
+/// A relocation counts: the section that it changes is loaded.
+pub fn counts(file: &LoadedFile, reloc: &Reloc) -> bool
+    ensures { result ≡ counts (plain_view file.now.view.now) reloc.now }
 {
     let section = reloc.section as usize;
-    section < view.sections.len() && is_loaded(view, loaded, section)
+    section < file.view.sections.len() && file.is_loaded(section)
 }
 
 /// The address that a relocation leads to: S + A, the value of its symbol and its addend (RISC-V psABI,

@@ -2,13 +2,12 @@ ghost use Rattle.std.specs.Prelude.{◌≡◌, ℕ, ◌+◌, ◌*◌, ◌<◌, B
 ghost use Rattle.std.specs.List.{list_any};
 ghost use Rattle.list_checks.specs.Tests.{lies_in};
 ghost use Rattle.elf_reader.specs.File.{plain_section, plain_symbol, plain_view};
-ghost use Rattle.loaded_file.specs.Marks.{all_loaded};
 ghost use Rattle.loaded_file.specs.Ranges.{is_executable, has_byte_range, has_owner, has_range, is_range};
 ghost use Rattle.loaded_file.specs.ByteRanges.{key_of, byte_range_of, is_key_of, has_byte_range_in, IsAscending, IsFilled};
 
-use crate::code_ranges::is_loaded;
 use crate::byte_ranges::ByteRange;
-use elf_reader::{EXECUTABLE_BIT, ElfView, STT_OBJECT, Section, Symbol};
+use crate::file::LoadedFile;
+use elf_reader::{EXECUTABLE_BIT, STT_OBJECT, Section, Symbol};
 use list_checks::arrange_once;
 use std::alloc::{AllocError, Global};
 
@@ -19,44 +18,32 @@ const ADDRESSES: u64 = 0x1_0000_0000;
 /// `loaded` says of each section whether it is loaded. It fails only where no memory was left.
 ///
 /// The time grows with n log n, where n is the number of symbols.
-pub fn object_ranges(
-    alloc: Global,
-    view: &ElfView,
-    loaded: &[bool],
-) -> Result<Vec<ByteRange>, AllocError>
-    requires { loaded.now ≡ all_loaded (plain_view view.now) }
+pub fn object_ranges(alloc: Global, file: &LoadedFile) -> Result<Vec<ByteRange>, AllocError>
     ensures ascending { IfOk result (λ ranges. IsAscending ranges.items) }
-    ensures exact { IfOk result (λ ranges. (home n : ℕ) → has_byte_range_in ranges.items home n ≡ is_range (plain_view view.now) home n) }
+    ensures exact { IfOk result (λ ranges. (home n : ℕ) → has_byte_range_in ranges.items home n ≡ is_range (plain_view file.now.view.now) home n) }
     ensures filled { IfOk result (λ ranges. IsFilled ranges.items) }
 {
-    let mut keys = range_keys(alloc, view, loaded)?;
+    let mut keys = range_keys(alloc, file)?;
     arrange_once(&mut keys);
     byte_ranges_of(alloc, &keys)
 }
 
 /// The key of the range of each symbol of an object.
-fn range_keys(alloc: Global, view: &ElfView, loaded: &[bool]) -> Result<Vec<u64>, AllocError>
-    requires { loaded.now ≡ all_loaded (plain_view view.now) }
-    ensures { IfOk result (λ keys. (home n : ℕ) → list_any (is_key_of home n) keys.items ≡ is_range (plain_view view.now) home n) }
+fn range_keys(alloc: Global, file: &LoadedFile) -> Result<Vec<u64>, AllocError>
+    ensures { IfOk result (λ keys. (home n : ℕ) → list_any (is_key_of home n) keys.items ≡ is_range (plain_view file.now.view.now) home n) }
 {
     let mut keys = Vec::new(alloc);
-    for k in 0..view.symbols.len() {
-        push_range(&mut keys, view, loaded, &view.symbols[k])?;
+    for k in 0..file.view.symbols.len() {
+        push_range(&mut keys, file, &file.view.symbols[k])?;
     }
     Ok(keys)
 }
 
 /// Adds the key of the range of a symbol, if it is that of an object.
-fn push_range(
-    keys: &mut Vec<u64>,
-    view: &ElfView,
-    loaded: &[bool],
-    symbol: &Symbol,
-) -> Result<(), AllocError>
-    requires { loaded.now ≡ all_loaded (plain_view view.now) }
-    ensures { IfOk result (λ _. (test : ℕ → Bool) → list_any test keys.new.items ≡ (list_any test keys.old.items || (has_range (plain_view view.now) (plain_symbol symbol.now) && test (key_of symbol.now.value symbol.now.size)))) }
+fn push_range(keys: &mut Vec<u64>, file: &LoadedFile, symbol: &Symbol) -> Result<(), AllocError>
+    ensures { IfOk result (λ _. (test : ℕ → Bool) → list_any test keys.new.items ≡ (list_any test keys.old.items || (has_range (plain_view file.now.view.now) (plain_symbol symbol.now) && test (key_of symbol.now.value symbol.now.size)))) }
 {
-    if has_range(view, loaded, symbol) {
+    if has_range(file, symbol) {
         keys.push(key_of(symbol.value, symbol.size))?;
     }
     Ok(())
@@ -92,11 +79,10 @@ fn byte_range_of(key: u64) -> ByteRange
 
 /// Whether a symbol is that of an object: it has a size and a place, and lies inside a loaded section that
 /// holds no code. `loaded` says of each section whether it is loaded.
-pub fn has_range(view: &ElfView, loaded: &[bool], symbol: &Symbol) -> bool
-    requires { loaded.now ≡ all_loaded (plain_view view.now) }
-    ensures { result ≡ has_range (plain_view view.now) (plain_symbol symbol.now) }
+pub fn has_range(file: &LoadedFile, symbol: &Symbol) -> bool
+    ensures { result ≡ has_range (plain_view file.now.view.now) (plain_symbol symbol.now) }
 {
-    symbol.kind == STT_OBJECT && has_byte_range(symbol) && has_owner(view, loaded, symbol)
+    symbol.kind == STT_OBJECT && has_byte_range(symbol) && has_owner(file, symbol)
 }
 
 /// It has a place and a size that an object can have.
@@ -108,16 +94,15 @@ fn has_byte_range(symbol: &Symbol) -> bool
 }
 
 /// It lies inside a loaded section that holds no code.
-fn has_owner(view: &ElfView, loaded: &[bool], symbol: &Symbol) -> bool
-    requires { loaded.now ≡ all_loaded (plain_view view.now) }
-    ensures { result ≡ has_owner (plain_view view.now) (plain_symbol symbol.now) }
+fn has_owner(file: &LoadedFile, symbol: &Symbol) -> bool
+    ensures { result ≡ has_owner (plain_view file.now.view.now) (plain_symbol symbol.now) }
 {
     let number = symbol.section as usize;
-    if number >= view.sections.len() {
+    if number >= file.view.sections.len() {
         return false;
     }
-    let owner = &view.sections[number];
-    is_loaded(view, loaded, number) && !is_executable(owner) && lies_in(owner, symbol)
+    let owner = &file.view.sections[number];
+    file.is_loaded(number) && !is_executable(owner) && lies_in(owner, symbol)
 }
 
 /// A section holds code.

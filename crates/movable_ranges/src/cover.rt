@@ -2,14 +2,13 @@ ghost use Rattle.std.specs.Prelude.{◌≡◌, ℕ, ◌+◌, ◌<◌, Bool, leng
 ghost use Rattle.std.specs.List.{count_by};
 ghost use Rattle.list_checks.specs.Tests.{any_below};
 ghost use Rattle.elf_reader.specs.File.{plain_symbol, plain_view};
-ghost use Rattle.loaded_file.specs.Marks.{all_loaded};
 ghost use Rattle.loaded_file.specs.Records.{target};
 ghost use Rattle.list_checks.specs.Sorted.{count_below};
 ghost use Rattle.movable_ranges.specs.Shares.{bound_of, bounds_by, holds_address, IsCover};
 
 use elf_reader::{ElfView, Reloc, Symbol};
 use list_checks::{arrange, count_under};
-use loaded_file::{has_range, target};
+use loaded_file::{LoadedFile, has_range, target};
 use std::alloc::{AllocError, Global};
 
 /// The homes and the ends of all objects, each ascending. Objects may overlap.
@@ -27,16 +26,11 @@ pub(crate) enum Bound {
 }
 
 /// The cover of a program's objects. It fails only where no memory was left.
-pub(crate) fn object_cover(
-    alloc: Global,
-    view: &ElfView,
-    loaded: &[bool],
-) -> Result<Cover, AllocError>
-    requires { loaded.now ≡ all_loaded (plain_view view.now) }
-    ensures { IfOk result (IsCover (plain_view view.now)) }
+pub(crate) fn object_cover(alloc: Global, file: &LoadedFile) -> Result<Cover, AllocError>
+    ensures { IfOk result (IsCover (plain_view file.now.view.now)) }
 {
-    let mut homes = bounds(alloc, view, loaded, Bound::Home)?;
-    let mut ends = bounds(alloc, view, loaded, Bound::End)?;
+    let mut homes = bounds(alloc, file, Bound::Home)?;
+    let mut ends = bounds(alloc, file, Bound::End)?;
     arrange(&mut homes);
     arrange(&mut ends);
     Ok(Cover { homes, ends })
@@ -52,18 +46,12 @@ pub(crate) fn is_covered(view: &ElfView, cover: &Cover, reloc: &Reloc) -> bool
 }
 
 /// Where the objects begin, or where they end.
-fn bounds(
-    alloc: Global,
-    view: &ElfView,
-    loaded: &[bool],
-    bound: Bound,
-) -> Result<Vec<u64>, AllocError>
-    requires { loaded.now ≡ all_loaded (plain_view view.now) }
-    ensures { IfOk result (λ bounds. (test : ℕ → Bool) → count_by test bounds.items ≡ count_below (bounds_by (plain_view view.now) bound test) (length (plain_view view.now).symbols)) }
+fn bounds(alloc: Global, file: &LoadedFile, bound: Bound) -> Result<Vec<u64>, AllocError>
+    ensures { IfOk result (λ bounds. (test : ℕ → Bool) → count_by test bounds.items ≡ count_below (bounds_by (plain_view file.now.view.now) bound test) (length (plain_view file.now.view.now).symbols)) }
 {
     let mut bounds = Vec::new(alloc);
-    for k in 0..view.symbols.len() {
-        push_bound(&mut bounds, view, loaded, bound, k)?;
+    for k in 0..file.view.symbols.len() {
+        push_bound(&mut bounds, file, bound, k)?;
     }
     Ok(bounds)
 }
@@ -71,17 +59,15 @@ fn bounds(
 /// Adds where the object of symbol `k` begins, or where it ends.
 fn push_bound(
     bounds: &mut Vec<u64>,
-    view: &ElfView,
-    loaded: &[bool],
+    file: &LoadedFile,
     bound: Bound,
     k: usize,
 ) -> Result<(), AllocError>
-    requires marks { loaded.now ≡ all_loaded (plain_view view.now) }
-    requires below { k < length view.now.symbols.items }
-    ensures { IfOk result (λ _. (test : ℕ → Bool) → count_by test bounds.new.items ≡ count_by test bounds.old.items + (if bounds_by (plain_view view.now) bound test k then 1 else 0)) }
+    requires below { k < length file.now.view.now.symbols.items }
+    ensures { IfOk result (λ _. (test : ℕ → Bool) → count_by test bounds.new.items ≡ count_by test bounds.old.items + (if bounds_by (plain_view file.now.view.now) bound test k then 1 else 0)) }
 {
-    let symbol = &view.symbols[k];
-    if has_range(view, loaded, symbol) {
+    let symbol = &file.view.symbols[k];
+    if has_range(file, symbol) {
         bounds.push(bound_of(symbol, bound))?;
     }
     Ok(())

@@ -1,14 +1,14 @@
 //! Which objects of a program may move.
 #![tactic(auto)]
 
-mod disjoint;
+mod aliasing;
 mod cover;
+mod disjoint;
 mod marks;
 mod meaning;
 mod naming;
 mod sharing;
 mod soundness;
-mod aliasing;
 mod top;
 mod words;
 

@@ -1,7 +1,6 @@
 ghost use Rattle.std.specs.Prelude.{◌≡◌, ℕ, ◌<◌, ◌==◌, ◌||◌, length};
 ghost use Rattle.list_checks.specs.Tests.{any_below};
 ghost use Rattle.elf_reader.specs.File.{plain_symbol, plain_view};
-ghost use Rattle.loaded_file.specs.Marks.{all_loaded};
 ghost use Rattle.loaded_file.specs.Ranges.{owner_of};
 ghost use Rattle.loaded_file.specs.ByteRanges.{IsFilled};
 ghost use Rattle.movable_ranges.specs.Fixed.{is_listed_name, stands_in_zeros, has_listed_name, is_in_zeros, is_listed};
@@ -11,54 +10,45 @@ use crate::marks::mark;
 use crate::meaning::place_of_symbol;
 use board_config::Board;
 use elf_reader::{ElfView, SHT_NOBITS, Symbol};
-use loaded_file::ByteRange;
+use loaded_file::{ByteRange, LoadedFile};
 
 /// Marks the ranges in sections without content, if the board doesn't let these move.
-pub(crate) fn mark_zeros(
-    marks: &mut [bool],
-    view: &ElfView,
-    board: &Board,
-    loaded: &[bool],
-    ranges: &[ByteRange],
-)
-    requires marks { loaded.now ≡ all_loaded (plain_view view.now) }
+pub(crate) fn mark_zeros(marks: &mut [bool], file: &LoadedFile, board: &Board, ranges: &[ByteRange])
     requires disjoint { IsDisjoint ranges.now }
     requires filled { IsFilled ranges.now }
     requires len { length marks.old ≡ length ranges.now }
-    ensures adds { AddsRule (is_in_zeros (plain_view view.now) board.now) ranges.now marks.old marks.new }
+    ensures adds { AddsRule (is_in_zeros (plain_view file.now.view.now) board.now) ranges.now marks.old marks.new }
     ensures len { length marks.new ≡ length marks.old }
 {
     if !board.bss_movable {
-        mark_all_zeros(marks, view, loaded, ranges);
+        mark_all_zeros(marks, file, ranges);
     }
 }
 
 /// Marks the ranges in sections without content.
-fn mark_all_zeros(marks: &mut [bool], view: &ElfView, loaded: &[bool], ranges: &[ByteRange])
-    requires marks { loaded.now ≡ all_loaded (plain_view view.now) }
+fn mark_all_zeros(marks: &mut [bool], file: &LoadedFile, ranges: &[ByteRange])
     requires disjoint { IsDisjoint ranges.now }
     requires filled { IsFilled ranges.now }
     requires len { length marks.old ≡ length ranges.now }
-    ensures adds { AddsRule (λ home n. any_below (stands_in_zeros (plain_view view.now) home n) (length (plain_view view.now).symbols)) ranges.now marks.old marks.new }
+    ensures adds { AddsRule (λ home n. any_below (stands_in_zeros (plain_view file.now.view.now) home n) (length (plain_view file.now.view.now).symbols)) ranges.now marks.old marks.new }
     ensures len { length marks.new ≡ length marks.old }
 {
-    for k in 0..view.symbols.len() {
-        mark(marks, place_in_zeros(view, loaded, ranges, k));
+    for k in 0..file.view.symbols.len() {
+        mark(marks, place_in_zeros(file, ranges, k));
     }
 }
 
 /// The range of symbol `k`, if it stands in a section without content.
-fn place_in_zeros(view: &ElfView, loaded: &[bool], ranges: &[ByteRange], k: usize) -> Option<usize>
-    requires marks { loaded.now ≡ all_loaded (plain_view view.now) }
+fn place_in_zeros(file: &LoadedFile, ranges: &[ByteRange], k: usize) -> Option<usize>
     requires disjoint { IsDisjoint ranges.now }
     requires filled { IsFilled ranges.now }
-    requires below { k < length view.now.symbols.items }
-    ensures found { Finds (λ home n. stands_in_zeros (plain_view view.now) home n k) ranges.now result }
+    requires below { k < length file.now.view.now.symbols.items }
+    ensures found { Finds (λ home n. stands_in_zeros (plain_view file.now.view.now) home n k) ranges.now result }
     ensures below { IsBelow (length ranges.now) result }
 {
-    let symbol = &view.symbols[k];
-    if owner_has_no_content(view, symbol) {
-        place_of_symbol(view, loaded, ranges, symbol)
+    let symbol = &file.view.symbols[k];
+    if owner_has_no_content(file.view, symbol) {
+        place_of_symbol(file, ranges, symbol)
     } else {
         None
     }
@@ -77,41 +67,32 @@ fn owner_has_no_content(view: &ElfView, symbol: &Symbol) -> bool
 /// Marks the ranges of which a name stands in the board's list, or that of their section.
 pub(crate) fn mark_listed(
     marks: &mut [bool],
-    view: &ElfView,
+    file: &LoadedFile,
     board: &Board,
-    loaded: &[bool],
     ranges: &[ByteRange],
 )
-    requires marks { loaded.now ≡ all_loaded (plain_view view.now) }
     requires disjoint { IsDisjoint ranges.now }
     requires filled { IsFilled ranges.now }
     requires len { length marks.old ≡ length ranges.now }
-    ensures adds { AddsRule (is_listed (plain_view view.now) board.now) ranges.now marks.old marks.new }
+    ensures adds { AddsRule (is_listed (plain_view file.now.view.now) board.now) ranges.now marks.old marks.new }
     ensures len { length marks.new ≡ length marks.old }
 {
-    for k in 0..view.symbols.len() {
-        mark(marks, listed_place(view, board, loaded, ranges, k));
+    for k in 0..file.view.symbols.len() {
+        mark(marks, listed_place(file, board, ranges, k));
     }
 }
 
 /// The range of symbol `k`, if its name or that of its section stands in the board's list.
-fn listed_place(
-    view: &ElfView,
-    board: &Board,
-    loaded: &[bool],
-    ranges: &[ByteRange],
-    k: usize,
-) -> Option<usize>
-    requires marks { loaded.now ≡ all_loaded (plain_view view.now) }
+fn listed_place(file: &LoadedFile, board: &Board, ranges: &[ByteRange], k: usize) -> Option<usize>
     requires disjoint { IsDisjoint ranges.now }
     requires filled { IsFilled ranges.now }
-    requires below { k < length view.now.symbols.items }
-    ensures found { Finds (λ home n. has_listed_name (plain_view view.now) board.now home n k) ranges.now result }
+    requires below { k < length file.now.view.now.symbols.items }
+    ensures found { Finds (λ home n. has_listed_name (plain_view file.now.view.now) board.now home n k) ranges.now result }
     ensures below { IsBelow (length ranges.now) result }
 {
-    let symbol = &view.symbols[k];
-    if has_listed_name(view, board, symbol) {
-        place_of_symbol(view, loaded, ranges, symbol)
+    let symbol = &file.view.symbols[k];
+    if has_listed_name(file.view, board, symbol) {
+        place_of_symbol(file, ranges, symbol)
     } else {
         None
     }

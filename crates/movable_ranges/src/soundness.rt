@@ -1,6 +1,5 @@
 ghost use Rattle.std.specs.Prelude.{◌≡◌, ◌<◌, ◌&&◌, not, nat_le, length};
 ghost use Rattle.elf_reader.specs.File.{plain_view};
-ghost use Rattle.loaded_file.specs.Marks.{all_loaded};
 ghost use Rattle.loaded_file.specs.Records.{reloc_at};
 ghost use Rattle.loaded_file.specs.ByteRanges.{IsFilled};
 ghost use Rattle.rewritable_relocations.specs.Marks.{all_rewritable};
@@ -12,49 +11,45 @@ ghost use Rattle.movable_ranges.specs.Meant.{is_direct, is_site_kind, leads_insi
 use crate::marks::mark;
 use crate::meaning::place_meant;
 use elf_reader::{ElfView, R_RISCV_PCREL_HI20, Reloc};
-use loaded_file::{ByteRange, counts, target};
+use loaded_file::{ByteRange, LoadedFile, counts, target};
 use rewritable_relocations::{is_hint, is_rewritable};
 
 /// Marks the ranges that a relocation means that isn't rewritable.
 pub(crate) fn mark_unrewritable(
     marks: &mut [bool],
-    view: &ElfView,
-    loaded: &[bool],
+    file: &LoadedFile,
     rewritable: &[bool],
     ranges: &[ByteRange],
 )
-    requires marks { loaded.now ≡ all_loaded (plain_view view.now) }
-    requires rewritable { rewritable.now ≡ all_rewritable (plain_view view.now) }
+    requires rewritable { rewritable.now ≡ all_rewritable (plain_view file.now.view.now) }
     requires disjoint { IsDisjoint ranges.now }
     requires filled { IsFilled ranges.now }
     requires len { length marks.old ≡ length ranges.now }
-    ensures adds { AddsRule (is_unrewritable (plain_view view.now)) ranges.now marks.old marks.new }
+    ensures adds { AddsRule (is_unrewritable (plain_view file.now.view.now)) ranges.now marks.old marks.new }
     ensures len { length marks.new ≡ length marks.old }
 {
-    for i in 0..view.relocs.len() {
-        mark(marks, unrewritable_place(view, loaded, rewritable, ranges, i));
+    for i in 0..file.view.relocs.len() {
+        mark(marks, unrewritable_place(file, rewritable, ranges, i));
     }
 }
 
 /// The range that relocation `i` means, if it isn't rewritable.
 fn unrewritable_place(
-    view: &ElfView,
-    loaded: &[bool],
+    file: &LoadedFile,
     rewritable: &[bool],
     ranges: &[ByteRange],
     i: usize,
 ) -> Option<usize>
-    requires marks { loaded.now ≡ all_loaded (plain_view view.now) }
-    requires rewritable { rewritable.now ≡ all_rewritable (plain_view view.now) }
+    requires rewritable { rewritable.now ≡ all_rewritable (plain_view file.now.view.now) }
     requires disjoint { IsDisjoint ranges.now }
     requires filled { IsFilled ranges.now }
-    requires below { i < length view.now.relocs.items }
-    ensures found { Finds (λ home n. is_unrewritable_by (plain_view view.now) home n i) ranges.now result }
+    requires below { i < length file.now.view.now.relocs.items }
+    ensures found { Finds (λ home n. is_unrewritable_by (plain_view file.now.view.now) home n i) ranges.now result }
     ensures below { IsBelow (length ranges.now) result }
 {
-    let reloc = &view.relocs[i];
-    if counts(view, loaded, reloc) && !is_hint(reloc.kind) {
-        misled_place(view, loaded, ranges, reloc, is_rewritable(view, rewritable, i))
+    let reloc = &file.view.relocs[i];
+    if counts(file, reloc) && !is_hint(reloc.kind) {
+        misled_place(file, ranges, reloc, is_rewritable(file.view, rewritable, i))
     } else {
         None
     }
@@ -62,39 +57,31 @@ fn unrewritable_place(
 
 /// The range that a relocation means, but for one into which or to whose end it leads by a rewritable kind.
 fn misled_place(
-    view: &ElfView,
-    loaded: &[bool],
+    file: &LoadedFile,
     ranges: &[ByteRange],
     reloc: &Reloc,
     is_rewritable: bool,
 ) -> Option<usize>
-    requires marks { loaded.now ≡ all_loaded (plain_view view.now) }
     requires disjoint { IsDisjoint ranges.now }
     requires filled { IsFilled ranges.now }
-    ensures found { Finds (λ home n. is_meant (plain_view view.now) home n reloc.now && not (nat_le (displacement (plain_view view.now) home reloc.now) n && is_rewritable)) ranges.now result }
+    ensures found { Finds (λ home n. is_meant (plain_view file.now.view.now) home n reloc.now && not (nat_le (displacement (plain_view file.now.view.now) home reloc.now) n && is_rewritable)) ranges.now result }
     ensures below { IsBelow (length ranges.now) result }
 {
-    match place_meant(view, loaded, ranges, reloc) {
-        Some(k) if !(leads_into(view, &ranges[k], reloc) && is_rewritable) => Some(k),
+    match place_meant(file, ranges, reloc) {
+        Some(k) if !(leads_into(file.view, &ranges[k], reloc) && is_rewritable) => Some(k),
         _ => None,
     }
 }
 
 /// The range that a relocation means, if it leads into it or to its end.
-pub(crate) fn leading_place(
-    view: &ElfView,
-    loaded: &[bool],
-    ranges: &[ByteRange],
-    reloc: &Reloc,
-) -> Option<usize>
-    requires marks { loaded.now ≡ all_loaded (plain_view view.now) }
+pub(crate) fn leading_place(file: &LoadedFile, ranges: &[ByteRange], reloc: &Reloc) -> Option<usize>
     requires disjoint { IsDisjoint ranges.now }
     requires filled { IsFilled ranges.now }
-    ensures found { Finds (leads_inside (plain_view view.now) reloc.now) ranges.now result }
+    ensures found { Finds (leads_inside (plain_view file.now.view.now) reloc.now) ranges.now result }
     ensures below { IsBelow (length ranges.now) result }
 {
-    match place_meant(view, loaded, ranges, reloc) {
-        Some(k) if leads_into(view, &ranges[k], reloc) => Some(k),
+    match place_meant(file, ranges, reloc) {
+        Some(k) if leads_into(file.view, &ranges[k], reloc) => Some(k),
         _ => None,
     }
 }

@@ -1,7 +1,6 @@
 ghost use Rattle.std.specs.Prelude.{◌≡◌, ℕ, ◌&&◌, not, length, IfOk};
 ghost use Rattle.list_checks.specs.Tests.{any_below};
 ghost use Rattle.elf_reader.specs.File.{plain_view};
-ghost use Rattle.loaded_file.specs.Marks.{all_loaded};
 ghost use Rattle.loaded_file.specs.Ranges.{is_range, is_overlapped};
 ghost use Rattle.loaded_file.specs.ByteRanges.{has_byte_range_in, IsFilled};
 ghost use Rattle.rewritable_relocations.specs.Marks.{all_rewritable};
@@ -10,15 +9,14 @@ ghost use Rattle.movable_ranges.specs.Disjoint.{IsDisjoint, mark_at, AddsRule, A
 ghost use Rattle.movable_ranges.specs.Rules.{is_immovable_by_symbols, is_immovable_by_relocations, is_immovable};
 ghost use Rattle.movable_ranges.specs.Shares.{AreSharedWords};
 
+use crate::aliasing::{aliased_sections, mark_aliased};
 use crate::marks::{no_marks, unmarked};
 use crate::naming::{mark_listed, mark_zeros};
 use crate::sharing::mark_shared;
 use crate::soundness::mark_unrewritable;
-use crate::aliasing::{mark_aliased, aliased_sections};
 use crate::words::{SharedWords, shared_words};
 use board_config::Board;
-use elf_reader::ElfView;
-use loaded_file::{ByteRange, object_ranges, overlapped};
+use loaded_file::{ByteRange, LoadedFile, object_ranges, overlapped};
 use std::alloc::{AllocError, Global};
 
 /// The ranges of the objects that may move, ascending. `loaded` are the marks of the loaded sections, and
@@ -28,30 +26,27 @@ use std::alloc::{AllocError, Global};
 /// symbols times that of names in the board's list.
 pub fn movable_ranges(
     alloc: Global,
-    view: &ElfView,
+    file: &LoadedFile,
     board: &Board,
-    loaded: &[bool],
     rewritable: &[bool],
 ) -> Result<Vec<ByteRange>, AllocError>
-    requires marks { loaded.now ≡ all_loaded (plain_view view.now) }
-    requires rewritable { rewritable.now ≡ all_rewritable (plain_view view.now) }
+    requires rewritable { rewritable.now ≡ all_rewritable (plain_view file.now.view.now) }
     ensures disjoint { IfOk result (λ ranges. IsDisjoint ranges.items) }
-    ensures exact { IfOk result (λ ranges. (home n : ℕ) → has_byte_range_in ranges.items home n ≡ is_movable (plain_view view.now) board.now home n) }
+    ensures exact { IfOk result (λ ranges. (home n : ℕ) → has_byte_range_in ranges.items home n ≡ is_movable (plain_view file.now.view.now) board.now home n) }
     ensures filled { IfOk result (λ ranges. IsFilled ranges.items) }
 {
-    let disjoint = disjoint_ranges(alloc, view, loaded)?;
-    let immovable = immovable_marks(alloc, view, board, loaded, rewritable, &disjoint)?;
+    let disjoint = disjoint_ranges(alloc, file)?;
+    let immovable = immovable_marks(alloc, file, board, rewritable, &disjoint)?;
     unmarked(alloc, &disjoint, &immovable)
 }
 
 /// The ranges of the objects that meet no other one.
-fn disjoint_ranges(alloc: Global, view: &ElfView, loaded: &[bool]) -> Result<Vec<ByteRange>, AllocError>
-    requires marks { loaded.now ≡ all_loaded (plain_view view.now) }
+fn disjoint_ranges(alloc: Global, file: &LoadedFile) -> Result<Vec<ByteRange>, AllocError>
     ensures disjoint { IfOk result (λ ranges. IsDisjoint ranges.items) }
-    ensures exact { IfOk result (λ ranges. (home n : ℕ) → has_byte_range_in ranges.items home n ≡ (is_range (plain_view view.now) home n && not (is_overlapped (plain_view view.now) home n))) }
+    ensures exact { IfOk result (λ ranges. (home n : ℕ) → has_byte_range_in ranges.items home n ≡ (is_range (plain_view file.now.view.now) home n && not (is_overlapped (plain_view file.now.view.now) home n))) }
     ensures filled { IfOk result (λ ranges. IsFilled ranges.items) }
 {
-    let ranges = object_ranges(alloc, view, loaded)?;
+    let ranges = object_ranges(alloc, file)?;
     let overlaps = overlapped(alloc, &ranges)?;
     unmarked(alloc, &ranges, &overlaps)
 }
@@ -59,23 +54,21 @@ fn disjoint_ranges(alloc: Global, view: &ElfView, loaded: &[bool]) -> Result<Vec
 /// Which of these ranges stay where they are, by a rule other than that they meet another one.
 fn immovable_marks(
     alloc: Global,
-    view: &ElfView,
+    file: &LoadedFile,
     board: &Board,
-    loaded: &[bool],
     rewritable: &[bool],
     ranges: &[ByteRange],
 ) -> Result<Vec<bool>, AllocError>
-    requires marks { loaded.now ≡ all_loaded (plain_view view.now) }
-    requires rewritable { rewritable.now ≡ all_rewritable (plain_view view.now) }
+    requires rewritable { rewritable.now ≡ all_rewritable (plain_view file.now.view.now) }
     requires disjoint { IsDisjoint ranges.now }
     requires filled { IsFilled ranges.now }
-    ensures { IfOk result (λ immovable. AreMarks (is_immovable (plain_view view.now) board.now) ranges.now immovable.items) }
+    ensures { IfOk result (λ immovable. AreMarks (is_immovable (plain_view file.now.view.now) board.now) ranges.now immovable.items) }
 {
-    let aliased = aliased_sections(alloc, view, loaded)?;
-    let words = shared_words(alloc, view, loaded, rewritable)?;
+    let aliased = aliased_sections(alloc, file)?;
+    let words = shared_words(alloc, file, rewritable)?;
     let mut marks = no_marks(alloc, ranges.len())?;
     mark_immovable(
-        &mut marks, view, board, loaded, rewritable, &aliased, &words, ranges,
+        &mut marks, file, board, rewritable, &aliased, &words, ranges,
     );
     Ok(marks)
 }
@@ -83,69 +76,63 @@ fn immovable_marks(
 /// Marks them, by what is known of sections and words.
 fn mark_immovable(
     marks: &mut [bool],
-    view: &ElfView,
+    file: &LoadedFile,
     board: &Board,
-    loaded: &[bool],
     rewritable: &[bool],
     aliased: &[bool],
     words: &SharedWords,
     ranges: &[ByteRange],
 )
-    requires marks { loaded.now ≡ all_loaded (plain_view view.now) }
-    requires rewritable { rewritable.now ≡ all_rewritable (plain_view view.now) }
-    requires aliased { (s : ℕ) → mark_at aliased.now s ≡ any_below (aliases_into (plain_view view.now) s) (length (plain_view view.now).relocs) }
-    requires words { AreSharedWords (plain_view view.now) words.now }
+    requires rewritable { rewritable.now ≡ all_rewritable (plain_view file.now.view.now) }
+    requires aliased { (s : ℕ) → mark_at aliased.now s ≡ any_below (aliases_into (plain_view file.now.view.now) s) (length (plain_view file.now.view.now).relocs) }
+    requires words { AreSharedWords (plain_view file.now.view.now) words.now }
     requires disjoint { IsDisjoint ranges.now }
     requires filled { IsFilled ranges.now }
     requires len { length marks.old ≡ length ranges.now }
-    ensures adds { AddsRule (is_immovable (plain_view view.now) board.now) ranges.now marks.old marks.new }
+    ensures adds { AddsRule (is_immovable (plain_view file.now.view.now) board.now) ranges.now marks.old marks.new }
     ensures len { length marks.new ≡ length marks.old }
 {
-    mark_by_symbols(marks, view, board, loaded, aliased, ranges);
-    mark_by_relocations(marks, view, loaded, rewritable, words, ranges);
+    mark_by_symbols(marks, file, board, aliased, ranges);
+    mark_by_relocations(marks, file, rewritable, words, ranges);
 }
 
 /// Marks the ranges that stay by their symbols: in a section without content, by a name, or beside an object
 /// into which a relocation aliases.
 fn mark_by_symbols(
     marks: &mut [bool],
-    view: &ElfView,
+    file: &LoadedFile,
     board: &Board,
-    loaded: &[bool],
     aliased: &[bool],
     ranges: &[ByteRange],
 )
-    requires marks { loaded.now ≡ all_loaded (plain_view view.now) }
-    requires aliased { (s : ℕ) → mark_at aliased.now s ≡ any_below (aliases_into (plain_view view.now) s) (length (plain_view view.now).relocs) }
+    requires aliased { (s : ℕ) → mark_at aliased.now s ≡ any_below (aliases_into (plain_view file.now.view.now) s) (length (plain_view file.now.view.now).relocs) }
     requires disjoint { IsDisjoint ranges.now }
     requires filled { IsFilled ranges.now }
     requires len { length marks.old ≡ length ranges.now }
-    ensures adds { AddsRule (is_immovable_by_symbols (plain_view view.now) board.now) ranges.now marks.old marks.new }
+    ensures adds { AddsRule (is_immovable_by_symbols (plain_view file.now.view.now) board.now) ranges.now marks.old marks.new }
     ensures len { length marks.new ≡ length marks.old }
 {
-    mark_zeros(marks, view, board, loaded, ranges);
-    mark_listed(marks, view, board, loaded, ranges);
-    mark_aliased(marks, view, loaded, aliased, ranges);
+    mark_zeros(marks, file, board, ranges);
+    mark_listed(marks, file, board, ranges);
+    mark_aliased(marks, file, aliased, ranges);
 }
 
 /// Marks those that stay by relocations: by one that isn't rewritable, or by sites that share a word.
 fn mark_by_relocations(
     marks: &mut [bool],
-    view: &ElfView,
-    loaded: &[bool],
+    file: &LoadedFile,
     rewritable: &[bool],
     words: &SharedWords,
     ranges: &[ByteRange],
 )
-    requires marks { loaded.now ≡ all_loaded (plain_view view.now) }
-    requires rewritable { rewritable.now ≡ all_rewritable (plain_view view.now) }
-    requires words { AreSharedWords (plain_view view.now) words.now }
+    requires rewritable { rewritable.now ≡ all_rewritable (plain_view file.now.view.now) }
+    requires words { AreSharedWords (plain_view file.now.view.now) words.now }
     requires disjoint { IsDisjoint ranges.now }
     requires filled { IsFilled ranges.now }
     requires len { length marks.old ≡ length ranges.now }
-    ensures adds { AddsRule (is_immovable_by_relocations (plain_view view.now)) ranges.now marks.old marks.new }
+    ensures adds { AddsRule (is_immovable_by_relocations (plain_view file.now.view.now)) ranges.now marks.old marks.new }
     ensures len { length marks.new ≡ length marks.old }
 {
-    mark_unrewritable(marks, view, loaded, rewritable, ranges);
-    mark_shared(marks, view, loaded, rewritable, words, ranges);
+    mark_unrewritable(marks, file, rewritable, ranges);
+    mark_shared(marks, file, rewritable, words, ranges);
 }

@@ -2,7 +2,6 @@ ghost use Rattle.std.specs.Prelude.{◌≡◌, ℕ, ◌≤◌, nat_le, length, m
 ghost use Rattle.std.specs.List.{All};
 ghost use Rattle.list_checks.specs.First.{Reports, ReportsUnless, unless};
 ghost use Rattle.elf_reader.specs.File.{plain_view};
-ghost use Rattle.loaded_file.specs.Marks.{all_loaded};
 ghost use Rattle.loaded_file.specs.Read.{IsRead};
 ghost use Rattle.rewritable_relocations.specs.Marks.{all_rewritable};
 ghost use Rattle.object_graph.specs.declared.fault.GraphFault.TheVariants.{TooManyObjects};
@@ -19,7 +18,7 @@ use crate::sites::sites;
 use crate::words::data_words;
 use board_config::Board;
 use elf_reader::ElfView;
-use loaded_file::{ByteRange, loaded_sections};
+use loaded_file::{ByteRange, LoadedFile};
 use movable_ranges::movable_ranges;
 use rewritable_relocations::rewritable_kinds;
 use std::alloc::{AllocError, Global};
@@ -41,41 +40,38 @@ pub fn graph(alloc: Global, view: &ElfView, board: &Board) -> Result<Graph, Grap
     ensures fault { ReportsUnless GraphFault.Memory result (layout_fault (plain_view view.now) board.now) }
     ensures graph { IfOk result (IsGraph (plain_view view.now) board.now) }
 {
-    let loaded = loaded_sections(alloc, view)?;
-    check_places(view, board, &loaded)?;
-    build(alloc, view, board, &loaded)
+    let file = LoadedFile::of(alloc, view)?;
+    check_places(&file, board)?;
+    build(alloc, &file, board)
 }
 
 /// The graph of a program that lies where it may.
-fn build(alloc: Global, view: &ElfView, board: &Board, loaded: &[bool]) -> Result<Graph, GraphFault>
-    requires read { IsRead view.now }
-    requires marks { loaded.now ≡ all_loaded (plain_view view.now) }
-    ensures fault { ReportsUnless GraphFault.Memory result (too_many_fault (plain_view view.now) board.now) }
-    ensures graph { IfOk result (IsGraph (plain_view view.now) board.now) }
+fn build(alloc: Global, file: &LoadedFile, board: &Board) -> Result<Graph, GraphFault>
+    requires read { IsRead file.now.view.now }
+    ensures fault { ReportsUnless GraphFault.Memory result (too_many_fault (plain_view file.now.view.now) board.now) }
+    ensures graph { IfOk result (IsGraph (plain_view file.now.view.now) board.now) }
 {
-    let rewritable = rewritable_kinds(alloc, view, loaded)?;
-    let ranges = movable_ranges(alloc, view, board, loaded, &rewritable)?;
-    gather_few(alloc, view, board, loaded, &rewritable, &ranges)
+    let rewritable = rewritable_kinds(alloc, file)?;
+    let ranges = movable_ranges(alloc, file, board, &rewritable)?;
+    gather_few(alloc, file, board, &rewritable, &ranges)
 }
 
 /// The graph of the objects of these ranges, if they are few enough.
 fn gather_few(
     alloc: Global,
-    view: &ElfView,
+    file: &LoadedFile,
     board: &Board,
-    loaded: &[bool],
     rewritable: &[bool],
     ranges: &[ByteRange],
 ) -> Result<Graph, GraphFault>
-    requires read { IsRead view.now }
-    requires marks { loaded.now ≡ all_loaded (plain_view view.now) }
-    requires rewritable { rewritable.now ≡ all_rewritable (plain_view view.now) }
-    requires movable { AreMovableOf (plain_view view.now) board.now ranges.now }
-    ensures fault { ReportsUnless GraphFault.Memory result (too_many_fault (plain_view view.now) board.now) }
-    ensures graph { IfOk result (IsGraph (plain_view view.now) board.now) }
+    requires read { IsRead file.now.view.now }
+    requires rewritable { rewritable.now ≡ all_rewritable (plain_view file.now.view.now) }
+    requires movable { AreMovableOf (plain_view file.now.view.now) board.now ranges.now }
+    ensures fault { ReportsUnless GraphFault.Memory result (too_many_fault (plain_view file.now.view.now) board.now) }
+    ensures graph { IfOk result (IsGraph (plain_view file.now.view.now) board.now) }
 {
     match check_count(ranges) {
-        Ok(()) => Ok(gather(alloc, view, board, loaded, rewritable, ranges)?),
+        Ok(()) => Ok(gather(alloc, file, board, rewritable, ranges)?),
         Err(fault) => Err(fault),
     }
 }
@@ -95,23 +91,21 @@ fn check_count(ranges: &[ByteRange]) -> Result<(), GraphFault>
 /// The graph of the objects of these ranges.
 fn gather(
     alloc: Global,
-    view: &ElfView,
+    file: &LoadedFile,
     board: &Board,
-    loaded: &[bool],
     rewritable: &[bool],
     ranges: &[ByteRange],
 ) -> Result<Graph, AllocError>
-    requires read { IsRead view.now }
-    requires marks { loaded.now ≡ all_loaded (plain_view view.now) }
-    requires rewritable { rewritable.now ≡ all_rewritable (plain_view view.now) }
-    requires movable { AreMovableOf (plain_view view.now) board.now ranges.now }
+    requires read { IsRead file.now.view.now }
+    requires rewritable { rewritable.now ≡ all_rewritable (plain_view file.now.view.now) }
+    requires movable { AreMovableOf (plain_view file.now.view.now) board.now ranges.now }
     requires few { length ranges.now ≤ 4096 }
-    ensures { IfOk result (IsGraph (plain_view view.now) board.now) }
+    ensures { IfOk result (IsGraph (plain_view file.now.view.now) board.now) }
 {
-    let objects = objects(alloc, view, loaded, ranges)?;
-    let sites = sites(alloc, view, loaded, ranges, rewritable)?;
-    let data_words = data_words(alloc, view, loaded, ranges, rewritable)?;
-    let code = code_ranges(alloc, view, loaded)?;
+    let objects = objects(alloc, file, ranges)?;
+    let sites = sites(alloc, file, ranges, rewritable)?;
+    let data_words = data_words(alloc, file, ranges, rewritable)?;
+    let code = code_ranges(alloc, file)?;
     Ok(Graph {
         grain: board.grain,
         objects,

@@ -1,26 +1,24 @@
 ghost use Rattle.std.specs.Prelude.{◌≡◌, ◌<◌, ◌==◌, ◌&&◌, length, IfOk};
 ghost use Rattle.elf_reader.specs.Sections.{bit_of};
 ghost use Rattle.elf_reader.specs.File.{plain_view, plain_section};
-ghost use Rattle.loaded_file.specs.Marks.{all_loaded};
 ghost use Rattle.loaded_file.specs.Code.{is_code_range};
 ghost use Rattle.object_graph.specs.CodeRanges.{section_range, code_ranges_of};
 
 use board_config::Range;
-use elf_reader::{ElfView, Section};
-use loaded_file::is_code_range;
+use elf_reader::Section;
+use loaded_file::{LoadedFile, is_code_range};
 use std::alloc::{AllocError, Global};
 
 /// The addresses of the code of a program, a range for each executable section with content that is loaded, in
 /// the order of the sections. A section of size 0 gives an empty range. `loaded` tells of each section whether
 /// it is loaded, as `loaded_sections` finds it. It fails only where no memory was left.
-pub fn code_ranges(alloc: Global, view: &ElfView, loaded: &[bool]) -> Result<Vec<Range>, AllocError>
-    requires { loaded.now ≡ all_loaded (plain_view view.now) }
-    ensures { IfOk result (λ ranges. ranges.items ≡ code_ranges_of (plain_view view.now)) }
+pub fn code_ranges(alloc: Global, file: &LoadedFile) -> Result<Vec<Range>, AllocError>
+    ensures { IfOk result (λ ranges. ranges.items ≡ code_ranges_of (plain_view file.now.view.now)) }
 {
     let mut ranges = Vec::new(alloc);
-    for k in 0..view.sections.len() {
-        if is_code_range(view, loaded, k) {
-            ranges.push(range_of(&view.sections[k]))?;
+    for k in 0..file.view.sections.len() {
+        if is_code_range(file, k) {
+            ranges.push(range_of(&file.view.sections[k]))?;
         }
     }
     Ok(ranges)

@@ -2,15 +2,14 @@ ghost use Rattle.std.specs.Prelude.{◌≡◌, ℕ, ◌+◌, ◌<◌, ◌≤◌,
 ghost use Rattle.list_checks.specs.First.{◌or_else◌, Reports, ReportsUnless, first_below};
 ghost use Rattle.list_checks.specs.Tests.{any_below};
 ghost use Rattle.elf_reader.specs.File.{plain_segment, plain_view};
-ghost use Rattle.loaded_file.specs.Marks.{all_loaded};
 ghost use Rattle.object_graph.specs.LayoutFaults.{segment_overlaps, overlap_fault, has_code, least_below, greatest_below, span_of, patch_far_fault, spm_overlaps_patch_fault, spm_at_zero_fault, segment_lies_in, lies_in_area, no_area_fault, places_fault};
 
 use crate::code::range_of;
 use crate::fault::GraphFault;
-use crate::ranges::{end, lies_in, overlap, memory_of};
+use crate::ranges::{end, lies_in, memory_of, overlap};
 use board_config::{Board, Range};
 use elf_reader::{ElfView, Segment};
-use loaded_file::{is_code_range, loaded_sections};
+use loaded_file::{LoadedFile, is_code_range};
 use std::alloc::Global;
 
 /// How many bytes a jump reaches forwards (RISC-V Unprivileged ISA, "Unconditional Jumps": JAL).
@@ -29,29 +28,27 @@ const LEAST_SPM_BASE: u32 = 16;
 pub fn check_layout(alloc: Global, view: &ElfView, board: &Board) -> Result<(), GraphFault>
     ensures fault { ReportsUnless GraphFault.Memory result (places_fault (plain_view view.now) board.now) }
 {
-    let loaded = loaded_sections(alloc, view)?;
-    check_places(view, board, &loaded)
+    let file = LoadedFile::of(alloc, view)?;
+    check_places(&file, board)
 }
 
 /// The checks, where it is known which sections are loaded.
-pub(crate) fn check_places(view: &ElfView, board: &Board, loaded: &[bool]) -> Result<(), GraphFault>
-    requires { loaded.now ≡ all_loaded (plain_view view.now) }
-    ensures { Reports result (places_fault (plain_view view.now) board.now) }
+pub(crate) fn check_places(file: &LoadedFile, board: &Board) -> Result<(), GraphFault>
+    ensures { Reports result (places_fault (plain_view file.now.view.now) board.now) }
 {
-    check_overlaps(view, board, Reserved::Scratchpad)?;
-    check_overlaps(view, board, Reserved::Patch)?;
-    check_ranges(view, board, loaded)
+    check_overlaps(file.view, board, Reserved::Scratchpad)?;
+    check_overlaps(file.view, board, Reserved::Patch)?;
+    check_ranges(file, board)
 }
 
 /// The checks behind those of overlaps.
-fn check_ranges(view: &ElfView, board: &Board, loaded: &[bool]) -> Result<(), GraphFault>
-    requires { loaded.now ≡ all_loaded (plain_view view.now) }
-    ensures { Reports result (patch_far_fault (plain_view view.now) board.now or_else spm_overlaps_patch_fault board.now or_else spm_at_zero_fault board.now or_else first_below (no_area_fault (plain_view view.now) board.now) (length (plain_view view.now).segments)) }
+fn check_ranges(file: &LoadedFile, board: &Board) -> Result<(), GraphFault>
+    ensures { Reports result (patch_far_fault (plain_view file.now.view.now) board.now or_else spm_overlaps_patch_fault board.now or_else spm_at_zero_fault board.now or_else first_below (no_area_fault (plain_view file.now.view.now) board.now) (length (plain_view file.now.view.now).segments)) }
 {
-    check_patch_far(view, board, loaded)?;
+    check_patch_far(file, board)?;
     check_spm_overlaps_patch(board)?;
     check_spm_at_zero(board)?;
-    check_areas(view, board)
+    check_areas(file.view, board)
 }
 
 /// A range of the board in which no segment may lie.
@@ -102,11 +99,10 @@ fn segment_overlaps(segment: &Segment, range: &Range) -> bool
     overlap(&memory_of(segment), range)
 }
 
-fn check_patch_far(view: &ElfView, board: &Board, loaded: &[bool]) -> Result<(), GraphFault>
-    requires { loaded.now ≡ all_loaded (plain_view view.now) }
-    ensures { Reports result (patch_far_fault (plain_view view.now) board.now) }
+fn check_patch_far(file: &LoadedFile, board: &Board) -> Result<(), GraphFault>
+    ensures { Reports result (patch_far_fault (plain_view file.now.view.now) board.now) }
 {
-    let span = greatest_end(view, board, loaded) - least_base(view, board, loaded);
+    let span = greatest_end(file, board) - least_base(file, board);
     if span > MAX_SPAN {
         return Err(GraphFault::PatchFar {
             span: u32::try_from(span).unwrap_or(u32::MAX),
@@ -116,42 +112,39 @@ fn check_patch_far(view: &ElfView, board: &Board, loaded: &[bool]) -> Result<(),
 }
 
 /// The least address of the patch range and of the code.
-fn least_base(view: &ElfView, board: &Board, loaded: &[bool]) -> u64
-    requires { loaded.now ≡ all_loaded (plain_view view.now) }
-    ensures value { result ≡ least_below (plain_view view.now) board.now (length (plain_view view.now).sections) }
+fn least_base(file: &LoadedFile, board: &Board) -> u64
+    ensures value { result ≡ least_below (plain_view file.now.view.now) board.now (length (plain_view file.now.view.now).sections) }
     ensures most { result ≤ board.now.patch.base }
 {
     let mut least = u64::from(board.patch.base);
-    for k in 0..view.sections.len() {
-        if has_code(view, loaded, k) {
-            least = least.min(u64::from(view.sections[k].addr));
+    for k in 0..file.view.sections.len() {
+        if has_code(file, k) {
+            least = least.min(u64::from(file.view.sections[k].addr));
         }
     }
     least
 }
 
 /// The address behind the greatest of the patch range and of the code.
-fn greatest_end(view: &ElfView, board: &Board, loaded: &[bool]) -> u64
-    requires { loaded.now ≡ all_loaded (plain_view view.now) }
-    ensures value { result ≡ greatest_below (plain_view view.now) board.now (length (plain_view view.now).sections) }
+fn greatest_end(file: &LoadedFile, board: &Board) -> u64
+    ensures value { result ≡ greatest_below (plain_view file.now.view.now) board.now (length (plain_view file.now.view.now).sections) }
     ensures least { board.now.patch.base ≤ result }
 {
     let mut greatest = end(&board.patch);
-    for k in 0..view.sections.len() {
-        if has_code(view, loaded, k) {
-            greatest = greatest.max(end(&range_of(&view.sections[k])));
+    for k in 0..file.view.sections.len() {
+        if has_code(file, k) {
+            greatest = greatest.max(end(&range_of(&file.view.sections[k])));
         }
     }
     greatest
 }
 
 /// Section `k` is a code range with at least a byte.
-fn has_code(view: &ElfView, loaded: &[bool], k: usize) -> bool
-    requires loaded { loaded.now ≡ all_loaded (plain_view view.now) }
-    requires below { k < length view.now.sections.items }
-    ensures { result ≡ has_code (plain_view view.now) k }
+fn has_code(file: &LoadedFile, k: usize) -> bool
+    requires below { k < length file.now.view.now.sections.items }
+    ensures { result ≡ has_code (plain_view file.now.view.now) k }
 {
-    is_code_range(view, loaded, k) && view.sections[k].size > 0
+    is_code_range(file, k) && file.view.sections[k].size > 0
 }
 
 fn check_spm_overlaps_patch(board: &Board) -> Result<(), GraphFault>

@@ -1,10 +1,8 @@
 ghost use Rattle.std.specs.Prelude.{◌≡◌, ℕ, ◌<◌, ◌≤◌, length};
 ghost use Rattle.elf_reader.specs.File.{plain_view};
-ghost use Rattle.loaded_file.specs.Marks.{all_loaded};
 ghost use Rattle.object_graph.specs.Gathered.{AreMovable, is_lead, leads_by};
 
-use elf_reader::ElfView;
-use loaded_file::{ByteRange, counts, target};
+use loaded_file::{ByteRange, LoadedFile, counts, target};
 use movable_ranges::meant_range;
 
 /// Where a relocation leads: into an object that may move, or to its end.
@@ -17,21 +15,20 @@ pub(crate) struct Lead {
 }
 
 /// Where relocation `i` leads, if it counts and leads into one of the ranges or to its end.
-pub(crate) fn lead_of(view: &ElfView, loaded: &[bool], ranges: &[ByteRange], i: usize) -> Option<Lead>
-    requires marks { loaded.now ≡ all_loaded (plain_view view.now) }
-    requires movable { AreMovable (plain_view view.now) ranges.now }
+pub(crate) fn lead_of(file: &LoadedFile, ranges: &[ByteRange], i: usize) -> Option<Lead>
+    requires movable { AreMovable (plain_view file.now.view.now) ranges.now }
     requires few { length ranges.now ≤ 4096 }
-    requires below { i < length view.now.relocs.items }
-    ensures { (k o : ℕ) → is_lead k o result ≡ leads_by (plain_view view.now) ranges.now k o i }
+    requires below { i < length file.now.view.now.relocs.items }
+    ensures { (k o : ℕ) → is_lead k o result ≡ leads_by (plain_view file.now.view.now) ranges.now k o i }
 {
-    let reloc = &view.relocs[i];
-    if !counts(view, loaded, reloc) {
+    let reloc = &file.view.relocs[i];
+    if !counts(file, reloc) {
         return None;
     }
-    let Some(place) = meant_range(view, loaded, ranges, i) else {
+    let Some(place) = meant_range(file, ranges, i) else {
         return None;
     };
-    let offset = target(view, reloc).wrapping_sub(ranges[place].home);
+    let offset = target(file.view, reloc).wrapping_sub(ranges[place].home);
     if offset > ranges[place].size {
         return None;
     }

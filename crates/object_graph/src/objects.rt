@@ -2,7 +2,6 @@ ghost use Rattle.std.specs.Prelude.{◌≡◌, ℕ, ◌<◌, true, length, map, 
 ghost use Rattle.std.specs.List.{All};
 ghost use Rattle.list_checks.specs.First.{◌or_else◌};
 ghost use Rattle.elf_reader.specs.File.{plain_view};
-ghost use Rattle.loaded_file.specs.Marks.{all_loaded};
 ghost use Rattle.loaded_file.specs.Read.{IsRead};
 ghost use Rattle.loaded_file.specs.Ranges.{is_range};
 ghost use Rattle.loaded_file.specs.ByteRanges.{byte_range_at};
@@ -11,30 +10,28 @@ ghost use Rattle.object_graph.specs.Gathered.{AreMovable, range_of, symbol_if, f
 
 use crate::parts::Object;
 use elf_reader::ElfView;
-use loaded_file::ByteRange;
+use loaded_file::{ByteRange, LoadedFile};
 use movable_ranges::place_of_symbol;
 use std::alloc::{AllocError, Global};
 
-/// The objects of these ranges, in their order. `loaded` are the marks of the loaded sections. It fails only
+/// The objects of these ranges, in their order. It fails only
 /// where no memory was left.
 ///
 /// The time grows with n log m, where n is the number of symbols and m that of the ranges.
 pub(crate) fn objects(
     alloc: Global,
-    view: &ElfView,
-    loaded: &[bool],
+    file: &LoadedFile,
     ranges: &[ByteRange],
 ) -> Result<Vec<Object>, AllocError>
-    requires read { IsRead view.now }
-    requires marks { loaded.now ≡ all_loaded (plain_view view.now) }
-    requires movable { AreMovable (plain_view view.now) ranges.now }
+    requires read { IsRead file.now.view.now }
+    requires movable { AreMovable (plain_view file.now.view.now) ranges.now }
     ensures ranges { IfOk result (λ objects. map range_of objects.items ≡ ranges.now) }
-    ensures named { IfOk result (λ objects. All (IsNamed (plain_view view.now)) objects.items) }
+    ensures named { IfOk result (λ objects. All (IsNamed (plain_view file.now.view.now)) objects.items) }
 {
-    let names = first_symbols(alloc, view, loaded, ranges)?;
+    let names = first_symbols(alloc, file, ranges)?;
     let mut objects = Vec::new(alloc);
     for k in 0..ranges.len() {
-        objects.push(object_of(view, &ranges[k], names[k]))?;
+        objects.push(object_of(file.view, &ranges[k], names[k]))?;
     }
     Ok(objects)
 }
@@ -77,38 +74,29 @@ fn is_writable(view: &ElfView, k: usize) -> bool
 /// The first symbol of each of these ranges.
 fn first_symbols(
     alloc: Global,
-    view: &ElfView,
-    loaded: &[bool],
+    file: &LoadedFile,
     ranges: &[ByteRange],
 ) -> Result<Vec<Option<usize>>, AllocError>
-    requires marks { loaded.now ≡ all_loaded (plain_view view.now) }
-    requires movable { AreMovable (plain_view view.now) ranges.now }
+    requires movable { AreMovable (plain_view file.now.view.now) ranges.now }
     ensures len { IfOk result (λ names. length names.items ≡ length ranges.now) }
-    ensures first { IfOk result (λ names. (k : ℕ) → k < length ranges.now → slice_index_or names.items k None ≡ first_symbol (plain_view view.now) (byte_range_at ranges.now k).home (byte_range_at ranges.now k).size (length (plain_view view.now).symbols)) }
+    ensures first { IfOk result (λ names. (k : ℕ) → k < length ranges.now → slice_index_or names.items k None ≡ first_symbol (plain_view file.now.view.now) (byte_range_at ranges.now k).home (byte_range_at ranges.now k).size (length (plain_view file.now.view.now).symbols)) }
 {
     let mut names = vec![in alloc; None; ranges.len()]?;
-    for i in 0..view.symbols.len() {
-        note_symbol(&mut names, view, loaded, ranges, i);
+    for i in 0..file.view.symbols.len() {
+        note_symbol(&mut names, file, ranges, i);
     }
     Ok(names)
 }
 
 /// Notes symbol `i` as the first of its range, if it is one of these ranges and has no symbol yet.
-fn note_symbol(
-    names: &mut [Option<usize>],
-    view: &ElfView,
-    loaded: &[bool],
-    ranges: &[ByteRange],
-    i: usize,
-)
-    requires marks { loaded.now ≡ all_loaded (plain_view view.now) }
-    requires movable { AreMovable (plain_view view.now) ranges.now }
-    requires below { i < length view.now.symbols.items }
+fn note_symbol(names: &mut [Option<usize>], file: &LoadedFile, ranges: &[ByteRange], i: usize)
+    requires movable { AreMovable (plain_view file.now.view.now) ranges.now }
+    requires below { i < length file.now.view.now.symbols.items }
     requires long { length names.old ≡ length ranges.now }
     ensures len { length names.new ≡ length names.old }
-    ensures noted { (k : ℕ) → k < length ranges.now → slice_index_or names.new k None ≡ slice_index_or names.old k None or_else symbol_if (plain_view view.now) (byte_range_at ranges.now k).home (byte_range_at ranges.now k).size i }
+    ensures noted { (k : ℕ) → k < length ranges.now → slice_index_or names.new k None ≡ slice_index_or names.old k None or_else symbol_if (plain_view file.now.view.now) (byte_range_at ranges.now k).home (byte_range_at ranges.now k).size i }
 {
-    if let Some(place) = place_of_symbol(view, loaded, ranges, &view.symbols[i]) {
+    if let Some(place) = place_of_symbol(file, ranges, &file.view.symbols[i]) {
         if names[place].is_none() {
             names[place] = Some(i);
         }

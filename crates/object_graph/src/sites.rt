@@ -1,6 +1,5 @@
 ghost use Rattle.std.specs.Prelude.{◌≡◌, ◌<◌, ◌≤◌, ◌==◌, true, ◌||◌, length, IfOk};
 ghost use Rattle.elf_reader.specs.File.{plain_view};
-ghost use Rattle.loaded_file.specs.Marks.{all_loaded};
 ghost use Rattle.loaded_file.specs.Records.{reloc_at};
 ghost use Rattle.rewritable_relocations.specs.Rewritable.{is_pair_low};
 ghost use Rattle.rewritable_relocations.specs.Marks.{all_rewritable};
@@ -13,8 +12,8 @@ use crate::leads::lead_of;
 use crate::lookups::find_site;
 use crate::parts::{Site, SiteKind};
 use crate::placed::{push_some, sort_placed};
-use elf_reader::{ElfView, R_RISCV_PCREL_HI20};
-use loaded_file::{ByteRange, counts, symbol_value};
+use elf_reader::R_RISCV_PCREL_HI20;
+use loaded_file::{ByteRange, LoadedFile, counts, symbol_value};
 use rewritable_relocations::{is_pair_low, is_rewritable};
 use std::alloc::{AllocError, Global};
 
@@ -24,21 +23,19 @@ use std::alloc::{AllocError, Global};
 /// The time grows with n log n, where n is the number of relocations.
 pub(crate) fn sites(
     alloc: Global,
-    view: &ElfView,
-    loaded: &[bool],
+    file: &LoadedFile,
     ranges: &[ByteRange],
     rewritable: &[bool],
 ) -> Result<Vec<Site>, AllocError>
-    requires marks { loaded.now ≡ all_loaded (plain_view view.now) }
-    requires rewritable { rewritable.now ≡ all_rewritable (plain_view view.now) }
-    requires movable { AreMovable (plain_view view.now) ranges.now }
+    requires rewritable { rewritable.now ≡ all_rewritable (plain_view file.now.view.now) }
+    requires movable { AreMovable (plain_view file.now.view.now) ranges.now }
     requires few { length ranges.now ≤ 4096 }
-    ensures { IfOk result (λ sites. AreSites (plain_view view.now) ranges.now sites.items) }
+    ensures { IfOk result (λ sites. AreSites (plain_view file.now.view.now) ranges.now sites.items) }
 {
-    let highs = high_sites(alloc, view, loaded, ranges, rewritable)?;
+    let highs = high_sites(alloc, file, ranges, rewritable)?;
     let mut sites = Vec::new(alloc);
-    for i in 0..view.relocs.len() {
-        let site = site_of(view, loaded, ranges, rewritable, &highs, i);
+    for i in 0..file.view.relocs.len() {
+        let site = site_of(file, ranges, rewritable, &highs, i);
         push_some(&mut sites, site)?;
     }
     sort_placed(&mut sites);
@@ -48,20 +45,18 @@ pub(crate) fn sites(
 /// The sites of the AUIPCs of pairs, by address.
 fn high_sites(
     alloc: Global,
-    view: &ElfView,
-    loaded: &[bool],
+    file: &LoadedFile,
     ranges: &[ByteRange],
     rewritable: &[bool],
 ) -> Result<Vec<Site>, AllocError>
-    requires marks { loaded.now ≡ all_loaded (plain_view view.now) }
-    requires rewritable { rewritable.now ≡ all_rewritable (plain_view view.now) }
-    requires movable { AreMovable (plain_view view.now) ranges.now }
+    requires rewritable { rewritable.now ≡ all_rewritable (plain_view file.now.view.now) }
+    requires movable { AreMovable (plain_view file.now.view.now) ranges.now }
     requires few { length ranges.now ≤ 4096 }
-    ensures { IfOk result (λ sites. AreHighs (plain_view view.now) ranges.now sites.items) }
+    ensures { IfOk result (λ sites. AreHighs (plain_view file.now.view.now) ranges.now sites.items) }
 {
     let mut sites = Vec::new(alloc);
-    for i in 0..view.relocs.len() {
-        let site = high_site(view, loaded, ranges, rewritable, i);
+    for i in 0..file.view.relocs.len() {
+        let site = high_site(file, ranges, rewritable, i);
         push_some(&mut sites, site)?;
     }
     sort_placed(&mut sites);
@@ -70,45 +65,36 @@ fn high_sites(
 
 /// The site that relocation `i` gives, if it gives one.
 fn site_of(
-    view: &ElfView,
-    loaded: &[bool],
+    file: &LoadedFile,
     ranges: &[ByteRange],
     rewritable: &[bool],
     highs: &[Site],
     i: usize,
 ) -> Option<Site>
-    requires marks { loaded.now ≡ all_loaded (plain_view view.now) }
-    requires rewritable { rewritable.now ≡ all_rewritable (plain_view view.now) }
-    requires movable { AreMovable (plain_view view.now) ranges.now }
+    requires rewritable { rewritable.now ≡ all_rewritable (plain_view file.now.view.now) }
+    requires movable { AreMovable (plain_view file.now.view.now) ranges.now }
     requires few { length ranges.now ≤ 4096 }
-    requires highs { AreHighs (plain_view view.now) ranges.now highs.now }
-    requires below { i < length view.now.relocs.items }
-    ensures { GivesJust same_site (is_site_in (plain_view view.now) ranges.now) result i }
+    requires highs { AreHighs (plain_view file.now.view.now) ranges.now highs.now }
+    requires below { i < length file.now.view.now.relocs.items }
+    ensures { GivesJust same_site (is_site_in (plain_view file.now.view.now) ranges.now) result i }
 {
-    if is_pair_low(view.relocs[i].kind) {
-        low_site(view, loaded, ranges, highs, i)
+    if is_pair_low(file.view.relocs[i].kind) {
+        low_site(file, ranges, highs, i)
     } else {
-        direct_site(view, loaded, ranges, rewritable, i)
+        direct_site(file, ranges, rewritable, i)
     }
 }
 
 /// The site that relocation `i` gives as the AUIPC of a pair.
-fn high_site(
-    view: &ElfView,
-    loaded: &[bool],
-    ranges: &[ByteRange],
-    rewritable: &[bool],
-    i: usize,
-) -> Option<Site>
-    requires marks { loaded.now ≡ all_loaded (plain_view view.now) }
-    requires rewritable { rewritable.now ≡ all_rewritable (plain_view view.now) }
-    requires movable { AreMovable (plain_view view.now) ranges.now }
+fn high_site(file: &LoadedFile, ranges: &[ByteRange], rewritable: &[bool], i: usize) -> Option<Site>
+    requires rewritable { rewritable.now ≡ all_rewritable (plain_view file.now.view.now) }
+    requires movable { AreMovable (plain_view file.now.view.now) ranges.now }
     requires few { length ranges.now ≤ 4096 }
-    requires below { i < length view.now.relocs.items }
-    ensures { GivesJust same_site (gives_high (plain_view view.now) ranges.now) result i }
+    requires below { i < length file.now.view.now.relocs.items }
+    ensures { GivesJust same_site (gives_high (plain_view file.now.view.now) ranges.now) result i }
 {
-    if view.relocs[i].kind == R_RISCV_PCREL_HI20 {
-        direct_site(view, loaded, ranges, rewritable, i)
+    if file.view.relocs[i].kind == R_RISCV_PCREL_HI20 {
+        direct_site(file, ranges, rewritable, i)
     } else {
         None
     }
@@ -116,27 +102,25 @@ fn high_site(
 
 /// The site that relocation `i` gives by itself.
 fn direct_site(
-    view: &ElfView,
-    loaded: &[bool],
+    file: &LoadedFile,
     ranges: &[ByteRange],
     rewritable: &[bool],
     i: usize,
 ) -> Option<Site>
-    requires marks { loaded.now ≡ all_loaded (plain_view view.now) }
-    requires rewritable { rewritable.now ≡ all_rewritable (plain_view view.now) }
-    requires movable { AreMovable (plain_view view.now) ranges.now }
+    requires rewritable { rewritable.now ≡ all_rewritable (plain_view file.now.view.now) }
+    requires movable { AreMovable (plain_view file.now.view.now) ranges.now }
     requires few { length ranges.now ≤ 4096 }
-    requires below { i < length view.now.relocs.items }
-    ensures { GivesJust same_site (gives_alone (plain_view view.now) ranges.now) result i }
+    requires below { i < length file.now.view.now.relocs.items }
+    ensures { GivesJust same_site (gives_alone (plain_view file.now.view.now) ranges.now) result i }
 {
-    let reloc = &view.relocs[i];
+    let reloc = &file.view.relocs[i];
     let Some(kind) = part_of(reloc.kind) else {
         return None;
     };
-    if !is_rewritable(view, rewritable, i) {
+    if !is_rewritable(file.view, rewritable, i) {
         return None;
     }
-    match lead_of(view, loaded, ranges, i) {
+    match lead_of(file, ranges, i) {
         Some(lead) => Some(Site {
             at: reloc.at,
             kind,
@@ -148,27 +132,20 @@ fn direct_site(
 }
 
 /// The site that relocation `i` gives as the lower part of a pair, of which `highs` are the AUIPCs.
-fn low_site(
-    view: &ElfView,
-    loaded: &[bool],
-    ranges: &[ByteRange],
-    highs: &[Site],
-    i: usize,
-) -> Option<Site>
-    requires marks { loaded.now ≡ all_loaded (plain_view view.now) }
-    requires highs { AreHighs (plain_view view.now) ranges.now highs.now }
-    requires below { i < length view.now.relocs.items }
-    requires low { is_pair_low (reloc_at (plain_view view.now) i).kind ≡ true }
-    ensures { GivesJust same_site (gives_low (plain_view view.now) ranges.now) result i }
+fn low_site(file: &LoadedFile, ranges: &[ByteRange], highs: &[Site], i: usize) -> Option<Site>
+    requires highs { AreHighs (plain_view file.now.view.now) ranges.now highs.now }
+    requires below { i < length file.now.view.now.relocs.items }
+    requires low { is_pair_low (reloc_at (plain_view file.now.view.now) i).kind ≡ true }
+    ensures { GivesJust same_site (gives_low (plain_view file.now.view.now) ranges.now) result i }
 {
-    let reloc = &view.relocs[i];
+    let reloc = &file.view.relocs[i];
     let Some(kind) = part_of(reloc.kind) else {
         return None;
     };
-    if !counts(view, loaded, reloc) {
+    if !counts(file, reloc) {
         return None;
     }
-    match find_site(highs, symbol_value(view, reloc.symbol as usize)) {
+    match find_site(highs, symbol_value(file.view, reloc.symbol as usize)) {
         Some(high) => Some(Site {
             at: reloc.at,
             kind,

@@ -1,6 +1,5 @@
 ghost use Rattle.std.specs.Prelude.{◌≡◌, ◌<◌, ◌≤◌, length, IfOk};
 ghost use Rattle.elf_reader.specs.File.{plain_view};
-ghost use Rattle.loaded_file.specs.Marks.{all_loaded};
 ghost use Rattle.rewritable_relocations.specs.Marks.{all_rewritable};
 ghost use Rattle.object_graph.specs.declared.parts.DataWord.{DataWord};
 ghost use Rattle.object_graph.specs.Graphs.{same_word};
@@ -9,8 +8,8 @@ ghost use Rattle.object_graph.specs.Gathered.{GivesJust, AreMovable, is_word_in,
 use crate::leads::lead_of;
 use crate::parts::DataWord;
 use crate::placed::{push_some, sort_placed};
-use elf_reader::{ElfView, R_RISCV_32};
-use loaded_file::ByteRange;
+use elf_reader::R_RISCV_32;
+use loaded_file::{ByteRange, LoadedFile};
 use rewritable_relocations::is_rewritable;
 use std::alloc::{AllocError, Global};
 
@@ -20,20 +19,18 @@ use std::alloc::{AllocError, Global};
 /// The time grows with n log n, where n is the number of relocations.
 pub(crate) fn data_words(
     alloc: Global,
-    view: &ElfView,
-    loaded: &[bool],
+    file: &LoadedFile,
     ranges: &[ByteRange],
     rewritable: &[bool],
 ) -> Result<Vec<DataWord>, AllocError>
-    requires marks { loaded.now ≡ all_loaded (plain_view view.now) }
-    requires rewritable { rewritable.now ≡ all_rewritable (plain_view view.now) }
-    requires movable { AreMovable (plain_view view.now) ranges.now }
+    requires rewritable { rewritable.now ≡ all_rewritable (plain_view file.now.view.now) }
+    requires movable { AreMovable (plain_view file.now.view.now) ranges.now }
     requires few { length ranges.now ≤ 4096 }
-    ensures { IfOk result (λ words. AreWords (plain_view view.now) ranges.now words.items) }
+    ensures { IfOk result (λ words. AreWords (plain_view file.now.view.now) ranges.now words.items) }
 {
     let mut words = Vec::new(alloc);
-    for i in 0..view.relocs.len() {
-        let word = word_of(view, loaded, ranges, rewritable, i);
+    for i in 0..file.view.relocs.len() {
+        let word = word_of(file, ranges, rewritable, i);
         push_some(&mut words, word)?;
     }
     sort_placed(&mut words);
@@ -42,27 +39,25 @@ pub(crate) fn data_words(
 
 /// The word of data that relocation `i` gives, if it gives one.
 fn word_of(
-    view: &ElfView,
-    loaded: &[bool],
+    file: &LoadedFile,
     ranges: &[ByteRange],
     rewritable: &[bool],
     i: usize,
 ) -> Option<DataWord>
-    requires marks { loaded.now ≡ all_loaded (plain_view view.now) }
-    requires rewritable { rewritable.now ≡ all_rewritable (plain_view view.now) }
-    requires movable { AreMovable (plain_view view.now) ranges.now }
+    requires rewritable { rewritable.now ≡ all_rewritable (plain_view file.now.view.now) }
+    requires movable { AreMovable (plain_view file.now.view.now) ranges.now }
     requires few { length ranges.now ≤ 4096 }
-    requires below { i < length view.now.relocs.items }
-    ensures { GivesJust same_word (is_word_in (plain_view view.now) ranges.now) result i }
+    requires below { i < length file.now.view.now.relocs.items }
+    ensures { GivesJust same_word (is_word_in (plain_view file.now.view.now) ranges.now) result i }
 {
-    let reloc = &view.relocs[i];
+    let reloc = &file.view.relocs[i];
     if reloc.kind != R_RISCV_32 {
         return None;
     }
-    if !is_rewritable(view, rewritable, i) {
+    if !is_rewritable(file.view, rewritable, i) {
         return None;
     }
-    let Some(lead) = lead_of(view, loaded, ranges, i) else {
+    let Some(lead) = lead_of(file, ranges, i) else {
         return None;
     };
     Some(DataWord {

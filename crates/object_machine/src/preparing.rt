@@ -2,7 +2,6 @@ ghost use Rattle.std.specs.Prelude.{◌≡◌, ℕ, ◌+◌, ◌<◌, nat_lt, tr
 ghost use Rattle.std.specs.List.{All};
 ghost use Rattle.list_checks.specs.Tests.{any_below};
 ghost use Rattle.elf_reader.specs.File.{plain_view};
-ghost use Rattle.loaded_file.specs.Marks.{all_loaded};
 ghost use Rattle.loaded_file.specs.Code.{holds_code, is_code_word, image_word};
 ghost use Rattle.loaded_file.specs.Read.{IsRead};
 ghost use Rattle.object_graph.specs.Lookups.{IsSomeGraph};
@@ -14,8 +13,7 @@ ghost use Rattle.object_machine.specs.Preparing.{IsPairOf, IsPreparedOf, ArePrep
 use crate::units::{Pair, Prepared};
 use code_blocks::{Code, Unit};
 use code_leaders::{links, pair_target};
-use elf_reader::ElfView;
-use loaded_file::{holds_code, word_in};
+use loaded_file::{LoadedFile, holds_code, word_in};
 use object_graph::Graph;
 use rv_decode::rd;
 use std::alloc::{AllocError, Global};
@@ -31,31 +29,29 @@ pub(crate) struct BlockUnits {
 }
 
 /// The word of code at an address.
-fn code_word(view: &ElfView, loaded: &[bool], address: u32) -> u32
-    requires read { IsRead view.now }
-    requires marks { loaded.now ≡ all_loaded (plain_view view.now) }
-    requires code { is_code_word (plain_view view.now) address ≡ true }
-    ensures { result ≡ image_word (plain_view view.now) address }
+fn code_word(file: &LoadedFile, address: u32) -> u32
+    requires read { IsRead file.now.view.now }
+    requires code { is_code_word (plain_view file.now.view.now) address ≡ true }
+    ensures { result ≡ image_word (plain_view file.now.view.now) address }
 {
-    for k in 0..view.sections.len() {
-        if holds_code(view, loaded, address, k) {
-            return word_in(view, k, address);
+    for k in 0..file.view.sections.len() {
+        if holds_code(file, address, k) {
+            return word_in(file.view, k, address);
         }
     }
     0
 }
 
 /// The call of two words that a unit is.
-fn pair_of(view: &ElfView, loaded: &[bool], unit: &Unit) -> Option<Pair>
-    requires read { IsRead view.now }
-    requires marks { loaded.now ≡ all_loaded (plain_view view.now) }
-    requires unit { IsUnit (plain_view view.now) unit.now }
-    ensures { IsPairOf (plain_view view.now) unit.now.at result }
+fn pair_of(file: &LoadedFile, unit: &Unit) -> Option<Pair>
+    requires read { IsRead file.now.view.now }
+    requires unit { IsUnit (plain_view file.now.view.now) unit.now }
+    ensures { IsPairOf (plain_view file.now.view.now) unit.now.at result }
 {
     if unit.words == 1 {
         return None;
     }
-    let second = code_word(view, loaded, unit.at + 4);
+    let second = code_word(file, unit.at + 4);
     Some(Pair {
         target: pair_target(unit.at, unit.raw, second),
         register: rd(unit.raw),
@@ -64,17 +60,16 @@ fn pair_of(view: &ElfView, loaded: &[bool], unit: &Unit) -> Option<Pair>
 }
 
 /// A unit with what a step asks of it; `goes_on` says that another of its block follows.
-fn prepared(view: &ElfView, loaded: &[bool], graph: &Graph, unit: &Unit, goes_on: bool) -> Prepared
-    requires read { IsRead view.now }
-    requires marks { loaded.now ≡ all_loaded (plain_view view.now) }
+fn prepared(file: &LoadedFile, graph: &Graph, unit: &Unit, goes_on: bool) -> Prepared
+    requires read { IsRead file.now.view.now }
     requires graph { IsSomeGraph graph.now }
-    requires unit { IsUnit (plain_view view.now) unit.now }
-    ensures { IsPreparedOf (plain_view view.now) graph.now unit.now goes_on result }
+    requires unit { IsUnit (plain_view file.now.view.now) unit.now }
+    ensures { IsPreparedOf (plain_view file.now.view.now) graph.now unit.now goes_on result }
 {
     Prepared {
         at: unit.at,
         instr: unit.instr,
-        pair: pair_of(view, loaded, unit),
+        pair: pair_of(file, unit),
         site: graph.site_at(unit.at),
         goes_on,
     }
@@ -83,20 +78,18 @@ fn prepared(view: &ElfView, loaded: &[bool], graph: &Graph, unit: &Unit, goes_on
 /// The units of a block.
 fn prepared_units(
     alloc: Global,
-    view: &ElfView,
-    loaded: &[bool],
+    file: &LoadedFile,
     graph: &Graph,
     units: &[Unit],
 ) -> Result<Vec<Prepared>, AllocError>
-    requires read { IsRead view.now }
-    requires marks { loaded.now ≡ all_loaded (plain_view view.now) }
+    requires read { IsRead file.now.view.now }
     requires graph { IsSomeGraph graph.now }
-    requires units { All (IsUnit (plain_view view.now)) units.now }
-    ensures { IfOk result (λ rs. ArePrepared (plain_view view.now) graph.now units.now (length units.now) rs.items) }
+    requires units { All (IsUnit (plain_view file.now.view.now)) units.now }
+    ensures { IfOk result (λ rs. ArePrepared (plain_view file.now.view.now) graph.now units.now (length units.now) rs.items) }
 {
     let mut out = Vec::new(alloc);
     for k in 0..units.len() {
-        out.push(prepared(view, loaded, graph, &units[k], k + 1 < units.len()))?;
+        out.push(prepared(file, graph, &units[k], k + 1 < units.len()))?;
     }
     Ok(out)
 }
@@ -104,16 +97,14 @@ fn prepared_units(
 /// The units of all blocks.
 pub(crate) fn lay_blocks(
     alloc: Global,
-    view: &ElfView,
-    loaded: &[bool],
+    file: &LoadedFile,
     graph: &Graph,
     code: &Code,
 ) -> Result<BlockUnits, AllocError>
-    requires read { IsRead view.now }
-    requires marks { loaded.now ≡ all_loaded (plain_view view.now) }
+    requires read { IsRead file.now.view.now }
     requires graph { IsSomeGraph graph.now }
-    requires code { IsCode (plain_view view.now) code.now }
-    ensures { IfOk result (λ block_units. (board : Board) → IsBlockUnits (plain_view view.now) board graph.now code.now.blocks.items (length code.now.blocks.items) block_units) }
+    requires code { IsCode (plain_view file.now.view.now) code.now }
+    ensures { IfOk result (λ block_units. (board : Board) → IsBlockUnits (plain_view file.now.view.now) board graph.now code.now.blocks.items (length code.now.blocks.items) block_units) }
 {
     let mut block_units = BlockUnits {
         units: Vec::new(alloc),
@@ -122,7 +113,7 @@ pub(crate) fn lay_blocks(
     };
     for i in 0..code.blocks.len() {
         let block = &code.blocks[i];
-        let units = prepared_units(alloc, view, loaded, graph, &block.units)?;
+        let units = prepared_units(alloc, file, graph, &block.units)?;
         lay(&mut block_units, block.start, &units)?;
     }
     Ok(block_units)

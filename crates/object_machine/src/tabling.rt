@@ -14,7 +14,7 @@ use crate::tables::Tables;
 use board_config::Board;
 use code_blocks::Code;
 use elf_reader::ElfView;
-use loaded_file::loaded_sections;
+use loaded_file::LoadedFile;
 use object_graph::{Graph, fixed_ranges};
 use std::alloc::{AllocError, Global};
 
@@ -34,9 +34,9 @@ pub(crate) fn tables_of(
     ensures program { IfOk result (Agrees (program_of (plain_view view.now) board.now graph.now)) }
     ensures graph { IfOk result (λ t. HasObjects graph.now t.graph) }
 {
-    let loaded = loaded_sections(alloc, view)?;
+    let file = LoadedFile::of(alloc, view)?;
     let objects = objects_alone(alloc, graph)?;
-    let block_units = lay_blocks(alloc, view, &loaded, graph, code)?;
+    let block_units = lay_blocks(alloc, &file, graph, code)?;
     let reached = widened(alloc, &code.indirect)?;
     let fixed = fixed_ranges(alloc, view, board, graph)?;
     Ok(Tables {

@@ -101,5 +101,10 @@ fn push_row(
     requires x { x < 32 }
     ensures { OnOk result (Adds (Upto 32 (PlaceEdge (entry block x) (end_of nodes.blocks block 0) places)) (plain_rows graph_edges.old) (plain_rows graph_edges.new)) }
 {
-    push_places(graph_edges, nodes.entry(block) + x, nodes.end(block), places)
+    push_places(
+        graph_edges,
+        nodes.entry(block) + x,
+        nodes.end(block),
+        places,
+    )
 }

@@ -50,7 +50,11 @@ fn leaders_of(alloc: Global, code: &Code) -> Result<Vec<u32>, AllocError>
 }
 
 /// What the objects reach, 64 at a time.
-fn groups_of(alloc: Global, nodes: Nodes, graph_edges: &[Vec<Edge>]) -> Result<Vec<Reached>, AllocError>
+fn groups_of(
+    alloc: Global,
+    nodes: Nodes,
+    graph_edges: &[Vec<Edge>],
+) -> Result<Vec<Reached>, AllocError>
     requires room { length graph_edges.now ≡ node_count nodes.blocks nodes.objects }
     requires inside { AreInside (plain_rows graph_edges.now) (node_count nodes.blocks nodes.objects) }
     ensures { IfOk result (λ groups. AreGroups (plain_rows graph_edges.now) nodes.blocks nodes.objects ((nodes.objects + 63) / 64) (map plain groups.items)) }

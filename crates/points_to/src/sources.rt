@@ -45,7 +45,12 @@ fn push_sources(
         return Ok(());
     }
     if loads(unit.instr) {
-        push_places(graph_edges, nodes.loaded(), nodes.end(block), rows[to as usize])?;
+        push_places(
+            graph_edges,
+            nodes.loaded(),
+            nodes.end(block),
+            rows[to as usize],
+        )?;
         return Ok(());
     }
     Ok(())

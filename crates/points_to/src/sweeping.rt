@@ -9,7 +9,13 @@ use reach_graph::Edge;
 
 /// Lets the marks of `count` nodes from `first` on, and then those of each block, pass once along the edges of the
 /// nodes, in the order of the code. Little is then left to spread, of what goes back.
-pub(crate) fn sweep(nodes: Nodes, graph_edges: &[Vec<Edge>], first: u32, count: u32, marks: &mut [u64])
+pub(crate) fn sweep(
+    nodes: Nodes,
+    graph_edges: &[Vec<Edge>],
+    first: u32,
+    count: u32,
+    marks: &mut [u64],
+)
     requires room { length graph_edges.now ≡ node_count nodes.blocks nodes.objects }
     requires size { length marks.old ≡ node_count nodes.blocks nodes.objects }
     requires inside { AreInside (plain_rows graph_edges.now) (node_count nodes.blocks nodes.objects) }
@@ -18,7 +24,12 @@ pub(crate) fn sweep(nodes: Nodes, graph_edges: &[Vec<Edge>], first: u32, count: 
 {
     pass_each(graph_edges, marks, first, first + count);
     for block in 0..nodes.blocks {
-        pass_each(graph_edges, marks, nodes.entry(block), nodes.entry(block) + 32);
+        pass_each(
+            graph_edges,
+            marks,
+            nodes.entry(block),
+            nodes.entry(block) + 32,
+        );
         pass_each(graph_edges, marks, nodes.end(block), nodes.end(block) + 32);
     }
 }

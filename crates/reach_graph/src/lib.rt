@@ -3,8 +3,8 @@
 #![tactic(auto)]
 
 mod edges;
-mod queue;
 mod propagation;
+mod queue;
 
 pub use edges::Edge;
 pub use propagation::propagate;

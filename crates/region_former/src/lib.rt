@@ -7,8 +7,8 @@ mod flow;
 mod forming;
 mod listing;
 mod naming;
-mod reaching;
 mod propagation;
+mod reaching;
 mod table;
 
 pub use fault::RegionFault;

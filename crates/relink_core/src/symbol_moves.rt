@@ -1,7 +1,6 @@
 //! The symbols of objects that are moved.
 ghost use Rattle.std.specs.Prelude.{◌≡◌, ℕ, ◌<◌, ◌≤◌, ◌==◌, ◌&&◌, length, OnOk, IfOk, Option, MatchOption, ◌++◌};
 ghost use Rattle.elf_reader.specs.File.{plain_view};
-ghost use Rattle.loaded_file.specs.Marks.{all_loaded};
 ghost use Rattle.loaded_file.specs.Records.{symbol_at};
 ghost use Rattle.cell_values.specs.Objects.{object_of};
 ghost use Rattle.relink_core.specs.Making.{range_value, symbol_value, move_to, moves_below, HasStarts, AreOfGraph};
@@ -9,7 +8,7 @@ ghost use Rattle.relink_core.specs.Making.{range_value, symbol_value, move_to, m
 use crate::taking::start_place;
 use elf_reader::ElfView;
 use elf_writer::SymbolMove;
-use loaded_file::{has_range, loaded_sections};
+use loaded_file::{LoadedFile, has_range};
 use object_graph::Graph;
 use relocator::Places;
 use std::alloc::{AllocError, Global};
@@ -39,21 +38,19 @@ fn range_value(graph: &Graph, places: &Places, home: u32, size: u32, objects: &[
 
 /// The new value of symbol `k`, if it is one of an object that is moved.
 fn symbol_value(
-    view: &ElfView,
-    loaded: &[bool],
+    file: &LoadedFile,
     graph: &Graph,
     places: &Places,
     objects: &[u32],
     k: usize,
 ) -> Option<u32>
-    requires marks { loaded.now ≡ all_loaded (plain_view view.now) }
     requires listed { AreOfGraph graph.now objects.now }
     requires starts { HasStarts graph.now places.now }
-    requires below { k < length view.now.symbols.items }
-    ensures { result ≡ symbol_value (plain_view view.now) graph.now places.now objects.now (symbol_at (plain_view view.now) k) }
+    requires below { k < length file.now.view.now.symbols.items }
+    ensures { result ≡ symbol_value (plain_view file.now.view.now) graph.now places.now objects.now (symbol_at (plain_view file.now.view.now) k) }
 {
-    let symbol = &view.symbols[k];
-    if !has_range(view, loaded, symbol) {
+    let symbol = &file.view.symbols[k];
+    if !has_range(file, symbol) {
         return None;
     }
     range_value(graph, places, symbol.value, symbol.size, objects)
@@ -85,10 +82,10 @@ pub(crate) fn symbol_moves(
     requires few { length view.now.symbols.items ≤ 65536 }
     ensures { IfOk result (λ moves. moves.items ≡ moves_below (plain_view view.now) graph.now places.now objects.now (length view.now.symbols.items)) }
 {
-    let loaded = loaded_sections(alloc, view)?;
+    let file = LoadedFile::of(alloc, view)?;
     let mut moves = Vec::new(alloc);
     for k in 0..view.symbols.len() {
-        let value = symbol_value(view, &loaded, graph, places, objects, k);
+        let value = symbol_value(&file, graph, places, objects, k);
         push_move(&mut moves, k as u32, value)?;
     }
     Ok(moves)

@@ -3,7 +3,6 @@ ghost use Rattle.std.specs.List.{list_any};
 ghost use Rattle.word_bits.specs.Words.{plus};
 ghost use Rattle.elf_reader.specs.File.{plain_view};
 ghost use Rattle.board_config.specs.declared.board.Board.{Board};
-ghost use Rattle.loaded_file.specs.Marks.{all_loaded};
 ghost use Rattle.loaded_file.specs.Code.{is_code_word, image_word};
 ghost use Rattle.loaded_file.specs.Read.{IsRead};
 ghost use Rattle.object_graph.specs.Graphs.{IsGraph};
@@ -15,7 +14,7 @@ ghost use Rattle.relocator.specs.Gathering.{AreOfSites, AreOfWords, address_of, 
 use crate::places::Places;
 use crate::rewriting::new_word;
 use elf_reader::ElfView;
-use loaded_file::{holds_code, loaded_sections, word_in};
+use loaded_file::{LoadedFile, holds_code, word_in};
 use object_graph::Graph;
 use std::alloc::{AllocError, Global};
 
@@ -68,10 +67,10 @@ fn words_of_sites(
     requires places { HasPlaces graph.now places.now region_at.now }
     ensures { IfOk result (λ words. AreOfSites (plain_view view.now) graph.now places.now region_at.now (length graph.now.sites.items) words.items) }
 {
-    let loaded = loaded_sections(alloc, view)?;
+    let file = LoadedFile::of(alloc, view)?;
     let mut words = Vec::new(alloc);
     for k in 0..graph.sites.len() {
-        let word = word_of_site(view, &loaded, graph, places, region_at, k);
+        let word = word_of_site(&file, graph, places, region_at, k);
         words.push((graph.sites[k].at, word))?;
     }
     Ok(words)
@@ -79,22 +78,20 @@ fn words_of_sites(
 
 /// The new word at site `k`.
 fn word_of_site(
-    view: &ElfView,
-    loaded: &[bool],
+    file: &LoadedFile,
     graph: &Graph,
     places: &Places,
     region_at: &[u32],
     k: usize,
 ) -> u32
-    requires read { IsRead view.now }
-    requires marks { loaded.now ≡ all_loaded (plain_view view.now) }
-    requires graph { (board : Board) × IsGraph (plain_view view.now) board graph.now }
+    requires read { IsRead file.now.view.now }
+    requires graph { (board : Board) × IsGraph (plain_view file.now.view.now) board graph.now }
     requires places { HasPlaces graph.now places.now region_at.now }
     requires below { k < length graph.now.sites.items }
-    ensures { IsNewAtSite (plain_view view.now) graph.now places.now region_at.now k result }
+    ensures { IsNewAtSite (plain_view file.now.view.now) graph.now places.now region_at.now k result }
 {
     let site = &graph.sites[k];
-    let word = word_at(view, loaded, site.at);
+    let word = word_at(file, site.at);
     let place = place_at(places, site.object, region_at[k]);
     new_word(site.kind, word, place.wrapping_add(site.offset))
 }
@@ -109,15 +106,14 @@ fn place_at(places: &Places, object: u32, region: u32) -> u32
 }
 
 /// The word of code at `address` when the program starts.
-fn word_at(view: &ElfView, loaded: &[bool], address: u32) -> u32
-    requires read { IsRead view.now }
-    requires marks { loaded.now ≡ all_loaded (plain_view view.now) }
-    requires code { is_code_word (plain_view view.now) address ≡ true }
-    ensures { result ≡ image_word (plain_view view.now) address }
+fn word_at(file: &LoadedFile, address: u32) -> u32
+    requires read { IsRead file.now.view.now }
+    requires code { is_code_word (plain_view file.now.view.now) address ≡ true }
+    ensures { result ≡ image_word (plain_view file.now.view.now) address }
 {
-    for k in 0..view.sections.len() {
-        if holds_code(view, loaded, address, k) {
-            return word_in(view, k, address);
+    for k in 0..file.view.sections.len() {
+        if holds_code(file, address, k) {
+            return word_in(file.view, k, address);
         }
     }
     0

@@ -1,6 +1,5 @@
 ghost use Rattle.std.specs.Prelude.{◌≡◌, ◌^◌, ◌<◌, ◌∷◌, [], ◌++◌, if◌then◌else◌, length, IfOk};
 ghost use Rattle.elf_reader.specs.File.{plain_view};
-ghost use Rattle.loaded_file.specs.Marks.{all_loaded};
 ghost use Rattle.loaded_file.specs.Read.{IsRead};
 ghost use Rattle.rewritable_relocations.specs.Lists.{IsListOf, AreListsOf, count_of, is_listed, number_of, is_ranged, range_start, range_end, is_changing, change_start, change_end, is_calling, is_lower, low_part, low_key};
 
@@ -10,7 +9,7 @@ use crate::lists::{Listed, RelocationLists};
 use crate::standing::code_word;
 use elf_reader::{ElfView, Reloc};
 use list_checks::arrange;
-use loaded_file::{counts, has_range, symbol_value};
+use loaded_file::{LoadedFile, counts, has_range, symbol_value};
 use std::alloc::{AllocError, Global};
 
 /// How many numbers a key has for each AUIPC.
@@ -19,19 +18,17 @@ pub(crate) const KEYS: u64 = 8192;
 /// The lists of a view. It fails only where no memory was left.
 pub(crate) fn relocation_lists(
     alloc: Global,
-    view: &ElfView,
-    loaded: &[bool],
+    file: &LoadedFile,
 ) -> Result<RelocationLists, AllocError>
-    requires read { IsRead view.now }
-    requires marks { loaded.now ≡ all_loaded (plain_view view.now) }
-    ensures { IfOk result (λ lists. AreListsOf (plain_view view.now) lists) }
+    requires read { IsRead file.now.view.now }
+    ensures { IfOk result (λ lists. AreListsOf (plain_view file.now.view.now) lists) }
 {
-    let range_starts = number_list(alloc, view, loaded, Listed::RangeStart)?;
-    let range_ends = number_list(alloc, view, loaded, Listed::RangeEnd)?;
-    let starts = number_list(alloc, view, loaded, Listed::ChangeStart)?;
-    let ends = number_list(alloc, view, loaded, Listed::ChangeEnd)?;
-    let calls = number_list(alloc, view, loaded, Listed::Call)?;
-    let low_keys = number_list(alloc, view, loaded, Listed::LowKey)?;
+    let range_starts = number_list(alloc, file, Listed::RangeStart)?;
+    let range_ends = number_list(alloc, file, Listed::RangeEnd)?;
+    let starts = number_list(alloc, file, Listed::ChangeStart)?;
+    let ends = number_list(alloc, file, Listed::ChangeEnd)?;
+    let calls = number_list(alloc, file, Listed::Call)?;
+    let low_keys = number_list(alloc, file, Listed::LowKey)?;
     Ok(RelocationLists {
         range_starts,
         range_ends,
@@ -43,19 +40,13 @@ pub(crate) fn relocation_lists(
 }
 
 /// One of the lists.
-fn number_list(
-    alloc: Global,
-    view: &ElfView,
-    loaded: &[bool],
-    listed: Listed,
-) -> Result<Vec<u64>, AllocError>
-    requires read { IsRead view.now }
-    requires marks { loaded.now ≡ all_loaded (plain_view view.now) }
-    ensures { IfOk result (λ list. IsListOf (is_listed listed (plain_view view.now)) (number_of listed (plain_view view.now)) (count_of listed (plain_view view.now)) list.items) }
+fn number_list(alloc: Global, file: &LoadedFile, listed: Listed) -> Result<Vec<u64>, AllocError>
+    requires read { IsRead file.now.view.now }
+    ensures { IfOk result (λ list. IsListOf (is_listed listed (plain_view file.now.view.now)) (number_of listed (plain_view file.now.view.now)) (count_of listed (plain_view file.now.view.now)) list.items) }
 {
     let mut list = Vec::new(alloc);
-    for k in 0..count_of(view, listed) {
-        push_number(&mut list, view, loaded, listed, k)?;
+    for k in 0..count_of(file.view, listed) {
+        push_number(&mut list, file, listed, k)?;
     }
     arrange(&mut list);
     Ok(list)
@@ -64,18 +55,16 @@ fn number_list(
 /// Adds the number of symbol or relocation `k`, if the list has one of it.
 fn push_number(
     list: &mut Vec<u64>,
-    view: &ElfView,
-    loaded: &[bool],
+    file: &LoadedFile,
     listed: Listed,
     k: usize,
 ) -> Result<(), AllocError>
-    requires read { IsRead view.now }
-    requires marks { loaded.now ≡ all_loaded (plain_view view.now) }
-    requires below { k < count_of listed (plain_view view.now) }
-    ensures { IfOk result (λ _. list.new.items ≡ list.old.items ++ (if is_listed listed (plain_view view.now) k then number_of listed (plain_view view.now) k ∷ [] else [])) }
+    requires read { IsRead file.now.view.now }
+    requires below { k < count_of listed (plain_view file.now.view.now) }
+    ensures { IfOk result (λ _. list.new.items ≡ list.old.items ++ (if is_listed listed (plain_view file.now.view.now) k then number_of listed (plain_view file.now.view.now) k ∷ [] else [])) }
 {
-    if is_listed(view, loaded, listed, k) {
-        list.push(number_of(view, loaded, listed, k))?;
+    if is_listed(file, listed, k) {
+        list.push(number_of(file, listed, k))?;
     }
     Ok(())
 }
@@ -93,42 +82,39 @@ fn count_of(view: &ElfView, listed: Listed) -> usize
 }
 
 /// The list has a number of symbol or relocation `k`.
-fn is_listed(view: &ElfView, loaded: &[bool], listed: Listed, k: usize) -> bool
-    requires marks { loaded.now ≡ all_loaded (plain_view view.now) }
-    requires below { k < count_of listed (plain_view view.now) }
-    ensures { result ≡ is_listed listed (plain_view view.now) k }
+fn is_listed(file: &LoadedFile, listed: Listed, k: usize) -> bool
+    requires below { k < count_of listed (plain_view file.now.view.now) }
+    ensures { result ≡ is_listed listed (plain_view file.now.view.now) k }
 {
     match listed {
-        Listed::RangeStart | Listed::RangeEnd => is_ranged(view, loaded, k),
-        Listed::ChangeStart | Listed::ChangeEnd => is_changing(view, loaded, k),
-        Listed::Call => is_calling(view, loaded, k),
-        Listed::LowKey => is_lower(view, loaded, k),
+        Listed::RangeStart | Listed::RangeEnd => is_ranged(file, k),
+        Listed::ChangeStart | Listed::ChangeEnd => is_changing(file, k),
+        Listed::Call => is_calling(file, k),
+        Listed::LowKey => is_lower(file, k),
     }
 }
 
 /// The number of symbol or relocation `k` in the list.
-fn number_of(view: &ElfView, loaded: &[bool], listed: Listed, k: usize) -> u64
-    requires read { IsRead view.now }
-    requires marks { loaded.now ≡ all_loaded (plain_view view.now) }
-    requires below { k < count_of listed (plain_view view.now) }
-    ensures { result ≡ number_of listed (plain_view view.now) k }
+fn number_of(file: &LoadedFile, listed: Listed, k: usize) -> u64
+    requires read { IsRead file.now.view.now }
+    requires below { k < count_of listed (plain_view file.now.view.now) }
+    ensures { result ≡ number_of listed (plain_view file.now.view.now) k }
 {
     match listed {
-        Listed::RangeStart => range_start(view, k),
-        Listed::RangeEnd => range_end(view, k),
-        Listed::ChangeStart | Listed::Call => change_start(view, k),
-        Listed::ChangeEnd => change_end(view, k),
-        Listed::LowKey => low_key(view, loaded, k),
+        Listed::RangeStart => range_start(file.view, k),
+        Listed::RangeEnd => range_end(file.view, k),
+        Listed::ChangeStart | Listed::Call => change_start(file.view, k),
+        Listed::ChangeEnd => change_end(file.view, k),
+        Listed::LowKey => low_key(file, k),
     }
 }
 
 /// Symbol `k` is that of an object.
-fn is_ranged(view: &ElfView, loaded: &[bool], k: usize) -> bool
-    requires marks { loaded.now ≡ all_loaded (plain_view view.now) }
-    requires below { k < length view.now.symbols.items }
-    ensures { result ≡ is_ranged (plain_view view.now) k }
+fn is_ranged(file: &LoadedFile, k: usize) -> bool
+    requires below { k < length file.now.view.now.symbols.items }
+    ensures { result ≡ is_ranged (plain_view file.now.view.now) k }
 {
-    has_range(view, loaded, &view.symbols[k])
+    has_range(file, &file.view.symbols[k])
 }
 
 /// The address of symbol `k`.
@@ -149,13 +135,12 @@ fn range_end(view: &ElfView, k: usize) -> u64
 }
 
 /// Relocation `j` changes bytes.
-pub(crate) fn is_changing(view: &ElfView, loaded: &[bool], j: usize) -> bool
-    requires marks { loaded.now ≡ all_loaded (plain_view view.now) }
-    requires below { j < length view.now.relocs.items }
-    ensures { result ≡ is_changing (plain_view view.now) j }
+pub(crate) fn is_changing(file: &LoadedFile, j: usize) -> bool
+    requires below { j < length file.now.view.now.relocs.items }
+    ensures { result ≡ is_changing (plain_view file.now.view.now) j }
 {
-    let reloc = &view.relocs[j];
-    counts(view, loaded, reloc) && !is_hint(reloc.kind)
+    let reloc = &file.view.relocs[j];
+    counts(file, reloc) && !is_hint(reloc.kind)
 }
 
 /// The first address that relocation `j` changes.
@@ -177,47 +162,43 @@ fn change_end(view: &ElfView, j: usize) -> u64
 }
 
 /// Relocation `j` is of a call.
-fn is_calling(view: &ElfView, loaded: &[bool], j: usize) -> bool
-    requires marks { loaded.now ≡ all_loaded (plain_view view.now) }
-    requires below { j < length view.now.relocs.items }
-    ensures { result ≡ is_calling (plain_view view.now) j }
+fn is_calling(file: &LoadedFile, j: usize) -> bool
+    requires below { j < length file.now.view.now.relocs.items }
+    ensures { result ≡ is_calling (plain_view file.now.view.now) j }
 {
-    let reloc = &view.relocs[j];
-    counts(view, loaded, reloc) && is_call_kind(reloc.kind)
+    let reloc = &file.view.relocs[j];
+    counts(file, reloc) && is_call_kind(reloc.kind)
 }
 
 /// Relocation `j` is of the low part of a pair.
-fn is_lower(view: &ElfView, loaded: &[bool], j: usize) -> bool
-    requires marks { loaded.now ≡ all_loaded (plain_view view.now) }
-    requires below { j < length view.now.relocs.items }
-    ensures { result ≡ is_lower (plain_view view.now) j }
+fn is_lower(file: &LoadedFile, j: usize) -> bool
+    requires below { j < length file.now.view.now.relocs.items }
+    ensures { result ≡ is_lower (plain_view file.now.view.now) j }
 {
-    let reloc = &view.relocs[j];
-    counts(view, loaded, reloc) && is_pair_low(reloc.kind)
+    let reloc = &file.view.relocs[j];
+    counts(file, reloc) && is_pair_low(reloc.kind)
 }
 
 /// The address that the low relocation `j` names, and the low part that it has, as one number.
-fn low_key(view: &ElfView, loaded: &[bool], j: usize) -> u64
-    requires read { IsRead view.now }
-    requires marks { loaded.now ≡ all_loaded (plain_view view.now) }
-    requires below { j < length view.now.relocs.items }
-    ensures { result ≡ low_key (plain_view view.now) j }
+fn low_key(file: &LoadedFile, j: usize) -> u64
+    requires read { IsRead file.now.view.now }
+    requires below { j < length file.now.view.now.relocs.items }
+    ensures { result ≡ low_key (plain_view file.now.view.now) j }
 {
-    let reloc = &view.relocs[j];
-    let named = symbol_value(view, reloc.symbol as usize);
-    u64::from(named) * KEYS + u64::from(low_part(view, loaded, reloc))
+    let reloc = &file.view.relocs[j];
+    let named = symbol_value(file.view, reloc.symbol as usize);
+    u64::from(named) * KEYS + u64::from(low_part(file, reloc))
 }
 
 /// The twelve bits that the instruction of a pair's low relocation takes, if it takes them without more.
-fn low_part(view: &ElfView, loaded: &[bool], reloc: &Reloc) -> u32
-    requires read { IsRead view.now }
-    requires marks { loaded.now ≡ all_loaded (plain_view view.now) }
-    ensures { result ≡ low_part (plain_view view.now) reloc.now }
+fn low_part(file: &LoadedFile, reloc: &Reloc) -> u32
+    requires read { IsRead file.now.view.now }
+    ensures { result ≡ low_part (plain_view file.now.view.now) reloc.now }
 {
     if reloc.addend.cast_unsigned() != 0 {
         return NO_PART;
     }
-    match code_word(view, loaded, reloc.at) {
+    match code_word(file, reloc.at) {
         Some(word) => form_part(word, reloc.kind),
         None => NO_PART,
     }

@@ -1,7 +1,6 @@
 ghost use Rattle.std.specs.Prelude.{◌≡◌, ◌<◌, not, ◌&&◌, length};
 ghost use Rattle.list_checks.specs.Tests.{any_below};
 ghost use Rattle.elf_reader.specs.File.{plain_view};
-ghost use Rattle.loaded_file.specs.Marks.{all_loaded};
 ghost use Rattle.loaded_file.specs.Records.{reloc_at};
 ghost use Rattle.loaded_file.specs.Read.{IsRead};
 ghost use Rattle.rewritable_relocations.specs.Rewritable.{is_rewritable_high, is_rewritable_low, is_rewritable_pair, distance, is_call_at, is_unpaired};
@@ -15,68 +14,59 @@ use elf_reader::{
     ElfView, R_RISCV_HI20, R_RISCV_LO12_I, R_RISCV_LO12_S, R_RISCV_PCREL_HI20, Reloc,
 };
 use list_checks::{has, has_inside};
-use loaded_file::target;
+use loaded_file::{LoadedFile, target};
 use word_bits::hi20;
 
 /// A relocation is of a LUI of the upper part of its target.
-pub(crate) fn is_rewritable_high(view: &ElfView, loaded: &[bool], reloc: &Reloc) -> bool
-    requires read { IsRead view.now }
-    requires marks { loaded.now ≡ all_loaded (plain_view view.now) }
-    ensures { result ≡ is_rewritable_high (plain_view view.now) reloc.now }
+pub(crate) fn is_rewritable_high(file: &LoadedFile, reloc: &Reloc) -> bool
+    requires read { IsRead file.now.view.now }
+    ensures { result ≡ is_rewritable_high (plain_view file.now.view.now) reloc.now }
 {
     if reloc.kind != R_RISCV_HI20 {
         return false;
     }
-    match code_word(view, loaded, reloc.at) {
-        Some(word) => is_lui_of(word, hi20(target(view, reloc))),
+    match code_word(file, reloc.at) {
+        Some(word) => is_lui_of(word, hi20(target(file.view, reloc))),
         None => false,
     }
 }
 
 /// A relocation is of an instruction that takes the low part of its target.
-pub(crate) fn is_rewritable_low(view: &ElfView, loaded: &[bool], reloc: &Reloc) -> bool
-    requires read { IsRead view.now }
-    requires marks { loaded.now ≡ all_loaded (plain_view view.now) }
-    ensures { result ≡ is_rewritable_low (plain_view view.now) reloc.now }
+pub(crate) fn is_rewritable_low(file: &LoadedFile, reloc: &Reloc) -> bool
+    requires read { IsRead file.now.view.now }
+    ensures { result ≡ is_rewritable_low (plain_view file.now.view.now) reloc.now }
 {
     if reloc.kind != R_RISCV_LO12_I && reloc.kind != R_RISCV_LO12_S {
         return false;
     }
-    match code_word(view, loaded, reloc.at) {
-        Some(word) => takes_low(word, reloc.kind, target(view, reloc)),
+    match code_word(file, reloc.at) {
+        Some(word) => takes_low(word, reloc.kind, target(file.view, reloc)),
         None => false,
     }
 }
 
 /// Relocation `i` is of an AUIPC that begins no call, of the upper part of the distance to its target, and
 /// all low parts that name it fit it.
-pub(crate) fn is_rewritable_pair(
-    view: &ElfView,
-    loaded: &[bool],
-    lists: &RelocationLists,
-    i: usize,
-) -> bool
-    requires read { IsRead view.now }
-    requires marks { loaded.now ≡ all_loaded (plain_view view.now) }
-    requires lists { AreListsOf (plain_view view.now) lists.now }
-    requires below { i < length view.now.relocs.items }
-    ensures { result ≡ is_rewritable_pair (plain_view view.now) (reloc_at (plain_view view.now) i) }
+pub(crate) fn is_rewritable_pair(file: &LoadedFile, lists: &RelocationLists, i: usize) -> bool
+    requires read { IsRead file.now.view.now }
+    requires lists { AreListsOf (plain_view file.now.view.now) lists.now }
+    requires below { i < length file.now.view.now.relocs.items }
+    ensures { result ≡ is_rewritable_pair (plain_view file.now.view.now) (reloc_at (plain_view file.now.view.now) i) }
 {
-    let reloc = &view.relocs[i];
-    is_upper_pair(view, loaded, reloc) && stands_alone(view, lists, i)
+    let reloc = &file.view.relocs[i];
+    is_upper_pair(file, reloc) && stands_alone(file.view, lists, i)
 }
 
 /// A relocation is of an AUIPC of the upper part of the distance to its target.
-fn is_upper_pair(view: &ElfView, loaded: &[bool], reloc: &Reloc) -> bool
-    requires read { IsRead view.now }
-    requires marks { loaded.now ≡ all_loaded (plain_view view.now) }
-    ensures { result ≡ is_upper_pair (plain_view view.now) reloc.now }
+fn is_upper_pair(file: &LoadedFile, reloc: &Reloc) -> bool
+    requires read { IsRead file.now.view.now }
+    ensures { result ≡ is_upper_pair (plain_view file.now.view.now) reloc.now }
 {
     if reloc.kind != R_RISCV_PCREL_HI20 {
         return false;
     }
-    match code_word(view, loaded, reloc.at) {
-        Some(word) => is_auipc_of(word, hi20(distance(view, reloc))),
+    match code_word(file, reloc.at) {
+        Some(word) => is_auipc_of(word, hi20(distance(file.view, reloc))),
         None => false,
     }
 }

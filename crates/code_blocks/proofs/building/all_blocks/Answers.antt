@@ -10,4 +10,4 @@ loop-start-preserved c =
     let same = ap length c.deref-start-items.ensures.value in
     let below : i < length leaders = omega (arith, same) in
     let at : c.in_ok-block.block.start ≡ slice_index_or leaders i 0 = cc (c.in_ok-block.ensures.start, c.deref-start-items.ensures.value) in
-    blocks_more (plain_view c.args.view.now) c.args.functions.now leaders i c.loop-start.blocks.items _ c.in_ok-block.block below c.loop-start.invariant.0 c.loop-start.invariant.1 c.in_ok-push.ensures.items at c.in_ok-block.ensures.block
+    blocks_more (plain_view c.args.file.now.view.now) c.args.functions.now leaders i c.loop-start.blocks.items _ c.in_ok-block.block below c.loop-start.invariant.0 c.loop-start.invariant.1 c.in_ok-push.ensures.items at c.in_ok-block.ensures.block

@@ -7,4 +7,4 @@ use Rattle.code_blocks.proofs.building.all_blocks.Given as goal
 abbrev pub invariant-loop-start : goal.invariant-loop-start
 invariant-loop-start l =
     (map start_of l.blocks.items ≡ take l.start-index l.leaders.all.items)
-    × All (IsBlock (plain_view l.view) l.functions) l.blocks.items
+    × All (IsBlock (plain_view l.file.view.now) l.functions) l.blocks.items

@@ -8,4 +8,4 @@ all_blocks-requires-clause-disjoint c = rw c.deref.ensures.value c.in_ok-functio
 
 pub returns : goal.returns
 returns c =
-    is_code (plain_view c.args.view.now) c.args.leaders c.deref.result.now _ c.requires.leaders c.in_ok-functions.ensures c.deref.ensures.value c.in_ok-blocks.ensures.starts c.in_ok-blocks.ensures.blocks refl refl
+    is_code (plain_view c.args.file.now.view.now) c.args.leaders c.deref.result.now _ c.requires.leaders c.in_ok-functions.ensures c.deref.ensures.value c.in_ok-blocks.ensures.starts c.in_ok-blocks.ensures.blocks refl refl

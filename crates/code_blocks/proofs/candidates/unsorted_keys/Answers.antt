@@ -8,7 +8,7 @@ use Rattle.code_blocks.proofs.candidates.unsorted_keys.Goals as goal
 
 pub loop-k-preserved : goal.loop-k-preserved
 loop-k-preserved c =
-    let v = plain_view c.args.view.now in
+    let v = plain_view c.args.file.now.view.now in
     let few = c.in_ok-push_function.ensures.few in
     let before = c.loop-k.invariant.1 in (
       λ test.
@@ -18,7 +18,7 @@ loop-k-preserved c =
 
 pub returns-clause-exact : goal.returns-clause-exact
 returns-clause-exact c test =
-    let v = plain_view c.args.view.now in
-    let count : length (map plain_symbol c.args.view.now.symbols.items) ≡ length c.args.view.now.symbols.items = length-map c.args.view.now.symbols.items plain_symbol in
+    let v = plain_view c.args.file.now.view.now in
+    let count : length (map plain_symbol c.args.file.now.view.now.symbols.items) ≡ length c.args.file.now.view.now.symbols.items = length-map c.args.file.now.view.now.symbols.items plain_symbol in
     let all : c.loop-k.k ≡ length v.symbols = omega (arith, count) in
     subst (λ (n : ℕ). list_any test c.loop-k.keys.items ≡ any_below (passes_key v test) n) all (c.loop-k.invariant.0 test)

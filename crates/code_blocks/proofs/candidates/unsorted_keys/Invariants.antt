@@ -7,5 +7,5 @@ use Rattle.code_blocks.proofs.candidates.unsorted_keys.Given as goal
 
 abbrev pub invariant-loop-k : goal.invariant-loop-k
 invariant-loop-k l =
-    ((test : ℕ → Bool) → list_any test l.keys.items ≡ any_below (passes_key (plain_view l.view) test) l.k)
+    ((test : ℕ → Bool) → list_any test l.keys.items ≡ any_below (passes_key (plain_view l.file.view.now) test) l.k)
     × (length l.keys.items ≤ l.k)

@@ -8,17 +8,17 @@ use Rattle.code_blocks.proofs.ranges.lowest_range.Goals as goal
 
 pub returns-then-holds_code-clause-first : goal.returns-then-holds_code-clause-first
 returns-then-holds_code-clause-first c =
-    let sections = c.args.view.now.sections.items in
+    let sections = c.args.file.now.view.now.sections.items in
     let below : c.loop-k.k < length (map plain_section sections) = rw length-map (omega arith) in
-    sym (range_found (plain_view c.args.view.now) c.args.address (length (map plain_section sections)) c.loop-k.k below c.loop-k.invariant (sym c.holds_code.ensures ∙ c.if-holds_code.true))
+    sym (range_found (plain_view c.args.file.now.view.now) c.args.address (length (map plain_section sections)) c.loop-k.k below c.loop-k.invariant (sym c.holds_code.ensures ∙ c.if-holds_code.true))
 
 pub loop-k-preserved : goal.loop-k-preserved
 loop-k-preserved c =
-    rw add-one (range_passed (plain_view c.args.view.now) c.args.address c.loop-k.k c.loop-k.invariant (sym c.holds_code.ensures ∙ c.if-holds_code.false))
+    rw add-one (range_passed (plain_view c.args.file.now.view.now) c.args.address c.loop-k.k c.loop-k.invariant (sym c.holds_code.ensures ∙ c.if-holds_code.false))
 
 pub returns-clause-holds : goal.returns-clause-holds
 returns-clause-holds c =
-    let v = plain_view c.args.view.now in
-    let count : length (map plain_section c.args.view.now.sections.items) ≡ length c.args.view.now.sections.items = length-map c.args.view.now.sections.items plain_section in
+    let v = plain_view c.args.file.now.view.now in
+    let count : length (map plain_section c.args.file.now.view.now.sections.items) ≡ length c.args.file.now.view.now.sections.items = length-map c.args.file.now.view.now.sections.items plain_section in
     let all : c.loop-k.k ≡ length v.sections = omega (arith, count) in
     no_range v c.args.address (length v.sections) (subst (λ (n : ℕ). first_below (range_at v c.args.address) n ≡ None) all c.loop-k.invariant)

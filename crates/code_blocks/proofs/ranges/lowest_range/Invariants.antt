@@ -5,4 +5,4 @@ use Rattle.code_blocks.specs.Ends.{range_at}
 use Rattle.code_blocks.proofs.ranges.lowest_range.Given as goal
 
 abbrev pub invariant-loop-k : goal.invariant-loop-k
-invariant-loop-k l = first_below (range_at (plain_view l.view) l.address) l.k ≡ None
+invariant-loop-k l = first_below (range_at (plain_view l.file.view.now) l.address) l.k ≡ None

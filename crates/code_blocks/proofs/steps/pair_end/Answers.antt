@@ -6,13 +6,13 @@ use Rattle.code_blocks.proofs.steps.pair_end.Goals as goal
 
 pub overflow_add-address : goal.overflow_add-address
 overflow_add-address c =
-    let fits = code_fits c.args.view.now c.args.address c.requires.read (pair_is_code (plain_view c.args.view.now) c.args.address c.requires.pair).0 in
+    let fits = code_fits c.args.file.now.view.now c.args.address c.requires.read (pair_is_code (plain_view c.args.file.now.view.now) c.args.address c.requires.pair).0 in
     omega (arith, fits)
 
 pub code_word-second-requires-clause-code : goal.code_word-second-requires-clause-code
-code_word-second-requires-clause-code c = (pair_is_code (plain_view c.args.view.now) c.args.address c.requires.pair).1
+code_word-second-requires-clause-code c = (pair_is_code (plain_view c.args.file.now.view.now) c.args.address c.requires.pair).1
 
 pub overflow_add-address-2 : goal.overflow_add-address-2
 overflow_add-address-2 c =
-    let fits = code_fits c.args.view.now (c.args.address + 4) c.requires.read (pair_is_code (plain_view c.args.view.now) c.args.address c.requires.pair).1 in
+    let fits = code_fits c.args.file.now.view.now (c.args.address + 4) c.requires.read (pair_is_code (plain_view c.args.file.now.view.now) c.args.address c.requires.pair).1 in
     omega (arith, fits)

@@ -7,9 +7,9 @@ use Rattle.code_blocks.proofs.texts.has_text.Goals as goal
 
 pub returns-then-range_has_text : goal.returns-then-range_has_text
 returns-then-range_has_text c =
-    let view = c.args.view.now in
+    let view = c.args.file.now.view.now in
     sym (found_in (passes_in (plain_view view) is_any) plain_section view.sections.items c.loop-k.k (omega arith) (sym c.range_has_text.ensures ∙ c.if-range_has_text.true))
 
 pub loop-k-preserved : goal.loop-k-preserved
 loop-k-preserved c =
-    none_after (passes_in (plain_view c.args.view.now) is_any) c.loop-k.k c.loop-k.invariant (sym c.range_has_text.ensures ∙ c.if-range_has_text.false)
+    none_after (passes_in (plain_view c.args.file.now.view.now) is_any) c.loop-k.k c.loop-k.invariant (sym c.range_has_text.ensures ∙ c.if-range_has_text.false)

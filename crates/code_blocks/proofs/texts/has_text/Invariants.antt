@@ -6,4 +6,4 @@ use Rattle.code_blocks.specs.Blocks.{is_any}
 use Rattle.code_blocks.proofs.texts.has_text.Given as goal
 
 abbrev pub invariant-loop-k : goal.invariant-loop-k
-invariant-loop-k l = any_below (passes_in (plain_view l.view) is_any) l.k ≡ false
+invariant-loop-k l = any_below (passes_in (plain_view l.file.view.now) is_any) l.k ≡ false

@@ -7,30 +7,30 @@ use Rattle.code_blocks.proofs.walking.walk_in.Goals as goal
 
 pub loop-i-init : goal.loop-i-init
 loop-i-init c =
-    let v = plain_view c.args.view.now in
+    let v = plain_view c.args.file.now.view.now in
     rw c.new-units.ensures.items (walked_none v c.args.start (((section_at v c.args.k).addr + (section_at v c.args.k).size - c.args.start) / 4))
 
 pub overflow_mul-address : goal.overflow_mul-address
 overflow_mul-address c =
-    let fits = word_held_fits c.args.view.now c.args.k c.args.start c.loop-i.i c.requires.read c.requires.holds (omega (arith, c.words_from-i-end.ensures, c.loop-i-test.true)) in
+    let fits = word_held_fits c.args.file.now.view.now c.args.k c.args.start c.loop-i.i c.requires.read c.requires.holds (omega (arith, c.words_from-i-end.ensures, c.loop-i-test.true)) in
     omega (arith, fits)
 
 pub overflow_add-address : goal.overflow_add-address
 overflow_add-address c =
-    let fits = word_held_fits c.args.view.now c.args.k c.args.start c.loop-i.i c.requires.read c.requires.holds (omega (arith, c.words_from-i-end.ensures, c.loop-i-test.true)) in
+    let fits = word_held_fits c.args.file.now.view.now c.args.k c.args.start c.loop-i.i c.requires.read c.requires.holds (omega (arith, c.words_from-i-end.ensures, c.loop-i-test.true)) in
     omega (arith, fits)
 
 pub word_in-word-requires-clause-holds : goal.word_in-word-requires-clause-holds
 word_in-word-requires-clause-holds c =
-    word_held (plain_view c.args.view.now) c.args.k c.args.start c.loop-i.i c.requires.holds (omega (arith, c.words_from-i-end.ensures, c.loop-i-test.true))
+    word_held (plain_view c.args.file.now.view.now) c.args.k c.args.start c.loop-i.i c.requires.holds (omega (arith, c.words_from-i-end.ensures, c.loop-i-test.true))
 
 pub end_behind-requires-clause-fits : goal.end_behind-requires-clause-fits
 end_behind-requires-clause-fits c =
-    word_held_fits c.args.view.now c.args.k c.args.start c.loop-i.i c.requires.read c.requires.holds (omega (arith, c.words_from-i-end.ensures, c.loop-i-test.true))
+    word_held_fits c.args.file.now.view.now c.args.k c.args.start c.loop-i.i c.requires.read c.requires.holds (omega (arith, c.words_from-i-end.ensures, c.loop-i-test.true))
 
 pub returns-in-Some : goal.returns-in-Some
 returns-in-Some c =
-    let v = plain_view c.args.view.now in
+    let v = plain_view c.args.file.now.view.now in
     let n = ((section_at v c.args.k).addr + (section_at v c.args.k).size - c.args.start) / 4 in
     let below : c.loop-i.i < n = omega (arith, c.words_from-i-end.ensures, c.loop-i-test.true) in
     let made = c.unit_at.ensures in
@@ -39,7 +39,7 @@ returns-in-Some c =
 
 pub loop-i-preserved : goal.loop-i-preserved
 loop-i-preserved c =
-    let v = plain_view c.args.view.now in
+    let v = plain_view c.args.file.now.view.now in
     let n = ((section_at v c.args.k).addr + (section_at v c.args.k).size - c.args.start) / 4 in
     let below : c.loop-i.i < n = omega (arith, c.words_from-i-end.ensures, c.loop-i-test.true) in
     let made = c.unit_at.ensures in
@@ -49,7 +49,7 @@ loop-i-preserved c =
 
 pub returns : goal.returns
 returns c =
-    let v = plain_view c.args.view.now in
+    let v = plain_view c.args.file.now.view.now in
     let n = ((section_at v c.args.k).addr + (section_at v c.args.k).size - c.args.start) / 4 in
     let all : n ≤ c.loop-i.i = omega (arith, c.words_from-i-end.ensures, c.loop-i-test.false) in
     walk_over v c.args.start n c.loop-i.i _ c.loop-i.invariant all refl

@@ -6,4 +6,4 @@ use Rattle.code_blocks.proofs.walking.walk_in.Given as goal
 
 abbrev pub invariant-loop-i : goal.invariant-loop-i
 invariant-loop-i l =
-    IsWalked (plain_view l.view) l.start (((section_at (plain_view l.view) l.k).addr + (section_at (plain_view l.view) l.k).size - l.start) / 4) l.i l.units.items
+    IsWalked (plain_view l.file.view.now) l.start (((section_at (plain_view l.file.view.now) l.k).addr + (section_at (plain_view l.file.view.now) l.k).size - l.start) / 4) l.i l.units.items

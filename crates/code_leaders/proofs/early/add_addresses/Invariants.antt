@@ -8,4 +8,4 @@ use Rattle.code_leaders.proofs.early.add_addresses.Given as goal
 
 abbrev pub invariant-loop-i : goal.invariant-loop-i
 invariant-loop-i l =
-    (a : ℕ) → has l.leaders.items a ≡ has l.initial.leaders.items a || is_code_word (plain_view l.view) a && any_below (makes_address (plain_view l.view) a) l.i
+    (a : ℕ) → has l.leaders.items a ≡ has l.initial.leaders.items a || is_code_word (plain_view l.file.view.now) a && any_below (makes_address (plain_view l.file.view.now) a) l.i

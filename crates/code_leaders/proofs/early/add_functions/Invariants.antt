@@ -8,4 +8,4 @@ use Rattle.code_leaders.proofs.early.add_functions.Given as goal
 
 abbrev pub invariant-loop-k : goal.invariant-loop-k
 invariant-loop-k l =
-    (a : ℕ) → has l.leaders.items a ≡ has l.initial.leaders.items a || is_code_word (plain_view l.view) a && any_below (is_function_at (plain_view l.view) a) l.k
+    (a : ℕ) → has l.leaders.items a ≡ has l.initial.leaders.items a || is_code_word (plain_view l.file.view.now) a && any_below (is_function_at (plain_view l.file.view.now) a) l.k

@@ -6,6 +6,6 @@ use Rattle.code_leaders.proofs.early.early_leaders.Goals as goal
 
 pub returns-clause-exact : goal.returns-clause-exact
 returns-clause-exact c a =
-    let v = plain_view c.args.view.now in
+    let v = plain_view c.args.file.now.view.now in
     let none : has c.new-leaders.result.items a ≡ false = rw (c.new-leaders.ensures.items) refl in
     c.arrange.ensures.same a ∙ are_early v a _ _ _ none (c.in_ok-add_named.ensures a) (c.in_ok-add_flow.ensures a)

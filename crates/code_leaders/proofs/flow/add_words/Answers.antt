@@ -11,11 +11,11 @@ use Rattle.code_leaders.proofs.flow.add_words.Goals as goal
 
 pub loop-i-preserved : goal.loop-i-preserved
 loop-i-preserved c a =
-    let v = plain_view c.args.view.now in
+    let v = plain_view c.args.file.now.view.now in
     place_more _ _ _ _ (passes_at v (leads_by c.args.rule v a) c.args.k) c.loop-i.i (c.loop-i.invariant a) (c.in_ok-add_word.ensures a)
 
 pub returns : goal.returns
 returns c a =
-    let v = plain_view c.args.view.now in
+    let v = plain_view c.args.file.now.view.now in
     let all : c.loop-i.i ≡ (section_at v c.args.k).size / 4 + 1 = omega arith in
     subst (λ (n : ℕ). has c.loop-i.leaders.items a ≡ has c.args.leaders.now.items a || is_code_word v a && any_below (passes_at v (leads_by c.args.rule v a) c.args.k) n) all (c.loop-i.invariant a)

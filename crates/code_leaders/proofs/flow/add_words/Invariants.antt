@@ -9,4 +9,4 @@ use Rattle.code_leaders.proofs.flow.add_words.Given as goal
 
 abbrev pub invariant-loop-i : goal.invariant-loop-i
 invariant-loop-i l =
-    (a : ℕ) → has l.leaders.items a ≡ has l.initial.leaders.items a || is_code_word (plain_view l.view) a && any_below (passes_at (plain_view l.view) (leads_by l.rule (plain_view l.view) a) l.k) l.i
+    (a : ℕ) → has l.leaders.items a ≡ has l.initial.leaders.items a || is_code_word (plain_view l.file.view.now) a && any_below (passes_at (plain_view l.file.view.now) (leads_by l.rule (plain_view l.file.view.now) a) l.k) l.i

@@ -7,4 +7,4 @@ use Rattle.code_leaders.proofs.pairs.add_call_targets.Given as goal
 
 abbrev pub invariant-loop-i : goal.invariant-loop-i
 invariant-loop-i l =
-    (a : ℕ) → has l.addresses.items a ≡ has l.initial.addresses.items a || any_below (calls (plain_view l.view) a) l.i
+    (a : ℕ) → has l.addresses.items a ≡ has l.initial.addresses.items a || any_below (calls (plain_view l.file.view.now) a) l.i

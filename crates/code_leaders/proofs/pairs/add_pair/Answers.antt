@@ -8,8 +8,8 @@ use Rattle.code_leaders.proofs.pairs.add_pair.Goals as goal
 
 pub returns-then-not-makes_pair : goal.returns-then-not-makes_pair
 returns-then-not-makes_pair c p =
-    let v = plain_view c.args.view.now in
-    let relocs = c.args.view.now.relocs.items in
+    let v = plain_view c.args.file.now.view.now in
+    let relocs = c.args.file.now.view.now.relocs.items in
     let r = c.index-reloc.result.now in
     let is : reloc_at v c.args.i ≡ r = get_or_default relocs c.args.i no_reloc r c.requires.below ∙ sym c.index-reloc.ensures in
     let fails = sym c.makes_pair.ensures ∙ c.if-not-makes_pair.true in
@@ -17,8 +17,8 @@ returns-then-not-makes_pair c p =
 
 pub returns : goal.returns
 returns c p =
-    let v = plain_view c.args.view.now in
-    let relocs = c.args.view.now.relocs.items in
+    let v = plain_view c.args.file.now.view.now in
+    let relocs = c.args.file.now.view.now.relocs.items in
     let r = c.index-reloc.result.now in
     let is : reloc_at v c.args.i ≡ r = get_or_default relocs c.args.i no_reloc r c.requires.below ∙ sym c.index-reloc.ensures in
     let passes = sym c.makes_pair.ensures ∙ c.if-not-makes_pair.false in

@@ -8,15 +8,15 @@ use Rattle.code_leaders.proofs.EarlyLemmas.{none_more, place_more}
 use Rattle.code_leaders.proofs.pairs.add_pairs.Goals as goal
 
 pub loop-i-init : goal.loop-i-init
-loop-i-init c p = none_more (has c.args.pairs.now.items p) (may_be_pair (plain_view c.args.view.now) p)
+loop-i-init c p = none_more (has c.args.pairs.now.items p) (may_be_pair (plain_view c.args.file.now.view.now) p)
 
 pub loop-i-preserved : goal.loop-i-preserved
 loop-i-preserved c p =
-    let v = plain_view c.args.view.now in
+    let v = plain_view c.args.file.now.view.now in
     place_more _ _ _ (may_be_pair v p) (is_call_by v p) c.loop-i.i (c.loop-i.invariant p) (c.in_ok-add_pair.ensures p)
 
 pub returns : goal.returns
 returns c p =
-    let v = plain_view c.args.view.now in
+    let v = plain_view c.args.file.now.view.now in
     let all : c.loop-i.i ≡ length v.relocs = omega arith in
     subst (λ (n : ℕ). has c.loop-i.pairs.items p ≡ has c.args.pairs.now.items p || may_be_pair v p && any_below (is_call_by v p) n) all (c.loop-i.invariant p)

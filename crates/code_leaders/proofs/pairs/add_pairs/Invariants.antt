@@ -8,4 +8,4 @@ use Rattle.code_leaders.proofs.pairs.add_pairs.Given as goal
 
 abbrev pub invariant-loop-i : goal.invariant-loop-i
 invariant-loop-i l =
-    (p : ℕ) → has l.pairs.items p ≡ has l.initial.pairs.items p || may_be_pair (plain_view l.view) p && any_below (is_call_by (plain_view l.view) p) l.i
+    (p : ℕ) → has l.pairs.items p ≡ has l.initial.pairs.items p || may_be_pair (plain_view l.file.view.now) p && any_below (is_call_by (plain_view l.file.view.now) p) l.i

@@ -9,7 +9,7 @@ use Rattle.code_leaders.proofs.pairs.call_pairs.Goals as goal
 
 pub returns : goal.returns
 returns c =
-    let v = plain_view c.args.view.now in
+    let v = plain_view c.args.file.now.view.now in
     record {
       ascending = c.arrange.ensures.ascending;
       exact =

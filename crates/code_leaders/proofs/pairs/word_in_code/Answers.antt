@@ -7,10 +7,10 @@ use Rattle.code_leaders.proofs.pairs.word_in_code.Goals as goal
 
 pub returns-then-holds_code : goal.returns-then-holds_code
 returns-then-holds_code c =
-    let view = c.args.view.now in
+    let view = c.args.file.now.view.now in
     let holds = sym c.holds_code.ensures ∙ c.if-holds_code.true in
     (found_in (holds_code (plain_view view) c.args.address) plain_section view.sections.items c.loop-k.k (omega arith) holds, c.word_in.ensures, word_fits view c.loop-k.k c.args.address c.requires.read holds)
 
 pub loop-k-preserved : goal.loop-k-preserved
 loop-k-preserved c =
-    none_after (holds_code (plain_view c.args.view.now) c.args.address) c.loop-k.k c.loop-k.invariant (sym c.holds_code.ensures ∙ c.if-holds_code.false)
+    none_after (holds_code (plain_view c.args.file.now.view.now) c.args.address) c.loop-k.k c.loop-k.invariant (sym c.holds_code.ensures ∙ c.if-holds_code.false)

@@ -5,4 +5,4 @@ use Rattle.loaded_file.specs.Code.{holds_code}
 use Rattle.code_leaders.proofs.pairs.word_in_code.Given as goal
 
 abbrev pub invariant-loop-k : goal.invariant-loop-k
-invariant-loop-k l = any_below (holds_code (plain_view l.view) l.address) l.k ≡ false
+invariant-loop-k l = any_below (holds_code (plain_view l.file.view.now) l.address) l.k ≡ false

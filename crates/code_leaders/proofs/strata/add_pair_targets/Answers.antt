@@ -7,5 +7,5 @@ use Rattle.code_leaders.proofs.strata.add_pair_targets.Goals as goal
 
 pub loop-pair-preserved : goal.loop-pair-preserved
 loop-pair-preserved c a =
-    let v = plain_view c.args.view.now in
+    let v = plain_view c.args.file.now.view.now in
     listed_more _ _ _ (is_code_word v a) (leads_to v a) c.args.pairs.now c.loop-pair.pair-index (omega arith) (c.loop-pair.invariant a) (c.in_ok-add_pair_target.ensures a)

@@ -8,4 +8,4 @@ use Rattle.code_leaders.proofs.strata.add_pair_targets.Given as goal
 
 abbrev pub invariant-loop-pair : goal.invariant-loop-pair
 invariant-loop-pair l =
-    (a : ℕ) → has l.leaders.items a ≡ has l.initial.leaders.items a || is_code_word (plain_view l.view) a && list_any (leads_to (plain_view l.view) a) (take l.pair-index l.pairs)
+    (a : ℕ) → has l.leaders.items a ≡ has l.initial.leaders.items a || is_code_word (plain_view l.file.view.now) a && list_any (leads_to (plain_view l.file.view.now) a) (take l.pair-index l.pairs)

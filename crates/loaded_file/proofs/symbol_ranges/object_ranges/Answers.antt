@@ -14,7 +14,7 @@ returns-clause-ascending c =
 
 pub returns-clause-exact : goal.returns-clause-exact
 returns-clause-exact c =
-    let view = plain_view c.args.view.now in
+    let view = plain_view c.args.file.now.view.now in
     let keys = c.arrange_once.new.numbers.items in
     let read = ap (map byte_range_of) c.deref.ensures.value in
     let exact : (home n : ℕ) → list_any (is_key_of home n) keys ≡ is_range view home n =
@@ -23,7 +23,7 @@ returns-clause-exact c =
 
 pub returns-clause-filled : goal.returns-clause-filled
 returns-clause-filled c =
-    let view = plain_view c.args.view.now in
+    let view = plain_view c.args.file.now.view.now in
     let keys = c.arrange_once.new.numbers.items in
     let read = ap (map byte_range_of) c.deref.ensures.value in
     let exact : (home n : ℕ) → list_any (is_key_of home n) keys ≡ is_range view home n =

@@ -8,4 +8,4 @@ use Rattle.loaded_file.proofs.symbol_ranges.range_keys.Given as goal
 
 abbrev pub invariant-loop-k : goal.invariant-loop-k
 invariant-loop-k l =
-    (home n : ℕ) → list_any (is_key_of home n) l.keys.items ≡ any_below (is_symbol_of (plain_view l.view) home n) l.k
+    (home n : ℕ) → list_any (is_key_of home n) l.keys.items ≡ any_below (is_symbol_of (plain_view l.file.view.now) home n) l.k

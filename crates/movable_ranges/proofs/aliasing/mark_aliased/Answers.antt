@@ -6,6 +6,6 @@ use Rattle.movable_ranges.proofs.aliasing.mark_aliased.Goals as goal
 
 pub loop-k-preserved : goal.loop-k-preserved
 loop-k-preserved c = record {
-  adds = pass_more (has_aliased_section (plain_view c.args.view.now)) c.args.ranges.now c.loop-k.k c.aliased_place.result c.args.marks.now c.loop-k.marks c.mark.new.marks c.loop-k.invariant.adds c.aliased_place.ensures.found c.mark.ensures.adds;
+  adds = pass_more (has_aliased_section (plain_view c.args.file.now.view.now)) c.args.ranges.now c.loop-k.k c.aliased_place.result c.args.marks.now c.loop-k.marks c.mark.new.marks c.loop-k.invariant.adds c.aliased_place.ensures.found c.mark.ensures.adds;
   len = c.mark.ensures.len ∙ c.loop-k.invariant.len;
 }

@@ -7,6 +7,6 @@ use Rattle.movable_ranges.proofs.aliasing.mark_aliased.Given as goal
 
 abbrev pub invariant-loop-k : goal.invariant-loop-k
 invariant-loop-k l = record {
-  adds : AddsRule (λ home n. any_below (has_aliased_section (plain_view l.view) home n) l.k) l.ranges l.initial.marks l.marks;
+  adds : AddsRule (λ home n. any_below (has_aliased_section (plain_view l.file.view.now) home n) l.k) l.ranges l.initial.marks l.marks;
   len : length l.marks ≡ length l.initial.marks;
 }

@@ -7,6 +7,6 @@ use Rattle.movable_ranges.proofs.aliasing.mark_hits.Given as goal
 
 abbrev pub invariant-loop-k : goal.invariant-loop-k
 invariant-loop-k l = record {
-  adds : (s : ℕ) → mark_at l.aliased s ≡ (mark_at l.initial.aliased s || any_below (is_hit_in (plain_view l.view) s) l.k);
+  adds : (s : ℕ) → mark_at l.aliased s ≡ (mark_at l.initial.aliased s || any_below (is_hit_in (plain_view l.file.view.now) s) l.k);
   len : length l.aliased ≡ length l.initial.aliased;
 }

@@ -7,4 +7,4 @@ use Rattle.movable_ranges.proofs.cover.bounds.Given as goal
 
 abbrev pub invariant-loop-k : goal.invariant-loop-k
 invariant-loop-k l =
-    (test : ℕ → Bool) → count_by test l.bounds.items ≡ count_below (bounds_by (plain_view l.view) l.bound test) l.k
+    (test : ℕ → Bool) → count_by test l.bounds.items ≡ count_below (bounds_by (plain_view l.file.view.now) l.bound test) l.k

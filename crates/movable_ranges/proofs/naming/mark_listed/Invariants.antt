@@ -7,6 +7,6 @@ use Rattle.movable_ranges.proofs.naming.mark_listed.Given as goal
 
 abbrev pub invariant-loop-k : goal.invariant-loop-k
 invariant-loop-k l = record {
-  adds : AddsRule (λ home n. any_below (has_listed_name (plain_view l.view) l.board home n) l.k) l.ranges l.initial.marks l.marks;
+  adds : AddsRule (λ home n. any_below (has_listed_name (plain_view l.file.view.now) l.board home n) l.k) l.ranges l.initial.marks l.marks;
   len : length l.marks ≡ length l.initial.marks;
 }

@@ -6,6 +6,6 @@ use Rattle.movable_ranges.proofs.sharing.mark_shared.Goals as goal
 
 pub loop-i-preserved : goal.loop-i-preserved
 loop-i-preserved c = record {
-  adds = pass_more (is_shared_from (plain_view c.args.view.now)) c.args.ranges.now c.loop-i.i c.shared_place.result c.args.marks.now c.loop-i.marks c.mark.new.marks c.loop-i.invariant.adds c.shared_place.ensures.found c.mark.ensures.adds;
+  adds = pass_more (is_shared_from (plain_view c.args.file.now.view.now)) c.args.ranges.now c.loop-i.i c.shared_place.result c.args.marks.now c.loop-i.marks c.mark.new.marks c.loop-i.invariant.adds c.shared_place.ensures.found c.mark.ensures.adds;
   len = c.mark.ensures.len ∙ c.loop-i.invariant.len;
 }

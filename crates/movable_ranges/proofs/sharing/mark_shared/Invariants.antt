@@ -7,6 +7,6 @@ use Rattle.movable_ranges.proofs.sharing.mark_shared.Given as goal
 
 abbrev pub invariant-loop-i : goal.invariant-loop-i
 invariant-loop-i l = record {
-  adds : AddsRule (λ home n. any_below (is_shared_from (plain_view l.view) home n) l.i) l.ranges l.initial.marks l.marks;
+  adds : AddsRule (λ home n. any_below (is_shared_from (plain_view l.file.view.now) home n) l.i) l.ranges l.initial.marks l.marks;
   len : length l.marks ≡ length l.initial.marks;
 }

@@ -11,14 +11,14 @@ use Rattle.movable_ranges.proofs.sharing.shared_place.Goals as goal
 
 pub returns-then-is_sharing-clause-found : goal.returns-then-is_sharing-clause-found
 returns-then-is_sharing-clause-found c =
-    let v = plain_view c.args.view.now in
+    let v = plain_view c.args.file.now.view.now in
     let i = c.args.i in
     let ranges = c.args.ranges.now in
-    let here = reloc_is c.args.view.now i c.index.result.now c.requires.below c.index.ensures in
+    let here = reloc_is c.args.file.now.view.now i c.index.result.now c.requires.below c.index.ensures in
     behind_open (counts v (reloc_at v i)) (shares_from v i) c.is_sharing.result (leads_inside v (reloc_at v i)) ranges c.leading_place.result c.is_sharing.ensures c.if-is_sharing.true
     (subst (λ (r : Reloc). Finds (leads_inside v r) ranges c.leading_place.result) (sym here) c.leading_place.ensures.found)
 
 pub returns-else-is_sharing-clause-found : goal.returns-else-is_sharing-clause-found
 returns-else-is_sharing-clause-found c =
-    let v = plain_view c.args.view.now in
+    let v = plain_view c.args.file.now.view.now in
     behind_shut (counts v (reloc_at v c.args.i)) (shares_from v c.args.i) c.is_sharing.result (leads_inside v (reloc_at v c.args.i)) c.args.ranges.now c.is_sharing.ensures c.if-is_sharing.false

@@ -11,7 +11,7 @@ pub returns-clause-exact : goal.returns-clause-exact
 returns-clause-exact c =
     let ranges = c.in_ok-disjoint.disjoint.items in
     let marks = c.in_ok-immovable.immovable.items in
-    ok_then c.unmarked.result _ _ (λ kept made home n. movable_kept (plain_view c.args.view.now) c.args.board.now ranges c.deref.result.now c.deref-2.result.now kept.items marks c.deref-3.result.now home n c.deref.ensures.value c.deref-2.ensures.value c.deref-3.ensures.value made c.in_ok-disjoint.ensures.exact c.in_ok-immovable.ensures) c.unmarked.ensures
+    ok_then c.unmarked.result _ _ (λ kept made home n. movable_kept (plain_view c.args.file.now.view.now) c.args.board.now ranges c.deref.result.now c.deref-2.result.now kept.items marks c.deref-3.result.now home n c.deref.ensures.value c.deref-2.ensures.value c.deref-3.ensures.value made c.in_ok-disjoint.ensures.exact c.in_ok-immovable.ensures) c.unmarked.ensures
 
 pub returns-clause-filled : goal.returns-clause-filled
 returns-clause-filled c =

@@ -5,4 +5,4 @@ use Rattle.movable_ranges.proofs.words.pair_addresses.Goals as goal
 
 pub loop-i-preserved : goal.loop-i-preserved
 loop-i-preserved c test =
-    any_more (is_high_by (plain_view c.args.view.now) test) c.loop-i.i _ _ (c.loop-i.invariant test) (c.in_ok-push_pair.ensures test)
+    any_more (is_high_by (plain_view c.args.file.now.view.now) test) c.loop-i.i _ _ (c.loop-i.invariant test) (c.in_ok-push_pair.ensures test)

@@ -7,4 +7,4 @@ use Rattle.movable_ranges.proofs.words.pair_addresses.Given as goal
 
 abbrev pub invariant-loop-i : goal.invariant-loop-i
 invariant-loop-i l =
-    (test : ℕ → Bool) → list_any test l.pairs.items ≡ any_below (is_high_by (plain_view l.view) test) l.i
+    (test : ℕ → Bool) → list_any test l.pairs.items ≡ any_below (is_high_by (plain_view l.file.view.now) test) l.i

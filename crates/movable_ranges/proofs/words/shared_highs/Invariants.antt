@@ -7,4 +7,4 @@ use Rattle.movable_ranges.proofs.words.shared_highs.Given as goal
 
 abbrev pub invariant-loop-j : goal.invariant-loop-j
 invariant-loop-j l =
-    (test : ℕ → Bool) → list_any test l.highs.items ≡ any_below (is_shared_low (plain_view l.view) test) l.j
+    (test : ℕ → Bool) → list_any test l.highs.items ≡ any_below (is_shared_low (plain_view l.file.view.now) test) l.j

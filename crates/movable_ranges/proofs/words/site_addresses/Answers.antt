@@ -5,4 +5,4 @@ use Rattle.movable_ranges.proofs.words.site_addresses.Goals as goal
 
 pub loop-j-preserved : goal.loop-j-preserved
 loop-j-preserved c test =
-    count_more (gives_by (plain_view c.args.view.now) test) c.loop-j.j _ _ (c.loop-j.invariant test) (c.in_ok-push_site.ensures test)
+    count_more (gives_by (plain_view c.args.file.now.view.now) test) c.loop-j.j _ _ (c.loop-j.invariant test) (c.in_ok-push_site.ensures test)

@@ -7,4 +7,4 @@ use Rattle.movable_ranges.proofs.words.site_addresses.Given as goal
 
 abbrev pub invariant-loop-j : goal.invariant-loop-j
 invariant-loop-j l =
-    (test : ℕ → Bool) → count_by test l.sites.items ≡ count_below (gives_by (plain_view l.view) test) l.j
+    (test : ℕ → Bool) → count_by test l.sites.items ≡ count_below (gives_by (plain_view l.file.view.now) test) l.j

@@ -5,7 +5,7 @@ use Rattle.object_graph.proofs.building.gather.Goals as goal
 
 pub returns : goal.returns
 returns c =
-    let v = plain_view c.args.view.now in
+    let v = plain_view c.args.file.now.view.now in
     let ranges = c.args.ranges.now in
     let objects = c.in_ok-objects.objects.items in
     let same = c.in_ok-objects.ensures.ranges in
@@ -18,10 +18,10 @@ returns c =
     }
 
 pub objects-requires-clause-movable : goal.objects-requires-clause-movable
-objects-requires-clause-movable c = on_some_board (plain_view c.args.view.now) c.args.board.now c.args.ranges.now c.requires.movable
+objects-requires-clause-movable c = on_some_board (plain_view c.args.file.now.view.now) c.args.board.now c.args.ranges.now c.requires.movable
 
 pub sites-requires-clause-movable : goal.sites-requires-clause-movable
-sites-requires-clause-movable c = on_some_board (plain_view c.args.view.now) c.args.board.now c.args.ranges.now c.requires.movable
+sites-requires-clause-movable c = on_some_board (plain_view c.args.file.now.view.now) c.args.board.now c.args.ranges.now c.requires.movable
 
 pub data_words-requires-clause-movable : goal.data_words-requires-clause-movable
-data_words-requires-clause-movable c = on_some_board (plain_view c.args.view.now) c.args.board.now c.args.ranges.now c.requires.movable
+data_words-requires-clause-movable c = on_some_board (plain_view c.args.file.now.view.now) c.args.board.now c.args.ranges.now c.requires.movable

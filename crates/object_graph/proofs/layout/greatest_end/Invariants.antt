@@ -5,6 +5,6 @@ use Rattle.object_graph.proofs.layout.greatest_end.Given as goal
 
 abbrev pub invariant-loop-k : goal.invariant-loop-k
 invariant-loop-k l = record {
-  value : l.greatest ≡ greatest_below (plain_view l.view) l.board l.k;
+  value : l.greatest ≡ greatest_below (plain_view l.file.view.now) l.board l.k;
   least : l.board.patch.base ≤ l.greatest;
 }

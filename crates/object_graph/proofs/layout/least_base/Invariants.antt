@@ -5,6 +5,6 @@ use Rattle.object_graph.proofs.layout.least_base.Given as goal
 
 abbrev pub invariant-loop-k : goal.invariant-loop-k
 invariant-loop-k l = record {
-  value : l.least ≡ least_below (plain_view l.view) l.board l.k;
+  value : l.least ≡ least_below (plain_view l.file.view.now) l.board l.k;
   most : l.least ≤ l.board.patch.base;
 }

@@ -8,7 +8,7 @@ use Rattle.object_graph.proofs.leads.lead_of.Goals as goal
 
 pub returns-then-offset-ranges : goal.returns-then-offset-ranges
 returns-then-offset-ranges c =
-    let view = c.args.view.now in
+    let view = c.args.file.now.view.now in
     let v = plain_view view in
     let place = c.in-Some.place in
     let within = c.in-Some.ensures.0 in
@@ -18,7 +18,7 @@ returns-then-offset-ranges c =
 
 pub returns : goal.returns
 returns c =
-    let view = c.args.view.now in
+    let view = c.args.file.now.view.now in
     let v = plain_view view in
     let place = c.in-Some.place in
     let within = c.in-Some.ensures.0 in

@@ -7,5 +7,5 @@ use Rattle.object_graph.proofs.objects.first_symbols.Given as goal
 abbrev pub invariant-loop-i : goal.invariant-loop-i
 invariant-loop-i l = record {
   long : length l.names.items ≡ length l.ranges;
-  first : (k : ℕ) → k < length l.ranges → slice_index_or l.names.items k None ≡ first_symbol (plain_view l.view) (byte_range_at l.ranges k).home (byte_range_at l.ranges k).size l.i;
+  first : (k : ℕ) → k < length l.ranges → slice_index_or l.names.items k None ≡ first_symbol (plain_view l.file.view.now) (byte_range_at l.ranges k).home (byte_range_at l.ranges k).size l.i;
 }

@@ -5,7 +5,7 @@ use Rattle.object_graph.proofs.objects.objects.Goals as goal
 
 pub loop-k-preserved : goal.loop-k-preserved
 loop-k-preserved c =
-    let v = plain_view c.args.view.now in
+    let v = plain_view c.args.file.now.view.now in
     let grown = c.in_ok-push.ensures.items in
     let held = c.loop-k.invariant in
     record {

@@ -8,5 +8,5 @@ use Rattle.object_graph.proofs.objects.objects.Given as goal
 abbrev pub invariant-loop-k : goal.invariant-loop-k
 invariant-loop-k l = record {
   ranges : map range_of l.objects.items ≡ take l.k l.ranges;
-  named : All (IsNamed (plain_view l.view)) l.objects.items;
+  named : All (IsNamed (plain_view l.file.view.now)) l.objects.items;
 }

@@ -11,8 +11,8 @@ use Rattle.object_graph.proofs.sites.low_site.Goals as goal
 
 pub returns-in-Some-find_site : goal.returns-in-Some-find_site
 returns-in-Some-find_site c =
-    let v = plain_view c.args.view.now in
-    let here = reloc_is c.args.view.now c.args.i c.index-reloc.result.now c.requires.below c.index-reloc.ensures in
+    let v = plain_view c.args.file.now.view.now in
+    let here = reloc_is c.args.file.now.view.now c.args.i c.index-reloc.result.now c.requires.below c.index-reloc.ensures in
     let makes : (p : SiteKind) → same_part p c.in-Some.kind ≡ makes_part p (reloc_at v c.args.i).kind = λ p. c.in-Some.ensures p ∙ ap (λ (r : Reloc). makes_part p r.kind) (sym here) in
     let value = ap (λ (r : Reloc). (symbol_at v r.symbol).value) here ∙ sym c.symbol_value.ensures in
     let counted : counts v (reloc_at v c.args.i) ≡ true = ap (counts v) here ∙ sym c.counts.ensures ∙ c.if-not-counts.false in
@@ -20,7 +20,7 @@ returns-in-Some-find_site c =
 
 pub returns-in-None : goal.returns-in-None
 returns-in-None c =
-    let v = plain_view c.args.view.now in
-    let here = reloc_is c.args.view.now c.args.i c.index-reloc.result.now c.requires.below c.index-reloc.ensures in
+    let v = plain_view c.args.file.now.view.now in
+    let here = reloc_is c.args.file.now.view.now c.args.i c.index-reloc.result.now c.requires.below c.index-reloc.ensures in
     let value = ap (λ (r : Reloc). (symbol_at v r.symbol).value) here ∙ sym c.symbol_value.ensures in
     low_nowhere v c.args.ranges.now c.args.highs.now c.requires.highs c.symbol_value.result c.args.i c.requires.low value c.in-None.ensures

@@ -9,6 +9,6 @@ use Rattle.object_graph.proofs.sites.sites.Goals as goal
 
 pub loop-i-preserved : goal.loop-i-preserved
 loop-i-preserved c =
-    let v = plain_view c.args.view.now in
+    let v = plain_view c.args.file.now.view.now in
     let disjoint = sites_separate v c.args.ranges.now c.requires.movable c.loop-i.i (omega arith) in
     gather_more site_place same_site (is_site_in v c.args.ranges.now) site_itself _ _ c.site_of-site.result c.loop-i.i c.in_ok-push_some.ensures c.loop-i.invariant c.site_of-site.ensures disjoint

@@ -5,4 +5,4 @@ use Rattle.object_graph.proofs.GatherLemmas.{HasGathered}
 use Rattle.object_graph.proofs.sites.sites.Given as goal
 
 abbrev pub invariant-loop-i : goal.invariant-loop-i
-invariant-loop-i l = HasGathered site_place same_site (is_site_in (plain_view l.view) l.ranges) l.sites.items l.i
+invariant-loop-i l = HasGathered site_place same_site (is_site_in (plain_view l.file.view.now) l.ranges) l.sites.items l.i

@@ -9,6 +9,6 @@ use Rattle.object_graph.proofs.words.data_words.Goals as goal
 
 pub loop-i-preserved : goal.loop-i-preserved
 loop-i-preserved c =
-    let v = plain_view c.args.view.now in
+    let v = plain_view c.args.file.now.view.now in
     let disjoint = words_separate v c.args.ranges.now c.loop-i.i (omega arith) in
     gather_more word_place same_word (is_word_in v c.args.ranges.now) word_itself _ _ c.word_of-word.result c.loop-i.i c.in_ok-push_some.ensures c.loop-i.invariant c.word_of-word.ensures disjoint

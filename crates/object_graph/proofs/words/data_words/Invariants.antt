@@ -5,4 +5,4 @@ use Rattle.object_graph.proofs.GatherLemmas.{HasGathered}
 use Rattle.object_graph.proofs.words.data_words.Given as goal
 
 abbrev pub invariant-loop-i : goal.invariant-loop-i
-invariant-loop-i l = HasGathered word_place same_word (is_word_in (plain_view l.view) l.ranges) l.words.items l.i
+invariant-loop-i l = HasGathered word_place same_word (is_word_in (plain_view l.file.view.now) l.ranges) l.words.items l.i

@@ -6,4 +6,4 @@ use Rattle.object_machine.proofs.preparing.code_word.Goals as goal
 
 pub loop-k-preserved : goal.loop-k-preserved
 loop-k-preserved c =
-    none_after (holds_code (plain_view c.args.view.now) c.args.address) c.loop-k.k c.loop-k.invariant (sym c.holds_code.ensures ∙ c.if-holds_code.false)
+    none_after (holds_code (plain_view c.args.file.now.view.now) c.args.address) c.loop-k.k c.loop-k.invariant (sym c.holds_code.ensures ∙ c.if-holds_code.false)

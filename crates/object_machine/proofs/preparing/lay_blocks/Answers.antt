@@ -12,7 +12,7 @@ use Rattle.object_machine.proofs.preparing.lay_blocks.Goals as goal
 
 pub loop-i-preserved : goal.loop-i-preserved
 loop-i-preserved c board =
-    let view = c.args.view.now in
+    let view = c.args.file.now.view.now in
     let v = plain_view view in
     let g = c.args.graph.now in
     let code = c.args.code.now in
@@ -34,4 +34,4 @@ pub returns : goal.returns
 returns c board =
     let blocks = c.args.code.now.blocks.items in
     let all : c.loop-i.i ≡ length blocks = omega arith in
-    subst (λ (n : ℕ). IsBlockUnits (plain_view c.args.view.now) board c.args.graph.now blocks n c.loop-i.block_units) all (c.loop-i.invariant board)
+    subst (λ (n : ℕ). IsBlockUnits (plain_view c.args.file.now.view.now) board c.args.graph.now blocks n c.loop-i.block_units) all (c.loop-i.invariant board)

@@ -5,4 +5,4 @@ use Rattle.object_machine.proofs.preparing.lay_blocks.Given as goal
 
 -- the first blocks are laid
 abbrev pub invariant-loop-i : goal.invariant-loop-i
-invariant-loop-i l = (board : Board) → IsBlockUnits (plain_view l.view) board l.graph l.code.blocks.items l.i l.block_units
+invariant-loop-i l = (board : Board) → IsBlockUnits (plain_view l.file.view.now) board l.graph l.code.blocks.items l.i l.block_units

@@ -7,22 +7,22 @@ use Rattle.object_machine.proofs.BlockLemmas.{pair_room, is_pair_unit, no_pair_o
 use Rattle.object_machine.proofs.preparing.pair_of.Goals as goal
 
 pub returns-then-unit-eq1 : goal.returns-then-unit-eq1
-returns-then-unit-eq1 c = no_pair_of (plain_view c.args.view.now) c.args.unit.now c.requires.unit c.if-unit-eq1.true
+returns-then-unit-eq1 c = no_pair_of (plain_view c.args.file.now.view.now) c.args.unit.now c.requires.unit c.if-unit-eq1.true
 
 pub overflow_add-unit : goal.overflow_add-unit
 overflow_add-unit c =
-    let view = c.args.view.now in
+    let view = c.args.file.now.view.now in
     let below = pair_room view c.args.unit.now.at c.requires.read (is_pair_unit (plain_view view) c.args.unit.now c.requires.unit c.if-unit-eq1.false) in
     omega (arith, below)
 
 pub code_word-second-requires-clause-code : goal.code_word-second-requires-clause-code
 code_word-second-requires-clause-code c =
-    let v = plain_view c.args.view.now in
+    let v = plain_view c.args.file.now.view.now in
     (pair_is_code v c.args.unit.now.at (is_pair_unit v c.args.unit.now c.requires.unit c.if-unit-eq1.false)).1
 
 pub returns : goal.returns
 returns c =
-    let v = plain_view c.args.view.now in
+    let v = plain_view c.args.file.now.view.now in
     let a = c.args.unit.now.at in
     let raw = c.requires.unit.raw in
     let second = c.code_word-second.ensures in

@@ -4,4 +4,4 @@ use Rattle.object_machine.proofs.preparing.prepared_units.Given as goal
 
 -- the first units are prepared
 abbrev pub invariant-loop-k : goal.invariant-loop-k
-invariant-loop-k l = ArePrepared (plain_view l.view) l.graph l.units l.k l.out.items
+invariant-loop-k l = ArePrepared (plain_view l.file.view.now) l.graph l.units l.k l.out.items

@@ -6,4 +6,4 @@ use Rattle.relocator.proofs.words.word_at.Given as goal
 
 -- no section so far holds the word
 abbrev pub invariant-loop-k : goal.invariant-loop-k
-invariant-loop-k l = any_below (holds_code (plain_view l.view) l.address) l.k ≡ false
+invariant-loop-k l = any_below (holds_code (plain_view l.file.view.now) l.address) l.k ≡ false

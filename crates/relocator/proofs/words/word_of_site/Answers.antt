@@ -6,14 +6,14 @@ use Rattle.relocator.proofs.words.word_of_site.Goals as goal
 
 pub word_at-word-requires-clause-code : goal.word_at-word-requires-clause-code
 word_at-word-requires-clause-code c =
-    let v = plain_view c.args.view.now in
+    let v = plain_view c.args.file.now.view.now in
     let g = c.args.graph.now in
     let s = c.index-site.result.now in
     code_of v (length g.objects.items) s (listed_here v g.objects.items g.sites.items c.args.k s c.requires.graph.1.sites c.requires.below c.index-site.ensures)
 
 pub place_at-place-requires-clause-object : goal.place_at-place-requires-clause-object
 place_at-place-requires-clause-object c =
-    let v = plain_view c.args.view.now in
+    let v = plain_view c.args.file.now.view.now in
     let g = c.args.graph.now in
     let s = c.index-site.result.now in
     let object = (listed_here v g.objects.items g.sites.items c.args.k s c.requires.graph.1.sites c.requires.below c.index-site.ensures).object in
@@ -22,7 +22,7 @@ place_at-place-requires-clause-object c =
 
 pub place_at-place-requires-clause-region : goal.place_at-place-requires-clause-region
 place_at-place-requires-clause-region c =
-    let v = plain_view c.args.view.now in
+    let v = plain_view c.args.file.now.view.now in
     let g = c.args.graph.now in
     let s = c.index-site.result.now in
     let object = (listed_here v g.objects.items g.sites.items c.args.k s c.requires.graph.1.sites c.requires.below c.index-site.ensures).object in
@@ -32,7 +32,7 @@ place_at-place-requires-clause-region c =
 
 pub new_word-requires : goal.new_word-requires
 new_word-requires c =
-    let v = plain_view c.args.view.now in
+    let v = plain_view c.args.file.now.view.now in
     let g = c.args.graph.now in
     let s = c.index-site.result.now in
     let can = can_of v (length g.objects.items) s (listed_here v g.objects.items g.sites.items c.args.k s c.requires.graph.1.sites c.requires.below c.index-site.ensures) in

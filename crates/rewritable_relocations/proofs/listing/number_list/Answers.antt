@@ -7,13 +7,13 @@ use Rattle.rewritable_relocations.proofs.listing.number_list.Goals as goal
 
 pub loop-k-preserved : goal.loop-k-preserved
 loop-k-preserved c =
-    let test = is_listed c.args.listed (plain_view c.args.view.now) in
-    let value = number_of c.args.listed (plain_view c.args.view.now) in
+    let test = is_listed c.args.listed (plain_view c.args.file.now.view.now) in
+    let value = number_of c.args.listed (plain_view c.args.file.now.view.now) in
     one_more test value c.loop-k.k _ _ (test c.loop-k.k) (value c.loop-k.k) c.loop-k.invariant c.in_ok-push_number.ensures refl refl
 
 pub returns : goal.returns
 returns c =
-    let v = plain_view c.args.view.now in
+    let v = plain_view c.args.file.now.view.now in
     let test = is_listed c.args.listed v in
     let value = number_of c.args.listed v in
     let all : c.loop-k.k ≡ count_of c.args.listed v = omega arith in

@@ -6,4 +6,4 @@ use Rattle.rewritable_relocations.proofs.listing.number_list.Given as goal
 
 abbrev pub invariant-loop-k : goal.invariant-loop-k
 invariant-loop-k l =
-    l.list.items ≡ collected (is_listed l.listed (plain_view l.view)) (number_of l.listed (plain_view l.view)) l.k
+    l.list.items ≡ collected (is_listed l.listed (plain_view l.file.view.now)) (number_of l.listed (plain_view l.file.view.now)) l.k

@@ -4,4 +4,4 @@ use Rattle.rewritable_relocations.specs.Marks.{rewritable_below}
 use Rattle.rewritable_relocations.proofs.marks.rewritable_kinds.Given as goal
 
 abbrev pub invariant-loop-i : goal.invariant-loop-i
-invariant-loop-i l = l.marks.items ≡ rewritable_below (plain_view l.view) l.i
+invariant-loop-i l = l.marks.items ≡ rewritable_below (plain_view l.file.view.now) l.i

@@ -5,4 +5,4 @@ use Rattle.loaded_file.specs.Code.{holds_code}
 use Rattle.rewritable_relocations.proofs.standing.code_word.Given as goal
 
 abbrev pub invariant-loop-k : goal.invariant-loop-k
-invariant-loop-k l = any_below (holds_code (plain_view l.view) l.address) l.k ≡ false
+invariant-loop-k l = any_below (holds_code (plain_view l.file.view.now) l.address) l.k ≡ false

@@ -5,4 +5,4 @@ use Rattle.rewritable_relocations.specs.Rewritable.{holds_data}
 use Rattle.rewritable_relocations.proofs.standing.data_word.Given as goal
 
 abbrev pub invariant-loop-k : goal.invariant-loop-k
-invariant-loop-k l = any_below (holds_data (plain_view l.view) l.address) l.k ≡ false
+invariant-loop-k l = any_below (holds_data (plain_view l.file.view.now) l.address) l.k ≡ false
