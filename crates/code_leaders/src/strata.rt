@@ -19,8 +19,8 @@ use crate::targets::pair_target;
 use loaded_file::LoadedFile;
 use std::alloc::{AllocError, Global};
 
-/// Where the blocks of a program's code begin, and which words are calls of two instructions. `loaded` are
-/// the marks of the loaded sections. It fails only where no memory was left.
+/// Where the blocks of a program's code begin, and which words are calls of two instructions.
+/// It fails only where no memory was left.
 ///
 /// The time grows with n log n, where n is the number of words of code, symbols and relocations, times the
 /// number of sections.

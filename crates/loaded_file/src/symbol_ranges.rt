@@ -15,7 +15,7 @@ use std::alloc::{AllocError, Global};
 const ADDRESSES: u64 = 0x1_0000_0000;
 
 /// The ranges of the objects of a program, each once, by home and then by size, ascending.
-/// `loaded` says of each section whether it is loaded. It fails only where no memory was left.
+/// It fails only where no memory was left.
 ///
 /// The time grows with n log n, where n is the number of symbols.
 pub fn object_ranges(alloc: Global, file: &LoadedFile) -> Result<Vec<ByteRange>, AllocError>
@@ -78,7 +78,7 @@ fn byte_range_of(key: u64) -> ByteRange
 }
 
 /// Whether a symbol is that of an object: it has a size and a place, and lies inside a loaded section that
-/// holds no code. `loaded` says of each section whether it is loaded.
+/// holds no code.
 pub fn has_range(file: &LoadedFile, symbol: &Symbol) -> bool
     ensures { result ≡ has_range (plain_view file.now.view.now) (plain_symbol symbol.now) }
 {

@@ -12,8 +12,8 @@ use elf_reader::{Reloc, STT_SECTION, Symbol};
 use loaded_file::{ByteRange, LoadedFile, has_range, target};
 
 /// The range of a list that relocation `i` means, if it means one of them: the range of its symbol, or that
-/// in which its target lies if its symbol is that of a section. `loaded` are the marks of the loaded sections;
-/// the ranges ascend, share no byte, and have bytes.
+/// in which its target lies if its symbol is that of a section. The ranges
+/// ascend, share no byte, and have bytes.
 ///
 /// The time grows with the logarithm of the number of ranges.
 pub fn meant_range(file: &LoadedFile, ranges: &[ByteRange], i: usize) -> Option<usize>

@@ -19,8 +19,8 @@ use board_config::Board;
 use loaded_file::{ByteRange, LoadedFile, object_ranges, overlapped};
 use std::alloc::{AllocError, Global};
 
-/// The ranges of the objects that may move, ascending. `loaded` are the marks of the loaded sections, and
-/// `rewritable` those of the relocations of a rewritable kind. It fails only where no memory was left.
+/// The ranges of the objects that may move, ascending. `rewritable` are the marks
+/// of the relocations of a rewritable kind. It fails only where no memory was left.
 ///
 /// The time grows with n log n, where n is the number of symbols and relocations, and with the number of
 /// symbols times that of names in the board's list.

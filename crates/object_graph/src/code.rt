@@ -10,8 +10,7 @@ use loaded_file::{LoadedFile, is_code_range};
 use std::alloc::{AllocError, Global};
 
 /// The addresses of the code of a program, a range for each executable section with content that is loaded, in
-/// the order of the sections. A section of size 0 gives an empty range. `loaded` tells of each section whether
-/// it is loaded, as `loaded_sections` finds it. It fails only where no memory was left.
+/// the order of the sections. A section of size 0 gives an empty range. It fails only where no memory was left.
 pub fn code_ranges(alloc: Global, file: &LoadedFile) -> Result<Vec<Range>, AllocError>
     ensures { IfOk result (λ ranges. ranges.items ≡ code_ranges_of (plain_view file.now.view.now)) }
 {

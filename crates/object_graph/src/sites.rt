@@ -17,8 +17,7 @@ use loaded_file::{ByteRange, LoadedFile, counts, symbol_value};
 use rewritable_relocations::{is_pair_low, is_rewritable};
 use std::alloc::{AllocError, Global};
 
-/// The sites of the objects of these ranges, by address. `loaded` and `rewritable` are the marks of the loaded
-/// sections and of the relocations of a rewritable kind. It fails only where no memory was left.
+/// The sites of the objects of these ranges, by address. `rewritable` are the marks of the relocations of a rewritable kind. It fails only where no memory was left.
 ///
 /// The time grows with n log n, where n is the number of relocations.
 pub(crate) fn sites(

@@ -13,8 +13,8 @@ use loaded_file::{ByteRange, LoadedFile};
 use rewritable_relocations::is_rewritable;
 use std::alloc::{AllocError, Global};
 
-/// The words of data that lead to the objects of these ranges, by address. `loaded` and `rewritable` are the marks
-/// of the loaded sections and of the relocations of a rewritable kind. It fails only where no memory was left.
+/// The words of data that lead to the objects of these ranges, by address. `rewritable` are the marks
+/// of the relocations of a rewritable kind. It fails only where no memory was left.
 ///
 /// The time grows with n log n, where n is the number of relocations.
 pub(crate) fn data_words(
