@@ -7,7 +7,8 @@ use Rattle.rv_decode.specs.declared.instructions.ImmKind.{ImmKind}
 use Rattle.rv_decode.specs.declared.instructions.ImmKind.TheVariants.{Addi, Slti, Sltiu, Xori, Ori, Andi, Slli, Srli, Srai}
 use Rattle.rv_decode.proofs.Words.{fitting, imm_fits}
 use Rattle.cell_values.specs.Objects.{Objects}
-use Rattle.cell_values.specs.Operations.{operation_of, op_reg}
+use Rattle.rv_decode.specs.Operations.{operation_of}
+use Rattle.cell_values.specs.Operations.{op_reg}
 use Rattle.cell_values.specs.declared.values.Val.{Val}
 use Rattle.cell_values.specs.declared.values.Val.TheVariants.{Int}
 use Rattle.cell_values.specs.Origins.{Origin, ByLui, takes_low}

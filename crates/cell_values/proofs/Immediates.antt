@@ -6,7 +6,7 @@ use Rattle.rv_decode.specs.Acts.{imm_value, reg_value}
 use Rattle.rv_decode.specs.declared.instructions.ImmKind.{ImmKind}
 use Rattle.rv_decode.specs.declared.instructions.ImmKind.TheVariants.{Addi, Slti, Sltiu, Xori, Ori, Andi, Slli, Srli, Srai}
 use Rattle.cell_values.specs.Laws.{ImmediatesAreNumbers}
-use Rattle.cell_values.specs.Operations.{operation_of}
+use Rattle.rv_decode.specs.Operations.{operation_of}
 use Rattle.cell_values.specs.declared.values.Val.TheVariants.{Int}
 
 pub immediate_word : (imm : ℤ) → FitsSigned w32 imm → cast_unsigned w32 imm < 4294967296

@@ -8,12 +8,13 @@ use Rattle.cell_values.specs.Objects.{Objects, IsGrain, low_of}
 use Rattle.cell_values.specs.Operations.{of_lows, by_lows}
 use Rattle.cell_values.specs.declared.values.Val.{Val}
 use Rattle.cell_values.specs.declared.values.Val.TheVariants.{Int, Addr, Hi, Low, Piece, Unknown}
-use Rattle.cell_values.specs.Origins.{Origin, ByLui, ByAuipc, Mixed, is_by_auipc, is_known, takes_lows, takes_low}
+use Rattle.rv_decode.specs.Operations.{takes_low_bits}
+use Rattle.cell_values.specs.Origins.{Origin, ByLui, ByAuipc, Mixed, is_by_auipc, is_known, takes_low}
 use Rattle.cell_values.specs.Stands.{Places, Fit, Uppers, MakesByLui, Is, Stands, address_word}
 use Rattle.cell_values.proofs.Bits.{LowReports, and_low, or_low, xor_low}
 use Rattle.cell_values.proofs.Sums.{sum_low, difference_low, upper_low}
 
-low_value : (kind : RegKind) (g : ℕ) → IsGrain g → takes_lows kind ≡ true → LowReports (reg_value kind) g
+low_value : (kind : RegKind) (g : ℕ) → IsGrain g → takes_low_bits kind ≡ true → LowReports (reg_value kind) g
 low_value Add g grain takes = sum_low g grain
 low_value Sub g grain takes = difference_low g grain
 low_value And g grain takes = and_low g grain
@@ -35,7 +36,7 @@ swapped true true second none = cc
 
 pub takes_swapped : (os : Objects) (kind : RegKind) (m n : Origin) (x y : Val) → takes_low os kind m x n y ≡ false → takes_low os kind n y m x ≡ false
 takes_swapped os kind m n x y disjoint =
-    swapped (takes_lows kind) (is_by_auipc m x && is_known (low_of os y)) (is_by_auipc n y && is_known (low_of os x)) disjoint
+    swapped (takes_low_bits kind) (is_by_auipc m x && is_known (low_of os y)) (is_by_auipc n y && is_known (low_of os x)) disjoint
 
 module _ (os : Objects) (place : Places) (up : Uppers) (fit : Fit os place) (makes : MakesByLui place up) where
   upper_stands : (m : Origin) (o d w : ℕ) → is_by_auipc m (Hi o d) ≡ false → Is (up m o d) w → w % os.grain ≡ 0 % os.grain
@@ -57,11 +58,11 @@ module _ (os : Objects) (place : Places) (up : Uppers) (fit : Fit os place) (mak
   low_stands m (Piece hi o d k) w n low made stands = cc
   low_stands m Unknown w n low made stands = cc
 
-  lows_known : (kind : RegKind) (m n k : Origin) (x y : Val) (w z : ℕ) → takes_lows kind ≡ true → takes_low os kind m x n y ≡ false → Stands os place up m x w → Stands os place up n y z → (a b : Option ℕ) → low_of os x ≡ a → low_of os y ≡ b → Stands os place up k (of_lows kind os.grain a b) (reg_value kind w z)
+  lows_known : (kind : RegKind) (m n k : Origin) (x y : Val) (w z : ℕ) → takes_low_bits kind ≡ true → takes_low os kind m x n y ≡ false → Stands os place up m x w → Stands os place up n y z → (a b : Option ℕ) → low_of os x ≡ a → low_of os y ≡ b → Stands os place up k (of_lows kind os.grain a b) (reg_value kind w z)
   lows_known kind m n k x y w z takes disjoint first second (Some a) (Some b) low_x low_y =
       let known_x : is_known (low_of os x) ≡ true = rw low_x refl in
       let known_y : is_known (low_of os y) ≡ true = rw low_y refl in
-      let made = by_lui (takes_lows kind) (is_by_auipc m x) (is_by_auipc n y) (is_known (low_of os x)) (is_known (low_of os y)) takes known_x known_y disjoint in
+      let made = by_lui (takes_low_bits kind) (is_by_auipc m x) (is_by_auipc n y) (is_known (low_of os x)) (is_known (low_of os y)) takes known_x known_y disjoint in
       let one = low_stands m x w a low_x made.0 first in
       let other = low_stands n y z b low_y made.1 second in
       rw mod-mod (low_value kind os.grain fit.grain takes w z a b one other)
@@ -69,6 +70,6 @@ module _ (os : Objects) (place : Places) (up : Uppers) (fit : Fit os place) (mak
   lows_known kind m n k x y w z takes disjoint first second None b low_x low_y = tt
 
   -- the last row of each table
-  pub lows_stand : (kind : RegKind) (m n k : Origin) (x y : Val) (w z : ℕ) → takes_lows kind ≡ true → takes_low os kind m x n y ≡ false → Stands os place up m x w → Stands os place up n y z → Stands os place up k (by_lows os kind x y) (reg_value kind w z)
+  pub lows_stand : (kind : RegKind) (m n k : Origin) (x y : Val) (w z : ℕ) → takes_low_bits kind ≡ true → takes_low os kind m x n y ≡ false → Stands os place up m x w → Stands os place up n y z → Stands os place up k (by_lows os kind x y) (reg_value kind w z)
   lows_stand kind m n k x y w z takes disjoint first second =
       lows_known kind m n k x y w z takes disjoint first second (low_of os x) (low_of os y) refl refl

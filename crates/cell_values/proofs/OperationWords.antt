@@ -13,7 +13,8 @@ use Rattle.cell_values.specs.Operations.{by_lows, added, subtracted, kept_bits, 
 use Rattle.cell_values.specs.Comparisons.{compare}
 use Rattle.cell_values.specs.declared.values.Val.{Val}
 use Rattle.cell_values.specs.declared.values.Val.TheVariants.{Int, Addr}
-use Rattle.cell_values.specs.Origins.{Origin, is_by_auipc, is_known, takes_lows, takes_low}
+use Rattle.rv_decode.specs.Operations.{takes_low_bits}
+use Rattle.cell_values.specs.Origins.{Origin, is_by_auipc, is_known, takes_low}
 use Rattle.cell_values.specs.Stands.{Places, Fit, Uppers, MakesByLui, Stands, address_word}
 use Rattle.cell_values.specs.WordLaws.{OperationsStand}
 use Rattle.cell_values.proofs.Bits.{and_small, and_high, ChangesSmall, or_small, xor_small}
@@ -24,7 +25,7 @@ use Rattle.cell_values.proofs.Branches.{compare_stands, less_comparable}
 -- OR and XOR: the order of operands does not matter, words give a word, and a number below the grain changes
 -- bits below it alone
 record Changes (kind : RegKind) (g : ℕ) : Type 0 where
-  pub takes : takes_lows kind ≡ true
+  pub takes : takes_low_bits kind ≡ true
   pub either_order : (a b : ℕ) → reg_value kind a b ≡ reg_value kind b a
   pub word : (a b : ℕ) → a < 4294967296 → b < 4294967296 → reg_value kind a b < 4294967296
   pub small : ChangesSmall (reg_value kind) g

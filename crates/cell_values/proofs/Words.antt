@@ -1,5 +1,5 @@
 -- Operations on values that hold words leave such values.
-use Rattle.std.proofs.Common.{ℕ, ◌<◌, Bool, true, false, Option, Some, None, if◌then◌else◌, subst, sym, arith}
+use Rattle.std.proofs.Common.{ℕ, ◌<◌, Bool, true, false, Option, Some, None, subst, sym, arith}
 use Rattle.std.specs.Prelude.{nat_lt, nat_le, ◌==◌, ◌-◌, ◌%◌}
 use Rattle.std.specs.Int.{cast_unsigned, w32}
 use Rattle.rv_decode.specs.declared.instructions.BranchKind.TheVariants.{Bltu}
@@ -13,7 +13,8 @@ use Rattle.rv_decode.specs.declared.instructions.RegKind.{RegKind}
 use Rattle.rv_decode.specs.declared.instructions.RegKind.TheVariants.{Add, Sub, Sltu, Xor, Or, And}
 use Rattle.cell_values.specs.Objects.{Objects, IsGrain, low_of}
 use Rattle.cell_values.specs.Comparisons.{compare}
-use Rattle.cell_values.specs.Operations.{of_lows, by_lows, added, subtracted, kept_bits, masked_low, masked_address, masked, changed_address, changed, flagged, numbered, operation_of}
+use Rattle.rv_decode.specs.Operations.{operation_of}
+use Rattle.cell_values.specs.Operations.{of_lows, by_lows, added, subtracted, kept_bits, masked_low, masked_address, masked, changed_address, changed, flagged, numbered}
 use Rattle.cell_values.specs.Laws.{HoldsWord, RegistersKeepWords, ImmediatesKeepWords, OperationsKeepWords}
 use Rattle.cell_values.specs.declared.values.Val.{Val}
 use Rattle.cell_values.specs.declared.values.Val.TheVariants.{Int, Addr}

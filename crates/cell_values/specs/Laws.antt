@@ -4,7 +4,8 @@ use Rattle.std.specs.Int.{cast_unsigned, w32}
 use Rattle.rv_decode.specs.declared.instructions.ImmKind.{ImmKind}
 use Rattle.rv_decode.specs.declared.instructions.RegKind.{RegKind}
 use Rattle.cell_values.specs.Objects.{Objects, IsGrain}
-use Rattle.cell_values.specs.Operations.{op_imm, op_reg, operation_of}
+use Rattle.rv_decode.specs.Operations.{operation_of}
+use Rattle.cell_values.specs.Operations.{op_imm, op_reg}
 use Rattle.cell_values.specs.Cells.{split, join}
 use Rattle.cell_values.specs.declared.values.Val.{Val}
 use Rattle.cell_values.specs.declared.values.Val.TheVariants.{Int, Addr, Hi, Low, Piece, Unknown}

@@ -1,15 +1,15 @@
 -- What the operations leave of values: for each operation the rows of its table, the first that fits. An
 -- address and a number give an address again where the sum, the difference or the masked bits tell which;
 -- of other values it is known at most what they are modulo the grain.
-use Rattle.std.specs.Prelude.{ℕ, ◌-◌, ◌/◌, ◌%◌, ◌==◌, nat_lt, nat_le, Bool, ◌&&◌, if◌then◌else◌, bit_and, Option, Some, None, ℤ}
+use Rattle.std.specs.Prelude.{ℕ, ◌-◌, ◌/◌, ◌%◌, ◌==◌, nat_lt, nat_le, Bool, ◌&&◌, bit_and, Option, Some, None, ℤ}
 use Rattle.std.specs.Int.{cast_unsigned, w32}
 use Rattle.word_bits.specs.Words.{plus, minus}
+use Rattle.rv_decode.specs.Operations.{operation_of}
 use Rattle.rv_decode.specs.Acts.{flag, imm_value, reg_value}
 use Rattle.rv_decode.specs.declared.instructions.BranchKind.TheVariants.{Bltu}
 use Rattle.rv_decode.specs.declared.instructions.ImmKind.{ImmKind}
-use Rattle.rv_decode.specs.declared.instructions.ImmKind.TheVariants.{Addi, Slti, Sltiu, Xori, Ori, Andi, Slli, Srli, Srai}
 use Rattle.rv_decode.specs.declared.instructions.RegKind.{RegKind}
-use Rattle.rv_decode.specs.declared.instructions.RegKind.TheVariants.{Add, Sub, Sll, Slt, Sltu, Xor, Srl, Sra, Or, And}
+use Rattle.rv_decode.specs.declared.instructions.RegKind.TheVariants.{Add, Sub, Sltu, Xor, Or, And}
 use Rattle.cell_values.specs.Objects.{Objects, home_address, low_of}
 use Rattle.cell_values.specs.Comparisons.{compare}
 use Rattle.cell_values.specs.declared.values.Val.{Val}
@@ -95,18 +95,6 @@ op_reg os Or a b = changed os Or a b
 op_reg os Xor a b = changed os Xor a b
 op_reg os Sltu a b = flagged (compare os Bltu a b)
 op_reg os kind a b = numbered kind a b
-
--- the operation on registers that does what one with an immediate does
-abbrev pub operation_of : ImmKind → RegKind
-operation_of Addi = Add
-operation_of Slti = Slt
-operation_of Sltiu = Sltu
-operation_of Xori = Xor
-operation_of Ori = Or
-operation_of Andi = And
-operation_of Slli = Sll
-operation_of Srli = Srl
-operation_of Srai = Sra
 
 -- an operation with an immediate, which is a number
 abbrev pub op_imm : Objects → ImmKind → Val → ℤ → Val

@@ -1,8 +1,8 @@
 -- Beside each upper part of an address: what made it. It decides nothing of a run; it tells alone which word
 -- the upper part is where an AUIPC keeps its own.
-use Rattle.std.specs.Prelude.{ℕ, ◌==◌, Bool, true, false, not, ◌&&◌, ◌||◌, if◌then◌else◌, Option, Some, None}
+use Rattle.std.specs.Prelude.{ℕ, ◌==◌, Bool, true, false, not, ◌&&◌, ◌||◌, Option, Some, None}
+use Rattle.rv_decode.specs.Operations.{takes_low_bits}
 use Rattle.rv_decode.specs.declared.instructions.RegKind.{RegKind}
-use Rattle.rv_decode.specs.declared.instructions.RegKind.TheVariants.{Add, Sub, Xor, Or, And}
 use Rattle.cell_values.specs.Objects.{Objects, low_of}
 use Rattle.cell_values.specs.declared.values.Val.{Val}
 use Rattle.cell_values.specs.declared.values.Val.TheVariants.{Hi}
@@ -36,17 +36,8 @@ abbrev pub is_known : Option ℕ → Bool
 is_known (Some n) = true
 is_known None = false
 
--- operations that take what is known of both operands modulo the grain
-abbrev pub takes_lows : RegKind → Bool
-takes_lows Add = true
-takes_lows Sub = true
-takes_lows And = true
-takes_lows Or = true
-takes_lows Xor = true
-takes_lows kind = false
-
 -- one takes the low bits of an upper part that no LUI made
 abbrev pub takes_low : Objects → RegKind → Origin → Val → Origin → Val → Bool
 takes_low os kind m x n y =
-    takes_lows kind
+    takes_low_bits kind
     && (is_by_auipc m x && is_known (low_of os y) || is_by_auipc n y && is_known (low_of os x))

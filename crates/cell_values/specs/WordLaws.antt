@@ -7,7 +7,8 @@ use Rattle.rv_decode.specs.declared.instructions.BranchKind.{BranchKind}
 use Rattle.rv_decode.specs.declared.instructions.ImmKind.{ImmKind}
 use Rattle.rv_decode.specs.declared.instructions.RegKind.{RegKind}
 use Rattle.cell_values.specs.Objects.{Objects}
-use Rattle.cell_values.specs.Operations.{operation_of, op_imm, op_reg, low_site}
+use Rattle.rv_decode.specs.Operations.{operation_of}
+use Rattle.cell_values.specs.Operations.{op_imm, op_reg, low_site}
 use Rattle.cell_values.specs.Comparisons.{compare}
 use Rattle.cell_values.specs.Cells.{split, join, byte_value, half_value}
 use Rattle.cell_values.specs.Laws.{HoldsWord}

@@ -16,3 +16,4 @@ pub mod Edges
 pub mod Kept
 pub mod Numbers
 pub mod Steps
+pub mod Leads

@@ -1,11 +1,16 @@
 -- Tests over the places of a table, and over ranges of places or addresses.
 -- A test is a truth value, so that its negation needs no definition of its own.
-use Rattle.std.specs.Prelude.{◌≡◌, ℕ, zero, suc, ◌+◌, ◌<◌, nat_lt, nat_le, Bool, true, false, not, ◌&&◌, ◌||◌}
+use Rattle.std.specs.Prelude.{◌≡◌, ℕ, zero, suc, ◌+◌, ◌<◌, nat_lt, nat_le, Bool, true, false, not, ◌&&◌, ◌||◌, List, [], ◌∷◌, ◌++◌}
 
 -- some place below n passes the test
 abbrev pub any_below : (ℕ → Bool) → ℕ → Bool
 any_below test zero = false
 any_below test (suc n) = any_below test n || test n
+
+-- whether each place below n passes, in order
+abbrev pub marks_below : (ℕ → Bool) → ℕ → List Bool
+marks_below test zero = []
+marks_below test (suc n) = marks_below test n ++ test n ∷ []
 
 -- every place below n does
 abbrev pub all_below : (ℕ → Bool) → ℕ → Bool

@@ -17,7 +17,7 @@ use Rattle.code_blocks.specs.Edges.{successors, is_indirect_end}
 use Rattle.code_blocks.specs.Numbers.{starts_of, start_at, ending_of, end_at, AreNumbersAt}
 use Rattle.code_blocks.specs.declared.parts.Code.{Code}
 use Rattle.reach_graph.specs.Reaching.{HasMark}
-use Rattle.liveness.specs.Live.{IsBlockOf, LeadsOn, units_at}
+use Rattle.code_blocks.specs.Leads.{IsBlockOf, LeadsOn, units_at}
 use Rattle.liveness.specs.Summaries.{PassesOver}
 use Rattle.liveness.specs.Flows.{OneEdge, ListEdges, DirectEdges, HubEdges, MaskEdges, LeadsBack, BlockEdges, ArrivalEdges}
 

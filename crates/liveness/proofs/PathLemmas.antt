@@ -9,7 +9,8 @@ use Rattle.code_blocks.specs.Numbers.{start_at}
 use Rattle.code_blocks.specs.declared.parts.Code.{Code}
 use Rattle.reach_graph.specs.declared.edges.Edge.{Edge}
 use Rattle.reach_graph.specs.Reaching.{HasMark, word_at, edge_in, Reaches, stands, passes}
-use Rattle.liveness.specs.Live.{units_in, units_at, unit_in, Defines, IsBlockOf, IsUnitOf, IsLastOf, LeadsOn, LeadsAnywhere, Next, within, direct, indirect, LiveAt, used_there, used_later}
+use Rattle.code_blocks.specs.Leads.{units_in, units_at, IsBlockOf, LeadsOn, LeadsAnywhere}
+use Rattle.liveness.specs.Live.{unit_in, Defines, IsUnitOf, IsLastOf, Next, within, direct, indirect, LiveAt, used_there, used_later}
 use Rattle.liveness.specs.Summaries.{NoneDefines, UsedFirst, PassesOver}
 use Rattle.liveness.specs.Flows.{Lets, BlockEdges, ArrivalEdges, AreEdges, AreMarks}
 use Rattle.liveness.specs.Tables.{AreLive}

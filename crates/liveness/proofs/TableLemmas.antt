@@ -15,7 +15,8 @@ use Rattle.code_blocks.specs.declared.parts.Code.{Code}
 use Rattle.reach_graph.specs.declared.edges.Edge.{Edge}
 use Rattle.reach_graph.specs.Reaching.{HasMark, word_at, edges_of, row_items, plain_rows, AreInside}
 use Rattle.reach_graph.proofs.MarkLemmas.{none_in_zero}
-use Rattle.liveness.specs.Live.{units_in, units_at, IsBlockOf, LiveAt, Live}
+use Rattle.code_blocks.specs.Leads.{units_in, units_at, IsBlockOf}
+use Rattle.liveness.specs.Live.{LiveAt, Live}
 use Rattle.liveness.specs.Summaries.{UsedFirst}
 use Rattle.liveness.specs.Flows.{Lets, Adds, BlockEdges, ArrivalEdges, AreEdges, AreMarks, HasNone}
 use Rattle.liveness.specs.Marks.{ReportsClear}

@@ -6,7 +6,7 @@ use Rattle.reach_graph.specs.declared.edges.Edge.{Edge}
 use Rattle.code_blocks.specs.Edges.{is_indirect_end}
 use Rattle.code_blocks.specs.Numbers.{start_at, end_at}
 use Rattle.code_blocks.specs.declared.parts.Code.{Code}
-use Rattle.liveness.specs.Live.{IsBlockOf, LeadsOn, units_at}
+use Rattle.code_blocks.specs.Leads.{IsBlockOf, LeadsOn, units_at}
 use Rattle.liveness.specs.Summaries.{UsedFirst, PassesOver}
 
 -- ---- edges

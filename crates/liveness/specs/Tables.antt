@@ -5,7 +5,8 @@ use Rattle.rv_decode.specs.declared.instructions.RegSet.{RegSet}
 use Rattle.reach_graph.specs.Reaching.{HasMark, word_at}
 use Rattle.code_blocks.specs.Numbers.{starts_of}
 use Rattle.code_blocks.specs.declared.parts.Code.{Code}
-use Rattle.liveness.specs.Live.{IsBlockOf, LiveAt, Live}
+use Rattle.code_blocks.specs.Leads.{IsBlockOf}
+use Rattle.liveness.specs.Live.{LiveAt, Live}
 use Rattle.liveness.specs.declared.table.LiveTable.{LiveTable}
 
 -- words that tell which registers are live where each block begins

@@ -3,7 +3,7 @@ ghost use Rattle.std.specs.List.Sorted.{IsStrictlyIncreasing};
 ghost use Rattle.reach_graph.specs.Reaching.{plain_rows};
 ghost use Rattle.code_blocks.specs.Edges.{is_indirect_end};
 ghost use Rattle.code_blocks.specs.Numbers.{starts_of, start_at};
-ghost use Rattle.liveness.specs.Live.{IsBlockOf};
+ghost use Rattle.code_blocks.specs.Leads.{IsBlockOf};
 ghost use Rattle.liveness.specs.Flows.{Adds, OneEdge, ListEdges, DirectEdges, HubEdges, MaskEdges, ArrivalEdges};
 
 use code_blocks::{Code, End};

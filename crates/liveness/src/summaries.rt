@@ -1,6 +1,7 @@
 ghost use Rattle.std.specs.Prelude.{◌≡◌, ◌↔◌, ◌⊎◌, ◌<◌, ℕ, length};
 ghost use Rattle.reach_graph.specs.Reaching.{HasMark};
-ghost use Rattle.liveness.specs.Live.{units_in, Uses, Defines};
+ghost use Rattle.code_blocks.specs.Leads.{units_in};
+ghost use Rattle.liveness.specs.Live.{Uses, Defines};
 ghost use Rattle.liveness.specs.Summaries.{NoneDefines, UsedFirst, PassesOver};
 
 use crate::registers::{among, defs_of, joined, uses_of, without};

@@ -17,7 +17,7 @@ use Rattle.code_blocks.specs.Blocks.{start_of}
 use Rattle.code_blocks.specs.declared.parts.Unit.{Unit}
 use Rattle.code_blocks.specs.declared.parts.Code.{Code}
 use Rattle.code_blocks.proofs.ListLemmas.{has_at}
-use Rattle.points_to.specs.Points.{IsBlockOf, units_in, units_at}
+use Rattle.code_blocks.specs.Leads.{IsBlockOf, units_in, units_at}
 use Rattle.points_to.specs.Flows.{AreRows}
 use Rattle.points_to.specs.Nodes.{Adds, Upto, OneEdge, RegisterEdge, RowEdge, UnitEdges, EntryEdge, StepEdge, NextEdges, LeaveEdges, BlockEdges, ArrivalEdge, WordEdge, AllEdges, entry, end_of, hub, memory}
 use Rattle.points_to.specs.declared.flows.Places.{Places}

@@ -8,7 +8,8 @@ use Rattle.object_graph.specs.declared.parts.Graph.{Graph}
 use Rattle.code_blocks.specs.Numbers.{start_at}
 use Rattle.code_blocks.specs.declared.parts.Unit.{Unit}
 use Rattle.code_blocks.specs.declared.parts.Code.{Code}
-use Rattle.points_to.specs.Points.{IsHolder, IsBlockOf, units_in, units_at, no_unit, unit_of, instr_of, site_of, Fact, Held, Escaped, Derives}
+use Rattle.code_blocks.specs.Leads.{IsBlockOf, units_in, units_at, no_unit}
+use Rattle.points_to.specs.Points.{IsHolder, unit_of, instr_of, site_of, Fact, Held, Escaped, Derives}
 use Rattle.points_to.specs.Flows.{PassesAt, Leads}
 use Rattle.points_to.specs.Nodes.{SourceEdges, UnitEdges, BlockEdges, AllEdges, no_word, entry, end_of, hub, memory, loaded, object_node}
 use Rattle.points_to.proofs.RuleLemmas.{moves_pass, sums_pass, stores_stored, written_defined}

@@ -15,7 +15,8 @@ use Rattle.code_blocks.specs.declared.parts.Code.{Code}
 use Rattle.reach_graph.specs.Reaching.{HasMark, edge_in, AreInside}
 use Rattle.reach_graph.specs.declared.graph_edges.Edge.{Edge}
 use Rattle.reach_graph.proofs.MarkLemmas.{none_in_zero}
-use Rattle.points_to.specs.Points.{IsBlockOf, units_at, Held, Escaped, Derives, Before, MayHold}
+use Rattle.code_blocks.specs.Leads.{IsBlockOf, units_at}
+use Rattle.points_to.specs.Points.{Held, Escaped, Derives, Before, MayHold}
 use Rattle.points_to.specs.Nodes.{SourceEdges, UnitEdges, BlockEdges, AllEdges, AreEdges, entry, memory, loaded, object_node, node_count}
 use Rattle.points_to.specs.Tables.{Kept, kept_word, IsReached, none_kept, AreGroups, group_of, Holds, AreFacts}
 use Rattle.points_to.proofs.BlockLemmas.{same_start, starts_there}

@@ -1,12 +1,13 @@
 -- What units do with addresses, as the register that they write and those of which they make it.
-use Rattle.std.proofs.Common.{◌≡◌, ◌⊎◌, inl, inr, ℕ, ◌<◌, ◌==◌, Bool, true, false, not, if◌then◌else◌, [], ◌∷◌, Option, Some, None, refl, sym, subst, arith}
+use Rattle.std.proofs.Common.{◌≡◌, ◌⊎◌, inl, inr, ℕ, ◌<◌, ◌==◌, Bool, true, false, not, [], ◌∷◌, Option, Some, None, refl, sym, subst, arith}
 use Rattle.std.specs.List.{Contains}
 use Rattle.std.proofs.lemmas.Bool.Decides.{nat_tests}
 use Rattle.rv_decode.specs.Acts.{without_zero}
 use Rattle.rv_decode.specs.declared.instructions.Instr.{Instr}
 use Rattle.rv_decode.specs.declared.instructions.Instr.TheVariants.{Lui, Auipc, Jal, Jalr, Branch, Load, Store, OpImm, OpReg, Fence, FenceI, Ecall, Ebreak}
 use Rattle.object_graph.specs.declared.parts.Site.{Site}
-use Rattle.points_to.specs.Points.{is_move, is_sum, Moves, Sums, Stores, Defines}
+use Rattle.rv_decode.specs.Operations.{takes_low_bits}
+use Rattle.points_to.specs.Points.{is_move, Moves, Sums, Stores, Defines}
 use Rattle.points_to.specs.Flows.{written, first_source, second_source, stored, Passes}
 use Rattle.points_to.proofs.BlockLemmas.{kept, from_kept, in_first, in_cons}
 
@@ -76,12 +77,12 @@ pub first_rule : (s : Option Site) (i : Option Instr) (x : ℕ) → 0 < x → x 
 first_rule None (Some (OpImm kind rd rs1 imm)) x register is =
     let (on, same) = chosen (is_move kind) rs1 x register is in inl (on, same, refl)
 first_rule s (Some (OpReg kind rd rs1 rs2)) x register is =
-    let (on, same) = chosen (is_sum kind) rs1 x register is in inr (on, inl same, refl)
+    let (on, same) = chosen (takes_low_bits kind) rs1 x register is in inr (on, inl same, refl)
 first_rule s i x register is = absurd (omega (arith, register, is))
 
 pub second_rule : (i : Option Instr) (x : ℕ) → 0 < x → x ≡ second_source i → Sums i x (written i)
 second_rule (Some (OpReg kind rd rs1 rs2)) x register is =
-    let (on, same) = chosen (is_sum kind) rs2 x register is in (on, inr same, refl)
+    let (on, same) = chosen (takes_low_bits kind) rs2 x register is in (on, inr same, refl)
 second_rule i x register is = absurd (omega (arith, register, is))
 
 pub moves_pass : (s : Option Site) (i : Option Instr) (x z : ℕ) → Moves s i x z → Passes (written i) (first_source s i) (second_source i) x z
@@ -91,13 +92,13 @@ moves_pass s i x z moves = absurd moves
 pub sums_pass : (s : Option Site) (i : Option Instr) (x z : ℕ) → Sums i x z → Passes (written i) (first_source s i) (second_source i) x z
 sums_pass None (Some (OpReg kind rd rs1 rs2)) x z (on, from, to) =
     elim from [
-      | inl same ↦ inr (to, inl (choose (is_sum kind) rs1 x on same))
-      | inr same ↦ inr (to, inr (choose (is_sum kind) rs2 x on same))
+      | inl same ↦ inr (to, inl (choose (takes_low_bits kind) rs1 x on same))
+      | inr same ↦ inr (to, inr (choose (takes_low_bits kind) rs2 x on same))
     ]
 sums_pass (Some t) (Some (OpReg kind rd rs1 rs2)) x z (on, from, to) =
     elim from [
-      | inl same ↦ inr (to, inl (choose (is_sum kind) rs1 x on same))
-      | inr same ↦ inr (to, inr (choose (is_sum kind) rs2 x on same))
+      | inl same ↦ inr (to, inl (choose (takes_low_bits kind) rs1 x on same))
+      | inr same ↦ inr (to, inr (choose (takes_low_bits kind) rs2 x on same))
     ]
 sums_pass s i x z sums = absurd sums
 

@@ -9,7 +9,8 @@ use Rattle.code_blocks.specs.Edges.{is_indirect_end}
 use Rattle.code_blocks.specs.Numbers.{start_at, end_at}
 use Rattle.code_blocks.specs.declared.parts.Unit.{Unit}
 use Rattle.code_blocks.specs.declared.parts.Code.{Code}
-use Rattle.points_to.specs.Points.{IsHolder, IsBlockOf, LeadsAnywhere, units_at, no_unit, unit_of, instr_of, site_of, Makes, Held, Escaped, Derives}
+use Rattle.code_blocks.specs.Leads.{IsBlockOf, LeadsAnywhere, units_at, no_unit}
+use Rattle.points_to.specs.Points.{IsHolder, unit_of, instr_of, site_of, Makes, Held, Escaped, Derives}
 use Rattle.points_to.specs.Flows.{written, PassesAt, Leads}
 use Rattle.points_to.specs.Flows.{stored as stored_by}
 use Rattle.points_to.specs.Nodes.{SourceEdges, UnitEdges, BlockEdges, AllEdges, no_word, entry, end_of, hub, memory, loaded, object_node}

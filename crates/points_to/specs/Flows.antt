@@ -1,5 +1,5 @@
 -- Where what a register holds may go until a block ends, by the units that are left.
-use Rattle.std.specs.Prelude.{◌≡◌, ◌≢◌, ◌⊎◌, ◌↔◌, ℕ, ◌<◌, Bool, true, false, if◌then◌else◌, List, [], ◌∷◌, length, slice_index_or, Option, Some, None}
+use Rattle.std.specs.Prelude.{◌≡◌, ◌≢◌, ◌⊎◌, ◌↔◌, ℕ, ◌<◌, Bool, true, false, List, [], ◌∷◌, length, slice_index_or, Option, Some, None}
 use Rattle.std.specs.Int.{bit_at}
 use Rattle.rv_decode.specs.declared.instructions.Instr.{Instr}
 use Rattle.rv_decode.specs.declared.instructions.Instr.TheVariants.{Lui, Auipc, Jal, Jalr, Load, Store, OpImm, OpReg, Ecall}
@@ -9,7 +9,8 @@ use Rattle.object_graph.specs.declared.parts.SiteKind.{SiteKind}
 use Rattle.object_graph.specs.declared.parts.SiteKind.TheVariants.{Hi, LowI}
 use Rattle.object_graph.specs.declared.parts.Site.{Site}
 use Rattle.code_blocks.specs.declared.parts.Unit.{Unit}
-use Rattle.points_to.specs.Points.{IsHolder, site_at, is_move, is_sum}
+use Rattle.rv_decode.specs.Operations.{takes_low_bits}
+use Rattle.points_to.specs.Points.{IsHolder, site_at, is_move}
 use Rattle.points_to.specs.declared.flows.Places.{Places}
 
 -- the register that an instruction writes; 0 where it writes none
@@ -27,11 +28,11 @@ written other = 0
 -- the registers of which it makes what it writes, as far as addresses go; 0 for none
 abbrev pub first_source : Option Site → Option Instr → ℕ
 first_source None (Some (OpImm kind rd rs1 imm)) = if is_move kind then rs1 else 0
-first_source site (Some (OpReg kind rd rs1 rs2)) = if is_sum kind then rs1 else 0
+first_source site (Some (OpReg kind rd rs1 rs2)) = if takes_low_bits kind then rs1 else 0
 first_source site other = 0
 
 abbrev pub second_source : Option Instr → ℕ
-second_source (Some (OpReg kind rd rs1 rs2)) = if is_sum kind then rs2 else 0
+second_source (Some (OpReg kind rd rs1 rs2)) = if takes_low_bits kind then rs2 else 0
 second_source other = 0
 
 -- the register that it stores; 0 for none

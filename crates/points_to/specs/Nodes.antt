@@ -8,7 +8,8 @@ use Rattle.code_blocks.specs.Edges.{is_indirect_end}
 use Rattle.code_blocks.specs.Numbers.{start_at, end_at}
 use Rattle.code_blocks.specs.declared.parts.Unit.{Unit}
 use Rattle.code_blocks.specs.declared.parts.Code.{Code}
-use Rattle.points_to.specs.Points.{IsHolder, IsBlockOf, LeadsOn, units_at, site_at, Makes, Loads}
+use Rattle.code_blocks.specs.Leads.{IsBlockOf, LeadsOn, units_at}
+use Rattle.points_to.specs.Points.{IsHolder, site_at, Makes, Loads}
 use Rattle.points_to.specs.Flows.{Leads, Has, row}
 use Rattle.points_to.specs.declared.flows.Places.{Places}
 use Rattle.reach_graph.specs.Reaching.{edges_of, edge_in}

@@ -1,24 +1,21 @@
 -- Which registers may hold an address of an object at a unit of the code, and which objects' addresses may
 -- stand in memory: the least relations that the rules below close.
-use Rattle.std.specs.Prelude.{◌≡◌, ◌⊎◌, ℕ, suc, ◌<◌, ◌==◌, Bool, true, false, if◌then◌else◌, List, [], ◌∷◌, map, length, slice_index_or, Option, Some, None}
+use Rattle.std.specs.Prelude.{◌≡◌, ◌⊎◌, ℕ, suc, ◌<◌, ◌==◌, Bool, true, List, [], ◌∷◌, length, slice_index_or, Option, Some, None}
 use Rattle.std.specs.List.{Contains}
 use Rattle.rv_decode.specs.Acts.{defined}
+use Rattle.rv_decode.specs.Operations.{operation_of, takes_low_bits}
 use Rattle.rv_decode.specs.declared.instructions.Instr.{Instr}
 use Rattle.rv_decode.specs.declared.instructions.Instr.TheVariants.{Lui, Auipc, Load, Store, OpImm, OpReg}
 use Rattle.rv_decode.specs.declared.instructions.LoadKind.TheVariants.{Lw}
 use Rattle.rv_decode.specs.declared.instructions.ImmKind.{ImmKind}
-use Rattle.rv_decode.specs.declared.instructions.ImmKind.TheVariants.{Addi, Xori, Ori, Andi}
-use Rattle.rv_decode.specs.declared.instructions.RegKind.{RegKind}
-use Rattle.rv_decode.specs.declared.instructions.RegKind.TheVariants.{Add, Sub, Xor, Or, And}
+use Rattle.rv_decode.specs.declared.instructions.ImmKind.TheVariants.{Addi}
 use Rattle.object_graph.specs.declared.parts.SiteKind.{SiteKind}
 use Rattle.object_graph.specs.declared.parts.SiteKind.TheVariants.{Hi, LowI}
 use Rattle.object_graph.specs.declared.parts.Site.{Site}
 use Rattle.object_graph.specs.declared.parts.DataWord.{DataWord}
 use Rattle.object_graph.specs.declared.parts.Graph.{Graph}
-use Rattle.code_blocks.specs.Edges.{successors, is_indirect_end}
-use Rattle.code_blocks.specs.Numbers.{start_at, end_at}
+use Rattle.code_blocks.specs.Leads.{units_at, no_unit, LeadsOn, LeadsAnywhere}
 use Rattle.code_blocks.specs.declared.parts.Unit.{Unit}
-use Rattle.code_blocks.specs.declared.parts.Block.{Block}
 use Rattle.code_blocks.specs.declared.parts.Code.{Code}
 
 -- ---- units by number
@@ -26,16 +23,6 @@ use Rattle.code_blocks.specs.declared.parts.Code.{Code}
 -- x1 to x31 hold what is written to them; x0 never holds an address
 abbrev pub IsHolder : ℕ → Type 0
 IsHolder x = (0 < x) × (x < 32)
-
-abbrev pub units_in : Block → List Unit
-units_in b = b.units.items
-
--- the units of block `b`
-abbrev pub units_at : Code → ℕ → List Unit
-units_at c b = slice_index_or (map units_in c.blocks.items) b []
-
-abbrev pub no_unit : Unit
-no_unit = record { at = 0; words = 0; instr = None; raw = 0 }
 
 -- unit `k` of block `b`
 abbrev pub unit_of : Code → ℕ → ℕ → Unit
@@ -69,27 +56,15 @@ Makes (Some s) instr o x = (s.object ≡ o) × MakesIn s.kind instr x
 
 -- an ADDI, XORI, ORI or ANDI that is no site leaves in `z` what it made of `x`
 abbrev pub is_move : ImmKind → Bool
-is_move Addi = true
-is_move Xori = true
-is_move Ori = true
-is_move Andi = true
-is_move other = false
+is_move kind = takes_low_bits (operation_of kind)
 
 abbrev pub Moves : Option Site → Option Instr → ℕ → ℕ → Type 0
 Moves None (Some (OpImm kind rd rs1 imm)) x z = (is_move kind ≡ true) × (x ≡ rs1) × (z ≡ rd)
 Moves site instr x z = ⊥
 
 -- an ADD, SUB, XOR, OR or AND leaves in `z` what it made of `x` and another register
-abbrev pub is_sum : RegKind → Bool
-is_sum Add = true
-is_sum Sub = true
-is_sum Xor = true
-is_sum Or = true
-is_sum And = true
-is_sum other = false
-
 abbrev pub Sums : Option Instr → ℕ → ℕ → Type 0
-Sums (Some (OpReg kind rd rs1 rs2)) x z = (is_sum kind ≡ true) × ((x ≡ rs1) ⊎ (x ≡ rs2)) × (z ≡ rd)
+Sums (Some (OpReg kind rd rs1 rs2)) x z = (takes_low_bits kind ≡ true) × ((x ≡ rs1) ⊎ (x ≡ rs2)) × (z ≡ rd)
 Sums instr x z = ⊥
 
 -- a store, of any width, puts `x` into memory
@@ -106,24 +81,6 @@ Loads instr z = ⊥
 abbrev pub Defines : Option Instr → ℕ → Type 0
 Defines None x = ⊥
 Defines (Some i) x = Contains (defined i) x
-
--- ---- edges between blocks, by number
-
-abbrev pub IsBlockOf : Code → ℕ → Type 0
-IsBlockOf c b = b < length c.blocks.items
-
--- a direct edge leads from block `b` to block `d`
-pub record LeadsOn (c : Code) (b d : ℕ) : Type 0 where
-  pub from : IsBlockOf c b
-  pub to : IsBlockOf c d
-  pub leads : Contains (successors (end_at c b)) (start_at c d)
-
--- an indirect one does
-pub record LeadsAnywhere (c : Code) (b d : ℕ) : Type 0 where
-  pub from : IsBlockOf c b
-  pub to : IsBlockOf c d
-  pub ends : is_indirect_end (end_at c b) ≡ true
-  pub listed : Contains c.indirect.items (start_at c d)
 
 -- ---- the relations
 

@@ -1,12 +1,13 @@
 -- What is kept of the marks that reach the nodes of a program's graph, and what a table tells.
-use Rattle.std.specs.Prelude.{◌≡◌, ◌⊎◌, ◌↔◌, ℕ, ◌+◌, ◌-◌, ◌*◌, ◌/◌, ◌%◌, ◌<◌, ◌==◌, min, if◌then◌else◌, List, [], ◌∷◌, map, length, slice_index_or}
+use Rattle.std.specs.Prelude.{◌≡◌, ◌⊎◌, ◌↔◌, ℕ, ◌+◌, ◌-◌, ◌*◌, ◌/◌, ◌%◌, ◌<◌, ◌==◌, min, List, [], ◌∷◌, map, length, slice_index_or}
 use Rattle.std.specs.List.Sorted.{IsStrictlyIncreasing}
 use Rattle.object_graph.specs.declared.parts.Graph.{Graph}
 use Rattle.code_blocks.specs.Numbers.{starts_of}
 use Rattle.code_blocks.specs.declared.parts.Code.{Code}
 use Rattle.reach_graph.specs.Reaching.{HasMark, word_at, Reaches}
 use Rattle.reach_graph.specs.declared.graph_edges.Edge.{Edge}
-use Rattle.points_to.specs.Points.{IsBlockOf, Before, Escapes}
+use Rattle.code_blocks.specs.Leads.{IsBlockOf}
+use Rattle.points_to.specs.Points.{Before, Escapes}
 use Rattle.points_to.specs.Nodes.{entry, memory, object_node}
 use Rattle.points_to.specs.declared.reached.Reached.{Reached}
 use Rattle.points_to.specs.declared.table.PointsTable.{PointsTable}

@@ -1,5 +1,6 @@
 ghost use Rattle.std.specs.Prelude.{◌≡◌, if◌then◌else◌};
-ghost use Rattle.points_to.specs.Points.{is_move, is_sum};
+ghost use Rattle.rv_decode.specs.Operations.{takes_low_bits};
+ghost use Rattle.points_to.specs.Points.{is_move};
 ghost use Rattle.points_to.specs.Flows.{written, first_source, second_source, stored, made_in, made, loads};
 
 use object_graph::{Site, SiteKind};
@@ -46,7 +47,7 @@ pub(crate) fn is_move(kind: ImmKind) -> bool
 
 /// An operation on two registers that may leave an address.
 pub(crate) fn is_sum(kind: RegKind) -> bool
-    ensures { result ≡ is_sum kind }
+    ensures { result ≡ takes_low_bits kind }
 {
     match kind {
         RegKind::Add => true,

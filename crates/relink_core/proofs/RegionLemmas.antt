@@ -1,5 +1,5 @@
 -- Whether registers are dead where blocks begin, and which fault of regions is the first of an analysis.
-use Rattle.std.proofs.Common.{◌≡◌, ◌⊎◌, inl, inr, ℕ, ◌+◌, ◌<◌, ◌≤◌, Bool, true, false, List, [], ◌∷◌, ◌++◌, length, slice_index_or, is_some, Option, Some, None, refl, sym, subst, ◌∙◌, arith}
+use Rattle.std.proofs.Common.{◌≡◌, ◌⊎◌, inl, inr, ℕ, ◌+◌, ◌<◌, Bool, true, false, List, [], ◌∷◌, ◌++◌, length, slice_index_or, is_some, Option, Some, None, refl, sym, subst, ◌∙◌, arith}
 use Rattle.std.specs.Prelude.{◌↔◌}
 use Rattle.std.specs.List.Sorted.{IsStrictlyIncreasing}
 use Rattle.std.proofs.lemmas.Bool.{cases_lt}
@@ -12,8 +12,9 @@ use Rattle.rv_decode.specs.declared.instructions.RegSet.{RegSet}
 use Rattle.code_blocks.specs.Blocks.{IsCode}
 use Rattle.code_blocks.specs.Numbers.{starts_of, start_at}
 use Rattle.code_blocks.specs.declared.parts.Code.{Code}
-use Rattle.liveness.specs.Live.{IsBlockOf, LiveAt, Live}
-use Rattle.liveness.specs.Tables.{IsFree, IsLeastDead}
+use Rattle.code_blocks.specs.Leads.{IsBlockOf}
+use Rattle.liveness.specs.Live.{LiveAt}
+use Rattle.liveness.specs.Tables.{IsLeastDead}
 use Rattle.liveness.proofs.EdgeLemmas.{one_start}
 use Rattle.region_former.specs.Faults.{plain_fault}
 use Rattle.region_former.specs.Regions.{region_fault}

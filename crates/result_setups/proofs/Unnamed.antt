@@ -1,6 +1,6 @@
 -- A step doesn't look at the AUIPC that a low part names; and where none is named, and every origin is a LUI, each step
 -- is paired.
-use Rattle.std.proofs.Common.{◌≡◌, ◌∙◌, ℕ, zero, suc, ◌+◌, ◌==◌, Bool, true, false, not, ◌&&◌, ◌||◌, if◌then◌else◌, List, [], ◌∷◌, take, Option, Some, None, ℤ, refl, ap}
+use Rattle.std.proofs.Common.{◌≡◌, ◌∙◌, ℕ, zero, suc, ◌+◌, ◌==◌, Bool, true, false, not, ◌&&◌, ◌||◌, List, [], ◌∷◌, take, Option, Some, None, ℤ, refl, ap}
 use Rattle.list_checks.specs.First.{first_below}
 use Rattle.rv_decode.specs.Acts.{load_width, store_width}
 use Rattle.rv_decode.specs.declared.instructions.Instr.{Instr}
@@ -10,12 +10,14 @@ use Rattle.rv_decode.specs.declared.instructions.LoadKind.{LoadKind}
 use Rattle.rv_decode.specs.declared.instructions.RegKind.{RegKind}
 use Rattle.rv_decode.specs.declared.instructions.StoreKind.{StoreKind}
 use Rattle.cell_values.specs.Objects.{Objects}
-use Rattle.cell_values.specs.Operations.{operation_of, op_imm}
+use Rattle.rv_decode.specs.Operations.{operation_of}
+use Rattle.cell_values.specs.Operations.{op_imm}
 use Rattle.cell_values.specs.Comparisons.{compare}
 use Rattle.cell_values.specs.declared.values.Val.{Val}
 use Rattle.cell_values.specs.declared.values.Val.TheVariants.{Int, Addr, Hi}
 use Rattle.cell_values.specs.declared.values.Cell.TheVariants.{Byte}
-use Rattle.cell_values.specs.Origins.{ByLui, is_by_auipc, takes_low, takes_lows}
+use Rattle.rv_decode.specs.Operations.{takes_low_bits}
+use Rattle.cell_values.specs.Origins.{ByLui, is_by_auipc, takes_low}
 use Rattle.object_machine.specs.Program.{Program, Target}
 use Rattle.object_machine.specs.State.{SourceState, value, wrote}
 use Rattle.object_machine.specs.Places.{Where, InFixed, InObject, Nowhere, located, byte_place, read_fault, write_fault, address_of}
@@ -163,7 +165,7 @@ module _ (p : Program) where
     plain x = refl
 
     takes_none : (os : Objects) (kind : RegKind) (x y : Val) → takes_low os kind ByLui x ByLui y ≡ false
-    takes_none os kind x y = rw (plain x, plain y) (and-false (takes_lows kind))
+    takes_none os kind x y = rw (plain x, plain y) (and-false (takes_low_bits kind))
 
     site_paired : (rs1 : ℕ) (site : Option Target) → is_paired_site q s at_start rs1 site ≡ true
     site_paired rs1 None = refl

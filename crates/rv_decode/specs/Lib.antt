@@ -2,3 +2,4 @@ pub mod Fields
 pub mod Table
 pub mod Acts
 pub mod RegSet
+pub mod Operations

@@ -1,5 +1,5 @@
 -- The AUIPC beside an upper part made it: values that operations leave and loads take, and cells that stores put.
-use Rattle.std.proofs.Common.{◌≡◌, inl, inr, ℕ, ◌+◌, ◌-◌, ◌<◌, ◌≤◌, ◌==◌, nat_lt, nat_le, Bool, true, false, ◌&&◌, if◌then◌else◌, slice_index_or, Option, Some, None, ℤ, refl, sym, subst, arith}
+use Rattle.std.proofs.Common.{◌≡◌, inl, inr, ℕ, ◌+◌, ◌-◌, ◌<◌, ◌≤◌, ◌==◌, nat_lt, nat_le, Bool, true, false, ◌&&◌, slice_index_or, Option, Some, None, ℤ, refl, sym, subst, arith}
 use Rattle.std.specs.Int.{cast_unsigned, w32}
 use Rattle.std.proofs.lemmas.Bool.{cases_lt, cond_both, eqb-true}
 use Rattle.list_checks.proofs.TestLemmas.{both}
@@ -9,7 +9,8 @@ use Rattle.rv_decode.specs.declared.instructions.RegKind.{RegKind}
 use Rattle.rv_decode.specs.declared.instructions.RegKind.TheVariants.{Add, Sub, Sltu, Xor, Or, And}
 use Rattle.cell_values.specs.Objects.{Objects, home_address, low_of}
 use Rattle.cell_values.specs.Comparisons.{compare}
-use Rattle.cell_values.specs.Operations.{of_lows, by_lows, added, subtracted, kept_bits, masked_low, masked_address, masked, changed_address, changed, flagged, numbered, op_reg, operation_of, op_imm, same_chunk, low_site}
+use Rattle.rv_decode.specs.Operations.{operation_of}
+use Rattle.cell_values.specs.Operations.{of_lows, by_lows, added, subtracted, kept_bits, masked_low, masked_address, masked, changed_address, changed, flagged, numbered, op_reg, op_imm, same_chunk, low_site}
 use Rattle.cell_values.specs.Cells.{split, is_part, whole_word, join, byte_value, half_value}
 use Rattle.cell_values.specs.declared.values.Val.{Val}
 use Rattle.cell_values.specs.declared.values.Val.TheVariants.{Int, Addr, Hi, Low, Piece, Unknown}

@@ -12,7 +12,8 @@ use Rattle.rv_decode.specs.declared.instructions.RegKind.{RegKind}
 use Rattle.rv_decode.proofs.Words.{keeps_words}
 use Rattle.rv_decode.proofs.Words.{imm_fits}
 use Rattle.flat_machine.specs.State.{State}
-use Rattle.cell_values.specs.Operations.{operation_of, op_imm, op_reg, low_site}
+use Rattle.rv_decode.specs.Operations.{operation_of}
+use Rattle.cell_values.specs.Operations.{op_imm, op_reg, low_site}
 use Rattle.cell_values.specs.declared.values.Val.TheVariants.{Int}
 use Rattle.cell_values.proofs.Words.{operations_keep}
 use Rattle.cell_values.specs.Origins.{ByLui, takes_low}

@@ -5,10 +5,11 @@ use Rattle.rv_decode.specs.declared.instructions.Instr.{Instr}
 use Rattle.rv_decode.specs.declared.instructions.Instr.TheVariants.{Lui, Load, Store, OpImm, OpReg}
 use Rattle.rv_decode.specs.declared.instructions.RegKind.{RegKind}
 use Rattle.cell_values.specs.Objects.{Objects}
-use Rattle.cell_values.specs.Operations.{operation_of}
+use Rattle.rv_decode.specs.Operations.{operation_of}
 use Rattle.cell_values.specs.declared.values.Val.{Val}
 use Rattle.cell_values.specs.declared.values.Val.TheVariants.{Int, Hi}
-use Rattle.cell_values.specs.Origins.{Origin, ByLui, ByAuipc, Mixed, is_by_auipc, takes_low, takes_lows}
+use Rattle.rv_decode.specs.Operations.{takes_low_bits}
+use Rattle.cell_values.specs.Origins.{Origin, ByLui, ByAuipc, Mixed, is_by_auipc, takes_low}
 use Rattle.object_machine.specs.declared.events.Event.{Event}
 use Rattle.object_machine.specs.declared.events.Outcome.{Outcome}
 use Rattle.object_machine.specs.declared.events.Outcome.TheVariants.{GoesOn, Exited, Trapped, AddressFault}
@@ -92,7 +93,7 @@ module _ (one : OneInstruction) (p : Program) (alone : HasLuisAlone p) where
   by_lui origin x made = refl
 
   takes_none : (os : Objects) (kind : RegKind) (m n : Origin) (x y : Val) → is_by_auipc m x ≡ false → is_by_auipc n y ≡ false → takes_low os kind m x n y ≡ false
-  takes_none os kind m n x y first second = rw (first, second) (and-false (takes_lows kind))
+  takes_none os kind m n x y first second = rw (first, second) (and-false (takes_low_bits kind))
 
   module _ (s : SourceState) (m : Origins) (made : AreMade p s m) where
     own : (k : ℕ) → is_by_auipc (m.regs k) (value s.regs k) ≡ false

@@ -1,7 +1,7 @@
 use Rattle.std.proofs.Common.{◌≡◌, ℕ}
 use Rattle.reach_graph.specs.Reaching.{plain_rows}
 use Rattle.code_blocks.specs.Numbers.{start_at}
-use Rattle.liveness.specs.Live.{IsBlockOf}
+use Rattle.code_blocks.specs.Leads.{IsBlockOf}
 use Rattle.liveness.specs.Flows.{OneEdge}
 use Rattle.liveness.proofs.MarkLemmas.{all_set}
 use Rattle.liveness.proofs.GraphEdgeLemmas.{adds_same}

@@ -2,7 +2,7 @@ use Rattle.std.proofs.Common.{◌≡◌, ◌∙◌, ◌+◌, ◌<◌, ℕ, lengt
 use Rattle.std.proofs.lemmas.Grind.{get_or_default_zero}
 use Rattle.reach_graph.specs.Reaching.{plain_rows}
 use Rattle.code_blocks.specs.Numbers.{start_at}
-use Rattle.liveness.specs.Live.{IsBlockOf}
+use Rattle.code_blocks.specs.Leads.{IsBlockOf}
 use Rattle.liveness.specs.Flows.{ArrivalEdges}
 use Rattle.liveness.proofs.GraphEdgeLemmas.{adds_none, adds_both}
 use Rattle.liveness.proofs.EdgeLemmas.{no_arrivals, arrivals_more}

@@ -2,7 +2,7 @@ use Rattle.std.proofs.Common.{◌≡◌, ◌<◌, ℕ, length, subst, arith}
 use Rattle.std.specs.Prelude.{◌↔◌}
 use Rattle.std.proofs.lemmas.List.{get_or_default}
 use Rattle.reach_graph.specs.Reaching.{HasMark}
-use Rattle.liveness.specs.Live.{no_unit}
+use Rattle.code_blocks.specs.Leads.{no_unit}
 use Rattle.liveness.specs.Summaries.{NoneDefines}
 use Rattle.liveness.proofs.UnitLemmas.{used_none, kept_all, used_more, kept_more}
 use Rattle.liveness.proofs.summaries.over_units.Goals as goal

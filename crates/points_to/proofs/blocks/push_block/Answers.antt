@@ -1,6 +1,6 @@
 use Rattle.std.proofs.Common.{◌≡◌, ◌∙◌, ℕ, List, sym, subst, arith}
 use Rattle.code_blocks.specs.declared.parts.Unit.{Unit}
-use Rattle.points_to.specs.Points.{IsBlockOf, units_at}
+use Rattle.code_blocks.specs.Leads.{IsBlockOf, units_at}
 use Rattle.points_to.specs.Flows.{AreRows}
 use Rattle.points_to.specs.Nodes.{Adds, OneEdge, UnitEdges, end_of}
 use Rattle.reach_graph.specs.Reaching.{plain_rows}

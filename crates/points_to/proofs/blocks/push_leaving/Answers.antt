@@ -1,7 +1,7 @@
 use Rattle.std.proofs.Common.{◌≡◌, ◌∙◌, ℕ, true, sym, ap, subst, arith}
 use Rattle.code_blocks.specs.Edges.{is_indirect_end}
 use Rattle.code_blocks.specs.Numbers.{end_at}
-use Rattle.points_to.specs.Points.{IsBlockOf}
+use Rattle.code_blocks.specs.Leads.{IsBlockOf}
 use Rattle.points_to.specs.Nodes.{Adds, Upto, RegisterEdge, end_of}
 use Rattle.reach_graph.specs.Reaching.{plain_rows}
 use Rattle.points_to.proofs.BlockLemmas.{end_is, leaving_adds}

@@ -1,5 +1,5 @@
 use Rattle.std.proofs.Common.{ℕ, List, length, subst, arith}
-use Rattle.points_to.specs.Points.{IsBlockOf}
+use Rattle.code_blocks.specs.Leads.{IsBlockOf}
 use Rattle.points_to.specs.Nodes.{Adds, Upto, StepEdge, NextEdges}
 use Rattle.reach_graph.specs.Reaching.{plain_rows}
 use Rattle.points_to.proofs.EdgeLemmas.{adds_same}

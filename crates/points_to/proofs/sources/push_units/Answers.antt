@@ -2,7 +2,7 @@ use Rattle.std.proofs.Common.{◌≡◌, ◌∙◌, ℕ, ◌+◌, ◌-◌, ◌<�
 use Rattle.std.proofs.lemmas.List.{drop_more}
 use Rattle.std.proofs.Math.Seq.{drop-length}
 use Rattle.code_blocks.specs.declared.parts.Unit.{Unit}
-use Rattle.points_to.specs.Points.{no_unit}
+use Rattle.code_blocks.specs.Leads.{no_unit}
 use Rattle.points_to.specs.Flows.{AreRows}
 use Rattle.points_to.specs.Nodes.{Adds, SourceEdges, UnitEdges}
 use Rattle.reach_graph.specs.Reaching.{plain_rows}
