@@ -1,5 +1,5 @@
 -- Operations on values that hold words leave such values.
-use Rattle.std.proofs.Common.{ℕ, ◌<◌, Bool, true, false, Option, Some, None, subst, sym, arith}
+use Rattle.std.proofs.Common.{ℕ, ◌<◌, Bool, true, false, Option, Some, None, subst, sym, arith, if◌then◌else◌}
 use Rattle.std.specs.Prelude.{nat_lt, nat_le, ◌==◌, ◌-◌, ◌%◌}
 use Rattle.std.specs.Int.{cast_unsigned, w32}
 use Rattle.rv_decode.specs.declared.instructions.BranchKind.TheVariants.{Bltu}

@@ -1,7 +1,7 @@
 -- What the operations leave of values: for each operation the rows of its table, the first that fits. An
 -- address and a number give an address again where the sum, the difference or the masked bits tell which;
 -- of other values it is known at most what they are modulo the grain.
-use Rattle.std.specs.Prelude.{ℕ, ◌-◌, ◌/◌, ◌%◌, ◌==◌, nat_lt, nat_le, Bool, ◌&&◌, bit_and, Option, Some, None, ℤ}
+use Rattle.std.specs.Prelude.{ℕ, ◌-◌, ◌/◌, ◌%◌, ◌==◌, nat_lt, nat_le, Bool, ◌&&◌, bit_and, Option, Some, None, ℤ, if◌then◌else◌}
 use Rattle.std.specs.Int.{cast_unsigned, w32}
 use Rattle.word_bits.specs.Words.{plus, minus}
 use Rattle.rv_decode.specs.Operations.{operation_of}

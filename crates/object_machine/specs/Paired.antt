@@ -1,6 +1,6 @@
 -- Runs in which each low part of an address finds the upper part that its relocation names. Beside each upper
 -- part of an address the instruction that made it is kept, also in memory; it decides nothing of the run.
-use Rattle.std.specs.Prelude.{◌≡◌, ℕ, zero, suc, ◌+◌, ◌==◌, Bool, true, false, not, ◌&&◌, ◌||◌, [], Option, Some, None}
+use Rattle.std.specs.Prelude.{◌≡◌, ℕ, zero, suc, ◌+◌, ◌==◌, Bool, true, false, not, ◌&&◌, ◌||◌, [], Option, Some, None, if◌then◌else◌}
 use Rattle.rv_decode.specs.declared.instructions.Instr.{Instr}
 use Rattle.rv_decode.specs.declared.instructions.Instr.TheVariants.{Lui, Auipc, Load, Store, OpImm, OpReg}
 use Rattle.rv_decode.specs.declared.instructions.RegKind.{RegKind}

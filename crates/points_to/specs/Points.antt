@@ -1,6 +1,6 @@
 -- Which registers may hold an address of an object at a unit of the code, and which objects' addresses may
 -- stand in memory: the least relations that the rules below close.
-use Rattle.std.specs.Prelude.{◌≡◌, ◌⊎◌, ℕ, suc, ◌<◌, ◌==◌, Bool, true, List, [], ◌∷◌, length, slice_index_or, Option, Some, None}
+use Rattle.std.specs.Prelude.{◌≡◌, ◌⊎◌, ℕ, suc, ◌<◌, ◌==◌, Bool, true, List, [], ◌∷◌, length, slice_index_or, Option, Some, None, if◌then◌else◌}
 use Rattle.std.specs.List.{Contains}
 use Rattle.rv_decode.specs.Acts.{defined}
 use Rattle.rv_decode.specs.Operations.{operation_of, takes_low_bits}

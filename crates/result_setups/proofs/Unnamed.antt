@@ -1,6 +1,6 @@
 -- A step doesn't look at the AUIPC that a low part names; and where none is named, and every origin is a LUI, each step
 -- is paired.
-use Rattle.std.proofs.Common.{◌≡◌, ◌∙◌, ℕ, zero, suc, ◌+◌, ◌==◌, Bool, true, false, not, ◌&&◌, ◌||◌, List, [], ◌∷◌, take, Option, Some, None, ℤ, refl, ap}
+use Rattle.std.proofs.Common.{◌≡◌, ◌∙◌, ℕ, zero, suc, ◌+◌, ◌==◌, Bool, true, false, not, ◌&&◌, ◌||◌, List, [], ◌∷◌, take, Option, Some, None, ℤ, refl, ap, if◌then◌else◌}
 use Rattle.list_checks.specs.First.{first_below}
 use Rattle.rv_decode.specs.Acts.{load_width, store_width}
 use Rattle.rv_decode.specs.declared.instructions.Instr.{Instr}

@@ -1,5 +1,5 @@
 -- The AUIPC beside an upper part made it: values that operations leave and loads take, and cells that stores put.
-use Rattle.std.proofs.Common.{◌≡◌, inl, inr, ℕ, ◌+◌, ◌-◌, ◌<◌, ◌≤◌, ◌==◌, nat_lt, nat_le, Bool, true, false, ◌&&◌, slice_index_or, Option, Some, None, ℤ, refl, sym, subst, arith}
+use Rattle.std.proofs.Common.{◌≡◌, inl, inr, ℕ, ◌+◌, ◌-◌, ◌<◌, ◌≤◌, ◌==◌, nat_lt, nat_le, Bool, true, false, ◌&&◌, slice_index_or, Option, Some, None, ℤ, refl, sym, subst, arith, if◌then◌else◌}
 use Rattle.std.specs.Int.{cast_unsigned, w32}
 use Rattle.std.proofs.lemmas.Bool.{cases_lt, cond_both, eqb-true}
 use Rattle.list_checks.proofs.TestLemmas.{both}
