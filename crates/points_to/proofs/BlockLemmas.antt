@@ -21,7 +21,7 @@ use Rattle.code_blocks.specs.Leads.{IsBlockOf, units_in, units_at}
 use Rattle.points_to.specs.Flows.{AreRows}
 use Rattle.points_to.specs.Nodes.{Adds, Upto, OneEdge, RegisterEdge, RowEdge, UnitEdges, EntryEdge, StepEdge, NextEdges, LeaveEdges, BlockEdges, ArrivalEdge, WordEdge, AllEdges, entry, end_of, hub, memory}
 use Rattle.points_to.specs.declared.flows.Places.{Places}
-use Rattle.reach_graph.specs.declared.graph_edges.Edge.{Edge}
+use Rattle.reach_graph.specs.declared.edges.Edge.{Edge}
 use Rattle.points_to.proofs.EdgeLemmas.{adds_none, adds_both, adds_same, upto_same}
 use Rattle.points_to.proofs.SourceLemmas.{place_flow}
 

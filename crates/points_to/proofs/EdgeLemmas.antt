@@ -10,7 +10,7 @@ use Rattle.points_to.specs.Flows.{Has, row}
 use Rattle.reach_graph.specs.Reaching.{edges_of, edge_at, no_edge, row_items, plain_rows}
 use Rattle.points_to.specs.declared.flows.Places.{Places}
 use Rattle.points_to.specs.Nodes.{HasEdge, all_marks, Adds, Upto, OneEdge, PlaceEdge, RegisterEdge, RowEdge, entry, end_of}
-use Rattle.reach_graph.specs.declared.graph_edges.Edge.{Edge}
+use Rattle.reach_graph.specs.declared.edges.Edge.{Edge}
 
 pub adds_none : (S : ℕ → ℕ → Type 0) (a : List (List Edge)) → ((f t : ℕ) → S f t → ⊥) → Adds S a a
 adds_none S a none = record {

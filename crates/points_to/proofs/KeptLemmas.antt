@@ -14,7 +14,7 @@ use Rattle.std.proofs.lemmas.List.Quantifiers.{all_pairs_push}
 use Rattle.list_checks.proofs.TestLemmas.{neither}
 use Rattle.code_leaders.specs.Early.{has}
 use Rattle.reach_graph.specs.Reaching.{HasMark, word_at, Reaches}
-use Rattle.reach_graph.specs.declared.graph_edges.Edge.{Edge}
+use Rattle.reach_graph.specs.declared.edges.Edge.{Edge}
 use Rattle.reach_graph.proofs.MarkLemmas.{none_in_zero}
 use Rattle.points_to.specs.Nodes.{memory}
 use Rattle.points_to.specs.Tables.{word_of, Kept, AreKept, Keeps, Begins, IsReached}

@@ -13,7 +13,7 @@ use Rattle.code_blocks.specs.Numbers.{starts_of, start_at}
 use Rattle.code_blocks.specs.declared.parts.Unit.{Unit}
 use Rattle.code_blocks.specs.declared.parts.Code.{Code}
 use Rattle.reach_graph.specs.Reaching.{HasMark, edge_in, AreInside}
-use Rattle.reach_graph.specs.declared.graph_edges.Edge.{Edge}
+use Rattle.reach_graph.specs.declared.edges.Edge.{Edge}
 use Rattle.reach_graph.proofs.MarkLemmas.{none_in_zero}
 use Rattle.code_blocks.specs.Leads.{IsBlockOf, units_at}
 use Rattle.points_to.specs.Points.{Held, Escaped, Derives, Before, MayHold}

@@ -13,7 +13,7 @@ use Rattle.points_to.specs.Points.{IsHolder, site_at, MakesIn, Makes, Loads}
 use Rattle.points_to.specs.Flows.{written, made_in, made, loads, row, AreRows}
 use Rattle.points_to.specs.Nodes.{Adds, Upto, PlaceEdge, FlowEdge, SourceEdges, UnitEdges, object_node, loaded, end_of}
 use Rattle.points_to.specs.declared.flows.Places.{Places}
-use Rattle.reach_graph.specs.declared.graph_edges.Edge.{Edge}
+use Rattle.reach_graph.specs.declared.edges.Edge.{Edge}
 use Rattle.points_to.proofs.EdgeLemmas.{adds_none, adds_same, upto_same}
 
 makes_in : (kind : SiteKind) (i : Option Instr) (o x : ℕ) → MakesIn kind i x → (made_in kind o i ≡ Some o) × (x ≡ written i)

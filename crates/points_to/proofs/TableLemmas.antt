@@ -8,7 +8,7 @@ use Rattle.std.proofs.lemmas.Nat.Bits.{bit_at_ones}
 use Rattle.object_graph.specs.declared.parts.Graph.{Graph}
 use Rattle.code_blocks.specs.declared.parts.Code.{Code}
 use Rattle.reach_graph.specs.Reaching.{HasMark, word_at, edges_of, edge_in, Reaches}
-use Rattle.reach_graph.specs.declared.graph_edges.Edge.{Edge}
+use Rattle.reach_graph.specs.declared.edges.Edge.{Edge}
 use Rattle.code_blocks.specs.Leads.{IsBlockOf}
 use Rattle.points_to.specs.Points.{Held, Escaped, Derives}
 use Rattle.points_to.specs.Nodes.{all_marks, Adds, AllEdges, AreEdges, node_count, entry, memory, loaded, object_node}

@@ -13,7 +13,7 @@ use Rattle.points_to.specs.Points.{IsHolder, site_at, Makes, Loads}
 use Rattle.points_to.specs.Flows.{Leads, Has, row}
 use Rattle.points_to.specs.declared.flows.Places.{Places}
 use Rattle.reach_graph.specs.Reaching.{edges_of, edge_in}
-use Rattle.reach_graph.specs.declared.graph_edges.Edge.{Edge}
+use Rattle.reach_graph.specs.declared.edges.Edge.{Edge}
 
 -- ---- numbers of nodes, in a program of `n` blocks: register `x` at the beginning of block `b`; place `y` at its
 -- end, memory being place 0; register `y` on the way to any indirect leader; memory; what is loaded; object `o`

@@ -14,7 +14,8 @@ use Rattle.object_graph.specs.declared.parts.SiteKind.TheVariants.{Hi, LowI}
 use Rattle.object_graph.specs.declared.parts.Site.{Site}
 use Rattle.object_graph.specs.declared.parts.DataWord.{DataWord}
 use Rattle.object_graph.specs.declared.parts.Graph.{Graph}
-use Rattle.code_blocks.specs.Leads.{units_at, no_unit, LeadsOn, LeadsAnywhere}
+use Rattle.code_blocks.specs.Numbers.{start_at}
+use Rattle.code_blocks.specs.Leads.{units_at, no_unit, IsBlockOf, LeadsOn, LeadsAnywhere}
 use Rattle.code_blocks.specs.declared.parts.Unit.{Unit}
 use Rattle.code_blocks.specs.declared.parts.Code.{Code}
 

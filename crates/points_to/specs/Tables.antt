@@ -5,7 +5,7 @@ use Rattle.object_graph.specs.declared.parts.Graph.{Graph}
 use Rattle.code_blocks.specs.Numbers.{starts_of}
 use Rattle.code_blocks.specs.declared.parts.Code.{Code}
 use Rattle.reach_graph.specs.Reaching.{HasMark, word_at, Reaches}
-use Rattle.reach_graph.specs.declared.graph_edges.Edge.{Edge}
+use Rattle.reach_graph.specs.declared.edges.Edge.{Edge}
 use Rattle.code_blocks.specs.Leads.{IsBlockOf}
 use Rattle.points_to.specs.Points.{Before, Escapes}
 use Rattle.points_to.specs.Nodes.{entry, memory, object_node}

@@ -1,6 +1,6 @@
 ghost use Rattle.std.specs.Prelude.{◌≡◌, ◌+◌, ◌<◌, ◌≤◌, ℕ, List, length, slice_set, bit_or, bit_and};
 ghost use Rattle.reach_graph.specs.Reaching.{word_at, edge_at, edges_of, plain_rows, AreInside};
-ghost use Rattle.reach_graph.specs.declared.graph_edges.Edge.{Edge};
+ghost use Rattle.reach_graph.specs.declared.edges.Edge.{Edge};
 ghost use Rattle.points_to.specs.Nodes.{node_count};
 ghost use Rattle.points_to.specs.Sweeps.{AreBetween};
 

@@ -15,8 +15,8 @@ invariant_of-result c =
     let reached = c.in_ok-reached.reached.items in
     let fixed = c.in_ok-fixed.fixed.items in
     let agrees = fixed_agrees v board fixed c.requires.lawful c.in_ok-fixed.ensures.exact in
-    let is_reached = c.in_ok-reached.ensures ∙ c.deref-2.ensures.value in
-    let are = are_tables v board g c.in_ok-objects.objects code block_units reached fixed c.requires.graph c.requires.grain c.requires.code c.in_ok-objects.ensures (c.in_ok-block_units.ensures board) is_reached agrees in
+    let is_reached = c.in_ok-reached.ensures ∙ c.deref.ensures.value in
+    let are = are_tables v board g c.in_ok-objects.objects code block_units reached fixed c.requires.graph c.requires.grain c.requires.code c.in_ok-objects.ensures (rw c.in_ok-file.ensures at c.in_ok-block_units.ensures board) is_reached agrees in
     record {
       grain = are.grain;
       below = are.below;
@@ -36,5 +36,5 @@ returns-clause-program c =
     let v = plain_view c.args.view.now in
     let board = c.args.board.now in
     let agrees = fixed_agrees v board c.in_ok-fixed.fixed.items c.requires.lawful c.in_ok-fixed.ensures.exact in
-    let is_reached = c.in_ok-reached.ensures ∙ c.deref-2.ensures.value in
-    agree v board c.args.graph.now c.args.code.now c.in_ok-block_units.block_units _ c.requires.code c.in_ok-objects.ensures (c.in_ok-block_units.ensures board) refl refl is_reached agrees
+    let is_reached = c.in_ok-reached.ensures ∙ c.deref.ensures.value in
+    agree v board c.args.graph.now c.args.code.now c.in_ok-block_units.block_units _ c.requires.code c.in_ok-objects.ensures (rw c.in_ok-file.ensures at c.in_ok-block_units.ensures board) refl refl is_reached agrees

@@ -1,7 +1,7 @@
 use Rattle.std.proofs.Common.{◌≡◌, List, Vec, drop, length, sym, ap, subst, arith}
 use Rattle.std.specs.Global.{Global}
 use Rattle.reach_graph.specs.Reaching.{plain_rows}
-use Rattle.reach_graph.specs.declared.graph_edges.Edge.{Edge}
+use Rattle.reach_graph.specs.declared.edges.Edge.{Edge}
 use Rattle.points_to.specs.Nodes.{Adds, AllEdges, AreEdges}
 use Rattle.points_to.proofs.TableLemmas.{taken_whole, edges_are}
 use Rattle.points_to.proofs.blocks.edges_of.Goals as goal

@@ -1,7 +1,7 @@
 use Rattle.std.proofs.Common.{◌≤◌, ◌+◌, ◌*◌, ◌/◌, List, Vec, map, sym, ap, subst, arith}
 use Rattle.std.specs.Global.{Global}
 use Rattle.reach_graph.specs.Reaching.{plain_rows, AreInside}
-use Rattle.reach_graph.specs.declared.graph_edges.Edge.{Edge}
+use Rattle.reach_graph.specs.declared.edges.Edge.{Edge}
 use Rattle.points_to.specs.Nodes.{node_count}
 use Rattle.points_to.specs.Tables.{plain}
 use Rattle.points_to.proofs.QueryLemmas.{edges_inside, table_facts}

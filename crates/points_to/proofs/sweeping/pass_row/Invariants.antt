@@ -1,6 +1,6 @@
 use Rattle.std.proofs.Common.{◌≡◌, ℕ, List}
 use Rattle.reach_graph.specs.Reaching.{edges_of}
-use Rattle.reach_graph.specs.declared.graph_edges.Edge.{Edge}
+use Rattle.reach_graph.specs.declared.edges.Edge.{Edge}
 use Rattle.points_to.specs.Sweeps.{AreBetween}
 use Rattle.points_to.proofs.sweeping.pass_row.Given as goal
 
