@@ -1,5 +1,5 @@
 use Rattle.std.proofs.Common.{List, ℕ, ◌++◌, ◌∙◌, ap}
-use Rattle.printed_lines.specs.ShowLines.{named_line}
+use Rattle.printed_lines.specs.ProfileLines.{named_line}
 use Rattle.printed_lines.proofs.shown.push_movable.Goals as goal
 
 pub returns : goal.returns
