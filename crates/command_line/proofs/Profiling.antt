@@ -32,14 +32,14 @@ pub counts_rejected : (board_text file input : List ℕ) (o : Opened) (fault : P
     → RejectsProfiled board_text file input (profile_command_fault fault)
 counts_rejected board_text file input o (FaultAt pc why) is told =
     let g = o.analysis.graph in
-    let (last, ranges_overlap) = subst (λ (u : PlainView). ReportsCounts u o.board g o.analysis.code o.analysis.regions input (Err (FaultAt pc why))) (opened_view board_text file o is) told in
+    let (last, fault) = subst (λ (u : PlainView). ReportsCounts u o.board g o.analysis.code o.analysis.regions input (Err (FaultAt pc why))) (opened_view board_text file o is) told in
     inr (of_run o.board pc why is.accepts
     (record {
       graph = g;
       is_graph = is.analysed.analysis.graph;
       last = last;
-      taken = transitions_steps (program_in file o.board g) o.board.steps (source_start file o.board g input) last ranges_overlap.moves ranges_overlap.run;
-      outcome_is = sym (faulted last.outcome pc why ranges_overlap.fault);
+      taken = transitions_steps (program_in file o.board g) o.board.steps (source_start file o.board g input) last fault.transitions fault.run;
+      outcome_is = sym (faulted last.outcome pc why fault.fault);
     })
     refl)
 counts_rejected board_text file input o Memory is told = inl refl
@@ -75,7 +75,7 @@ profiles_to file board_text input text o q is told text_is =
       board = o.board;
       accepts = is.accepts;
       found = findings file o.board a is.analysed;
-      moves = made.moves;
+      transitions = made.transitions;
       last = last;
       run = made.run;
       no_address_fault = unfaulted last.outcome made.no_fault;
@@ -91,6 +91,6 @@ profile_runs file board_text input text made =
       graph = made.found.graph;
       is_graph = made.found.is_graph;
       last = made.last;
-      taken = transitions_steps (program_in file made.board made.found.graph) made.board.steps (source_start file made.board made.found.graph input) made.last made.moves made.run;
+      taken = transitions_steps (program_in file made.board made.found.graph) made.board.steps (source_start file made.board made.found.graph input) made.last made.transitions made.run;
       outcome_is = refl;
     }

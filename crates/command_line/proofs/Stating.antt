@@ -12,6 +12,6 @@ relinked_runs file board_text input certificate out report made =
       graph = made.states.found.graph;
       is_graph = made.states.found.is_graph;
       last = made.states.states.last;
-      taken = transitions_steps (program_in file made.board made.states.found.graph) made.board.steps (source_start file made.board made.states.found.graph input) made.states.states.last made.states.states.moves made.states.states.run;
+      taken = transitions_steps (program_in file made.board made.states.found.graph) made.board.steps (source_start file made.board made.states.found.graph input) made.states.states.last made.states.states.transitions made.states.states.run;
       outcome_is = refl;
     }

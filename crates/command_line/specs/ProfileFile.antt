@@ -20,10 +20,10 @@ pub record ProfilesTo (file board_text input text : List ℕ) : Type 0 where
   pub board : Board
   pub accepts : Accepts board_text file board
   pub found : Findings file board
-  pub moves : List Transition
+  pub transitions : List Transition
   pub last : SourceState
-  pub run : Transitions (program_in file board found.graph) board.steps (source_start file board found.graph input) moves last
+  pub run : Transitions (program_in file board found.graph) board.steps (source_start file board found.graph input) transitions last
   pub no_address_fault : IsAddressFault last.outcome → ⊥
   pub profile : Profile
-  pub is_profile : IsProfile (starts_of found.code) found.regions.of_block.items found.regions.count (length found.graph.objects.items) moves last.outcome profile
+  pub is_profile : IsProfile (starts_of found.code) found.regions.of_block.items found.regions.count (length found.graph.objects.items) transitions last.outcome profile
   pub text_is : text ≡ profile_text (view_in file) found.graph.objects.items (starts_of found.code) profile

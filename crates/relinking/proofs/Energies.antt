@@ -40,7 +40,7 @@ pub of_one_file : (view : ElfView) (board : Board) (g : Graph) (c : Code) (t : R
     → code_fault (plain_view view) ≡ None → least_patch board.fence_i ≤ board.patch.size → is_leader (plain_view view) view.entry ≡ true
     → length t.of_block.items ≡ length c.blocks.items
     → (made : Profiles (starts_of c) t.of_block.items t.count (length g.objects.items) (program_of (plain_view view) board g) board.steps (start_of (plain_view view) (program_of (plain_view view) board g) g input) last q)
-    → AreOfSameFile view board g c t q made.moves
+    → AreOfSameFile view board g c t q made.transitions
 of_one_file view board g c t input q last read lawful is_graph is_code no_fault room entry one_each made =
     record {
       read = read;
@@ -61,14 +61,14 @@ of_one_file view board g c t input q last read lawful is_graph is_code no_fault 
     }
 
 -- the energies of what the run states are those of the run
-pub energies_of : (view : ElfView) (board : Board) (g : Graph) (c : Code) (t : RegionTable) (q : Profile) (moves : List Transition) (p : PlainProgramme)
-    → AreOfSameFile view board g c t q moves → p ≡ stated (scene_of g c t board) (layout_of g c t board) moves
-    → EnergiesAreOf (scene_of g c t board) moves p
-energies_of view board g c t q moves p one is =
+pub energies_of : (view : ElfView) (board : Board) (g : Graph) (c : Code) (t : RegionTable) (q : Profile) (transitions : List Transition) (p : PlainProgramme)
+    → AreOfSameFile view board g c t q transitions → p ≡ stated (scene_of g c t board) (layout_of g c t board) transitions
+    → EnergiesAreOf (scene_of g c t board) transitions p
+energies_of view board g c t q transitions p one is =
     let w = scene_of g c t board in
-    let of_stated : EnergiesAreOf w moves (stated w (layout_of g c t board) moves) =
-    λ choice feasible. is_of_the_run same_instruction view board g c t q moves choice one feasible in
-    subst (λ (r : PlainProgramme). EnergiesAreOf w moves r) (sym is) of_stated
+    let of_stated : EnergiesAreOf w transitions (stated w (layout_of g c t board) transitions) =
+    λ choice feasible. is_of_the_run same_instruction view board g c t q transitions choice one feasible in
+    subst (λ (r : PlainProgramme). EnergiesAreOf w transitions r) (sym is) of_stated
 
 -- ---- energies
 
@@ -76,6 +76,6 @@ at_most_base : (base : ℕ) (saved : ℤ) (n : ℕ) → pos base -ℤ saved ≡ 
 at_most_base base saved n is = omega (arith, ints, is)
 
 -- a choice whose energy is that of a run saves no more than the base
-pub within_base : (w : Scene) (moves : List Transition) (p : PlainProgramme) → EnergiesAreOf w moves p
+pub within_base : (w : Scene) (transitions : List Transition) (p : PlainProgramme) → EnergiesAreOf w transitions p
     → (c : PlainChoice) → IsFeasible p c → gain p c ≤ℤ pos p.base
-within_base w moves p energies c feasible = at_most_base p.base (gain p c) (energy w (taken_by p c) moves) (energies c feasible)
+within_base w transitions p energies c feasible = at_most_base p.base (gain p c) (energy w (taken_by p c) transitions) (energies c feasible)

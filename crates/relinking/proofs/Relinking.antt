@@ -50,14 +50,14 @@ pub run_tells : (file : List ℕ) (board : Board) (v : PlainView) (g : Graph) (c
     → v ≡ view_in file → IsFaultless file board → IsGraph (view_in file) board g → ReportsCounts v board g c t input (Err fault)
     → ReportsRelink file board input (profile_relink fault)
 run_tells file board v g c t input (profile.AddressFault pc why) same no_fault is_graph told =
-    let (last, ranges_overlap) = subst (λ (u : PlainView). ReportsCounts u board g c t input (Err (profile.AddressFault pc why))) same told in (
+    let (last, fault) = subst (λ (u : PlainView). ReportsCounts u board g c t input (Err (profile.AddressFault pc why))) same told in (
       no_fault,
       record {
         graph = g;
         is_graph = is_graph;
         last = last;
-        taken = transitions_steps (program_in file board g) board.steps (source_start file board g input) last ranges_overlap.moves ranges_overlap.run;
-        outcome_is = sym (faulted last.outcome pc why ranges_overlap.fault);
+        taken = transitions_steps (program_in file board g) board.steps (source_start file board g input) last fault.transitions fault.run;
+        outcome_is = sym (faulted last.outcome pc why fault.fault);
       },
     )
 run_tells file board v g c t input profile.Memory same no_fault is_graph told = tt
@@ -67,7 +67,7 @@ pub states_data : (v : PlainView) (board : Board) (g : Graph) (c : Code) (t : Re
     → StatesProgramme v board g c t input p → IsFeasible p choice → IsDataChoice board g p choice
 states_data v board g c t input p choice states feasible =
     subst (λ (q : PlainProgramme). IsDataChoice board g q choice) (sym states.programme_is)
-    (stated_choice board g c t states.moves choice (subst (λ (q : PlainProgramme). IsFeasible q choice) states.programme_is feasible))
+    (stated_choice board g c t states.transitions choice (subst (λ (q : PlainProgramme). IsFeasible q choice) states.programme_is feasible))
 
 -- ---- the lines
 

@@ -24,18 +24,18 @@ use Rattle.relinking.specs.Runs.{ReportsCounts}
 
 -- the energy of each feasible choice is that of the moves with what it takes
 abbrev pub EnergiesAreOf : Scene → List Transition → PlainProgramme → Type 0
-EnergiesAreOf w moves p =
-    (choice : PlainChoice) → IsFeasible p choice → programme_energy p choice ≡ pos (energy w (taken_by p choice) moves)
+EnergiesAreOf w transitions p =
+    (choice : PlainChoice) → IsFeasible p choice → programme_energy p choice ≡ pos (energy w (taken_by p choice) transitions)
 
 -- The program, started on the input, takes the board's steps, or fewer where it ends. These are its moves, which meet
 -- no address fault, and they state this programme for static data.
 pub record StatesProgramme (v : PlainView) (board : Board) (g : Graph) (c : Code) (t : RegionTable) (input : List ℕ) (p : PlainProgramme) : Type 0 where
-  pub moves : List Transition
+  pub transitions : List Transition
   pub last : SourceState
-  pub run : Transitions (program_of v board g) board.steps (start_of v (program_of v board g) g input) moves last
+  pub run : Transitions (program_of v board g) board.steps (start_of v (program_of v board g) g input) transitions last
   pub no_address_fault : IsAddressFault last.outcome → ⊥
-  pub programme_is : p ≡ stated (scene_of g c t board) (layout_of g c t board) moves
-  pub energies : EnergiesAreOf (scene_of g c t board) moves p
+  pub programme_is : p ≡ stated (scene_of g c t board) (layout_of g c t board) transitions
+  pub energies : EnergiesAreOf (scene_of g c t board) transitions p
 
 -- the programme of the program's run, or its address fault, or that no memory was left
 abbrev pub ReportsProgramme : PlainView → Board → Graph → Code → RegionTable → List ℕ → Result Programme ProfileFault → Type 0

@@ -28,7 +28,7 @@ pub checked-requires : goal.checked-requires
 checked-requires c =
     let o = c.in_ok-opened.opened in
     let states = c.in_ok-programme.ensures in
-    record { within = within_base (scene_of o.analysis.graph o.analysis.code o.analysis.regions o.board) states.moves (plain_programme c.in_ok-programme.programme) states.energies }
+    record { within = within_base (scene_of o.analysis.graph o.analysis.code o.analysis.regions o.board) states.transitions (plain_programme c.in_ok-programme.programme) states.energies }
 
 pub returns-in-Ok-clause-ok : goal.returns-in-Ok-clause-ok
 returns-in-Ok-clause-ok c =

@@ -18,7 +18,7 @@ pub choice_report-requires-clause-within : goal.choice_report-requires-clause-wi
 choice_report-requires-clause-within c =
     let (file, input, is, by) = c.requires in
     let a = c.args.analysis.now in
-    within_base (scene_of a.graph a.code a.regions c.args.board.now) by.states.moves (plain_programme c.args.relinked.now.programme) by.states.energies
+    within_base (scene_of a.graph a.code a.regions c.args.board.now) by.states.transitions (plain_programme c.args.relinked.now.programme) by.states.energies
 
 pub choice_report-requires-clause-feasible : goal.choice_report-requires-clause-feasible
 choice_report-requires-clause-feasible c = let (file, input, is, by) = c.requires in by.result.found.feasible

@@ -11,7 +11,7 @@ programme-requires c =
     let (last, made) = c.in_ok-counts.ensures in (
       analysis.view,
       (
-        made.moves,
+        made.transitions,
         of_one_file analysis.view c.args.board.now analysis.graph analysis.code analysis.regions c.args.input.now c.in_ok-counts.counts last
             may.read c.requires.1.analysis.lawful may.graph may.code may.no_fault may.room may.entry c.requires.1.regions.is_formed.one_each made,
       ),
@@ -25,10 +25,10 @@ returns-in-Ok c =
     let one = of_one_file analysis.view c.args.board.now analysis.graph analysis.code analysis.regions c.args.input.now c.in_ok-counts.counts last
     may.read c.requires.1.analysis.lawful may.graph may.code may.no_fault may.room may.entry c.requires.1.regions.is_formed.one_each made in
     record {
-      moves = made.moves;
+      transitions = made.transitions;
       last = last;
       run = made.run;
       no_address_fault = unfaulted last.outcome made.no_fault;
-      energies = energies_of analysis.view c.args.board.now analysis.graph analysis.code analysis.regions c.in_ok-counts.counts made.moves (plain_programme c.in-Ok.programme) one (c.in-Ok.ensures analysis.view made.moves one);
-      programme_is = c.in-Ok.ensures analysis.view made.moves one;
+      energies = energies_of analysis.view c.args.board.now analysis.graph analysis.code analysis.regions c.in_ok-counts.counts made.transitions (plain_programme c.in-Ok.programme) one (c.in-Ok.ensures analysis.view made.transitions one);
+      programme_is = c.in-Ok.ensures analysis.view made.transitions one;
     }
