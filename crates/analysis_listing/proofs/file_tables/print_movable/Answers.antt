@@ -5,4 +5,4 @@ use Rattle.analysis_listing.proofs.file_tables.print_movable.Goals as goal
 
 pub print_meanings-requires-clause-disjoint : goal.print_meanings-requires-clause-disjoint
 print_meanings-requires-clause-disjoint g c =
-    subst (λ (ranges : List ByteRange). IsDisjoint ranges) (sym c.deref-5.ensures.value) c.in_ok-ranges.ensures.disjoint
+    subst (λ (ranges : List ByteRange). IsDisjoint ranges) (sym c.deref-2.ensures.value) c.in_ok-ranges.ensures.disjoint
