@@ -10,3 +10,4 @@ pub mod TextLemmas
 pub mod NumberLemmas
 pub mod CodeLemmas
 pub mod EntryLemmas
+pub mod OrderLemmas

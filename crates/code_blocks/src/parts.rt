@@ -14,6 +14,21 @@ pub struct Unit {
     pub raw: u32,
 }
 
+impl Unit {
+    ghost use Rattle.std.specs.Prelude.{◌≡◌};
+    ghost use Rattle.code_blocks.specs.Leads.{links_base};
+
+    /// Whether it is a JALR whose base is the register that it writes, other than x0.
+    pub fn links_base(&self) -> bool
+        ensures { result ≡ links_base self.now.instr }
+    {
+        match self.instr {
+            Some(Instr::Jalr { rd, rs1, .. }) => rd == rs1 && rd != 0,
+            _ => false,
+        }
+    }
+}
+
 /// A basic block: units that run one behind the other, entered at the first alone.
 #[derive(Debug, Drop)]
 pub struct Block {

@@ -4,3 +4,6 @@ pub mod Registers
 pub mod Runs
 pub mod Spans
 pub mod Words
+pub mod Lines
+pub mod LineWords
+pub mod SilentLines

@@ -10,6 +10,7 @@ pub mod State
 pub mod Calls
 pub mod Step
 pub mod Runs
+pub mod Lines
 pub mod Start
 pub mod Sizes
 pub mod Machine

@@ -1,6 +1,7 @@
 // Laws of the definitions: functions that do nothing, whose contracts are what is proved.
 ghost use Rattle.flat_machine.specs.Runs.{PerformsMeaning, EventsCompose, StepsCompose};
 ghost use Rattle.flat_machine.specs.Runs.{EventsCount, EndedStays, IsDetermined, OutputGrows};
+ghost use Rattle.flat_machine.specs.Lines.{LinesRun};
 ghost use Rattle.flat_machine.specs.Sizes.{WordsStay};
 
 /// A machine that goes on and can fetch a word performs the instruction that the word means.
@@ -38,6 +39,11 @@ pub fn is_determined()
 /// What was written stays written.
 pub fn output_grows()
     ensures { OutputGrows }
+{}
+
+/// A machine that goes on performs the instructions of a line, one event for each.
+pub fn lines_run()
+    ensures { LinesRun }
 {}
 
 /// Registers hold words, and memory and input hold bytes: at the start of a program, and after each

@@ -11,7 +11,7 @@ mod mapping;
 
 pub use events::{FlatAccess, FlatEvent, FlatOutcome};
 pub use laws::{
-    ended_stays, events_compose, events_count, is_determined, output_grows, performs_meaning,
-    steps_compose, words_stay,
+    ended_stays, events_compose, events_count, is_determined, lines_run, output_grows,
+    performs_meaning, steps_compose, words_stay,
 };
 pub use machine::Flat;

@@ -1,5 +1,5 @@
 -- Lists of numbers that ascend, what is asked of them, and lists and counts of the places that pass a test.
-use Rattle.std.specs.Prelude.{ℕ, zero, suc, ◌+◌, ◌==◌, nat_lt, nat_le, Bool, ◌&&◌, if◌then◌else◌, List, [], ◌∷◌, ◌++◌}
+use Rattle.std.specs.Prelude.{ℕ, zero, suc, ◌+◌, ◌==◌, nat_lt, nat_le, Bool, ◌&&◌, List, [], ◌∷◌, ◌++◌, if◌then◌else◌}
 use Rattle.std.specs.List.Sorted.{IsNonDecreasing}
 
 -- the numbers ascend; a number may stand in the list more than once
@@ -24,6 +24,11 @@ is_inside from size number = nat_le from number && nat_lt number (from + size)
 abbrev pub count_below : (ℕ → Bool) → ℕ → ℕ
 count_below test zero = 0
 count_below test (suc n) = count_below test n + (if test n then 1 else 0)
+
+-- the sum of the values of the places below n
+abbrev pub sum_below : (ℕ → ℕ) → ℕ → ℕ
+sum_below f zero = 0
+sum_below f (suc n) = sum_below f n + f n
 
 -- the values of the places below n that pass a test, in the order of the places
 abbrev pub collected : (ℕ → Bool) → (ℕ → ℕ) → ℕ → List ℕ

@@ -1,5 +1,5 @@
 -- One copy job, and jobs in order.
-use Rattle.std.proofs.Common.{◌≡◌, ◌⊎◌, inl, inr, ℕ, zero, suc, ◌+◌, ◌-◌, ◌*◌, ◌/◌, ◌%◌, ◌<◌, ◌≤◌, ◌==◌, Bool, true, false, ◌&&◌, List, [], ◌∷◌, ◌++◌, length, refl, sym, ◌∙◌, ap, subst, arith}
+use Rattle.std.proofs.Common.{◌≡◌, inl, inr, ℕ, suc, ◌+◌, ◌-◌, ◌*◌, ◌/◌, ◌%◌, ◌<◌, ◌≤◌, Bool, true, false, List, [], ◌∷◌, ◌++◌, length, refl, sym, ◌∙◌, ap, subst, arith}
 use Rattle.std.specs.Prelude.{All}
 use Rattle.std.specs.List.{flat_map}
 use Rattle.std.proofs.lemmas.Grind.{common_steps}
@@ -9,22 +9,25 @@ use Rattle.std.proofs.lemmas.Bool.Decides.{nat_tests}
 use Rattle.word_bits.specs.Memory.{Memory}
 use Rattle.rv_decode.specs.declared.instructions.Instr.{Instr}
 use Rattle.rv_decode.specs.Acts.{Hart}
-use Rattle.board_config.specs.declared.board.Range.{Range}
 use Rattle.flat_machine.specs.declared.events.FlatOutcome.TheVariants.{GoesOn}
 use Rattle.flat_machine.specs.State.{State}
 use Rattle.flat_machine.specs.Runs.{Steps}
 use Rattle.flat_machine.proofs.Runs.{steps_joined}
+use Rattle.flat_machine.specs.Lines.{with_hart, acted, CodeAt}
+use Rattle.flat_machine.proofs.Lines.{line_runs, plain_line, plain_pc}
+use Rattle.flat_machine.proofs.LineWords.{code_kept, code_front, code_behind}
+use Rattle.flat_machine.proofs.SilentLines.{immediate_here, immediate_others}
 use Rattle.overlay_stubs.specs.declared.plan.CopyJob.{CopyJob}
-use Rattle.overlay_stubs.specs.Jobs.{sets, unit_bytes, copies_words, turn, copying, turns, job_run, copied, AreDisjoint, IsJob}
+use Rattle.overlay_stubs.specs.Jobs.{unit_bytes, copies_words, turn, copying, turns, job_run, copied, AreDisjoint, IsJob}
+use Rattle.rv_decode.specs.Sequences.{load_immediate}
 use Rattle.overlay_stubs.specs.Start.{jobs_run, all_copied}
 use Rattle.overlay_stubs.specs.Laws.{CanCopy}
-use Rattle.overlay_stubs.proofs.Copies.{after, after_disjoint, after_small}
-use Rattle.overlay_stubs.proofs.Lines.{with_hart, acted, line_runs, CodeAt, code_kept, code_front, code_behind, plain_line, plain_pc, sets_here, sets_others}
-use Rattle.overlay_stubs.proofs.Turns.{Copied, Leaves, turns_run}
+use Rattle.overlay_stubs.proofs.Copies.{after_disjoint, after_small}
+use Rattle.overlay_stubs.proofs.Turns.{Copied, turns_run}
 
 -- what a job does before its turns
 abbrev heads : CopyJob → List Instr
-heads job = sets 5 job.from ++ sets 7 job.to ++ sets 28 (job.from + job.bytes)
+heads job = load_immediate 5 job.from ++ load_immediate 7 job.to ++ load_immediate 28 (job.from + job.bytes)
 
 pub eleven : (job : CopyJob) → length (copying job) ≡ 11
 unfolding copying
@@ -72,30 +75,30 @@ module _ (s : State) (going : s.outcome ≡ GoesOn) where
         (code_front (heads job) (turn (copies_words job)) s.map h.mem a parts))
 
     abbrev first : Hart
-    first = acted (sets 5 job.from) h
+    first = acted (load_immediate 5 job.from) h
 
     abbrev second : Hart
-    second = acted (sets 7 job.to) first
+    second = acted (load_immediate 7 job.to) first
 
     x5_set : behind.regs 5 ≡ job.from
     x5_set =
         let source = is.source in
-        sets_others 28 (job.from + job.bytes) second 5 (λ e. absurd (omega arith))
-        ∙ (sets_others 7 job.to first 5 (λ e. absurd (omega arith)) ∙ sets_here 5 job.from h (λ e. absurd (omega arith)) (omega arith))
+        immediate_others 28 (job.from + job.bytes) second 5 (λ e. absurd (omega arith))
+        ∙ (immediate_others 7 job.to first 5 (λ e. absurd (omega arith)) ∙ immediate_here 5 job.from h (λ e. absurd (omega arith)) (omega arith))
 
     x7_set : behind.regs 7 ≡ job.to
     x7_set =
         let target = is.target in
-        sets_others 28 (job.from + job.bytes) second 7 (λ e. absurd (omega arith))
-        ∙ sets_here 7 job.to first (λ e. absurd (omega arith)) (omega arith)
+        immediate_others 28 (job.from + job.bytes) second 7 (λ e. absurd (omega arith))
+        ∙ immediate_here 7 job.to first (λ e. absurd (omega arith)) (omega arith)
 
     x28_set : behind.regs 28 ≡ job.from + job.bytes
-    x28_set = sets_here 28 (job.from + job.bytes) second (λ e. absurd (omega arith)) is.source
+    x28_set = immediate_here 28 (job.from + job.bytes) second (λ e. absurd (omega arith)) is.source
 
     others_kept : (k : ℕ) → (k ≡ 5 → ⊥) → (k ≡ 7 → ⊥) → (k ≡ 28 → ⊥) → behind.regs k ≡ h.regs k
     others_kept k no5 no7 no28 =
-        sets_others 28 (job.from + job.bytes) second k no28
-        ∙ (sets_others 7 job.to first k no7 ∙ sets_others 5 job.from h k no5)
+        immediate_others 28 (job.from + job.bytes) second k no28
+        ∙ (immediate_others 7 job.to first k no7 ∙ immediate_others 5 job.from h k no5)
 
     pc_behind : behind.pc ≡ a + 24
     pc_behind = plain_pc (heads job) s h a (tt, (tt, (tt, (tt, (tt, (tt, tt)))))) at (omega arith)

@@ -1,5 +1,4 @@
 pub mod Copies
-pub mod Lines
 pub mod Turns
 pub mod JobLemmas
 pub mod WordLemmas

@@ -1,31 +1,29 @@
 -- The start stub as a whole.
-use Rattle.std.proofs.Common.{◌≡◌, ◌⊎◌, inl, inr, ℕ, zero, suc, ◌+◌, ◌*◌, ◌%◌, ◌<◌, ◌≤◌, ◌==◌, Bool, true, false, ◌&&◌, List, [], ◌∷◌, ◌++◌, length, slice_index, refl, sym, ◌∙◌, ap, subst, arith, w32}
-use Rattle.std.specs.Prelude.{All, replicate}
+use Rattle.std.proofs.Common.{◌≡◌, ℕ, zero, suc, ◌+◌, ◌*◌, ◌<◌, Bool, true, false, List, [], ◌∷◌, ◌++◌, length, slice_index, refl, sym, ◌∙◌, ap, subst, arith}
+use Rattle.std.specs.Prelude.{replicate}
 use Rattle.std.specs.List.{flat_map}
-use Rattle.std.proofs.lemmas.Int.{of_z-to_z}
 use Rattle.std.proofs.lemmas.Grind.{common_steps}
 use Rattle.std.proofs.lemmas.List.{length-append}
 use Rattle.std.proofs.lemmas.Bool.Decides.{nat_tests}
-use Rattle.word_bits.specs.Words.{plus, minus, offset}
-use Rattle.word_bits.specs.Memory.{Memory, put, word_at}
+use Rattle.word_bits.specs.Words.{offset}
+use Rattle.word_bits.specs.Memory.{put, word_at}
 use Rattle.rv_decode.specs.declared.instructions.Instr.{Instr}
 use Rattle.rv_decode.specs.declared.instructions.Instr.TheVariants.{Jal}
 use Rattle.rv_decode.specs.Acts.{Hart, Registers, acts}
-use Rattle.board_config.specs.declared.board.Range.{Range}
-use Rattle.flat_machine.specs.declared.events.FlatOutcome.TheVariants.{GoesOn}
-use Rattle.flat_machine.specs.Mapping.{is_mapped, can_access}
+use Rattle.rv_decode.specs.Sequences.{distance}
+use Rattle.rv_decode.proofs.SequenceLemmas.{arrives, mean_count}
+use Rattle.flat_machine.specs.Mapping.{can_access}
 use Rattle.flat_machine.specs.State.{State}
 use Rattle.flat_machine.specs.Runs.{Steps}
 use Rattle.flat_machine.proofs.Runs.{steps_joined}
-use Rattle.overlay_stubs.specs.declared.plan.CopyJob.{CopyJob}
+use Rattle.flat_machine.specs.Lines.{with_hart, acted, Line, CodeAt}
+use Rattle.flat_machine.proofs.Lines.{line_runs, ArePlain, plain_line, plain_pc, plain_mem}
+use Rattle.flat_machine.proofs.LineWords.{code_front, code_behind, words_fetched, accessed}
 use Rattle.overlay_stubs.specs.Jobs.{copying}
-use Rattle.overlay_stubs.specs.Start.{StartPlan, CanStart, fences, clears, before_jump, start_at, jump_at, distance, start_stub, start_bytes, jobs_run, start_run, all_copied, cleared}
-use Rattle.overlay_stubs.specs.Plans.{MeanAll, AreStartWords}
-use Rattle.overlay_stubs.specs.Laws.{AreMapped, HoldsAt, IsAtStart, started, StartRuns}
-use Rattle.overlay_stubs.proofs.Lines.{with_hart, acted, Line, line_runs, CodeAt, code_front, code_behind, ArePlain, plain_line, plain_pc, plain_mem, plain_append}
-use Rattle.overlay_stubs.proofs.Turns.{accessed}
+use Rattle.overlay_stubs.specs.Start.{StartPlan, CanStart, fences, clears, start_at, jump_at, start_stub, start_bytes, jobs_run, start_run, all_copied, cleared}
+use Rattle.overlay_stubs.specs.Plans.{AreStartWords}
+use Rattle.overlay_stubs.specs.Laws.{IsAtStart, started, StartRuns}
 use Rattle.overlay_stubs.proofs.JobLemmas.{jobs_done}
-use Rattle.overlay_stubs.proofs.WordLemmas.{mean_count, words_fetched}
 
 -- ---- the end of the stub
 
@@ -48,13 +46,6 @@ clears_at old new same k = grind (arith, nat_tests, same k)
 
 clears_alike : (old new : Registers) → ((k : ℕ) → (k ≡ 5 → ⊥) → (k ≡ 7 → ⊥) → (k ≡ 28 → ⊥) → (k ≡ 31 → ⊥) → new k ≡ old k) → cleared new ≡ cleared old
 clears_alike old new same = λ t k. clears_at old new same k t
-
--- a jump arrives
-arrives : (at to : ℕ) → at < 4294967296 → to < 4294967296 → offset at (distance at to) ≡ to
-arrives at to small fits =
-    let bound : minus to at < 4294967296 = omega arith in
-    let back = of_z-to_z w32 (minus to at) bound in
-    ap (λ n. (at + n) % 4294967296) back ∙ omega arith
 
 -- ---- the words in memory
 

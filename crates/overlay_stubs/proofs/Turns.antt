@@ -1,9 +1,7 @@
 -- The loop of a copy job, by induction over the units copied.
-use Rattle.std.proofs.Common.{◌≡◌, ◌⊎◌, inl, inr, ℕ, zero, suc, ◌+◌, ◌*◌, ◌/◌, ◌%◌, ◌<◌, ◌≤◌, ◌==◌, Bool, true, false, not, ◌&&◌, if◌then◌else◌, List, [], ◌∷◌, ◌++◌, length, pos, negsuc, refl, sym, ◌∙◌, ap, subst, arith}
-use Rattle.std.specs.Prelude.{IsTrue}
+use Rattle.std.proofs.Common.{◌≡◌, ℕ, zero, suc, ◌+◌, ◌*◌, ◌%◌, ◌<◌, ◌≤◌, ◌==◌, Bool, true, false, not, if◌then◌else◌, pos, negsuc, refl, sym, ◌∙◌, ap, subst, arith}
 use Rattle.std.proofs.Math.Nat.{suc-mul}
 use Rattle.std.proofs.lemmas.Int.{ints}
-use Rattle.std.proofs.lemmas.Bool.{cases_eq}
 use Rattle.std.proofs.lemmas.Bool.Decides.{nat_tests}
 use Rattle.word_bits.specs.Words.{plus, offset}
 use Rattle.word_bits.specs.Memory.{Memory, put}
@@ -11,36 +9,20 @@ use Rattle.rv_decode.specs.declared.instructions.Instr.{Instr}
 use Rattle.rv_decode.specs.declared.instructions.Instr.TheVariants.{Branch, Load, Store, OpImm}
 use Rattle.rv_decode.specs.declared.instructions.BranchKind.TheVariants.{Bne}
 use Rattle.rv_decode.specs.declared.instructions.ImmKind.TheVariants.{Addi}
-use Rattle.rv_decode.specs.Table.{Means}
-use Rattle.rv_decode.specs.Acts.{Hart, acts, access_of, register, with_register, loaded, stored, load_width, store_width}
-use Rattle.board_config.specs.declared.board.Range.{Range}
+use Rattle.rv_decode.specs.Acts.{Hart, acts, access_of, register, loaded, stored, load_width, store_width}
 use Rattle.flat_machine.specs.declared.events.FlatOutcome.TheVariants.{GoesOn}
-use Rattle.flat_machine.specs.Mapping.{is_mapped, all_mapped, can_access}
+use Rattle.flat_machine.specs.Mapping.{can_access}
 use Rattle.flat_machine.specs.State.{State}
 use Rattle.flat_machine.specs.Step.{may_access}
 use Rattle.flat_machine.specs.Runs.{Steps}
 use Rattle.flat_machine.proofs.Runs.{steps_joined}
+use Rattle.flat_machine.specs.Lines.{with_hart, Fetches, Line, CodeAt, AreMapped}
+use Rattle.flat_machine.proofs.Lines.{line_runs}
+use Rattle.flat_machine.proofs.LineWords.{code_kept, accessed}
 use Rattle.overlay_stubs.specs.Jobs.{unit_bytes, unit_load, unit_store, turn, AreDisjoint}
-use Rattle.overlay_stubs.specs.Laws.{AreMapped}
 use Rattle.overlay_stubs.proofs.Copies.{after, after_disjoint, unit_more}
-use Rattle.overlay_stubs.proofs.Lines.{with_hart, Fetches, acted, Line, line_runs, CodeAt, code_kept}
 
 -- ---- accesses
-
-all_there : (map : List Range) (at n : ℕ) → AreMapped map at n → all_mapped map at n ≡ true
-all_there map at zero mapped = refl
-all_there map at (suc n) mapped =
-    let rest = all_there map at n (λ i below. mapped i (omega arith)) in
-    let last = mapped n (omega arith) in
-    rw (rest, last) refl
-
-pub accessed : (map : List Range) (at n width : ℕ) (d : ℕ) → AreMapped map at n → d + width ≤ n → (at + d) % width ≡ 0 → can_access map (at + d) width ≡ true
-accessed map at n width d mapped fits aligned =
-    let all =
-    all_there map (at + d) width (λ i below.
-    let same : at + (d + i) ≡ at + d + i = omega arith in
-    subst (λ a. is_mapped map a ≡ true) same (mapped (d + i) (omega arith))) in
-    grind (arith, nat_tests)
 
 load_is : (words : Bool) → load_width (unit_load words) ≡ unit_bytes words
 load_is true = refl

@@ -1,20 +1,16 @@
 -- Copy jobs: the words of one, and what it leaves in memory.
-use Rattle.std.specs.Prelude.{◌≡◌, ◌⊎◌, ℕ, ◌+◌, ◌*◌, ◌/◌, ◌%◌, ◌<◌, ◌≤◌, ◌==◌, Bool, true, false, ◌&&◌, List, [], ◌∷◌, ◌++◌, pos, negsuc}
-use Rattle.word_bits.specs.Words.{upper_half, lower_half}
+use Rattle.std.specs.Prelude.{◌⊎◌, ℕ, ◌+◌, ◌*◌, ◌/◌, ◌%◌, ◌<◌, ◌≤◌, ◌==◌, Bool, true, false, ◌&&◌, List, [], ◌∷◌, ◌++◌, pos, negsuc}
 use Rattle.word_bits.specs.Memory.{Memory, bytes_at, put_bytes}
 use Rattle.rv_decode.specs.declared.instructions.Instr.{Instr}
-use Rattle.rv_decode.specs.declared.instructions.Instr.TheVariants.{Lui, Branch, Load, Store, OpImm}
+use Rattle.rv_decode.specs.declared.instructions.Instr.TheVariants.{Branch, Load, Store, OpImm}
 use Rattle.rv_decode.specs.declared.instructions.BranchKind.TheVariants.{Bne}
 use Rattle.rv_decode.specs.declared.instructions.LoadKind.{LoadKind}
 use Rattle.rv_decode.specs.declared.instructions.LoadKind.TheVariants.{Lw, Lbu}
 use Rattle.rv_decode.specs.declared.instructions.StoreKind.{StoreKind}
 use Rattle.rv_decode.specs.declared.instructions.StoreKind.TheVariants.{Sb, Sw}
 use Rattle.rv_decode.specs.declared.instructions.ImmKind.TheVariants.{Addi}
+use Rattle.rv_decode.specs.Sequences.{load_immediate}
 use Rattle.overlay_stubs.specs.declared.plan.CopyJob.{CopyJob}
-
--- LUI and ADDI leave a word in a register
-abbrev pub sets : ℕ → ℕ → List Instr
-sets rd word = Lui rd (upper_half word) ∷ OpImm Addi rd rd (lower_half word) ∷ []
 
 -- whether a job copies words: where both addresses and the number of bytes are multiples of four.
 -- Any other job copies single bytes.
@@ -44,7 +40,7 @@ turn words =
 -- the words of a job: x5, x7 and x28 get the source, the target and the source's end
 unfoldable pub copying : CopyJob → List Instr
 copying job =
-    sets 5 job.from ++ sets 7 job.to ++ sets 28 (job.from + job.bytes) ++ turn (copies_words job)
+    load_immediate 5 job.from ++ load_immediate 7 job.to ++ load_immediate 28 (job.from + job.bytes) ++ turn (copies_words job)
 
 -- how often its turn runs, and how many words a job runs
 abbrev pub turns : CopyJob → ℕ

@@ -1,22 +1,14 @@
 -- What the start stub does, on the flat machine.
-use Rattle.std.specs.Prelude.{◌≡◌, ◌⊎◌, ℕ, ◌+◌, ◌*◌, ◌<◌, ◌≤◌, List, [], ◌∷◌, ◌++◌, length, slice_index, All, IsTrue}
-use Rattle.word_bits.specs.Memory.{Memory, word_at}
+use Rattle.std.specs.Prelude.{◌≡◌, ◌⊎◌, ℕ, ◌+◌, ◌*◌, ◌<◌, ◌≤◌, List, ◌∷◌, ◌++◌, length, All}
+use Rattle.word_bits.specs.Memory.{Memory}
 use Rattle.board_config.specs.declared.board.Range.{Range}
 use Rattle.flat_machine.specs.declared.events.FlatOutcome.TheVariants.{GoesOn}
-use Rattle.flat_machine.specs.Mapping.{is_mapped}
 use Rattle.flat_machine.specs.State.{State}
 use Rattle.flat_machine.specs.Runs.{Steps}
+use Rattle.flat_machine.specs.Lines.{AreMapped, HoldsAt}
 use Rattle.overlay_stubs.specs.declared.plan.CopyJob.{CopyJob}
 use Rattle.overlay_stubs.specs.Start.{StartPlan, CanStart, start_at, start_run, all_copied, cleared}
 use Rattle.overlay_stubs.specs.Plans.{AreStartWords}
-
--- the `n` addresses from `at` are mapped
-abbrev pub AreMapped : List Range → ℕ → ℕ → Type 0
-AreMapped map at n = (i : ℕ) → i < n → IsTrue (is_mapped map (at + i))
-
--- these words stand in memory, from `at` on
-abbrev pub HoldsAt : Memory → ℕ → List ℕ → Type 0
-HoldsAt mem at words = (k : ℕ) → k < length words → word_at mem (at + 4 * k) ≡ slice_index words k
 
 -- both ranges of a job are mapped
 abbrev pub CanCopy : List Range → CopyJob → Type 0

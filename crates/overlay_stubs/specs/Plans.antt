@@ -1,11 +1,10 @@
 -- The plan and the code of stubs as the definitions see them.
-use Rattle.std.specs.Prelude.{◌≡◌, ℕ, ◌+◌, ◌<◌, List, [], ◌∷◌, ◌++◌, replicate}
-use Rattle.rv_decode.specs.declared.instructions.Instr.{Instr}
-use Rattle.rv_decode.specs.Table.{Means}
+use Rattle.std.specs.Prelude.{◌≡◌, ℕ, List, [], ◌++◌, replicate}
+use Rattle.rv_decode.specs.Sequences.{MeanAll}
 use Rattle.overlay_stubs.specs.declared.plan.StubPlan.{StubPlan}
 use Rattle.overlay_stubs.specs.declared.plan.StubCode.{StubCode}
 use Rattle.overlay_stubs.specs.declared.plan.StubSizes.{StubSizes}
-use Rattle.overlay_stubs.specs.Start.{StartPlan, CanStart, start_at, start_stub, start_bytes}
+use Rattle.overlay_stubs.specs.Start.{StartPlan, start_at, start_stub, start_bytes}
 
 -- the start stub that a plan asks for
 abbrev pub start_of : StubPlan → StartPlan
@@ -19,13 +18,6 @@ pub record IsStartAlone (plan : StubPlan) : Type 0 where
   pub leave : plan.leave.items ≡ []
   pub enter : plan.enter.items ≡ []
   pub images : plan.images.items ≡ []
-
--- each word means the instruction at its place
-abbrev pub MeanAll : List ℕ → List Instr → Type 0
-MeanAll [] [] = Unit {0}
-MeanAll [] (i ∷ is) = ⊥
-MeanAll (w ∷ ws) [] = ⊥
-MeanAll (w ∷ ws) (i ∷ is) = Means w i × MeanAll ws is
 
 -- the sixteen control words are 0, and the words behind them mean the stub
 abbrev pub AreStartWords : StartPlan → List ℕ → Type 0

@@ -1,14 +1,13 @@
 -- The start stub: the jobs in order, a fence where one is asked for, the registers cleared, and a
 -- jump to the program's entry. The control words stand before it.
-use Rattle.std.specs.Prelude.{◌≡◌, ℕ, ◌+◌, ◌*◌, ◌%◌, ◌<◌, Bool, true, false, List, [], ◌∷◌, ◌++◌, length, ℤ, pos, All}
+use Rattle.std.specs.Prelude.{◌≡◌, ℕ, ◌+◌, ◌*◌, ◌%◌, ◌<◌, Bool, true, false, List, [], ◌∷◌, ◌++◌, length, pos, All}
 use Rattle.std.specs.List.{flat_map}
-use Rattle.std.specs.Int.{cast_signed, w32}
-use Rattle.word_bits.specs.Words.{minus}
 use Rattle.word_bits.specs.Memory.{Memory, put}
 use Rattle.rv_decode.specs.declared.instructions.Instr.{Instr}
 use Rattle.rv_decode.specs.declared.instructions.Instr.TheVariants.{Jal, OpImm, FenceI}
 use Rattle.rv_decode.specs.declared.instructions.ImmKind.TheVariants.{Addi}
 use Rattle.rv_decode.specs.Table.{IsEvenWithin}
+use Rattle.rv_decode.specs.Sequences.{distance}
 use Rattle.rv_decode.specs.Acts.{Registers}
 use Rattle.overlay_stubs.specs.declared.plan.CopyJob.{CopyJob}
 use Rattle.overlay_stubs.specs.Jobs.{copying, copied, job_run, AreDisjoint, IsJob}
@@ -43,10 +42,6 @@ start_at p = p.base + 64
 
 abbrev pub jump_at : StartPlan → ℕ
 jump_at p = start_at p + 4 * length (before_jump p)
-
--- the signed distance between two addresses
-abbrev pub distance : ℕ → ℕ → ℤ
-distance at to = cast_signed w32 (minus to at)
 
 abbrev pub start_stub : StartPlan → List Instr
 start_stub p = before_jump p ++ Jal 0 (distance (jump_at p) p.entry) ∷ []

@@ -1,26 +1,11 @@
-ghost use Rattle.std.specs.Prelude.{◌≡◌, ℕ, ◌+◌, ◌*◌, ◌<◌, ◌++◌, length, All, IfOk, List, replicate};
-ghost use Rattle.rv_decode.specs.Table.{IsInRange};
+ghost use Rattle.std.specs.Prelude.{◌≡◌, ℕ, ◌+◌, ◌*◌, ◌<◌, ◌++◌, length, IfOk, replicate};
 ghost use Rattle.overlay_stubs.specs.Start.{CanStart, fences, start_bytes};
-ghost use Rattle.overlay_stubs.specs.Plans.{start_of, start_sizes, IsStartAlone, IsStartCode, MeanAll};
-ghost use Rattle.rv_decode.specs.declared.instructions.Instr.{Instr};
+ghost use Rattle.overlay_stubs.specs.Plans.{start_of, start_sizes, IsStartAlone, IsStartCode};
 
 use crate::instructions::start_stub;
 use crate::plan::{StubCode, StubPlan, StubSizes};
-use rv_decode::{Instr, encode};
+use rv_decode::encode_all;
 use std::alloc::{AllocError, Global};
-
-// The words that mean these instructions.
-#[tactic(auto, using(crate::proofs::WordLemmas::mean_more))]
-fn words_of(alloc: Global, code: &[Instr]) -> Result<Vec<u32>, AllocError>
-    requires { All IsInRange code.now }
-    ensures { IfOk result (λ words. MeanAll words.items code.now) }
-{
-    let mut words = Vec::new(alloc);
-    for instr in code {
-        words.push(encode(instr))?;
-    }
-    Ok(words)
-}
 
 // These words behind sixteen words that are 0.
 fn behind_control_words(alloc: Global, code: &[u32]) -> Result<Vec<u32>, AllocError>
@@ -41,7 +26,7 @@ pub fn stubs(alloc: Global, plan: &StubPlan) -> Result<StubCode, AllocError>
     ensures { IfOk result (IsStartCode (start_of plan.now)) }
 {
     let code = start_stub(alloc, plan)?;
-    let words = words_of(alloc, &code)?;
+    let words = encode_all(alloc, &code)?;
     Ok(StubCode {
         words: behind_control_words(alloc, &words)?,
         start: plan.base + 64,

@@ -1,41 +1,21 @@
 // The instructions of copy jobs and of the start stub.
 ghost use Rattle.std.specs.Prelude.{◌≡◌, ℕ, ◌+◌, ◌*◌, ◌<◌, ◌≤◌, ◌++◌, length, All, OnOk, IfOk, pos, negsuc};
-ghost use Rattle.word_bits.specs.Words.{upper_half, lower_half};
 ghost use Rattle.overlay_stubs.specs.Jobs.{copies_words, copying, unit_bytes, unit_load, unit_store, IsJob};
-ghost use Rattle.overlay_stubs.specs.Start.{fences, clears, before_jump, start_stub, jump_at, start_bytes, distance, CanStart};
+ghost use Rattle.overlay_stubs.specs.Start.{fences, clears, before_jump, start_stub, jump_at, start_bytes, CanStart};
 ghost use Rattle.overlay_stubs.specs.Plans.{start_of};
 ghost use Rattle.std.specs.List.{flat_map};
+ghost use Rattle.rv_decode.specs.declared.instructions.ImmKind.TheVariants.{Addi};
 
 use crate::plan::{CopyJob, StubPlan};
-use rv_decode::{BranchKind, ImmKind, Instr, LoadKind, StoreKind};
+use rv_decode::{BranchKind, Instr, LoadKind, StoreKind, addi, jump, lui};
 use std::alloc::{AllocError, Global};
-use word_bits::{hi20, lo12};
+use word_bits::lo12;
 
 // Whether a job copies words: both addresses and the number of bytes are multiples of four.
 fn copies_words(job: &CopyJob) -> bool
     ensures { result ≡ copies_words job.now }
 {
     job.from % 4 == 0 && (job.to % 4 == 0 && job.bytes % 4 == 0)
-}
-
-fn addi(rd: u8, rs1: u8, imm: i32) -> Instr
-    ensures { result ≡ Instr.OpImm ImmKind.Addi rd rs1 imm }
-{
-    Instr::OpImm {
-        kind: ImmKind::Addi,
-        rd,
-        rs1,
-        imm,
-    }
-}
-
-fn lui(rd: u8, word: u32) -> Instr
-    ensures { result ≡ Instr.Lui rd (upper_half word) }
-{
-    Instr::Lui {
-        rd,
-        imm: hi20(word),
-    }
 }
 
 // A unit from the address in x5 to x31.
@@ -66,7 +46,7 @@ fn store_unit(words: bool) -> Instr
 
 // An address goes on by a unit.
 fn next_unit(rd: u8, words: bool) -> Instr
-    ensures { result ≡ Instr.OpImm ImmKind.Addi rd rd (pos (unit_bytes words)) }
+    ensures { result ≡ Instr.OpImm Addi rd rd (pos (unit_bytes words)) }
 {
     addi(rd, rd, if words { 4 } else { 1 })
 }
@@ -137,16 +117,6 @@ fn before_jump(alloc: Global, plan: &StubPlan) -> Result<Vec<Instr>, AllocError>
     push_jobs(&mut code, &plan.start)?;
     push_ends(&mut code, plan.fence_i)?;
     Ok(code)
-}
-
-// The jump from an address to another.
-fn jump(at: u32, to: u32) -> Instr
-    ensures { result ≡ Instr.Jal 0 (distance at to) }
-{
-    Instr::Jal {
-        rd: 0,
-        off: to.wrapping_sub(at).cast_signed(),
-    }
 }
 
 /// The instructions of the start stub.

@@ -1,12 +1,13 @@
 -- Counts that grow where a test passes.
-use Rattle.std.proofs.Common.{◌≡◌, ◌∙◌, inl, inr, ℕ, zero, suc, ◌+◌, ◌<◌, ◌≤◌, ◌==◌, Bool, true, false, ◌&&◌, if◌then◌else◌, List, [], length, set, slice_index_or, refl, sym, ap, subst, arith, Vec, get_or-set_same, get_or-set_other}
+use Rattle.std.proofs.Common.{◌≡◌, ◌∙◌, inl, inr, ℕ, zero, suc, ◌+◌, ◌<◌, ◌≤◌, ◌==◌, Bool, true, false, ◌&&◌, List, [], length, set, slice_index_or, refl, sym, ap, subst, arith, Vec, get_or-set_same, get_or-set_other, if◌then◌else◌}
 use Rattle.std.proofs.Math.ListN.{length-set}
 use Rattle.std.specs.Global.{Global}
 use Rattle.std.proofs.lemmas.Bool.{cases_eq, cases_lt}
 use Rattle.std.proofs.lemmas.List.{length-map, get_or-map, map-set}
 use Rattle.std.proofs.lemmas.Bool.Decides.{nat_tests}
-use Rattle.list_checks.specs.Sorted.{count_below, is_number}
-use Rattle.profile_runner.specs.Counts.{row_of, entry, plain_rows, IsList, IsTable, sum_below}
+use Rattle.list_checks.proofs.SumLemmas.{sum_same}
+use Rattle.list_checks.specs.Sorted.{count_below, is_number, sum_below}
+use Rattle.profile_runner.specs.Counts.{row_of, entry, plain_rows, IsList, IsTable}
 use Rattle.profile_runner.specs.Tallies.{Adds, AddsIn, is_entry}
 
 -- ---- one place
@@ -143,13 +144,6 @@ count_few f zero = omega arith
 count_few f (suc n) = one_at_most (f n) n (count_below f n) (count_few f n)
 
 -- ---- sums of counts of which one grows
-
-pub sum_same : (f g : ℕ → ℕ) (n : ℕ) → ((k : ℕ) → k < n → f k ≡ g k) → sum_below f n ≡ sum_below g n
-sum_same f g zero same = refl
-sum_same f g (suc n) same =
-    let earlier = sum_same f g n (λ k below. same k (omega (arith, below))) in
-    let here = same n (omega arith) in
-    omega (arith, earlier, here)
 
 passes_not : (b : Bool) (r k : ℕ) → (r ≡ k → ⊥) → ◌≡◌ {A = ℕ} (if b && (r == k) then 1 else 0) 0
 passes_not true r k differs = let test : (r == k) ≡ false = grind (arith, nat_tests, differs) in rw test refl

@@ -1,7 +1,8 @@
 -- Before the first transition nothing is counted.
 use Rattle.std.proofs.Common.{◌≡◌, ◌∙◌, ℕ, zero, suc, ◌<◌, ◌≤◌, true, false, List, [], length, replicate, slice_index_or, refl, sym, ap, subst, arith}
 use Rattle.std.proofs.lemmas.List.{length-replicate}
-use Rattle.profile_runner.specs.Counts.{plain_rows, count_in, sum_below, IsList, IsTable, arrivals_of, edges_of, accesses_of, switches_of}
+use Rattle.profile_runner.specs.Counts.{plain_rows, count_in, IsList, IsTable, arrivals_of, edges_of, accesses_of, switches_of}
+use Rattle.list_checks.proofs.SumLemmas.{sum_zero}
 use Rattle.profile_runner.specs.Tallies.{AreFrom, AreRows, plain_edges, edge_row}
 use Rattle.profile_runner.specs.Tally.{IsTally, IsNew, leaves_of, enters_of}
 use Rattle.profile_runner.specs.declared.counts.Edge.{Edge}
@@ -39,11 +40,6 @@ rows_are rows n f is none =
       counts = λ a b below inside. ap (λ (r : List Edge). count_in r a b) (there n a [] [] below) ∙ sym (none a b);
     })
 
-sum_none : (n : ℕ) (f : ℕ → ℕ) → ((k : ℕ) → f k ≡ 0) → sum_below f n ≡ 0
-sum_none zero f none = refl
-sum_none (suc n) f none =
-    let earlier = sum_none n f none in let here = none n in omega (arith, earlier, here)
-
 at_most_none : (sum : ℕ) → sum ≡ 0 → sum ≤ 0
 at_most_none sum is = omega (arith, is)
 
@@ -56,10 +52,10 @@ nothing_is starts regions last size first t new below =
       reads_are = tables_are (plain_rows t.reads.items) size (suc last) (accesses_of starts regions [] false) new.no_reads (λ j k. refl);
       writes_are = tables_are (plain_rows t.writes.items) size (suc last) (accesses_of starts regions [] true) new.no_writes (λ j k. refl);
       switches_are = tables_are (plain_rows t.changes.switches.items) (suc last) (suc last) (switches_of starts regions []) new.no_switches (λ j k. refl);
-      leaves_are = zeros_are t.changes.leaves.items (suc last) (leaves_of starts regions last []) new.no_leaves (λ s. sum_none (suc last) (switches_of starts regions [] s) (λ r. refl));
-      enters_are = zeros_are t.changes.enters.items (suc last) (enters_of starts regions last []) new.no_enters (λ r. sum_none (suc last) (λ s. switches_of starts regions [] s r) (λ s. refl));
-      few_leaves = λ s inside. at_most_none (leaves_of starts regions last [] s) (sum_none (suc last) (switches_of starts regions [] s) (λ r. refl));
-      few_enters = λ r inside. at_most_none (enters_of starts regions last [] r) (sum_none (suc last) (λ s. switches_of starts regions [] s r) (λ s. refl));
+      leaves_are = zeros_are t.changes.leaves.items (suc last) (leaves_of starts regions last []) new.no_leaves (λ s. sum_zero (switches_of starts regions [] s) (suc last) (λ r below. refl));
+      enters_are = zeros_are t.changes.enters.items (suc last) (enters_of starts regions last []) new.no_enters (λ r. sum_zero (λ s. switches_of starts regions [] s r) (suc last) (λ s below. refl));
+      few_leaves = λ s inside. at_most_none (leaves_of starts regions last [] s) (sum_zero (switches_of starts regions [] s) (suc last) (λ r below. refl));
+      few_enters = λ r inside. at_most_none (enters_of starts regions last [] r) (sum_zero (λ s. switches_of starts regions [] s r) (suc last) (λ s below. refl));
       region_is = new.no_region;
       region_fits = let none = new.no_region in omega (arith, none);
       block_fits = let is = new.first_block in omega (arith, is, below);

@@ -1,8 +1,8 @@
 -- What a profile counts of a run.
-use Rattle.std.specs.Prelude.{◌≡◌, ℕ, zero, suc, ◌+◌, ◌-◌, ◌<◌, ◌==◌, nat_lt, Bool, true, false, not, ◌&&◌, ◌||◌, if◌then◌else◌, List, [], ◌∷◌, length, map, slice_index_or, Option, Some, None, Vec}
+use Rattle.std.specs.Prelude.{◌≡◌, ℕ, suc, ◌-◌, ◌<◌, ◌==◌, nat_lt, Bool, true, false, not, ◌&&◌, ◌||◌, List, [], ◌∷◌, length, map, slice_index_or, Option, Some, None, Vec, if◌then◌else◌}
 use Rattle.std.specs.Global.{Global}
 use Rattle.std.specs.List.{All, AllPairs}
-use Rattle.list_checks.specs.Sorted.{count_below}
+use Rattle.list_checks.specs.Sorted.{count_below, sum_below}
 use Rattle.object_machine.specs.declared.events.Access.{Access}
 use Rattle.object_machine.specs.declared.events.Outcome.{Outcome}
 use Rattle.profile_runner.specs.Transition.{Transition, transition_at}
@@ -70,10 +70,6 @@ pub record IsTable (rows : List (List ℕ)) (height width : ℕ) (count : ℕ �
 pub record IsList (counts : List ℕ) (size : ℕ) (count : ℕ → ℕ) : Type 0 where
   pub size_is : length counts ≡ size
   pub each : (k : ℕ) → k < size → slice_index_or counts k 0 ≡ count k
-
-abbrev pub sum_below : (ℕ → ℕ) → ℕ → ℕ
-sum_below f zero = 0
-sum_below f (suc n) = sum_below f n + f n
 
 -- ---- edges: those that were taken, by where they begin and then by where they lead
 

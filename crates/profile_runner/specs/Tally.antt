@@ -4,7 +4,8 @@ use Rattle.std.specs.List.{All}
 use Rattle.object_machine.specs.declared.events.Access.{Access}
 use Rattle.profile_runner.specs.Transition.{Transition}
 use Rattle.profile_runner.specs.Standing.{region_of, entered, block_of, units_run, current}
-use Rattle.profile_runner.specs.Counts.{plain_rows, row_of, entry, arrivals_of, edges_of, accesses_of, switches_of, sum_below, IsList, IsTable}
+use Rattle.profile_runner.specs.Counts.{plain_rows, row_of, entry, arrivals_of, edges_of, accesses_of, switches_of, IsList, IsTable}
+use Rattle.list_checks.specs.Sorted.{sum_below}
 use Rattle.profile_runner.specs.Tallies.{Adds, AddsIn, is_coming, block_now, units_now, region_now, is_switch, is_leave, is_enter, is_access_in, Ascend, plain_edges, edge_row, AreRows, LedTo}
 use Rattle.profile_runner.specs.declared.counts.Edge.{Edge}
 use Rattle.profile_runner.specs.declared.changes.Changes.{Changes}

@@ -1,8 +1,8 @@
 -- Blocks by the addresses at which they begin, and the functions that they lead into.
-use Rattle.std.proofs.Common.{◌≡◌, ◌∙◌, ◌⊎◌, inl, inr, ℕ, zero, suc, ◌+◌, ◌<◌, ◌==◌, Bool, true, false, not, ◌&&◌, ◌||◌, List, [], ◌∷◌, map, set, length, slice_index_or, Option, Some, None, Vec, Global, refl, sym, ap, subst, arith}
+use Rattle.std.proofs.Common.{◌≡◌, ◌∙◌, ◌⊎◌, inl, inr, ℕ, zero, suc, ◌<◌, ◌==◌, Bool, true, false, not, ◌&&◌, ◌||◌, List, [], ◌∷◌, set, length, slice_index_or, Option, Some, Vec, Global, refl, sym, ap, subst, arith}
 use Rattle.std.specs.List.{list_any}
 use Rattle.std.specs.List.Sorted.{IsStrictlyIncreasing}
-use Rattle.std.proofs.lemmas.Bool.{cases_order, eqb-true, eq-eqb, both_ways}
+use Rattle.std.proofs.lemmas.Bool.{cases_order, eqb-true, both_ways}
 use Rattle.std.proofs.lemmas.Bool.Decides.{nat_tests}
 use Rattle.std.proofs.lemmas.List.{length-map, get_or-map, get_or-set_same, get_or-set_other, length-set}
 use Rattle.std.proofs.lemmas.List.Kept.{AllPairs-from_increasing}
@@ -14,8 +14,8 @@ use Rattle.code_blocks.specs.Blocks.{start_of}
 use Rattle.code_blocks.specs.Edges.{successors}
 use Rattle.code_blocks.specs.Numbers.{starts_of, start_at, end_at}
 use Rattle.code_blocks.specs.declared.parts.Code.{Code}
-use Rattle.region_former.specs.Naming.{is_some_of}
-use Rattle.region_former.specs.Flow.{block_count, owner_at, is_of, leads_to, leads_into_at, leads_into}
+use Rattle.code_blocks.specs.Leads.{is_some_of, owner_at, is_of}
+use Rattle.region_former.specs.Flow.{block_count, leads_into}
 use Rattle.region_former.specs.Reaching.{enters_at}
 use Rattle.region_former.specs.Propagation.{row_of}
 use Rattle.region_former.specs.Rows.{truth_at, begins_there, leads_there, AreRows}

@@ -1,5 +1,5 @@
 -- What marks tell once they are spread, and the regions that they give.
-use Rattle.std.proofs.Common.{◌≡◌, ◌∙◌, ◌⊎◌, inl, inr, ℕ, zero, suc, ◌+◌, ◌<◌, ◌≤◌, ◌==◌, nat_le, nat_lt, Bool, true, false, not, ◌&&◌, if◌then◌else◌, List, [], ◌∷◌, ◌++◌, take, drop, length, slice_index_or, Option, Some, None, Vec, Global, refl, sym, ap, subst, arith}
+use Rattle.std.proofs.Common.{◌≡◌, ◌∙◌, ◌⊎◌, inl, inr, ℕ, zero, suc, ◌+◌, ◌<◌, ◌≤◌, nat_le, nat_lt, Bool, true, false, not, ◌&&◌, List, [], ◌∷◌, ◌++◌, take, drop, length, slice_index_or, Option, Some, None, Vec, Global, refl, sym, ap, subst, arith}
 use Rattle.std.proofs.lemmas.Bool.{eqb-true, both_ways}
 use Rattle.std.proofs.lemmas.Bool.Decides.{nat_tests}
 use Rattle.std.proofs.Math.Seq.{take-append_seam}
@@ -10,11 +10,12 @@ use Rattle.code_blocks.specs.Blocks.{no_function, lies_in_function, count_below}
 use Rattle.code_blocks.specs.Numbers.{end_at}
 use Rattle.code_blocks.specs.declared.parts.Code.{Code}
 use Rattle.code_blocks.specs.declared.parts.Function.{Function}
-use Rattle.region_former.specs.Naming.{is_some_of, function_in}
-use Rattle.region_former.specs.Flow.{block_count, owner_at, is_of, leads_to, leads_into_at, leads_into, called_address, lies_at, calls, IsPlace, IsOrderly}
-use Rattle.region_former.specs.Reaching.{is_of_driver, driver_calls, is_root, root_number, root_region, enters_at, enters, Chain, here, further, Leads, LeadsAlone, IsReached, by_one, by_none_or_several}
-use Rattle.region_former.specs.Propagation.{covers, mark_at, row_of, LeadTwo, IsTold, PropagatesOut, AreBelow, first_mark, IsMark, region_by}
-use Rattle.region_former.specs.Rows.{truth_at, leads_there, AreRows}
+use Rattle.region_former.specs.Naming.{function_in}
+use Rattle.code_blocks.specs.Leads.{is_some_of, owner_at, is_of, leads_to}
+use Rattle.region_former.specs.Flow.{block_count, leads_into_at, leads_into, called_address, lies_at, calls, IsPlace, IsOrderly}
+use Rattle.region_former.specs.Reaching.{is_of_driver, driver_calls, is_root, root_region, enters_at, enters, Chain, here, further, Leads, IsReached, by_one, by_none_or_several}
+use Rattle.region_former.specs.Propagation.{covers, mark_at, row_of, IsTold, PropagatesOut, AreBelow, first_mark, IsMark, region_by}
+use Rattle.region_former.specs.Rows.{truth_at, AreRows}
 use Rattle.region_former.specs.declared.propagation.Reached.{Reached}
 use Rattle.region_former.specs.declared.propagation.Reached.TheVariants.{ByNone, ByOne, BySeveral}
 use Rattle.region_former.proofs.PropagationLemmas.{row_inside}

@@ -1,5 +1,5 @@
 -- By which blocks control may enter a region, and which of them cannot be entered.
-use Rattle.std.specs.Prelude.{◌≡◌, ℕ, ◌==◌, Bool, true, false, not, ◌&&◌, ◌||◌, if◌then◌else◌, List, [], map, length, slice_index_or, Option, Some, None}
+use Rattle.std.specs.Prelude.{ℕ, ◌==◌, Bool, true, false, not, ◌&&◌, ◌||◌, List, [], slice_index_or, Option, Some, None}
 use Rattle.list_checks.specs.Tests.{any_below}
 use Rattle.rv_decode.specs.declared.instructions.Instr.{Instr}
 use Rattle.rv_decode.specs.declared.instructions.Instr.TheVariants as instr
@@ -7,10 +7,10 @@ use Rattle.code_leaders.specs.Early.{has}
 use Rattle.code_blocks.specs.Numbers.{starts_of, start_at, end_at}
 use Rattle.code_blocks.specs.declared.ends.End.{End}
 use Rattle.code_blocks.specs.declared.ends.End.TheVariants.{Fall, Branch, Jump, Call, Tail, Indirect, Stop}
-use Rattle.code_blocks.specs.declared.parts.Block.{Block}
 use Rattle.code_blocks.specs.declared.parts.Unit.{Unit}
 use Rattle.code_blocks.specs.declared.parts.Code.{Code}
-use Rattle.region_former.specs.Flow.{block_count, leads_to}
+use Rattle.region_former.specs.Flow.{block_count}
+use Rattle.code_blocks.specs.Leads.{leads_to, units_at, no_unit, links_base}
 
 -- the region of block `b`
 abbrev pub region_in : List ℕ → ℕ → ℕ
@@ -31,21 +31,9 @@ is_border c regions b =
 
 -- ---- why an entry cannot be copied
 
-abbrev pub units_of : Block → List Unit
-units_of b = b.units.items
-
-abbrev pub no_unit : Unit
-no_unit = record { at = 0; words = 0; instr = None; raw = 0 }
-
 -- the first unit of block `b`
 abbrev pub first_unit : Code → ℕ → Unit
-first_unit c b = slice_index_or (slice_index_or (map units_of c.blocks.items) b []) 0 no_unit
-
--- a JALR whose base is the register that it writes, other than x0
-abbrev pub links_base : Option Instr → Bool
-links_base None = false
-links_base (Some (instr.Jalr rd rs1 imm)) = (rd == rs1) && not (rd == 0)
-links_base (Some other) = false
+first_unit c b = slice_index_or (units_at c b) 0 no_unit
 
 abbrev pub is_branch_unit : Option Instr → Bool
 is_branch_unit None = false

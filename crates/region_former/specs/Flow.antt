@@ -1,33 +1,17 @@
 -- Blocks by their numbers: their functions, and where control goes behind them.
-use Rattle.std.specs.Prelude.{◌≡◌, ℕ, ◌<◌, ◌==◌, Bool, false, not, ◌&&◌, List, map, length, slice_index_or, Option, Some, None}
-use Rattle.std.specs.List.{list_any}
+use Rattle.std.specs.Prelude.{ℕ, ◌<◌, Bool, false, not, ◌&&◌, length, Option, Some, None}
 use Rattle.std.specs.List.Sorted.{IsStrictlyIncreasing}
 use Rattle.list_checks.specs.Tests.{any_below}
 use Rattle.code_blocks.specs.Blocks.{lies_in_function}
-use Rattle.code_blocks.specs.Edges.{successors}
-use Rattle.code_blocks.specs.Numbers.{starts_of, start_at, end_at}
+use Rattle.code_blocks.specs.Numbers.{starts_of, end_at}
 use Rattle.code_blocks.specs.declared.ends.End.{End}
 use Rattle.code_blocks.specs.declared.ends.End.TheVariants.{Fall, Branch, Jump, Call, Tail, Indirect, Stop}
-use Rattle.code_blocks.specs.declared.parts.Block.{Block}
 use Rattle.code_blocks.specs.declared.parts.Code.{Code}
-use Rattle.region_former.specs.Naming.{is_some_of, function_in, AreOrdered}
+use Rattle.region_former.specs.Naming.{function_in, AreOrdered}
+use Rattle.code_blocks.specs.Leads.{is_some_of, owner_at, is_of, leads_to}
 
 abbrev pub block_count : Code → ℕ
 block_count c = length c.blocks.items
-
--- the function in whose range block `b` starts
-abbrev pub owner_of : Block → Option ℕ
-owner_of b = b.function
-
-abbrev pub owner_at : Code → ℕ → Option ℕ
-owner_at c b = slice_index_or (map owner_of c.blocks.items) b None
-
-abbrev pub is_of : Code → ℕ → ℕ → Bool
-is_of c f b = is_some_of (owner_at c b) f
-
--- a direct edge leads from block `a` to block `b`
-abbrev pub leads_to : Code → ℕ → ℕ → Bool
-leads_to c a b = list_any (λ x. x == start_at c b) (successors (end_at c a))
 
 -- a direct edge leads from block `a` to block `b`, which is of function `g`
 abbrev pub leads_into_at : Code → ℕ → ℕ → ℕ → Bool

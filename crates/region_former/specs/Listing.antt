@@ -1,10 +1,11 @@
 -- The regions that a board lists by the names of their functions.
-use Rattle.std.specs.Prelude.{◌≡◌, ℕ, zero, suc, ◌<◌, ◌==◌, Bool, if◌then◌else◌, List, [], length, slice_index_or, Option, Some, None}
+use Rattle.std.specs.Prelude.{ℕ, zero, suc, ◌==◌, Bool, List, [], length, slice_index_or, Option, Some, None, if◌then◌else◌}
 use Rattle.list_checks.specs.Tests.{any_below}
 use Rattle.list_checks.specs.First.{unless, first_below}
 use Rattle.elf_reader.specs.File.{PlainView}
 use Rattle.code_blocks.specs.declared.parts.Function.{Function}
-use Rattle.region_former.specs.Naming.{is_some_of, function_named}
+use Rattle.region_former.specs.Naming.{function_named}
+use Rattle.code_blocks.specs.Leads.{is_some_of}
 use Rattle.region_former.specs.Faults.{Fault, unknown_function, two_regions}
 
 -- list `i`, and name `j` of it

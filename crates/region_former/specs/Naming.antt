@@ -1,5 +1,5 @@
 -- Which function of a program a name stands for, and in which one an address lies.
-use Rattle.std.specs.Prelude.{◌≡◌, ℕ, ◌<◌, ◌==◌, Bool, false, not, ◌&&◌, if◌then◌else◌, List, length, slice_index_or, Option, Some, None, bytes_eq}
+use Rattle.std.specs.Prelude.{ℕ, ◌<◌, ◌==◌, Bool, not, ◌&&◌, List, length, slice_index_or, Option, None, bytes_eq, if◌then◌else◌}
 use Rattle.std.specs.List.{All}
 use Rattle.list_checks.specs.First.{unless, first_below}
 use Rattle.elf_reader.specs.File.{PlainView}
@@ -7,11 +7,6 @@ use Rattle.loaded_file.specs.Records.{symbol_at}
 use Rattle.code_blocks.specs.Blocks.{no_function}
 use Rattle.code_blocks.specs.Kept.{AreDisjoint}
 use Rattle.code_blocks.specs.declared.parts.Function.{Function}
-
--- an answer is `k`
-abbrev pub is_some_of : Option ℕ → ℕ → Bool
-is_some_of None k = false
-is_some_of (Some j) k = j == k
 
 -- function `j`; an empty one behind the last
 abbrev pub function_in : List Function → ℕ → Function

@@ -1,11 +1,11 @@
 -- The regions that a program has where its board lists none: each root is a function that the driver calls, and
 -- a function belongs to the one root that leads to it.
-use Rattle.std.specs.Prelude.{◌≡◌, ℕ, suc, nat_le, Bool, true, false, not, ◌&&◌, if◌then◌else◌, length, Option, Some, None}
+use Rattle.std.specs.Prelude.{◌≡◌, ℕ, suc, nat_le, Bool, true, false, not, ◌&&◌, length, Option, Some, None, if◌then◌else◌}
 use Rattle.list_checks.specs.Tests.{any_below}
 use Rattle.code_blocks.specs.Blocks.{count_below}
 use Rattle.code_blocks.specs.declared.parts.Code.{Code}
-use Rattle.region_former.specs.Naming.{is_some_of}
-use Rattle.region_former.specs.Flow.{block_count, is_of, leads_into, calls}
+use Rattle.code_blocks.specs.Leads.{is_some_of, is_of}
+use Rattle.region_former.specs.Flow.{block_count, leads_into, calls}
 
 -- ---- roots
 

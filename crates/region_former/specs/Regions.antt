@@ -1,5 +1,5 @@
 -- The regions of a program, as a table by blocks.
-use Rattle.std.specs.Prelude.{◌≡◌, ℕ, ◌<◌, Bool, false, if◌then◌else◌, List, [], ◌∷◌, length, min, slice_index_or, Option, Some, None, string_bytes}
+use Rattle.std.specs.Prelude.{◌≡◌, ℕ, ◌<◌, Bool, false, List, [], ◌∷◌, length, min, slice_index_or, Option, Some, None, string_bytes, if◌then◌else◌}
 use Rattle.elf_reader.specs.File.{PlainView}
 use Rattle.board_config.specs.Board.{plain_regions}
 use Rattle.board_config.specs.declared.board.Board.{Board}
@@ -7,7 +7,8 @@ use Rattle.code_blocks.specs.declared.parts.Code.{Code}
 use Rattle.region_former.specs.Naming.{function_named}
 use Rattle.region_former.specs.Faults.{Fault}
 use Rattle.region_former.specs.Listing.{listed_region, listing_fault}
-use Rattle.region_former.specs.Flow.{block_count, owner_at}
+use Rattle.region_former.specs.Flow.{block_count}
+use Rattle.code_blocks.specs.Leads.{owner_at}
 use Rattle.region_former.specs.Reaching.{is_root, enters, root_count, IsReached}
 use Rattle.region_former.specs.Borders.{region_in, is_border, becomes_none}
 use Rattle.region_former.specs.declared.table.RegionTable.{RegionTable}

@@ -5,8 +5,8 @@ use Rattle.list_checks.specs.Tests.{any_below}
 use Rattle.code_leaders.specs.Early.{has}
 use Rattle.code_blocks.specs.Numbers.{start_at}
 use Rattle.code_blocks.specs.declared.parts.Code.{Code}
-use Rattle.region_former.specs.Naming.{is_some_of}
-use Rattle.region_former.specs.Flow.{block_count, is_of}
+use Rattle.code_blocks.specs.Leads.{is_some_of, is_of}
+use Rattle.region_former.specs.Flow.{block_count}
 use Rattle.region_former.specs.Reaching.{enters_at}
 use Rattle.region_former.specs.Propagation.{row_of}
 

@@ -3,8 +3,9 @@ ghost use Rattle.std.specs.List.{list_any};
 ghost use Rattle.code_leaders.specs.Early.{has};
 ghost use Rattle.code_blocks.specs.Numbers.{start_at, end_at};
 ghost use Rattle.list_checks.specs.Tests.{any_below};
-ghost use Rattle.region_former.specs.Flow.{block_count, leads_to, IsOrderly};
-ghost use Rattle.region_former.specs.Borders.{region_in, comes_from_outside, is_border, first_unit, links_base, is_branch_unit, is_jal_unit, is_direct_unit, target_of, behind_branch, misses, misses_target, misses_next, is_barred, bars, becomes_none};
+ghost use Rattle.region_former.specs.Flow.{block_count, IsOrderly};
+ghost use Rattle.code_blocks.specs.Leads.{leads_to};
+ghost use Rattle.region_former.specs.Borders.{region_in, comes_from_outside, is_border, first_unit, is_branch_unit, is_jal_unit, is_direct_unit, target_of, behind_branch, misses, misses_target, misses_next, is_barred, bars, becomes_none};
 ghost use Rattle.region_former.specs.Rows.{truth_at};
 
 use crate::flow::successors_of;
@@ -209,7 +210,7 @@ fn is_barred(code: &Code, has_dead: &[bool], b: usize) -> bool
 {
     let unit = first_unit(code, b);
     !has_dead[b]
-        || links_base(&unit.instr)
+        || unit.links_base()
         || misses_target(code, b, &unit)
         || misses_next(code, b, &unit)
 }
@@ -227,16 +228,6 @@ fn first_unit(code: &Code, b: usize) -> Unit
             instr: None,
             raw: 0,
         },
-    }
-}
-
-/// A JALR whose base is the register that it writes, other than x0.
-fn links_base(instr: &Option<Instr>) -> bool
-    ensures { result ≡ links_base instr.now }
-{
-    match *instr {
-        Some(Instr::Jalr { rd, rs1, .. }) => rd == rs1 && rd != 0,
-        _ => false,
     }
 }
 

@@ -1,6 +1,6 @@
 ghost use Rattle.std.specs.Prelude.{◌≡◌, ◌<◌, ℕ, length};
-ghost use Rattle.region_former.specs.Naming.{is_some_of};
-ghost use Rattle.region_former.specs.Flow.{block_count, owner_at, called_address, calls, IsPlace, IsOrderly};
+ghost use Rattle.code_blocks.specs.Leads.{is_some_of, owner_at};
+ghost use Rattle.region_former.specs.Flow.{block_count, called_address, calls, IsPlace, IsOrderly};
 ghost use Rattle.code_blocks.specs.Edges.{successors};
 ghost use Rattle.code_blocks.specs.Numbers.{end_at};
 

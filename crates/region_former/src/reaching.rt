@@ -1,7 +1,7 @@
 ghost use Rattle.std.specs.Prelude.{◌≡◌, ℕ, ◌+◌, ◌<◌, ◌≤◌, nat_lt, not, ◌&&◌, ◌||◌, [], if◌then◌else◌, min, length, IfOk, OnOk, slice_index_or};
 ghost use Rattle.std.specs.List.{list_any};
 ghost use Rattle.code_blocks.specs.Blocks.{count_below};
-ghost use Rattle.region_former.specs.Naming.{is_some_of};
+ghost use Rattle.code_blocks.specs.Leads.{is_some_of};
 ghost use Rattle.region_former.specs.Flow.{block_count, leads_into, IsPlace, IsOrderly};
 ghost use Rattle.region_former.specs.Reaching.{is_of_driver, driver_calls, is_root, enters, root_count, root_region, IsReached};
 ghost use Rattle.region_former.specs.Propagation.{row_of, mark_at, first_mark, IsMark, region_by};

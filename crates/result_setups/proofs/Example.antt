@@ -19,8 +19,8 @@ use Rattle.board_config.specs.declared.board.Board.{Board}
 use Rattle.board_config.specs.declared.board.Range.{Range}
 use Rattle.overlay_stubs.specs.Jobs.{copying, IsJob}
 use Rattle.overlay_stubs.specs.Start.{StartPlan, CanStart, Spares, start_stub, start_bytes}
-use Rattle.overlay_stubs.specs.Plans.{MeanAll}
-use Rattle.overlay_stubs.specs.Laws.{HoldsAt}
+use Rattle.rv_decode.specs.Sequences.{MeanAll}
+use Rattle.flat_machine.specs.Lines.{HoldsAt}
 use Rattle.object_graph.specs.Sites.{in_range}
 use Rattle.object_graph.specs.declared.parts.Object.{Object}
 use Rattle.object_graph.specs.declared.parts.SiteKind.TheVariants.{Hi, LowI}

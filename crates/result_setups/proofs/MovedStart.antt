@@ -25,7 +25,7 @@ use Rattle.overlay_stubs.specs.Start.{StartPlan, start_stub, start_run, all_copi
 use Rattle.overlay_stubs.specs.Laws.{CanCopy, IsAtStart, started, IsOutside}
 use Rattle.overlay_stubs.proofs.ByteLemmas.{jobs_copy_so}
 use Rattle.overlay_stubs.proofs.Starting.{start_runs_so}
-use Rattle.overlay_stubs.proofs.WordLemmas.{mean_count}
+use Rattle.rv_decode.proofs.SequenceLemmas.{mean_count}
 use Rattle.object_graph.specs.Sites.{in_range}
 use Rattle.object_graph.specs.declared.parts.DataWord.{DataWord}
 use Rattle.object_graph.specs.declared.parts.Graph.{Graph}

@@ -10,7 +10,7 @@ use Rattle.board_config.specs.declared.board.Board.{Board}
 use Rattle.overlay_stubs.specs.declared.plan.CopyJob.{CopyJob}
 use Rattle.overlay_stubs.specs.Start.{StartPlan, CanStart, start_at, start_bytes}
 use Rattle.overlay_stubs.specs.Plans.{AreStartWords}
-use Rattle.overlay_stubs.specs.Laws.{HoldsAt}
+use Rattle.flat_machine.specs.Lines.{HoldsAt}
 use Rattle.loaded_file.specs.Code.{image_word}
 use Rattle.object_graph.specs.Sites.{in_range, holds_changed_byte}
 use Rattle.object_graph.specs.declared.parts.Site.{Site}

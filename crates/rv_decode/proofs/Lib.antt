@@ -3,3 +3,4 @@ pub mod Sets
 pub mod Effects
 pub mod Meaning
 pub mod Words
+pub mod SequenceLemmas

@@ -3,3 +3,4 @@ pub mod Table
 pub mod Acts
 pub mod RegSet
 pub mod Operations
+pub mod Sequences

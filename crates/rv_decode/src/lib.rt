@@ -9,6 +9,7 @@ mod instructions;
 mod laws;
 mod operations;
 mod registers;
+mod sequences;
 
 pub use calls::{A0, A1, A2, A7, CALL_EXIT, CALL_READ, CALL_WRITE, NO_CALL};
 pub use decoding::decode;
@@ -18,3 +19,6 @@ pub use instructions::{BranchKind, ImmKind, Instr, LoadKind, RegKind, RegSet, St
 pub use laws::{acts_defines_only, acts_keeps_words, acts_uses_only, one_instruction, one_word};
 pub use operations::{imm_result, reg_result, takes};
 pub use registers::{defs, uses};
+pub use sequences::{
+    addi, distance, encode_all, inverse, jump, jump_absolute, load_immediate, lui,
+};

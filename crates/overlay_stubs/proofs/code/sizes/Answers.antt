@@ -1,5 +1,4 @@
-use Rattle.std.proofs.Common.{◌≡◌, ℕ, ◌+◌, ◌*◌, ap, sym, arith}
-use Rattle.overlay_stubs.specs.declared.plan.StubSizes.{StubSizes}
+use Rattle.std.proofs.Common.{◌≡◌, ◌+◌, ◌*◌, arith}
 use Rattle.overlay_stubs.specs.Start.{start_bytes}
 use Rattle.overlay_stubs.specs.Plans.{start_of}
 use Rattle.overlay_stubs.proofs.WordLemmas.{bytes_are}

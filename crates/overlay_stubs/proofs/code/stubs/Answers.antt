@@ -6,7 +6,7 @@ use Rattle.overlay_stubs.specs.Plans.{start_of}
 use Rattle.overlay_stubs.proofs.WordLemmas.{stub_range}
 use Rattle.overlay_stubs.proofs.code.stubs.Goals as goal
 
-pub words_of-requires : goal.words_of-requires
-words_of-requires c =
+pub encode_all-requires : goal.encode_all-requires
+encode_all-requires c =
     subst (λ (is : List Instr). All IsInRange is) (sym (c.deref.ensures.value ∙ c.in_ok-code.ensures))
     (stub_range (start_of c.args.plan.now) c.requires.start)

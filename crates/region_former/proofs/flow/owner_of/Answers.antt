@@ -1,6 +1,7 @@
-use Rattle.std.proofs.Common.{◌≡◌, ◌∙◌, length, subst, sym, ap, None}
+use Rattle.std.proofs.Common.{◌∙◌, length, subst, sym, ap, None}
 use Rattle.std.proofs.lemmas.List.{get_or-map}
-use Rattle.region_former.specs.Flow.{IsPlace, owner_of}
+use Rattle.region_former.specs.Flow.{IsPlace}
+use Rattle.code_blocks.specs.Leads.{owner_of}
 use Rattle.region_former.proofs.flow.owner_of.Goals as goal
 
 pub returns-in-Some-clause-below : goal.returns-in-Some-clause-below

@@ -1,4 +1,4 @@
-use Rattle.region_former.specs.Flow.{owner_at}
+use Rattle.code_blocks.specs.Leads.{owner_at}
 use Rattle.region_former.specs.Rows.{Lists}
 use Rattle.region_former.specs.Made.{region_for}
 use Rattle.region_former.proofs.forming.block_regions.Given as goal

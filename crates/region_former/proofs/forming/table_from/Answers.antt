@@ -1,7 +1,8 @@
-use Rattle.std.proofs.Common.{◌≡◌, ◌∙◌, ℕ, ◌<◌, ◌≤◌, List, length, slice_index_or, sym, ap, subst, arith}
+use Rattle.std.proofs.Common.{◌∙◌, ℕ, ◌<◌, ◌≤◌, List, length, ap, arith}
 use Rattle.std.proofs.lemmas.List.{get_or_default}
-use Rattle.region_former.specs.Flow.{block_count, owner_at}
-use Rattle.region_former.specs.Borders.{region_in, becomes_none}
+use Rattle.region_former.specs.Flow.{block_count}
+use Rattle.code_blocks.specs.Leads.{owner_at}
+use Rattle.region_former.specs.Borders.{region_in}
 use Rattle.region_former.specs.Made.{region_for}
 use Rattle.region_former.proofs.FormLemmas.{left_within, owner_within}
 use Rattle.region_former.proofs.forming.table_from.Goals as goal

@@ -1,5 +1,5 @@
-use Rattle.std.proofs.Common.{◌≡◌, ◌∙◌, ℕ, Option, sym, ap, not, ◌&&◌}
-use Rattle.region_former.specs.Naming.{is_some_of}
+use Rattle.std.proofs.Common.{◌∙◌, ℕ, Option, sym, ap, not, ◌&&◌}
+use Rattle.code_blocks.specs.Leads.{is_some_of}
 use Rattle.region_former.proofs.BlockLemmas.{begun_at, none_begun, never_both}
 use Rattle.region_former.proofs.reaching.function_entered.Goals as goal
 

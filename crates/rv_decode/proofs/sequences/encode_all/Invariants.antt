@@ -1,6 +1,6 @@
 use Rattle.std.proofs.Common.{take}
-use Rattle.overlay_stubs.specs.Plans.{MeanAll}
-use Rattle.overlay_stubs.proofs.code.words_of.Given as goal
+use Rattle.rv_decode.specs.Sequences.{MeanAll}
+use Rattle.rv_decode.proofs.sequences.encode_all.Given as goal
 
 -- the words so far mean the first instructions
 abbrev pub invariant-loop-instr : goal.invariant-loop-instr
