@@ -1,5 +1,5 @@
 -- The energy of a run in which nothing is moved is what a profile's tables count.
-use Rattle.std.proofs.Common.{◌≡◌, ◌∙◌, ℕ, suc, ◌+◌, ◌-◌, ◌*◌, ◌<◌, ◌≤◌, Bool, true, false, if◌then◌else◌, List, length, slice_index_or, sym, ap, subst, arith}
+use Rattle.std.proofs.Common.{◌≡◌, ◌∙◌, ℕ, suc, ◌+◌, ◌-◌, ◌*◌, ◌<◌, ◌≤◌, Bool, true, false, List, length, slice_index_or, sym, ap, subst, arith, if◌then◌else◌}
 use Rattle.std.proofs.lemmas.List.{length-map}
 use Rattle.rv_decode.specs.Table.{OneInstruction}
 use Rattle.elf_reader.specs.File.{plain_view}
@@ -12,14 +12,14 @@ use Rattle.object_machine.specs.Program.{program_of}
 use Rattle.region_former.specs.declared.table.RegionTable.{RegionTable}
 use Rattle.profile_runner.specs.declared.counts.Profile.{Profile}
 use Rattle.profile_runner.specs.Transition.{Transition, is_going, transition_at}
-use Rattle.energy_model.specs.Forms.{unit_in}
+use Rattle.block_splitter.specs.Forms.{unit_in, body_at}
 use Rattle.energy_model.specs.Energy.{block_in, block_at, unit_number, step_energy, steps_energy, nothing_taken}
-use Rattle.profile_runner.proofs.CountLemmas.{sum_same}
+use Rattle.list_checks.proofs.SumLemmas.{sum_same}
 use Rattle.energy_model.specs.Scenes.{scene_of, AreOfSameFile}
 use Rattle.energy_model.specs.Priced.{price_at, unit_price, units_price}
-use Rattle.energy_model.specs.Base.{body_in, body_price, arrived_price, part_price, CountsEnergy, IsCounted}
+use Rattle.energy_model.specs.Base.{body_price, arrived_price, part_price, CountsEnergy, IsCounted}
 use Rattle.profile_runner.proofs.RunLemmas.{transitions_few, some_transitions}
-use Rattle.profile_runner.specs.Counts.{sum_below}
+use Rattle.list_checks.specs.Sorted.{sum_below}
 use Rattle.energy_model.proofs.StepLemmas.{end_of_run}
 use Rattle.energy_model.proofs.SceneLemmas.{unit_of_transition, follows}
 use Rattle.energy_model.proofs.SumLemmas.{arrived, block_sum, blocks_sum, sum_small}
@@ -55,11 +55,11 @@ arrived_is view board g c t q ms given =
     let w = scene_of g c t board in
     let tables = given.run.profile in
     let count = length-map c.blocks.items start_of in
-    sum_same (λ k. slice_index_or q.arrivals.items k 0 * body_price board.prices (body_in c.blocks.items k))
+    sum_same (λ k. slice_index_or q.arrivals.items k 0 * body_price board.prices (body_at c.blocks.items k))
     (λ b. arrived w ms (length ms) b * block_sum w (price_at w) b) (length c.blocks.items)
-    (λ k below. ap (λ n. n * body_price board.prices (body_in c.blocks.items k)) (tables.arrivals.each k (omega (arith, count, below))))
+    (λ k below. ap (λ n. n * body_price board.prices (body_at c.blocks.items k)) (tables.arrivals.each k (omega (arith, count, below))))
 
-part_is : (view : ElfView) (board : Board) (g : Graph) (c : Code) (t : RegionTable) (q : Profile) (ms : List Transition) → Given view board g c t q ms → part_price board.prices q.outcome (body_in c.blocks.items q.last.0) (q.last.1 - 1) ≡ sum_below (price_at (scene_of g c t board) (block_at (scene_of g c t board) ms (length ms - 1))) (unit_number (scene_of g c t board) ms (length ms - 1)) + last_price (scene_of g c t board) ms (length ms - 1)
+part_is : (view : ElfView) (board : Board) (g : Graph) (c : Code) (t : RegionTable) (q : Profile) (ms : List Transition) → Given view board g c t q ms → part_price board.prices q.outcome (body_at c.blocks.items q.last.0) (q.last.1 - 1) ≡ sum_below (price_at (scene_of g c t board) (block_at (scene_of g c t board) ms (length ms - 1))) (unit_number (scene_of g c t board) ms (length ms - 1)) + last_price (scene_of g c t board) ms (length ms - 1)
 part_is view board g c t q ms given =
     let w = scene_of g c t board in
     let i = length ms - 1 in
@@ -69,13 +69,13 @@ part_is view board g c t q ms given =
     (end_of_run (program_of (plain_view view) board g) board.steps r.from r.to ms r.run).goes_on i (last_of (length ms) (has_transitions view board g c t q ms given)) ∙ ap is_going (sym tables.outcome_is) in
     let block = tables.last_block in
     let units = tables.last_units in
-    let going = λ (b : Bool). units_price board.prices (body_in c.blocks.items (block_at w ms i)).units (unit_number w ms i) + (if b then unit_price board.prices (unit_of_transition w ms i) else board.prices.main_fetch) in
-    ap (λ k. part_price board.prices q.outcome (body_in c.blocks.items k) (q.last.1 - 1)) block
-    ∙ (ap (λ n. part_price board.prices q.outcome (body_in c.blocks.items (block_at w ms i)) (n - 1)) units
+    let going = λ (b : Bool). units_price board.prices (body_at c.blocks.items (block_at w ms i)).units (unit_number w ms i) + (if b then unit_price board.prices (unit_of_transition w ms i) else board.prices.main_fetch) in
+    ap (λ k. part_price board.prices q.outcome (body_at c.blocks.items k) (q.last.1 - 1)) block
+    ∙ (ap (λ n. part_price board.prices q.outcome (body_at c.blocks.items (block_at w ms i)) (n - 1)) units
     ∙ ap going (sym goes))
 
-whole_is : (view : ElfView) (board : Board) (g : Graph) (c : Code) (t : RegionTable) (q : Profile) (ms : List Transition) → Given view board g c t q ms → body_price board.prices (body_in c.blocks.items q.last.0) ≡ block_sum (scene_of g c t board) (price_at (scene_of g c t board)) (block_at (scene_of g c t board) ms (length ms - 1))
-whole_is view board g c t q ms given = ap (λ k. body_price board.prices (body_in c.blocks.items k)) given.run.profile.last_block
+whole_is : (view : ElfView) (board : Board) (g : Graph) (c : Code) (t : RegionTable) (q : Profile) (ms : List Transition) → Given view board g c t q ms → body_price board.prices (body_at c.blocks.items q.last.0) ≡ block_sum (scene_of g c t board) (price_at (scene_of g c t board)) (block_at (scene_of g c t board) ms (length ms - 1))
+whole_is view board g c t q ms given = ap (λ k. body_price board.prices (body_at c.blocks.items k)) given.run.profile.last_block
 
 -- the energy with nothing taken is what is counted
 home_counted : OneInstruction → (view : ElfView) (board : Board) (g : Graph) (c : Code) (t : RegionTable) (q : Profile) (ms : List Transition) → Given view board g c t q ms → IsCounted board.prices c.blocks.items q (steps_energy (scene_of g c t board) nothing_taken ms)
@@ -133,7 +133,7 @@ counts_energy one view board g c t q ms given =
       arrivals = omega (arith, arrivals, count);
       block = omega (arith, block, inside);
       some = omega (arith, units, runs);
-      units = subst (λ k. q.last.1 ≤ length (body_in c.blocks.items k).units) (sym block) (omega (arith, units, runs, below));
+      units = subst (λ k. q.last.1 ≤ length (body_at c.blocks.items k).units) (sym block) (omega (arith, units, runs, below));
       small = omega (arith, counted, energy, few, whole, block_small, few_units);
       enough = omega (arith, counted);
     }

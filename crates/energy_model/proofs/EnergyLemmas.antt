@@ -1,25 +1,27 @@
 -- The energy of a run where objects alone are taken.
-use Rattle.std.proofs.Common.{◌≡◌, ◌∙◌, inl, inr, ℕ, zero, suc, ◌+◌, ◌*◌, ◌<◌, ◌≤◌, ◌==◌, Bool, true, false, ◌&&◌, ◌||◌, if◌then◌else◌, List, [], ◌∷◌, length, map, is_some, Option, Some, None, refl, ap, arith}
+use Rattle.std.proofs.Common.{◌≡◌, ◌∙◌, inl, inr, ℕ, zero, suc, ◌+◌, ◌*◌, ◌<◌, ◌≤◌, ◌==◌, Bool, true, false, ◌&&◌, ◌||◌, List, [], ◌∷◌, length, map, is_some, Option, Some, None, refl, ap, arith, if◌then◌else◌}
 use Rattle.std.specs.List.{All}
 use Rattle.std.proofs.lemmas.Bool.{cases_eq}
 use Rattle.std.proofs.lemmas.Bool.Decides.{nat_tests}
-use Rattle.list_checks.specs.Sorted.{count_below}
+use Rattle.list_checks.specs.Sorted.{count_below, sum_below}
 use Rattle.rv_decode.specs.declared.instructions.Instr.{Instr}
 use Rattle.board_config.specs.declared.board.Prices.{Prices}
 use Rattle.code_leaders.specs.Early.{has}
 use Rattle.object_machine.specs.declared.events.Access.{Access}
 use Rattle.placement_programme.specs.declared.variables.VarName.{VarName}
 use Rattle.placement_programme.specs.declared.variables.VarName.TheVariants.{StaticData}
+use Rattle.profile_runner.proofs.CountLemmas.{sum_more as grown_by}
 use Rattle.profile_runner.specs.Transition.{Transition, transition_at}
 use Rattle.profile_runner.specs.Standing.{number_of, begins, region_of, entered, current}
-use Rattle.profile_runner.specs.Counts.{same_direction, is_access_to, accesses_of, sum_below}
-use Rattle.profile_runner.proofs.CountLemmas.{sum_same, sum_more as grown_by}
-use Rattle.energy_model.specs.Forms.{Body, unit_in}
-use Rattle.energy_model.specs.Energy.{Scene, Taken, Piece, piece_of, is_fast, starts_of, block_in, block_at, unit_number, region_with, form_words, fetch_price, words_price, read_price, write_price, is_fast_access, data_price, access_price, comes_from_outside, arrival_price, way_price, step_energy, steps_energy, nothing_taken}
+use Rattle.profile_runner.specs.Counts.{same_direction, is_access_to, accesses_of}
+use Rattle.list_checks.proofs.SumLemmas.{sum_same, sum_zero}
+use Rattle.block_splitter.specs.declared.block_range.BlockRange.{BlockRange}
+use Rattle.block_splitter.specs.Forms.{Body, unit_in}
+use Rattle.energy_model.specs.Energy.{Scene, Taken, piece_of, is_fast, starts_of, block_in, block_at, unit_number, region_with, form_words, fetch_price, words_price, read_price, write_price, is_fast_access, data_price, access_price, comes_from_outside, arrival_price, way_price, step_energy, steps_energy, nothing_taken}
 use Rattle.energy_model.specs.Priced.{price_at, direction_price, touch_price, touches_price}
 use Rattle.energy_model.proofs.StepLemmas.{IsAccessOf}
 use Rattle.energy_model.proofs.SceneLemmas.{unit_of_transition, Follows}
-use Rattle.energy_model.proofs.SumLemmas.{sum_zero, sum_two, block_sum, blocks_sum, transitions_sum, ran}
+use Rattle.energy_model.proofs.SumLemmas.{sum_two, block_sum, blocks_sum, transitions_sum, ran}
 
 -- ---- a step where objects alone are taken
 
@@ -31,7 +33,7 @@ no_piece : (os : List ℕ) (b : ℕ) → piece_of (map StaticData os) b ≡ None
 no_piece [] b = refl
 no_piece (o ∷ os) b = no_piece os b
 
-words_none : (o : Option Piece) (w : Scene) (b : Body) (k : ℕ) (m : Transition) (prices : Prices) → o ≡ None → form_words o w false b k m * fetch_price o prices ≡ (if m.goes_on then (unit_in b k).words else 1) * prices.main_fetch
+words_none : (o : Option BlockRange) (w : Scene) (b : Body) (k : ℕ) (m : Transition) (prices : Prices) → o ≡ None → form_words o w false b k m * fetch_price o prices ≡ (if m.goes_on then (unit_in b k).words else 1) * prices.main_fetch
 words_none None w b k m prices none = refl
 words_none (Some piece) w b k m prices none = cc
 
@@ -39,7 +41,7 @@ same_both : (b : Bool) (x : ℕ) → x ≡ 0 → (if b then x else 0) ≡ 0
 same_both true x is = is
 same_both false x is = refl
 
-way_none : (o : Option Piece) (w : Scene) (ms : List Transition) (i : ℕ) (b : Bool) (prices : Prices) → o ≡ None → (if b && comes_from_outside w o ms i then arrival_price prices (is_some o) false else 0) ≡ 0
+way_none : (o : Option BlockRange) (w : Scene) (ms : List Transition) (i : ℕ) (b : Bool) (prices : Prices) → o ≡ None → (if b && comes_from_outside w o ms i then arrival_price prices (is_some o) false else 0) ≡ 0
 way_none None w ms i b prices none = same_both (b && true) (0 * prices.main_fetch + 0) (omega arith)
 way_none (Some piece) w ms i b prices none = cc
 

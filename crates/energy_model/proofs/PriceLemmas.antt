@@ -8,15 +8,14 @@ use Rattle.board_config.specs.Board.{AreLawfulPrices}
 use Rattle.board_config.specs.declared.board.Prices.{Prices}
 use Rattle.code_blocks.specs.declared.parts.Unit.{Unit}
 use Rattle.code_blocks.specs.declared.parts.Block.{Block}
-use Rattle.energy_model.specs.Forms.{Body, body_of}
-use Rattle.energy_model.specs.Energy.{no_body, data_price}
+use Rattle.block_splitter.specs.Forms.{Body, body_of, no_body, body_at}
+use Rattle.energy_model.specs.Energy.{data_price}
 use Rattle.energy_model.specs.Priced.{unit_price}
-use Rattle.energy_model.specs.Base.{body_in}
 
-pub body_here : (blocks : List Block) (k : ℕ) (d : Block) → k < length blocks → d ≡ slice_index_or blocks k d → body_in blocks k ≡ body_of d
+pub body_here : (blocks : List Block) (k : ℕ) (d : Block) → k < length blocks → d ≡ slice_index_or blocks k d → body_at blocks k ≡ body_of d
 body_here blocks k d below is = get_or-map body_of blocks k d no_body below ∙ ap body_of (sym is)
 
-pub units_here : (blocks : List Block) (k : ℕ) (d : Block) → k < length blocks → d ≡ slice_index_or blocks k d → (body_in blocks k).units ≡ d.units.items
+pub units_here : (blocks : List Block) (k : ℕ) (d : Block) → k < length blocks → d ≡ slice_index_or blocks k d → (body_at blocks k).units ≡ d.units.items
 units_here blocks k d below is = ap (λ (b : Body). b.units) (body_here blocks k d below is)
 
 access_small : (prices : Prices) (instr : Option Instr) → AreLawfulPrices prices → data_price prices false instr ≤ 10000

@@ -18,8 +18,9 @@ use Rattle.region_former.specs.declared.table.RegionTable.{RegionTable}
 use Rattle.profile_runner.specs.declared.counts.Profile.{Profile}
 use Rattle.profile_runner.specs.Transition.{Transition, is_going, transition_at}
 use Rattle.profile_runner.specs.Standing.{begins, units_run}
-use Rattle.energy_model.specs.Forms.{Body, body_of, unit_in, no_unit}
-use Rattle.energy_model.specs.Energy.{Scene, starts_of, no_body, block_in, block_at, unit_number}
+use Rattle.block_splitter.specs.Forms.{Body, body_of, unit_in, no_body}
+use Rattle.code_blocks.specs.Leads.{no_unit}
+use Rattle.energy_model.specs.Energy.{Scene, starts_of, block_in, block_at, unit_number}
 use Rattle.energy_model.specs.Scenes.{scene_of, AreOfSameFile}
 use Rattle.energy_model.proofs.StepLemmas.{StepAt, step_at, first_transition, IsAccessOf, access_is}
 use Rattle.energy_model.proofs.FollowLemmas.{IsRunIn, IsPlaced, placed, whole, unit_reads, unit_words, few_units}
@@ -49,8 +50,8 @@ some_block : (bs : List Block) (b : ℕ) → b < length bs → Block
 some_block [] b below = absurd (omega (arith, below))
 some_block (x ∷ bs) b below = x
 
-body_at : (bs : List Block) (b : ℕ) (d : Block) → b < length bs → slice_index_or (map body_of bs) b no_body ≡ body_of (slice_index_or bs b d)
-body_at bs b d below = get_or-map body_of bs b d no_body below
+body_is : (bs : List Block) (b : ℕ) (d : Block) → b < length bs → slice_index_or (map body_of bs) b no_body ≡ body_of (slice_index_or bs b d)
+body_is bs b d below = get_or-map body_of bs b d no_body below
 
 -- ---- transitions
 
@@ -79,7 +80,7 @@ is_transition one view board g c t ms i place r inside_run pl =
     let b = block_at w ms i in
     let d = some_block c.blocks.items b pl.inside in
     let block = slice_index_or c.blocks.items b d in
-    let body : block_in w b ≡ body_of block = body_at c.blocks.items b d pl.inside in
+    let body : block_in w b ≡ body_of block = body_is c.blocks.items b d pl.inside in
     let run = pl.run in
     let number : unit_number w ms i ≡ place = omega (arith, run) in
     let within = pl.below d in
@@ -114,7 +115,7 @@ follows one view board g c t q ms given =
           let d = some_block c.blocks.items b pl.inside in
           let all = whole view board g c ms i place d r pl more begun in
           let run = pl.run in
-          let body = body_at c.blocks.items b d pl.inside in
+          let body = body_is c.blocks.items b d pl.inside in
           subst (λ (x : Body). suc (unit_number w ms i) ≡ length x.units) (sym body) (omega (arith, all, run));
       goes_on = λ i more.
           let step = r.steps i (omega (arith, more)) in

@@ -1,39 +1,23 @@
 -- Sums over the transitions of a run, by the blocks that they ran.
-use Rattle.std.proofs.Common.{◌≡◌, ◌∙◌, ◌⊎◌, inl, inr, ℕ, zero, suc, ◌+◌, ◌*◌, ◌<◌, ◌≤◌, ◌==◌, Bool, true, false, ◌&&◌, if◌then◌else◌, List, length, refl, sym, ap, arith}
-use Rattle.std.proofs.lemmas.Bool.{cases_eq, cases_lt}
+use Rattle.std.proofs.Common.{◌≡◌, ◌∙◌, ◌⊎◌, inl, inr, ℕ, zero, suc, ◌+◌, ◌*◌, ◌<◌, ◌≤◌, ◌==◌, Bool, true, false, ◌&&◌, List, length, refl, sym, ap, arith, if◌then◌else◌}
+use Rattle.std.proofs.lemmas.Bool.{cases_eq}
 use Rattle.std.proofs.lemmas.Bool.Decides.{nat_tests}
-use Rattle.list_checks.specs.Sorted.{count_below}
+use Rattle.list_checks.proofs.SumLemmas.{sum_zero, sum_rises, sum_same}
+use Rattle.list_checks.specs.Sorted.{count_below, sum_below}
 use Rattle.profile_runner.specs.Transition.{Transition, transition_at}
 use Rattle.profile_runner.specs.Standing.{number_of, begins, units_run}
-use Rattle.profile_runner.specs.Counts.{sum_below}
-use Rattle.profile_runner.proofs.CountLemmas.{sum_same}
 use Rattle.energy_model.specs.Energy.{Scene, starts_of, block_in, block_at, unit_number}
 use Rattle.energy_model.proofs.SceneLemmas.{Follows}
 
 -- ---- sums
 
-pub sum_zero : (f : ℕ → ℕ) (n : ℕ) → ((k : ℕ) → k < n → f k ≡ 0) → sum_below f n ≡ 0
-sum_zero f zero none = refl
-sum_zero f (suc n) none =
-    let earlier = sum_zero f n (λ k below. none k (omega (arith, below))) in
-    let here = none n (omega arith) in
-    omega (arith, earlier, here)
-
 pub sum_two : (f g : ℕ → ℕ) (n : ℕ) → sum_below (λ k. f k + g k) n ≡ sum_below f n + sum_below g n
 sum_two f g zero = refl
 sum_two f g (suc n) = let earlier = sum_two f g n in omega (arith, earlier)
 
-pub sum_more : (f : ℕ → ℕ) (k n : ℕ) → k ≤ n → sum_below f k ≤ sum_below f n
-sum_more f k zero le = let none : k ≡ 0 = omega (arith, le) in rw none (omega arith)
-sum_more f k (suc n) le =
-    elim (cases_lt k (suc n)) [
-      | inl less ↦ let earlier = sum_more f k n (omega (arith, less)) in omega (arith, earlier)
-      | inr all ↦ let same : k ≡ suc n = omega (arith, all, le) in rw same (omega arith)
-    ]
-
 -- a term of a sum
 pub term_small : (f : ℕ → ℕ) (k n bound : ℕ) → k < n → sum_below f n < bound → sum_below f k + f k < bound
-term_small f k n bound below small = let more = sum_more f (suc k) n below in omega (arith, more, small)
+term_small f k n bound below small = let more = sum_rises f (suc k) n below in omega (arith, more, small)
 
 pub sum_small : (f : ℕ → ℕ) (bound n : ℕ) → ((k : ℕ) → k < n → f k ≤ bound) → sum_below f n ≤ n * bound
 sum_small f bound zero each = omega arith

@@ -1,5 +1,5 @@
 -- The energy of a run under a choice of what stands in the scratchpad: the sum of its steps, in price units.
-use Rattle.std.specs.Prelude.{ℕ, zero, suc, ◌+◌, ◌-◌, ◌*◌, ◌/◌, ◌%◌, ◌==◌, nat_le, Bool, true, false, not, ◌&&◌, if◌then◌else◌, List, [], ◌∷◌, map, length, slice_index_or, Option, Some, None, is_some}
+use Rattle.std.specs.Prelude.{ℕ, zero, suc, ◌+◌, ◌-◌, ◌*◌, ◌/◌, ◌%◌, ◌==◌, Bool, true, false, not, ◌&&◌, List, [], ◌∷◌, map, length, slice_index_or, Option, Some, None, is_some, if◌then◌else◌}
 use Rattle.std.specs.List.{list_any, sum_by}
 use Rattle.rv_decode.specs.declared.instructions.Instr.{Instr}
 use Rattle.rv_decode.specs.declared.instructions.Instr.TheVariants.{Load, Store}
@@ -16,9 +16,10 @@ use Rattle.object_machine.specs.declared.events.Access.{Access}
 use Rattle.placement_programme.specs.declared.variables.VarName.{VarName}
 use Rattle.placement_programme.specs.declared.variables.VarName.TheVariants.{StaticData, StaticCode, OverlayData, OverlayCode}
 use Rattle.profile_runner.specs.Transition.{Transition, transition_at}
-use Rattle.profile_runner.specs.Standing.{number_of, begins, block_of, units_run, current}
-use Rattle.profile_runner.specs.Counts.{sum_below}
-use Rattle.energy_model.specs.Forms.{Body, body_of, kind_of, unit_in, copied_words, fall_out_words, displaced_words, block_size, is_last}
+use Rattle.profile_runner.specs.Standing.{begins, block_of, units_run, current}
+use Rattle.list_checks.specs.Sorted.{sum_below}
+use Rattle.block_splitter.specs.declared.block_range.BlockRange.{BlockRange}
+use Rattle.block_splitter.specs.Forms.{Body, body_at, unit_in, is_last, is_site, kind_of, holds_block, begins_in, copied_words, fall_out_words, displaced_words, copy_words}
 
 -- ---- what a choice is about
 
@@ -42,27 +43,19 @@ nothing_taken = record { on = false; names = [] }
 
 -- ---- where things stand under a choice
 
--- blocks `first` to `last`
-pub record Piece : Type 0 where
-  pub first : ℕ
-  pub last : ℕ
-
-abbrev pub holds_block : ℕ → Piece → Bool
-holds_block b piece = nat_le piece.first b && nat_le b piece.last
-
 -- what of code a variable copies
-abbrev pub piece_in : VarName → Option Piece
+abbrev pub piece_in : VarName → Option BlockRange
 piece_in (StaticData o) = None
 piece_in (StaticCode first last) = Some (record { first = first; last = last })
 piece_in (OverlayData r o) = None
 piece_in (OverlayCode r first last) = Some (record { first = first; last = last })
 
-abbrev pub covering : ℕ → Option Piece → Option Piece → Option Piece
+abbrev pub covering : ℕ → Option BlockRange → Option BlockRange → Option BlockRange
 covering b None other = other
 covering b (Some piece) other = if holds_block b piece then Some piece else other
 
 -- the piece of which block `b` is copied, if it is; a block that is copied for a region runs while that is current
-abbrev pub piece_of : List VarName → ℕ → Option Piece
+abbrev pub piece_of : List VarName → ℕ → Option BlockRange
 piece_of [] b = None
 piece_of (name ∷ names) b = covering b (piece_in name) (piece_of names b)
 
@@ -81,18 +74,12 @@ is_fast names o r = list_any (brings o r) names
 abbrev pub starts_of : Scene → List ℕ
 starts_of w = map start_of w.blocks
 
-abbrev pub no_body : Body
-no_body = record { units = []; end = end.Stop }
-
 abbrev pub block_in : Scene → ℕ → Body
-block_in w b = slice_index_or (map body_of w.blocks) b no_body
-
-abbrev pub is_site : Scene → ℕ → Bool
-is_site w a = list_any (λ s. s.at == a) w.graph.sites.items
+block_in w b = body_at w.blocks b
 
 -- the block that begins at an address is of a piece
-abbrev pub is_inside : Scene → Piece → ℕ → Bool
-is_inside w piece a = list_any (λ s. s == a) (starts_of w) && holds_block (number_of (starts_of w) a) piece
+abbrev pub is_inside : Scene → BlockRange → ℕ → Bool
+is_inside w piece a = begins_in (starts_of w) piece a
 
 -- control enters the region of block `b` there, and a check is made
 abbrev pub is_checked : Scene → Taken → ℕ → Bool
@@ -114,22 +101,22 @@ region_with w transitions i = current (starts_of w) w.regions transitions (suc i
 -- ---- the words of a step
 
 -- in a copy
-abbrev pub words_in_piece : Scene → Piece → Body → ℕ → ℕ → ℕ
+abbrev pub words_in_piece : Scene → BlockRange → Body → ℕ → ℕ → ℕ
 words_in_piece w piece b k next =
-    copied_words (is_inside w piece) next (kind_of (is_site w) b k)
+    copied_words (is_inside w piece) next (kind_of (is_site w.graph) b k)
     + (if is_last b k then fall_out_words (is_inside w piece) next b.end else 0)
 
 -- at home, or behind a check: only the first unit of a block is displaced
 abbrev pub words_at_home : Scene → Bool → Body → ℕ → ℕ
 words_at_home w checked b k =
-    if checked && (k == 0) then displaced_words (kind_of (is_site w) b k) else (unit_in b k).words
+    if checked && (k == 0) then displaced_words (kind_of (is_site w.graph) b k) else (unit_in b k).words
 
 -- a step that exits or traps fetches its own word alone
-abbrev pub form_words : Option Piece → Scene → Bool → Body → ℕ → Transition → ℕ
+abbrev pub form_words : Option BlockRange → Scene → Bool → Body → ℕ → Transition → ℕ
 form_words (Some piece) w checked b k m = if m.goes_on then words_in_piece w piece b k m.next else 1
 form_words None w checked b k m = if m.goes_on then words_at_home w checked b k else 1
 
-abbrev pub fetch_price : Option Piece → Prices → ℕ
+abbrev pub fetch_price : Option BlockRange → Prices → ℕ
 fetch_price (Some piece) prices = prices.spm_fetch
 fetch_price None prices = prices.main_fetch
 
@@ -174,7 +161,7 @@ may_stay (end.Branch target next) = true
 may_stay (end.Jump target) = true
 may_stay other = false
 
-abbrev pub is_internal : Scene → Piece → List Transition → ℕ → Bool
+abbrev pub is_internal : Scene → BlockRange → List Transition → ℕ → Bool
 is_internal w piece transitions zero = false
 is_internal w piece transitions (suc i) =
     holds_block (block_at w transitions i) piece && may_stay (block_in w (block_at w transitions i)).end
@@ -187,7 +174,7 @@ abbrev pub arrival_price : Prices → Bool → Bool → ℕ
 arrival_price prices copied checked =
     arrival_words copied checked * prices.main_fetch + (if checked then prices.main_read else 0)
 
-abbrev pub comes_from_outside : Scene → Option Piece → List Transition → ℕ → Bool
+abbrev pub comes_from_outside : Scene → Option BlockRange → List Transition → ℕ → Bool
 comes_from_outside w None transitions i = true
 comes_from_outside w (Some piece) transitions i = not (is_internal w piece transitions i)
 
@@ -209,10 +196,8 @@ abbrev pub object_rounds : Object → ℕ
 object_rounds o = if (o.home % 4 == 0) && (o.size % 4 == 0) then o.size / 4 else o.size
 
 -- a copy of a piece is a whole number of words
-abbrev pub piece_rounds : Scene → Piece → ℕ
-piece_rounds w piece =
-    sum_below (λ b. if holds_block b piece then block_size (is_site w) (is_inside w piece) (block_in w b) else 0)
-    (length w.blocks)
+abbrev pub piece_rounds : Scene → BlockRange → ℕ
+piece_rounds w piece = copy_words (is_site w.graph) w.blocks piece
 
 abbrev pub into_price : Prices → ℕ → ℕ
 into_price prices n = job_price prices prices.main_read prices.spm_write n

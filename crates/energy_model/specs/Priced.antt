@@ -1,12 +1,13 @@
 -- Prices of units and of objects, by which the energy of a run is counted.
-use Rattle.std.specs.Prelude.{◌≡◌, ℕ, ◌+◌, ◌*◌, ◌==◌, Bool, false, if◌then◌else◌, List, [], ◌∷◌, length, slice_index_or, Option, Some, None}
+use Rattle.std.specs.Prelude.{◌≡◌, ℕ, ◌+◌, ◌*◌, ◌==◌, Bool, false, List, [], ◌∷◌, length, slice_index_or, Option, Some, None, if◌then◌else◌}
 use Rattle.board_config.specs.declared.board.Prices.{Prices}
 use Rattle.code_leaders.specs.Early.{has}
 use Rattle.code_blocks.specs.declared.parts.Unit.{Unit}
 use Rattle.object_machine.specs.declared.events.Access.{Access}
 use Rattle.profile_runner.specs.Transition.{Transition, transition_at}
-use Rattle.profile_runner.specs.Counts.{sum_below}
-use Rattle.energy_model.specs.Forms.{unit_in, no_unit}
+use Rattle.list_checks.specs.Sorted.{sum_below}
+use Rattle.block_splitter.specs.Forms.{unit_in}
+use Rattle.code_blocks.specs.Leads.{no_unit}
 use Rattle.energy_model.specs.Energy.{Scene, block_in, read_price, write_price, data_price}
 
 -- ---- units

@@ -1,5 +1,6 @@
 ghost use Rattle.std.specs.Prelude.{◌≡◌, ◌+◌, ◌-◌, ◌*◌, ◌^◌, ◌<◌, ◌≤◌, length, slice_index_or};
-ghost use Rattle.energy_model.specs.Base.{body_in, body_price, arrived_price, part_price, CountsEnergy, IsCounted};
+ghost use Rattle.energy_model.specs.Base.{body_price, arrived_price, part_price, CountsEnergy, IsCounted};
+ghost use Rattle.block_splitter.specs.Forms.{body_at};
 
 use crate::units::{block_price, part_price};
 use board_config::Prices;
@@ -25,8 +26,8 @@ fn times(count: u64, price: u128) -> u128
 fn started_price(blocks: &[Block], profile: &Profile, k: usize, prices: &Prices) -> u128
     requires inside { k < length blocks.now }
     requires counted { k < length profile.now.arrivals.items }
-    requires small { slice_index_or profile.now.arrivals.items k 0 * body_price prices.now (body_in blocks.now k) < 2 ^ 100 }
-    ensures { result ≡ slice_index_or profile.now.arrivals.items k 0 * body_price prices.now (body_in blocks.now k) }
+    requires small { slice_index_or profile.now.arrivals.items k 0 * body_price prices.now (body_at blocks.now k) < 2 ^ 100 }
+    ensures { result ≡ slice_index_or profile.now.arrivals.items k 0 * body_price prices.now (body_at blocks.now k) }
 {
     times(arrivals_of(profile, k), block_price(blocks, k, prices))
 }

@@ -1,8 +1,8 @@
 ghost use Rattle.std.specs.Prelude.{◌≡◌, ◌+◌, ◌*◌, ◌<◌, ◌≤◌, false, length};
-ghost use Rattle.energy_model.specs.Forms.{unit_in};
+ghost use Rattle.block_splitter.specs.Forms.{unit_in, body_at};
 ghost use Rattle.energy_model.specs.Energy.{data_price};
 ghost use Rattle.energy_model.specs.Priced.{unit_price, units_price};
-ghost use Rattle.energy_model.specs.Base.{body_in, body_price, ended_price, part_price};
+ghost use Rattle.energy_model.specs.Base.{body_price, ended_price, part_price};
 
 use board_config::Prices;
 use code_blocks::{Block, Unit};
@@ -51,7 +51,7 @@ fn whole_price(block: &Block, prices: &Prices) -> u128
 /// What all units of block `k` cost.
 pub(crate) fn block_price(blocks: &[Block], k: usize, prices: &Prices) -> u128
     requires { k < length blocks.now }
-    ensures { result ≡ body_price prices.now (body_in blocks.now k) }
+    ensures { result ≡ body_price prices.now (body_at blocks.now k) }
 {
     whole_price(&blocks[k], prices)
 }
@@ -77,8 +77,8 @@ pub(crate) fn part_price(
     prices: &Prices,
 ) -> u128
     requires inside { k < length blocks.now }
-    requires units { before < length (body_in blocks.now k).units }
-    ensures sum { result ≡ part_price prices.now outcome.now (body_in blocks.now k) before }
+    requires units { before < length (body_at blocks.now k).units }
+    ensures sum { result ≡ part_price prices.now outcome.now (body_at blocks.now k) before }
     ensures small { result ≤ (before + 1) * 18446744073709551615 }
 {
     let block = &blocks[k];

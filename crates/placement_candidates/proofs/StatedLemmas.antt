@@ -1,5 +1,5 @@
 -- What a profile's tables count is what the programme of its run states.
-use Rattle.std.proofs.Common.{◌≡◌, ◌∙◌, inl, inr, ℕ, zero, suc, ◌+◌, ◌-◌, ◌*◌, ◌/◌, ◌%◌, ◌^◌, ◌<◌, ◌≤◌, ◌==◌, Bool, true, false, ◌&&◌, if◌then◌else◌, ℤ, pos, ◌-ℤ◌, List, [], ◌∷◌, ◌++◌, length, map, slice_index_or, replicate, Option, None, refl, sym, ap, subst, arith, Vec}
+use Rattle.std.proofs.Common.{◌≡◌, ◌∙◌, inl, inr, ℕ, zero, suc, ◌+◌, ◌-◌, ◌*◌, ◌/◌, ◌%◌, ◌^◌, ◌<◌, ◌≤◌, ◌==◌, Bool, true, false, ◌&&◌, ℤ, pos, ◌-ℤ◌, List, [], ◌∷◌, ◌++◌, length, map, slice_index_or, replicate, Option, None, refl, sym, ap, subst, arith, Vec, if◌then◌else◌}
 use Rattle.std.specs.List.{All, sum_by}
 use Rattle.std.specs.Prelude.{unsigned_abs}
 use Rattle.std.specs.Global.{Global}
@@ -22,13 +22,15 @@ use Rattle.object_machine.proofs.GraphLemmas.{ends_below}
 use Rattle.region_former.specs.declared.table.RegionTable.{RegionTable}
 use Rattle.profile_runner.specs.declared.counts.Profile.{Profile}
 use Rattle.profile_runner.specs.Transition.{Transition, transition_at}
-use Rattle.profile_runner.specs.Counts.{plain_rows, row_of, IsTable, accesses_of, is_access_to, sum_below}
+use Rattle.profile_runner.specs.Counts.{plain_rows, row_of, IsTable, accesses_of, is_access_to}
+use Rattle.list_checks.specs.Sorted.{sum_below}
 use Rattle.placement_programme.specs.declared.variables.VarName.TheVariants.{StaticData}
 use Rattle.placement_programme.specs.Plain.{PlainFullVar, PlainFullSide, PlainFull}
 use Rattle.placement_programme.specs.Bounds.{AreWeights, value_of, IsWithinFullBounds}
 use Rattle.placement_programme.specs.Rows.{data_span}
 use Rattle.energy_model.specs.Energy.{Scene, steps_energy, into_price, object_rounds, start_job, fence_words, stub_energy, side_energy, nothing_taken}
-use Rattle.profile_runner.proofs.CountLemmas.{sum_same, count_few}
+use Rattle.profile_runner.proofs.CountLemmas.{count_few}
+use Rattle.list_checks.proofs.SumLemmas.{sum_same}
 use Rattle.energy_model.specs.Scenes.{scene_of, layout_of, AreOfSameFile}
 use Rattle.placement_candidates.specs.Stated.{taken_alone, gain_alone, data_var, data_vars, data_side, IsDataFull}
 use Rattle.energy_model.specs.Priced.{touches_price}

@@ -1,5 +1,5 @@
 -- What objects save, and the programme, as they are counted from the tables of a profile.
-use Rattle.std.specs.Prelude.{◌≡◌, ℕ, zero, suc, ◌+◌, ◌-◌, ◌*◌, ◌^◌, ◌<◌, ◌≤◌, ℤ, pos, ◌-ℤ◌, if◌then◌else◌, List, [], ◌∷◌, ◌++◌, length, slice_index_or, replicate}
+use Rattle.std.specs.Prelude.{◌≡◌, ℕ, zero, suc, ◌+◌, ◌-◌, ◌*◌, ◌^◌, ◌<◌, ◌≤◌, ℤ, pos, ◌-ℤ◌, List, [], ◌∷◌, ◌++◌, length, slice_index_or, replicate, if◌then◌else◌}
 use Rattle.board_config.specs.declared.board.Board.{Board}
 use Rattle.board_config.specs.declared.board.Prices.{Prices}
 use Rattle.object_graph.specs.declared.parts.Object.{Object}
@@ -10,7 +10,8 @@ use Rattle.placement_programme.specs.declared.variables.VarName.TheVariants.{Sta
 use Rattle.placement_programme.specs.Plain.{PlainFullVar, PlainFullSide}
 use Rattle.placement_programme.specs.Bounds.{IsWithinFullBounds}
 use Rattle.placement_programme.specs.Rows.{data_span, off_space_row, off_patch_row, job_bytes}
-use Rattle.profile_runner.specs.Counts.{plain_rows, row_of, sum_below}
+use Rattle.profile_runner.specs.Counts.{plain_rows, row_of}
+use Rattle.list_checks.specs.Sorted.{sum_below}
 use Rattle.profile_runner.specs.declared.counts.Profile.{Profile}
 use Rattle.energy_model.specs.Energy.{into_price, object_rounds, fence_words}
 use Rattle.energy_model.specs.Base.{CountsEnergy, IsCounted}

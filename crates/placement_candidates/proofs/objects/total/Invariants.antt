@@ -1,5 +1,5 @@
 use Rattle.std.proofs.Common.{◌≡◌, ℕ, ◌*◌, ◌≤◌, slice_index_or}
-use Rattle.profile_runner.specs.Counts.{sum_below}
+use Rattle.list_checks.specs.Sorted.{sum_below}
 use Rattle.placement_candidates.proofs.objects.total.Given as goal
 
 pub record IsSum (total k : ℕ) (sum : ℕ) : Type 0 where

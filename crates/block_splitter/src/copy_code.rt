@@ -1,0 +1,8 @@
+/// The copy of a piece.
+#[derive(Debug, Drop)]
+pub struct CopyCode {
+    /// Its words.
+    pub words: Vec<u32>,
+    /// Where the copy of each of its blocks begins, in bytes from the beginning.
+    pub starts: Vec<u32>,
+}
