@@ -1,0 +1,17 @@
+pub mod Rows
+pub mod DisplacedRows
+pub mod CopyRows
+pub mod Ends
+pub mod Alike
+pub mod DisplacedRuns
+pub mod Homes
+pub mod HomeCalls
+pub mod Dead
+pub mod Places
+pub mod Units
+pub mod CopiedUnits
+pub mod Falls
+pub mod DisplacedUnits
+pub mod Counts
+pub mod Sites
+pub mod SameRegisters
