@@ -1,7 +1,7 @@
 //! Tables of what holds where blocks begin: live and dead registers, addresses of objects in registers, regions.
 ghost use Rattle.std.specs.Prelude.{ℕ, List};
 ghost use Rattle.board_config.specs.declared.board.Board.{Board};
-ghost use Rattle.relinking.specs.Runs.{IsAnalysed};
+ghost use Rattle.relink_core.specs.Choices.{IsAnalysisOf};
 
 use anyhow::Result;
 use code_blocks::Code;
@@ -54,7 +54,7 @@ pub(crate) fn print_points(
     analysis: &Analysis<'_>,
     most: usize,
 ) -> Result<()>
-    requires { (file : List ℕ) × (board : Board) × IsAnalysed file board analysis.now }
+    requires { (file : List ℕ) × (board : Board) × IsAnalysisOf file board analysis.now }
 {
     let points = points_of(rt.alloc(), analysis)?;
     let objects = u32::try_from(analysis.graph.objects.len()).unwrap_or(u32::MAX);

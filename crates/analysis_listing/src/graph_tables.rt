@@ -1,6 +1,6 @@
 //! Tables of the objects that may move, and of the memory that stays.
 ghost use Rattle.std.specs.Prelude.{List, ℕ};
-ghost use Rattle.relinking.specs.Runs.{IsAnalysed};
+ghost use Rattle.relink_core.specs.Choices.{IsAnalysisOf};
 
 use anyhow::Result;
 use board_config::Board;
@@ -69,7 +69,7 @@ pub(crate) fn print_fixed(
     analysis: &Analysis<'_>,
     board: &Board,
 ) -> Result<()>
-    requires { (file : List ℕ) × IsAnalysed file board.now analysis.now }
+    requires { (file : List ℕ) × IsAnalysisOf file board.now analysis.now }
 {
     let ranges = fixed_ranges(rt.alloc(), &analysis.view, board, &analysis.graph)?;
     for range in &ranges {

@@ -3,7 +3,7 @@
 
 ghost use Rattle.std.specs.Prelude.{List, ℕ};
 ghost use Rattle.board_config.specs.Board.{IsLawful};
-ghost use Rattle.relinking.specs.Runs.{IsAnalysed};
+ghost use Rattle.relink_core.specs.Choices.{IsAnalysisOf};
 
 mod code_tables;
 mod file_tables;
@@ -11,6 +11,7 @@ mod flow_tables;
 mod graph_tables;
 mod large;
 mod moved;
+mod piece_table;
 mod printing;
 mod profile_table;
 
@@ -22,6 +23,7 @@ use crate::flow_tables::{print_live, print_points, print_regions};
 use crate::graph_tables::{print_fixed, print_graph};
 use crate::large::large_file;
 use crate::moved::print_moved;
+use crate::piece_table::print_pieces;
 use crate::profile_table::print_profile;
 use anyhow::{Context, Result, bail};
 use board_config::{Board, read_board};
@@ -74,7 +76,7 @@ fn list_program_table(
     board: &Board,
 ) -> Result<()>
     requires lawful { IsLawful board.now }
-    requires analysed { (file : List ℕ) × IsAnalysed file board.now analysis.now }
+    requires analysed { (file : List ℕ) × IsAnalysisOf file board.now analysis.now }
 {
     println!(rt; "-- {table}")?;
     match table {
@@ -85,6 +87,7 @@ fn list_program_table(
         "counts" => print_counts(rt, analysis),
         "live" => print_live(rt, &analysis.code, &analysis.live, most),
         "points" => print_points(rt, analysis, most),
+        "pieces" => print_pieces(rt, analysis),
         "regions" => print_regions(rt, &analysis.regions),
         "moved" => print_moved(rt, analysis, board),
         "profile" => print_profile(rt, analysis, board),
@@ -100,7 +103,7 @@ fn list_tables(
     board: &Board,
 ) -> Result<()>
     requires lawful { IsLawful board.now }
-    requires analysed { (file : List ℕ) × IsAnalysed file board.now analysis.now }
+    requires analysed { (file : List ℕ) × IsAnalysisOf file board.now analysis.now }
 {
     for table in tables.split(',') {
         let (name, most) = match table.split_once('=') {

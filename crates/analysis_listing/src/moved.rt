@@ -10,7 +10,7 @@ ghost use Rattle.relocator.specs.declared.slots.Slot.{Slot};
 ghost use Rattle.relocator.specs.Placing.{rows_of, IsTable};
 ghost use Rattle.cell_values.specs.Objects.{datum_of};
 ghost use Rattle.relocator.specs.Examples.{table_side};
-ghost use Rattle.relinking.specs.Runs.{IsAnalysed};
+ghost use Rattle.relink_core.specs.Choices.{IsAnalysisOf};
 
 use anyhow::Result;
 use board_config::Board;
@@ -133,7 +133,7 @@ pub(crate) fn print_moved(
     board: &Board,
 ) -> Result<()>
     requires lawful { IsLawful board.now }
-    requires analysed { (file : List ℕ) × IsAnalysed file board.now analysis.now }
+    requires analysed { (file : List ℕ) × IsAnalysisOf file board.now analysis.now }
 {
     let Some(places) = first_placed(rt.alloc(), &analysis.graph, board)? else {
         println!(rt; "no room")?;

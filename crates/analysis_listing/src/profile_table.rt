@@ -1,6 +1,6 @@
 //! The table of a run's counts.
 ghost use Rattle.std.specs.Prelude.{List, ℕ};
-ghost use Rattle.relinking.specs.Runs.{IsAnalysed};
+ghost use Rattle.relink_core.specs.Choices.{IsAnalysisOf};
 
 use crate::printing::print_numbers;
 use anyhow::Result;
@@ -16,7 +16,7 @@ pub(crate) fn print_profile(
     analysis: &Analysis<'_>,
     board: &Board,
 ) -> Result<()>
-    requires { (file : List ℕ) × IsAnalysed file board.now analysis.now }
+    requires { (file : List ℕ) × IsAnalysisOf file board.now analysis.now }
 {
     match profile_of_run(rt.alloc(), analysis, board, b"") {
         Ok(profile) => print_counts(rt, &profile),

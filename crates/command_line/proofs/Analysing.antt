@@ -23,7 +23,7 @@ use Rattle.command_line.specs.declared.faults.CommandFault.TheVariants as comman
 
 -- the view of a file that was opened
 abbrev pub opened_view : (board_text file : List ℕ) (o : Opened) → IsOpened board_text file o → plain_view o.analysis.view ≡ view_in file
-opened_view board_text file o is = same_view file o.analysis.view is.analysed.analysis.is_file
+opened_view board_text file o is = same_view file o.analysis.view is.analysed.is_file
 
 -- ---- faults
 

@@ -40,7 +40,7 @@ compared_files board_text file relinked input o c w is same_relinked compares =
     let g = o.analysis.graph in
     record {
       graph = g;
-      is_graph = is.analysed.analysis.graph;
+      is_graph = is.analysed.graph;
       compares =
           subst (λ (u : PlainView). Compares (program_in file board g) board board.steps (source_start file board g input) (flat_start.start_of u.entry u.segments (mapped_ranges board) input) c) same_relinked
           (subst (λ (u : PlainView). Compares (program_of u board g) board board.steps (start_of u (program_of u board g) g input) (flat_start.start_of w.entry w.segments (mapped_ranges board) input) c) (opened_view board_text file o is) compares);

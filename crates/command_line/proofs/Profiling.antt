@@ -36,7 +36,7 @@ counts_rejected board_text file input o (FaultAt pc why) is told =
     inr (of_run o.board pc why is.accepts
     (record {
       graph = g;
-      is_graph = is.analysed.analysis.graph;
+      is_graph = is.analysed.graph;
       last = last;
       taken = transitions_steps (program_in file o.board g) o.board.steps (source_start file o.board g input) last fault.transitions fault.run;
       outcome_is = sym (faulted last.outcome pc why fault.fault);

@@ -6,7 +6,7 @@ use Rattle.board_config.specs.Keys.{first_key}
 use Rattle.board_config.specs.declared.board.Board.{Board}
 use Rattle.relink_core.specs.Faults.{IsFaultless, IsFirst}
 use Rattle.relink_core.specs.declared.fault.AnalyseFault.{AnalyseFault}
-use Rattle.relinking.specs.Runs.{IsAnalysed}
+use Rattle.relink_core.specs.Choices.{IsAnalysisOf}
 use Rattle.command_line.specs.FaultLine.{Parts, board_parts, analyse_parts, parts_of}
 use Rattle.command_line.specs.declared.opening.Opened.{Opened}
 use Rattle.command_line.specs.declared.faults.CommandFault.{CommandFault}
@@ -29,7 +29,7 @@ pub data ReportsAnalysed (board_text file : List ℕ) (told : Parts) : Type 0 wh
 -- they were opened: the text is that of the board, and the analysis is that of the file for it
 pub record IsOpened (board_text file : List ℕ) (o : Opened) : Type 0 where
   pub accepts : Accepts board_text file o.board
-  pub analysed : IsAnalysed file o.board o.analysis
+  pub analysed : IsAnalysisOf file o.board o.analysis
 
 -- a computation on both was rejected: for want of memory, or by the first fault
 abbrev pub RejectsAnalysed : List ℕ → List ℕ → CommandFault → Type 0

@@ -1,20 +1,18 @@
 -- The start stub of a result can stand at the beginning of the patch range.
-use Rattle.std.proofs.Common.{◌≡◌, ◌⊎◌, inl, inr, ℕ, zero, suc, ◌+◌, ◌*◌, ◌-◌, ◌%◌, ◌<◌, ◌≤◌, min, max, nat_le, Bool, true, false, if◌then◌else◌, List, [], ◌∷◌, map, length, get_or, None, ℤ, pos, negsuc, refl, sym, ap, subst, arith}
+use Rattle.std.proofs.Common.{◌≡◌, ◌⊎◌, inl, inr, ℕ, zero, suc, ◌+◌, ◌*◌, ◌-◌, ◌%◌, ◌<◌, ◌≤◌, min, max, nat_le, Bool, true, false, List, [], ◌∷◌, map, length, get_or, None, refl, sym, ap, subst, arith, if◌then◌else◌}
 use Rattle.std.specs.List.{All}
-use Rattle.std.specs.Int.{cast_unsigned, cast_signed, w32}
 use Rattle.std.proofs.lemmas.Bool.{cases_eq, cases_lt, leb-true}
 use Rattle.std.proofs.lemmas.Bool.Decides.{nat_tests}
-use Rattle.std.proofs.lemmas.Int.{of_z-to_z}
 use Rattle.std.proofs.lemmas.List.{length-map, length-append}
 use Rattle.std.proofs.lemmas.List.Elements.{All-map}
 use Rattle.std.proofs.Math.Nat.{min-le_left, min-le_right, le-max_left, le-max_right}
-use Rattle.word_bits.specs.Words.{minus}
 use Rattle.list_checks.specs.First.{unless, first_below}
 use Rattle.list_checks.proofs.FirstLemmas.{both_none, holds}
 use Rattle.list_checks.specs.Tests.{ranges_overlap}
 use Rattle.list_checks.proofs.TestLemmas.{not_true}
-use Rattle.rv_decode.specs.Table.{IsWithin, IsEvenWithin}
+use Rattle.rv_decode.specs.Sequences.{distance}
 use Rattle.rv_decode.specs.declared.instructions.Instr.TheVariants.{Jal}
+use Rattle.rv_decode.proofs.SequenceLemmas.{in_reach}
 use Rattle.elf_reader.specs.File.{PlainView, view_in}
 use Rattle.elf_reader.specs.Loaded.{section_at}
 use Rattle.elf_reader.proofs.SegmentLemmas.{none_of_headers, load_segments_loadable}
@@ -29,7 +27,7 @@ use Rattle.object_graph.specs.declared.parts.Graph.{Graph}
 use Rattle.object_graph.proofs.LookupLemmas.{laid_out}
 use Rattle.cell_values.specs.Objects.{absent_object, object_of, objects_of}
 use Rattle.overlay_stubs.specs.Jobs.{AreDisjoint, IsJob}
-use Rattle.overlay_stubs.specs.Start.{StartPlan, before_jump, start_at, jump_at, start_bytes, distance, fences, Spares, CanStart}
+use Rattle.overlay_stubs.specs.Start.{StartPlan, before_jump, start_at, jump_at, start_bytes, fences, Spares, CanStart}
 use Rattle.overlay_stubs.proofs.WordLemmas.{bytes_are}
 use Rattle.result_setups.specs.HomeLaws.{IsAccepted}
 use Rattle.cell_values.proofs.GraphObjects.{object_extends}
@@ -128,43 +126,6 @@ greatest_coded v board (suc n) k below has =
           let earlier = greatest_coded v board n k (omega (arith, below, other)) has in
           let here = at_least (has_code v n) (greatest_below v board n) ((section_at v n).addr + (section_at v n).size) in
           omega (arith, earlier, here)
-    ]
-
--- ---- a jump
-
-forward : (at to : ℕ) → at ≤ to → to < 4294967296 → minus to at ≡ to - at
-forward at to order small = omega (arith, order, small)
-
-backward : (at to : ℕ) → to < at → at < 4294967296 → minus to at ≡ 4294967296 - (at - to)
-backward at to order small = omega (arith, order, small)
-
-signed_small : (n : ℕ) → n < 1048576 → cast_signed w32 n ≡ pos n
-signed_small n small = grind (arith, nat_tests, small)
-
-signed_large : (n : ℕ) → 4293918720 ≤ n → n < 4294967296 → cast_signed w32 n ≡ negsuc (4294967295 - n)
-signed_large n large small = grind (arith, nat_tests, large, small)
-
-within_small : (n : ℕ) → n < 1048576 → IsWithin 1048576 (cast_signed w32 n)
-within_small n small = subst (λ (z : ℤ). IsWithin 1048576 z) (sym (signed_small n small)) small
-
-within_large : (n : ℕ) → 4293918720 ≤ n → n < 4294967296 → IsWithin 1048576 (cast_signed w32 n)
-within_large n large small =
-    let short : 4294967295 - n < 1048576 = omega (arith, large, small) in
-    subst (λ (z : ℤ). IsWithin 1048576 z) (sym (signed_large n large small)) short
-
-in_reach : (at to : ℕ) → at < 4294967296 → to < 4294967296 → to < at + 1048576 → at ≤ to + 1048576 → at % 2 ≡ 0 → to % 2 ≡ 0 → IsEvenWithin 1048576 (distance at to)
-in_reach at to small small_to above below even even_to =
-    let n : ℕ = minus to at in
-    let fits : n < 4294967296 = omega arith in
-    let back : cast_unsigned w32 (cast_signed w32 n) ≡ n = of_z-to_z w32 n fits in
-    let even_n : n % 2 ≡ 0 = omega (arith, even, even_to) in
-    elim (cases_lt to at) [
-      | inl order ↦
-          let value = backward at to order small in
-          (within_large n (omega (arith, value, below, order)) fits, omega (arith, back, even_n))
-      | inr order ↦
-          let value = forward at to order small_to in
-          (within_small n (omega (arith, value, above, order)), omega (arith, back, even_n))
     ]
 
 -- ---- the stub
@@ -306,7 +267,7 @@ can_start file board g taken accepted off can =
       spared = All-map (Spares p) (start_job (objects_of g) place) taken
           (λ k d inside. spares board g place p (get_or taken k d) refl laid.spm spm_some near.some fits (placing.moved k d inside));
       ends = omega (arith, fits, ends);
-      reach = in_reach (jump_at p) p.entry (omega (arith, jump, fits, ends)) near.small (omega (arith, above)) (omega (arith, jump, fits, below))
+      reach = in_reach 1048576 (jump_at p) p.entry (omega arith) (omega (arith, jump, fits, ends)) near.small (omega (arith, above)) (omega (arith, jump, fits, below))
           (omega (arith, base)) (omega (arith, entry));
     }
 

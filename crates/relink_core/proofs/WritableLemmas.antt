@@ -28,7 +28,7 @@ use Rattle.object_graph.specs.LayoutFaults.{segment_overlaps, patch_overlap_faul
 use Rattle.object_graph.specs.Graphs.{IsGraph}
 use Rattle.object_graph.specs.declared.parts.Graph.{Graph}
 use Rattle.overlay_stubs.specs.Start.{StartPlan, start_stub, start_bytes}
-use Rattle.overlay_stubs.proofs.WordLemmas.{mean_count}
+use Rattle.rv_decode.proofs.SequenceLemmas.{mean_count}
 use Rattle.result_setups.specs.HomeLaws.{IsAccepted}
 use Rattle.result_setups.proofs.Words.{code_range}
 use Rattle.relocator.specs.declared.places.Places.{Places}

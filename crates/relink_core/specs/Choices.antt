@@ -7,6 +7,9 @@ use Rattle.board_config.specs.Board.{IsLawful}
 use Rattle.board_config.specs.declared.board.Board.{Board}
 use Rattle.object_graph.specs.Graphs.{IsGraph}
 use Rattle.object_graph.specs.declared.parts.Graph.{Graph}
+use Rattle.code_blocks.specs.Blocks.{IsCode}
+use Rattle.liveness.specs.Tables.{IsTableOf}
+use Rattle.block_splitter.specs.Pieces.{ArePieces}
 use Rattle.placement_programme.specs.declared.variables.VarName.{VarName}
 use Rattle.placement_programme.specs.declared.variables.VarName.TheVariants.{StaticData}
 use Rattle.placement_programme.specs.Plain.{PlainVar, PlainSide, PlainProgramme, PlainChoice}
@@ -19,16 +22,22 @@ use Rattle.result_setups.specs.MovedLaws.{KeepsRuns}
 use Rattle.relink_core.specs.declared.analysis.Analysis.{Analysis}
 use Rattle.relink_core.specs.Faults.{analyse_fault}
 use Rattle.relink_core.specs.Keeps.{KeepsPaired}
+use Rattle.relink_core.specs.Regions.{AreRegions}
 
 -- ---- the analysis
 
--- the analysis is of the file for the board, and no check failed
+-- the analysis is of the file for the board, and no check failed: its graph, its code, the registers that are live
+-- where blocks begin, its regions, and the pieces of code that may be copied
 pub record IsAnalysisOf (file : List ℕ) (board : Board) (a : Analysis) : Type 0 where
   pub bytes : AreBytes file
   pub is_file : IsFile file a.view
   pub passes : analyse_fault file board ≡ None
   pub lawful : IsLawful board
   pub graph : IsGraph (view_in file) board a.graph
+  pub code : IsCode (view_in file) a.code
+  pub live : IsTableOf a.code a.live
+  pub regions : AreRegions (view_in file) a.code board a.regions
+  pub pieces : ArePieces a.code a.graph a.pieces.items
 
 -- ---- the programme
 

@@ -11,11 +11,13 @@ ghost use Rattle.code_blocks.specs.Blocks.{IsCode, code_fault};
 ghost use Rattle.code_blocks.specs.Numbers.{starts_of};
 ghost use Rattle.liveness.specs.Tables.{IsTableOf};
 ghost use Rattle.points_to.specs.Tables.{IsTableOf as IsPointsOf};
+ghost use Rattle.block_splitter.specs.Pieces.{ArePieces};
 ghost use Rattle.relink_core.specs.declared.fault.AnalyseFault.TheVariants as analyse;
 ghost use Rattle.relink_core.specs.Faults.{IsOutermost, headers_fault, file_fault, least_patch, patch_fault, places_fault, view_fault, analyse_fault, ReportsAnalysis, ReportsRegions};
 ghost use Rattle.relink_core.specs.Regions.{HasDeadAt, ReportsDead, AreRegions};
 
 use crate::fault::AnalyseFault;
+use block_splitter::{Piece, pieces};
 use board_config::Board;
 use code_blocks::{Code, blocks};
 use elf_reader::{ElfFault, ElfView, read};
@@ -52,6 +54,8 @@ pub struct Analysis<'a> {
     pub live: LiveTable,
     /// The regions of the blocks.
     pub regions: RegionTable,
+    /// The pieces of the code that may be copied.
+    pub pieces: Vec<Piece>,
 }
 
 /// What they say before the code is followed further.
@@ -84,10 +88,12 @@ pub fn analyse<'a>(
     ensures code { IfOk result (λ a. IsCode (view_in bytes.now) a.code) }
     ensures live { IfOk result (λ a. IsTableOf a.code a.live) }
     ensures regions { IfOk result (λ a. AreRegions (view_in bytes.now) a.code board.now a.regions) }
+    ensures pieces { IfOk result (λ a. ArePieces a.code a.graph a.pieces.items) }
     ensures inner { IfErr result IsOutermost }
 {
     let parts = parts_of(alloc, bytes, board)?;
     let live = live(alloc, &parts.code)?;
+    let pieces = pieces(alloc, &parts.code, &live, &parts.graph)?;
     match regions_of(alloc, &parts.view, board, &parts.code, &live) {
         Ok(regions) => Ok(Analysis {
             view: parts.view,
@@ -95,6 +101,7 @@ pub fn analyse<'a>(
             code: parts.code,
             live,
             regions,
+            pieces,
         }),
         Err(fault) => Err(fault),
     }

@@ -16,13 +16,15 @@ use Rattle.code_leaders.specs.Leaders.{is_leader}
 use Rattle.code_blocks.proofs.EntryLemmas.{entry_leads}
 use Rattle.code_blocks.specs.Blocks.{IsCode, code_fault}
 use Rattle.code_blocks.specs.declared.parts.Code.{Code}
+use Rattle.liveness.specs.Tables.{IsTableOf}
+use Rattle.block_splitter.specs.Pieces.{ArePieces}
 use Rattle.relink_core.specs.Faults.{IsFaultless, file_fault, least_patch, patch_fault, places_fault, view_fault, analyse_fault}
 use Rattle.relink_core.specs.Findings.{Findings}
 use Rattle.relink_core.specs.Regions.{AreRegions}
 use Rattle.relink_core.specs.declared.analysis.Analysis.{Analysis}
 use Rattle.relink_core.specs.declared.fault.AnalyseFault.TheVariants as analyse
 use Rattle.relink_core.proofs.KeepsLemmas.{passes}
-use Rattle.relinking.specs.Runs.{IsAnalysed}
+use Rattle.relink_core.specs.Choices.{IsAnalysisOf}
 
 -- ---- what a run asks
 
@@ -64,27 +66,34 @@ may_run file view board g c is none is_graph is_code =
 -- ---- the analysis
 
 -- what a run asks of it
-pub may_state : (file : List ℕ) (board : Board) (a : Analysis) → IsAnalysed file board a → MayRun a.view board a.graph a.code
+pub may_state : (file : List ℕ) (board : Board) (a : Analysis) → IsAnalysisOf file board a → MayRun a.view board a.graph a.code
 may_state file board a is =
-    may_run file a.view board a.graph a.code is.analysis.is_file is.analysis.passes is.analysis.graph is.code
+    may_run file a.view board a.graph a.code is.is_file is.passes is.graph is.code
 
 -- what `analyse` tells
 pub analysed : (file : List ℕ) (board : Board) (a : Analysis) → AreBytes file → IsLawful board → IsFile file a.view → IsFaultless file board
-    → IsGraph (view_in file) board a.graph → IsCode (view_in file) a.code → AreRegions (view_in file) a.code board a.regions
-    → IsAnalysed file board a
-analysed file board a bytes lawful is_file no_fault is_graph is_code are_regions =
+    → IsGraph (view_in file) board a.graph → IsCode (view_in file) a.code → IsTableOf a.code a.live
+    → AreRegions (view_in file) a.code board a.regions → ArePieces a.code a.graph a.pieces.items
+    → IsAnalysisOf file board a
+analysed file board a bytes lawful is_file no_fault is_graph is_code is_live are_regions are_pieces =
     record {
-      analysis = record { bytes = bytes; is_file = is_file; passes = no_fault.before; lawful = lawful; graph = is_graph };
+      bytes = bytes;
+      is_file = is_file;
+      passes = no_fault.before;
+      lawful = lawful;
+      graph = is_graph;
       code = is_code;
+      live = is_live;
       regions = are_regions;
+      pieces = are_pieces;
     }
 
 -- what was found of a file that is analysed
-abbrev pub findings : (file : List ℕ) (board : Board) (a : Analysis) → IsAnalysed file board a → Findings file board
+abbrev pub findings : (file : List ℕ) (board : Board) (a : Analysis) → IsAnalysisOf file board a → Findings file board
 findings file board a is =
     record {
       graph = a.graph;
-      is_graph = is.analysis.graph;
+      is_graph = is.graph;
       code = a.code;
       is_code = is.code;
       regions = a.regions;

@@ -4,7 +4,6 @@ use Rattle.elf_reader.specs.File.{PlainView, view_in}
 use Rattle.board_config.specs.declared.board.Board.{Board}
 use Rattle.object_graph.specs.Graphs.{IsGraph}
 use Rattle.object_graph.specs.declared.parts.Graph.{Graph}
-use Rattle.code_blocks.specs.Blocks.{IsCode}
 use Rattle.code_blocks.specs.Numbers.{starts_of}
 use Rattle.code_blocks.specs.declared.parts.Code.{Code}
 use Rattle.object_machine.specs.Program.{program_of}
@@ -17,15 +16,6 @@ use Rattle.region_former.specs.declared.table.RegionTable.{RegionTable}
 use Rattle.profile_runner.specs.Running.{ReportsOfRun}
 use Rattle.profile_runner.specs.declared.counts.Profile.{Profile}
 use Rattle.profile_runner.specs.declared.fault.ProfileFault.{ProfileFault}
-use Rattle.relink_core.specs.Choices.{IsAnalysisOf}
-use Rattle.relink_core.specs.Regions.{AreRegions}
-use Rattle.relink_core.specs.declared.analysis.Analysis.{Analysis}
-
--- the analysis is that of the file for the board, and has its code and regions
-pub record IsAnalysed (file : List ℕ) (board : Board) (a : Analysis) : Type 0 where
-  pub analysis : IsAnalysisOf file board a
-  pub code : IsCode (view_in file) a.code
-  pub regions : AreRegions (view_in file) a.code board a.regions
 
 -- the program, started on an input, takes the board's steps, or fewer where it ends, and comes to this outcome
 pub record RunsProgram (file : List ℕ) (board : Board) (input : List ℕ) (outcome : Outcome) : Type 0 where

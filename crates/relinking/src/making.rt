@@ -3,7 +3,7 @@ ghost use Rattle.elf_reader.specs.File.{plain_view};
 ghost use Rattle.board_config.specs.Board.{IsLawful};
 ghost use Rattle.relinking.specs.Runs.{ReportsCounts};
 ghost use Rattle.relinking.specs.Relink.{RelinksBy, Relinks, ReportsRelink};
-ghost use Rattle.relinking.specs.Runs.{IsAnalysed};
+ghost use Rattle.relink_core.specs.Choices.{IsAnalysisOf};
 
 use crate::finding::find_choice;
 use crate::stating::programme_of_run;
@@ -101,8 +101,8 @@ pub fn relink_analysed(
     board: &Board,
     input: &[u8],
 ) -> Result<Relinked, ProfileFault>
-    requires { (file : List ℕ) × IsAnalysed file board.now analysis.now }
-    ensures ok { IfOk result (λ r. (file : List ℕ) → IsAnalysed file board.now analysis.now → RelinksBy file board.now analysis.now.graph analysis.now.code analysis.now.regions input.now r) }
+    requires { (file : List ℕ) × IsAnalysisOf file board.now analysis.now }
+    ensures ok { IfOk result (λ r. (file : List ℕ) → IsAnalysisOf file board.now analysis.now → RelinksBy file board.now analysis.now.graph analysis.now.code analysis.now.regions input.now r) }
     ensures err { IfErr result (λ fault. ReportsCounts (plain_view analysis.now.view) board.now analysis.now.graph analysis.now.code analysis.now.regions input.now (Err fault)) }
 {
     let programme = programme_of_run(alloc, analysis, board, input)?;

@@ -4,7 +4,7 @@ ghost use Rattle.placement_programme.specs.Views.{plain_programme, plain_choice}
 ghost use Rattle.relinking.specs.FoundChoice.{is_optimal};
 ghost use Rattle.relinking.specs.Relink.{RelinksBy};
 ghost use Rattle.relinking.specs.Report.{IsRelinkReport};
-ghost use Rattle.relinking.specs.Runs.{IsAnalysed};
+ghost use Rattle.relink_core.specs.Choices.{IsAnalysisOf};
 
 use crate::making::Relinked;
 use board_config::Board;
@@ -20,7 +20,7 @@ pub fn relink_report(
     board: &Board,
     relinked: &Relinked,
 ) -> Result<Vec<u8>, AllocError>
-    requires { (file input : List ℕ) × IsAnalysed file board.now analysis.now × RelinksBy file board.now analysis.now.graph analysis.now.code analysis.now.regions input relinked.now }
+    requires { (file input : List ℕ) × IsAnalysisOf file board.now analysis.now × RelinksBy file board.now analysis.now.graph analysis.now.code analysis.now.regions input relinked.now }
     ensures { IfOk result (λ text. IsRelinkReport (plain_view analysis.now.view) board.now analysis.now.graph (plain_programme relinked.now.programme) (plain_choice relinked.now.found.choice) (is_optimal relinked.now.found.status) text.items) }
 {
     let programme = &relinked.programme;

@@ -1,6 +1,7 @@
 ghost use Rattle.std.specs.Prelude.{ℕ, List};
 ghost use Rattle.elf_reader.specs.File.{plain_view};
-ghost use Rattle.relinking.specs.Runs.{IsAnalysed, ReportsCounts};
+ghost use Rattle.relink_core.specs.Choices.{IsAnalysisOf};
+ghost use Rattle.relinking.specs.Runs.{ReportsCounts};
 ghost use Rattle.relinking.specs.ProgrammeOfRun.{ReportsProgramme};
 
 use board_config::Board;
@@ -20,7 +21,7 @@ pub fn profile_of_run(
     board: &Board,
     input: &[u8],
 ) -> Result<Profile, ProfileFault>
-    requires { (file : List ℕ) × IsAnalysed file board.now analysis.now }
+    requires { (file : List ℕ) × IsAnalysisOf file board.now analysis.now }
     ensures { ReportsCounts (plain_view analysis.now.view) board.now analysis.now.graph analysis.now.code analysis.now.regions input.now result }
 {
     let mut source = Source::new(
@@ -53,7 +54,7 @@ pub fn programme_of_run(
     board: &Board,
     input: &[u8],
 ) -> Result<Programme, ProfileFault>
-    requires { (file : List ℕ) × IsAnalysed file board.now analysis.now }
+    requires { (file : List ℕ) × IsAnalysisOf file board.now analysis.now }
     ensures { ReportsProgramme (plain_view analysis.now.view) board.now analysis.now.graph analysis.now.code analysis.now.regions input.now result }
 {
     let counts = profile_of_run(alloc, analysis, board, input)?;

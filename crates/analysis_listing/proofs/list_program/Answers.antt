@@ -9,4 +9,4 @@ list_tables-requires-clause-analysed g c =
     let file = c.args.bytes.now in
     let found = c.in-Ok.ensures in
     let bytes : AreBytes file = All-from_get_or IsByte file 0 (λ k below. let fits = c.type_inv.bytes k in omega (arith, fits)) in
-    (file, analysed file c.args.board.now c.in-Ok.analysis bytes c.requires.lawful found.file found.fault found.graph found.code found.regions)
+    (file, analysed file c.args.board.now c.in-Ok.analysis bytes c.requires.lawful found.file found.fault found.graph found.code found.live found.regions found.pieces)

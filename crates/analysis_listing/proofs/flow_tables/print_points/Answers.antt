@@ -5,4 +5,4 @@ pub points_of-requires-clause-ascending : goal.points_of-requires-clause-ascendi
 points_of-requires-clause-ascending g c = let (file, board, is) = c.requires in is.code.ascending
 
 pub points_of-requires-clause-graph : goal.points_of-requires-clause-graph
-points_of-requires-clause-graph g c = let (file, board, is) = c.requires in (view_in file, board, is.analysis.graph)
+points_of-requires-clause-graph g c = let (file, board, is) = c.requires in (view_in file, board, is.graph)

@@ -34,7 +34,7 @@ compare-requires-clause-code c =
     let o = c.in_ok-opened.opened in (may_state c.args.file.now o.board o.analysis c.in_ok-opened.ensures.ok.analysed).code
 
 pub compare-requires-clause-lawful : goal.compare-requires-clause-lawful
-compare-requires-clause-lawful c = c.in_ok-opened.ensures.ok.analysed.analysis.lawful
+compare-requires-clause-lawful c = c.in_ok-opened.ensures.ok.analysed.lawful
 
 pub compare-requires-clause-entry : goal.compare-requires-clause-entry
 compare-requires-clause-entry c =

@@ -24,5 +24,5 @@ returns-clause-ok c =
     let bytes : AreBytes file = All-from_get_or IsByte file 0 (λ k below. let fits = c.type_inv.file k in omega (arith, fits)) in
     record {
       accepts = record { is_board = c.in_ok-board.ensures.board; sound = c.in_ok-board.ensures.fault; no_fault = found.fault };
-      analysed = analysed file c.in_ok-board.board c.in_ok-analysis.analysis bytes c.in_ok-board.ensures.lawful found.file found.fault found.graph found.code found.regions;
+      analysed = analysed file c.in_ok-board.board c.in_ok-analysis.analysis bytes c.in_ok-board.ensures.lawful found.file found.fault found.graph found.code found.live found.regions found.pieces;
     }

@@ -1,7 +1,10 @@
-use Rattle.elf_reader.specs.File.{plain_view}
+use Rattle.elf_reader.specs.File.{plain_view, view_in}
 use Rattle.loaded_file.proofs.WordLemmas.{same_view}
 use Rattle.relink_core.proofs.RegionLemmas.{faultless, told_last}
 use Rattle.relink_core.proofs.analysis.analyse.Goals as goal
+
+pub pieces-requires-clause-graph : goal.pieces-requires-clause-graph
+pieces-requires-clause-graph c = (view_in c.args.bytes.now, c.args.board.now, c.in_ok-parts.ensures.graph)
 
 pub returns-in-Ok-clause-fault : goal.returns-in-Ok-clause-fault
 returns-in-Ok-clause-fault c =

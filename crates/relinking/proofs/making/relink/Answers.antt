@@ -18,7 +18,7 @@ relink_analysed-requires c =
     let file = c.args.elf.now in
     let found = c.in_ok-analysis.ensures in
     let bytes : AreBytes file = All-from_get_or IsByte file 0 (λ k below. let fits = c.type_inv.elf k in omega (arith, fits)) in
-    (file, analysed file c.args.board.now c.in_ok-analysis.analysis bytes c.requires.lawful found.file found.fault found.graph found.code found.regions)
+    (file, analysed file c.args.board.now c.in_ok-analysis.analysis bytes c.requires.lawful found.file found.fault found.graph found.code found.live found.regions found.pieces)
 
 pub returns-in-Ok-clause-ok : goal.returns-in-Ok-clause-ok
 returns-in-Ok-clause-ok c =
@@ -27,7 +27,7 @@ returns-in-Ok-clause-ok c =
     let found = c.in_ok-analysis.ensures in
     let analysis = c.in_ok-analysis.analysis in
     let bytes : AreBytes file = All-from_get_or IsByte file 0 (λ k below. let fits = c.type_inv.elf k in omega (arith, fits)) in
-    let is = analysed file board analysis bytes c.requires.lawful found.file found.fault found.graph found.code found.regions in
+    let is = analysed file board analysis bytes c.requires.lawful found.file found.fault found.graph found.code found.live found.regions found.pieces in
     record { no_fault = found.fault; found = findings file board analysis is; relinks = c.in-Ok.ensures.ok file is }
 
 pub returns-clause-err : goal.returns-clause-err

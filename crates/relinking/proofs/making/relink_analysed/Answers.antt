@@ -9,7 +9,7 @@ use Rattle.relinking.proofs.Relinking.{states_data}
 use Rattle.relinking.proofs.making.relink_analysed.Goals as goal
 
 pub find_choice-requires : goal.find_choice-requires
-find_choice-requires c = c.requires.1.analysis.lawful.least_nodes
+find_choice-requires c = c.requires.1.lawful.least_nodes
 
 pub returns-in_err-solution-clause-err : goal.returns-in_err-solution-clause-err
 returns-in_err-solution-clause-err c =
@@ -17,7 +17,7 @@ returns-in_err-solution-clause-err c =
     rw (q.1, q.2) (no_memory (plain_view c.args.analysis.now.view) c.args.board.now c.args.analysis.now.graph c.args.analysis.now.code c.args.analysis.now.regions c.args.input.now)
 
 pub realise-requires-clause-analysis : goal.realise-requires-clause-analysis
-realise-requires-clause-analysis c = (c.requires.0, c.requires.1.analysis)
+realise-requires-clause-analysis c = (c.requires.0, c.requires.1)
 
 pub realise-requires-clause-choice : goal.realise-requires-clause-choice
 realise-requires-clause-choice c =
@@ -36,11 +36,11 @@ returns-clause-ok c = λ file is.
     let board = c.args.board.now in
     record {
       states = subst (λ (v : PlainView). StatesProgramme v board a.graph a.code a.regions c.args.input.now (plain_programme c.in_ok-programme.programme))
-          (same_view file a.view is.analysis.is_file) c.in_ok-programme.ensures;
+          (same_view file a.view is.is_file) c.in_ok-programme.ensures;
       result = record {
         found = c.in_ok-solution.ensures;
-        realises = c.in_ok-result.ensures.realises file is.analysis;
-        keeps = c.in_ok-result.ensures.keeps file is.analysis;
+        realises = c.in_ok-result.ensures.realises file is;
+        keeps = c.in_ok-result.ensures.keeps file is;
       };
       placed = c.in_ok-result.ensures.placed;
     }

@@ -30,7 +30,7 @@ push_moved_lines-requires c =
     let p = plain_programme c.args.relinked.now.programme in
     let choice = plain_choice c.args.relinked.now.found.choice in
     let chosen = states_data (view_in file) c.args.board.now a.graph a.code a.regions input p choice by.states by.result.found.feasible in
-    let takes = choice_takes c.args.board.now a.graph p choice is.analysis.graph.grain chosen in
+    let takes = choice_takes c.args.board.now a.graph p choice is.graph.grain chosen in
     subst (AreOfGraph a.graph) (sym (c.deref-2.ensures.value ∙ by.placed.taken)) takes.listed
 
 pub returns : goal.returns
@@ -46,7 +46,7 @@ returns c =
     let choice = plain_choice r.found.choice in
     let taken = taken_objects p.off.vars choice.take in
     let chosen = states_data (view_in file) board g a.code a.regions input p choice by.states by.result.found.feasible in
-    let takes = choice_takes board g p choice is.analysis.graph.grain chosen in
+    let takes = choice_takes board g p choice is.graph.grain chosen in
     let first = c.into_bytes-report.result.items in
     record {
       first = first;

@@ -20,10 +20,10 @@ pub new-requires-clause-code : goal.new-requires-clause-code
 new-requires-clause-code c = (may_state c.requires.0 c.args.board.now c.args.analysis.now c.requires.1).code
 
 pub new-requires-clause-lawful : goal.new-requires-clause-lawful
-new-requires-clause-lawful c = c.requires.1.analysis.lawful
+new-requires-clause-lawful c = c.requires.1.lawful
 
 pub new-requires-clause-grain : goal.new-requires-clause-grain
-new-requires-clause-grain c = subst IsGrain (sym c.requires.1.analysis.graph.grain) c.requires.1.analysis.lawful.grain
+new-requires-clause-grain c = subst IsGrain (sym c.requires.1.graph.grain) c.requires.1.lawful.grain
 
 pub new-requires-clause-entry : goal.new-requires-clause-entry
 new-requires-clause-entry c = (may_state c.requires.0 c.args.board.now c.args.analysis.now c.requires.1).entry
@@ -49,7 +49,7 @@ pub profile-requires-clause-regions : goal.profile-requires-clause-regions
 profile-requires-clause-regions c = c.requires.1.regions.is_formed.one_each
 
 pub profile-requires-clause-some : goal.profile-requires-clause-some
-profile-requires-clause-some c = c.requires.1.analysis.lawful.least_steps
+profile-requires-clause-some c = c.requires.1.lawful.least_steps
 
 pub returns-in_err-source : goal.returns-in_err-source
 returns-in_err-source c =

@@ -13,7 +13,7 @@ programme-requires c =
       (
         made.transitions,
         of_one_file analysis.view c.args.board.now analysis.graph analysis.code analysis.regions c.args.input.now c.in_ok-counts.counts last
-            may.read c.requires.1.analysis.lawful may.graph may.code may.no_fault may.room may.entry c.requires.1.regions.is_formed.one_each made,
+            may.read c.requires.1.lawful may.graph may.code may.no_fault may.room may.entry c.requires.1.regions.is_formed.one_each made,
       ),
     )
 
@@ -23,7 +23,7 @@ returns-in-Ok c =
     let may = may_state c.requires.0 c.args.board.now analysis c.requires.1 in
     let (last, made) = c.in_ok-counts.ensures in
     let one = of_one_file analysis.view c.args.board.now analysis.graph analysis.code analysis.regions c.args.input.now c.in_ok-counts.counts last
-    may.read c.requires.1.analysis.lawful may.graph may.code may.no_fault may.room may.entry c.requires.1.regions.is_formed.one_each made in
+    may.read c.requires.1.lawful may.graph may.code may.no_fault may.room may.entry c.requires.1.regions.is_formed.one_each made in
     record {
       transitions = made.transitions;
       last = last;
