@@ -2,7 +2,7 @@ use std::alloc::AllocError;
 use thiserror::Error;
 
 /// A range of addresses.
-#[derive(Clone, Copy, Debug, PartialEq, Eq)]
+#[derive(Clone, Copy, Debug)]
 pub struct Range {
     /// The first address.
     pub base: u32,
@@ -11,7 +11,7 @@ pub struct Range {
 }
 
 /// What each access costs, in units of energy.
-#[derive(Clone, Copy, Debug, PartialEq, Eq)]
+#[derive(Clone, Copy, Debug)]
 pub struct Prices {
     /// A fetch from the main memory.
     pub main_fetch: u32,

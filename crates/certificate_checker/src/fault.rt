@@ -2,7 +2,7 @@ use std::alloc::{AllocError, AllocFailed};
 use thiserror::Error;
 
 /// Why bytes spell no certificate: the first byte that breaks the grammar. Places stop at 2^32 - 1.
-#[derive(Clone, Copy, Debug, PartialEq, Eq, Error)]
+#[derive(Clone, Copy, Debug, Error)]
 pub enum CertFault {
     /// A rule is broken before the trees.
     #[error("no head of a certificate at {at}")]

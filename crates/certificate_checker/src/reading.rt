@@ -7,7 +7,7 @@ ghost use Rattle.certificate_checker.specs.Reading.{Gives, GivesAlways, below_al
 
 use crate::fault::CertFault;
 use crate::fields::{Part, cut_off, entry, flag, mark, number_in, place, small_number};
-use crate::trees::{Certificate, Tree};
+use crate::trees::{Certificate, Tree, branch_on};
 use placement_programme::Choice;
 use std::alloc::Global;
 
@@ -98,9 +98,7 @@ fn node(alloc: Global, levels: u32, total: usize, bytes: &[u8]) -> Result<(Tree,
             let (var, rest) = small_number(Part::Node, 0, total, rest)?;
             let (zero, rest) = node(alloc, levels - 1, total, rest)?;
             let (one, rest) = node(alloc, levels - 1, total, rest)?;
-            let zero = Box::new(alloc, zero)?;
-            let one = Box::new(alloc, one)?;
-            Ok((Tree::Branch { var, zero, one }, rest))
+            Ok((branch_on(alloc, var, zero, one)?, rest))
         }
         [1, rest @ ..] => over(total, rest),
         [2, rest @ ..] => dual(alloc, total, rest),

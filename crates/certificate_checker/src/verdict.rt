@@ -1,5 +1,5 @@
 /// What a certificate's check says.
-#[derive(Clone, Copy, Debug, PartialEq, Eq)]
+#[derive(Clone, Copy, Debug)]
 pub enum Verdict {
     /// The choice is feasible, and no feasible choice has less energy.
     Optimal,

@@ -1,4 +1,4 @@
-ghost use Rattle.std.specs.Prelude.{◌≡◌, ◌*◌, ◌^◌, ◌<◌, ◌++◌, ◌∷◌, [], OnOk, IfOk};
+ghost use Rattle.std.specs.Prelude.{◌≡◌, ◌*◌, ◌^◌, ◌<◌, ◌++◌, ◌∷◌, [], length, OnOk, IfOk};
 ghost use Rattle.std.specs.List.{flat_map};
 ghost use Rattle.placement_programme.specs.Views.{plain_choice};
 ghost use Rattle.certificate_checker.specs.Views.{plain_tree, plain_certificate};
@@ -54,26 +54,33 @@ fn push_vars(out: &mut Vec<u8>, vars: &[u32]) -> Result<(), AllocError>
     Ok(())
 }
 
+/// Writes a node's tag and its first number.
+fn push_tagged(out: &mut Vec<u8>, tag: u8, number: u32) -> Result<(), AllocError>
+    ensures { OnOk result (out.new.items ≡ out.old.items ++ tag ∷ number_of number) }
+{
+    out.push(tag)?;
+    push_number(out, u64::from(number))
+}
+
+fn push_dual(out: &mut Vec<u8>, scale: u32, multipliers: &[(u32, u64)]) -> Result<(), AllocError>
+    ensures { OnOk result (out.new.items ≡ out.old.items ++ 2 ∷ number_of scale ++ number_of (length multipliers.now) ++ flat_map entry_text multipliers.now) }
+{
+    push_tagged(out, 2, scale)?;
+    push_number(out, multipliers.len() as u64)?;
+    push_entries(out, multipliers)
+}
+
 fn push_node(out: &mut Vec<u8>, tree: &Tree) -> Result<(), AllocError>
     ensures { OnOk result (out.new.items ≡ out.old.items ++ tree_text (plain_tree tree.now)) }
 {
     match tree {
         Tree::Branch { var, zero, one } => {
-            out.push(0)?;
-            push_number(out, u64::from(*var))?;
+            push_tagged(out, 0, *var)?;
             push_node(out, zero)?;
             push_node(out, one)
         }
-        Tree::Over { row } => {
-            out.push(1)?;
-            push_number(out, u64::from(*row))
-        }
-        Tree::Dual { scale, multipliers } => {
-            out.push(2)?;
-            push_number(out, u64::from(*scale))?;
-            push_number(out, multipliers.len() as u64)?;
-            push_entries(out, multipliers)
-        }
+        Tree::Over { row } => push_tagged(out, 1, *row),
+        Tree::Dual { scale, multipliers } => push_dual(out, *scale, multipliers),
         Tree::Leaf => {
             out.push(3)?;
             Ok(())
@@ -111,11 +118,7 @@ fn push_trees(out: &mut Vec<u8>, c: &Certificate) -> Result<(), AllocError>
 fn push_mark(out: &mut Vec<u8>) -> Result<(), AllocError>
     ensures { OnOk result (out.new.items ≡ out.old.items ++ 0x53 ∷ 0x50 ∷ 0x43 ∷ 0x31 ∷ []) }
 {
-    out.push(0x53)?;
-    out.push(0x50)?;
-    out.push(0x43)?;
-    out.push(0x31)?;
-    Ok(())
+    out.extend_from_slice(&[0x53, 0x50, 0x43, 0x31])
 }
 
 /// The text of a certificate, which `read_tree` reads back where the certificate is within its ranges: ascending numbers

@@ -2,7 +2,7 @@ use crate::ends::End;
 use rv_decode::Instr;
 
 /// What one step runs: an instruction, a call of two instructions, or a word that means none.
-#[derive(Clone, Copy, Debug, PartialEq, Eq)]
+#[derive(Clone, Copy, Debug)]
 pub struct Unit {
     /// The address of its first word.
     pub at: u32,
@@ -43,7 +43,7 @@ pub struct Block {
 }
 
 /// A function, which shares no byte with another.
-#[derive(Clone, Copy, Debug, PartialEq, Eq)]
+#[derive(Clone, Copy, Debug)]
 pub struct Function {
     /// The number of its symbol.
     pub name: u32,

@@ -17,7 +17,7 @@ use loaded_file::{LoadedFile, word_in};
 use std::alloc::{AllocError, Global};
 
 /// What a walk through the words of a block finds.
-#[derive(Debug, Drop)]
+#[derive(Drop)]
 pub(crate) struct Walk {
     /// Its units, in order.
     pub(crate) units: Vec<Unit>,

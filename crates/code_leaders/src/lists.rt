@@ -2,7 +2,7 @@ use crate::search::has_address;
 
 /// Where the blocks of a program's code begin, and which words are calls of two instructions.
 /// Each list is ascending, and has each address once.
-#[derive(Debug, Drop)]
+#[derive(Drop)]
 pub struct Leaders {
     /// The addresses at which a block begins.
     pub all: Vec<u32>,

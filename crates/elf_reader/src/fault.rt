@@ -7,7 +7,7 @@ use thiserror::Error;
 /// The first check that a file fails, in the order in which `read` makes them.
 ///
 /// An index counts from 0. A count past 2 ^ 32 - 1 is given as 2 ^ 32 - 1.
-#[derive(Clone, Copy, Debug, PartialEq, Eq, Error)]
+#[derive(Clone, Copy, Debug, Error)]
 pub enum ElfFault {
     /// The file has `have` bytes, fewer than the `need` bytes of an ELF header.
     #[error("the file has {have} bytes of the {need} of an ELF header")]

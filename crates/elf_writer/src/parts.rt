@@ -1,5 +1,5 @@
 /// A word to be put into a file.
-#[derive(Clone, Copy, Debug)]
+#[derive(Clone, Copy)]
 pub struct Patch {
     /// Where it begins in the file, in bytes.
     pub offset: u32,
@@ -8,7 +8,7 @@ pub struct Patch {
 }
 
 /// A segment to be added to a file.
-#[derive(Debug, Drop)]
+#[derive(Drop)]
 pub struct SegmentBytes {
     /// Its first address.
     pub base: u32,
@@ -19,7 +19,7 @@ pub struct SegmentBytes {
 }
 
 /// A symbol to be moved.
-#[derive(Clone, Copy, Debug)]
+#[derive(Clone, Copy)]
 pub struct SymbolMove {
     /// The number of the symbol in the symbol table.
     pub symbol: u32,

@@ -1,5 +1,5 @@
 /// Bytes at an address.
-#[derive(Clone, Copy, Debug, PartialEq, Eq)]
+#[derive(Clone, Copy)]
 pub struct ByteRange {
     /// The address of the first byte.
     pub home: u32,

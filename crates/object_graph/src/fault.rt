@@ -2,7 +2,7 @@ use std::alloc::AllocError;
 use thiserror::Error;
 
 /// Why a program doesn't fit a board, the first in this order.
-#[derive(Clone, Copy, Debug, PartialEq, Eq, Error)]
+#[derive(Clone, Copy, Debug, Error)]
 pub enum GraphFault {
     /// The segment of program header `segment` meets the scratchpad.
     #[error("segment {segment} meets the scratchpad")]

@@ -1,7 +1,7 @@
 use board_config::Range;
 
 /// An object that may move.
-#[derive(Clone, Copy, Debug, PartialEq, Eq)]
+#[derive(Clone, Copy, Debug)]
 pub struct Object {
     /// The number of the first symbol of its range.
     pub name: u32,
@@ -14,7 +14,7 @@ pub struct Object {
 }
 
 /// Which part of an address an instruction makes.
-#[derive(Clone, Copy, Debug, PartialEq, Eq)]
+#[derive(Clone, Copy, Debug)]
 pub enum SiteKind {
     /// The upper part, in a LUI or an AUIPC.
     Hi,
@@ -25,7 +25,7 @@ pub enum SiteKind {
 }
 
 /// An instruction that makes a part of an address in an object that may move, or at its end.
-#[derive(Clone, Copy, Debug, PartialEq, Eq)]
+#[derive(Clone, Copy, Debug)]
 pub struct Site {
     /// The address of the instruction.
     pub at: u32,
@@ -38,7 +38,7 @@ pub struct Site {
 }
 
 /// A word of data that holds an address in an object that may move, or at its end.
-#[derive(Clone, Copy, Debug, PartialEq, Eq)]
+#[derive(Clone, Copy, Debug)]
 pub struct DataWord {
     /// The address of the word, which needn't be a multiple of 4.
     pub at: u32,

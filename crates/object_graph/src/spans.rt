@@ -7,7 +7,7 @@ use board_config::Range;
 use std::alloc::AllocError;
 
 /// The addresses from `start` on that are below `end`.
-#[derive(Clone, Copy, Debug, PartialEq, Eq)]
+#[derive(Clone, Copy)]
 pub(crate) struct Span {
     pub(crate) start: u64,
     pub(crate) end: u64,

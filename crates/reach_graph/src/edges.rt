@@ -1,5 +1,5 @@
 /// An edge of a node leads to another node, and lets some marks pass.
-#[derive(Clone, Copy, Debug, PartialEq, Eq)]
+#[derive(Clone, Copy)]
 pub struct Edge {
     /// The node to which it leads.
     pub to: u32,

@@ -1,10 +1,10 @@
 -- The function that starts at an address, among functions that are disjoint.
-use Rattle.std.proofs.Common.{◌≡◌, ◌⊎◌, inl, inr, ℕ, zero, suc, ◌+◌, ◌<◌, ◌≤◌, ◌==◌, nat_le, nat_lt, Bool, true, false, not, ◌&&◌, List, length, slice_index_or, Option, Some, None, refl, sym, arith}
-use Rattle.std.specs.List.{All, list_any}
+use Rattle.std.proofs.Common.{◌≡◌, ◌⊎◌, inl, inr, ℕ, zero, suc, ◌+◌, ◌<◌, ◌≤◌, ◌==◌, nat_le, nat_lt, Bool, true, false, not, ◌&&◌, List, length, Option, Some, None, refl, arith}
+use Rattle.std.specs.List.{list_any}
 use Rattle.std.proofs.lemmas.Bool.{cases_order, both_ways}
 use Rattle.std.proofs.lemmas.Bool.Decides.{nat_tests}
 use Rattle.std.proofs.lemmas.List.Folds.{list_any_at}
-use Rattle.list_checks.specs.First.{◌or_else◌, unless, first_below}
+use Rattle.list_checks.specs.First.{unless, first_below}
 use Rattle.list_checks.proofs.FirstLemmas.{first_found}
 use Rattle.code_blocks.specs.Blocks.{no_function, lies_in_function}
 use Rattle.code_blocks.specs.declared.parts.Function.{Function}

@@ -1,15 +1,14 @@
 -- How marks spread.
-use Rattle.std.proofs.Common.{◌≡◌, ◌∙◌, ◌⊎◌, inl, inr, ℕ, zero, suc, ◌+◌, ◌<◌, ◌≤◌, ◌==◌, nat_lt, Bool, true, false, ◌||◌, if◌then◌else◌, List, [], ◌∷◌, ◌++◌, map, set, length, slice_index_or, Option, Some, None, MatchOption, Vec, Global, refl, sym, ap, subst, arith}
-use Rattle.std.specs.List.{sum_by}
-use Rattle.std.proofs.lemmas.Bool.{eqb-true, both_ways}
+use Rattle.std.proofs.Common.{◌≡◌, ◌∙◌, ◌⊎◌, inl, inr, ℕ, zero, suc, ◌+◌, ◌<◌, ◌≤◌, ◌==◌, nat_lt, Bool, true, false, ◌||◌, if◌then◌else◌, List, [], ◌∷◌, ◌++◌, set, length, Option, Some, None, MatchOption, Vec, Global, refl, sym, ap, subst, arith}
+use Rattle.std.proofs.lemmas.Bool.{eqb-true}
 use Rattle.std.proofs.lemmas.Bool.Decides.{nat_tests}
-use Rattle.std.proofs.lemmas.List.{length-map, get_or-set_same, get_or-set_other, length-set, length_push}
+use Rattle.std.proofs.lemmas.List.{get_or-set_same, get_or-set_other, length-set, length_push}
 use Rattle.std.proofs.lemmas.List.Sums.{sum_by-set}
 use Rattle.list_checks.proofs.TestLemmas.{either}
 use Rattle.code_leaders.specs.Early.{has}
 use Rattle.code_blocks.proofs.KeptLemmas.{any_push}
-use Rattle.region_former.specs.Reaching.{Leads, Chain, further}
-use Rattle.region_former.specs.Propagation.{covers, raised, raises_left, mark_at, row_of, LeadTwo, IsTold, IsRaised, weight, Propagates, PropagatesSoFar, PropagatesOut}
+use Rattle.region_former.specs.Reaching.{Leads, further}
+use Rattle.region_former.specs.Propagation.{covers, raised, raises_left, mark_at, row_of, IsTold, IsRaised, Propagates, PropagatesSoFar, PropagatesOut}
 use Rattle.region_former.specs.declared.propagation.Reached.{Reached}
 use Rattle.region_former.specs.declared.propagation.Reached.TheVariants.{ByNone, ByOne, BySeveral}
 

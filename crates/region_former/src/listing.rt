@@ -26,13 +26,34 @@ pub(crate) fn listed_regions(
     ensures regions { IfOk result (λ regions. (f : ℕ) → f < length code.now.functions.items → slice_index_or regions.items f 0 ≡ listed_region (plain_view view.now) code.now.functions.items (plain_lists lists.now) f (length lists.now)) }
 {
     let mut regions = vec![in alloc; 0; code.functions.len()]?;
+    match take_lists(alloc, &mut regions, view, code, lists) {
+        Ok(()) => Ok(regions),
+        Err(fault) => Err(fault),
+    }
+}
+
+/// Gives the functions of all lists their regions, where none has one.
+fn take_lists(
+    alloc: Global,
+    regions: &mut [u32],
+    view: &ElfView,
+    code: &Code,
+    lists: &[Vec<String>],
+) -> Result<(), RegionFault>
+    requires ordered { AreOrdered code.now.functions.items }
+    requires few { length lists.now ≤ 8 }
+    requires none { AreListed (plain_view view.now) code.now.functions.items (plain_lists lists.now) 0 0 regions.old }
+    ensures fault { ReportsFirst result (listing_fault (plain_view view.now) code.now.functions.items (plain_lists lists.now)) }
+    ensures one_each { OnOk result (length regions.new ≡ length code.now.functions.items) }
+    ensures regions { OnOk result ((f : ℕ) → f < length code.now.functions.items → slice_index_or regions.new f 0 ≡ listed_region (plain_view view.now) code.now.functions.items (plain_lists lists.now) f (length lists.now)) }
+{
     for i in 0..lists.len() {
-        match take_list(alloc, &mut regions, view, code, lists, i) {
+        match take_list(alloc, regions, view, code, lists, i) {
             Ok(()) => {}
             Err(fault) => return Err(fault),
         }
     }
-    Ok(regions)
+    Ok(())
 }
 
 /// Gives the functions of list `i` their region.

@@ -5,7 +5,7 @@ ghost use Rattle.region_former.specs.Propagation.{raised, mark_at, row_of, IsRai
 use std::alloc::{AllocError, Global};
 
 /// Which roots lead to a function, as far as regions ask.
-#[derive(Clone, Copy, Debug)]
+#[derive(Clone, Copy)]
 pub(crate) enum Reached {
     ByNone,
     ByOne(usize),

@@ -17,7 +17,7 @@ use std::alloc::{AllocError, Global};
 const MOST_REGIONS: u32 = 8;
 
 /// The regions of functions.
-#[derive(Debug, Drop)]
+#[derive(Drop)]
 pub(crate) struct FunctionRegions {
     /// How many regions there are.
     pub count: u32,
@@ -156,10 +156,22 @@ fn rows(alloc: Global, code: &Code, driver: Option<usize>) -> Result<Vec<Vec<usi
     ensures rows { IfOk result (λ rows. AreRows code.now driver (block_count code.now) rows.items) }
 {
     let mut rows = empty_rows(alloc, code.functions.len())?;
-    for a in 0..code.blocks.len() {
-        add_block(&mut rows, code, driver, a)?;
-    }
+    fill_rows(&mut rows, code, driver)?;
     Ok(rows)
+}
+
+/// Adds what each block leads into to rows without an entry.
+fn fill_rows(rows: &mut [Vec<usize>], code: &Code, driver: Option<usize>) -> Result<(), AllocError>
+    requires orderly { IsOrderly code.now }
+    requires one_each { length rows.old ≡ length code.now.functions.items }
+    requires empty { (f : ℕ) → row_of rows.old f ≡ [] }
+    ensures one_each { OnOk result (length rows.new ≡ length code.now.functions.items) }
+    ensures rows { OnOk result (AreRows code.now driver (block_count code.now) rows.new) }
+{
+    for a in 0..code.blocks.len() {
+        add_block(rows, code, driver, a)?;
+    }
+    Ok(())
 }
 
 /// So many rows without an entry.

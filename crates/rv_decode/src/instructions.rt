@@ -2,7 +2,7 @@
 ///
 /// Registers are numbers below 32. Distances (`off`) and immediates are in bytes and signed;
 /// for a shift by an immediate, `imm` is the number of places.
-#[derive(Clone, Copy, Debug, PartialEq, Eq)]
+#[derive(Clone, Copy, Debug)]
 pub enum Instr {
     /// LUI: `imm`, a 20-bit number, becomes the upper part of `rd`.
     Lui {
@@ -75,7 +75,7 @@ pub enum Instr {
 }
 
 /// The rows of opcode BRANCH.
-#[derive(Clone, Copy, Debug, PartialEq, Eq)]
+#[derive(Clone, Copy, Debug)]
 pub enum BranchKind {
     Beq,
     Bne,
@@ -86,7 +86,7 @@ pub enum BranchKind {
 }
 
 /// The rows of opcode LOAD.
-#[derive(Clone, Copy, Debug, PartialEq, Eq)]
+#[derive(Clone, Copy, Debug)]
 pub enum LoadKind {
     Lb,
     Lh,
@@ -96,7 +96,7 @@ pub enum LoadKind {
 }
 
 /// The rows of opcode STORE.
-#[derive(Clone, Copy, Debug, PartialEq, Eq)]
+#[derive(Clone, Copy, Debug)]
 pub enum StoreKind {
     Sb,
     Sh,
@@ -104,7 +104,7 @@ pub enum StoreKind {
 }
 
 /// The rows of opcode OP-IMM.
-#[derive(Clone, Copy, Debug, PartialEq, Eq)]
+#[derive(Clone, Copy, Debug)]
 pub enum ImmKind {
     Addi,
     Slti,
@@ -118,7 +118,7 @@ pub enum ImmKind {
 }
 
 /// The rows of opcode OP, those of the M extension among them.
-#[derive(Clone, Copy, Debug, PartialEq, Eq)]
+#[derive(Clone, Copy, Debug)]
 pub enum RegKind {
     Add,
     Sub,
@@ -141,7 +141,7 @@ pub enum RegKind {
 }
 
 /// A set of registers: register `k` is in it where bit `k` of `bits` is 1.
-#[derive(Clone, Copy, Debug, PartialEq, Eq)]
+#[derive(Clone, Copy, Debug)]
 pub struct RegSet {
     pub bits: u32,
 }

@@ -7,7 +7,7 @@ use std::alloc::{AllocError, AllocFailed, Global};
 use thiserror::Error;
 
 /// Why a call of a shelf has no answer.
-#[derive(Clone, Copy, Debug, PartialEq, Eq, Error)]
+#[derive(Clone, Copy, Debug, Error)]
 pub enum ShelfFault {
     /// The outside failed. The shelf's list of failed calls has this call.
     #[error("the call failed")]
@@ -34,7 +34,7 @@ impl<T: Drop> From<AllocFailed<T>> for ShelfFault {
 }
 
 /// What a call of a shelf does.
-#[derive(Clone, Copy, Debug, PartialEq, Eq)]
+#[derive(Clone, Copy)]
 pub enum CallKind {
     /// [`Shelf::read`].
     Read,

@@ -4,7 +4,7 @@ ghost use Rattle.shelf_io.specs.Sink.{SinkView, Puts};
 use thiserror::Error;
 
 /// Why a piece wasn't put.
-#[derive(Clone, Copy, Debug, PartialEq, Eq, Error)]
+#[derive(Clone, Copy, Debug, Error)]
 pub enum SinkFault {
     /// The outside failed.
     #[error("the put failed")]

@@ -12,15 +12,19 @@ use text_lines::named_texts;
 fn tell_line(rt: &(impl Print + AllocGlobal), line: &str) -> Result<()> {
     let (key, rest) = line.split_once(' ').unwrap_or((line, ""));
     match key {
-        "#" => println!(rt; "{line}")?,
-        "word" => words::tell_word(rt, rest)?,
-        "extend" => words::tell_extension(rt, rest)?,
-        "operate" => objects::tell_operation(rt, rest)?,
-        "address" => objects::tell_address(rt, rest)?,
-        "cells" => objects::tell_cells(rt, rest)?,
-        "sorted" => numbers::tell_sorted(rt, rest)?,
+        "#" => tell_as_is(rt, line),
+        "word" => words::tell_word(rt, rest),
+        "extend" => words::tell_extension(rt, rest),
+        "operate" => objects::tell_operation(rt, rest),
+        "address" => objects::tell_address(rt, rest),
+        "cells" => objects::tell_cells(rt, rest),
+        "sorted" => numbers::tell_sorted(rt, rest),
         _ => bail!("a line has no known key"),
     }
+}
+
+fn tell_as_is(rt: &impl Print, line: &str) -> Result<()> {
+    println!(rt; "{line}")?;
     Ok(())
 }
 

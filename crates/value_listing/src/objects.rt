@@ -4,7 +4,7 @@ ghost use Rattle.cell_values.specs.Objects.{IsOfGraph, IsGrain};
 use anyhow::{Context, Result, bail};
 use cell_values::{Val, compare, join, low_site, op_imm, op_reg, split};
 use object_graph::{Graph, Object};
-use rv_decode::{Instr, decode};
+use rv_decode::{BranchKind, ImmKind, Instr, RegKind, decode};
 use std::alloc::{AllocError, Global};
 use text_lines::number;
 
@@ -77,39 +77,77 @@ fn value(word: &str) -> Result<Val> {
     }
 }
 
-/// `GRAIN INSTRUCTION VALUE VALUE`: what the instruction, a word, makes of the values of its two registers, or of the
-/// first and its immediate; of a branch, whether it is taken.
-pub(crate) fn tell_operation(rt: &(impl Print + AllocGlobal), text: &str) -> Result<()> {
+/// An instruction, a word, and the values of its two registers, with the grain of the board.
+#[derive(Drop)]
+struct Operation {
+    grain: u32,
+    word: u32,
+    a: Val,
+    b: Val,
+}
+
+fn read_operation(text: &str) -> Result<Operation> {
     let (grain, rest) = text.split_once(' ').context("no instruction")?;
     let (word, rest) = rest.split_once(' ').context("no values")?;
     let (a, b) = rest.split_once(' ').context("no second value")?;
-    let grain = number(grain)?;
-    let graph = graph_at(rt.alloc(), grain)?;
-    let (a, b) = (value(a)?, value(b)?);
-    if !is_of_graph(&a, &graph) || !is_of_graph(&b, &graph) {
+    Ok(Operation {
+        grain: number(grain)?,
+        word: number(word)?,
+        a: value(a)?,
+        b: value(b)?,
+    })
+}
+
+/// `GRAIN INSTRUCTION VALUE VALUE`: what the instruction makes of the values of its two registers, or of the first and
+/// its immediate; of a branch, whether it is taken.
+pub(crate) fn tell_operation(rt: &(impl Print + AllocGlobal), text: &str) -> Result<()> {
+    let asked = read_operation(text)?;
+    let graph = graph_at(rt.alloc(), asked.grain)?;
+    if !is_of_graph(&asked.a, &graph) || !is_of_graph(&asked.b, &graph) {
         bail!("a value of no object");
     }
-    match decode(number(word)?) {
-        Some(Instr::OpReg { kind, .. }) => {
-            println!(rt;
-                "{grain} {kind:?} {a:?} {b:?}: {:?}",
-                op_reg(kind, &a, &b, &graph)
-            )?;
-        }
-        Some(Instr::OpImm { kind, imm, .. }) => {
-            println!(rt;
-                "{grain} {kind:?} {a:?} {imm}: {:?}",
-                op_imm(kind, &a, imm, &graph)
-            )?;
-        }
-        Some(Instr::Branch { kind, .. }) => {
-            println!(rt;
-                "{grain} {kind:?} {a:?} {b:?}: {:?}",
-                compare(kind, &a, &b, &graph)
-            )?;
-        }
+    match decode(asked.word) {
+        Some(Instr::OpReg { kind, .. }) => tell_registers(rt, kind, &asked, &graph),
+        Some(Instr::OpImm { kind, imm, .. }) => tell_immediate(rt, kind, imm, &asked, &graph),
+        Some(Instr::Branch { kind, .. }) => tell_branch(rt, kind, &asked, &graph),
         _ => bail!("no operation"),
     }
+}
+
+fn tell_registers(rt: &impl Print, kind: RegKind, asked: &Operation, graph: &Graph) -> Result<()>
+    requires grain { IsGrain graph.now.grain }
+    requires a { IsOfGraph graph.now asked.now.a }
+    requires b { IsOfGraph graph.now asked.now.b }
+{
+    let Operation { grain, a, b, .. } = asked;
+    let made = op_reg(kind, a, b, graph);
+    println!(rt; "{grain} {kind:?} {a:?} {b:?}: {made:?}")?;
+    Ok(())
+}
+
+fn tell_immediate(
+    rt: &impl Print,
+    kind: ImmKind,
+    imm: i32,
+    asked: &Operation,
+    graph: &Graph,
+) -> Result<()>
+    requires grain { IsGrain graph.now.grain }
+    requires a { IsOfGraph graph.now asked.now.a }
+{
+    let Operation { grain, a, .. } = asked;
+    let made = op_imm(kind, a, imm, graph);
+    println!(rt; "{grain} {kind:?} {a:?} {imm}: {made:?}")?;
+    Ok(())
+}
+
+fn tell_branch(rt: &impl Print, kind: BranchKind, asked: &Operation, graph: &Graph) -> Result<()>
+    requires a { IsOfGraph graph.now asked.now.a }
+    requires b { IsOfGraph graph.now asked.now.b }
+{
+    let Operation { grain, a, b, .. } = asked;
+    let taken = compare(kind, a, b, graph);
+    println!(rt; "{grain} {kind:?} {a:?} {b:?}: {taken:?}")?;
     Ok(())
 }
 

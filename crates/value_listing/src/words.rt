@@ -1,5 +1,7 @@
+ghost use Rattle.rv_decode.specs.Table.{IsInRange};
+
 use anyhow::{Context, Result};
-use rv_decode::{decode, defs, encode, uses};
+use rv_decode::{Instr, decode, defs, encode, uses};
 use text_lines::number;
 use word_bits::{bytes4, hi20, lo12, sext, word4};
 
@@ -15,15 +17,23 @@ pub(crate) fn tell_word(rt: &impl Print, text: &str) -> Result<()> {
         lo12(word)
     )?;
     match decode(word) {
-        Some(instr) => {
-            let (read, written) = (uses(&instr).bits, defs(&instr).bits);
-            println!(rt;
-                "  {instr:?} {:#010x}, reads {read:#x}, writes {written:#x}",
-                encode(&instr)
-            )?;
+        Some(instr) => tell_instruction(rt, &instr),
+        None => {
+            println!(rt; "  no instruction")?;
+            Ok(())
         }
-        None => println!(rt; "  no instruction")?,
     }
+}
+
+/// What an instruction is encoded to, and the registers that it reads and writes.
+fn tell_instruction(rt: &impl Print, instr: &Instr) -> Result<()>
+    requires { IsInRange instr.now }
+{
+    let (read, written) = (uses(instr).bits, defs(instr).bits);
+    println!(rt;
+        "  {instr:?} {:#010x}, reads {read:#x}, writes {written:#x}",
+        encode(instr)
+    )?;
     Ok(())
 }
 

@@ -1,4 +1,4 @@
-use Rattle.std.proofs.Common.{◌≡◌, sym, ap}
+use Rattle.std.proofs.Common.{ap}
 use Rattle.region_former.specs.Borders.{region_in}
 use Rattle.region_former.proofs.BlockLemmas.{is_number, entered_there, entered_not}
 use Rattle.region_former.proofs.borders.enter_at.Goals as goal

@@ -1,4 +1,4 @@
-use Rattle.std.proofs.Common.{◌≡◌, ◌∙◌, ℕ, ◌<◌, ◌+◌, ◌==◌, ◌&&◌, ◌||◌, length, suc, sym, ap, subst, add-one, arith}
+use Rattle.std.proofs.Common.{◌≡◌, ◌∙◌, ℕ, ◌<◌, ◌==◌, ◌&&◌, ◌||◌, sym, ap, subst, add-one, arith}
 use Rattle.list_checks.specs.Tests.{any_below}
 use Rattle.region_former.specs.Flow.{block_count}
 use Rattle.region_former.specs.Borders.{bars, region_in, is_border, is_barred}

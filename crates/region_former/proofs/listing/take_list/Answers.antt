@@ -1,9 +1,7 @@
-use Rattle.std.proofs.Common.{◌≡◌, ◌∙◌, ℕ, ◌<◌, length, sym, ap, subst, add-one, arith, rules}
-use Rattle.std.proofs.lemmas.List.{get_or-map, length-map}
+use Rattle.std.proofs.Common.{◌≡◌, ◌<◌, length, add-one, arith}
 use Rattle.elf_reader.specs.File.{plain_view}
-use Rattle.board_config.specs.Board.{plain_texts}
 use Rattle.region_former.specs.Listing.{list_at, name_fault}
-use Rattle.region_former.specs.Listed.{plain_lists, AreListed}
+use Rattle.region_former.specs.Listed.{plain_lists}
 use Rattle.region_former.proofs.ListingLemmas.{tells_first, listed_whole}
 use Rattle.region_former.proofs.listing.take_list.Goals as goal
 

@@ -1,6 +1,6 @@
-use Rattle.std.proofs.Common.{◌≡◌, ◌∙◌, sym, ap, subst, true, length, slice_index_or}
+use Rattle.std.proofs.Common.{◌∙◌, sym, ap}
 use Rattle.std.proofs.lemmas.List.{get_or_default}
-use Rattle.code_blocks.specs.Blocks.{no_function, lies_in_function}
+use Rattle.code_blocks.specs.Blocks.{no_function}
 use Rattle.code_blocks.specs.declared.parts.Function.{Function}
 use Rattle.region_former.proofs.FunctionLemmas.{starts_there, none_starts, none_holds}
 use Rattle.region_former.proofs.naming.function_at.Goals as goal

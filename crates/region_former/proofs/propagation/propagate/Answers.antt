@@ -1,8 +1,7 @@
-use Rattle.std.proofs.Common.{◌≡◌, ◌<◌, length, slice_index_or, sym, subst, arith}
+use Rattle.std.proofs.Common.{slice_index_or}
 use Rattle.std.proofs.lemmas.List.{take_more}
 use Rattle.code_blocks.proofs.ListLemmas.{has_at}
-use Rattle.region_former.specs.Propagation.{Propagates}
-use Rattle.region_former.proofs.PropagationLemmas.{propagates_more, propagates_none}
+use Rattle.region_former.proofs.PropagationLemmas.{propagates_more}
 use Rattle.region_former.proofs.propagation.propagate.Goals as goal
 
 pub raise-requires : goal.raise-requires

@@ -1,5 +1,5 @@
 use Rattle.std.proofs.Common.{take}
-use Rattle.region_former.specs.Propagation.{row_of, Propagates}
+use Rattle.region_former.specs.Propagation.{Propagates}
 use Rattle.region_former.proofs.propagation.propagate.Given as goal
 
 abbrev pub invariant-loop-function : goal.invariant-loop-function

@@ -1,4 +1,4 @@
-use Rattle.std.proofs.Common.{◌≡◌, ℕ, ◌<◌, List, length, refl, sym, subst}
+use Rattle.std.proofs.Common.{ℕ, List, refl, sym, subst}
 use Rattle.region_former.specs.Propagation.{PropagatesSoFar}
 use Rattle.region_former.proofs.PropagationLemmas.{so_far_more, so_far_all, push_right, none_left}
 use Rattle.region_former.proofs.propagation.propagate_out.Goals as goal

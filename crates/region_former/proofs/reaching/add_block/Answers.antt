@@ -1,4 +1,4 @@
-use Rattle.std.proofs.Common.{◌≡◌, ◌∙◌, ◌<◌, length, Some, sym, subst, add-one}
+use Rattle.std.proofs.Common.{◌<◌, length, sym, add-one}
 use Rattle.std.proofs.lemmas.Result.{on_ok_weaker}
 use Rattle.region_former.proofs.BlockLemmas.{rows_more}
 use Rattle.region_former.proofs.reaching.add_block.Goals as goal

@@ -1,4 +1,4 @@
-use Rattle.std.proofs.Common.{◌≡◌, ◌∙◌, ℕ, ◌<◌, Bool, List, length, min, slice_index_or, sym, ap, subst}
+use Rattle.std.proofs.Common.{◌≡◌, ◌∙◌, ℕ, ◌<◌, Bool, List, length, min, slice_index_or, ap, subst}
 use Rattle.code_blocks.specs.Blocks.{count_below}
 use Rattle.region_former.specs.Reaching.{is_root, root_region}
 use Rattle.region_former.specs.Propagation.{mark_at, region_by}

@@ -1,6 +1,0 @@
-use Rattle.std.proofs.Common.{◌≡◌, length}
-use Rattle.region_former.specs.Rows.{AreRows}
-use Rattle.region_former.proofs.reaching.rows.Given as goal
-
-abbrev pub invariant-loop-a : goal.invariant-loop-a
-invariant-loop-a l = (length l.rows.items ≡ length l.code.functions.items) × AreRows l.code l.driver l.a l.rows.items
