@@ -10,7 +10,7 @@ use object_graph::Graph;
 use rv_decode::Instr;
 
 /// What unit `place` of a block is.
-pub(crate) fn kind_of(graph: &Graph, block: &Block, place: usize) -> UnitKind
+pub fn kind_of(graph: &Graph, block: &Block, place: usize) -> UnitKind
     requires graph { IsSomeGraph graph.now }
     requires place { place < length block.now.units.items }
     ensures { result ≡ kind_of (is_site graph.now) (body_of block.now) place }
@@ -122,7 +122,7 @@ fn indirect_kind(unit: &Unit, back: Option<u32>) -> UnitKind
 }
 
 /// How many words a unit has in a copy; `inside` tells whether its target is of the same copy.
-pub(crate) fn copy_size(kind: &UnitKind, inside: bool) -> u32
+pub fn copy_size(kind: &UnitKind, inside: bool) -> u32
     ensures { result ≡ copy_size (λ a. inside) kind.now }
 {
     match *kind {

@@ -30,6 +30,8 @@ pub use copy_code::CopyCode;
 pub use copying::copy_of;
 pub use displacing::displaced;
 pub use finding::pieces;
+pub use kinds::{copy_size, kind_of};
+pub use measuring::{Extent, extent_of};
 pub use piece::Piece;
 pub use reaching::can_displace;
 pub use unit_kind::UnitKind;

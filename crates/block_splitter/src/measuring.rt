@@ -17,7 +17,7 @@ pub(crate) const MOST_WORDS: u64 = 1024;
 
 /// Where the first and the last block of a range begin.
 #[derive(Clone, Copy)]
-pub(crate) struct Extent {
+pub struct Extent {
     pub from: u32,
     pub to: u32,
 }
@@ -27,7 +27,7 @@ impl Extent {
     ghost use Rattle.block_splitter.specs.Facts.{is_within};
 
     /// An address lies between the two, or is one of them.
-    fn holds(&self, address: u32) -> bool
+    pub fn holds(&self, address: u32) -> bool
         ensures { result ≡ is_within self.now address }
     {
         self.from <= address && address <= self.to
@@ -53,7 +53,8 @@ pub(crate) fn measure(code: &Code, table: &Table, range: &BlockRange) -> Option<
     Some(words)
 }
 
-fn extent_of(code: &Code, range: &BlockRange) -> Extent
+/// Where the first and the last block of a range begin.
+pub fn extent_of(code: &Code, range: &BlockRange) -> Extent
     requires { IsRange code.now range.now }
     ensures { IsExtent code.now range.now result }
 {

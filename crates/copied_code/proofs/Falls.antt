@@ -90,7 +90,7 @@ module _ (v : PlainView) (c : Code) (code : IsCode v c) where
 
 -- ---- falls in a copy
 
-falls_form : (x : Copy) (e : End) (next : ℕ) (ws : List ℕ) → falls_to e ≡ Some next → IsFallOut x e ws → FallsTo x next ws
+pub falls_form : (x : Copy) (e : End) (next : ℕ) (ws : List ℕ) → falls_to e ≡ Some next → IsFallOut x e ws → FallsTo x next ws
 falls_form x (end.Fall other) next ws falls form = let same : other ≡ next = cc (falls) in subst (λ a. FallsTo x a ws) same form
 falls_form x (end.Branch target other) next ws falls form = let same : other ≡ next = cc (falls) in subst (λ a. FallsTo x a ws) same form
 falls_form x (end.Jump target) next ws falls form = absurd (cc (falls))
@@ -99,7 +99,7 @@ falls_form x (end.Tail target) next ws falls form = absurd (cc (falls))
 falls_form x (end.Indirect back) next ws falls form = absurd (cc (falls))
 falls_form x end.Stop next ws falls form = absurd (cc (falls))
 
-falls_size : (inside : ℕ → Bool) (e : End) (next : ℕ) → falls_to e ≡ Some next → fall_out_size inside e ≡ (if inside next then 0 else 2)
+pub falls_size : (inside : ℕ → Bool) (e : End) (next : ℕ) → falls_to e ≡ Some next → fall_out_size inside e ≡ (if inside next then 0 else 2)
 falls_size inside (end.Fall other) next falls = let same : other ≡ next = cc (falls) in ap (λ (a : ℕ). if inside a then 0 else 2) same
 falls_size inside (end.Branch target other) next falls = let same : other ≡ next = cc (falls) in ap (λ (a : ℕ). if inside a then 0 else 2) same
 falls_size inside (end.Jump target) next falls = absurd (cc (falls))
@@ -108,7 +108,7 @@ falls_size inside (end.Tail target) next falls = absurd (cc (falls))
 falls_size inside (end.Indirect back) next falls = absurd (cc (falls))
 falls_size inside end.Stop next falls = absurd (cc (falls))
 
-falls_started : (c : Code) (e : End) (next : ℕ) → falls_to e ≡ Some next → All (λ a. has (starts_of c) a ≡ true) (successors e) → has (starts_of c) next ≡ true
+pub falls_started : (c : Code) (e : End) (next : ℕ) → falls_to e ≡ Some next → All (λ a. has (starts_of c) a ≡ true) (successors e) → has (starts_of c) next ≡ true
 falls_started c (end.Fall other) next falls leads =
     let same : other ≡ next = cc (falls) in
     subst (λ a. has (starts_of c) a ≡ true) same (All-head (λ a. has (starts_of c) a ≡ true) other [] leads)
@@ -136,7 +136,7 @@ module _ (v : PlainView) (x : Copy) (words starts : List ℕ) (is : IsCopyOf v x
   behind = falls_behind v x.code here.block next (length here.block.units.items) refl here.is (subst (λ e. falls_to e ≡ Some next) here.ends falls)
 
   -- the words behind the last unit
-  fall_size : fall_out_size (is_inside x) body.end ≡ (if is_inside x next then 0 else 2)
+  pub fall_size : fall_out_size (is_inside x) body.end ≡ (if is_inside x next then 0 else 2)
   fall_size =
       ap (λ (y : Body). fall_out_size (is_inside x) y.end) here.body
       ∙ falls_size (is_inside x) here.block.end next (subst (λ e. falls_to e ≡ Some next) here.ends falls)
@@ -144,7 +144,7 @@ module _ (v : PlainView) (x : Copy) (words starts : List ℕ) (is : IsCopyOf v x
   block_ends : words_before x b + size_at x b ≡ place_behind x b + (if is_inside x next then 0 else 2)
   block_ends = let size = fall_size in omega (arith, size)
 
-  leads_inside : is_inside x next ≡ true → LeadsInside x next (address_of x (place_behind x b))
+  pub leads_inside : is_inside x next ≡ true → LeadsInside x next (address_of x (place_behind x b))
   leads_inside inside =
       let found = any_found (λ d. holds_block d x.range && (slice_index_or (starts_of x.code) d 0 == next)) (length (starts_of x.code)) inside in
       let tests = both (holds_block found.0 x.range) (slice_index_or (starts_of x.code) found.0 0 == next) found.2 in
@@ -164,7 +164,7 @@ module _ (v : PlainView) (x : Copy) (words starts : List ℕ) (is : IsCopyOf v x
         there = ap (address_of x) (sym place ∙ ap (words_before x) (sym number));
       }
 
-  next_address : IsAddress next
+  pub next_address : IsAddress next
   next_address =
       let last : ℕ = behind.last in
       let told = behind.is_last in

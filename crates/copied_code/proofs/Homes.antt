@@ -37,7 +37,7 @@ unlinked w test = grind (arith, nat_tests, test)
 pub linked : (w : ℕ) → links w ≡ true → rd_of w ≡ 0 → ⊥
 linked w test none = let less : 0 < rd_of w = grind (arith, nat_tests, test) in omega (arith, less, none)
 
-branch_test : (kind : BranchKind) (w : ℕ) → opcode_of w ≡ 99 → funct3_of w ≡ branch_funct3 kind → is_branch w ≡ true
+pub branch_test : (kind : BranchKind) (w : ℕ) → opcode_of w ≡ 99 → funct3_of w ≡ branch_funct3 kind → is_branch w ≡ true
 branch_test Beq w o f = rw (o, f) refl
 branch_test Bne w o f = rw (o, f) refl
 branch_test Blt w o f = rw (o, f) refl
@@ -45,7 +45,7 @@ branch_test Bge w o f = rw (o, f) refl
 branch_test Bltu w o f = rw (o, f) refl
 branch_test Bgeu w o f = rw (o, f) refl
 
-branch_opcode : (w : ℕ) → is_branch w ≡ true → opcode_of w ≡ 99
+pub branch_opcode : (w : ℕ) → is_branch w ≡ true → opcode_of w ≡ 99
 branch_opcode w test = equal (opcode_of w) 99 (both (opcode_of w == 99) (not ((funct3_of w == 2) || (funct3_of w == 3))) test).0
 
 pub jal_is : (w : ℕ) → is_jal w ≡ true → Means w (instr.Jal (rd_of w) (j_immediate w))

@@ -15,3 +15,4 @@ pub mod DisplacedUnits
 pub mod Counts
 pub mod Sites
 pub mod SameRegisters
+pub mod KindFacts

@@ -141,17 +141,17 @@ module _ (v : PlainView) (c : Code) (site : ℕ → Bool) (code : IsCode v c) (u
 
 -- ---- all units
 
-last_test : (k n : ℕ) (b : Bool) → (suc k == n) ≡ b → b ≡ true → suc k ≡ n
+pub last_test : (k n : ℕ) (b : Bool) → (suc k == n) ≡ b → b ≡ true → suc k ≡ n
 last_test k n b test is = grind (arith, nat_tests, test, is)
 
-other_test : (k n : ℕ) (b : Bool) → (suc k == n) ≡ b → b ≡ false → k < n → suc k < n
+pub other_test : (k n : ℕ) (b : Bool) → (suc k == n) ≡ b → b ≡ false → k < n → suc k < n
 other_test k n b test is below = grind (arith, nat_tests, test, is, below)
 
 links_at : (c : Code) (b k : ℕ) (units : List Unit) → slice_index_or (map units_in c.blocks.items) b [] ≡ units → k < length units → IsCopyable c b → links_base (slice_index_or units k no_unit).instr ≡ false
 links_at c b k units same below copyable =
     All-get_or (λ (u : Unit). links_base u.instr ≡ false) units k no_unit below (subst (All (λ (u : Unit). links_base u.instr ≡ false)) same copyable.links)
 
-some_at : (c : Code) (b k : ℕ) (units : List Unit) → slice_index_or (map units_in c.blocks.items) b [] ≡ units → k < length units → IsCopyable c b → is_some (slice_index_or units k no_unit).instr ≡ true
+pub some_at : (c : Code) (b k : ℕ) (units : List Unit) → slice_index_or (map units_in c.blocks.items) b [] ≡ units → k < length units → IsCopyable c b → is_some (slice_index_or units k no_unit).instr ≡ true
 some_at c b k units same below copyable =
     All-get_or (λ (u : Unit). is_some u.instr ≡ true) units k no_unit below (subst (All (λ (u : Unit). is_some u.instr ≡ true)) same copyable.means)
 

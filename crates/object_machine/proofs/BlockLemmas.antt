@@ -30,7 +30,7 @@ use Rattle.object_machine.specs.Units.{target_of, fits_read, fits_pair, fits_sit
 use Rattle.object_machine.specs.Reports.{IsCallOf, ReportsAt, Reports}
 use Rattle.object_machine.specs.Preparing.{IsPairOf, IsPreparedOf}
 use Rattle.object_machine.proofs.ChainLemmas.{chain, is_chain, chain_some, chain_at, chain_below, chain_ends}
-use Rattle.object_machine.proofs.RangeLemmas.{left_at, some_left, left_further, one_less, left_below}
+use Rattle.object_machine.proofs.RangeLemmas.{HasRanges, left_at, some_left, left_further, one_less, left_is_code}
 use Rattle.object_machine.proofs.MeaningLemmas.{means_fits, LeadsOn, leads_further}
 
 -- ---- what a unit reads
@@ -84,24 +84,26 @@ cases_next k count below = grind (arith, below)
 
 -- what is known of unit `k` of a block of `count` units: its address, and how many words are left there
 pub record IsNth (v : PlainView) (a k count : ℕ) : Type 0 where
+  pub code : is_code_word v a ≡ true
   pub below : a + 4 < 4294967296
   pub left : ℕ
   pub is : words_left v a ≡ left
   pub more : suc k < count → 1 < left
   pub last : suc k ≡ count → (left ≡ 1) ⊎ (goes_on v a ≡ false)
 
-pub nth_unit : (view : ElfView) (start k : ℕ) → IsRead view → is_code_word (plain_view view) start ≡ true → k < length (unit_addresses (plain_view view) start (words_left (plain_view view) start)) → IsNth (plain_view view) (start + 4 * k) k (length (unit_addresses (plain_view view) start (words_left (plain_view view) start)))
-nth_unit view start k read code below =
-    let v = plain_view view in
+pub nth_unit : (v : PlainView) (start k : ℕ) → HasRanges v → is_code_word v start ≡ true → k < length (unit_addresses v start (words_left v start)) → IsNth v (start + 4 * k) k (length (unit_addresses v start (words_left v start)))
+nth_unit v start k ranges code below =
     let n = words_left v start in
     let same = is_chain v start n in
     let count : length (unit_addresses v start n) ≡ length (chain (goes_on v) start n) = ap length same in
     let less = chain_below (goes_on v) start n k (omega (arith, below, count)) in
-    let (range, has) = left_at view start read code in
-    let further = left_further view start range k read has less in
-    let fewer = one_less view start range k read has less in
+    let (range, has) = left_at v start ranges code in
+    let further = left_further v start range k ranges has less in
+    let fewer = one_less v start range k ranges has less in
+    let here = left_is_code v start range k code further in
     record {
-      below = left_below view (start + 4 * k) range read further;
+      code = here;
+      below = ranges.ends (start + 4 * k) here;
       left = words_left v (start + 4 * k);
       is = refl;
       more = λ next. let within = chain_below (goes_on v) start n (suc k) (omega (arith, next, count)) in omega (arith, within, fewer);
@@ -227,11 +229,10 @@ unit_address v b functions k d block below =
     ∙ (ap (λ (xs : List ℕ). slice_index_or xs k 0) (block.addresses ∙ same)
     ∙ chain_at (goes_on v) b.start (words_left v b.start) k (omega (arith, below, count, ap length same)))
 
-pub some_units : (view : ElfView) (b : Block) (functions : List Function) → IsRead view → is_code_word (plain_view view) b.start ≡ true → IsBlock (plain_view view) functions b → 0 < length b.units.items
-some_units view b functions read code block =
-    let v = plain_view view in
-    let (range, has_left) = left_at view b.start read code in
-    let some = some_left view b.start range has_left in
+pub some_units : (v : PlainView) (b : Block) (functions : List Function) → HasRanges v → is_code_word v b.start ≡ true → IsBlock v functions b → 0 < length b.units.items
+some_units v b functions ranges code block =
+    let (range, has_left) = left_at v b.start ranges code in
+    let some = some_left v b.start range has_left in
     let same = ap length (is_chain v b.start (words_left v b.start)) in
     let one = chain_some (goes_on v) b.start (words_left v b.start) some in
     let count = unit_count v b functions block in

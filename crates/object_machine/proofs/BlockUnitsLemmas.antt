@@ -20,6 +20,7 @@ use Rattle.object_machine.specs.Program.{program_of}
 use Rattle.object_machine.specs.Units.{no_unit, unit_in, is_fit, AreJoined, AreStarts, IsUnitAt}
 use Rattle.object_machine.specs.Reports.{Reports}
 use Rattle.object_machine.specs.Preparing.{absent_unit, IsPreparedOf, ArePrepared, AreTold, IsPiece, IsBlockUnits}
+use Rattle.object_machine.proofs.RangeLemmas.{read_ranges}
 use Rattle.object_machine.proofs.BlockLemmas.{IsNth, nth_unit, IsTold, told, unit_count, unit_address, some_units}
 
 -- ---- lists of units, one behind the other
@@ -111,7 +112,7 @@ piece_of view board g functions b rs read code block are =
     let known : (k : ℕ) → k < length rs → IsTold v board g (unit_in rs k) = λ k below.
     let within : k < length units = omega (arith, below, n) in
     let u = slice_index_or units k absent_unit in
-    let nth = subst (λ (c : ℕ). IsNth v (b.start + 4 * k) k c) (sym count) (nth_unit view b.start k read code (omega (arith, within, count))) in
+    let nth = subst (λ (c : ℕ). IsNth v (b.start + 4 * k) k c) (sym count) (nth_unit v b.start k (read_ranges view read) code (omega (arith, within, count))) in
     told view board g (b.start + 4 * k) k (length units) u (unit_in rs k) read nth within (block.units k absent_unit within) (unit_address v b functions k absent_unit block within) (are.each k within) in
     let at : (k : ℕ) → k < length rs → (unit_in rs k).at ≡ b.start + 4 * k = λ k below.
     let within : k < length units = omega (arith, below, n) in
@@ -129,7 +130,7 @@ piece_of view board g functions b rs read code block are =
         told = λ k below. (known k below).tells;
       };
       first =
-          let some = some_units view b functions read code block in
+          let some = some_units v b functions (read_ranges view read) code block in
           let begins : 0 < length rs = omega (arith, n, some) in
           let here = at 0 begins in
           (begins, omega (arith, here));

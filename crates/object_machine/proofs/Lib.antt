@@ -2,6 +2,7 @@ pub mod AlikeLemmas
 pub mod BlockLemmas
 pub mod CallLemmas
 pub mod ChainLemmas
+pub mod FollowLemmas
 pub mod GraphLemmas
 pub mod BlockUnitsLemmas
 pub mod LeadLemmas

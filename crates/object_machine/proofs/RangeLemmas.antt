@@ -1,12 +1,12 @@
 -- How many words follow a word of code: its code range is the only one that holds it.
-use Rattle.std.proofs.Common.{◌≡◌, ◌⊎◌, inl, inr, ℕ, zero, suc, ◌+◌, ◌-◌, ◌*◌, ◌/◌, ◌<◌, ◌==◌, ◌%◌, Bool, true, false, ◌&&◌, not, ◌≤◌, List, length, Option, Some, None, refl, sym, ◌∙◌, ap, subst, arith}
+use Rattle.std.proofs.Common.{◌≡◌, inl, inr, ℕ, zero, suc, ◌+◌, ◌-◌, ◌*◌, ◌/◌, ◌<◌, ◌==◌, ◌%◌, Bool, true, false, ◌&&◌, not, ◌≤◌, length, Option, Some, None, refl, sym, ◌∙◌, ap, subst, arith}
 use Rattle.std.proofs.lemmas.Bool.{eqb-true, both_ways}
 use Rattle.std.proofs.lemmas.Bool.Decides.{nat_tests}
 use Rattle.list_checks.specs.First.{◌or_else◌, first_below, unless}
 use Rattle.list_checks.specs.Tests.{any_below, lies_in}
 use Rattle.list_checks.proofs.TestLemmas.{both, any_found, any_at}
 use Rattle.elf_reader.specs.Sections.{bit_of}
-use Rattle.elf_reader.specs.File.{PlainView, plain_view, view_in}
+use Rattle.elf_reader.specs.File.{PlainView, plain_view}
 use Rattle.elf_reader.specs.Loadable.{AreDisjoint}
 use Rattle.elf_reader.specs.Loaded.{section_at, segment_at, is_loaded}
 use Rattle.elf_reader.specs.declared.view.ElfView.{ElfView}
@@ -14,9 +14,10 @@ use Rattle.elf_reader.proofs.SegmentLemmas.{none_of_headers, load_segments_disjo
 use Rattle.elf_reader.proofs.LoadedLemmas.{IsFilled, loaded_found, same_segment, filled_alone, zeroed_disjoint}
 use Rattle.loaded_file.specs.Code.{is_code_range, holds_code, is_code_word}
 use Rattle.loaded_file.specs.Read.{IsRead}
-use Rattle.loaded_file.proofs.WordLemmas.{same_view, range_below, word_fits}
+use Rattle.loaded_file.proofs.WordLemmas.{same_view}
 use Rattle.code_blocks.specs.Ends.{range_at, words_left_in, words_left}
-use Rattle.code_blocks.proofs.RangeLemmas.{code_held, no_range, word_held}
+use Rattle.code_leaders.proofs.LeaderLemmas.{both_pass}
+use Rattle.code_blocks.proofs.RangeLemmas.{code_held, no_range, word_held, code_fits}
 
 -- ---- one code range
 
@@ -58,15 +59,23 @@ one_section v a j k disjoint below has_j has_k =
       | inr zeroed ↦ absurd (zeroed_disjoint v j g (a - s.addr) (a - t.addr) (section_at v j) (section_at v k) (segment_at v g) filled_here zeroed at_j.0 (sym same))
     ]
 
-segments_disjoint : (view : ElfView) → IsRead view → AreDisjoint (plain_view view).segments
-segments_disjoint view read =
-    let (file, is, none) = read in
-    subst (λ (v : PlainView). AreDisjoint v.segments) (sym (same_view file view is)) (load_segments_disjoint file (none_of_headers file none))
+-- what counting the words left rests on: loaded segments share no address, and words of code end below 2 ^ 32
+pub record HasRanges (v : PlainView) : Type 0 where
+  pub disjoint : AreDisjoint v.segments
+  pub ends : (a : ℕ) → is_code_word v a ≡ true → a + 4 < 4294967296
 
-pub one_range : (view : ElfView) (a j k : ℕ) → IsRead view → k < length (plain_view view).sections → holds_code (plain_view view) a j ≡ true → holds_code (plain_view view) a k ≡ true → k ≡ j
-one_range view a j k read below holds_j holds_k =
-    let v = plain_view view in
-    one_section v a j k (segments_disjoint view read) below (has_word v a j holds_j) (has_word v a k holds_k)
+-- so it is in a view that was read
+pub read_ranges : (view : ElfView) → IsRead view → HasRanges (plain_view view)
+read_ranges view read =
+    let (file, is, none) = read in
+    record {
+      disjoint = subst (λ (v : PlainView). AreDisjoint v.segments) (sym (same_view file view is)) (load_segments_disjoint file (none_of_headers file none));
+      ends = λ a code. code_fits view a read code;
+    }
+
+pub one_range : (v : PlainView) (a j k : ℕ) → HasRanges v → k < length v.sections → holds_code v a j ≡ true → holds_code v a k ≡ true → k ≡ j
+one_range v a j k ranges below holds_j holds_k =
+    one_section v a j k ranges.disjoint below (has_word v a j holds_j) (has_word v a k holds_k)
 
 -- ---- the words left
 
@@ -91,52 +100,52 @@ pub record HasLeft (v : PlainView) (a k : ℕ) : Type 0 where
   pub holds : holds_code v a k ≡ true
   pub left : words_left v a ≡ ((section_at v k).addr + (section_at v k).size - a) / 4
 
-first_of : (view : ElfView) (a k : ℕ) (o : Option ℕ) → IsRead view → k < length (plain_view view).sections → holds_code (plain_view view) a k ≡ true → first_below (range_at (plain_view view) a) (length (plain_view view).sections) ≡ o → o ≡ Some k
-first_of view a k None read below holds is =
-    let v = plain_view view in
+first_of : (v : PlainView) (a k : ℕ) (o : Option ℕ) → HasRanges v → k < length v.sections → holds_code v a k ≡ true → first_below (range_at v a) (length v.sections) ≡ o → o ≡ Some k
+first_of v a k None ranges below holds is =
     absurd (both_ways (any_below (holds_code v a) (length v.sections)) (no_range v a (length v.sections) is) (any_at (holds_code v a) (length v.sections) k below holds))
-first_of view a k (Some j) read below holds is =
-    let v = plain_view view in
+first_of v a k (Some j) ranges below holds is =
     let (held, less) = some_range v a (length v.sections) j is in
-    ap Some (one_range view a k j read less holds held)
+    ap Some (one_range v a k j ranges less holds held)
 
-pub left_in : (view : ElfView) (a k : ℕ) → IsRead view → k < length (plain_view view).sections → holds_code (plain_view view) a k ≡ true → HasLeft (plain_view view) a k
-left_in view a k read below holds =
-    let v = plain_view view in
+pub left_in : (v : PlainView) (a k : ℕ) → HasRanges v → k < length v.sections → holds_code v a k ≡ true → HasLeft v a k
+left_in v a k ranges below holds =
     record {
       below = below;
       holds = holds;
-      left = ap (words_left_in v a) (first_of view a k (first_below (range_at v a) (length v.sections)) read below holds refl);
+      left = ap (words_left_in v a) (first_of v a k (first_below (range_at v a) (length v.sections)) ranges below holds refl);
     }
 
-pub left_at : (view : ElfView) (a : ℕ) → IsRead view → is_code_word (plain_view view) a ≡ true → (k : ℕ) × HasLeft (plain_view view) a k
-left_at view a read code =
-    let v = plain_view view in
+pub left_at : (v : PlainView) (a : ℕ) → HasRanges v → is_code_word v a ≡ true → (k : ℕ) × HasLeft v a k
+left_at v a ranges code =
     let (k, below, holds) = any_found (holds_code v a) (length v.sections) (code_held v a code) in
-    (k, left_in view a k read below holds)
+    (k, left_in v a k ranges below holds)
 
 -- each word on the way has one less
-pub left_further : (view : ElfView) (a k i : ℕ) → IsRead view → HasLeft (plain_view view) a k → i < words_left (plain_view view) a → HasLeft (plain_view view) (a + 4 * i) k
-left_further view a k i read has less =
-    let v = plain_view view in
+pub left_further : (v : PlainView) (a k i : ℕ) → HasRanges v → HasLeft v a k → i < words_left v a → HasLeft v (a + 4 * i) k
+left_further v a k i ranges has less =
     let fewer : i < ((section_at v k).addr + (section_at v k).size - a) / 4 = rw (sym has.left) less in
-    left_in view (a + 4 * i) k read has.below (word_held v k a i has.holds fewer)
+    left_in v (a + 4 * i) k ranges has.below (word_held v k a i has.holds fewer)
 
-pub one_less : (view : ElfView) (a k i : ℕ) → IsRead view → HasLeft (plain_view view) a k → i < words_left (plain_view view) a → words_left (plain_view view) (a + 4 * i) + i ≡ words_left (plain_view view) a
-one_less view a k i read has less =
-    let v = plain_view view in
+pub one_less : (v : PlainView) (a k i : ℕ) → HasRanges v → HasLeft v a k → i < words_left v a → words_left v (a + 4 * i) + i ≡ words_left v a
+one_less v a k i ranges has less =
     let s = section_at v k in
-    let further = left_further view a k i read has less in
+    let further = left_further v a k i ranges has less in
     let here = has.left in
     let there = further.left in
     omega (arith, here, there, less)
 
-pub left_below : (view : ElfView) (a k : ℕ) → IsRead view → HasLeft (plain_view view) a k → a + 4 < 4294967296
-left_below view a k read has = word_fits view k a read has.holds
+-- and is a word of code
+even_word : (a i : ℕ) → (a % 4 == 0) ≡ true → ((a + 4 * i) % 4 == 0) ≡ true
+even_word a i even = grind (arith, nat_tests, even)
 
-pub some_left : (view : ElfView) (a k : ℕ) → HasLeft (plain_view view) a k → 0 < words_left (plain_view view) a
-some_left view a k has =
-    let v = plain_view view in
+pub left_is_code : (v : PlainView) (a k i : ℕ) → is_code_word v a ≡ true → HasLeft v (a + 4 * i) k → is_code_word v (a + 4 * i) ≡ true
+left_is_code v a k i code has =
+    let even = even_word a i (both (a % 4 == 0) (any_below (holds_code v a) (length v.sections)) code).0 in
+    both_pass ((a + 4 * i) % 4 == 0) (any_below (holds_code v (a + 4 * i)) (length v.sections)) even
+    (any_at (holds_code v (a + 4 * i)) (length v.sections) k has.below has.holds)
+
+pub some_left : (v : PlainView) (a k : ℕ) → HasLeft v a k → 0 < words_left v a
+some_left v a k has =
     let s = section_at v k in
     let lies = (has_word v a k has.holds).lies in
     let left = has.left in
