@@ -10,11 +10,11 @@ use Rattle.word_bits.specs.Words.{plus}
 use Rattle.word_bits.specs.Memory.{put_bytes, bytes_at}
 use Rattle.rv_decode.specs.Table.{Means}
 use Rattle.rv_decode.specs.Acts.{register, with_register, used, defined}
-use Rattle.rv_decode.specs.declared.instructions.Instr.{Instr}
 use Rattle.rv_decode.specs.declared.instructions.Instr.TheVariants.{Ecall}
 use Rattle.elf_reader.specs.Loadable.{IsByte, AreBytes}
 use Rattle.flat_machine.specs.declared.events.FlatOutcome as flat_outcome
 use Rattle.flat_machine.specs.Mapping.{can_move}
+use Rattle.flat_machine.specs.declared.events.FlatEvent.{FlatEvent}
 use Rattle.flat_machine.specs.State.{State, trap}
 use Rattle.flat_machine.specs.Calls as flat
 use Rattle.cell_values.specs.declared.values.Val.{Val}
@@ -24,7 +24,7 @@ use Rattle.cell_values.specs.declared.values.Cell.TheVariants.{Byte}
 use Rattle.cell_values.specs.Laws.{HoldsWord}
 use Rattle.cell_values.specs.Origins.{Origin}
 use Rattle.cell_values.specs.Stands.{Stands, CellStands}
-use Rattle.object_machine.specs.Program.{Program, Target}
+use Rattle.object_machine.specs.Program.{Program}
 use Rattle.object_machine.specs.State.{SourceState, Values, value, wrote, faulted}
 use Rattle.object_machine.specs.Places.{Where, InFixed, InObject, Nowhere, byte_place, read_fault}
 use Rattle.object_machine.specs.Memory.{cell_at, stored_at}
@@ -33,10 +33,10 @@ use Rattle.object_machine.specs.Paired.{Origins, origin_at}
 use Rattle.object_machine.specs.Step.{Reads, acts}
 use Rattle.flat_machine.proofs.Words.{answered_words}
 use Rattle.simulation.specs.Setups.{Setup}
-use Rattle.simulation.specs.Units.{StandsFor}
 use Rattle.simulation.specs.Relation.{Alike, After}
 use Rattle.simulation.proofs.OneUnit.{StepPremises, StepsAs}
-use Rattle.simulation.proofs.Steps.{after_going, with_writes, wrote_on, reads_on, keeps_on, acts_leads, performs_leads}
+use Rattle.simulation.proofs.Steps.{after_going, with_writes, wrote_on, reads_on, keeps_on, acts_leads, performs_leads, falls_home}
+use Rattle.simulation.proofs.Effects.{itself}
 use Rattle.simulation.proofs.CallMemory.{MemoryAlike, GoesTo, byte_goes, goes_below, goes_mapped, goes_stands, read_too, moves, input_put}
 
 -- ---- a0 behind a call
@@ -79,19 +79,19 @@ abbrev pub Carries : Program → Setup → (ℕ → ℕ → Type 0) → (ℕ →
 Carries p l live arrive r s m next after =
     acts p s Ecall (p.site s.pc) ≡ next → After next.outcome p l live arrive r next m after
 
-module _ (p : Program) (l : Setup) (live arrive : ℕ → ℕ → Type 0) (r : ℕ) (s : SourceState) (m : Origins) (t : State) (premises : StepPremises p l live arrive r s m t) (single : p.is_pair s.pc ≡ false) (means : Reads (p.word s.pc) (Some Ecall)) where
+module _ (p : Program) (l : Setup) (live arrive : ℕ → ℕ → Type 0) (tells : List FlatEvent → Type 0) (r : ℕ) (s : SourceState) (m : Origins) (t : State) (premises : StepPremises p l live arrive tells r s m t) (single : p.is_pair s.pc ≡ false) (means : Reads (p.word s.pc) (Some Ecall)) where
   -- the registers that a call reads
   argument : (k : ℕ) → Contains (used Ecall) k → Stands p.objects (l.place r) (l.upper r) (m.regs k) (value s.regs k) (register t.hart.regs k)
-  argument k has = (reads_on p l live arrive r s m t Ecall premises single means k (inr has)).stands
+  argument k has = (reads_on p l live r s m t Ecall premises.before single means k (inr has)).stands
 
   memory : MemoryAlike p l r s m t.hart.mem
   memory = record {
-    fixed = premises.alike.fixed;
-    cells = premises.alike.cells;
-    fixed_words = premises.alike.fixed_words;
-    cell_words = premises.alike.cell_words;
-    still = premises.alike.still;
-    bytes = premises.alike.words.hart.mem;
+    fixed = premises.before.alike.fixed;
+    cells = premises.before.alike.cells;
+    fixed_words = premises.before.alike.fixed_words;
+    cell_words = premises.before.alike.cell_words;
+    still = premises.before.alike.still;
+    bytes = premises.before.alike.words.hart.mem;
   }
 
   -- ---- an answer
@@ -99,31 +99,30 @@ module _ (p : Program) (l : Setup) (live arrive : ℕ → ℕ → Type 0) (r : �
   abbrev answered_next : SourceState → ℕ → SourceState
   answered_next u n = record (wrote u 10 (Int n)) { pc = s.pc + 4 }
 
-  goes : (u : SourceState) (v : State) (n : ℕ) → Alike p l live r s.pc u m v → v.hart.pc ≡ s.pc → n < 4294967296 → acts p s Ecall (p.site s.pc) ≡ answered_next u n → After u.outcome p l live arrive r (answered_next u n) m (flat.answered v n)
-  goes u v n alike at word same =
-      let below = premises.unit.below in
-      let next : plus v.hart.pc 4 ≡ s.pc + 4 = omega arith in
+  goes : (u : SourceState) (v : State) (n : ℕ) → Alike p l live r s.pc u m v → v.hart.pc ≡ t.hart.pc → n < 4294967296 → p.falls s.pc ≡ true → acts p s Ecall (p.site s.pc) ≡ answered_next u n → After u.outcome p l live arrive r (answered_next u n) m (flat.answered v n)
+  goes u v n alike at word falls same =
       let behind : Alike p l live r (s.pc + 4) (answered_next u n) m (flat.answered v n) =
       wrote_on p l live r s.pc (s.pc + 4) u m v alike 10 n (Int n) m.regs (with_register v.hart.regs 10 n)
       (λ k lives other.
-      keeps_on p l live arrive r s m t Ecall premises single means (answered_next u n) same alike.source_going k lives (a0_alone k other))
-      (λ k other. refl) (with_writes v.hart.regs 10 n) refl word (plus v.hart.pc 4)
+      keeps_on p l live r s m t Ecall premises.before single means (answered_next u n) same alike.source_going k lives (a0_alone k other))
+      (λ k other. refl) (with_writes (live (s.pc + 4)) v.hart.regs 10 n) refl word (plus v.hart.pc 4)
       (answered_words v n word alike.words) in
-      after_going p l live arrive r t (answered_next u n) m (flat.answered v n) alike.source_going behind
-      (subst (λ a. arrive (s.pc + 4) a) (sym next) (premises.home (s.pc + 4)))
+      after_going p l live arrive tells r t (answered_next u n) m (flat.answered v n) alike.source_going behind
+      (subst (λ a. arrive (s.pc + 4) (plus a 4)) (sym at)
+      (falls_home p l live arrive tells r s m t Ecall premises single means tt falls))
 
   -- the call answers a number: the states but for the answer are alike
-  answers : (u : SourceState) (v : State) (n : ℕ) → Alike p l live r s.pc u m v → v.hart.pc ≡ s.pc → n < 4294967296 → Carries p l live arrive r s m (answered p s u n) (flat.answered v n)
-  answers u v n alike at word = falls (p.falls s.pc)
+  answers : (u : SourceState) (v : State) (n : ℕ) → Alike p l live r s.pc u m v → v.hart.pc ≡ t.hart.pc → n < 4294967296 → Carries p l live arrive r s m (answered p s u n) (flat.answered v n)
+  answers u v n alike at word = falls (p.falls s.pc) refl
     where
-      falls : (test : Bool) → Carries p l live arrive r s m (if test then answered_next u n else faulted s 6) (flat.answered v n)
-      falls true = goes u v n alike at word
-      falls false = λ same. tt
+      falls : (test : Bool) → p.falls s.pc ≡ test → Carries p l live arrive r s m (if test then answered_next u n else faulted s 6) (flat.answered v n)
+      falls true is = goes u v n alike at word is
+      falls false is = λ same. tt
 
   -- ---- exit
 
   exit_call : (x : Val) → Stands p.objects (l.place r) (l.upper r) (m.regs 10) x (flat.a0 t) → Carries p l live arrive r s m (exits s x) (flat.exited t)
-  exit_call (Int n) stands = λ same. (ap (λ w. flat_outcome.TheVariants.Exited (w % 256)) stands, premises.alike.output)
+  exit_call (Int n) stands = λ same. (ap (λ w. flat_outcome.TheVariants.Exited (w % 256)) stands, premises.before.alike.output)
   exit_call x stands = λ same. tt
 
   -- ---- the bytes behind a1
@@ -132,14 +131,14 @@ module _ (p : Program) (l : Setup) (live arrive : ℕ → ℕ → Type 0) (r : �
   a1_stands = argument 11 (1, omega arith, refl)
 
   goes_to : (i : ℕ) → read_fault (byte_place p (a1 s) i) ≡ None → GoesTo p l r (byte_place p (a1 s) i) (flat.a1 t + i)
-  goes_to i free = byte_goes p l r premises.sound (m.regs 11) (a1 s) (flat.a1 t) i a1_stands free
+  goes_to i free = byte_goes p l r premises.before.sound (m.regs 11) (a1 s) (flat.a1 t) i a1_stands free
 
   can_move_all : (n : ℕ) → ((i : ℕ) → i < n → read_fault (byte_place p (a1 s) i) ≡ None) → can_move t.map (flat.a1 t) n ≡ true
   can_move_all n free =
-      subst (λ map. can_move map (flat.a1 t) n ≡ true) (sym premises.alike.map)
-      (moves l.map (flat.a1 t) n (premises.alike.words.hart.regs 11)
-      (λ i before. goes_below p l r premises.sound (byte_place p (a1 s) i) (flat.a1 t + i) (goes_to i (free i before)))
-      (λ i before. goes_mapped p l r premises.sound (byte_place p (a1 s) i) (flat.a1 t + i) (goes_to i (free i before))))
+      subst (λ map. can_move map (flat.a1 t) n ≡ true) (sym premises.before.alike.map)
+      (moves l.map (flat.a1 t) n (premises.before.alike.words.hart.regs 11)
+      (λ i before. goes_below p l r premises.before.sound (byte_place p (a1 s) i) (flat.a1 t + i) (goes_to i (free i before)))
+      (λ i before. goes_mapped p l r premises.before.sound (byte_place p (a1 s) i) (flat.a1 t + i) (goes_to i (free i before))))
 
   -- ---- write
 
@@ -156,24 +155,24 @@ module _ (p : Program) (l : Setup) (live arrive : ℕ → ℕ → Type 0) (r : �
       byte_more (bytes_at t.hart.mem (flat.a1 t) n) bytes (plain_bytes p s n) (origin_at m (byte_place p (a1 s) n) 0)
       (cell_at s (byte_place p (a1 s) n) 0) (t.hart.mem (flat.a1 t + n))
       (λ xs plain. plain_same n (λ i before. free i (omega arith)) xs plain)
-      (goes_stands p l r premises.sound m s t.hart.mem memory (byte_place p (a1 s) n) (flat.a1 t + n) (goes_to n (free n (omega arith))))
+      (goes_stands p l r premises.before.sound m s t.hart.mem memory (byte_place p (a1 s) n) (flat.a1 t + n) (goes_to n (free n (omega arith))))
       same
 
   with_output : (bytes written : List ℕ) → written ≡ bytes → Alike p l live r s.pc (record s { output = s.output ++ bytes }) m (record t { output = t.output ++ written })
   with_output bytes written same = record {
-    regs = premises.alike.regs;
-    values = premises.alike.values;
-    fixed = premises.alike.fixed;
-    cells = premises.alike.cells;
-    fixed_words = premises.alike.fixed_words;
-    cell_words = premises.alike.cell_words;
-    still = premises.alike.still;
-    map = premises.alike.map;
-    going = premises.alike.going;
-    source_going = premises.alike.source_going;
-    words = record { hart = premises.alike.words.hart; input = premises.alike.words.input };
-    input = premises.alike.input;
-    output = ap (λ (xs : List ℕ). xs ++ written) premises.alike.output ∙ ap (λ (xs : List ℕ). s.output ++ xs) same;
+    regs = premises.before.alike.regs;
+    values = premises.before.alike.values;
+    fixed = premises.before.alike.fixed;
+    cells = premises.before.alike.cells;
+    fixed_words = premises.before.alike.fixed_words;
+    cell_words = premises.before.alike.cell_words;
+    still = premises.before.alike.still;
+    map = premises.before.alike.map;
+    going = premises.before.alike.going;
+    source_going = premises.before.alike.source_going;
+    words = record { hart = premises.before.alike.words.hart; input = premises.before.alike.words.input };
+    input = premises.before.alike.input;
+    output = ap (λ (xs : List ℕ). xs ++ written) premises.before.alike.output ∙ ap (λ (xs : List ℕ). s.output ++ xs) same;
   }
 
   plain_on : first_below (unread p s) (flat.a2 t) ≡ None → (o : Option (List ℕ)) → plain_bytes p s (flat.a2 t) ≡ o → Carries p l live arrive r s m (appends p s (flat.a2 t) o) (flat.written t)
@@ -185,7 +184,7 @@ module _ (p : Program) (l : Setup) (live arrive : ℕ → ℕ → Type 0) (r : �
       subst (λ test. Carries p l live arrive r s m (appends p s (flat.a2 t) (Some bytes)) (if test then record (flat.answered t (flat.a2 t)) { output = t.output ++ bytes_at t.hart.mem (flat.a1 t) (flat.a2 t) } else trap t))
       (sym (can_move_all (flat.a2 t) free))
       (answers (record s { output = s.output ++ bytes }) (record t { output = t.output ++ bytes_at t.hart.mem (flat.a1 t) (flat.a2 t) }) (flat.a2 t)
-      (with_output bytes written same) premises.at (premises.alike.words.hart.regs 12))
+      (with_output bytes written same) refl (premises.before.alike.words.hart.regs 12))
   plain_on none None plain = λ same. tt
 
   unread_on : (o : Option ℕ) → first_below (unread p s) (flat.a2 t) ≡ o → Carries p l live arrive r s m (writes_from p s (flat.a2 t) o) (flat.written t)
@@ -211,7 +210,7 @@ module _ (p : Program) (l : Setup) (live arrive : ℕ → ℕ → Type 0) (r : �
       if can_move t.map (flat.a1 t) k then flat.answered (with_bytes k input) k else trap t
 
   source_input : AreBytes s.input
-  source_input = subst AreBytes premises.alike.input premises.alike.words.input
+  source_input = subst AreBytes premises.before.alike.input premises.before.alike.words.input
 
   input_stands : (k : ℕ) → ((i : ℕ) → i < k → read_fault (byte_place p (a1 s) i) ≡ None) → MemoryAlike p l r (put_input p s (a1 s) 0 (take k s.input)) m (put_bytes t.hart.mem (flat.a1 t) (take k s.input))
   input_stands k free =
@@ -219,7 +218,7 @@ module _ (p : Program) (l : Setup) (live arrive : ℕ → ℕ → Type 0) (r : �
       let short : length (take k s.input) ≤ k = grind (arith, nat_tests) in
       let start : flat.a1 t + 0 ≡ flat.a1 t = omega arith in
       subst (λ w. MemoryAlike p l r (put_input p s (a1 s) 0 (take k s.input)) m (put_bytes t.hart.mem w (take k s.input))) start
-      (input_put p l r premises.sound m (a1 s) (flat.a1 t) (take k s.input) 0 s t.hart.mem memory
+      (input_put p l r premises.before.sound m (a1 s) (flat.a1 t) (take k s.input) 0 s t.hart.mem memory
       (All-take IsByte k s.input source_input) (λ j from before. goes_to j (free j (omega arith))))
 
   with_taken : (k : ℕ) → ((i : ℕ) → i < k → read_fault (byte_place p (a1 s) i) ≡ None) → Alike p l live r s.pc (with_input p s k) m (with_bytes k s.input)
@@ -229,26 +228,26 @@ module _ (p : Program) (l : Setup) (live arrive : ℕ → ℕ → Type 0) (r : �
       record {
         regs = λ j lives.
             subst (λ (regs : Values). Stands p.objects (l.place r) (l.upper r) (m.regs j) (value regs j) (register t.hart.regs j)) (sym kept.regs)
-            (premises.alike.regs j lives);
-        values = λ j lives. subst (λ (regs : Values). HoldsWord (value regs j)) (sym kept.regs) (premises.alike.values j lives);
+            (premises.before.alike.regs j lives);
+        values = λ j lives. subst (λ (regs : Values). HoldsWord (value regs j)) (sym kept.regs) (premises.before.alike.values j lives);
         fixed = memories.fixed;
         cells = memories.cells;
         fixed_words = memories.fixed_words;
         cell_words = memories.cell_words;
         still = memories.still;
-        map = premises.alike.map;
-        going = premises.alike.going;
-        source_going = kept.outcome ∙ premises.alike.source_going;
+        map = premises.before.alike.map;
+        going = premises.before.alike.going;
+        source_going = kept.outcome ∙ premises.before.alike.source_going;
         words = record {
           hart = record {
-            pc = premises.alike.words.hart.pc;
-            regs = premises.alike.words.hart.regs;
+            pc = premises.before.alike.words.hart.pc;
+            regs = premises.before.alike.words.hart.regs;
             mem = memories.bytes;
           };
           input = All-drop IsByte k s.input source_input;
         };
         input = refl;
-        output = premises.alike.output ∙ sym kept.output;
+        output = premises.before.alike.output ∙ sym kept.output;
       }
 
   unwritten_on : (k : ℕ) → k < 4294967296 → (o : Option ℕ) → first_below (unwritten p s) k ≡ o → Carries p l live arrive r s m (reads_into p s k o) (read_as k s.input)
@@ -257,15 +256,15 @@ module _ (p : Program) (l : Setup) (live arrive : ℕ → ℕ → Type 0) (r : �
       λ i before. read_too p (byte_place p (a1 s) i) (none_at (unwritten p s) k i before none) in
       subst (λ test. Carries p l live arrive r s m (reads_into p s k None) (if test then flat.answered (with_bytes k s.input) k else trap t))
       (sym (can_move_all k free))
-      (answers (with_input p s k) (with_bytes k s.input) k (with_taken k free) premises.at word)
+      (answers (with_input p s k) (with_bytes k s.input) k (with_taken k free) refl word)
   unwritten_on k word (Some why) some = λ same. tt
 
   read_call : (x : Val) → Stands p.objects (l.place r) (l.upper r) (m.regs 12) x (flat.a2 t) → Carries p l live arrive r s m (reads p s x) (flat.read t)
   read_call (Int n) stands =
-      let asked : flat.a2 t < 4294967296 = premises.alike.words.hart.regs 12 in
+      let asked : flat.a2 t < 4294967296 = premises.before.alike.words.hart.regs 12 in
       let word : consumed_count s (flat.a2 t) < 4294967296 = grind (arith, nat_tests) in
       subst (λ k. Carries p l live arrive r s m (reads_into p s (consumed_count s k) (first_below (unwritten p s) (consumed_count s k))) (flat.read t)) stands
-      (subst (λ (input : List ℕ). Carries p l live arrive r s m (reads_into p s (consumed_count s (flat.a2 t)) (first_below (unwritten p s) (consumed_count s (flat.a2 t)))) (read_as (min (flat.a2 t) (length input)) input)) (sym premises.alike.input)
+      (subst (λ (input : List ℕ). Carries p l live arrive r s m (reads_into p s (consumed_count s (flat.a2 t)) (first_below (unwritten p s) (consumed_count s (flat.a2 t)))) (read_as (min (flat.a2 t) (length input)) input)) (sym premises.before.alike.input)
       (unwritten_on (consumed_count s (flat.a2 t)) word (first_below (unwritten p s) (consumed_count s (flat.a2 t))) refl))
   read_call x stands = λ same. tt
 
@@ -281,7 +280,7 @@ module _ (p : Program) (l : Setup) (live arrive : ℕ → ℕ → Type 0) (r : �
       (picked (flat.a7 t == 64) (writes p s (a2 s)) _ (flat.written t) _ (write_call (a2 s) (argument 12 (2, omega arith, refl)))
       (picked (flat.a7 t == 63) (reads p s (a2 s)) (answered p s s 4294967258) (flat.read t) (flat.answered t 4294967258)
       (read_call (a2 s) (argument 12 (2, omega arith, refl)))
-      (answers s t 4294967258 premises.alike premises.at (omega arith))))
+      (answers s t 4294967258 premises.before.alike refl (omega arith))))
 
   any_call : (x : Val) → Stands p.objects (l.place r) (l.upper r) (m.regs 17) x (flat.a7 t) → Carries p l live arrive r s m (calls_by p s x) (flat.call t)
   any_call (Int n) stands = subst (λ k. Carries p l live arrive r s m (calls_number p s k) (flat.call t)) stands number_call
@@ -291,16 +290,11 @@ module _ (p : Program) (l : Setup) (live arrive : ℕ → ℕ → Type 0) (r : �
   pub call_after : After (calls_by p s (a7 s)).outcome p l live arrive r (calls_by p s (a7 s)) m (flat.call t)
   call_after = any_call (a7 s) (argument 17 (3, omega arith, refl)) refl
 
--- what stands for an ECALL is one
-stands_for_call : (p : Program) (l : Setup) (r u : ℕ) (site : Option Target) (j : Instr) → StandsFor p l r u site Ecall j → j ≡ Ecall
-stands_for_call p l r u None j same = same
-stands_for_call p l r u (Some target) j same = same
-
-pub call_steps : (p : Program) (l : Setup) (live arrive : ℕ → ℕ → Type 0) (r : ℕ) (s : SourceState) (m : Origins) (t : State) → StepsAs p l live arrive r s m t Ecall
-call_steps p l live arrive r s m t single premises means paired =
+pub call_steps : (p : Program) (l : Setup) (live arrive : ℕ → ℕ → Type 0) (tells : List FlatEvent → Type 0) (r : ℕ) (s : SourceState) (m : Origins) (t : State) → StepsAs p l live arrive tells r s m t Ecall
+call_steps p l live arrive tells r s m t single premises means paired =
     let word = premises.unit.one (Some Ecall) single means in
-    let same = stands_for_call p l r s.pc (p.site s.pc) word.1.0 word.1.1.1.1.1 in
+    let same = itself p l arrive r s.pc t.hart.pc Ecall (λ j. j ≡ Ecall) (λ j e. e) (λ g j e. e) (p.site s.pc) word.1.0 word.1.1.1.1.1 in
     let flat_means : Means word.0 Ecall = subst (λ j. Means word.0 j) same word.1.1.1.0 in
-    acts_leads p l live arrive r s m t Ecall premises single means
-    (performs_leads p l live arrive r s m t Ecall premises single means word.0 Ecall (calls_by p s (a7 s)) m word.1.1.0 flat_means
-    (call_after p l live arrive r s m t premises single means))
+    acts_leads p l live arrive tells r s m t Ecall premises.before single means
+    (performs_leads p l live arrive tells r s m t Ecall premises single means word.0 Ecall (calls_by p s (a7 s)) m word.1.1.0 flat_means
+    (call_after p l live arrive tells r s m t premises single means))

@@ -1,5 +1,5 @@
 -- Operations on registers and immediates, and fences.
-use Rattle.std.proofs.Common.{◌≡◌, ℕ, true, false, not, ◌&&◌, Option, Some, None, ℤ, refl, ap, subst, arith}
+use Rattle.std.proofs.Common.{◌≡◌, ℕ, true, false, not, ◌&&◌, List, Option, Some, None, ℤ, refl, ap, subst, arith, ◌+◌}
 use Rattle.list_checks.proofs.TestLemmas.{both, not_true}
 use Rattle.word_bits.specs.Words.{offset}
 use Rattle.rv_decode.specs.Table.{Means, IsImmInRange}
@@ -11,6 +11,7 @@ use Rattle.rv_decode.specs.declared.instructions.ImmKind.TheVariants.{Addi}
 use Rattle.rv_decode.specs.declared.instructions.RegKind.{RegKind}
 use Rattle.rv_decode.proofs.Words.{keeps_words}
 use Rattle.rv_decode.proofs.Words.{imm_fits}
+use Rattle.flat_machine.specs.declared.events.FlatEvent.{FlatEvent}
 use Rattle.flat_machine.specs.State.{State}
 use Rattle.rv_decode.specs.Operations.{operation_of}
 use Rattle.cell_values.specs.Operations.{op_imm, op_reg, low_site}
@@ -25,28 +26,29 @@ use Rattle.object_machine.specs.State.{SourceState, value}
 use Rattle.object_machine.specs.Step.{Reads, acts, next_state}
 use Rattle.object_machine.specs.Paired.{Origins, origins_after, finds_named, is_paired_site, uses_base}
 use Rattle.simulation.specs.Setups.{Setup}
-use Rattle.simulation.specs.Units.{StandsAt, StandsFor}
-use Rattle.simulation.specs.Relation.{Leads}
+use Rattle.simulation.specs.Units.{StandsAt}
+use Rattle.simulation.specs.Relation.{LeadsTold}
+use Rattle.simulation.specs.Forms.{ActsAs}
 use Rattle.simulation.proofs.OneUnit.{StepPremises, StepsAs}
 use Rattle.simulation.proofs.Steps.{Operand, reads_on, one_read, first_read, second_read, one_written, none_written, paired_by, with_writes}
 use Rattle.simulation.proofs.Effects.{itself, no_writes, falls_both}
 
-module _ (p : Program) (l : Setup) (live arrive : ℕ → ℕ → Type 0) (r : ℕ) (s : SourceState) (m : Origins) (t : State) where
-  imm_at : (kind : ImmKind) (rd rs1 : ℕ) (imm : ℤ) → StepPremises p l live arrive r s m t → p.is_pair s.pc ≡ false → Reads (p.word s.pc) (Some (OpImm kind rd rs1 imm)) → Operand p l r rs1 s m t → IsImmInRange kind imm → (site : Option Target) → p.site s.pc ≡ site → (code : ℕ) (j : Instr) → StandsAt l r s.pc code → Means code j → StandsFor p l r s.pc site (OpImm kind rd rs1 imm) j → is_paired_site p s m rs1 site && not (uses_base p s m (operation_of kind) rs1 site) ≡ true → Leads 2 p l live arrive r (next_state p s (Some (OpImm kind rd rs1 imm))) (origins_after p s m (Some (OpImm kind rd rs1 imm))) t
+module _ (p : Program) (l : Setup) (live arrive : ℕ → ℕ → Type 0) (tells : List FlatEvent → Type 0) (r : ℕ) (s : SourceState) (m : Origins) (t : State) where
+  imm_at : (kind : ImmKind) (rd rs1 : ℕ) (imm : ℤ) → StepPremises p l live arrive tells r s m t → p.is_pair s.pc ≡ false → Reads (p.word s.pc) (Some (OpImm kind rd rs1 imm)) → Operand p l r rs1 s m t → IsImmInRange kind imm → (site : Option Target) → p.site s.pc ≡ site → (code : ℕ) (j : Instr) → StandsAt l r t.hart.pc code → Means code j → ActsAs p l arrive r s.pc t.hart.pc site (OpImm kind rd rs1 imm) j → is_paired_site p s m rs1 site && not (uses_base p s m (operation_of kind) rs1 site) ≡ true → LeadsTold tells p l live arrive r (next_state p s (Some (OpImm kind rd rs1 imm))) (origins_after p s m (Some (OpImm kind rd rs1 imm))) t
   imm_at kind rd rs1 imm premises single reads operand range None at code j stands means for paired =
       let here : Means code (OpImm kind rd rs1 imm) = subst (λ y. Means code y) for means in
       let disjoint : takes_low p.objects (operation_of kind) (m.regs rs1) (value s.regs rs1) ByLui (Int 0) ≡ false =
       not_true (takes_low p.objects (operation_of kind) (m.regs rs1) (value s.regs rs1) ByLui (Int 0)) paired in
       let w : ℕ = imm_value kind (register t.hart.regs rs1) imm in
       let is =
-      immediates_stand p.objects (l.place r) (l.upper r) premises.sound.fit premises.sound.lui kind (m.regs rs1) (m.regs rd)
+      immediates_stand p.objects (l.place r) (l.upper r) premises.before.sound.fit premises.before.sound.lui kind (m.regs rs1) (m.regs rd)
       (value s.regs rs1) imm (register t.hart.regs rs1) operand.word range disjoint operand.stands in
       let holds =
-      (operations_keep keeps_words).1 p.objects kind (value s.regs rs1) imm premises.sound.fit.grain operand.holds
+      (operations_keep keeps_words).1 p.objects kind (value s.regs rs1) imm premises.before.sound.fit.grain operand.holds
       (imm_fits kind imm range) in
-      falls_both p l live arrive r s m t (OpImm kind rd rs1 imm) premises single reads rd w
+      falls_both p l live arrive tells r s m t (OpImm kind rd rs1 imm) premises single reads tt rd w
       (op_imm p.objects kind (value s.regs rs1) imm) m.regs code (OpImm kind rd rs1 imm) (with_register t.hart.regs rd w)
-      (one_written rd) (λ k other. refl) refl stands here (with_writes t.hart.regs rd w) is holds
+      (one_written rd) (λ k other. refl) refl stands here (with_writes (live (s.pc + 4)) t.hart.regs rd w) is holds
       (ap (λ q. acts p s (OpImm kind rd rs1 imm) q) at) refl
   imm_at kind rd rs1 imm premises single reads operand range (Some g) at code j stands means for paired =
       let z = for.1.0 in
@@ -54,60 +56,60 @@ module _ (p : Program) (l : Setup) (live arrive : ℕ → ℕ → Type 0) (r : �
       let found = (both (finds_named (p.named s.pc) (m.regs rs1) (value s.regs rs1)) true paired).0 in
       let w : ℕ = offset (register t.hart.regs rs1) z in
       let is =
-      for.1.1.1 (m.regs rs1) (m.regs rd) (value s.regs rs1) (register t.hart.regs rs1) operand.word (premises.made.regs rs1) found operand.stands in
-      let holds = sites_keep_words p.objects (value s.regs rs1) g.object g.offset (premises.sound.sites s.pc g at) in
-      falls_both p l live arrive r s m t (OpImm kind rd rs1 imm) premises single reads rd w
+      for.1.1.1 (m.regs rs1) (m.regs rd) (value s.regs rs1) (register t.hart.regs rs1) operand.word (premises.before.made.regs rs1) found operand.stands in
+      let holds = sites_keep_words p.objects (value s.regs rs1) g.object g.offset (premises.before.sound.sites s.pc g at) in
+      falls_both p l live arrive tells r s m t (OpImm kind rd rs1 imm) premises single reads tt rd w
       (low_site p.objects (value s.regs rs1) g.object g.offset) m.regs code (OpImm Addi rd rs1 z)
       (with_register t.hart.regs rd w) (one_written rd) (λ k other. refl) refl stands here
-      (with_writes t.hart.regs rd w) is holds (ap (λ q. acts p s (OpImm kind rd rs1 imm) q) at) refl
+      (with_writes (live (s.pc + 4)) t.hart.regs rd w) is holds (ap (λ q. acts p s (OpImm kind rd rs1 imm) q) at) refl
 
-  pub imm_steps : (kind : ImmKind) (rd rs1 : ℕ) (imm : ℤ) → StepsAs p l live arrive r s m t (OpImm kind rd rs1 imm)
+  pub imm_steps : (kind : ImmKind) (rd rs1 : ℕ) (imm : ℤ) → StepsAs p l live arrive tells r s m t (OpImm kind rd rs1 imm)
   imm_steps kind rd rs1 imm single premises reads paired =
       let i : Instr = OpImm kind rd rs1 imm in
       let there = premises.unit.one (Some i) single reads in
-      let operand = reads_on p l live arrive r s m t i premises single reads rs1 (one_read rs1) in
+      let operand = reads_on p l live r s m t i premises.before single reads rs1 (one_read rs1) in
       imm_at kind rd rs1 imm premises single reads operand there.1.1.1.1.0.2 (p.site s.pc) refl there.0 there.1.0 there.1.1.0
       there.1.1.1.0 there.1.1.1.1.1 (paired_by p s m i single paired)
 
-  pub reg_steps : (kind : RegKind) (rd rs1 rs2 : ℕ) → StepsAs p l live arrive r s m t (OpReg kind rd rs1 rs2)
+  pub reg_steps : (kind : RegKind) (rd rs1 rs2 : ℕ) → StepsAs p l live arrive tells r s m t (OpReg kind rd rs1 rs2)
   reg_steps kind rd rs1 rs2 single premises reads paired =
       let i : Instr = OpReg kind rd rs1 rs2 in
       let there = premises.unit.one (Some i) single reads in
-      let first = reads_on p l live arrive r s m t i premises single reads rs1 (first_read rs1 rs2) in
-      let second = reads_on p l live arrive r s m t i premises single reads rs2 (second_read rs1 rs2) in
-      let same = itself p l r s.pc i (λ g j e. e) (p.site s.pc) there.1.0 there.1.1.1.1.1 in
+      let first = reads_on p l live r s m t i premises.before single reads rs1 (first_read rs1 rs2) in
+      let second = reads_on p l live r s m t i premises.before single reads rs2 (second_read rs1 rs2) in
+      let same = itself p l arrive r s.pc t.hart.pc i (λ j. j ≡ i) (λ j e. e) (λ g j e. e) (p.site s.pc) there.1.0 there.1.1.1.1.1 in
       let here : Means there.0 i = subst (λ y. Means there.0 y) same there.1.1.1.0 in
       let disjoint =
       not_true (takes_low p.objects kind (m.regs rs1) (value s.regs rs1) (m.regs rs2) (value s.regs rs2))
       (paired_by p s m i single paired) in
       let w : ℕ = reg_value kind (register t.hart.regs rs1) (register t.hart.regs rs2) in
       let is =
-      operations_stand p.objects (l.place r) (l.upper r) premises.sound.fit premises.sound.lui kind (m.regs rs1) (m.regs rs2)
+      operations_stand p.objects (l.place r) (l.upper r) premises.before.sound.fit premises.before.sound.lui kind (m.regs rs1) (m.regs rs2)
       (m.regs rd) (value s.regs rs1) (value s.regs rs2) (register t.hart.regs rs1) (register t.hart.regs rs2) first.word
       second.word disjoint first.stands second.stands in
       let holds =
-      (operations_keep keeps_words).0 p.objects kind (value s.regs rs1) (value s.regs rs2) premises.sound.fit.grain
+      (operations_keep keeps_words).0 p.objects kind (value s.regs rs1) (value s.regs rs2) premises.before.sound.fit.grain
       first.holds second.holds in
-      falls_both p l live arrive r s m t i premises single reads rd w
+      falls_both p l live arrive tells r s m t i premises single reads tt rd w
       (op_reg p.objects kind (value s.regs rs1) (value s.regs rs2)) m.regs there.0 i (with_register t.hart.regs rd w)
-      (one_written rd) (λ k other. refl) refl there.1.1.0 here (with_writes t.hart.regs rd w) is holds refl refl
+      (one_written rd) (λ k other. refl) refl there.1.1.0 here (with_writes (live (s.pc + 4)) t.hart.regs rd w) is holds refl refl
 
-  pub fence_steps : (bits : ℕ) → StepsAs p l live arrive r s m t (Fence bits)
+  pub fence_steps : (bits : ℕ) → StepsAs p l live arrive tells r s m t (Fence bits)
   fence_steps bits single premises reads paired =
       let i : Instr = Fence bits in
       let there = premises.unit.one (Some i) single reads in
-      let same = itself p l r s.pc i (λ g j e. e) (p.site s.pc) there.1.0 there.1.1.1.1.1 in
+      let same = itself p l arrive r s.pc t.hart.pc i (λ j. j ≡ i) (λ j e. e) (λ g j e. e) (p.site s.pc) there.1.0 there.1.1.1.1.1 in
       let here : Means there.0 i = subst (λ y. Means there.0 y) same there.1.1.1.0 in
-      falls_both p l live arrive r s m t i premises single reads 0 0 (Int 0) m.regs there.0 i t.hart.regs
-      (λ k has. absurd (none_written k has)) (λ k other. refl) refl there.1.1.0 here (no_writes t.hart.regs) refl
+      falls_both p l live arrive tells r s m t i premises single reads tt 0 0 (Int 0) m.regs there.0 i t.hart.regs
+      (λ k has. absurd (none_written k has)) (λ k other. refl) refl there.1.1.0 here (no_writes (live (s.pc + 4)) t.hart.regs) refl
       (omega arith) refl refl
 
-  pub fence_i_steps : (bits : ℕ) → StepsAs p l live arrive r s m t (FenceI bits)
+  pub fence_i_steps : (bits : ℕ) → StepsAs p l live arrive tells r s m t (FenceI bits)
   fence_i_steps bits single premises reads paired =
       let i : Instr = FenceI bits in
       let there = premises.unit.one (Some i) single reads in
-      let same = itself p l r s.pc i (λ g j e. e) (p.site s.pc) there.1.0 there.1.1.1.1.1 in
+      let same = itself p l arrive r s.pc t.hart.pc i (λ j. j ≡ i) (λ j e. e) (λ g j e. e) (p.site s.pc) there.1.0 there.1.1.1.1.1 in
       let here : Means there.0 i = subst (λ y. Means there.0 y) same there.1.1.1.0 in
-      falls_both p l live arrive r s m t i premises single reads 0 0 (Int 0) m.regs there.0 i t.hart.regs
-      (λ k has. absurd (none_written k has)) (λ k other. refl) refl there.1.1.0 here (no_writes t.hart.regs) refl
+      falls_both p l live arrive tells r s m t i premises single reads tt 0 0 (Int 0) m.regs there.0 i t.hart.regs
+      (λ k has. absurd (none_written k has)) (λ k other. refl) refl there.1.1.0 here (no_writes (live (s.pc + 4)) t.hart.regs) refl
       (omega arith) refl refl

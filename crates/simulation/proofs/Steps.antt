@@ -1,5 +1,5 @@
 -- Parts of the proofs of one step: what is fetched and read, and what a written register leaves.
-use Rattle.std.proofs.Common.{◌≡◌, ◌⊎◌, inl, inr, ℕ, ◌+◌, ◌<◌, ◌==◌, true, false, not, [], ◌∷◌, Option, Some, None, refl, sym, ◌∙◌, subst, arith}
+use Rattle.std.proofs.Common.{◌≡◌, ◌⊎◌, inl, inr, ℕ, ◌+◌, ◌<◌, ◌==◌, true, false, not, List, [], ◌∷◌, length, Option, Some, None, refl, sym, ◌∙◌, subst, arith}
 use Rattle.std.specs.Prelude.{Contains}
 use Rattle.std.specs.Bool.{MatchBool}
 use Rattle.std.proofs.lemmas.Grind.{common_steps}
@@ -12,22 +12,25 @@ use Rattle.rv_decode.specs.Table.{Means}
 use Rattle.rv_decode.specs.Acts.{Registers, register, with_register, used, defined, without_zero}
 use Rattle.rv_decode.specs.declared.instructions.Instr.{Instr}
 use Rattle.rv_decode.proofs.Words.{keeps_words}
-use Rattle.flat_machine.specs.declared.events.FlatOutcome as flat
 use Rattle.flat_machine.specs.declared.events.FlatEvent.{FlatEvent}
 use Rattle.flat_machine.specs.Mapping.{can_access}
 use Rattle.flat_machine.specs.State.{State, trap}
 use Rattle.flat_machine.specs.Step.{Performs, ReadsNothing, StepAt, Step, performed, event_of}
 use Rattle.flat_machine.specs.Step.{Reads as FlatReads}
+use Rattle.flat_machine.specs.Lines.{Fetches}
+use Rattle.flat_machine.specs.Runs.{Does}
 use Rattle.flat_machine.specs.Sizes.{HasWords}
-use Rattle.flat_machine.proofs.Runs.{performs_meaning}
-use Rattle.flat_machine.proofs.Words.{step_words}
+use Rattle.flat_machine.proofs.Runs.{performs_meaning, steps_of_events}
+use Rattle.flat_machine.proofs.SilentLines.{read_there, read_other}
+use Rattle.flat_machine.proofs.Words.{step_words, steps_words}
 use Rattle.cell_values.specs.Laws.{HoldsWord}
 use Rattle.cell_values.specs.declared.values.Val.{Val}
 use Rattle.cell_values.specs.declared.values.Val.TheVariants.{Int}
 use Rattle.cell_values.specs.Origins.{Origin}
 use Rattle.cell_values.specs.Stands.{Stands}
 use Rattle.cell_values.specs.Cells.{put_at}
-use Rattle.object_machine.specs.declared.events.Outcome.TheVariants.{GoesOn, AddressFault}
+use Rattle.object_machine.specs.declared.events.Outcome.{Outcome}
+use Rattle.object_machine.specs.declared.events.Outcome.TheVariants.{GoesOn, Exited, Trapped, AddressFault}
 use Rattle.object_machine.specs.Program.{Program}
 use Rattle.object_machine.specs.State.{Values, SourceState, value, with_value, wrote, faulted}
 use Rattle.object_machine.specs.Flow.{falls_on, jumps}
@@ -35,20 +38,13 @@ use Rattle.object_machine.specs.Step.{Reads, acts, next_state}
 use Rattle.object_machine.specs.Paired.{Origins, origins_by, origins_after, is_paired_by, is_paired_step}
 use Rattle.simulation.specs.Setups.{Setup}
 use Rattle.simulation.specs.Units.{StandsAt}
-use Rattle.simulation.specs.Relation.{Alike, After, KeepsPace, Leads}
-use Rattle.simulation.proofs.OneUnit.{StepPremises}
+use Rattle.simulation.specs.Relation.{Alike, After, Tells, LeadsTold}
+use Rattle.simulation.specs.Forms.{IsAt, IsFollowed}
+use Rattle.simulation.proofs.OneUnit.{Before, StepPremises}
 
 -- ---- what is fetched
 
--- the flat machine goes on at an address, and what stands still is in its memory
-pub record Fetches (l : Setup) (r u : ℕ) (t : State) : Type 0 where
-  pub at : t.hart.pc ≡ u
-  pub map : t.map ≡ l.map
-  pub going : t.outcome ≡ flat.TheVariants.GoesOn
-  pub words : HasWords t
-  pub still : (a : ℕ) → l.is_still r a ≡ true → t.hart.mem a ≡ l.still r a
-
-module _ (l : Setup) (r u w : ℕ) (t : State) (here : Fetches l r u t) (stands : StandsAt l r u w) where
+module _ (l : Setup) (r u w : ℕ) (t : State) (here : IsAt l r u t) (stands : StandsAt l r u w) where
   word_still : u < 4294967296 → word_at t.hart.mem u ≡ w
   word_still below =
       let first : plus u 0 ≡ u = omega arith in
@@ -70,6 +66,12 @@ module _ (l : Setup) (r u w : ℕ) (t : State) (here : Fetches l r u t) (stands 
       subst (λ q. can_access q t.hart.pc 4 ≡ true) (sym here.map)
       (subst (λ a. can_access l.map a 4 ≡ true) (sym here.at) stands.fetched)
 
+  -- the word can be fetched where it stands
+  pub fetched_at : (j : Instr) → Means w j → Fetches t.map t.hart.mem u j
+  fetched_at j means =
+      let below : u < 4294967296 = subst (λ a. a < 4294967296) here.at here.words.hart.pc in
+      (subst (λ q. can_access q u 4 ≡ true) (sym here.map) stands.fetched, subst (λ x. Means x j) (sym (word_still below)) means)
+
   -- the instruction that a word means is performed
   pub fetches : (j : Instr) → Means w j → Step t (event_of t j) (performed t j)
   fetches j means = performs_meaning t j here.going may_fetch (subst (λ x. Means x j) (sym word_there) means)
@@ -89,44 +91,45 @@ module _ (l : Setup) (r u w : ℕ) (t : State) (here : Fetches l r u t) (stands 
             (sym may_fetch) (None, step)),
       )
 
-pub premises_fetches : (p : Program) (l : Setup) (live arrive : ℕ → ℕ → Type 0) (r : ℕ) (s : SourceState) (m : Origins) (t : State) → StepPremises p l live arrive r s m t → Fetches l r s.pc t
-premises_fetches p l live arrive r s m t premises =
-    record {
-      at = premises.at;
-      map = premises.alike.map;
-      going = premises.alike.going;
-      words = premises.alike.words;
-      still = premises.alike.still;
-    }
+-- steps leave words
+pub does_words : (es : List FlatEvent) (t t' : State) → HasWords t → Does es t t' → HasWords t'
+does_words es t t' words does = steps_words keeps_words (length es) t t' words (steps_of_events es t t' does)
+
+-- where states are alike the flat machine is at its pc
+pub is_at : (p : Program) (l : Setup) (live : ℕ → ℕ → Type 0) (r u : ℕ) (s : SourceState) (m : Origins) (t : State) → Alike p l live r u s m t → IsAt l r t.hart.pc t
+is_at p l live r u s m t alike =
+    record { at = refl; map = alike.map; going = alike.going; words = alike.words; still = alike.still }
 
 -- ---- where steps lead
 
-module _ (p : Program) (l : Setup) (live arrive : ℕ → ℕ → Type 0) (r : ℕ) (t : State) where
-  -- by one event and by two
-  pub leads_one : (n : SourceState) (m : Origins) (e : FlatEvent) (t' : State) → Step t e t' → After n.outcome p l live arrive r n m t' → Leads 2 p l live arrive r n m t
-  leads_one n m e t' step after = (e ∷ [], (t', ((t', (step, refl)), (record { least = λ going. omega arith; most = omega arith }, after))))
+module _ (p : Program) (l : Setup) (live arrive : ℕ → ℕ → Type 0) (tells : List FlatEvent → Type 0) (r : ℕ) (t : State) where
+  told_by : (o : Outcome) (es : List FlatEvent) → tells es → Tells o tells es
+  told_by GoesOn es told = told
+  told_by (Exited code) es told = told
+  told_by (Trapped pc) es told = told
+  told_by (AddressFault pc why) es told = tt
 
-  pub leads_two : (n : SourceState) (m : Origins) (e f : FlatEvent) (t' t'' : State) → Step t e t' → Step t' f t'' → After n.outcome p l live arrive r n m t'' → Leads 2 p l live arrive r n m t
-  leads_two n m e f t' t'' step more after =
-      (e ∷ f ∷ [], (t'', ((t', (step, (t'', (more, refl)))), (record { least = λ going. omega arith; most = omega arith }, after))))
+  -- by these events
+  pub leads_does : (n : SourceState) (m : Origins) (es : List FlatEvent) (t' : State) → Does es t t' → tells es → After n.outcome p l live arrive r n m t' → LeadsTold tells p l live arrive r n m t
+  leads_does n m es t' does told after = (es, (t', (does, (told_by n.outcome es told, after))))
 
   -- a fault promises nothing
-  pub fault_leads : (n : SourceState) (m : Origins) (pc why : ℕ) → n.outcome ≡ AddressFault pc why → Leads 2 p l live arrive r n m t
+  pub fault_leads : (n : SourceState) (m : Origins) (pc why : ℕ) → n.outcome ≡ AddressFault pc why → LeadsTold tells p l live arrive r n m t
   fault_leads n m pc why fault =
-      let none : KeepsPace 1 2 n.outcome 0 = record { least = λ going. absurd (cc); most = omega arith } in
+      let none : Tells n.outcome tells [] = subst (λ o. Tells o tells []) (sym fault) tt in
       ([], (t, (refl, (none, subst (λ o. After o p l live arrive r n m t) (sym fault) tt))))
 
   -- to the next word, to a block, or into a fault
-  pub falls_leads : (s s' : SourceState) (m : Origins) → (falls_on p s s' ≡ record s' { pc = s.pc + 4 } → Leads 2 p l live arrive r (record s' { pc = s.pc + 4 }) m t) → Leads 2 p l live arrive r (falls_on p s s') m t
+  pub falls_leads : (s s' : SourceState) (m : Origins) → (p.falls s.pc ≡ true → falls_on p s s' ≡ record s' { pc = s.pc + 4 } → LeadsTold tells p l live arrive r (record s' { pc = s.pc + 4 }) m t) → LeadsTold tells p l live arrive r (falls_on p s s') m t
   falls_leads s s' m on =
-      cond_both (p.falls s.pc) (record s' { pc = s.pc + 4 }) (faulted s 6) (λ n. Leads 2 p l live arrive r n m t)
-      (λ falls. on (cond-true (p.falls s.pc) (record s' { pc = s.pc + 4 }) (faulted s 6) falls))
+      cond_both (p.falls s.pc) (record s' { pc = s.pc + 4 }) (faulted s 6) (λ n. LeadsTold tells p l live arrive r n m t)
+      (λ falls. on falls (cond-true (p.falls s.pc) (record s' { pc = s.pc + 4 }) (faulted s 6) falls))
       (λ other. fault_leads (faulted s 6) m s.pc 6 refl)
 
-  pub jumps_leads : (s s' : SourceState) (a : ℕ) (m : Origins) → (jumps p s a s' ≡ record s' { pc = a } → Leads 2 p l live arrive r (record s' { pc = a }) m t) → Leads 2 p l live arrive r (jumps p s a s') m t
+  pub jumps_leads : (s s' : SourceState) (a : ℕ) (m : Origins) → (p.is_block a ≡ true → jumps p s a s' ≡ record s' { pc = a } → LeadsTold tells p l live arrive r (record s' { pc = a }) m t) → LeadsTold tells p l live arrive r (jumps p s a s') m t
   jumps_leads s s' a m on =
-      cond_both (p.is_block a) (record s' { pc = a }) (faulted s 6) (λ n. Leads 2 p l live arrive r n m t)
-      (λ block. on (cond-true (p.is_block a) (record s' { pc = a }) (faulted s 6) block))
+      cond_both (p.is_block a) (record s' { pc = a }) (faulted s 6) (λ n. LeadsTold tells p l live arrive r n m t)
+      (λ block. on block (cond-true (p.is_block a) (record s' { pc = a }) (faulted s 6) block))
       (λ other. fault_leads (faulted s 6) m s.pc 6 refl)
 
   -- where the other machine goes on
@@ -153,14 +156,6 @@ pub value_other : (regs : Values) (rd k : ℕ) (x : Val) → (k ≡ rd → ⊥) 
 unfolding put_at
 value_other regs rd k x other = grind (arith, nat_tests)
 
-pub register_wrote : (f : Registers) (rd w : ℕ) → (rd ≡ 0 → ⊥) → register (with_register f rd w) rd ≡ w
-unfolding put
-register_wrote f rd w other = grind (arith, nat_tests)
-
-pub register_other : (f : Registers) (rd w k : ℕ) → (k ≡ rd → ⊥) → register (with_register f rd w) k ≡ register f k
-unfolding put
-register_other f rd w k other = grind (arith, nat_tests)
-
 pub put_there : (table : ℕ → Origin) (k : ℕ) (origin : Origin) → put_at table k origin k ≡ origin
 unfolding put_at
 put_there table k origin = grind (arith, nat_tests)
@@ -169,26 +164,27 @@ pub put_other : (table : ℕ → Origin) (k : ℕ) (origin : Origin) (j : ℕ) �
 unfolding put_at
 put_other table k origin j other = grind (arith, nat_tests)
 
--- nothing but register `rd` was written: the flat machine has `w` there, if it isn't x0
-pub record Writes (rd w : ℕ) (old new : Registers) : Type 0 where
-  pub here : (rd ≡ 0 → ⊥) → register new rd ≡ w
-  pub others : (k : ℕ) → (k ≡ rd → ⊥) → register new k ≡ register old k
+-- of these registers none but `rd` was written: the flat machine has `w` there, if it isn't x0
+pub record WritesAt (lives : ℕ → Type 0) (rd w : ℕ) (old new : Registers) : Type 0 where
+  pub here : (rd ≡ 0 → ⊥) → lives rd → register new rd ≡ w
+  pub others : (k : ℕ) → lives k → (k ≡ rd → ⊥) → register new k ≡ register old k
 
-pub with_writes : (f : Registers) (rd w : ℕ) → Writes rd w f (with_register f rd w)
-with_writes f rd w = record { here = register_wrote f rd w; others = register_other f rd w }
+pub with_writes : (lives : ℕ → Type 0) (f : Registers) (rd w : ℕ) → WritesAt lives rd w f (with_register f rd w)
+with_writes lives f rd w =
+    record { here = λ other lives. read_there f rd w other; others = λ k lives. read_other f rd w k }
 
 -- the registers of a state `s` and of one that is like it at `u`, after a write of `x` and `w`, for a unit at `v`
-module _ (p : Program) (l : Setup) (live : ℕ → ℕ → Type 0) (r u v : ℕ) (s : SourceState) (m : Origins) (t : State) (alike : Alike p l live r u s m t) (rd w : ℕ) (x : Val) (origins : ℕ → Origin) (f : Registers) (keeps : (k : ℕ) → live v k → (k ≡ rd → ⊥) → live u k) (made : (k : ℕ) → (k ≡ rd → ⊥) → origins k ≡ m.regs k) (writes : Writes rd w t.hart.regs f) (stands : Stands p.objects (l.place r) (l.upper r) (origins rd) x w) (holds : HoldsWord x) where
+module _ (p : Program) (l : Setup) (live : ℕ → ℕ → Type 0) (r u v : ℕ) (s : SourceState) (m : Origins) (t : State) (alike : Alike p l live r u s m t) (rd w : ℕ) (x : Val) (origins : ℕ → Origin) (f : Registers) (keeps : (k : ℕ) → live v k → (k ≡ rd → ⊥) → live u k) (made : (k : ℕ) → (k ≡ rd → ⊥) → origins k ≡ m.regs k) (writes : WritesAt (live v) rd w t.hart.regs f) (stands : Stands p.objects (l.place r) (l.upper r) (origins rd) x w) (holds : HoldsWord x) where
   zero_stands : (k : ℕ) → k ≡ 0 → Stands p.objects (l.place r) (l.upper r) (origins k) (value (with_value s.regs rd x) k) (register f k)
   zero_stands k is =
       let first = value_zero (with_value s.regs rd x) k is in
       let second = register_zero f k is in
       rw (first, second) refl
 
-  there_stands : (k : ℕ) → k ≡ rd → (k ≡ 0 → ⊥) → Stands p.objects (l.place r) (l.upper r) (origins k) (value (with_value s.regs rd x) k) (register f k)
-  there_stands k same other =
+  there_stands : (k : ℕ) → live v k → k ≡ rd → (k ≡ 0 → ⊥) → Stands p.objects (l.place r) (l.upper r) (origins k) (value (with_value s.regs rd x) k) (register f k)
+  there_stands k lives same other =
       let first = value_wrote s.regs rd k x same other in
-      let second : register f k ≡ w = subst (λ j. (j ≡ 0 → ⊥) → register f j ≡ w) (sym same) writes.here other in
+      let second : register f k ≡ w = subst (λ j. (j ≡ 0 → ⊥) → live v j → register f j ≡ w) (sym same) writes.here other lives in
       let third : Stands p.objects (l.place r) (l.upper r) (origins k) x w =
       subst (λ j. Stands p.objects (l.place r) (l.upper r) (origins j) x w) (sym same) stands in
       rw (first, second) third
@@ -196,7 +192,7 @@ module _ (p : Program) (l : Setup) (live : ℕ → ℕ → Type 0) (r u v : ℕ)
   other_stands : (k : ℕ) → live v k → (k ≡ rd → ⊥) → Stands p.objects (l.place r) (l.upper r) (origins k) (value (with_value s.regs rd x) k) (register f k)
   other_stands k lives other =
       let first = value_other s.regs rd k x other in
-      let second = writes.others k other in
+      let second = writes.others k lives other in
       let third = made k other in
       rw (first, second, third) (alike.regs k (keeps k lives other))
 
@@ -204,7 +200,7 @@ module _ (p : Program) (l : Setup) (live : ℕ → ℕ → Type 0) (r u v : ℕ)
   regs_wrote k lives =
       elim (cases_eq k 0) [
         | inl is ↦ zero_stands k is
-        | inr nonzero ↦ elim (cases_eq k rd) [ inl same ↦ there_stands k same nonzero | inr other ↦ other_stands k lives other ]
+        | inr nonzero ↦ elim (cases_eq k rd) [ inl same ↦ there_stands k lives same nonzero | inr other ↦ other_stands k lives other ]
       ]
 
   pub values_wrote : (k : ℕ) → live v k → HoldsWord (value (with_value s.regs rd x) k)
@@ -276,13 +272,13 @@ pub record Operand (p : Program) (l : Setup) (r k : ℕ) (s : SourceState) (m : 
   pub word : register t.hart.regs k < 4294967296
 
 -- an instruction that is no call of two words
-module _ (p : Program) (l : Setup) (live arrive : ℕ → ℕ → Type 0) (r : ℕ) (s : SourceState) (m : Origins) (t : State) (i : Instr) (premises : StepPremises p l live arrive r s m t) (single : p.is_pair s.pc ≡ false) (reads : Reads (p.word s.pc) (Some i)) where
+module _ (p : Program) (l : Setup) (live : ℕ → ℕ → Type 0) (r : ℕ) (s : SourceState) (m : Origins) (t : State) (i : Instr) (before : Before p l live r s m t) (single : p.is_pair s.pc ≡ false) (reads : Reads (p.word s.pc) (Some i)) where
   live_read : (k : ℕ) → live s.pc k → Operand p l r k s m t
   live_read k lives =
       record {
-        stands = premises.alike.regs k lives;
-        holds = premises.alike.values k lives;
-        word = register_word t.hart.regs k premises.alike.words.hart.regs;
+        stands = before.alike.regs k lives;
+        holds = before.alike.values k lives;
+        word = register_word t.hart.regs k before.alike.words.hart.regs;
       }
 
   zero_read : (k : ℕ) → k ≡ 0 → Operand p l r k s m t
@@ -297,7 +293,7 @@ module _ (p : Program) (l : Setup) (live arrive : ℕ → ℕ → Type 0) (r : �
 
   pub reads_on : (k : ℕ) → (k ≡ 0) ⊎ Contains (used i) k → Operand p l r k s m t
   reads_on k (inl is) = zero_read k is
-  reads_on k (inr has) = live_read k (premises.rules.uses s.pc k i single reads has)
+  reads_on k (inr has) = live_read k (before.rules.uses s.pc k i single reads has)
 
   pub next_acts : next_state p s (Some i) ≡ acts p s i (p.site s.pc)
   next_acts = rw single refl
@@ -309,28 +305,28 @@ module _ (p : Program) (l : Setup) (live arrive : ℕ → ℕ → Type 0) (r : �
   pub keeps_on : (n : SourceState) → acts p s i (p.site s.pc) ≡ n → n.outcome ≡ GoesOn → (k : ℕ) → live n.pc k → (Contains (defined i) k → ⊥) → live s.pc k
   keeps_on n is =
       subst (λ q. q.outcome ≡ GoesOn → (k : ℕ) → live q.pc k → (Contains (defined i) k → ⊥) → live s.pc k) (next_acts ∙ is)
-      (λ going k lives other. premises.rules.keeps s i k premises.alike.source_going single reads going lives other)
+      (λ going k lives other. before.rules.keeps s i k before.alike.source_going single reads going lives other)
 
+module _ (p : Program) (l : Setup) (live arrive : ℕ → ℕ → Type 0) (tells : List FlatEvent → Type 0) (r : ℕ) (s : SourceState) (m : Origins) (t : State) (i : Instr) (before : Before p l live r s m t) (single : p.is_pair s.pc ≡ false) (reads : Reads (p.word s.pc) (Some i)) where
   -- it leads where its own effect leads
-  pub acts_leads : Leads 2 p l live arrive r (acts p s i (p.site s.pc)) (origins_by p s m i) t → Leads 2 p l live arrive r (next_state p s (Some i)) (origins_after p s m (Some i)) t
-  acts_leads leads = rw (next_acts, next_origins) leads
+  pub acts_leads : LeadsTold tells p l live arrive r (acts p s i (p.site s.pc)) (origins_by p s m i) t → LeadsTold tells p l live arrive r (next_state p s (Some i)) (origins_after p s m (Some i)) t
+  acts_leads leads = rw (next_acts p l live r s m t i before single reads, next_origins p l live r s m t i before single reads) leads
 
   -- into a fault
-  pub faults_both : (why : ℕ) → acts p s i (p.site s.pc) ≡ faulted s why → Leads 2 p l live arrive r (next_state p s (Some i)) (origins_after p s m (Some i)) t
+  pub faults_both : (why : ℕ) → acts p s i (p.site s.pc) ≡ faulted s why → LeadsTold tells p l live arrive r (next_state p s (Some i)) (origins_after p s m (Some i)) t
   faults_both why effect =
       acts_leads
-      (subst (λ n. Leads 2 p l live arrive r n (origins_by p s m i) t) (sym effect)
-      (fault_leads p l live arrive r t (faulted s why) (origins_by p s m i) s.pc why refl))
+      (subst (λ n. LeadsTold tells p l live arrive r n (origins_by p s m i) t) (sym effect)
+      (fault_leads p l live arrive tells r t (faulted s why) (origins_by p s m i) s.pc why refl))
 
-  -- and the flat machine at an instruction that stands for it
-  pub performs_leads : (w : ℕ) (j : Instr) (n : SourceState) (m' : Origins) → StandsAt l r s.pc w → Means w j → After n.outcome p l live arrive r n m' (performed t j) → Leads 2 p l live arrive r n m' t
+module _ (p : Program) (l : Setup) (live arrive : ℕ → ℕ → Type 0) (tells : List FlatEvent → Type 0) (r : ℕ) (s : SourceState) (m : Origins) (t : State) (i : Instr) (premises : StepPremises p l live arrive tells r s m t) (single : p.is_pair s.pc ≡ false) (reads : Reads (p.word s.pc) (Some i)) where
+  -- the flat machine performs an instruction that stands for it
+  pub performs_leads : (w : ℕ) (j : Instr) (n : SourceState) (m' : Origins) → StandsAt l r t.hart.pc w → Means w j → After n.outcome p l live arrive r n m' (performed t j) → LeadsTold tells p l live arrive r n m' t
   performs_leads w j n m' stands means after =
-      leads_one p l live arrive r t n m' (event_of t j) (performed t j)
-      (fetches l r s.pc w t (premises_fetches p l live arrive r s m t premises) stands j means) after
+      let step = fetches l r t.hart.pc w t (is_at p l live r s.pc s m t premises.before.alike) stands j means in
+      leads_does p l live arrive tells r t n m' (event_of t j ∷ []) (performed t j) (performed t j, (step, refl))
+      (premises.told.one single (event_of t j) (performed t j) step) after
 
-  -- the flat pc at the next word
-  pub next_pc : plus t.hart.pc 4 ≡ s.pc + 4
-  next_pc = let below = premises.unit.below in let here = premises.at in omega arith
-
-  pub falls_home : arrive (s.pc + 4) (plus t.hart.pc 4)
-  falls_home = subst (λ a. arrive (s.pc + 4) a) (sym next_pc) (premises.home (s.pc + 4))
+  -- it may arrive at the next word
+  pub falls_home : IsFollowed i → p.falls s.pc ≡ true → arrive (s.pc + 4) (plus t.hart.pc 4)
+  falls_home = premises.unit.falls i single reads

@@ -1,82 +1,78 @@
 -- Instructions that make a number or the upper part of an address: LUI and AUIPC.
-use Rattle.std.proofs.Common.{◌≡◌, inl, inr, ℕ, ◌*◌, ◌%◌, false, Option, Some, None, refl, sym, ap, subst, arith}
+use Rattle.std.proofs.Common.{◌≡◌, inl, inr, ℕ, ◌*◌, ◌%◌, false, List, Option, Some, None, refl, ap, subst, arith, ◌+◌}
 use Rattle.word_bits.specs.Words.{plus}
 use Rattle.rv_decode.specs.Table.{Means}
 use Rattle.rv_decode.specs.Acts.{with_register}
 use Rattle.rv_decode.specs.declared.instructions.Instr.{Instr}
 use Rattle.rv_decode.specs.declared.instructions.Instr.TheVariants.{Lui, Auipc}
+use Rattle.flat_machine.specs.declared.events.FlatEvent.{FlatEvent}
 use Rattle.flat_machine.specs.State.{State}
 use Rattle.cell_values.specs.declared.values.Val.TheVariants.{Int, Hi}
 use Rattle.cell_values.specs.Origins.{ByLui, ByAuipc}
-use Rattle.cell_values.specs.Stands.{Is, Stands}
+use Rattle.cell_values.specs.Stands.{Stands}
 use Rattle.cell_values.specs.Cells.{put_at}
 use Rattle.object_machine.specs.Program.{Program, Target}
 use Rattle.object_machine.specs.State.{SourceState}
 use Rattle.object_machine.specs.Step.{Reads, acts, next_state}
 use Rattle.object_machine.specs.Paired.{Origins, origins_after}
 use Rattle.simulation.specs.Setups.{Setup}
-use Rattle.simulation.specs.Units.{StandsAt, StandsFor}
-use Rattle.simulation.specs.Relation.{Leads}
+use Rattle.simulation.specs.Units.{StandsAt}
+use Rattle.simulation.specs.Relation.{LeadsTold}
+use Rattle.simulation.specs.Forms.{ActsAs}
 use Rattle.simulation.proofs.OneUnit.{StepPremises, StepsAs}
 use Rattle.simulation.proofs.Steps.{with_writes, put_there, put_other, one_written}
 use Rattle.simulation.proofs.Effects.{falls_both}
+use Rattle.simulation.proofs.Controls.{auipc_none}
 
-module _ (p : Program) (l : Setup) (live arrive : ℕ → ℕ → Type 0) (r : ℕ) (s : SourceState) (m : Origins) (t : State) where
-  lui_at : (rd n : ℕ) → StepPremises p l live arrive r s m t → p.is_pair s.pc ≡ false → Reads (p.word s.pc) (Some (Lui rd n)) → (site : Option Target) → p.site s.pc ≡ site → (code : ℕ) (j : Instr) → StandsAt l r s.pc code → Means code j → StandsFor p l r s.pc site (Lui rd n) j → Leads 2 p l live arrive r (next_state p s (Some (Lui rd n))) (origins_after p s m (Some (Lui rd n))) t
+module _ (p : Program) (l : Setup) (live arrive : ℕ → ℕ → Type 0) (tells : List FlatEvent → Type 0) (r : ℕ) (s : SourceState) (m : Origins) (t : State) where
+  lui_at : (rd n : ℕ) → StepPremises p l live arrive tells r s m t → p.is_pair s.pc ≡ false → Reads (p.word s.pc) (Some (Lui rd n)) → (site : Option Target) → p.site s.pc ≡ site → (code : ℕ) (j : Instr) → StandsAt l r t.hart.pc code → Means code j → ActsAs p l arrive r s.pc t.hart.pc site (Lui rd n) j → LeadsTold tells p l live arrive r (next_state p s (Some (Lui rd n))) (origins_after p s m (Some (Lui rd n))) t
   lui_at rd n premises single reads None at code j stands means for =
       let means : Means code (Lui rd n) = subst (λ y. Means code y) for means in
-      falls_both p l live arrive r s m t (Lui rd n) premises single reads rd (n * 4096 % 4294967296) (Int (n * 4096 % 4294967296))
+      falls_both p l live arrive tells r s m t (Lui rd n) premises single reads tt rd (n * 4096 % 4294967296) (Int (n * 4096 % 4294967296))
       (put_at m.regs rd ByLui) code (Lui rd n) (with_register t.hart.regs rd (n * 4096 % 4294967296)) (one_written rd)
-      (put_other m.regs rd ByLui) refl stands means (with_writes t.hart.regs rd (n * 4096 % 4294967296)) refl (omega arith)
+      (put_other m.regs rd ByLui) refl stands means (with_writes (live (s.pc + 4)) t.hart.regs rd (n * 4096 % 4294967296)) refl (omega arith)
       (ap (λ q. acts p s (Lui rd n) q) at) refl
   lui_at rd n premises single reads (Some g) at code j stands means for =
       let z = for.0 in
       let means : Means code (Lui rd z) = subst (λ y. Means code y) for.1.0 means in
       let is : Stands p.objects (l.place r) (l.upper r) (put_at m.regs rd ByLui rd) (Hi g.object g.offset) (z * 4096 % 4294967296) =
       rw (put_there m.regs rd ByLui) for.1.1 in
-      falls_both p l live arrive r s m t (Lui rd n) premises single reads rd (z * 4096 % 4294967296) (Hi g.object g.offset)
+      falls_both p l live arrive tells r s m t (Lui rd n) premises single reads tt rd (z * 4096 % 4294967296) (Hi g.object g.offset)
       (put_at m.regs rd ByLui) code (Lui rd z) (with_register t.hart.regs rd (z * 4096 % 4294967296)) (one_written rd)
-      (put_other m.regs rd ByLui) refl stands means (with_writes t.hart.regs rd (z * 4096 % 4294967296)) is
-      (premises.sound.sites s.pc g at) (ap (λ q. acts p s (Lui rd n) q) at) refl
+      (put_other m.regs rd ByLui) refl stands means (with_writes (live (s.pc + 4)) t.hart.regs rd (z * 4096 % 4294967296)) is
+      (premises.before.sound.sites s.pc g at) (ap (λ q. acts p s (Lui rd n) q) at) refl
 
-  pub lui_steps : (rd n : ℕ) → StepsAs p l live arrive r s m t (Lui rd n)
+  pub lui_steps : (rd n : ℕ) → StepsAs p l live arrive tells r s m t (Lui rd n)
   lui_steps rd n single premises reads paired =
       let there = premises.unit.one (Some (Lui rd n)) single reads in
       lui_at rd n premises single reads (p.site s.pc) refl there.0 there.1.0 there.1.1.0 there.1.1.1.0 there.1.1.1.1.1
 
-  auipc_at : (rd n : ℕ) → StepPremises p l live arrive r s m t → p.is_pair s.pc ≡ false → Reads (p.word s.pc) (Some (Auipc rd n)) → (site : Option Target) → p.site s.pc ≡ site → (code : ℕ) (j : Instr) → StandsAt l r s.pc code → Means code j → StandsFor p l r s.pc site (Auipc rd n) j → Leads 2 p l live arrive r (next_state p s (Some (Auipc rd n))) (origins_after p s m (Some (Auipc rd n))) t
+  auipc_at : (rd n : ℕ) → StepPremises p l live arrive tells r s m t → p.is_pair s.pc ≡ false → Reads (p.word s.pc) (Some (Auipc rd n)) → (site : Option Target) → p.site s.pc ≡ site → (code : ℕ) (j : Instr) → StandsAt l r t.hart.pc code → Means code j → ActsAs p l arrive r s.pc t.hart.pc site (Auipc rd n) j → LeadsTold tells p l live arrive r (next_state p s (Some (Auipc rd n))) (origins_after p s m (Some (Auipc rd n))) t
   auipc_at rd n premises single reads None at code j stands means for =
-      let here : Means code (Auipc rd n) = subst (λ y. Means code y) for means in
-      let w : ℕ = plus t.hart.pc (n * 4096) in
-      let same : w ≡ plus s.pc (n * 4096) = ap (λ a. plus a (n * 4096)) premises.at in
-      falls_both p l live arrive r s m t (Auipc rd n) premises single reads rd w (Int (plus s.pc (n * 4096)))
-      (put_at m.regs rd (ByAuipc s.pc)) code (Auipc rd n) (with_register t.hart.regs rd w) (one_written rd)
-      (put_other m.regs rd (ByAuipc s.pc)) refl stands here (with_writes t.hart.regs rd w) same (omega arith)
-      (ap (λ q. acts p s (Auipc rd n) q) at) refl
+      auipc_none p l live arrive tells r s m t rd n at premises single reads code stands
+      (subst (λ y. Means code y) for.0 means) for.1
   auipc_at rd n premises single reads (Some g) at code j stands means (inl for) =
       let z = for.0 in
       let here : Means code (Auipc rd z) = subst (λ y. Means code y) for.1.0 means in
       let w : ℕ = plus t.hart.pc (z * 4096) in
-      let made : Is (l.upper r (ByAuipc s.pc) g.object g.offset) w =
-      subst (λ a. Is (l.upper r (ByAuipc s.pc) g.object g.offset) (plus a (z * 4096))) (sym premises.at) for.1.1 in
       let is : Stands p.objects (l.place r) (l.upper r) (put_at m.regs rd (ByAuipc s.pc) rd) (Hi g.object g.offset) w =
-      rw (put_there m.regs rd (ByAuipc s.pc)) made in
-      falls_both p l live arrive r s m t (Auipc rd n) premises single reads rd w (Hi g.object g.offset)
+      rw (put_there m.regs rd (ByAuipc s.pc)) for.1.1 in
+      falls_both p l live arrive tells r s m t (Auipc rd n) premises single reads tt rd w (Hi g.object g.offset)
       (put_at m.regs rd (ByAuipc s.pc)) code (Auipc rd z) (with_register t.hart.regs rd w) (one_written rd)
-      (put_other m.regs rd (ByAuipc s.pc)) refl stands here (with_writes t.hart.regs rd w) is
-      (premises.sound.sites s.pc g at) (ap (λ q. acts p s (Auipc rd n) q) at) refl
+      (put_other m.regs rd (ByAuipc s.pc)) refl stands here (with_writes (live (s.pc + 4)) t.hart.regs rd w) is
+      (premises.before.sound.sites s.pc g at) (ap (λ q. acts p s (Auipc rd n) q) at) refl
   auipc_at rd n premises single reads (Some g) at code j stands means (inr for) =
       let z = for.0 in
       let here : Means code (Lui rd z) = subst (λ y. Means code y) for.1.0 means in
       let w : ℕ = z * 4096 % 4294967296 in
       let is : Stands p.objects (l.place r) (l.upper r) (put_at m.regs rd (ByAuipc s.pc) rd) (Hi g.object g.offset) w =
       rw (put_there m.regs rd (ByAuipc s.pc)) for.1.1 in
-      falls_both p l live arrive r s m t (Auipc rd n) premises single reads rd w (Hi g.object g.offset)
+      falls_both p l live arrive tells r s m t (Auipc rd n) premises single reads tt rd w (Hi g.object g.offset)
       (put_at m.regs rd (ByAuipc s.pc)) code (Lui rd z) (with_register t.hart.regs rd w) (one_written rd)
-      (put_other m.regs rd (ByAuipc s.pc)) refl stands here (with_writes t.hart.regs rd w) is
-      (premises.sound.sites s.pc g at) (ap (λ q. acts p s (Auipc rd n) q) at) refl
+      (put_other m.regs rd (ByAuipc s.pc)) refl stands here (with_writes (live (s.pc + 4)) t.hart.regs rd w) is
+      (premises.before.sound.sites s.pc g at) (ap (λ q. acts p s (Auipc rd n) q) at) refl
 
-  pub auipc_steps : (rd n : ℕ) → StepsAs p l live arrive r s m t (Auipc rd n)
+  pub auipc_steps : (rd n : ℕ) → StepsAs p l live arrive tells r s m t (Auipc rd n)
   auipc_steps rd n single premises reads paired =
       let there = premises.unit.one (Some (Auipc rd n)) single reads in
       auipc_at rd n premises single reads (p.site s.pc) refl there.0 there.1.0 there.1.1.0 there.1.1.1.0 there.1.1.1.1.1

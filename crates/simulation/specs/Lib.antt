@@ -6,4 +6,8 @@ pub mod Made
 pub mod Units
 pub mod Relation
 pub mod Rules
+pub mod Forms
 pub mod Laws
+pub mod Folds
+pub mod Ways
+pub mod Unnamed

@@ -53,3 +53,13 @@ pub record KeepsPace (n bound : ℕ) (outcome : Outcome) (steps : ℕ) : Type 0 
 abbrev pub Leads : ℕ → Program → Setup → (ℕ → ℕ → Type 0) → (ℕ → ℕ → Type 0) → ℕ → SourceState → Origins → State → Type 0
 Leads bound p l live arrive r s m t =
     (es : List FlatEvent) × ((t' : State) × (Does es t t' × (KeepsPace 1 bound s.outcome (length es) × After s.outcome p l live arrive r s m t')))
+
+-- what is told of the events that lead to an outcome; a fault promises nothing
+abbrev pub Tells : Outcome → (List FlatEvent → Type 0) → List FlatEvent → Type 0
+Tells (AddressFault pc why) tells es = Unit {0}
+Tells outcome tells es = tells es
+
+-- steps of the flat machine lead from `t` to such a state, and of their events this is told
+abbrev pub LeadsTold : (List FlatEvent → Type 0) → Program → Setup → (ℕ → ℕ → Type 0) → (ℕ → ℕ → Type 0) → ℕ → SourceState → Origins → State → Type 0
+LeadsTold tells p l live arrive r s m t =
+    (es : List FlatEvent) × ((t' : State) × (Does es t t' × (Tells s.outcome tells es × After s.outcome p l live arrive r s m t')))
