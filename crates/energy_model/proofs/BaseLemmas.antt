@@ -31,7 +31,7 @@ Given view board g c t q ms = AreOfSameFile view board g c t q ms
 
 -- ---- the last transition
 
-last_of : (n : ℕ) → 0 < n → n ≡ suc (n - 1)
+pub last_of : (n : ℕ) → 0 < n → n ≡ suc (n - 1)
 last_of n some = omega (arith, some)
 
 pub few_transitions : (view : ElfView) (board : Board) (g : Graph) (c : Code) (t : RegionTable) (q : Profile) (ms : List Transition) → Given view board g c t q ms → length ms ≤ 1000000000
@@ -41,7 +41,7 @@ few_transitions view board g c t q ms given =
     let most = given.lawful.most_steps in
     omega (arith, few, most)
 
-has_transitions : (view : ElfView) (board : Board) (g : Graph) (c : Code) (t : RegionTable) (q : Profile) (ms : List Transition) → Given view board g c t q ms → 0 < length ms
+pub has_transitions : (view : ElfView) (board : Board) (g : Graph) (c : Code) (t : RegionTable) (q : Profile) (ms : List Transition) → Given view board g c t q ms → 0 < length ms
 has_transitions view board g c t q ms given =
     let r = given.run in
     let least = given.lawful.least_steps in

@@ -1,65 +1,28 @@
 -- The energy of a run where objects alone are taken.
-use Rattle.std.proofs.Common.{◌≡◌, ◌∙◌, inl, inr, ℕ, zero, suc, ◌+◌, ◌*◌, ◌<◌, ◌≤◌, ◌==◌, Bool, true, false, ◌&&◌, ◌||◌, List, [], ◌∷◌, length, map, is_some, Option, Some, None, refl, ap, arith, if◌then◌else◌}
+use Rattle.std.proofs.Common.{◌≡◌, ◌∙◌, ℕ, zero, suc, ◌+◌, ◌*◌, ◌<◌, ◌≤◌, ◌==◌, Bool, true, false, ◌&&◌, List, [], ◌∷◌, length, Option, Some, None, refl, ap, arith, if◌then◌else◌}
 use Rattle.std.specs.List.{All}
-use Rattle.std.proofs.lemmas.Bool.{cases_eq}
-use Rattle.std.proofs.lemmas.Bool.Decides.{nat_tests}
 use Rattle.list_checks.specs.Sorted.{count_below, sum_below}
-use Rattle.rv_decode.specs.declared.instructions.Instr.{Instr}
 use Rattle.board_config.specs.declared.board.Prices.{Prices}
-use Rattle.code_leaders.specs.Early.{has}
 use Rattle.object_machine.specs.declared.events.Access.{Access}
-use Rattle.placement_programme.specs.declared.variables.VarName.{VarName}
-use Rattle.placement_programme.specs.declared.variables.VarName.TheVariants.{StaticData}
 use Rattle.profile_runner.proofs.CountLemmas.{sum_more as grown_by}
 use Rattle.profile_runner.specs.Transition.{Transition, transition_at}
 use Rattle.profile_runner.specs.Standing.{number_of, begins, region_of, entered, current}
 use Rattle.profile_runner.specs.Counts.{same_direction, is_access_to, accesses_of}
 use Rattle.list_checks.proofs.SumLemmas.{sum_same, sum_zero}
-use Rattle.block_splitter.specs.declared.block_range.BlockRange.{BlockRange}
-use Rattle.block_splitter.specs.Forms.{Body, unit_in}
-use Rattle.energy_model.specs.Energy.{Scene, Taken, piece_of, is_fast, starts_of, block_in, block_at, unit_number, region_with, form_words, fetch_price, words_price, read_price, write_price, is_fast_access, data_price, access_price, comes_from_outside, arrival_price, way_price, step_energy, steps_energy, nothing_taken}
+use Rattle.energy_model.specs.Energy.{Scene, starts_of, block_at, unit_number, region_with, read_price, write_price, is_fast_access, data_price, access_price, step_energy, steps_energy, nothing_taken}
 use Rattle.energy_model.specs.Priced.{price_at, direction_price, touch_price, touches_price}
-use Rattle.energy_model.proofs.StepLemmas.{IsAccessOf}
 use Rattle.energy_model.proofs.SceneLemmas.{unit_of_transition, Follows}
-use Rattle.energy_model.proofs.SumLemmas.{sum_two, block_sum, blocks_sum, transitions_sum, ran}
-
--- ---- a step where objects alone are taken
-
--- some objects are taken, without overlay
-abbrev pub data_taken : List ℕ → Taken
-data_taken os = record { on = false; names = map StaticData os }
-
-no_piece : (os : List ℕ) (b : ℕ) → piece_of (map StaticData os) b ≡ None
-no_piece [] b = refl
-no_piece (o ∷ os) b = no_piece os b
-
-words_none : (o : Option BlockRange) (w : Scene) (b : Body) (k : ℕ) (m : Transition) (prices : Prices) → o ≡ None → form_words o w false b k m * fetch_price o prices ≡ (if m.goes_on then (unit_in b k).words else 1) * prices.main_fetch
-words_none None w b k m prices none = refl
-words_none (Some piece) w b k m prices none = cc
-
-same_both : (b : Bool) (x : ℕ) → x ≡ 0 → (if b then x else 0) ≡ 0
-same_both true x is = is
-same_both false x is = refl
-
-way_none : (o : Option BlockRange) (w : Scene) (ms : List Transition) (i : ℕ) (b : Bool) (prices : Prices) → o ≡ None → (if b && comes_from_outside w o ms i then arrival_price prices (is_some o) false else 0) ≡ 0
-way_none None w ms i b prices none = same_both (b && true) (0 * prices.main_fetch + 0) (omega arith)
-way_none (Some piece) w ms i b prices none = cc
-
-pub data_step : (w : Scene) (os : List ℕ) (ms : List Transition) (i : ℕ) → step_energy w (data_taken os) ms i ≡ (if (transition_at ms i).goes_on then (unit_of_transition w ms i).words else 1) * w.board.prices.main_fetch + access_price w (data_taken os) ms i
-data_step w os ms i =
-    let prices = w.board.prices in
-    let b = block_at w ms i in
-    let piece = no_piece os b in
-    let words = words_none (piece_of (map StaticData os) b) w (block_in w b) (unit_number w ms i) (transition_at ms i) prices piece in
-    let way = way_none (piece_of (map StaticData os) b) w ms i (begins (starts_of w) ms i) prices piece in
-    let sum : step_energy w (data_taken os) ms i ≡ words_price w (data_taken os) ms i + access_price w (data_taken os) ms i + way_price w (data_taken os) ms i + 0 = refl in
-    omega (arith, words, way, sum)
+use Rattle.energy_model.proofs.SumLemmas.{block_sum, blocks_sum, transitions_sum, ran}
 
 -- ---- nothing taken
 
 none_fast : (r : ℕ) (access : Option Access) → is_fast_access [] r access ≡ false
 none_fast r None = refl
 none_fast r (Some a) = refl
+
+no_way : (begun : Bool) (fetch : ℕ) → (if begun && true then 0 * fetch + 0 else 0) ≡ 0
+no_way true fetch = omega arith
+no_way false fetch = refl
 
 home_parts : (goes_on : Bool) (words fetch load : ℕ) → (if goes_on then words else 1) * fetch + (if goes_on then load else 0) ≡ (if goes_on then words * fetch + load else fetch)
 home_parts true words fetch load = refl
@@ -71,9 +34,10 @@ home_step w ms i =
     let prices = w.board.prices in
     let access : access_price w nothing_taken ms i ≡ (if (transition_at ms i).goes_on then data_price prices false u.instr else 0) =
     ap (λ (fast : Bool). if (transition_at ms i).goes_on then data_price prices fast u.instr else 0) (none_fast (region_with w ms i) (transition_at ms i).access) in
-    data_step w [] ms i
-    ∙ (ap (λ n. (if (transition_at ms i).goes_on then u.words else 1) * prices.main_fetch + n) access
-    ∙ home_parts (transition_at ms i).goes_on u.words prices.main_fetch (data_price prices false u.instr))
+    let way = no_way (begins (starts_of w) ms i) prices.main_fetch in
+    let sum : step_energy w nothing_taken ms i ≡ (if (transition_at ms i).goes_on then u.words else 1) * prices.main_fetch + access_price w nothing_taken ms i + (if begins (starts_of w) ms i && true then 0 * prices.main_fetch + 0 else 0) + 0 = refl in
+    let parts = home_parts (transition_at ms i).goes_on u.words prices.main_fetch (data_price prices false u.instr) in
+    omega (arith, access, way, sum, parts)
 
 -- what the last step costs
 abbrev pub last_price : Scene → List Transition → ℕ → ℕ
@@ -99,49 +63,6 @@ base_is w ms i all last =
     let energy : steps_energy w nothing_taken ms ≡ sum_below (step_energy w nothing_taken ms) (suc i) = ap (sum_below (step_energy w nothing_taken ms)) last in
     let blocks : blocks_sum w ms (price_at w) (length ms) ≡ blocks_sum w ms (price_at w) (suc i) = ap (blocks_sum w ms (price_at w)) last in
     omega (arith, before, here, units, energy, blocks)
-
--- ---- one object more
-
-taken_is : (os : List ℕ) (o r : ℕ) → is_fast (map StaticData os) o r ≡ has os o
-taken_is [] o r = refl
-taken_is (x ∷ os) o r = ap (λ (b : Bool). (o == x) || b) (taken_is os o r)
-
-one_access : (prices : Prices) (names : List VarName) (o r : ℕ) (access : Option Access) (goes_on : Bool) (instr : Option Instr) → IsAccessOf access goes_on instr → is_fast names o r ≡ false → (if goes_on then data_price prices (is_fast_access (StaticData o ∷ names) r access) instr else 0) + touch_price prices false o access ≡ (if goes_on then data_price prices (is_fast_access names r access) instr else 0) + touch_price prices true o access
-one_access prices names o r None goes_on instr is fresh = refl
-one_access prices names o r (Some a) goes_on instr is fresh =
-    let on = is.0 in
-    let slow = is.1 prices false in
-    let fast = is.1 prices true in
-    elim (cases_eq a.object o) [
-      | inl same ↦
-          let test : (a.object == o) ≡ true = grind (arith, nat_tests, same) in
-          let none : is_fast names a.object r ≡ false = ap (λ n. is_fast names n r) same ∙ fresh in
-          rw (on, test, none) (omega (arith, slow, fast))
-      | inr differs ↦
-          let test : (a.object == o) ≡ false = grind (arith, nat_tests, differs) in
-          rw (test) refl
-    ]
-
-more_step : (w : Scene) (o : ℕ) (os : List ℕ) (ms : List Transition) (i : ℕ) → Follows w ms → i < length ms → has os o ≡ false → step_energy w (data_taken (o ∷ os)) ms i + touch_price w.board.prices false o (transition_at ms i).access ≡ step_energy w (data_taken os) ms i + touch_price w.board.prices true o (transition_at ms i).access
-more_step w o os ms i all below fresh =
-    let u = unit_of_transition w ms i in
-    let with_it = data_step w (o ∷ os) ms i in
-    let without = data_step w os ms i in
-    let r = region_with w ms i in
-    let access = one_access w.board.prices (map StaticData os) o r (transition_at ms i).access (transition_at ms i).goes_on u.instr (all.each i below).access (taken_is os o r ∙ fresh) in
-    omega (arith, with_it, without, access)
-
-pub more_taken : (w : Scene) (o : ℕ) (os : List ℕ) (ms : List Transition) → Follows w ms → has os o ≡ false → steps_energy w (data_taken (o ∷ os)) ms + touches_price w ms false o ≡ steps_energy w (data_taken os) ms + touches_price w ms true o
-more_taken w o os ms all fresh =
-    let prices = w.board.prices in
-    let f = step_energy w (data_taken (o ∷ os)) ms in
-    let g = step_energy w (data_taken os) ms in
-    let slow = λ (i : ℕ). touch_price prices false o (transition_at ms i).access in
-    let fast = λ (i : ℕ). touch_price prices true o (transition_at ms i).access in
-    let same = sum_same (λ i. f i + slow i) (λ i. g i + fast i) (length ms) (λ i below. more_step w o os ms i all below fresh) in
-    let left = sum_two f slow (length ms) in
-    let right = sum_two g fast (length ms) in
-    omega (arith, same, left, right)
 
 -- ---- the accesses to an object, counted
 

@@ -3,5 +3,14 @@ pub mod FollowLemmas
 pub mod SceneLemmas
 pub mod SumLemmas
 pub mod EnergyLemmas
+pub mod TakenLemmas
+pub mod PlaceLemmas
+pub mod CrossingLemmas
+pub mod WordLemmas
+pub mod CopyLemmas
+pub mod ArrivalLemmas
 pub mod PriceLemmas
 pub mod BaseLemmas
+pub mod CountsLemmas
+pub mod EdgeLemmas
+pub mod PieceLemmas

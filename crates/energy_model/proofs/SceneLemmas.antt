@@ -1,5 +1,5 @@
 -- What is known of the transitions of a run, in the terms of its energy.
-use Rattle.std.proofs.Common.{◌≡◌, ◌∙◌, ℕ, suc, ◌<◌, ◌≤◌, true, List, [], ◌∷◌, length, map, slice_index_or, Option, sym, ap, subst, arith}
+use Rattle.std.proofs.Common.{◌≡◌, ◌∙◌, ℕ, suc, ◌<◌, ◌≤◌, ◌==◌, true, List, [], ◌∷◌, length, map, slice_index_or, Option, sym, ap, subst, arith}
 use Rattle.std.proofs.lemmas.List.{get_or-map}
 use Rattle.rv_decode.specs.Table.{OneInstruction}
 use Rattle.rv_decode.specs.declared.instructions.Instr.{Instr}
@@ -7,6 +7,7 @@ use Rattle.elf_reader.specs.File.{plain_view}
 use Rattle.elf_reader.specs.declared.view.ElfView.{ElfView}
 use Rattle.board_config.specs.declared.board.Board.{Board}
 use Rattle.object_graph.specs.declared.parts.Graph.{Graph}
+use Rattle.code_leaders.specs.Early.{has}
 use Rattle.code_leaders.specs.Leaders.{is_leader}
 use Rattle.code_blocks.specs.declared.parts.Unit.{Unit}
 use Rattle.code_blocks.specs.declared.parts.Block.{Block}
@@ -18,12 +19,13 @@ use Rattle.region_former.specs.declared.table.RegionTable.{RegionTable}
 use Rattle.profile_runner.specs.declared.counts.Profile.{Profile}
 use Rattle.profile_runner.specs.Transition.{Transition, is_going, transition_at}
 use Rattle.profile_runner.specs.Standing.{begins, units_run}
-use Rattle.block_splitter.specs.Forms.{Body, body_of, unit_in, no_body}
+use Rattle.block_splitter.specs.Forms.{Body, body_of, unit_in, no_body, is_last}
 use Rattle.code_blocks.specs.Leads.{no_unit}
 use Rattle.energy_model.specs.Energy.{Scene, starts_of, block_in, block_at, unit_number}
 use Rattle.energy_model.specs.Scenes.{scene_of, AreOfSameFile}
 use Rattle.energy_model.proofs.StepLemmas.{StepAt, step_at, first_transition, IsAccessOf, access_is}
-use Rattle.energy_model.proofs.FollowLemmas.{IsRunIn, IsPlaced, placed, whole, unit_reads, unit_words, few_units}
+use Rattle.object_machine.proofs.FollowLemmas.{unit_reads, unit_words}
+use Rattle.energy_model.proofs.FollowLemmas.{IsRunIn, IsPlaced, placed, whole, leads_behind, few_units}
 
 -- the unit of transition `i`
 abbrev pub unit_of_transition : Scene → List Transition → ℕ → Unit
@@ -43,6 +45,8 @@ pub record Follows (w : Scene) (ms : List Transition) : Type 0 where
   pub each : (i : ℕ) → i < length ms → IsTransition w ms i
   pub whole : (i : ℕ) → suc i < length ms → begins (starts_of w) ms (suc i) ≡ true → suc (unit_number w ms i) ≡ length (block_in w (block_at w ms i)).units
   pub goes_on : (i : ℕ) → suc i < length ms → (transition_at ms i).goes_on ≡ true
+  pub next : (i : ℕ) → suc i < length ms → (transition_at ms (suc i)).at ≡ (transition_at ms i).next
+  pub leads : (i : ℕ) → i < length ms → (transition_at ms i).goes_on ≡ true → has (starts_of w) (transition_at ms i).next ≡ is_last (block_in w (block_at w ms i)) (unit_number w ms i)
 
 -- ---- blocks
 
@@ -120,4 +124,17 @@ follows one view board g c t q ms given =
       goes_on = λ i more.
           let step = r.steps i (omega (arith, more)) in
           ap (λ (m : Transition). m.goes_on) step.transition ∙ ap is_going (step.goes_on more);
+      next = λ i more.
+          let step = r.steps i (omega (arith, more)) in
+          sym (step.next more) ∙ sym (ap (λ (m : Transition). m.next) step.transition);
+      leads = λ i below goes.
+          let (place, pl) = placed view board g c ms i r below in
+          let b = block_at w ms i in
+          let d = some_block c.blocks.items b pl.inside in
+          let run = pl.run in
+          let number : place ≡ unit_number w ms i = omega (arith, run) in
+          let body = body_is c.blocks.items b d pl.inside in
+          leads_behind view board g c ms i place d r pl below goes
+          ∙ (ap (λ k. suc k == length (slice_index_or c.blocks.items b d).units.items) number
+          ∙ ap (λ (x : Body). is_last x (unit_number w ms i)) (sym body));
     }

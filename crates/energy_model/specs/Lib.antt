@@ -6,3 +6,5 @@ pub mod Energy
 pub mod Scenes
 pub mod Priced
 pub mod Base
+pub mod Copied
+pub mod Counts

@@ -47,11 +47,12 @@ layout_of g c t board =
     }
 
 -- the transitions are of a run of the program of a file on a board, for the board's steps or until it ends, and the profile
--- tells of them. The run begins where a block of the code does
+-- tells of them. The run begins where execution of the file does, which is where a block of the code begins
 pub record IsRunOf (view : ElfView) (board : Board) (g : Graph) (c : Code) (t : RegionTable) (q : Profile) (transitions : List Transition) : Type 0 where
   pub from : SourceState
   pub to : SourceState
   pub going : from.outcome ≡ GoesOn
+  pub entry : from.pc ≡ (plain_view view).entry
   pub begins : is_leader (plain_view view) from.pc ≡ true
   pub run : Transitions (program_of (plain_view view) board g) board.steps from transitions to
   pub profile : IsProfile (map start_of c.blocks.items) t.of_block.items t.count (length g.objects.items) transitions to.outcome q

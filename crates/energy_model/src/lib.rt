@@ -2,6 +2,14 @@
 #![tactic(auto)]
 
 mod base;
+mod block_counts;
+mod blocks;
+mod edges;
+mod pieces;
 mod units;
+mod words;
 
 pub use base::base_of;
+pub use block_counts::{BlockCounts, PieceCounts};
+pub use blocks::count_blocks;
+pub use pieces::count_piece;

@@ -1,5 +1,5 @@
 ghost use Rattle.std.specs.Prelude.{◌≡◌, ◌+◌, ◌*◌, ◌<◌, ◌≤◌, false, length};
-ghost use Rattle.block_splitter.specs.Forms.{unit_in, body_at};
+ghost use Rattle.block_splitter.specs.Forms.{body_at};
 ghost use Rattle.energy_model.specs.Energy.{data_price};
 ghost use Rattle.energy_model.specs.Priced.{unit_price, units_price};
 ghost use Rattle.energy_model.specs.Base.{body_price, ended_price, part_price};

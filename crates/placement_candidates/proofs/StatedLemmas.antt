@@ -4,7 +4,7 @@ use Rattle.std.specs.List.{All, sum_by}
 use Rattle.std.specs.Prelude.{unsigned_abs}
 use Rattle.std.specs.Global.{Global}
 use Rattle.std.proofs.lemmas.List.{length-map, length-replicate}
-use Rattle.std.proofs.lemmas.List.Elements.{All-push, All-replicate}
+use Rattle.std.proofs.lemmas.List.Elements.{All-append, All-push, All-replicate}
 use Rattle.std.proofs.lemmas.List.Sums.{sum_by-append, sum_by-cons}
 use Rattle.std.proofs.lemmas.Int.{ints}
 use Rattle.std.proofs.lemmas.Nat.{mul-le}
@@ -18,6 +18,7 @@ use Rattle.object_graph.specs.declared.parts.Graph.{Graph}
 use Rattle.cell_values.specs.Objects.{object_of, datum_of}
 use Rattle.code_blocks.specs.Blocks.{start_of}
 use Rattle.code_blocks.specs.declared.parts.Code.{Code}
+use Rattle.block_splitter.specs.declared.piece.Piece.{Piece}
 use Rattle.object_machine.proofs.GraphLemmas.{ends_below}
 use Rattle.region_former.specs.declared.table.RegionTable.{RegionTable}
 use Rattle.profile_runner.specs.declared.counts.Profile.{Profile}
@@ -32,15 +33,18 @@ use Rattle.energy_model.specs.Energy.{Scene, steps_energy, into_price, object_ro
 use Rattle.profile_runner.proofs.CountLemmas.{count_few}
 use Rattle.list_checks.proofs.SumLemmas.{sum_same}
 use Rattle.energy_model.specs.Scenes.{scene_of, layout_of, AreOfSameFile}
-use Rattle.placement_candidates.specs.Stated.{taken_alone, gain_alone, data_var, data_vars, data_side, IsDataFull}
+use Rattle.placement_candidates.specs.Stated.{taken_alone, gain_alone, data_var, data_vars, AreSomePieces, static_vars, off_side, IsStaticFull}
 use Rattle.energy_model.specs.Priced.{touches_price}
 use Rattle.energy_model.specs.Base.{IsCounted}
-use Rattle.placement_candidates.specs.Counted.{total, reads_of, writes_of, home_price, moved_price, counted_gain, counted_var, counted_vars, CountsAccesses, stub_price, start_size, counted_rows, counted_side, CanCount}
+use Rattle.placement_candidates.specs.Counted.{total, reads_of, writes_of, home_price, moved_price, counted_gain, counted_var, counted_vars, CountsAccesses, stub_price, start_size, counted_rows, counted_code_var, counted_static, counted_side, CanCount}
 use Rattle.energy_model.proofs.SceneLemmas.{follows}
-use Rattle.energy_model.proofs.EnergyLemmas.{more_taken, touched, touches_are, by_regions}
+use Rattle.energy_model.proofs.EnergyLemmas.{touched, touches_are, by_regions}
+use Rattle.energy_model.proofs.TakenLemmas.{one_more}
+use Rattle.energy_model.proofs.CountsLemmas.{counts_code}
 use Rattle.energy_model.proofs.BaseLemmas.{few_transitions, base_stated, home_small, counts_energy}
 use Rattle.placement_candidates.proofs.LimitLemmas.{blocks_few, objects_few}
 use Rattle.placement_candidates.proofs.SpanLemmas.{spans_small}
+use Rattle.placement_candidates.proofs.PieceLemmas.{code_vars_counted, can_count_piece, pieces_few, code_gains_small, code_vars_weigh}
 
 abbrev Given : ElfView → Board → Graph → Code → RegionTable → Profile → List Transition → Type 0
 Given view board g c t q ms = AreOfSameFile view board g c t q ms
@@ -120,7 +124,7 @@ gain_counted one view board g c t q ms k given below =
     let writes = writes_are view board g c t q ms k given below in
     let slow = touches_are w ms false k in
     let fast = touches_are w ms true k in
-    let sum = more_taken w k [] ms all refl in
+    let sum = one_more w (StaticData k) [] ms all (tt, tt) in
     let home : home_price prices (reads_of q k) (writes_of q k) ≡ touches_price w ms false k =
     ap (λ n. n * prices.main_read + writes_of q k * prices.main_write) reads
     ∙ (ap (λ n. touched ms false k (length ms) * prices.main_read + n * prices.main_write) writes ∙ sym slow) in
@@ -150,11 +154,17 @@ vars_stated one view board g c t q ms (suc n) given le =
 side_path : (a b : ℕ) (rows : List ℕ) (vs us : List PlainFullVar) → a ≡ b → vs ≡ us → ◌≡◌ {A = PlainFullSide} (record { fixed = a; rows = rows; vars = vs }) (record { fixed = b; rows = rows; vars = us })
 side_path a b rows vs us first second = λ i. record { fixed = first i; rows = rows; vars = second i }
 
-pub side_stated : OneInstruction → (view : ElfView) (board : Board) (g : Graph) (c : Code) (t : RegionTable) (q : Profile) (ms : List Transition) → Given view board g c t q ms → counted_side board q g (length c.blocks.items) ≡ data_side (scene_of g c t board) (layout_of g c t board) ms
-side_stated one view board g c t q ms given =
+statics_stated : OneInstruction → (view : ElfView) (board : Board) (g : Graph) (c : Code) (t : RegionTable) (q : Profile) (pieces : List Piece) (ms : List Transition) → Given view board g c t q ms → AreSomePieces c g pieces → counted_static board q c g pieces ≡ static_vars (scene_of g c t board) (layout_of g c t board) pieces ms
+statics_stated one view board g c t q pieces ms given are =
+    let objects = vars_stated one view board g c t q ms (length g.objects.items) given (omega arith) in
+    let code = code_vars_counted one view board g c t q ms pieces given are.each in
+    λ i. objects i ++ code i
+
+side_stated : OneInstruction → (view : ElfView) (board : Board) (g : Graph) (c : Code) (t : RegionTable) (q : Profile) (pieces : List Piece) (ms : List Transition) → Given view board g c t q ms → AreSomePieces c g pieces → counted_side board q c g pieces ≡ off_side (scene_of g c t board) (layout_of g c t board) pieces ms
+side_stated one view board g c t q pieces ms given are =
     let stub = stub_empty (scene_of g c t board) in
-    side_path (stub_price board) (stub_energy (scene_of g c t board) nothing_taken) (counted_rows board (length c.blocks.items)) (counted_vars board.prices q g board.grain (length g.objects.items)) (data_vars (scene_of g c t board) (layout_of g c t board) ms (length g.objects.items)) stub
-    (vars_stated one view board g c t q ms (length g.objects.items) given (omega arith))
+    side_path (stub_price board) (stub_energy (scene_of g c t board) nothing_taken) (counted_rows board (length c.blocks.items)) (counted_static board q c g pieces) (static_vars (scene_of g c t board) (layout_of g c t board) pieces ms) stub
+    (statics_stated one view board g c t q pieces ms given are)
 
 -- ---- bounds
 
@@ -241,19 +251,31 @@ rows_small board blocks lawful =
     (first_all (λ n. n < 2 ^ 32) (board.patch.size - start_size board) (replicate blocks 1) (omega (arith, patch))
     (All-replicate (λ n. n < 2 ^ 32) blocks 1 (omega arith)))
 
-side_within : (view : ElfView) (board : Board) (g : Graph) (c : Code) (t : RegionTable) (q : Profile) (ms : List Transition) → Given view board g c t q ms → IsWithinFullBounds (counted_side board q g (length c.blocks.items))
-side_within view board g c t q ms given =
-    let stub = stub_small board given.lawful in
-    let gains = gains_small view board g c t q ms (length g.objects.items) given (omega arith) in
+all_gains_small : OneInstruction → (view : ElfView) (board : Board) (g : Graph) (c : Code) (t : RegionTable) (q : Profile) (pieces : List Piece) (ms : List Transition) → Given view board g c t q ms → AreSomePieces c g pieces → sum_by (λ v. unsigned_abs v.gain) (counted_static board q c g pieces) < 2 ^ 90
+all_gains_small one view board g c t q pieces ms given are =
+    let objects = gains_small view board g c t q ms (length g.objects.items) given (omega arith) in
     let few = objects_few (plain_view view) board g given.graph in
     let blocks = blocks_few view c given.read given.code given.no_code_fault in
+    let code = code_gains_small c g q board.prices board.grain pieces (counts_code one view board g c t q ms given) given.lawful.prices (can_count_piece view board g c t q ms pieces given are) in
+    let count = pieces_few c g pieces blocks are in
+    let sum = sum_by-append (λ (v : PlainFullVar). unsigned_abs v.gain) (counted_vars board.prices q g board.grain (length g.objects.items)) (map (counted_code_var board.prices q c g board.grain) pieces) in
+    omega (arith, objects, few, code, count, sum)
+
+side_within : OneInstruction → (view : ElfView) (board : Board) (g : Graph) (c : Code) (t : RegionTable) (q : Profile) (pieces : List Piece) (ms : List Transition) → Given view board g c t q ms → AreSomePieces c g pieces → IsWithinFullBounds (counted_side board q c g pieces)
+side_within one view board g c t q pieces ms given are =
+    let stub = stub_small board given.lawful in
+    let gains = all_gains_small one view board g c t q pieces ms given are in
+    let blocks = blocks_few view c given.read given.code given.no_code_fault in
     let ones = length-replicate {A = ℕ} (length c.blocks.items) 1 in
+    let rows = length (counted_rows board (length c.blocks.items)) in
     record {
       fixed = omega (arith, stub);
-      gains = omega (arith, gains, few);
+      gains = omega (arith, gains);
       few_rows = omega (arith, ones, blocks);
       capacities = rows_small board (length c.blocks.items) given.lawful;
-      weights = vars_weigh board g q (length (counted_rows board (length c.blocks.items))) (length g.objects.items) (omega (arith, ones)) (spans_small view board g given.read given.lawful given.graph);
+      weights = All-append (λ (v : PlainFullVar). AreWeights rows v.weights) (counted_vars board.prices q g board.grain (length g.objects.items)) (map (counted_code_var board.prices q c g board.grain) pieces)
+          (vars_weigh board g q rows (length g.objects.items) (omega (arith, ones)) (spans_small view board g given.read given.lawful given.graph))
+          (code_vars_weigh c g q board.prices board.grain rows pieces given.lawful.grain (omega (arith, ones)) (can_count_piece view board g c t q ms pieces given are));
     }
 
 grain_some : (n : ℕ) → IsGrain n → 0 < n
@@ -261,37 +283,38 @@ grain_some n (inl is) = omega (arith, is)
 grain_some n (inr (inl is)) = omega (arith, is)
 grain_some n (inr (inr is)) = omega (arith, is)
 
-pub can_count : OneInstruction → (view : ElfView) (board : Board) (g : Graph) (c : Code) (t : RegionTable) (q : Profile) (ms : List Transition) → AreOfSameFile view board g c t q ms → CanCount g c.blocks.items board q
-can_count one view board g c t q ms given =
+pub can_count : OneInstruction → (view : ElfView) (board : Board) (g : Graph) (c : Code) (t : RegionTable) (q : Profile) (pieces : List Piece) (ms : List Transition) → AreOfSameFile view board g c t q ms → AreSomePieces c g pieces → CanCount g c pieces board q
+can_count one view board g c t q pieces ms given are =
     let small = home_small one view board g c t q ms given in
     let few = few_transitions view board g c t q ms given in
     record {
       energy = counts_energy one view board g c t q ms given;
       accesses = counts_accesses view board g c t q ms given;
+      code = counts_code one view board g c t q ms given;
+      countable = can_count_piece view board g c t q ms pieces given are;
       patch = given.patch;
       grain = grain_some board.grain given.lawful.grain;
       base = λ energy counted.
           let is = base_stated one view board g c t q ms energy given counted in
           omega (arith, is, small, few);
-      side = side_within view board g c t q ms given;
+      side = side_within one view board g c t q pieces ms given are;
     }
 
 full_path : (a b : ℕ) (s u : PlainFullSide) (o : Option PlainFullSide) → a ≡ b → s ≡ u → o ≡ None → ◌≡◌ {A = PlainFull} (record { base = a; off = s; on = o }) (record { base = b; off = u; on = None })
 full_path a b s u o first second third = λ i. record { base = first i; off = second i; on = third i }
 
 -- a programme of what the tables count is that which the run states
-pub full_stated : OneInstruction → (view : ElfView) (board : Board) (g : Graph) (c : Code) (t : RegionTable) (q : Profile) (ms : List Transition) (f : PlainFull) → AreOfSameFile view board g c t q ms → IsCounted board.prices c.blocks.items q f.base → f.off ≡ counted_side board q g (length c.blocks.items) → f.on ≡ None → IsDataFull (scene_of g c t board) (layout_of g c t board) ms f
-full_stated one view board g c t q ms f given counted off on =
+pub full_stated : OneInstruction → (view : ElfView) (board : Board) (g : Graph) (c : Code) (t : RegionTable) (q : Profile) (pieces : List Piece) (ms : List Transition) (f : PlainFull) → AreOfSameFile view board g c t q ms → AreSomePieces c g pieces → IsCounted board.prices c.blocks.items q f.base → f.off ≡ counted_side board q c g pieces → f.on ≡ None → IsStaticFull (scene_of g c t board) (layout_of g c t board) pieces ms f
+full_stated one view board g c t q pieces ms f given are counted off on =
     let base = base_stated one view board g c t q ms f.base given counted in
     let small = home_small one view board g c t q ms given in
     let few = few_transitions view board g c t q ms given in
     let stub = stub_small board given.lawful in
-    let gains = gains_small view board g c t q ms (length g.objects.items) given (omega arith) in
-    let objects = objects_few (plain_view view) board g given.graph in
+    let gains = all_gains_small one view board g c t q pieces ms given are in
     let fixed : f.off.fixed ≡ stub_price board = ap (λ (s : PlainFullSide). s.fixed) off in
     record {
-      is = full_path f.base (steps_energy (scene_of g c t board) nothing_taken ms) f.off (data_side (scene_of g c t board) (layout_of g c t board) ms) f.on base (off ∙ side_stated one view board g c t q ms given) on;
+      is = full_path f.base (steps_energy (scene_of g c t board) nothing_taken ms) f.off (off_side (scene_of g c t board) (layout_of g c t board) pieces ms) f.on base (off ∙ side_stated one view board g c t q pieces ms given are) on;
       base_small = omega (arith, base, small, few);
       fixed_small = omega (arith, fixed, stub);
-      gains_small = subst (λ (s : PlainFullSide). sum_by (λ v. unsigned_abs v.gain) s.vars < 2 ^ 90) (sym off) (omega (arith, gains, objects));
+      gains_small = subst (λ (s : PlainFullSide). sum_by (λ v. unsigned_abs v.gain) s.vars < 2 ^ 90) (sym off) gains;
     }

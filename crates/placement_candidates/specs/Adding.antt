@@ -1,10 +1,11 @@
--- What objects save together is what each saves alone.
+-- What static items save together is what each saves alone.
 use Rattle.std.specs.Prelude.{◌≡◌, ℕ, ◌+◌, ℤ, pos, ◌+ℤ◌, ◌-ℤ◌, ◌≤ℤ◌, false, List, [], ◌∷◌, map, slice_index_or}
 use Rattle.elf_reader.specs.declared.view.ElfView.{ElfView}
 use Rattle.board_config.specs.declared.board.Board.{Board}
 use Rattle.object_graph.specs.declared.parts.Graph.{Graph}
 use Rattle.code_blocks.specs.declared.parts.Code.{Code}
 use Rattle.region_former.specs.declared.table.RegionTable.{RegionTable}
+use Rattle.block_splitter.specs.declared.piece.Piece.{Piece}
 use Rattle.placement_programme.specs.declared.variables.VarName.TheVariants.{StaticData}
 use Rattle.placement_programme.specs.declared.variables.VarName.{VarName}
 use Rattle.placement_programme.specs.Plain.{PlainVar, PlainProgramme, PlainChoice}
@@ -13,27 +14,28 @@ use Rattle.profile_runner.specs.Transition.{Transition}
 use Rattle.profile_runner.specs.declared.counts.Profile.{Profile}
 use Rattle.energy_model.specs.Energy.{Scene, Taken, steps_energy, stub_energy, side_energy, energy, nothing_taken}
 use Rattle.energy_model.specs.Scenes.{scene_of, layout_of, AreOfSameFile}
-use Rattle.placement_candidates.specs.Stated.{gain_alone}
-use Rattle.energy_model.specs.Priced.{AreDifferent}
+use Rattle.energy_model.specs.Priced.{AreApart}
+use Rattle.placement_candidates.specs.Stated.{gain_alone, AreSomePieces}
 use Rattle.placement_candidates.specs.Selected.{stated}
 
--- some objects are taken, without overlay
-abbrev pub objects_taken : List ℕ → Taken
-objects_taken os = record { on = false; names = map StaticData os }
+-- some items are taken, without overlay
+abbrev pub items_taken : List VarName → Taken
+items_taken names = record { on = false; names = names }
 
 -- what each saves alone, summed
-abbrev pub gains_of : Scene → List Transition → List ℕ → ℤ
+abbrev pub gains_of : Scene → List Transition → List VarName → ℤ
 gains_of w transitions [] = pos 0
-gains_of w transitions (o ∷ os) = gain_alone w transitions (StaticData o) +ℤ gains_of w transitions os
+gains_of w transitions (name ∷ names) = gain_alone w transitions name +ℤ gains_of w transitions names
 
--- for different objects the energy is the base and the fixed cost, less these gains
-abbrev pub DataEnergyAddsUp : Type 0
-DataEnergyAddsUp =
-    (view : ElfView) (board : Board) (g : Graph) (c : Code) (t : RegionTable) (q : Profile) (transitions : List Transition) (os : List ℕ)
-    → AreOfSameFile view board g c t q transitions → AreDifferent os
-    → pos (side_energy (scene_of g c t board) (objects_taken os) transitions)
+-- for different objects, and pieces of which no two share a block, the energy is the base and the fixed cost, less these
+-- gains
+abbrev pub EnergyAddsUp : Type 0
+EnergyAddsUp =
+    (view : ElfView) (board : Board) (g : Graph) (c : Code) (t : RegionTable) (q : Profile) (transitions : List Transition) (names : List VarName)
+    → AreOfSameFile view board g c t q transitions → AreApart names
+    → pos (side_energy (scene_of g c t board) (items_taken names) transitions)
     ≡ pos (steps_energy (scene_of g c t board) nothing_taken transitions + stub_energy (scene_of g c t board) nothing_taken)
-    -ℤ gains_of (scene_of g c t board) transitions os
+    -ℤ gains_of (scene_of g c t board) transitions names
 
 -- ---- choices of the programme that a run states
 
@@ -50,10 +52,10 @@ taken_by p c = record { on = c.on; names = map (kept_name p.off.vars) c.take }
 -- a statement of each feasible choice of each programme that a run states
 abbrev pub OfFeasibleChoices : (Scene → List Transition → PlainProgramme → PlainChoice → Type 0) → Type 0
 OfFeasibleChoices Says =
-    (view : ElfView) (board : Board) (g : Graph) (c : Code) (t : RegionTable) (q : Profile) (transitions : List Transition) (choice : PlainChoice)
-    → AreOfSameFile view board g c t q transitions
-    → IsFeasible (stated (scene_of g c t board) (layout_of g c t board) transitions) choice
-    → Says (scene_of g c t board) transitions (stated (scene_of g c t board) (layout_of g c t board) transitions) choice
+    (view : ElfView) (board : Board) (g : Graph) (c : Code) (t : RegionTable) (q : Profile) (pieces : List Piece) (transitions : List Transition) (choice : PlainChoice)
+    → AreOfSameFile view board g c t q transitions → AreSomePieces c g pieces
+    → IsFeasible (stated (scene_of g c t board) (layout_of g c t board) pieces transitions) choice
+    → Says (scene_of g c t board) transitions (stated (scene_of g c t board) (layout_of g c t board) pieces transitions) choice
 
 -- the energy of a feasible choice is that of the run with what it takes
 abbrev pub EnergyIsOfTheRun : Type 0

@@ -5,3 +5,4 @@ pub mod Stated
 pub mod Counted
 pub mod Selected
 pub mod Adding
+pub mod Ranking

@@ -6,8 +6,9 @@ use Rattle.placement_programme.specs.declared.variables.VarName.{VarName}
 use Rattle.placement_programme.specs.declared.variables.VarName.TheVariants.{StaticData, StaticCode, OverlayData, OverlayCode}
 use Rattle.placement_programme.specs.Rows.{Layout}
 use Rattle.profile_runner.specs.Transition.{Transition}
+use Rattle.block_splitter.specs.declared.piece.Piece.{Piece}
 use Rattle.energy_model.specs.Energy.{Scene}
-use Rattle.placement_candidates.specs.Stated.{data_full}
+use Rattle.placement_candidates.specs.Stated.{static_full}
 use Rattle.placement_programme.specs.Plain.{PlainVar, PlainSide, PlainProgramme, PlainFullVar, PlainFullSide, PlainFull}
 
 -- a gain, and 0 in place of a loss
@@ -66,6 +67,6 @@ selected_on (Some s) = if has_overlay s.vars then Some (selected_side s) else No
 abbrev pub selected : PlainFull → PlainProgramme
 selected f = record { base = f.base; off = selected_side f.off; on = selected_on f.on }
 
--- the programme that the transitions of a run state for static data
-abbrev pub stated : Scene → Layout → List Transition → PlainProgramme
-stated w l transitions = selected (data_full w l transitions)
+-- the programme that the transitions of a run state for static data and static code
+abbrev pub stated : Scene → Layout → List Piece → List Transition → PlainProgramme
+stated w l pieces transitions = selected (static_full w l pieces transitions)

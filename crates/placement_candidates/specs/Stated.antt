@@ -1,13 +1,18 @@
 -- The programme that a run states, with all that may be taken, also where it gains nothing.
-use Rattle.std.specs.Prelude.{◌≡◌, ℕ, zero, suc, ◌^◌, ◌<◌, ℤ, unsigned_abs, pos, ◌-ℤ◌, false, List, [], ◌∷◌, ◌++◌, length, None}
-use Rattle.std.specs.List.{sum_by}
+use Rattle.std.specs.Prelude.{◌≡◌, ℕ, zero, suc, ◌^◌, ◌<◌, ℤ, unsigned_abs, pos, ◌-ℤ◌, Bool, false, not, List, [], ◌∷◌, ◌++◌, map, length, slice_index_or, None}
+use Rattle.std.specs.List.{All, AllPairs, filter, sum_by}
+use Rattle.object_graph.specs.declared.parts.Graph.{Graph}
+use Rattle.code_blocks.specs.declared.parts.Code.{Code}
 use Rattle.profile_runner.specs.Transition.{Transition}
 use Rattle.placement_programme.specs.declared.variables.VarName.{VarName}
-use Rattle.placement_programme.specs.declared.variables.VarName.TheVariants.{StaticData}
+use Rattle.placement_programme.specs.declared.variables.VarName.TheVariants.{StaticData, StaticCode}
 use Rattle.placement_programme.specs.Plain.{PlainFullVar, PlainFullSide, PlainFull}
-use Rattle.placement_programme.specs.Rows.{Layout, static_data, off_capacities, off_weights}
+use Rattle.placement_programme.specs.Rows.{Layout, Part, static_data, static_code, off_capacities, off_weights}
+use Rattle.block_splitter.specs.declared.piece.Piece.{Piece}
+use Rattle.block_splitter.specs.Forms.{is_site, kind_of, displaced_size}
+use Rattle.block_splitter.specs.Pieces.{range_of, IsPiece, ComesBefore}
 use Rattle.cell_values.specs.Objects.{datum_of}
-use Rattle.energy_model.specs.Energy.{nothing_taken, Scene, Taken, stub_energy, steps_energy, side_energy}
+use Rattle.energy_model.specs.Energy.{nothing_taken, Scene, Taken, block_in, stub_energy, steps_energy, side_energy}
 
 -- ---- variables
 
@@ -34,23 +39,62 @@ abbrev pub data_vars : Scene → Layout → List Transition → ℕ → List Pla
 data_vars w l transitions zero = []
 data_vars w l transitions (suc n) = data_vars w l transitions n ++ data_var w l transitions n ∷ []
 
--- ---- the programme of static data
+-- ---- pieces of code
 
-abbrev pub data_side : Scene → Layout → List Transition → PlainFullSide
-data_side w l transitions =
+-- control enters the region of block `b` there
+abbrev pub is_border : Scene → ℕ → Bool
+is_border w b = slice_index_or w.borders b false
+
+-- the words of the first unit of block `b`, displaced
+abbrev pub displaced_at : Scene → ℕ → ℕ
+displaced_at w b = displaced_size (kind_of (is_site w.graph) (block_in w b) 0)
+
+-- a piece as the rows see it
+abbrev pub part_of : Scene → Piece → Part
+part_of w p =
+    record {
+      first = p.first;
+      last = p.last;
+      copied = p.bytes;
+      plain_entries = length (filter (λ b. not (is_border w b)) p.entries.items);
+      border_entries = map (displaced_at w) (filter (is_border w) p.entries.items);
+    }
+
+-- its variable where nothing is overlaid
+abbrev pub code_var : Scene → Layout → List Transition → Piece → PlainFullVar
+code_var w l transitions p =
+    record {
+      name = StaticCode p.first p.last;
+      gain = gain_alone w transitions (StaticCode p.first p.last);
+      weights = off_weights l (static_code (part_of w p));
+    }
+
+-- pieces of a program, each once and in order: all of them, or some, or none
+pub record AreSomePieces (c : Code) (g : Graph) (pieces : List Piece) : Type 0 where
+  pub ordered : AllPairs (λ p q. ComesBefore (range_of p) (range_of q)) pieces
+  pub each : All (IsPiece c g) pieces
+
+-- ---- the programme of static items
+
+abbrev pub static_vars : Scene → Layout → List Piece → List Transition → List PlainFullVar
+static_vars w l pieces transitions =
+    data_vars w l transitions (length w.graph.objects.items) ++ map (code_var w l transitions) pieces
+
+abbrev pub off_side : Scene → Layout → List Piece → List Transition → PlainFullSide
+off_side w l pieces transitions =
     record {
       fixed = stub_energy w nothing_taken;
       rows = off_capacities l;
-      vars = data_vars w l transitions (length w.graph.objects.items);
+      vars = static_vars w l pieces transitions;
     }
 
-abbrev pub data_full : Scene → Layout → List Transition → PlainFull
-data_full w l transitions =
-    record { base = steps_energy w nothing_taken transitions; off = data_side w l transitions; on = None }
+abbrev pub static_full : Scene → Layout → List Piece → List Transition → PlainFull
+static_full w l pieces transitions =
+    record { base = steps_energy w nothing_taken transitions; off = off_side w l pieces transitions; on = None }
 
 -- a programme is that one; and its sums are small
-pub record IsDataFull (w : Scene) (l : Layout) (transitions : List Transition) (f : PlainFull) : Type 0 where
-  pub is : f ≡ data_full w l transitions
+pub record IsStaticFull (w : Scene) (l : Layout) (pieces : List Piece) (transitions : List Transition) (f : PlainFull) : Type 0 where
+  pub is : f ≡ static_full w l pieces transitions
   pub base_small : f.base < 2 ^ 90
   pub fixed_small : f.off.fixed < 2 ^ 90
   pub gains_small : sum_by (λ v. unsigned_abs v.gain) f.off.vars < 2 ^ 90

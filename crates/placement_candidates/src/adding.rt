@@ -1,9 +1,10 @@
 // Laws of the definitions: functions that do nothing, whose contracts are what is proved.
-ghost use Rattle.placement_candidates.specs.Adding.{DataEnergyAddsUp, EnergyIsOfTheRun, GainsAreWithinTheBase};
+ghost use Rattle.placement_candidates.specs.Adding.{EnergyAddsUp, EnergyIsOfTheRun, GainsAreWithinTheBase};
 
-/// The energy with different objects taken is the base and the fixed cost, less what each object saves alone.
-pub fn data_energy_adds_up()
-    ensures { DataEnergyAddsUp }
+/// The energy with different objects and disjoint pieces taken is the base and the fixed cost, less what each saves
+/// alone.
+pub fn energy_adds_up()
+    ensures { EnergyAddsUp }
 {
     rv_decode::one_instruction();
 }

@@ -1,19 +1,20 @@
-ghost use Rattle.std.specs.Prelude.{◌≡◌, ℕ, ◌+◌, ◌-◌, ◌*◌, ◌^◌, ◌<◌, ◌≤◌, ◌∷◌, List, map, length, None, IfOk};
+ghost use Rattle.std.specs.Prelude.{◌≡◌, ℕ, ◌-◌, ◌*◌, ◌^◌, ◌<◌, ◌≤◌, List, map, None, IfOk};
 ghost use Rattle.elf_reader.specs.declared.view.ElfView.{ElfView};
 ghost use Rattle.placement_programme.specs.Plain.{plain_full_var};
 ghost use Rattle.placement_programme.specs.Bounds.{IsWithinFullBounds};
 ghost use Rattle.placement_programme.specs.Views.{plain_full_side, plain_full};
 ghost use Rattle.profile_runner.specs.Transition.{Transition};
-ghost use Rattle.energy_model.specs.Energy.{fence_words};
 ghost use Rattle.energy_model.specs.Scenes.{scene_of, layout_of, AreOfSameFile};
-ghost use Rattle.placement_candidates.specs.Stated.{IsDataFull};
-ghost use Rattle.placement_candidates.specs.Counted.{start_size, stub_price, counted_rows, counted_side, CanCount};
+ghost use Rattle.placement_candidates.specs.Stated.{AreSomePieces, IsStaticFull};
+ghost use Rattle.placement_candidates.specs.Counted.{start_size, stub_price, counted_rows, counted_static, counted_side, CanCount};
 ghost use Rattle.energy_model.specs.Base.{CountsEnergy, IsCounted};
 
 use crate::objects::data_vars;
+use crate::pieces::{Tables, push_vars};
+use block_splitter::Piece;
 use board_config::Board;
 use code_blocks::Code;
-use energy_model::base_of;
+use energy_model::{base_of, count_blocks};
 use object_graph::Graph;
 use placement_programme::{Full, FullSide, FullVar};
 use profile_runner::Profile;
@@ -38,7 +39,7 @@ fn stub_price(board: &Board) -> u128
 }
 
 /// The capacities of the rows: the scratchpad, the patch range behind the start stub, and a row for each block.
-fn data_rows(alloc: Global, board: &Board, blocks: usize) -> Result<Vec<u64>, AllocError>
+fn off_rows(alloc: Global, board: &Board, blocks: usize) -> Result<Vec<u64>, AllocError>
     requires { start_size board.now ≤ board.now.patch.size }
     ensures { IfOk result (λ rows. rows.items ≡ counted_rows board.now blocks) }
 {
@@ -56,19 +57,45 @@ fn side_of(fixed: u128, rows: Vec<u64>, vars: Vec<FullVar>) -> FullSide
     FullSide { fixed, rows, vars }
 }
 
-/// The side without overlay.
-fn data_side(
+/// The variables of objects by home, and then those of pieces.
+fn static_vars(
     alloc: Global,
     profile: &Profile,
     graph: &Graph,
     code: &Code,
+    pieces: &[Piece],
+    board: &Board,
+) -> Result<Vec<FullVar>, AllocError>
+    requires { CanCount graph.now code.now pieces.now board.now profile.now }
+    ensures { IfOk result (λ vars. map plain_full_var vars.items ≡ counted_static board.now profile.now code.now graph.now pieces.now) }
+{
+    let mut vars = data_vars(alloc, profile, graph, board)?;
+    let counts = count_blocks(alloc, code, graph, profile)?;
+    let tables = Tables {
+        code,
+        graph,
+        profile,
+        counts: &counts,
+        board,
+    };
+    push_vars(alloc, &mut vars, &tables, pieces)?;
+    Ok(vars)
+}
+
+/// The side without overlay.
+fn off_side(
+    alloc: Global,
+    profile: &Profile,
+    graph: &Graph,
+    code: &Code,
+    pieces: &[Piece],
     board: &Board,
 ) -> Result<FullSide, AllocError>
-    requires { CanCount graph.now code.now.blocks.items board.now profile.now }
-    ensures { IfOk result (λ side. plain_full_side side ≡ counted_side board.now profile.now graph.now (length code.now.blocks.items)) }
+    requires { CanCount graph.now code.now pieces.now board.now profile.now }
+    ensures { IfOk result (λ side. plain_full_side side ≡ counted_side board.now profile.now code.now graph.now pieces.now) }
 {
-    let rows = data_rows(alloc, board, code.blocks.len())?;
-    let vars = data_vars(alloc, profile, graph, board)?;
+    let rows = off_rows(alloc, board, code.blocks.len())?;
+    let vars = static_vars(alloc, profile, graph, code, pieces, board)?;
     Ok(side_of(stub_price(board), rows, vars))
 }
 
@@ -88,14 +115,15 @@ fn full_of(
     profile: &Profile,
     graph: &Graph,
     code: &Code,
+    pieces: &[Piece],
     board: &Board,
 ) -> Result<Full, AllocError>
-    requires { CanCount graph.now code.now.blocks.items board.now profile.now }
+    requires { CanCount graph.now code.now pieces.now board.now profile.now }
     ensures base { IfOk result (λ f. IsCounted board.now.prices code.now.blocks.items profile.now f.base) }
-    ensures off { IfOk result (λ f. plain_full_side f.off ≡ counted_side board.now profile.now graph.now (length code.now.blocks.items)) }
+    ensures off { IfOk result (λ f. plain_full_side f.off ≡ counted_side board.now profile.now code.now graph.now pieces.now) }
     ensures on { IfOk result (λ f. f.on ≡ None) }
 {
-    let off = data_side(alloc, profile, graph, code, board)?;
+    let off = off_side(alloc, profile, graph, code, pieces, board)?;
     Ok(Full {
         base: base(profile, code, board),
         off,
@@ -103,10 +131,12 @@ fn full_of(
     })
 }
 
-/// The programme that a run states for static data, with all objects that may move, also those that save nothing.
+/// The programme that a run states for static data and static code, with all objects that may move and these pieces,
+/// also those that save nothing.
 ///
 /// The profile must be that of a run of the board's steps, and all parts must be of one file and one board, whose
-/// patch range has room for the start stub. The variables stand by home.
+/// patch range has room for the start stub. The pieces must be of that file's code, each once and in order; there may
+/// be none. The variables of objects stand by home, and behind them those of pieces in their order.
 ///
 /// It fails only where no memory was left.
 pub fn full(
@@ -115,14 +145,16 @@ pub fn full(
     graph: &Graph,
     code: &Code,
     regions: &RegionTable,
+    pieces: &[Piece],
     board: &Board,
 ) -> Result<Full, AllocError>
-    requires { (view : ElfView) × ((transitions : List Transition) × AreOfSameFile view board.now graph.now code.now regions.now profile.now transitions) }
-    ensures { IfOk result (λ f. (view : ElfView) (transitions : List Transition) → AreOfSameFile view board.now graph.now code.now regions.now profile.now transitions → IsDataFull (scene_of graph.now code.now regions.now board.now) (layout_of graph.now code.now regions.now board.now) transitions (plain_full f)) }
+    requires run { (view : ElfView) × ((transitions : List Transition) × AreOfSameFile view board.now graph.now code.now regions.now profile.now transitions) }
+    requires pieces { AreSomePieces code.now graph.now pieces.now }
+    ensures { IfOk result (λ f. (view : ElfView) (transitions : List Transition) → AreOfSameFile view board.now graph.now code.now regions.now profile.now transitions → IsStaticFull (scene_of graph.now code.now regions.now board.now) (layout_of graph.now code.now regions.now board.now) pieces.now transitions (plain_full f)) }
 {
     one_instruction();
     let _ = regions;
-    match full_of(alloc, profile, graph, code, board) {
+    match full_of(alloc, profile, graph, code, pieces, board) {
         Ok(full) => Ok(full),
         Err(error) => Err(error),
     }

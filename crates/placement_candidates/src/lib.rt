@@ -4,10 +4,12 @@
 mod adding;
 mod counting;
 mod objects;
+mod pieces;
+mod ranking;
 mod selecting;
 mod stating;
 
-pub use adding::data_energy_adds_up;
+pub use adding::energy_adds_up;
 pub use counting::full;
 pub use selecting::select;
 pub use stating::programme;

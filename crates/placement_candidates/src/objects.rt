@@ -1,4 +1,4 @@
-ghost use Rattle.std.specs.Prelude.{◌≡◌, ℕ, ◌+◌, ◌-◌, ◌*◌, ◌/◌, ◌%◌, ◌^◌, ◌<◌, ◌≤◌, ◌∷◌, ◌++◌, [], pos, ◌-ℤ◌, map, length, IfOk, OnOk};
+ghost use Rattle.std.specs.Prelude.{◌≡◌, ◌+◌, ◌-◌, ◌*◌, ◌/◌, ◌%◌, ◌^◌, ◌<◌, ◌≤◌, ◌∷◌, ◌++◌, [], pos, ◌-ℤ◌, map, length, IfOk, OnOk};
 ghost use Rattle.cell_values.specs.Objects.{object_of};
 ghost use Rattle.placement_programme.specs.Plain.{plain_full_var};
 ghost use Rattle.placement_programme.specs.Rows.{rounded_up};
@@ -37,12 +37,12 @@ fn rounds(object: &Object) -> u32
     }
 }
 
-/// What it costs to copy an object into the scratchpad.
-fn job_price(object: &Object, prices: &Prices) -> u128
-    ensures sum { result ≡ into_price prices.now (object_rounds object.now) }
+/// What a copy loop of so many rounds costs that copies into the scratchpad.
+pub(crate) fn job_price(rounds: u32, prices: &Prices) -> u128
+    ensures sum { result ≡ into_price prices.now rounds }
     ensures small { result < 2 ^ 70 }
 {
-    let rounds = u128::from(rounds(object));
+    let rounds = u128::from(rounds);
     let fetches = (6 + 5 * rounds) * u128::from(prices.main_fetch);
     let reads = rounds * u128::from(prices.main_read);
     let writes = rounds * u128::from(prices.spm_write);
@@ -67,7 +67,7 @@ fn gain(reads: u128, writes: u128, object: &Object, prices: &Prices) -> i128
 {
     let home = accesses_price(reads, writes, prices.main_read, prices.main_write);
     let moved = accesses_price(reads, writes, prices.spm_read, prices.spm_write);
-    home as i128 - (moved + job_price(object, prices)) as i128
+    home as i128 - (moved + job_price(rounds(object), prices)) as i128
 }
 
 /// The bytes of the scratchpad that an object takes, with those before it in its first chunk.

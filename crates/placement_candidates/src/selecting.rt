@@ -1,16 +1,17 @@
-ghost use Rattle.std.specs.Prelude.{◌≡◌, ◌<◌, ◌++◌, map, length, option_map, IfOk, OnOk};
+ghost use Rattle.std.specs.Prelude.{◌≡◌, ◌+◌, ◌<◌, ◌==◌, nat_lt, ◌&&◌, ◌||◌, ◌++◌, map, length, option_map, IfOk, OnOk};
 ghost use Rattle.list_checks.specs.Tests.{any_below};
-ghost use Rattle.list_checks.specs.Sorted.{count_below};
 ghost use Rattle.placement_programme.specs.Plain.{plain_var, plain_full_var};
 ghost use Rattle.placement_programme.specs.Bounds.{IsWithinBounds};
 ghost use Rattle.placement_programme.specs.Views.{plain_side, plain_programme, plain_full_side, plain_full};
-ghost use Rattle.placement_candidates.specs.Selected.{worth, worth_at, better, is_kept, plain_kept, kept_at, kept_below, selected_side, is_overlay, saves_by_overlay, var_in, has_overlay, selected_on, selected};
+ghost use Rattle.placement_candidates.specs.Selected.{worth, worth_at, is_kept, plain_kept, kept_at, kept_below, selected_side, is_overlay, saves_by_overlay, var_in, has_overlay, selected_on, selected};
+ghost use Rattle.placement_candidates.specs.Ranking.{IsCut, ties_before};
 
+use crate::ranking::{Cut, find_cut};
 use placement_programme::{Full, FullSide, FullVar, Programme, Side, Var, VarName};
 use std::alloc::{AllocError, Global};
 
 /// How many variables a side has at most.
-const MOST_VARS: usize = 4000;
+pub(crate) const MOST_VARS: usize = 4000;
 
 /// What a variable saves, and 0 where it saves nothing.
 fn worth(var: &FullVar) -> u128
@@ -20,44 +21,30 @@ fn worth(var: &FullVar) -> u128
 }
 
 /// What variable `k` saves.
-fn worth_at(vars: &[FullVar], k: usize) -> u128
+pub(crate) fn worth_at(vars: &[FullVar], k: usize) -> u128
     requires { k < length vars.now }
     ensures { result ≡ worth_at (map plain_full_var vars.now) k }
 {
     worth(&vars[k])
 }
 
-/// Whether variable `j` goes before variable `k`: it saves more, or as much and stands before it.
-fn is_better(vars: &[FullVar], k: usize, j: usize) -> bool
-    requires k { k < length vars.now }
-    requires j { j < length vars.now }
-    ensures { result ≡ better (map plain_full_var vars.now) k j }
+/// Whether a variable is kept that saves so much: it saves something, and more than the cut, or as much where there is
+/// room for it behind the ties before it.
+fn passes(worth: u128, cut: &Cut, ties: usize) -> bool
+    requires { cut.now.above < 4000 }
+    ensures { result ≡ (nat_lt 0 worth && (nat_lt cut.now.least worth || ((worth == cut.now.least) && nat_lt (cut.now.above + ties) 4000))) }
 {
-    let mine = worth_at(vars, k);
-    let other = worth_at(vars, j);
-    mine < other || other == mine && j < k
+    worth > 0 && (worth > cut.least || worth == cut.least && ties < MOST_VARS - cut.above)
 }
 
-/// How many variables go before variable `k`.
-fn count_better(vars: &[FullVar], k: usize) -> usize
-    requires { k < length vars.now }
-    ensures { result ≡ count_below (better (map plain_full_var vars.now) k) (length vars.now) }
-{
-    let mut count = 0;
-    for j in 0..vars.len() {
-        if is_better(vars, k, j) {
-            count += 1;
-        }
-    }
-    count
-}
-
-/// Whether variable `k` is kept: it saves something, and fewer than 4,000 go before it.
-fn is_kept(vars: &[FullVar], k: usize) -> bool
-    requires { k < length vars.now }
+/// Whether variable `k` is kept, behind so many ties.
+fn is_kept(vars: &[FullVar], cut: &Cut, ties: usize, k: usize) -> bool
+    requires inside { k < length vars.now }
+    requires cut { IsCut (map plain_full_var vars.now) cut.now }
+    requires ties { ties ≡ ties_before (map plain_full_var vars.now) cut.now k }
     ensures { result ≡ is_kept (map plain_full_var vars.now) k }
 {
-    worth_at(vars, k) > 0 && count_better(vars, k) < MOST_VARS
+    passes(worth_at(vars, k), cut, ties)
 }
 
 /// A variable as it is kept.
@@ -78,12 +65,16 @@ fn push_kept(
     alloc: Global,
     kept: &mut Vec<Var>,
     vars: &[FullVar],
+    cut: &Cut,
+    ties: usize,
     k: usize,
 ) -> Result<(), AllocError>
-    requires { k < length vars.now }
+    requires inside { k < length vars.now }
+    requires cut { IsCut (map plain_full_var vars.now) cut.now }
+    requires ties { ties ≡ ties_before (map plain_full_var vars.now) cut.now k }
     ensures { OnOk result (map plain_var kept.new.items ≡ map plain_var kept.old.items ++ kept_at (map plain_full_var vars.now) k) }
 {
-    if !is_kept(vars, k) {
+    if !is_kept(vars, cut, ties, k) {
         return Ok(());
     }
     let var = kept_var(alloc, &vars[k])?;
@@ -93,13 +84,26 @@ fn push_kept(
     }
 }
 
+/// Whether variable `k` saves as much as the cut.
+fn is_tie(vars: &[FullVar], cut: &Cut, k: usize) -> bool
+    requires { k < length vars.now }
+    ensures { result ≡ (worth_at (map plain_full_var vars.now) k == cut.now.least) }
+{
+    worth_at(vars, k) == cut.least
+}
+
 /// The variables that are kept, in their order.
 fn kept_vars(alloc: Global, vars: &[FullVar]) -> Result<Vec<Var>, AllocError>
     ensures { IfOk result (λ kept. map plain_var kept.items ≡ kept_below (map plain_full_var vars.now) (length vars.now)) }
 {
+    let cut = find_cut(alloc, vars)?;
     let mut kept = Vec::new(alloc);
+    let mut ties = 0;
     for k in 0..vars.len() {
-        push_kept(alloc, &mut kept, vars, k)?;
+        push_kept(alloc, &mut kept, vars, &cut, ties, k)?;
+        if is_tie(vars, &cut, k) {
+            ties += 1;
+        }
     }
     Ok(kept)
 }
@@ -202,7 +206,7 @@ fn select_on(alloc: Global, on: &Option<FullSide>) -> Result<Option<Side>, Alloc
 /// The programme of the variables that save something: of each side at most 4,000, those that save most, and of those
 /// that save the same the first ones. The side with overlay is left out where nothing that is overlaid saves something.
 ///
-/// The time grows with the square of the number of variables. It fails only where no memory was left.
+/// The time is that of sorting the gains. It fails only where no memory was left.
 pub fn select(alloc: Global, f: &Full) -> Result<Programme, AllocError>
     ensures { IfOk result (λ p. plain_programme p ≡ selected (plain_full f.now)) }
 {

@@ -1,5 +1,5 @@
 -- The programme that the run of a file's program states, and what it is stated from.
-use Rattle.std.proofs.Common.{◌≡◌, ℕ, ◌+◌, ◌≤◌, ℤ, pos, ◌-ℤ◌, ◌≤ℤ◌, Bool, true, false, if◌then◌else◌, List, length, None, refl, sym, subst, arith}
+use Rattle.std.proofs.Common.{◌≡◌, ℕ, ◌+◌, ◌≤◌, ℤ, pos, ◌-ℤ◌, ◌≤ℤ◌, Bool, true, false, if◌then◌else◌, List, [], length, None, refl, sym, subst, arith}
 use Rattle.elf_reader.specs.File.{plain_view}
 use Rattle.elf_reader.specs.declared.view.ElfView.{ElfView}
 use Rattle.board_config.specs.Board.{IsLawful}
@@ -24,6 +24,7 @@ use Rattle.profile_runner.specs.Running.{Profiles}
 use Rattle.profile_runner.specs.declared.counts.Profile.{Profile}
 use Rattle.rv_decode.proofs.Meaning.{same_instruction}
 use Rattle.energy_model.specs.Energy.{Scene, energy}
+use Rattle.placement_candidates.specs.Stated.{AreSomePieces}
 use Rattle.placement_candidates.specs.Selected.{stated}
 use Rattle.energy_model.specs.Scenes.{scene_of, layout_of, AreOfSameFile}
 use Rattle.placement_candidates.proofs.ChoiceLemmas.{is_of_the_run}
@@ -54,20 +55,29 @@ of_one_file view board g c t input q last read lawful is_graph is_code no_fault 
         from = start_of (plain_view view) (program_of (plain_view view) board g) g input;
         to = last;
         going = refl;
+        entry = refl;
         begins = entry;
         run = made.run;
         profile = made.profile;
       };
     }
 
+-- no pieces are some of a program's pieces
+pub no_pieces : (c : Code) (g : Graph) → AreSomePieces c g []
+no_pieces c g =
+    record {
+      ordered = λ i j d before below. absurd (omega (arith, before, below));
+      each = λ k d below. absurd (omega (arith, below));
+    }
+
 -- the energies of what the run states are those of the run
 pub energies_of : (view : ElfView) (board : Board) (g : Graph) (c : Code) (t : RegionTable) (q : Profile) (transitions : List Transition) (p : PlainProgramme)
-    → AreOfSameFile view board g c t q transitions → p ≡ stated (scene_of g c t board) (layout_of g c t board) transitions
+    → AreOfSameFile view board g c t q transitions → p ≡ stated (scene_of g c t board) (layout_of g c t board) [] transitions
     → EnergiesAreOf (scene_of g c t board) transitions p
 energies_of view board g c t q transitions p one is =
     let w = scene_of g c t board in
-    let of_stated : EnergiesAreOf w transitions (stated w (layout_of g c t board) transitions) =
-    λ choice feasible. is_of_the_run same_instruction view board g c t q transitions choice one feasible in
+    let of_stated : EnergiesAreOf w transitions (stated w (layout_of g c t board) [] transitions) =
+    λ choice feasible. is_of_the_run same_instruction view board g c t q [] transitions choice one (no_pieces c g) feasible in
     subst (λ (r : PlainProgramme). EnergiesAreOf w transitions r) (sym is) of_stated
 
 -- ---- energies

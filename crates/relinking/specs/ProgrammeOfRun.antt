@@ -1,5 +1,5 @@
 -- The programme of a placement that the run of a program states, by a table of regions.
-use Rattle.std.specs.Prelude.{◌≡◌, ℕ, pos, List, Result, Ok, Err}
+use Rattle.std.specs.Prelude.{◌≡◌, ℕ, pos, List, [], Result, Ok, Err}
 use Rattle.elf_reader.specs.File.{PlainView}
 use Rattle.board_config.specs.declared.board.Board.{Board}
 use Rattle.object_graph.specs.declared.parts.Graph.{Graph}
@@ -34,7 +34,7 @@ pub record StatesProgramme (v : PlainView) (board : Board) (g : Graph) (c : Code
   pub last : SourceState
   pub run : Transitions (program_of v board g) board.steps (start_of v (program_of v board g) g input) transitions last
   pub no_address_fault : IsAddressFault last.outcome → ⊥
-  pub programme_is : p ≡ stated (scene_of g c t board) (layout_of g c t board) transitions
+  pub programme_is : p ≡ stated (scene_of g c t board) (layout_of g c t board) [] transitions
   pub energies : EnergiesAreOf (scene_of g c t board) transitions p
 
 -- the programme of the program's run, or its address fault, or that no memory was left

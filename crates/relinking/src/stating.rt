@@ -64,6 +64,7 @@ pub fn programme_of_run(
         &analysis.graph,
         &analysis.code,
         &analysis.regions,
+        &[],
         board,
     ) {
         Ok(programme) => Ok(programme),

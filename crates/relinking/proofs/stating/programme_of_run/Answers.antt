@@ -1,11 +1,11 @@
 use Rattle.placement_programme.specs.Views.{plain_programme}
 use Rattle.relinking.proofs.Counting.{unfaulted}
-use Rattle.relinking.proofs.Energies.{of_one_file, energies_of}
+use Rattle.relinking.proofs.Energies.{of_one_file, no_pieces, energies_of}
 use Rattle.relinking.proofs.Analysed.{may_state}
 use Rattle.relinking.proofs.stating.programme_of_run.Goals as goal
 
-pub programme-requires : goal.programme-requires
-programme-requires c =
+pub programme-requires-clause-run : goal.programme-requires-clause-run
+programme-requires-clause-run c =
     let analysis = c.args.analysis.now in
     let may = may_state c.requires.0 c.args.board.now analysis c.requires.1 in
     let (last, made) = c.in_ok-counts.ensures in (
@@ -16,6 +16,9 @@ programme-requires c =
             may.read c.requires.1.lawful may.graph may.code may.no_fault may.room may.entry c.requires.1.regions.is_formed.one_each made,
       ),
     )
+
+pub programme-requires-clause-pieces : goal.programme-requires-clause-pieces
+programme-requires-clause-pieces c = no_pieces c.args.analysis.now.code c.args.analysis.now.graph
 
 pub returns-in-Ok : goal.returns-in-Ok
 returns-in-Ok c =
