@@ -1,10 +1,13 @@
--- Plans that meet the conditions of a start stub.
-use Rattle.std.proofs.Common.{◌≡◌, ◌⊎◌, inl, inr, ℕ, ◌+◌, ◌*◌, ◌<◌, ◌≤◌, true, false, List, [], ◌∷◌, length, refl, arith}
-use Rattle.std.specs.Prelude.{All}
+-- Plans that meet the conditions of their code.
+use Rattle.std.proofs.Common.{◌≡◌, inl, inr, ℕ, ◌+◌, ◌<◌, true, false, List, [], ◌∷◌, length, refl, arith}
+use Rattle.std.proofs.lemmas.List.{length-append}
 use Rattle.std.proofs.lemmas.List.Elements.{All-nil, All-cons}
 use Rattle.overlay_stubs.specs.declared.plan.CopyJob.{CopyJob}
 use Rattle.overlay_stubs.specs.Jobs.{copying, IsJob}
-use Rattle.overlay_stubs.specs.Start.{StartPlan, CanStart, Spares}
+use Rattle.overlay_stubs.specs.Start.{StartPlan, CanStart, Spares, start_bytes}
+use Rattle.overlay_stubs.specs.PlainStubs.{PlainStub, CanJump}
+use Rattle.overlay_stubs.specs.Layout.{CodePlan, CanStand, SparesRest, alone, bytes_behind}
+use Rattle.overlay_stubs.proofs.Alone.{alone_stands}
 
 -- one job of words, from behind the stub
 abbrev pub image : CopyJob
@@ -16,7 +19,7 @@ one = record { base = 589824; entry = 65536; fence_i = false; jobs = image ∷ [
 image_is : IsJob image
 image_is = record { some = omega arith; source = omega arith; target = omega arith; disjoint = inl (omega arith) }
 
-pub one_starts : CanStart one
+one_starts : CanStart one
 unfolding copying
 one_starts =
     record {
@@ -26,6 +29,28 @@ one_starts =
       spared = All-cons (Spares one) image [] (inr (omega arith)) (All-nil (Spares one));
       ends = omega arith;
       reach = (omega arith, refl);
+    }
+
+pub one_stands : CanStand (alone one)
+one_stands = alone_stands one one_starts
+
+-- a stub, and an image of twelve words, which the job copies
+abbrev pub entry : PlainStub
+entry = record { home = 65540; temp = 5; to = 16777216 }
+
+abbrev pub piece : List ℕ → CodePlan
+piece words = record { start = one; stubs = entry ∷ []; images = words ∷ [] }
+
+pub piece_stands : (words : List ℕ) → length words ≡ 12 → CanStand (piece words)
+unfolding copying
+piece_stands words twelve =
+    let all = length-append words [] in
+    record {
+      start = one_starts;
+      jumps = All-cons CanJump entry [] (record { above = omega arith; below = omega arith; aligned = refl; within = omega arith }) (All-nil CanJump);
+      apart = λ i j d before below. absurd (omega (arith, before, below));
+      spared = All-cons (SparesRest (piece words)) image [] (inr (omega (arith, twelve, all))) (All-nil (SparesRest (piece words)));
+      ends = omega (arith, twelve, all);
     }
 
 -- a job of words and one of bytes, and a fence
@@ -44,7 +69,7 @@ table_is = record { some = omega arith; source = omega arith; target = omega ari
 pair_is : IsJob pair
 pair_is = record { some = omega arith; source = omega arith; target = omega arith; disjoint = inl (omega arith) }
 
-pub two_start : CanStart two
+two_start : CanStart two
 unfolding copying
 two_start =
     record {
@@ -57,3 +82,10 @@ two_start =
       ends = omega arith;
       reach = (omega arith, refl);
     }
+
+pub two_stand : CanStand (alone two)
+two_stand = alone_stands two two_start
+
+-- what can stand there has small sizes
+pub sizes_fit : (p : CodePlan) → CanStand p → start_bytes p.start + bytes_behind p < 4294967296
+sizes_fit p can = let ends = can.ends in omega (arith, ends)

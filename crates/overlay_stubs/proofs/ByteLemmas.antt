@@ -40,7 +40,7 @@ all_outside mem (job ∷ jobs) a out =
     all_outside (copied mem job) jobs a (All-tail (IsOutside a) job jobs out)
     ∙ outside mem job a (All-head (IsOutside a) job jobs out)
 
-in_order : (mem : Memory) (first last : List CopyJob) → all_copied mem (first ++ last) ≡ all_copied (all_copied mem first) last
+pub in_order : (mem : Memory) (first last : List CopyJob) → all_copied mem (first ++ last) ≡ all_copied (all_copied mem first) last
 in_order mem [] last = refl
 in_order mem (job ∷ first) last = in_order (copied mem job) first last
 

@@ -2,5 +2,10 @@ pub mod Copies
 pub mod Turns
 pub mod JobLemmas
 pub mod WordLemmas
-pub mod Starting
 pub mod ByteLemmas
+pub mod Order
+pub mod Places
+pub mod Starting
+pub mod PlainRuns
+pub mod PlanLemmas
+pub mod Alone

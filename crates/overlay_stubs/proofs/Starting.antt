@@ -16,14 +16,14 @@ use Rattle.flat_machine.specs.Mapping.{can_access}
 use Rattle.flat_machine.specs.State.{State}
 use Rattle.flat_machine.specs.Runs.{Steps}
 use Rattle.flat_machine.proofs.Runs.{steps_joined}
-use Rattle.flat_machine.specs.Lines.{with_hart, acted, Line, CodeAt}
+use Rattle.flat_machine.specs.Lines.{with_hart, acted, Line, CodeAt, HoldsAt}
 use Rattle.flat_machine.proofs.Lines.{line_runs, ArePlain, plain_line, plain_pc, plain_mem}
 use Rattle.flat_machine.proofs.LineWords.{code_front, code_behind, words_fetched, accessed}
 use Rattle.overlay_stubs.specs.Jobs.{copying}
-use Rattle.overlay_stubs.specs.Start.{StartPlan, CanStart, fences, clears, start_at, jump_at, start_stub, start_bytes, jobs_run, start_run, all_copied, cleared}
-use Rattle.overlay_stubs.specs.Plans.{AreStartWords}
+use Rattle.overlay_stubs.specs.Start.{StartPlan, CanStart, AreStartWords, fences, clears, start_at, jump_at, start_stub, start_bytes, jobs_run, start_run, all_copied, cleared}
 use Rattle.overlay_stubs.specs.Laws.{IsAtStart, started, StartRuns}
 use Rattle.overlay_stubs.proofs.JobLemmas.{jobs_done}
+use Rattle.overlay_stubs.proofs.Places.{held_front}
 
 -- ---- the end of the stub
 
@@ -143,5 +143,19 @@ module _ (p : StartPlan) (words : List ℕ) (s : State) (can : CanStart p) (are 
       subst (λ n. Steps n s (started p s)) count
       (subst (λ h. Steps (jobs_run p.jobs + (length (fences p.fence_i ++ clears) + 1)) s (with_hart s h)) last all)
 
+-- words that are those of a start stub alone
+pub start_alone_runs : (p : StartPlan) (words : List ℕ) (s : State) → CanStart p → AreStartWords p words → IsAtStart p words s → Steps (start_run p) s (started p s)
+start_alone_runs p words s can are here = runs p words s can are here
+
 pub start_runs_so : StartRuns
-start_runs_so p words s can are here = runs p words s can are here
+start_runs_so p words s can (first, (rest, (are, whole))) here =
+    let count : length words ≡ length first + length rest = ap (λ (xs : List ℕ). length xs) whole ∙ length-append first rest in
+    start_alone_runs p first s can are
+    (record {
+      going = here.going;
+      pc = here.pc;
+      bytes = here.bytes;
+      words = held_front s.hart.mem p.base first rest (subst (λ xs. HoldsAt s.hart.mem p.base xs) whole here.words);
+      fetched = λ i below. here.fetched i (omega (arith, count, below));
+      copied = here.copied;
+    })

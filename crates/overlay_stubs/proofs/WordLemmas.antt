@@ -3,7 +3,7 @@ use Rattle.std.proofs.Common.{◌≡◌, ◌+◌, ◌*◌, Bool, true, false, Li
 use Rattle.std.specs.Prelude.{All}
 use Rattle.std.specs.List.{flat_map}
 use Rattle.std.proofs.lemmas.List.{length-append}
-use Rattle.std.proofs.lemmas.List.Elements.{All-nil, All-cons, All-append}
+use Rattle.std.proofs.lemmas.List.Elements.{All-nil, All-cons, All-head, All-tail, All-append}
 use Rattle.rv_decode.specs.declared.instructions.Instr.TheVariants.{Jal, Branch, Load, Store, OpImm, FenceI}
 use Rattle.rv_decode.specs.declared.instructions.BranchKind.TheVariants.{Bne}
 use Rattle.rv_decode.specs.declared.instructions.LoadKind.TheVariants.{Lw, Lbu}
@@ -11,10 +11,11 @@ use Rattle.rv_decode.specs.declared.instructions.StoreKind.TheVariants.{Sb, Sw}
 use Rattle.rv_decode.specs.declared.instructions.ImmKind.TheVariants.{Addi}
 use Rattle.rv_decode.specs.Table.{IsInRange}
 use Rattle.rv_decode.specs.Sequences.{load_immediate, distance}
-use Rattle.rv_decode.proofs.SequenceLemmas.{immediate_in_range, one_in_range}
+use Rattle.rv_decode.proofs.SequenceLemmas.{immediate_in_range, jump_in_range, one_in_range}
 use Rattle.overlay_stubs.specs.declared.plan.CopyJob.{CopyJob}
 use Rattle.overlay_stubs.specs.Jobs.{copies_words, turn, copying}
 use Rattle.overlay_stubs.specs.Start.{StartPlan, CanStart, fences, clears, before_jump, jump_at, start_stub, start_bytes}
+use Rattle.overlay_stubs.specs.PlainStubs.{PlainStub, CanJump, stub_code}
 use Rattle.overlay_stubs.proofs.JobLemmas.{eleven}
 
 -- ---- the fields of the stub's instructions are in range
@@ -60,6 +61,13 @@ stub_range p can =
     (All-append IsInRange (flat_map copying p.jobs) (fences p.fence_i ++ clears) (all_range p.jobs)
     (All-append IsInRange (fences p.fence_i) clears (fences_range p.fence_i) clears_range))
     (one_in_range (Jal 0 (distance (jump_at p) p.entry)) (omega arith, can.reach))
+
+pub jumps_range : (stubs : List PlainStub) → All CanJump stubs → All IsInRange (flat_map stub_code stubs)
+jumps_range [] can = All-nil IsInRange
+jumps_range (stub ∷ stubs) can =
+    let below = (All-head CanJump stub stubs can).below in
+    All-append IsInRange (stub_code stub) (flat_map stub_code stubs) (jump_in_range stub.temp stub.to (omega (arith, below)))
+    (jumps_range stubs (All-tail CanJump stub stubs can))
 
 -- ---- how many words
 

@@ -1,14 +1,17 @@
--- What the start stub does, on the flat machine.
-use Rattle.std.specs.Prelude.{◌≡◌, ◌⊎◌, ℕ, ◌+◌, ◌*◌, ◌<◌, ◌≤◌, List, ◌∷◌, ◌++◌, length, All}
+-- What the start stub and plain stubs do on the flat machine, and where the parts of the code stand.
+use Rattle.std.specs.Prelude.{◌≡◌, ◌⊎◌, ℕ, ◌+◌, ◌*◌, ◌%◌, ◌<◌, ◌≤◌, List, [], ◌∷◌, ◌++◌, length, slice_index, slice_index_or, All}
 use Rattle.word_bits.specs.Memory.{Memory}
+use Rattle.rv_decode.specs.Acts.{Registers}
+use Rattle.rv_decode.specs.Sequences.{MeanAll}
 use Rattle.board_config.specs.declared.board.Range.{Range}
 use Rattle.flat_machine.specs.declared.events.FlatOutcome.TheVariants.{GoesOn}
 use Rattle.flat_machine.specs.State.{State}
 use Rattle.flat_machine.specs.Runs.{Steps}
-use Rattle.flat_machine.specs.Lines.{AreMapped, HoldsAt}
+use Rattle.flat_machine.specs.Lines.{AreMapped, HoldsAt, IsAtWords, Ran, words_from}
 use Rattle.overlay_stubs.specs.declared.plan.CopyJob.{CopyJob}
-use Rattle.overlay_stubs.specs.Start.{StartPlan, CanStart, start_at, start_run, all_copied, cleared}
-use Rattle.overlay_stubs.specs.Plans.{AreStartWords}
+use Rattle.overlay_stubs.specs.Start.{StartPlan, CanStart, BeginWithStart, start_at, start_bytes, start_run, all_copied, cleared}
+use Rattle.overlay_stubs.specs.PlainStubs.{PlainStub, stub_code, stub_bytes}
+use Rattle.overlay_stubs.specs.Layout.{CodePlan, AreCodeWords, stub_place, stubs_at, images_at, image_places, bytes_behind}
 
 -- both ranges of a job are mapped
 abbrev pub CanCopy : List Range → CopyJob → Type 0
@@ -35,10 +38,10 @@ started p s =
       };
     }
 
--- the start stub does so, in just so many steps
+-- the start stub does so, in just so many steps; any words may stand behind it
 abbrev pub StartRuns : Type 0
 StartRuns =
-    (p : StartPlan) (words : List ℕ) (s : State) → CanStart p → AreStartWords p words →
+    (p : StartPlan) (words : List ℕ) (s : State) → CanStart p → BeginWithStart p words →
     IsAtStart p words s → Steps (start_run p) s (started p s)
 
 -- an address that a job doesn't write
@@ -53,3 +56,39 @@ pub record JobsCopy : Type 0 where
   pub target : (mem : Memory) (first last : List CopyJob) (job : CopyJob) (i : ℕ) → i < job.bytes →
       All (IsOutside (job.from + i)) first → All (IsOutside (job.to + i)) last →
       all_copied mem (first ++ job ∷ last) (job.to + i) ≡ mem (job.from + i)
+
+-- ---- plain stubs
+
+-- the two words of a plain stub run without an access: control is where it goes, and all registers but its own are as
+-- they were
+abbrev pub PlainStubRuns : Type 0
+PlainStubRuns =
+    (stub : PlainStub) (words : List ℕ) (at : ℕ) (s : State) → (stub.temp ≡ 0 → ⊥) → stub.to % 2 ≡ 0 →
+    stub.to < 4294967296 → at % 4 ≡ 0 → at + 4 < 4294967296 → MeanAll words (stub_code stub) → IsAtWords s at words →
+    (regs : Registers) × (Ran s (words_from at 2) regs stub.to
+    × ((k : ℕ) → (k ≡ stub.temp → ⊥) → regs k ≡ s.hart.regs k))
+
+-- ---- places
+
+-- words that mean a stub stand at its place
+abbrev pub StubStands : CodePlan → Memory → PlainStub → Type 0
+StubStands p mem stub =
+    (words : List ℕ) × (MeanAll words (stub_code stub) × HoldsAt mem (stub_place p stub) words)
+
+-- a stub's place is that of a word, between the start stub and the images
+pub record LiesInside (p : CodePlan) (stub : PlainStub) : Type 0 where
+  pub aligned : stub_place p stub % 4 ≡ 0
+  pub from : stubs_at p ≤ stub_place p stub
+  pub ends : stub_place p stub + stub_bytes stub ≤ images_at p
+
+-- where the words of a plan stand in memory, each stub and each image stands at its place. There are as many words as
+-- the parts take
+pub record PartsStand : Type 0 where
+  pub stubs : (p : CodePlan) (words : List ℕ) (mem : Memory) → AreCodeWords p words →
+      HoldsAt mem p.start.base words → All (StubStands p mem) p.stubs
+  pub images : (p : CodePlan) (words : List ℕ) (mem : Memory) (j : ℕ) → AreCodeWords p words →
+      HoldsAt mem p.start.base words → j < length p.images →
+      HoldsAt mem (slice_index (image_places (images_at p) p.images) j) (slice_index_or p.images j [])
+  pub inside : (p : CodePlan) → p.start.base % 4 ≡ 0 → All (LiesInside p) p.stubs
+  pub count : (p : CodePlan) (words : List ℕ) → AreCodeWords p words →
+      4 * length words ≡ 64 + start_bytes p.start + bytes_behind p

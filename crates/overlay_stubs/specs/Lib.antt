@@ -8,5 +8,7 @@ pub use Rattle.flat_machine.specs.Runs
 pub use Rattle.flat_machine.specs.Lines
 pub mod Jobs
 pub mod Start
+pub mod PlainStubs
+pub mod Layout
 pub mod Plans
 pub mod Laws

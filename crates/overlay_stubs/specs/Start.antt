@@ -1,13 +1,13 @@
 -- The start stub: the jobs in order, a fence where one is asked for, the registers cleared, and a
 -- jump to the program's entry. The control words stand before it.
-use Rattle.std.specs.Prelude.{◌≡◌, ℕ, ◌+◌, ◌*◌, ◌%◌, ◌<◌, Bool, true, false, List, [], ◌∷◌, ◌++◌, length, pos, All}
+use Rattle.std.specs.Prelude.{◌≡◌, ℕ, ◌+◌, ◌*◌, ◌%◌, ◌<◌, Bool, true, false, List, [], ◌∷◌, ◌++◌, length, replicate, pos, All}
 use Rattle.std.specs.List.{flat_map}
 use Rattle.word_bits.specs.Memory.{Memory, put}
 use Rattle.rv_decode.specs.declared.instructions.Instr.{Instr}
 use Rattle.rv_decode.specs.declared.instructions.Instr.TheVariants.{Jal, OpImm, FenceI}
 use Rattle.rv_decode.specs.declared.instructions.ImmKind.TheVariants.{Addi}
 use Rattle.rv_decode.specs.Table.{IsEvenWithin}
-use Rattle.rv_decode.specs.Sequences.{distance}
+use Rattle.rv_decode.specs.Sequences.{distance, MeanAll}
 use Rattle.rv_decode.specs.Acts.{Registers}
 use Rattle.overlay_stubs.specs.declared.plan.CopyJob.{CopyJob}
 use Rattle.overlay_stubs.specs.Jobs.{copying, copied, job_run, AreDisjoint, IsJob}
@@ -46,7 +46,17 @@ jump_at p = start_at p + 4 * length (before_jump p)
 abbrev pub start_stub : StartPlan → List Instr
 start_stub p = before_jump p ++ Jal 0 (distance (jump_at p) p.entry) ∷ []
 
--- the bytes of the stub, and the address behind it
+-- the sixteen control words are 0, and the words behind them mean the stub
+abbrev pub AreStartWords : StartPlan → List ℕ → Type 0
+AreStartWords p words =
+    (stub : List ℕ) × ((words ≡ replicate 16 0 ++ stub) × MeanAll stub (start_stub p))
+
+-- such words, with any words behind them
+abbrev pub BeginWithStart : StartPlan → List ℕ → Type 0
+BeginWithStart p words =
+    (first : List ℕ) × ((rest : List ℕ) × (AreStartWords p first × (words ≡ first ++ rest)))
+
+-- the bytes of the stub
 abbrev pub start_bytes : StartPlan → ℕ
 start_bytes p = 4 * length (start_stub p)
 

@@ -1,11 +1,14 @@
-//! The code of the patch range: control words and the start stub, whose jobs copy what was moved.
+//! The code of the patch range: control words, the start stub, whose jobs copy what was moved, plain stubs, which jump to
+//! copied code, and images of it.
 #![tactic(auto)]
 
 mod code;
+mod images;
 mod instructions;
+mod jumps;
 mod laws;
 mod plan;
 
 pub use code::{sizes, stubs};
-pub use laws::{jobs_copy, start_runs};
+pub use laws::{jobs_copy, parts_stand, plain_stub_runs, start_runs};
 pub use plan::{Body, CopyJob, Stub, StubCode, StubPlan, StubSizes};
