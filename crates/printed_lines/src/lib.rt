@@ -5,6 +5,7 @@
 
 mod endings;
 mod moved;
+mod moved_code;
 mod parts;
 mod profiles;
 mod reports;
@@ -12,6 +13,7 @@ mod shown;
 
 pub use endings::ending_line;
 pub use moved::push_moved_lines;
+pub use moved_code::{MovedCode, push_code_lines};
 pub use profiles::profile_lines;
 pub use reports::choice_report;
 pub use shown::show_lines;

@@ -42,7 +42,7 @@ use Rattle.relink_core.proofs.WritableLemmas.{SitesAreCode, entry_itself, entry_
 rebuilt : (w : ℕ) → w < 4294967296 → word_of (byte_of w 0) (byte_of w 1) (byte_of w 2) (byte_of w 3) ≡ w
 rebuilt w small = omega (arith, small)
 
-byte_in_word : (w i : ℕ) → i < 4 → slice_index (word_bytes w) i ≡ byte_of w i
+pub byte_in_word : (w i : ℕ) → i < 4 → slice_index (word_bytes w) i ≡ byte_of w i
 byte_in_word w zero below = refl
 byte_in_word w (suc zero) below = refl
 byte_in_word w (suc (suc zero)) below = refl
@@ -65,7 +65,7 @@ word_from mem a w fits small bytes =
     whole ∙ rebuilt w small
 
 -- byte `i` of word `k` of some words
-byte_in_words : (words : List ℕ) (k i : ℕ) → k < length words → i < 4 → slice_index (words_bytes words) (4 * k + i) ≡ byte_of (slice_index words k) i
+pub byte_in_words : (words : List ℕ) (k i : ℕ) → k < length words → i < 4 → slice_index (words_bytes words) (4 * k + i) ≡ byte_of (slice_index words k) i
 byte_in_words [] k i below inside = absurd (omega (arith, below))
 byte_in_words (w ∷ ws) zero i below inside =
     let here : 0 + i ≡ i = omega arith in
@@ -84,11 +84,11 @@ byte_in_words (w ∷ ws) (suc k) i below inside =
 
 -- ---- disjoint addresses
 
-off_word : (x a : ℕ) → IsOffWord a x → within x 4 a ≡ false
+pub off_word : (x a : ℕ) → IsOffWord a x → within x 4 a ≡ false
 off_word x a (inl before) = grind (arith, nat_tests, before)
 off_word x a (inr behind) = grind (arith, nat_tests, behind)
 
-off_patch : (base size a n : ℕ) → in_range (record { base = base; size = size }) a ≡ false → n ≤ size → within base n a ≡ false
+pub off_patch : (base size a n : ℕ) → in_range (record { base = base; size = size }) a ≡ false → n ≤ size → within base n a ≡ false
 off_patch base size a n off part = grind (arith, nat_tests, off, part)
 
 -- ---- the memory of what is written

@@ -16,6 +16,7 @@ use Rattle.elf_reader.specs.Loaded.{section_at, segment_at, is_loaded, overlaps_
 use Rattle.elf_reader.proofs.SegmentLemmas.{none_of_headers, load_segments_disjoint}
 use Rattle.elf_reader.proofs.LoadedLemmas.{nth_segment, HasAddress, only_segment, load_segments_placed, loaded_found, loaded_below, section_is}
 use Rattle.loaded_file.specs.Code.{is_code_word}
+use Rattle.loaded_file.specs.Ranges.{is_executable}
 use Rattle.loaded_file.specs.Records.{reloc_at}
 use Rattle.loaded_file.proofs.WordLemmas.{lies_from, lies_to}
 use Rattle.elf_writer.specs.declared.parts.Patch.{Patch}
@@ -54,22 +55,38 @@ range_kind v k range =
     let front = both (is_loaded v k && (s.kind == 1)) (bit_of s.flags 2) range in
     eqb-true s.kind 1 (both (is_loaded v k) (s.kind == 1) front.0).1
 
-pub code_held : (v : PlainView) (a : ℕ) → is_code_word v a ≡ true → (k : ℕ) × HoldsWord v a k
-code_held v a code =
-    let range = code_range v a code in (
+-- one of code stands in a section that is executable
+pub record HoldsCode (v : PlainView) (a k : ℕ) : Type 0 where
+  pub word : HoldsWord v a k
+  pub executable : is_executable (section_at v k) ≡ true
+
+pub code_kept : (v : PlainView) (a : ℕ) → is_code_word v a ≡ true → (k : ℕ) × HoldsCode v a k
+code_kept v a code =
+    let range = code_range v a code in
+    let s = section_at v range.0 in (
       range.0,
       record {
-        below = range.1.below;
-        loaded = range.1.loaded;
-        kind = range_kind v range.0 range.1.range;
-        from = range.1.from;
-        to = range.1.to;
+        word = record {
+          below = range.1.below;
+          loaded = range.1.loaded;
+          kind = range_kind v range.0 range.1.range;
+          from = range.1.from;
+          to = range.1.to;
+        };
+        executable = (both (is_loaded v range.0 && (s.kind == 1)) (bit_of s.flags 2) range.1.range).1;
       },
     )
 
--- a word of data of a graph
-pub data_held : (v : PlainView) (board : Board) (g : Graph) (k : ℕ) → IsGraph v board g → k < length g.data_words.items → (j : ℕ) × HoldsWord v (data_word_at g k).at j
-data_held v board g k is below =
+pub code_held : (v : PlainView) (a : ℕ) → is_code_word v a ≡ true → (k : ℕ) × HoldsWord v a k
+code_held v a code = let kept = code_kept v a code in (kept.0, kept.1.word)
+
+-- a word of data of a graph stands in a section that isn't
+pub record HoldsNoCode (v : PlainView) (a k : ℕ) : Type 0 where
+  pub word : HoldsWord v a k
+  pub executable : is_executable (section_at v k) ≡ false
+
+pub data_kept : (v : PlainView) (board : Board) (g : Graph) (k : ℕ) → IsGraph v board g → k < length g.data_words.items → (j : ℕ) × HoldsNoCode v (data_word_at g k).at j
+data_kept v board g k is below =
     let d = data_word_at g k in
     let given = sym (is.data_words.exact d) ∙ list_any_at (same_word d) g.data_words.items k no_word below (word_itself d) in
     let parts = both (nat_lt d.object (length g.objects.items)) (any_below (gives_word v g.objects.items d) (length v.relocs)) given in
@@ -89,20 +106,26 @@ data_held v board g k is below =
     let word = rewritable_word v board home n j (object_moves v board g d.object is.objects inside) means in
     let there = eqb-true r.at d.at one.0 in
     let held = data_here v r.at word.holds.0 word.holds.1 in
-    (word.holds.0, subst (λ (a : ℕ). HoldsWord v a word.holds.0) there held)
+    (word.holds.0, subst (λ (a : ℕ). HoldsNoCode v a word.holds.0) there held)
   where
     word_kind : (v : PlainView) (j : ℕ) → is_rewritable_word v j (reloc_at v j) ≡ true → (reloc_at v j).kind ≡ 1
     word_kind v j sound = grind (arith, nat_tests, sound)
 
-    data_here : (v : PlainView) (a k : ℕ) → HoldsData v a k → HoldsWord v a k
+    data_here : (v : PlainView) (a k : ℕ) → HoldsData v a k → HoldsNoCode v a k
     data_here v a k holds =
         record {
-          below = holds.below;
-          loaded = holds.loaded;
-          kind = holds.kind;
-          from = lies_from (section_at v k).addr (section_at v k).size a 4 holds.lies;
-          to = lies_to (section_at v k).addr (section_at v k).size a 4 holds.lies;
+          word = record {
+            below = holds.below;
+            loaded = holds.loaded;
+            kind = holds.kind;
+            from = lies_from (section_at v k).addr (section_at v k).size a 4 holds.lies;
+            to = lies_to (section_at v k).addr (section_at v k).size a 4 holds.lies;
+          };
+          executable = holds.no_code;
         }
+
+pub data_held : (v : PlainView) (board : Board) (g : Graph) (k : ℕ) → IsGraph v board g → k < length g.data_words.items → (j : ℕ) × HoldsWord v (data_word_at g k).at j
+data_held v board g k is below = let kept = data_kept v board g k is below in (kept.0, kept.1.word)
 
 -- ---- where they stand in the file
 
@@ -207,8 +230,9 @@ off_other v k j g s other kind off =
     last_false : (a b c : Bool) → a ≡ true → b ≡ true → a && b && c ≡ false → c ≡ false
     last_false a b c first second none = sym (rw (first, second) refl) ∙ none
 
-pub stand_disjoint : (v : PlainView) (p q : Patch) (k j a b : ℕ) → k < length v.sections → j < length v.sections → StandsAt v p k a → StandsAt v q j b → a + 4 ≤ b → ArePatchesDisjoint p q
-stand_disjoint v p q k j a b below_k below_j one other order =
+-- in different sections, wherever they are
+pub stand_apart : (v : PlainView) (p q : Patch) (k j a b : ℕ) → j < length v.sections → (k ≡ j → ⊥) → StandsAt v p k a → StandsAt v q j b → ArePatchesDisjoint p q
+stand_apart v p q k j a b below_j differ one other =
     let from = one.from in
     let to = one.to in
     let place = one.place in
@@ -217,23 +241,55 @@ stand_disjoint v p q k j a b below_k below_j one other order =
     let place_other = other.place in
     let s = section_at v k in
     let t = section_at v j in
-    elim (cases_eq k j) [
-      | inl same ↦
-          let addr : s.addr ≡ t.addr = ap (λ (n : ℕ). (section_at v n).addr) same in
-          let offset : s.offset ≡ t.offset = ap (λ (n : ℕ). (section_at v n).offset) same in
-          inl (omega (arith, place, place_other, from, from_other, order, addr, offset))
-      | inr differ ↦
-          let found = loaded_found v k one.loaded in
-          elim found.1.rest [
-            | inr zeroed ↦
-                let wrong = zeroed.kind in
-                let right = one.kind in
-                absurd (omega (arith, wrong, right))
-            | inl filled ↦
-                let off = off_other v k j found.0 s differ other.kind (filled.own.section j below_j) in
-                elim (ranges_disjoint s.offset s.size t.offset t.size off (omega (arith, from, to)) (omega (arith, from_other, to_other))) [
-                  | inl before ↦ inl (omega (arith, before, place, place_other, from, from_other, to, to_other))
-                  | inr behind ↦ inr (omega (arith, behind, place, place_other, from, from_other, to, to_other))
-                ]
+    let found = loaded_found v k one.loaded in
+    elim found.1.rest [
+      | inr zeroed ↦
+          let wrong = zeroed.kind in
+          let right = one.kind in
+          absurd (omega (arith, wrong, right))
+      | inl filled ↦
+          let off = off_other v k j found.0 s differ other.kind (filled.own.section j below_j) in
+          elim (ranges_disjoint s.offset s.size t.offset t.size off (omega (arith, from, to)) (omega (arith, from_other, to_other))) [
+            | inl before ↦ inl (omega (arith, before, place, place_other, from, from_other, to, to_other))
+            | inr behind ↦ inr (omega (arith, behind, place, place_other, from, from_other, to, to_other))
           ]
     ]
+
+pub stand_disjoint : (v : PlainView) (p q : Patch) (k j a b : ℕ) → k < length v.sections → j < length v.sections → StandsAt v p k a → StandsAt v q j b → a + 4 ≤ b → ArePatchesDisjoint p q
+stand_disjoint v p q k j a b below_k below_j one other order =
+    let from = one.from in
+    let to = one.to in
+    let place = one.place in
+    let from_other = other.from in
+    let to_other = other.to in
+    let place_other = other.place in
+    elim (cases_eq k j) [
+      | inl same ↦
+          let addr : (section_at v k).addr ≡ (section_at v j).addr = ap (λ (n : ℕ). (section_at v n).addr) same in
+          let offset : (section_at v k).offset ≡ (section_at v j).offset = ap (λ (n : ℕ). (section_at v n).offset) same in
+          inl (omega (arith, place, place_other, from, from_other, order, addr, offset))
+      | inr differ ↦ stand_apart v p q k j a b below_j differ one other
+    ]
+
+-- so a word stands in one section
+pub one_section : (file : List ℕ) (a k j : ℕ) → first_fault file ≡ None → HoldsWord (view_in file) a k → HoldsWord (view_in file) a j → k ≡ j
+one_section file a k j none one other =
+    let v = view_in file in
+    let e : ℕ × ℕ = (a, 0) in
+    elim (cases_eq k j) [
+      | inl same ↦ same
+      | inr differ ↦
+          let apart = stand_apart v (patch_of v e) (patch_of v e) k j a a other.below differ (patch_stands file e k none one) (patch_stands file e j none other) in
+          absurd (elim apart [
+            | inl before ↦ omega (arith, before)
+            | inr behind ↦ omega (arith, behind)
+          ])
+    ]
+
+-- words of code and of data stand in different sections
+pub sections_differ : (v : PlainView) (a b k j : ℕ) → HoldsCode v a k → HoldsNoCode v b j → k ≡ j → ⊥
+sections_differ v a b k j code data_there same =
+    let on = code.executable in
+    let off = data_there.executable in
+    let moved : is_executable (section_at v k) ≡ false = subst (λ (n : ℕ). is_executable (section_at v n) ≡ false) (sym same) off in
+    absurd (cc (on, moved))

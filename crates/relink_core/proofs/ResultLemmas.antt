@@ -17,8 +17,7 @@ use Rattle.elf_writer.specs.Conditions.{IsAddable}
 use Rattle.board_config.specs.declared.board.Board.{Board}
 use Rattle.loaded_file.specs.Code.{image_word}
 use Rattle.object_graph.specs.declared.parts.Graph.{Graph}
-use Rattle.overlay_stubs.specs.Start.{StartPlan, CanStart, start_at}
-use Rattle.overlay_stubs.specs.Plans.{AreStartWords}
+use Rattle.overlay_stubs.specs.Start.{StartPlan, CanStart, start_at, AreStartWords}
 use Rattle.result_setups.specs.HomeLaws.{IsAccepted}
 use Rattle.result_setups.proofs.Words.{code_below}
 use Rattle.relocator.specs.declared.places.Places.{Places}

@@ -116,12 +116,14 @@ module _ (board : Board) (g : Graph) (c : Code) (t : RegionTable) (moves : List 
       })
       (λ no. more_none n vars (record { each = before; ordered = earlier.ordered }))
 
-  pub stated_side : IsDataSide board g blocks (stated scene layout moves).off
+  pub stated_side : IsDataSide board g blocks (stated scene layout [] moves).off
   stated_side =
       let count = length g.objects.items in
       let same = count_all count in
-      let is : IsKept count (kept_below (all count) (length (all count))) =
+      let objects : IsKept count (kept_below (all count) (length (all count))) =
       subst (λ (n : ℕ). IsKept count (kept_below (all count) n)) (sym same) (kept count count (omega arith)) in
+      let is : IsKept count (kept_below (all count ++ []) (length (all count ++ []))) =
+      subst (λ (vs : List PlainFullVar). IsKept count (kept_below vs (length vs))) (sym (append-nil (all count))) objects in
       record {
         rows = refl;
         vars = λ k d below.
@@ -132,14 +134,14 @@ module _ (board : Board) (g : Graph) (c : Code) (t : RegionTable) (moves : List 
 
   -- ---- its choices
 
-  pub stated_choice : (choice : PlainChoice) → IsFeasible (stated scene layout moves) choice → IsDataChoice board g (stated scene layout moves) choice
+  pub stated_choice : (choice : PlainChoice) → IsFeasible (stated scene layout [] moves) choice → IsDataChoice board g (stated scene layout [] moves) choice
   stated_choice choice feasible =
       record { blocks = blocks; side = stated_side; off = off_alone choice feasible; feasible = feasible }
     where
-      off_alone : (choice : PlainChoice) → IsFeasible (stated scene layout moves) choice → choice.on ≡ false
+      off_alone : (choice : PlainChoice) → IsFeasible (stated scene layout [] moves) choice → choice.on ≡ false
       off_alone choice feasible =
           elim (cases_Bool choice.on) [
             | inl on ↦
-                absurd (subst (λ (b : Bool). IsSomeAnd (side_for (stated scene layout moves) b) (λ side. Fits side choice.take)) on feasible)
+                absurd (subst (λ (b : Bool). IsSomeAnd (side_for (stated scene layout [] moves) b) (λ side. Fits side choice.take)) on feasible)
             | inr off ↦ off
           ]

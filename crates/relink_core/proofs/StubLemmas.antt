@@ -43,7 +43,7 @@ use Rattle.relink_core.specs.Making.{start_place, AreOfGraph, ArePlacesOf, CanMo
 -- ---- ranges
 
 -- what lies in a range that another one shares no address with is disjoint from that
-disjoint_of : (home size base span to : ℕ) → 0 < size → base ≤ to → to + size ≤ base + span → ((i j : ℕ) → i < size → j < span → home + i ≡ base + j → ⊥) → AreDisjoint home size to size
+pub disjoint_of : (home size base span to : ℕ) → 0 < size → base ≤ to → to + size ≤ base + span → ((i j : ℕ) → i < size → j < span → home + i ≡ base + j → ⊥) → AreDisjoint home size to size
 disjoint_of home size base span to some from end off =
     elim (cases_lt base (home + size)) [
       | inr before ↦ inl (omega (arith, before, from))
@@ -207,7 +207,7 @@ stub_ends board p fence =
     let same = ap least_patch fence in
     omega (arith, bytes, least, same)
 
-jump_place : (p : StartPlan) → jump_at p + 4 ≡ start_at p + start_bytes p
+pub jump_place : (p : StartPlan) → jump_at p + 4 ≡ start_at p + start_bytes p
 jump_place p =
     let count = length-append (before_jump p) (Jal 0 (distance (jump_at p) p.entry) ∷ []) in
     omega (arith, count)

@@ -5,4 +5,7 @@ pub mod Findings
 pub mod Realises
 pub mod Choices
 pub mod Making
+pub mod Static
+pub mod Placed
+pub mod Segments
 pub mod Statements

@@ -12,8 +12,7 @@ use Rattle.board_config.specs.declared.board.Board.{Board}
 use Rattle.loaded_file.specs.Ranges.{has_range}
 use Rattle.object_graph.specs.declared.parts.Graph.{Graph}
 use Rattle.cell_values.specs.Objects.{object_of, objects_of}
-use Rattle.overlay_stubs.specs.Start.{StartPlan, start_at}
-use Rattle.overlay_stubs.specs.Plans.{AreStartWords}
+use Rattle.overlay_stubs.specs.Start.{StartPlan, start_at, AreStartWords}
 use Rattle.placement_programme.specs.declared.variables.VarName.{VarName}
 use Rattle.placement_programme.specs.declared.variables.VarName.TheVariants.{StaticData, StaticCode, OverlayData, OverlayCode}
 use Rattle.placement_programme.specs.Plain.{PlainVar, PlainProgramme, PlainChoice}

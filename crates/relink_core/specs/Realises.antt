@@ -13,8 +13,7 @@ use Rattle.board_config.specs.declared.board.Board.{Board}
 use Rattle.loaded_file.specs.Ranges.{is_symbol_of}
 use Rattle.object_graph.specs.declared.parts.Graph.{Graph}
 use Rattle.cell_values.specs.Objects.{object_of, datum_of}
-use Rattle.overlay_stubs.specs.Start.{start_at}
-use Rattle.overlay_stubs.specs.Plans.{AreStartWords}
+use Rattle.overlay_stubs.specs.Start.{start_at, AreStartWords}
 use Rattle.placement_programme.specs.declared.variables.VarName.{VarName}
 use Rattle.placement_programme.specs.declared.variables.VarName.TheVariants.{StaticData}
 use Rattle.placement_programme.specs.Rows.{data_span}

@@ -1,5 +1,5 @@
 -- What a run states can be realised.
-use Rattle.std.specs.Prelude.{List}
+use Rattle.std.specs.Prelude.{List, []}
 use Rattle.board_config.specs.declared.board.Board.{Board}
 use Rattle.object_graph.specs.declared.parts.Graph.{Graph}
 use Rattle.code_blocks.specs.declared.parts.Code.{Code}
@@ -16,5 +16,5 @@ use Rattle.relink_core.specs.Choices.{IsDataChoice}
 abbrev pub StatedIsRealisable : Type 0
 StatedIsRealisable =
     (board : Board) (g : Graph) (code : Code) (t : RegionTable) (moves : List Transition) (c : PlainChoice)
-    → IsFeasible (stated (scene_of g code t board) (layout_of g code t board) moves) c
-    → IsDataChoice board g (stated (scene_of g code t board) (layout_of g code t board) moves) c
+    → IsFeasible (stated (scene_of g code t board) (layout_of g code t board) [] moves) c
+    → IsDataChoice board g (stated (scene_of g code t board) (layout_of g code t board) [] moves) c

@@ -228,7 +228,7 @@ fn check_patch(board: &Board) -> Result<(), AnalyseFault>
 }
 
 /// How many bytes the control words and the start stub take at least.
-fn least_patch(fence_i: bool) -> u32
+pub(crate) fn least_patch(fence_i: bool) -> u32
     ensures { result ≡ least_patch fence_i }
 {
     if fence_i {

@@ -4,6 +4,8 @@
 mod analysis;
 mod fault;
 mod laws;
+mod naming;
+mod patch_code;
 mod patching;
 mod realising;
 mod starting;

@@ -4,8 +4,9 @@ ghost use Rattle.elf_reader.specs.File.{plain_view};
 ghost use Rattle.elf_writer.specs.Pieces.{words_bytes};
 ghost use Rattle.elf_writer.specs.Parts.{NewSegment, new_segment};
 ghost use Rattle.cell_values.specs.Objects.{objects_of};
-ghost use Rattle.overlay_stubs.specs.Start.{CanStart, StartPlan, start_at};
-ghost use Rattle.overlay_stubs.specs.Plans.{start_of, AreStartWords, IsStartAlone};
+ghost use Rattle.overlay_stubs.specs.Start.{CanStart, StartPlan, AreStartWords, start_at};
+ghost use Rattle.overlay_stubs.specs.Layout.{alone};
+ghost use Rattle.overlay_stubs.specs.Plans.{code_plan, IsPlainPlan};
 ghost use Rattle.result_setups.specs.Moved.{start_job};
 ghost use Rattle.relink_core.specs.Making.{start_place, start_plan_of, HasStarts, AreOfGraph, IsStartSegment};
 
@@ -33,7 +34,7 @@ fn start_job(graph: &Graph, places: &Places, object: u32) -> CopyJob
 }
 
 /// The jobs of objects, in order.
-fn start_jobs(
+pub(crate) fn start_jobs(
     alloc: Global,
     graph: &Graph,
     places: &Places,
@@ -51,7 +52,7 @@ fn start_jobs(
 }
 
 /// The bytes of words, each least byte first.
-fn bytes_of(alloc: Global, words: &[u32]) -> Result<Vec<u8>, AllocError>
+pub(crate) fn bytes_of(alloc: Global, words: &[u32]) -> Result<Vec<u8>, AllocError>
     ensures bytes { IfOk result (λ bytes. bytes.items ≡ words_bytes words.now) }
     ensures small { All (λ w. w < 4294967296) words.now }
 {
@@ -71,8 +72,8 @@ fn start_plan(
 ) -> Result<StubPlan, AllocError>
     requires listed { AreOfGraph graph.now objects.now }
     requires starts { HasStarts graph.now places.now }
-    ensures start { IfOk result (λ plan. start_of plan ≡ start_plan_of (plain_view view.now) board.now graph.now places.now objects.now) }
-    ensures alone { IfOk result IsStartAlone }
+    ensures start { IfOk result (λ plan. code_plan plan ≡ alone (start_plan_of (plain_view view.now) board.now graph.now places.now objects.now)) }
+    ensures plain { IfOk result IsPlainPlan }
 {
     let start = start_jobs(alloc, graph, places, objects)?;
     Ok(StubPlan {
@@ -90,9 +91,10 @@ fn start_plan(
 
 /// The segment of a plan of a start stub alone.
 fn segment_of(alloc: Global, plan: &StubPlan) -> Result<SegmentBytes, AllocError>
-    requires start { CanStart (start_of plan.now) }
-    requires alone { IsStartAlone plan.now }
-    ensures { IfOk result (λ s. IsStartSegment (start_of plan.now) (new_segment s)) }
+    requires plain { IsPlainPlan plan.now }
+    requires alone { code_plan plan.now ≡ alone (code_plan plan.now).start }
+    requires start { CanStart (code_plan plan.now).start }
+    ensures { IfOk result (λ s. IsStartSegment (code_plan plan.now).start (new_segment s)) }
 {
     let code = stubs(alloc, plan)?;
     let bytes = bytes_of(alloc, &code.words)?;

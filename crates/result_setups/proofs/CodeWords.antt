@@ -49,7 +49,7 @@ module _ (v : PlainView) (home n offset u : ℕ) where
   code_by (by_low j i low) = code_there j low.at (site_code v home n j low.below low.site)
 
 -- an address in an aligned word
-in_word : (a u : ℕ) → u % 4 ≡ 0 → u ≤ a → a < u + 4 → a / 4 * 4 ≡ u
+pub in_word : (a u : ℕ) → u % 4 ≡ 0 → u ≤ a → a < u + 4 → a / 4 * 4 ≡ u
 in_word a u even from to = omega (arith, even, from, to)
 
 pub off_or_in : (a at : ℕ) → (at ≤ a → a < at + 4 → ⊥) → IsOffWord a at
@@ -70,18 +70,25 @@ HasSiteWord v w place u t =
 some_same : (t t' : Target) → Some t ≡ Some t' → t ≡ t'
 some_same t t' is = cc
 
-site_word : (v w : PlainView) (place : Places) (sites : List Site) (u : ℕ) (t : Target) → All (IsMovedSite v w place) sites → target_at sites u ≡ Some t → HasSiteWord v w place u t
-site_word v w place [] u t all found = absurd (cc)
-site_word v w place (s ∷ sites) u t all found =
+-- it is found where it is the word of each site of the list at the address
+pub listed_word : (place : Places) (sites : List Site) (u : ℕ) (t : Target) (old new : ℕ) → All (λ (s : Site). s.at ≡ u → IsSiteWord s.kind (address_word place s.object s.offset) old new) sites → target_at sites u ≡ Some t → (part : SiteKind) × IsSiteWord part (address_word place t.object t.offset) old new
+listed_word place [] u t old new all found = absurd (cc)
+listed_word place (s ∷ sites) u t old new all found =
     cond_both (s.at == u) (Some (record { object = s.object; offset = s.offset })) (target_at sites u)
-    (λ (o : Option Target). o ≡ Some t → HasSiteWord v w place u t)
+    (λ (o : Option Target). o ≡ Some t → (part : SiteKind) × IsSiteWord part (address_word place t.object t.offset) old new)
     (λ here is.
     let same = some_same (record { object = s.object; offset = s.offset }) t is in
-    subst (λ (x : Target). HasSiteWord v w place u x) same
-    (subst (λ (x : ℕ). HasSiteWord v w place x (record { object = s.object; offset = s.offset })) (eqb-true s.at u here)
-    (s.kind, All-head (IsMovedSite v w place) s sites all)))
-    (λ other is. site_word v w place sites u t (All-tail (IsMovedSite v w place) s sites all) is)
+    subst (λ (x : Target). (part : SiteKind) × IsSiteWord part (address_word place x.object x.offset) old new) same
+    (s.kind, All-head (λ (q : Site). q.at ≡ u → IsSiteWord q.kind (address_word place q.object q.offset) old new) s sites all (eqb-true s.at u here)))
+    (λ other is. listed_word place sites u t old new (All-tail (λ (q : Site). q.at ≡ u → IsSiteWord q.kind (address_word place q.object q.offset) old new) s sites all) is)
     found
+
+pub site_word : (v w : PlainView) (place : Places) (sites : List Site) (u : ℕ) (t : Target) → All (λ (s : Site). s.at ≡ u → IsMovedSite v w place s) sites → target_at sites u ≡ Some t → HasSiteWord v w place u t
+site_word v w place sites u t all found =
+    listed_word place sites u t (image_word v u) (image_word w u)
+    (λ k d below same.
+    let s : Site = slice_index_or sites k d in
+    subst (λ (a : ℕ). IsSiteWord s.kind (address_word place s.object s.offset) (image_word v a) (image_word w a)) same (all k d below same)) found
 
 module _ (file : List ℕ) (board : Board) (g : Graph) (accepted : IsAccepted file board g) where
   abbrev v : PlainView
@@ -110,7 +117,7 @@ module _ (file : List ℕ) (board : Board) (g : Graph) (accepted : IsAccepted fi
       both_ways (is_code_byte v a) none here)
 
   -- one in a word of code that is no site
-  off_others : (u a : ℕ) → is_code_word v u ≡ true → target_at g.sites.items u ≡ None → u ≤ a → a < u + 4 → All (λ (s : Site). IsOffWord a s.at) g.sites.items
+  pub off_others : (u a : ℕ) → is_code_word v u ≡ true → target_at g.sites.items u ≡ None → u ≤ a → a < u + 4 → All (λ (s : Site). IsOffWord a s.at) g.sites.items
   off_others u a code none above under k d below =
       let s : Site = slice_index_or g.sites.items k d in
       let target = listed_target k d below in
@@ -130,7 +137,7 @@ module _ (file : List ℕ) (board : Board) (g : Graph) (accepted : IsAccepted fi
   disjoint_off : (a u at : ℕ) → ranges_overlap at 4 u 4 ≡ false → u ≤ a → a < u + 4 → at ≤ a → a < at + 4 → ⊥
   disjoint_off a u at disjoint above under from to = both_ways (ranges_overlap at 4 u 4) disjoint (grind (arith, nat_tests, above, under, from, to))
 
-  off_words : (u a : ℕ) → is_code_word v u ≡ true → u ≤ a → a < u + 4 → All (λ (d : DataWord). IsOffWord a d.at) g.data_words.items
+  pub off_words : (u a : ℕ) → is_code_word v u ≡ true → u ≤ a → a < u + 4 → All (λ (d : DataWord). IsOffWord a d.at) g.data_words.items
   off_words u a code above under k e below =
       let d : DataWord = slice_index_or g.data_words.items k e in
       let given = word_given file board g accepted d k e below refl in
@@ -177,4 +184,4 @@ module _ (file : List ℕ) (board : Board) (g : Graph) (accepted : IsAccepted fi
 
     -- the word at a site
     pub moved_word : (u : ℕ) (t : Target) → target_at g.sites.items u ≡ Some t → HasSiteWord v w pl.place u t
-    moved_word u t at = site_word v w pl.place g.sites.items u t is.sites at
+    moved_word u t at = site_word v w pl.place g.sites.items u t (λ k d below same. is.sites k d below) at

@@ -29,13 +29,13 @@ use Rattle.result_setups.proofs.HomeStart.{alike_at_start, entry_unit}
 use Rattle.result_setups.proofs.Making.{site_made}
 
 -- the two words of a call
-record IsCall (first second : ℕ) : Type 0 where
+pub record IsCall (first second : ℕ) : Type 0 where
   pub auipc : Means first (Auipc (rd_of first) (u_immediate first))
   pub jalr : Means second (Jalr (rd_of second) (rd_of first) (i_immediate second))
   pub based : 0 < rd_of first
   pub linked : (rd_of second ≡ rd_of first) ⊎ (rd_of second ≡ 0)
 
-call_words : (first second : ℕ) → is_auipc first && is_jalr second && links first && (rs1_of second == rd_of first) && ((rd_of second == rd_of first) || (rd_of second == 0)) ≡ true → IsCall first second
+pub call_words : (first second : ℕ) → is_auipc first && is_jalr second && links first && (rs1_of second == rd_of first) && ((rd_of second == rd_of first) || (rd_of second == 0)) ≡ true → IsCall first second
 call_words first second words =
     let base = rs1_of second == rd_of first in
     let link = (rd_of second == rd_of first) || (rd_of second == 0) in

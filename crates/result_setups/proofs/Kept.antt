@@ -1,29 +1,25 @@
 -- A result in which objects are moved keeps the meaning of its program.
-use Rattle.std.proofs.Common.{ℕ, ◌+◌, ◌*◌, ◌≤◌, List, slice_index_or, refl, sym, subst, arith}
-use Rattle.std.specs.Prelude.{All}
+use Rattle.std.proofs.Common.{ℕ, ◌+◌, ◌*◌, ◌≤◌, List, refl, sym, subst, arith}
 use Rattle.elf_reader.specs.File.{view_in}
 use Rattle.board_config.specs.declared.board.Board.{Board}
-use Rattle.loaded_file.specs.Records.{symbol_at}
-use Rattle.loaded_file.proofs.RangeLemmas.{byte_range_of}
 use Rattle.object_graph.specs.declared.parts.Graph.{Graph}
-use Rattle.object_graph.proofs.MovableLemmas.{movable_parts}
 use Rattle.overlay_stubs.specs.Start.{StartPlan, jobs_run, start_run}
-use Rattle.cell_values.specs.Objects.{object_of, objects_of}
+use Rattle.cell_values.specs.Objects.{objects_of}
 use Rattle.object_machine.specs.Program.{Program}
 use Rattle.object_machine.specs.State.{SourceState}
 use Rattle.object_machine.specs.Runs.{Steps}
 use Rattle.simulation.specs.Laws.{IsUnit, OfBlock, ReachedBy, Behind}
+use Rattle.simulation.specs.Unnamed.{unnamed}
 use Rattle.simulation.proofs.Runs.{keeps_behind}
+use Rattle.simulation.proofs.Resets.{moved_runs_at_home}
 use Rattle.result_setups.specs.HomeLaws.{IsAccepted, program_in, source_start, file_start}
-use Rattle.cell_values.proofs.GraphObjects.{object_moves}
 use Rattle.result_setups.proofs.Single.{one_run}
 use Rattle.result_setups.proofs.HomeStart.{entry_unit}
 use Rattle.result_setups.specs.Placing.{Placing, IsPlacing}
-use Rattle.result_setups.specs.Moved.{start_jobs, start_plan, unnamed}
+use Rattle.result_setups.specs.Moved.{start_jobs, start_plan}
 use Rattle.result_setups.specs.MovedLaws.{IsMoved, setup_of, most_steps, MovedFileKeeps}
-use Rattle.result_setups.proofs.Bounds.{HasBytes, jobs_short, start_short}
-use Rattle.result_setups.proofs.Runs.{keeps_steps}
-use Rattle.result_setups.proofs.MovedSound.{sound_moved}
+use Rattle.result_setups.proofs.Bounds.{jobs_short, start_short}
+use Rattle.result_setups.proofs.MovedSound.{sound_moved, taken_have}
 use Rattle.result_setups.proofs.MovedStart.{start_leads}
 use Rattle.result_setups.proofs.MovedUnits.{units_moved}
 
@@ -33,20 +29,9 @@ unnamed_unit p _ (ReachedBy u reached) = ReachedBy u reached
 unnamed_unit p _ (Behind u unit single falls) = Behind u (unnamed_unit p u unit) single falls
 
 module _ (file : List ℕ) (board : Board) (g : Graph) (pl : Placing) (accepted : IsAccepted file board g) (placing : IsPlacing board g pl) where
-  -- the objects of a graph have bytes
-  taken_have : All (HasBytes (objects_of g)) pl.taken
-  taken_have k d below =
-      let v = view_in file in
-      let o : ℕ = slice_index_or pl.taken k d in
-      let home : ℕ = (object_of g o).home in
-      let n : ℕ = (object_of g o).size in
-      let moves =
-      movable_parts v board home n (object_moves v board g o accepted.graph.objects (placing.listed k d below)) in
-      (byte_range_of v home n (symbol_at v moves.symbol) moves.of).filled
-
   stub_short : jobs_run (start_jobs g pl) ≤ 6 * board.spm.size
   stub_short =
-      let each = jobs_short (objects_of g) pl.place pl.taken placing.fit.grain taken_have in
+      let each = jobs_short (objects_of g) pl.place pl.taken placing.fit.grain (taken_have file board g accepted pl placing) in
       let room = placing.room in
       omega (arith, each, room)
 
@@ -61,8 +46,8 @@ moved_file_keeps file out board g pl accepted placing view h input n s graph byt
     (subst (λ (q : Program). Steps q n (source_start file board h input) s) (sym same.0) steps) in
     let lead = start_leads file out board g pl input moved bytes in
     let keeps =
-    keeps_steps p (setup_of file out board pl) (sound_moved file out board g pl moved) (units_moved file out board g pl moved) refl
-    n (source_start file board g input) s lead.0
-    (record { alike = lead.1.1.0; at = lead.1.1.1; unit = unnamed_unit p (view_in file).entry (entry_unit file board g accepted) }) own in
+    moved_runs_at_home p (setup_of file out board pl) 0 (sound_moved file out board g pl moved)
+    (units_moved file out board g pl moved) (λ r. refl) n (source_start file board g input) s lead.0 lead.1.1.0 lead.1.1.1
+    (unnamed_unit p (view_in file).entry (entry_unit file board g accepted)) own in
     keeps_behind n n ((n + 1) * most_steps board) (n * 2) (start_run plan) s (file_start out board input) lead.0 lead.1.0
-    (λ going. omega arith) (start_short plan board n (stub_short file board g pl accepted placing)) keeps
+    (λ going. omega arith) (start_short plan board n 2 (omega arith) (stub_short file board g pl accepted placing)) keeps

@@ -1,13 +1,12 @@
 -- The start stub of a result leads to a state that is like the one in which the program starts.
-use Rattle.std.proofs.Common.{◌≡◌, ◌∙◌, inl, inr, ℕ, suc, ◌+◌, ◌-◌, ◌*◌, ◌<◌, ◌≤◌, ◌==◌, nat_lt, nat_le, Bool, true, false, List, [], ◌∷◌, map, length, slice_index_or, refl, sym, ap, subst, arith}
+use Rattle.std.proofs.Common.{◌≡◌, ◌∙◌, inl, inr, ℕ, suc, ◌+◌, ◌-◌, ◌*◌, ◌<◌, ◌≤◌, ◌==◌, true, false, List, [], ◌∷◌, map, length, slice_index_or, refl, sym, ap, subst, arith}
 use Rattle.std.specs.Prelude.{All}
 use Rattle.std.specs.List.{AllPairs, list_any}
-use Rattle.std.proofs.lemmas.Bool.{cases_lt, cases_Bool, cond_both, both_ways, eqb-true, leb-true, ltb-true}
+use Rattle.std.proofs.lemmas.Bool.{cases_lt, cases_Bool, both_ways, eqb-true}
 use Rattle.std.proofs.lemmas.Bool.Decides.{nat_tests}
 use Rattle.std.proofs.lemmas.List.Elements.{All-nil, All-cons, All-head, All-tail, All-map}
-use Rattle.list_checks.proofs.TestLemmas.{either, both}
-use Rattle.word_bits.specs.Memory.{Memory, zeros, put}
-use Rattle.rv_decode.specs.Acts.{register}
+use Rattle.list_checks.proofs.TestLemmas.{either}
+use Rattle.word_bits.specs.Memory.{Memory}
 use Rattle.rv_decode.proofs.Words.{keeps_words}
 use Rattle.elf_reader.specs.File.{PlainView, view_in}
 use Rattle.elf_reader.specs.Image.{image_of}
@@ -15,43 +14,36 @@ use Rattle.elf_reader.specs.Loadable.{AreBytes}
 use Rattle.board_config.specs.Board.{mapped_ranges}
 use Rattle.board_config.specs.declared.board.Board.{Board}
 use Rattle.board_config.specs.declared.board.Range.{Range}
-use Rattle.flat_machine.specs.Mapping as mapping
 use Rattle.flat_machine.specs.State.{State}
 use Rattle.flat_machine.specs.Runs as flat
 use Rattle.flat_machine.proofs.Words.{start_words, steps_words}
 use Rattle.overlay_stubs.specs.declared.plan.CopyJob.{CopyJob}
 use Rattle.overlay_stubs.specs.Jobs.{copied}
-use Rattle.overlay_stubs.specs.Start.{StartPlan, start_stub, start_run, all_copied, cleared}
+use Rattle.overlay_stubs.specs.Start.{StartPlan, start_stub, start_run, all_copied}
 use Rattle.overlay_stubs.specs.Laws.{CanCopy, IsAtStart, started, IsOutside}
 use Rattle.overlay_stubs.proofs.ByteLemmas.{jobs_copy_so}
-use Rattle.overlay_stubs.proofs.Starting.{start_runs_so}
+use Rattle.overlay_stubs.proofs.Starting.{start_alone_runs}
 use Rattle.rv_decode.proofs.SequenceLemmas.{mean_count}
 use Rattle.object_graph.specs.Sites.{in_range}
-use Rattle.object_graph.specs.declared.parts.DataWord.{DataWord}
 use Rattle.object_graph.specs.declared.parts.Graph.{Graph}
-use Rattle.code_leaders.proofs.LeaderLemmas.{left_passes, right_passes}
 use Rattle.cell_values.specs.Objects.{Objects, object_of, objects_of}
-use Rattle.cell_values.specs.declared.values.Val.TheVariants.{Int}
-use Rattle.cell_values.specs.declared.values.Cell.{Cell}
-use Rattle.cell_values.specs.declared.values.Cell.TheVariants.{Part}
 use Rattle.cell_values.specs.Origins.{ByLui}
-use Rattle.cell_values.specs.Stands.{Places, Fit, Stands, CellStands, moved_uppers}
-use Rattle.object_machine.specs.State.{value}
-use Rattle.object_machine.specs.Start.{in_word, first_cell, where_memory}
+use Rattle.cell_values.specs.Stands.{Places, Fit, CellStands, moved_uppers}
+use Rattle.object_machine.specs.Start.{first_cell}
 use Rattle.object_machine.specs.Paired.{at_start}
 use Rattle.simulation.specs.Relation.{Alike}
 use Rattle.simulation.specs.Rules.{all_live}
 use Rattle.result_setups.specs.Home.{is_code_byte}
 use Rattle.result_setups.specs.HomeLaws.{source_start, file_start}
 use Rattle.result_setups.proofs.Lists.{later_pairs}
-use Rattle.result_setups.proofs.HomeSound.{sound_home}
 use Rattle.result_setups.proofs.HomeStart.{alike_at_start}
+use Rattle.result_setups.proofs.StartCells.{words_stand, fixed_stands, object_stands, register_stands}
 use Rattle.result_setups.specs.Placing.{Placing, is_taken, LiesIn, AreTwo}
-use Rattle.result_setups.specs.Moved.{start_job, start_jobs, start_plan, IsMovedWord, IsOffWord}
+use Rattle.result_setups.specs.Moved.{start_job, start_jobs, start_plan}
 use Rattle.result_setups.specs.MovedLaws.{IsMoved, unnamed_in, setup_of, StartLeads}
-use Rattle.result_setups.proofs.Loaded.{IsKept, refuted}
-use Rattle.result_setups.proofs.CodeWords.{off_or_in, off_sites}
-use Rattle.result_setups.proofs.MovedSound.{spm_mapped, lies_in_range, fixed_kept, object_kept, code_byte_kept}
+use Rattle.result_setups.proofs.Loaded.{IsKept}
+use Rattle.result_setups.proofs.CodeWords.{off_sites}
+use Rattle.result_setups.proofs.MovedSound.{can_copy_object, patch_mapped, lies_in_range, object_kept, code_byte_kept}
 
 -- ---- what the jobs leave
 
@@ -112,15 +104,6 @@ module _ (spm : Range) (os : Objects) (place : Places) (fit : Fit os place) wher
             (All-cons (IsOutside (os.home o + i)) job [] (outside (os.home o + i) k off (All-head (LiesIn spm os place) k taken lies)) (All-nil (IsOutside (os.home o + i))))
       ]
 
--- ---- registers
-
-zero_value : (k : ℕ) → value (λ _. Int 0) k ≡ Int 0
-zero_value k = cond_both (k == 0) (Int 0) (Int 0) (λ x. x ≡ Int 0) (λ is. refl) (λ other. refl)
-
-zero_register : (k : ℕ) → register (cleared zeros) k ≡ 0
-unfolding put
-zero_register k = grind (arith, nat_tests)
-
 module _ (file out : List ℕ) (board : Board) (g : Graph) (pl : Placing) (moved : IsMoved file out board g pl) where
   abbrev v : PlainView
   v = view_in file
@@ -156,26 +139,9 @@ module _ (file out : List ℕ) (board : Board) (g : Graph) (pl : Placing) (moved
 
   -- ---- cells
 
-  words_stand : (a : ℕ) (words : List DataWord) → All (IsMovedWord w pl.place) words → (All (λ (d : DataWord). IsOffWord a d.at) words → image a ≡ image_of v.segments a) → CellStands pl.place (moved_uppers pl.place) ByLui (first_cell (image_of v.segments) words a) (image a)
-  words_stand a [] all rest = rest (All-nil (λ (d : DataWord). IsOffWord a d.at))
-  words_stand a (d ∷ words) all rest =
-      cond_both (in_word a d) (Part false d.object d.offset (a - d.at)) (first_cell (image_of v.segments) words a)
-      (λ c. CellStands pl.place (moved_uppers pl.place) ByLui c (image a))
-      (λ here.
-      let parts = both (nat_le d.at a) (nat_lt a (d.at + 4)) here in
-      let from = leb-true d.at a parts.0 in
-      let to = ltb-true a (d.at + 4) parts.1 in
-      let place : d.at + (a - d.at) ≡ a = omega (arith, from) in
-      ap image (sym place) ∙ All-head (IsMovedWord w pl.place) d words all (a - d.at) (omega (arith, from, to)))
-      (λ other.
-      words_stand a words (All-tail (IsMovedWord w pl.place) d words all)
-      (λ off.
-      rest (All-cons (λ (e : DataWord). IsOffWord a e.at) d words
-      (off_or_in a d.at (λ from to. both_ways (in_word a d) other (grind (arith, nat_tests, from, to)))) off)))
-
   cell_stands : (a : ℕ) → IsKept v board a → is_code_byte v a ≡ false → CellStands pl.place (moved_uppers pl.place) ByLui (first_cell (image_of v.segments) g.data_words.items a) (image a)
   cell_stands a kept no_code =
-      words_stand a g.data_words.items moved.view.words
+      words_stand v w pl.place a g.data_words.items moved.view.words
       (λ off.
       moved.view.elsewhere a
       (record {
@@ -185,50 +151,10 @@ module _ (file out : List ℕ) (board : Board) (g : Graph) (pl : Placing) (moved
         unchanged = kept.unchanged;
       }))
 
-  in_memory : (memory : Bool) (c : Cell) (b : ℕ) → memory ≡ true → CellStands pl.place (moved_uppers pl.place) ByLui c b → CellStands pl.place (moved_uppers pl.place) ByLui (where_memory memory c) b
-  in_memory memory c b is stands =
-      subst (λ (m : Bool). CellStands pl.place (moved_uppers pl.place) ByLui (where_memory m c) b) (sym is) stands
-
-  fixed_stands : (a : ℕ) → (unnamed_in file board g).is_fixed a ≡ true → CellStands pl.place (moved_uppers pl.place) ByLui (where_memory ((unnamed_in file board g).is_fixed a) (first_cell (image_of v.segments) g.data_words.items a)) (left a)
-  fixed_stands a fixed =
-      let p = unnamed_in file board g in
-      let kept = fixed_kept v board a fixed in
-      let no_code : is_code_byte v a ≡ false =
-      refuted (is_code_byte v a) (λ code. both_ways _ ((sound_home file board g moved.accepted).still_off_fixed a code) fixed) in
-      let cell = first_cell (image_of v.segments) g.data_words.items a in
-      subst (λ (b : ℕ). CellStands pl.place (moved_uppers pl.place) ByLui (where_memory (p.is_fixed a) cell) b) (sym (untouched a kept.spm))
-      (in_memory (p.is_fixed a) cell (image a) fixed (cell_stands a kept no_code))
-
-  object_stands : (o i : ℕ) → i < (object_of g o).size → CellStands pl.place (moved_uppers pl.place) ByLui (where_memory (nat_lt i (object_of g o).size) (first_cell (image_of v.segments) g.data_words.items ((object_of g o).home + i))) (left (pl.place o + i))
-  object_stands o i below =
-      let a : ℕ = (object_of g o).home + i in
-      let kept = object_kept file board g moved.accepted o i below in
-      let no_code = (sound_home file board g moved.accepted).still_off_objects o i below in
-      let cell = first_cell (image_of v.segments) g.data_words.items a in
-      subst (λ (b : ℕ). CellStands pl.place (moved_uppers pl.place) ByLui (where_memory (nat_lt i (object_of g o).size) cell) b) (sym (object_left o i below))
-      (in_memory (nat_lt i (object_of g o).size) cell (image a) (grind (arith, nat_tests, below)) (cell_stands a kept no_code))
-
   code_left : (a : ℕ) → is_code_byte v a ≡ true → left a ≡ image a
   code_left a code = untouched a (code_byte_kept file board g moved.accepted a code).spm
 
-  register_stands : (k : ℕ) → Stands (objects_of g) pl.place (moved_uppers pl.place) ByLui (value (λ _. Int 0) k) (register (cleared zeros) k)
-  register_stands k =
-      subst (λ x. Stands (objects_of g) pl.place (moved_uppers pl.place) ByLui x (register (cleared zeros) k)) (sym (zero_value k)) (zero_register k)
-
   -- ---- the stub runs
-
-  patch_mapped : (i : ℕ) → i < board.patch.size → mapping.is_mapped (mapped_ranges board) (board.patch.base + i) ≡ true
-  patch_mapped i below =
-      let inside : mapping.in_range board.patch (board.patch.base + i) ≡ true = grind (arith, nat_tests, below) in
-      right_passes (mapping.in_range board.main (board.patch.base + i)) _
-      (right_passes (mapping.in_range board.spm (board.patch.base + i)) _
-      (left_passes (mapping.in_range board.patch (board.patch.base + i)) _ inside))
-
-  can_copy : (o : ℕ) → LiesIn board.spm (objects_of g) pl.place o → CanCopy (mapped_ranges board) (start_job (objects_of g) pl.place o)
-  can_copy o lies = (
-    λ i below. (sound_home file board g moved.accepted).objects_mapped o i below,
-    λ i below. spm_mapped board (pl.place o + i) (lies_in_range board.spm 0 (object_of g o).size (pl.place o) i lies.from lies.to below),
-  )
 
   words_fit : 4 * length moved.view.start.words ≤ board.patch.size
   words_fit =
@@ -249,15 +175,15 @@ module _ (file out : List ℕ) (board : Board) (g : Graph) (pl : Placing) (moved
         pc = moved.view.entry;
         bytes = small;
         words = moved.view.start.stands;
-        fetched = λ i below. patch_mapped i (omega (arith, below, fit));
+        fetched = λ i below. patch_mapped board (board.patch.base + i) (grind (arith, nat_tests, below, fit));
         copied =
             All-map (CanCopy (mapped_ranges board)) (start_job (objects_of g) pl.place) pl.taken
-            (λ k d below. can_copy (slice_index_or pl.taken k d) (moved.placing.moved k d below));
+            (λ k d below. can_copy_object file board g moved.accepted pl moved.placing (slice_index_or pl.taken k d) (moved.placing.moved k d below));
       }
 
   stub_runs : (input : List ℕ) → flat.Steps (start_run plan) (file_start out board input) (started plan (file_start out board input))
   stub_runs input =
-      start_runs_so plan moved.view.start.words (file_start out board input) moved.view.start.can moved.view.start.are (at_stub input)
+      start_alone_runs plan moved.view.start.words (file_start out board input) moved.view.start.can moved.view.start.are (at_stub input)
 
   entry_below : w.entry < 4294967296
   entry_below =
@@ -269,10 +195,10 @@ module _ (file out : List ℕ) (board : Board) (g : Graph) (pl : Placing) (moved
   start_alike input bytes =
       let home = alike_at_start file board g moved.accepted input bytes in
       record {
-        regs = λ k lives. register_stands k;
+        regs = λ k lives. register_stands (objects_of g) pl.place k;
         values = home.values;
-        fixed = fixed_stands;
-        cells = object_stands;
+        fixed = fixed_stands file board g moved.accepted pl.place image left untouched cell_stands;
+        cells = object_stands file board g moved.accepted pl.place image left object_left cell_stands;
         fixed_words = home.fixed_words;
         cell_words = home.cell_words;
         still = code_left;

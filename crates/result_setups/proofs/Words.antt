@@ -67,12 +67,12 @@ code_below v u loadable code =
 
 -- ---- what stands there
 
-all_from : (map : List Range) (at n : ℕ) → ((i : ℕ) → i < n → is_mapped map (at + i) ≡ true) → all_mapped map at n ≡ true
+pub all_from : (map : List Range) (at n : ℕ) → ((i : ℕ) → i < n → is_mapped map (at + i) ≡ true) → all_mapped map at n ≡ true
 all_from map at zero each = refl
 all_from map at (suc n) each =
     both_pass (all_mapped map at n) (is_mapped map (at + n)) (all_from map at n (λ i below. each i (omega (arith, below)))) (each n (omega arith))
 
-even_passes : (u : ℕ) → u % 4 ≡ 0 → (u % 4 == 0) ≡ true
+pub even_passes : (u : ℕ) → u % 4 ≡ 0 → (u % 4 == 0) ≡ true
 even_passes u even = grind (arith, nat_tests, even)
 
 -- a word of code stands still at its home, where it is the file's

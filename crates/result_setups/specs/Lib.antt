@@ -6,3 +6,8 @@ pub use Rattle.relocator.specs.SiteWords
 pub mod Placing
 pub mod Moved
 pub mod MovedLaws
+pub mod LiveUnits
+pub mod Placement
+pub mod Result
+pub mod ResultLaws
+pub mod PlacedForms

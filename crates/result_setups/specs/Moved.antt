@@ -1,15 +1,13 @@
 -- A result file in which some objects stand in the scratchpad: what its memory holds when it is loaded.
-use Rattle.std.specs.Prelude.{◌≡◌, ◌⊎◌, ℕ, ◌+◌, ◌<◌, ◌≤◌, false, List, map, length, None, All}
+use Rattle.std.specs.Prelude.{◌≡◌, ◌⊎◌, ℕ, ◌+◌, ◌<◌, ◌≤◌, false, List, map, length, All}
 use Rattle.word_bits.specs.Words.{byte_of}
 use Rattle.list_checks.specs.Tests.{any_below}
 use Rattle.elf_reader.specs.File.{PlainView}
 use Rattle.elf_reader.specs.Image.{image_of}
 use Rattle.elf_reader.specs.Loadable.{AreLoadable}
-use Rattle.board_config.specs.Board.{mapped_ranges}
 use Rattle.board_config.specs.declared.board.Board.{Board}
 use Rattle.overlay_stubs.specs.declared.plan.CopyJob.{CopyJob}
-use Rattle.overlay_stubs.specs.Start.{StartPlan, CanStart, start_at, start_bytes}
-use Rattle.overlay_stubs.specs.Plans.{AreStartWords}
+use Rattle.overlay_stubs.specs.Start.{StartPlan, CanStart, start_at, start_bytes, AreStartWords}
 use Rattle.flat_machine.specs.Lines.{HoldsAt}
 use Rattle.loaded_file.specs.Code.{image_word}
 use Rattle.object_graph.specs.Sites.{in_range, holds_changed_byte}
@@ -17,11 +15,10 @@ use Rattle.object_graph.specs.declared.parts.Site.{Site}
 use Rattle.object_graph.specs.declared.parts.DataWord.{DataWord}
 use Rattle.object_graph.specs.declared.parts.Graph.{Graph}
 use Rattle.cell_values.specs.Objects.{Objects, objects_of}
-use Rattle.cell_values.specs.Stands.{Places, address_word, moved_uppers}
-use Rattle.object_machine.specs.Program.{Program}
+use Rattle.cell_values.specs.Stands.{Places, address_word}
 use Rattle.simulation.specs.Setups.{Setup}
 use Rattle.result_setups.specs.Home.{is_code_byte}
-use Rattle.result_setups.specs.Placing.{Placing}
+use Rattle.result_setups.specs.Placing.{Placing, placed_setup}
 use Rattle.relocator.specs.SiteWords.{IsSiteWord}
 
 -- ---- the start stub
@@ -85,15 +82,4 @@ pub record IsMovedView (v w : PlainView) (board : Board) (g : Graph) (pl : Placi
 
 -- code stands still, as it is in the result, and every upper part is made by a LUI
 abbrev pub moved_setup : PlainView → PlainView → Board → Placing → Setup
-moved_setup v w board pl =
-    record {
-      map = mapped_ranges board;
-      place = λ r. pl.place;
-      upper = λ r. moved_uppers pl.place;
-      is_still = λ r a. is_code_byte v a;
-      still = λ r. image_of w.segments;
-    }
-
--- a program in which no low part belongs to an AUIPC
-abbrev pub unnamed : Program → Program
-unnamed p = record p { named = λ a. None }
+moved_setup v w board pl = placed_setup board pl.place (is_code_byte v) (image_of w.segments)

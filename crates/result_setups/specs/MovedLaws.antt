@@ -18,7 +18,8 @@ use Rattle.simulation.specs.Rules.{all_live}
 use Rattle.simulation.specs.Laws.{AllAtHome, Keeps}
 use Rattle.result_setups.specs.HomeLaws.{IsAccepted, program_in, source_start, file_start}
 use Rattle.result_setups.specs.Placing.{Placing, IsPlacing}
-use Rattle.result_setups.specs.Moved.{start_plan, IsMovedView, moved_setup, unnamed}
+use Rattle.simulation.specs.Unnamed.{unnamed}
+use Rattle.result_setups.specs.Moved.{start_plan, IsMovedView, moved_setup}
 
 -- the program of a file, and the setup of its result
 abbrev pub unnamed_in : List ℕ → Board → Graph → Program

@@ -1,12 +1,15 @@
 -- Where objects stand when some of them are moved into the scratchpad.
 use Rattle.std.specs.Prelude.{◌≡◌, ℕ, ◌+◌, ◌%◌, ◌<◌, ◌≤◌, ◌==◌, Bool, false, List, [], ◌∷◌, length, All}
 use Rattle.std.specs.List.{AllPairs, list_any}
+use Rattle.word_bits.specs.Memory.{Memory}
+use Rattle.board_config.specs.Board.{mapped_ranges}
 use Rattle.board_config.specs.declared.board.Board.{Board}
 use Rattle.board_config.specs.declared.board.Range.{Range}
 use Rattle.object_graph.specs.declared.parts.Graph.{Graph}
 use Rattle.cell_values.specs.Objects.{Objects, objects_of}
-use Rattle.cell_values.specs.Stands.{Places, Fit}
+use Rattle.cell_values.specs.Stands.{Places, Fit, moved_uppers}
 use Rattle.placement_programme.specs.Rows.{rounded_up}
+use Rattle.simulation.specs.Setups.{Setup}
 
 -- the place of each object by its number in the graph, and the numbers of those that are moved, in order
 pub record Placing : Type 0 where
@@ -45,3 +48,14 @@ pub record IsPlacing (board : Board) (g : Graph) (pl : Placing) : Type 0 where
   pub listed : All (IsInGraph g) pl.taken
   pub distinct : AllPairs AreTwo pl.taken
   pub room : spans (objects_of g) pl.taken ≤ board.spm.size
+
+-- places that hold for the whole run, where each upper part is made by a LUI
+abbrev pub placed_setup : Board → Places → (ℕ → Bool) → Memory → Setup
+placed_setup board place is_still still =
+    record {
+      map = mapped_ranges board;
+      place = λ r. place;
+      upper = λ r. moved_uppers place;
+      is_still = λ r. is_still;
+      still = λ r. still;
+    }

@@ -3,10 +3,14 @@
 #![tactic(auto)]
 
 mod home_laws;
+mod live_laws;
 mod moved_laws;
+mod result_laws;
 
 pub use home_laws::{
     absolute_runs_are_paired, file_keeps, home_is_sound, one_graph, one_run, start_is_alike,
     units_are_home,
 };
+pub use live_laws::{code_units_stand, liveness_keeps, steps_lead_on};
 pub use moved_laws::{moved_file_keeps, moved_is_sound, start_leads, units_are_moved};
+pub use result_laws::{result_is_sound, result_keeps};

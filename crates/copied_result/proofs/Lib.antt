@@ -1,0 +1,4 @@
+pub mod PieceSearch
+pub mod CopiesMade
+pub mod StubsMade
+pub mod PadsMade

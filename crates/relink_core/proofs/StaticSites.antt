@@ -1,0 +1,216 @@
+-- The new words of sites, for copies: each unit of the code that is a site has its word.
+use Rattle.std.proofs.Common.{◌≡◌, ◌∙◌, inl, inr, ℕ, zero, suc, ◌+◌, ◌*◌, ◌%◌, ◌<◌, ◌≤◌, ◌==◌, Bool, true, false, ◌&&◌, if◌then◌else◌, List, [], ◌∷◌, map, replicate, length, get_or, None, refl, sym, ap, subst, arith}
+use Rattle.std.specs.List.{AllPairs, list_any}
+use Rattle.std.specs.List.Sorted.{IsStrictlyIncreasing}
+use Rattle.std.proofs.lemmas.Bool.{eqb-true, eq-eqb}
+use Rattle.std.proofs.lemmas.Bool.Decides.{nat_tests}
+use Rattle.std.proofs.lemmas.List.{get_or-map, get_or_default, length-map}
+use Rattle.std.proofs.lemmas.List.Folds.{list_any_at}
+use Rattle.list_checks.specs.Tests.{any_below}
+use Rattle.list_checks.proofs.TestLemmas.{both, any_at, same_tests}
+use Rattle.list_checks.proofs.StepLemmas.{any_place}
+use Rattle.elf_reader.specs.File.{PlainView, plain_view, view_in}
+use Rattle.elf_reader.specs.Faults.{first_fault}
+use Rattle.elf_reader.specs.declared.view.ElfView.{ElfView}
+use Rattle.board_config.specs.declared.board.Board.{Board}
+use Rattle.loaded_file.specs.Code.{is_code_word, holds_code, image_word}
+use Rattle.loaded_file.specs.Read.{IsRead}
+use Rattle.object_graph.specs.Graphs.{IsGraph}
+use Rattle.object_graph.specs.Lookups.{stands_at}
+use Rattle.object_graph.specs.declared.parts.Site.{Site}
+use Rattle.object_graph.specs.declared.parts.Graph.{Graph}
+use Rattle.code_blocks.specs.Blocks.{IsCode, IsBlock, unit_at, unit_addresses, goes_on}
+use Rattle.code_blocks.specs.Ends.{words_left}
+use Rattle.code_blocks.specs.Leads.{no_unit}
+use Rattle.code_blocks.specs.declared.parts.Unit.{Unit}
+use Rattle.code_blocks.specs.declared.parts.Block.{Block}
+use Rattle.code_blocks.specs.declared.parts.Code.{Code}
+use Rattle.object_machine.proofs.RangeLemmas.{read_ranges, left_at, left_further}
+use Rattle.object_machine.proofs.TableLemmas.{block_is_code}
+use Rattle.block_splitter.specs.Forms.{is_site, body_of, body_at, unit_in}
+use Rattle.block_splitter.specs.Copies.{Patch, address_in, word_of_unit, HasSites}
+use Rattle.cell_values.specs.Stands.{address_word}
+use Rattle.word_bits.specs.Words.{plus}
+use Rattle.relocator.specs.declared.places.Places.{Places}
+use Rattle.relocator.specs.Placing.{place_at}
+use Rattle.result_setups.specs.Placement.{Placement, AreWordsOfSites}
+use Rattle.relocator.specs.SiteWords.{no_site, site_at, data_word_at, is_entry, has_entry, site_address, IsSiteWord, IsNewAtSite, AreSiteWords}
+use Rattle.relink_core.proofs.PatchPlaces.{HoldsNoCode, code_kept, data_kept, one_section, sections_differ}
+use Rattle.relink_core.proofs.WritableLemmas.{entry_itself}
+
+-- ---- units
+
+address_next : (v : PlainView) (a n k : ℕ) (on : Bool) → goes_on v a ≡ on → k < length (a ∷ (if on then unit_addresses v (a + 4) n else [])) → ((j : ℕ) → j < length (unit_addresses v (a + 4) n) → (get_or (unit_addresses v (a + 4) n) j 0 ≡ a + 4 + 4 * j) × (j < n)) → (get_or (a ∷ (if goes_on v a then unit_addresses v (a + 4) n else [])) k 0 ≡ a + 4 * k) × (k < suc n)
+address_next v a n zero on is below rest = (omega arith, omega arith)
+address_next v a n (suc k) false is below rest = absurd (omega (arith, below))
+address_next v a n (suc k) true is below rest =
+    let found = rest k (omega (arith, below)) in
+    let at = found.0 in
+    let less = found.1 in
+    let same : get_or (a ∷ (if goes_on v a then unit_addresses v (a + 4) n else [])) (suc k) 0 ≡ get_or (unit_addresses v (a + 4) n) k 0 =
+    ap (λ (t : Bool). get_or (if t then unit_addresses v (a + 4) n else []) k 0) is in
+    (omega (arith, same, at), omega (arith, less))
+
+address_at : (v : PlainView) (a n k : ℕ) → k < length (unit_addresses v a n) → (get_or (unit_addresses v a n) k 0 ≡ a + 4 * k) × (k < n)
+address_at v a zero k below = absurd (omega (arith, below))
+address_at v a (suc n) k below =
+    address_next v a n k (goes_on v a) refl below (λ j inside. address_at v (a + 4) n j inside)
+
+-- each unit stands at a word of code
+abbrev pub AreUnitsCode : PlainView → Code → Type 0
+AreUnitsCode v c =
+    (b k : ℕ) → b < length c.blocks.items → k < length (body_at c.blocks.items b).units → is_code_word v (unit_in (body_at c.blocks.items b) k).at ≡ true
+
+two_true : (a b : Bool) → a ≡ true → b ≡ true → a && b ≡ true
+two_true a b first last = rw (first, last) refl
+
+start_even : (v : PlainView) (a : ℕ) → is_code_word v a ≡ true → a % 4 ≡ 0
+start_even v a code = eqb-true (a % 4) 0 (both (a % 4 == 0) (any_below (holds_code v a) (length v.sections)) code).0
+
+units_of_block : (view : ElfView) (c : Code) (b k : ℕ) (block : Block) → IsRead view → IsCode (plain_view view) c → b < length c.blocks.items → block ≡ get_or c.blocks.items b block → k < length block.units.items → is_code_word (plain_view view) (get_or block.units.items k no_unit).at ≡ true
+units_of_block view c b k block read code below is inside =
+    let v = plain_view view in
+    let found : IsBlock v c.functions.items block = subst (IsBlock v c.functions.items) (sym is) (code.blocks b block below) in
+    let begins : is_code_word v block.start ≡ true = subst (λ (d : Block). is_code_word v d.start ≡ true) (sym is) (block_is_code v c b block code below) in
+    let count : length block.units.items ≡ length (unit_addresses v block.start (words_left v block.start)) =
+    sym (length-map block.units.items unit_at) ∙ ap (λ (xs : List ℕ). length xs) found.addresses in
+    let at = address_at v block.start (words_left v block.start) k (omega (arith, count, inside)) in
+    let address : (get_or block.units.items k no_unit).at ≡ block.start + 4 * k =
+    sym (get_or-map unit_at block.units.items k no_unit 0 inside) ∙ ap (λ (xs : List ℕ). get_or xs k 0) found.addresses ∙ at.0 in
+    let ranges = read_ranges view read in
+    let (range, has) = left_at v block.start ranges begins in
+    let further = left_further v block.start range k ranges has at.1 in
+    let even = start_even v block.start begins in
+    let here : is_code_word v (block.start + 4 * k) ≡ true =
+    two_true ((block.start + 4 * k) % 4 == 0) (any_below (holds_code v (block.start + 4 * k)) (length v.sections))
+    (eq-eqb ((block.start + 4 * k) % 4) 0 (omega (arith, even)))
+    (any_at (holds_code v (block.start + 4 * k)) (length v.sections) range further.below further.holds) in
+    subst (λ (a : ℕ). is_code_word v a ≡ true) (sym address) here
+
+pub units_code : (view : ElfView) (c : Code) → IsRead view → IsCode (plain_view view) c → AreUnitsCode (plain_view view) c
+units_code view c read code b k below inside =
+    let block = some_block c.blocks.items b in
+    let same : body_at c.blocks.items b ≡ body_of (block below) = body_there c.blocks.items b below in
+    let within : k < length (block below).units.items = subst (λ d. k < length d.units) same inside in
+    subst (λ d. is_code_word (plain_view view) (unit_in d k).at ≡ true) (sym same)
+    (units_of_block view c b k (block below) read code below (block_there c.blocks.items b below) within)
+  where
+    some_block : (blocks : List Block) (b : ℕ) → b < length blocks → Block
+    some_block [] b below = absurd (omega (arith, below))
+    some_block (x ∷ xs) zero below = x
+    some_block (x ∷ xs) (suc b) below = some_block xs b (omega (arith, below))
+
+    body_there : (blocks : List Block) (b : ℕ) (below : b < length blocks) → body_at blocks b ≡ body_of (some_block blocks b below)
+    body_there [] b below = absurd (omega (arith, below))
+    body_there (x ∷ xs) zero below = refl
+    body_there (x ∷ xs) (suc b) below = body_there xs b (omega (arith, below))
+
+    block_there : (blocks : List Block) (b : ℕ) (below : b < length blocks) → some_block blocks b below ≡ get_or blocks b (some_block blocks b below)
+    block_there [] b below = absurd (omega (arith, below))
+    block_there (x ∷ xs) zero below = refl
+    block_there (x ∷ xs) (suc b) below = block_there xs b (omega (arith, below))
+
+-- ---- words of data
+
+-- none stands where code does
+pub data_off_code : (file : List ℕ) (board : Board) (g : Graph) (k a : ℕ) → first_fault file ≡ None → IsGraph (view_in file) board g → k < length g.data_words.items → is_code_word (view_in file) a ≡ true → (data_word_at g k).at ≡ a → ⊥
+data_off_code file board g k a none is below code same =
+    let v = view_in file in
+    let one = code_kept v a code in
+    let other = data_kept v board g k is below in
+    let here : HoldsNoCode v a other.0 = subst (λ (x : ℕ). HoldsNoCode v x other.0) same other.1 in
+    sections_differ v a a one.0 other.0 one.1 here (one_section file a one.0 other.0 none one.1.word here.word)
+
+-- ---- words of sites
+
+-- entries that ascend by address
+pub entries_rise : (words : List Patch) → AllPairs (λ d e. d.0 + 4 ≤ e.0) words → IsStrictlyIncreasing (map address_in words)
+entries_rise words order k below =
+    let count = length-map words address_in in
+    let next : k + 1 < length words = omega (arith, below, count) in
+    let first = get_or-map address_in words k (0, 0) 0 (omega (arith, next)) in
+    let second = get_or-map address_in words (k + 1) (0, 0) 0 next in
+    let order_here = order k (k + 1) (0, 0) (omega arith) next in
+    omega (arith, first, second, order_here)
+
+entry_there : (words : List Patch) (a w : ℕ) → has_entry words a w ≡ true → (j : ℕ) × ((j < length words) × (((get_or words j (0, 0)).0 ≡ a) × ((get_or words j (0, 0)).1 ≡ w)))
+entry_there words a w has =
+    let (j, (below, is)) = any_place (is_entry a w) words (0, 0) has in
+    let e = get_or words j (0, 0) in
+    let parts = both (e.0 == a) (e.1 == w) is in
+    (j, (below, (eqb-true e.0 a parts.0, eqb-true e.1 w parts.1)))
+
+-- the word of a unit is that of the entry at its address
+pub word_found : (words : List Patch) (u : Unit) (j : ℕ) → AllPairs (λ d e. d.0 + 4 ≤ e.0) words → j < length words → (get_or words j (0, 0)).0 ≡ u.at → word_of_unit words u ≡ (get_or words j (0, 0)).1
+word_found [] u j order below same = absurd (omega (arith, below))
+word_found (p ∷ ps) u zero order below same =
+    let here : (p.0 == u.at) ≡ true = eq-eqb p.0 u.at same in
+    ap (λ (b : Bool). if b then p.1 else word_of_unit ps u) here
+word_found (p ∷ ps) u (suc j) order below same =
+    let less = order 0 (suc j) (0, 0) (omega arith) below in
+    let there : (p.0 == u.at) ≡ false = grind (arith, nat_tests, less, same) in
+    ap (λ (b : Bool). if b then p.1 else word_of_unit ps u) there
+    ∙ word_found ps u j (λ i k d before inside. order (suc i) (suc k) d (omega (arith, before)) (omega (arith, inside))) (omega (arith, below)) same
+
+module _ (file : List ℕ) (board : Board) (g : Graph) (c : Code) (places : Places) (regions : List ℕ) (words : List Patch) (none : first_fault file ≡ None) (graph : IsGraph (view_in file) board g) (units : AreUnitsCode (view_in file) c) (new : AreSiteWords (view_in file) g places regions words) where
+  abbrev v : PlainView
+  v = view_in file
+
+  listed : (a : ℕ) → is_code_word v a ≡ true → list_any (λ p. address_in p == a) words ≡ is_site g a
+  listed a code = same_tests (list_any (λ (p : Patch). address_in p == a) words) (is_site g a) forth back
+    where
+      forth : list_any (λ p. address_in p == a) words ≡ true → is_site g a ≡ true
+      forth any =
+          let (j, (below, passes)) = any_place (λ (p : Patch). address_in p == a) words (0, 0) any in
+          let e = get_or words j (0, 0) in
+          let at = eqb-true e.0 a passes in
+          elim (new.only e.0 e.1 (list_any_at (is_entry e.0 e.1) words j (0, 0) below (entry_itself e))) [
+            | inl site ↦ list_any_at (stands_at a) g.sites.items site.0 no_site site.1.0 (eq-eqb (site_at g site.0).at a (site.1.1 ∙ at))
+            | inr word ↦ absurd (data_off_code file board g word.0 a none graph word.1.0 code (word.1.1 ∙ at))
+          ]
+
+      back : is_site g a ≡ true → list_any (λ p. address_in p == a) words ≡ true
+      back any =
+          let (k, (below, passes)) = any_place (stands_at a) g.sites.items no_site any in
+          let at = eqb-true (site_at g k).at a passes in
+          let (w, (has, is)) = new.sites k below in
+          let (j, (inside, (there, value))) = entry_there words (site_at g k).at w has in
+          list_any_at (λ (p : Patch). address_in p == a) words j (0, 0) inside (eq-eqb (get_or words j (0, 0)).0 a (there ∙ at))
+
+  pub has_sites : HasSites c g words
+  has_sites = record { ascending = entries_rise words new.disjoint; others = λ b k block unit. listed (unit_in (body_at c.blocks.items b) k).at (units b k block unit) }
+
+  -- the unit at a site has the site's word
+  pub site_word : (b k : ℕ) (i : ℕ) → i < length g.sites.items → (site_at g i).at ≡ (unit_in (body_at c.blocks.items b) k).at → IsNewAtSite v g places regions i (word_of_unit words (unit_in (body_at c.blocks.items b) k))
+  site_word b k i below same =
+      let u = unit_in (body_at c.blocks.items b) k in
+      let (w, (has, is)) = new.sites i below in
+      let (j, (inside, (there, value))) = entry_there words (site_at g i).at w has in
+      let found = word_found words u j new.disjoint inside (there ∙ same) in
+      subst (IsNewAtSite v g places regions i) (sym (found ∙ value)) is
+
+  region_none : (n k : ℕ) → ◌≡◌ {A = ℕ} (get_or (replicate n 0) k 0) 0
+  region_none zero k = refl
+  region_none (suc n) zero = refl
+  region_none (suc n) (suc k) = region_none n k
+
+  -- so the words are those of the sites, for these places
+  pub words_are : (pl : Placement) → pl.sites ≡ words → regions ≡ replicate (length g.sites.items) 0 → ((o : ℕ) → o < length g.objects.items → place_at places o 0 ≡ pl.place o) → ((k : ℕ) → k < length g.sites.items → (site_at g k).object < length g.objects.items) → AreWordsOfSites v g c pl
+  words_are pl same none_current at objects =
+      record {
+        has = subst (HasSites c g) (sym same) has_sites;
+        rewritten = λ b k s block unit listed there.
+            let i = listed.0 in
+            let below = listed.1 in
+            let is : site_at g i ≡ s = get_or_default g.sites.items i no_site s below ∙ listed.2 in
+            let here : (site_at g i).at ≡ (unit_in (body_at c.blocks.items b) k).at = ap (λ (t : Site). t.at) is ∙ there in
+            let word = site_word b k i below here in
+            let zero_there : get_or regions i 0 ≡ 0 = ap (λ (rs : List ℕ). get_or rs i 0) none_current ∙ region_none (length g.sites.items) i in
+            let address : site_address g places regions i ≡ address_word pl.place (site_at g i).object (site_at g i).offset =
+            ap (λ (r : ℕ). plus (place_at places (site_at g i).object r) (site_at g i).offset) zero_there
+            ∙ ap (λ (x : ℕ). plus x (site_at g i).offset) (at (site_at g i).object (objects i below)) in
+            let moved : IsSiteWord (site_at g i).kind (address_word pl.place (site_at g i).object (site_at g i).offset) (image_word v (site_at g i).at) (word_of_unit words (unit_in (body_at c.blocks.items b) k)) =
+            subst (λ (a : ℕ). IsSiteWord (site_at g i).kind a (image_word v (site_at g i).at) (word_of_unit words (unit_in (body_at c.blocks.items b) k))) address word in
+            subst (λ (ps : List Patch). IsSiteWord s.kind (address_word pl.place s.object s.offset) (image_word v s.at) (word_of_unit ps (unit_in (body_at c.blocks.items b) k))) (sym same)
+            (subst (λ (t : Site). IsSiteWord t.kind (address_word pl.place t.object t.offset) (image_word v t.at) (word_of_unit words (unit_in (body_at c.blocks.items b) k))) is moved);
+      }

@@ -1,0 +1,17 @@
+use Rattle.std.proofs.Common.{◌∙◌, ◌++◌, ◌∷◌, [], ap}
+use Rattle.std.specs.List.{filter_map}
+use Rattle.placement_programme.specs.declared.variables.VarName.{VarName}
+use Rattle.placement_programme.specs.Views.{plain_programme}
+use Rattle.placement_programme.proofs.AscendLemmas.{number_below}
+use Rattle.relink_core.specs.Static.{object_in}
+use Rattle.relink_core.proofs.PatchMade.{named_more}
+use Rattle.relink_core.proofs.naming.objects_taken.Goals as goal
+
+pub name_at-requires : goal.name_at-requires
+name_at-requires c = number_below 0 _ _ _ 0 c.requires c.loop-k-test.true
+
+pub loop-k-preserved : goal.loop-k-preserved
+loop-k-preserved c =
+    let vars = (plain_programme c.args.p.now).off.vars in
+    named_more object_in vars c.args.take.now c.loop-k.objects.items c.push_object.new.objects.items c.loop-k.k-index 0 c.loop-k-test.true c.loop-k.invariant
+    (c.in_ok-push_object.ensures ∙ ap (λ (n : VarName). c.loop-k.objects.items ++ filter_map object_in (n ∷ [])) c.name_at.ensures)

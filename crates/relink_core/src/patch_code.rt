@@ -1,0 +1,133 @@
+//! The new segment of a result: control words, the start stub, stubs at entries, and images.
+ghost use Rattle.std.specs.Prelude.{◌≡◌, ℕ, ◌+◌, ◌*◌, ◌<◌, ◌++◌, map, length, IfOk, OnOk};
+ghost use Rattle.overlay_stubs.specs.Layout.{CanStand};
+ghost use Rattle.overlay_stubs.specs.Plans.{code_plan, words_of, IsPlainPlan};
+ghost use Rattle.result_setups.specs.Placement.{piece_bytes};
+ghost use Rattle.result_setups.specs.Result.{code_job};
+ghost use Rattle.relink_core.specs.Static.{placed_pieces};
+ghost use Rattle.relink_core.specs.Faults.{least_patch};
+ghost use Rattle.relink_core.specs.Making.{start_place, HasStarts, AreOfGraph};
+ghost use Rattle.relink_core.specs.Segments.{copied_words, copies_bytes, first_image, patch_plan, IsPatchCode};
+
+use crate::analysis::least_patch;
+use crate::starting::{bytes_of, start_jobs};
+use board_config::Board;
+use copied_result::PlacedCopy;
+use elf_writer::SegmentBytes;
+use object_graph::Graph;
+use overlay_stubs::{CopyJob, Stub, StubPlan, stubs};
+use relocator::Places;
+use std::alloc::{AllocError, Global};
+
+/// The new segment, and where each stub of its plan stands.
+#[derive(Drop)]
+pub(crate) struct PatchCode {
+    pub(crate) segment: SegmentBytes,
+    pub(crate) stub_at: Vec<u32>,
+}
+
+/// What stands in the scratchpad: objects of a graph at their places, and copies of code.
+#[derive(Drop)]
+pub(crate) struct PlacedItems<'a> {
+    pub(crate) graph: &'a Graph,
+    pub(crate) places: &'a Places,
+    pub(crate) objects: &'a [u32],
+    pub(crate) copies: &'a [PlacedCopy],
+}
+
+/// How many bytes a copy job and a stub take.
+const JOB_SIZE: u32 = 44;
+
+const STUB_SIZE: u32 = 8;
+
+/// Where the images begin, behind so many copy jobs and stubs.
+fn first_image(board: &Board, jobs: usize, stubs: usize) -> u32
+    requires { board.now.patch.base + (least_patch board.now.fence_i + 44 * jobs + 8 * stubs) < 4294967296 }
+    ensures { result ≡ board.now.patch.base + (least_patch board.now.fence_i + 44 * jobs + 8 * stubs) }
+{
+    let start = least_patch(board.fence_i) + JOB_SIZE * jobs as u32;
+    board.patch.base + (start + STUB_SIZE * stubs as u32)
+}
+
+/// What the patch range is to hold: jobs that copy objects and images to their places, stubs, and images. It fails only
+/// where no memory was left.
+pub(crate) fn patch_plan(
+    alloc: Global,
+    entry: u32,
+    board: &Board,
+    items: &PlacedItems,
+    stubs: Vec<Stub>,
+) -> Result<StubPlan, AllocError>
+    requires listed { AreOfGraph items.now.graph.now items.now.objects.now }
+    requires starts { HasStarts items.now.graph.now items.now.places.now }
+    requires room { first_image board.now items.now.objects.now items.now.copies.now stubs.items + copies_bytes items.now.copies.now < 4294967296 }
+    ensures { IfOk result (λ plan. code_plan plan ≡ patch_plan entry board.now items.now.graph.now (start_place items.now.places.now) items.now.objects.now (first_image board.now items.now.objects.now items.now.copies.now stubs.items) items.now.copies.now stubs.items) }
+{
+    let jobs = items.objects.len() + items.copies.len();
+    let first = first_image(board, jobs, stubs.len());
+    let mut start = start_jobs(alloc, items.graph, items.places, items.objects)?;
+    push_code_jobs(&mut start, items.copies, first)?;
+    let images = images(alloc, items.copies)?;
+    Ok(StubPlan {
+        base: board.patch.base,
+        entry,
+        fence_i: board.fence_i,
+        start,
+        stubs,
+        regions: 0,
+        leave: Vec::new(alloc),
+        enter: Vec::new(alloc),
+        images,
+    })
+}
+
+/// The segment of a plan. It fails only where no memory was left.
+pub(crate) fn patch_code(alloc: Global, plan: &StubPlan) -> Result<PatchCode, AllocError>
+    requires plain { IsPlainPlan plan.now }
+    requires can { CanStand (code_plan plan.now) }
+    ensures { IfOk result (IsPatchCode (code_plan plan.now)) }
+{
+    let code = stubs(alloc, plan)?;
+    let bytes = bytes_of(alloc, &code.words)?;
+    Ok(PatchCode {
+        segment: SegmentBytes {
+            base: plan.base,
+            entry: code.start,
+            bytes,
+        },
+        stub_at: code.stub_at,
+    })
+}
+
+/// The words of copies, for their images.
+fn images(alloc: Global, copies: &[PlacedCopy]) -> Result<Vec<Vec<u32>>, AllocError>
+    ensures { IfOk result (λ images. map words_of images.items ≡ map copied_words copies.now) }
+{
+    let mut images = Vec::new(alloc);
+    for k in 0..copies.len() {
+        images.push(copies[k].code.words.to_vec(alloc)?)?;
+    }
+    Ok(images)
+}
+
+/// Adds the jobs that copy images to their places, where the images stand one behind the other from an address on.
+fn push_code_jobs(
+    jobs: &mut Vec<CopyJob>,
+    copies: &[PlacedCopy],
+    first: u32,
+) -> Result<(), AllocError>
+    requires { first + copies_bytes copies.now < 4294967296 }
+    ensures { OnOk result (jobs.new.items ≡ jobs.old.items ++ map code_job (placed_pieces first copies.now)) }
+{
+    let mut image = first;
+    for k in 0..copies.len() {
+        let bytes = 4 * copies[k].code.words.len() as u32;
+        jobs.push(CopyJob {
+            from: image,
+            to: copies[k].at,
+            bytes,
+        })?;
+        image += bytes;
+    }
+    Ok(())
+}
