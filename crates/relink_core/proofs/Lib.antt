@@ -26,3 +26,9 @@ pub mod PaddedPatches
 pub mod PatchedMemory
 pub mod PadHomes
 pub mod ItemPlacement
+pub mod CopiedEntries
+pub mod ItemPlan
+pub mod ItemWritten
+pub mod ItemView
+pub mod ItemGoals
+pub mod ItemRealised

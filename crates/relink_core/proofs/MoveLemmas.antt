@@ -16,11 +16,16 @@ use Rattle.loaded_file.specs.Ranges.{has_byte_range, has_owner, has_range, is_sy
 use Rattle.object_graph.specs.Graphs.{IsGraph}
 use Rattle.object_graph.specs.declared.parts.Graph.{Graph}
 use Rattle.cell_values.specs.Objects.{object_of}
+use Rattle.result_setups.specs.Placing.{Placing}
 use Rattle.result_setups.proofs.Lists.{element_found}
 use Rattle.cell_values.proofs.GraphObjects.{objects_differ}
 use Rattle.relocator.specs.declared.places.Places.{Places}
-use Rattle.relink_core.specs.Realises.{same_move, moves_with, AreSymbolMoves, data_placing}
-use Rattle.relink_core.specs.Making.{start_place, AreOfGraph, ArePlacesOf, range_value, symbol_value, move_to, moves_below}
+use Rattle.relink_core.specs.Realises.{same_move, moves_with, AreSymbolMoves}
+use Rattle.relink_core.specs.Making.{start_place, AreOfGraph, range_value, symbol_value, move_to, moves_below}
+
+-- objects of a graph stand where a table has them
+abbrev pub ArePlacedAs : Graph → Places → (ℕ → ℕ) → Type 0
+ArePlacedAs g places place = (o : ℕ) → o < length g.objects.items → start_place places o ≡ place o
 
 -- ---- one symbol
 
@@ -175,36 +180,36 @@ byte_range_some v s range =
     ltb-true 0 s.size (both (nat_lt 0 s.size) (nat_lt 0 s.value) two.0).0
 
 -- a symbol has the value where one of the objects has its range and stands there
-value_same : (v : PlainView) (board : Board) (g : Graph) (places : Places) (taken : List ℕ) (m : SymbolMove) → IsGraph v board g → AreOfGraph g taken → ArePlacesOf board g taken places → has_value v g places taken m ≡ list_any (moves_with v g (data_placing board g taken) m) taken
-value_same v board g places taken m is listed are =
-    same_tests (has_value v g places taken m) (list_any (moves_with v g (data_placing board g taken) m) taken) forth back
+value_same : (v : PlainView) (board : Board) (g : Graph) (places : Places) (pl : Placing) (m : SymbolMove) → IsGraph v board g → AreOfGraph g pl.taken → ArePlacedAs g places pl.place → has_value v g places pl.taken m ≡ list_any (moves_with v g pl m) pl.taken
+value_same v board g places pl m is listed are =
+    same_tests (has_value v g places pl.taken m) (list_any (moves_with v g pl m) pl.taken) forth back
   where
     s : PlainSymbol
     s = symbol_at v m.symbol
 
-    forth : has_value v g places taken m ≡ true → list_any (moves_with v g (data_placing board g taken) m) taken ≡ true
+    forth : has_value v g places pl.taken m ≡ true → list_any (moves_with v g pl m) pl.taken ≡ true
     forth has =
         elim (cases_Bool (has_range v s)) [
           | inr none ↦
-              absurd (cc (sym (ap (λ (b : Bool). is_value (if b then range_value g places s.value s.size taken else None) m.value) none) ∙ has))
+              absurd (cc (sym (ap (λ (b : Bool). is_value (if b then range_value g places s.value s.size pl.taken else None) m.value) none) ∙ has))
           | inl range ↦
-              let given = ap (λ (b : Bool). is_value (if b then range_value g places s.value s.size taken else None) m.value) (sym range) ∙ has in
-              let (k, (below, (bytes, value))) = value_of g places s.value s.size m.value taken given in
-              let o = get_or taken k 0 in
+              let given = ap (λ (b : Bool). is_value (if b then range_value g places s.value s.size pl.taken else None) m.value) (sym range) ∙ has in
+              let (k, (below, (bytes, value))) = value_of g places s.value s.size m.value pl.taken given in
+              let o = get_or pl.taken k 0 in
               let home = bytes_home g s.value s.size o bytes in
               let size = bytes_size g s.value s.size o bytes in
-              let there = are.exact o (listed k 0 below) in
-              let passes : moves_with v g (data_placing board g taken) m o ≡ true =
-              all_true (has_range v s) (s.value == (object_of g o).home) (s.size == (object_of g o).size) (m.value == (data_placing board g taken).place o)
-              range (eq-eqb s.value (object_of g o).home (sym home)) (eq-eqb s.size (object_of g o).size (sym size)) (eq-eqb m.value ((data_placing board g taken).place o) (value ∙ there)) in
-              list_any_at (moves_with v g (data_placing board g taken) m) taken k 0 below passes
+              let there = are o (listed k 0 below) in
+              let passes : moves_with v g pl m o ≡ true =
+              all_true (has_range v s) (s.value == (object_of g o).home) (s.size == (object_of g o).size) (m.value == pl.place o)
+              range (eq-eqb s.value (object_of g o).home (sym home)) (eq-eqb s.size (object_of g o).size (sym size)) (eq-eqb m.value (pl.place o) (value ∙ there)) in
+              list_any_at (moves_with v g pl m) pl.taken k 0 below passes
         ]
 
-    back : list_any (moves_with v g (data_placing board g taken) m) taken ≡ true → has_value v g places taken m ≡ true
+    back : list_any (moves_with v g pl m) pl.taken ≡ true → has_value v g places pl.taken m ≡ true
     back any =
-        let (k, (below, passes)) = element_found (moves_with v g (data_placing board g taken) m) taken 0 any in
-        let o = get_or taken k 0 in
-        let whole = both (is_symbol_of v (object_of g o).home (object_of g o).size m.symbol) (m.value == (data_placing board g taken).place o) passes in
+        let (k, (below, passes)) = element_found (moves_with v g pl m) pl.taken 0 any in
+        let o = get_or pl.taken k 0 in
+        let whole = both (is_symbol_of v (object_of g o).home (object_of g o).size m.symbol) (m.value == pl.place o) passes in
         let two = both (has_range v s && (s.value == (object_of g o).home)) (s.size == (object_of g o).size) whole.0 in
         let one = both (has_range v s) (s.value == (object_of g o).home) two.0 in
         let home = eqb-true s.value (object_of g o).home one.1 in
@@ -212,17 +217,17 @@ value_same v board g places taken m is listed are =
         let some : 0 < s.size = byte_range_some v s one.0 in
         let bytes : has_bytes g s.value s.size o ≡ true =
         two_true ((object_of g o).home == s.value) ((object_of g o).size == s.size) (eq-eqb (object_of g o).home s.value (sym home)) (eq-eqb (object_of g o).size s.size (sym size)) in
-        let found = value_found v board g places s.value s.size taken k 0 is some below bytes in
-        let value : m.value ≡ start_place places o = eqb-true m.value ((data_placing board g taken).place o) whole.1 ∙ sym (are.exact o (listed k 0 below)) in
-        ap (λ (b : Bool). is_value (if b then range_value g places s.value s.size taken else None) m.value) one.0
+        let found = value_found v board g places s.value s.size pl.taken k 0 is some below bytes in
+        let value : m.value ≡ start_place places o = eqb-true m.value (pl.place o) whole.1 ∙ sym (are o (listed k 0 below)) in
+        ap (λ (b : Bool). is_value (if b then range_value g places s.value s.size pl.taken else None) m.value) one.0
         ∙ ap (λ (x : Option ℕ). is_value x m.value) found
         ∙ eq-eqb m.value (start_place places o) value
 
-pub moves_are : (v : PlainView) (board : Board) (g : Graph) (places : Places) (taken : List ℕ) → IsGraph v board g → AreOfGraph g taken → ArePlacesOf board g taken places → AreSymbolMoves v g (data_placing board g taken) (moves_below v g places taken (length v.symbols))
-moves_are v board g places taken is listed are =
+pub moves_are : (v : PlainView) (board : Board) (g : Graph) (places : Places) (pl : Placing) → IsGraph v board g → AreOfGraph g pl.taken → ArePlacedAs g places pl.place → AreSymbolMoves v g pl (moves_below v g places pl.taken (length v.symbols))
+moves_are v board g places pl is listed are =
     record {
-      distinct = distinct_all v g places taken (length v.symbols);
+      distinct = distinct_all v g places pl.taken (length v.symbols);
       exact = λ m.
-          listed_moves v g places taken m (length v.symbols)
-          ∙ ap (λ (b : Bool). nat_lt m.symbol (length v.symbols) && b) (value_same v board g places taken m is listed are);
+          listed_moves v g places pl.taken m (length v.symbols)
+          ∙ ap (λ (b : Bool). nat_lt m.symbol (length v.symbols) && b) (value_same v board g places pl m is listed are);
     }

@@ -131,7 +131,7 @@ module _ (file : List ℕ) (board : Board) (g : Graph) (places : Places) (region
       let there : has homes (get_or kept i d).0 ≡ true = subst (λ (a : ℕ). has homes a ≡ true) (sym home) (has_at homes j 0 (omega (arith, within, count_pads))) in
       absurd (cc (none_there, there))
 
-  all_placed : All (IsPlaced v) padded
+  pub all_placed : All (IsPlaced v) padded
   all_placed = subst (All (IsPlaced v)) (sym is.whole) (All-append (IsPlaced v) kept pads kept_placed pads_placed)
 
   abbrev Apart : ℕ × ℕ → ℕ × ℕ → Type 0

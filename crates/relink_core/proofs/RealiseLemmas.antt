@@ -95,11 +95,11 @@ homes_off : (file : List ℕ) (board : Board) (g : Graph) → IsAccepted file bo
 homes_off file board g accepted o i j inside within same =
     home_off_scratchpad (view_in file) board g o i j accepted.layout accepted.graph.objects inside within same
 
-codes : (file : List ℕ) (board : Board) (g : Graph) → IsAccepted file board g → SitesAreCode (view_in file) g
+pub codes : (file : List ℕ) (board : Board) (g : Graph) → IsAccepted file board g → SitesAreCode (view_in file) g
 codes file board g accepted k below =
     code_of (view_in file) (length g.objects.items) (site_at g k) (site_listed (view_in file) g.objects.items g.sites.items k accepted.graph.sites below)
 
-graphs : (file : List ℕ) (board : Board) (g : Graph) → IsAccepted file board g → AreGraphs g
+pub graphs : (file : List ℕ) (board : Board) (g : Graph) → IsAccepted file board g → AreGraphs g
 graphs file board g accepted =
     record {
       sites = λ k below. (site_listed (view_in file) g.objects.items g.sites.items k accepted.graph.sites below).object;

@@ -95,7 +95,7 @@ module _ (file : List ℕ) (board : Board) (g : Graph) (places : Places) (taken 
         moves = moves;
         words = words;
         patched = is.put.writable.patched;
-        symbols = moves_are v board g places taken accepted.graph is.put.listed is.put.are;
+        symbols = moves_are v board g places (data_placing board g taken) accepted.graph is.put.listed is.put.are.exact;
         code = start_words;
         bytes = is.bytes ∙ ap (λ (x : NewSegment). written v patches (Some x) moves) same_segment;
         view = is.view ∙ ap (λ (x : NewSegment). written_view v patches (Some x) moves) same_segment;

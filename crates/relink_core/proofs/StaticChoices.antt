@@ -193,7 +193,7 @@ pub record Takes (board : Board) (g : Graph) (c : Code) (items : List Item) (os 
   pub room : spans (objects_of g) os + sum_by (range_span g c) rs ≤ board.spm.size
   pub patch : 44 * length os + sum_by (range_patch g c) rs ≤ board.patch.size - least_patch board.fence_i
 
-off_fits : (p : PlainProgramme) (choice : PlainChoice) → choice.on ≡ false → IsFeasible p choice → Fits p.off choice.take
+pub off_fits : (p : PlainProgramme) (choice : PlainChoice) → choice.on ≡ false → IsFeasible p choice → Fits p.off choice.take
 off_fits p choice off feasible = subst (λ (on : Bool). IsSomeAnd (side_for p on) (λ side. Fits side choice.take)) off feasible
 
 patch_room : (fence : Bool) (size : ℕ) → size - (84 + (if fence then 4 else 0)) ≡ size - least_patch fence

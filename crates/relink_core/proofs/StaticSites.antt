@@ -1,37 +1,34 @@
 -- The new words of sites, for copies: each unit of the code that is a site has its word.
-use Rattle.std.proofs.Common.{◌≡◌, ◌∙◌, inl, inr, ℕ, zero, suc, ◌+◌, ◌*◌, ◌%◌, ◌<◌, ◌≤◌, ◌==◌, Bool, true, false, ◌&&◌, if◌then◌else◌, List, [], ◌∷◌, map, replicate, length, get_or, None, refl, sym, ap, subst, arith}
+use Rattle.std.proofs.Common.{◌≡◌, ◌∙◌, inl, inr, ℕ, zero, suc, ◌+◌, ◌<◌, ◌≤◌, ◌==◌, Bool, true, false, if◌then◌else◌, List, [], ◌∷◌, map, replicate, length, get_or, None, refl, sym, ap, subst, arith}
 use Rattle.std.specs.List.{AllPairs, list_any}
 use Rattle.std.specs.List.Sorted.{IsStrictlyIncreasing}
 use Rattle.std.proofs.lemmas.Bool.{eqb-true, eq-eqb}
 use Rattle.std.proofs.lemmas.Bool.Decides.{nat_tests}
 use Rattle.std.proofs.lemmas.List.{get_or-map, get_or_default, length-map}
 use Rattle.std.proofs.lemmas.List.Folds.{list_any_at}
-use Rattle.list_checks.specs.Tests.{any_below}
-use Rattle.list_checks.proofs.TestLemmas.{both, any_at, same_tests}
+use Rattle.list_checks.proofs.TestLemmas.{both, same_tests}
 use Rattle.list_checks.proofs.StepLemmas.{any_place}
-use Rattle.elf_reader.specs.File.{PlainView, plain_view, view_in}
+use Rattle.elf_reader.specs.File.{PlainView, view_in}
 use Rattle.elf_reader.specs.Faults.{first_fault}
-use Rattle.elf_reader.specs.declared.view.ElfView.{ElfView}
 use Rattle.board_config.specs.declared.board.Board.{Board}
-use Rattle.loaded_file.specs.Code.{is_code_word, holds_code, image_word}
-use Rattle.loaded_file.specs.Read.{IsRead}
+use Rattle.loaded_file.specs.Code.{is_code_word, image_word}
 use Rattle.object_graph.specs.Graphs.{IsGraph}
 use Rattle.object_graph.specs.Lookups.{stands_at}
 use Rattle.object_graph.specs.declared.parts.Site.{Site}
 use Rattle.object_graph.specs.declared.parts.Graph.{Graph}
-use Rattle.code_blocks.specs.Blocks.{IsCode, IsBlock, unit_at, unit_addresses, goes_on}
-use Rattle.code_blocks.specs.Ends.{words_left}
+use Rattle.code_blocks.specs.Blocks.{IsCode}
 use Rattle.code_blocks.specs.Leads.{no_unit}
 use Rattle.code_blocks.specs.declared.parts.Unit.{Unit}
-use Rattle.code_blocks.specs.declared.parts.Block.{Block}
 use Rattle.code_blocks.specs.declared.parts.Code.{Code}
-use Rattle.object_machine.proofs.RangeLemmas.{read_ranges, left_at, left_further}
-use Rattle.object_machine.proofs.TableLemmas.{block_is_code}
-use Rattle.block_splitter.specs.Forms.{is_site, body_of, body_at, unit_in}
+use Rattle.block_splitter.specs.Forms.{is_site, body_at, unit_in}
 use Rattle.block_splitter.specs.Copies.{Patch, address_in, word_of_unit, HasSites}
 use Rattle.cell_values.specs.Stands.{address_word}
 use Rattle.word_bits.specs.Words.{plus}
 use Rattle.relocator.specs.declared.places.Places.{Places}
+use Rattle.result_setups.specs.HomeLaws.{IsAccepted}
+use Rattle.result_setups.specs.LiveUnits.{UnitsStand}
+use Rattle.result_setups.specs.MovedLaws.{unnamed_in}
+use Rattle.result_setups.proofs.CodeUnits.{body_units, code_units_stand}
 use Rattle.relocator.specs.Placing.{place_at}
 use Rattle.result_setups.specs.Placement.{Placement, AreWordsOfSites}
 use Rattle.relocator.specs.SiteWords.{no_site, site_at, data_word_at, is_entry, has_entry, site_address, IsSiteWord, IsNewAtSite, AreSiteWords}
@@ -40,75 +37,17 @@ use Rattle.relink_core.proofs.WritableLemmas.{entry_itself}
 
 -- ---- units
 
-address_next : (v : PlainView) (a n k : ℕ) (on : Bool) → goes_on v a ≡ on → k < length (a ∷ (if on then unit_addresses v (a + 4) n else [])) → ((j : ℕ) → j < length (unit_addresses v (a + 4) n) → (get_or (unit_addresses v (a + 4) n) j 0 ≡ a + 4 + 4 * j) × (j < n)) → (get_or (a ∷ (if goes_on v a then unit_addresses v (a + 4) n else [])) k 0 ≡ a + 4 * k) × (k < suc n)
-address_next v a n zero on is below rest = (omega arith, omega arith)
-address_next v a n (suc k) false is below rest = absurd (omega (arith, below))
-address_next v a n (suc k) true is below rest =
-    let found = rest k (omega (arith, below)) in
-    let at = found.0 in
-    let less = found.1 in
-    let same : get_or (a ∷ (if goes_on v a then unit_addresses v (a + 4) n else [])) (suc k) 0 ≡ get_or (unit_addresses v (a + 4) n) k 0 =
-    ap (λ (t : Bool). get_or (if t then unit_addresses v (a + 4) n else []) k 0) is in
-    (omega (arith, same, at), omega (arith, less))
-
-address_at : (v : PlainView) (a n k : ℕ) → k < length (unit_addresses v a n) → (get_or (unit_addresses v a n) k 0 ≡ a + 4 * k) × (k < n)
-address_at v a zero k below = absurd (omega (arith, below))
-address_at v a (suc n) k below =
-    address_next v a n k (goes_on v a) refl below (λ j inside. address_at v (a + 4) n j inside)
-
 -- each unit stands at a word of code
 abbrev pub AreUnitsCode : PlainView → Code → Type 0
 AreUnitsCode v c =
     (b k : ℕ) → b < length c.blocks.items → k < length (body_at c.blocks.items b).units → is_code_word v (unit_in (body_at c.blocks.items b) k).at ≡ true
 
-two_true : (a b : Bool) → a ≡ true → b ≡ true → a && b ≡ true
-two_true a b first last = rw (first, last) refl
-
-start_even : (v : PlainView) (a : ℕ) → is_code_word v a ≡ true → a % 4 ≡ 0
-start_even v a code = eqb-true (a % 4) 0 (both (a % 4 == 0) (any_below (holds_code v a) (length v.sections)) code).0
-
-units_of_block : (view : ElfView) (c : Code) (b k : ℕ) (block : Block) → IsRead view → IsCode (plain_view view) c → b < length c.blocks.items → block ≡ get_or c.blocks.items b block → k < length block.units.items → is_code_word (plain_view view) (get_or block.units.items k no_unit).at ≡ true
-units_of_block view c b k block read code below is inside =
-    let v = plain_view view in
-    let found : IsBlock v c.functions.items block = subst (IsBlock v c.functions.items) (sym is) (code.blocks b block below) in
-    let begins : is_code_word v block.start ≡ true = subst (λ (d : Block). is_code_word v d.start ≡ true) (sym is) (block_is_code v c b block code below) in
-    let count : length block.units.items ≡ length (unit_addresses v block.start (words_left v block.start)) =
-    sym (length-map block.units.items unit_at) ∙ ap (λ (xs : List ℕ). length xs) found.addresses in
-    let at = address_at v block.start (words_left v block.start) k (omega (arith, count, inside)) in
-    let address : (get_or block.units.items k no_unit).at ≡ block.start + 4 * k =
-    sym (get_or-map unit_at block.units.items k no_unit 0 inside) ∙ ap (λ (xs : List ℕ). get_or xs k 0) found.addresses ∙ at.0 in
-    let ranges = read_ranges view read in
-    let (range, has) = left_at v block.start ranges begins in
-    let further = left_further v block.start range k ranges has at.1 in
-    let even = start_even v block.start begins in
-    let here : is_code_word v (block.start + 4 * k) ≡ true =
-    two_true ((block.start + 4 * k) % 4 == 0) (any_below (holds_code v (block.start + 4 * k)) (length v.sections))
-    (eq-eqb ((block.start + 4 * k) % 4) 0 (omega (arith, even)))
-    (any_at (holds_code v (block.start + 4 * k)) (length v.sections) range further.below further.holds) in
-    subst (λ (a : ℕ). is_code_word v a ≡ true) (sym address) here
-
-pub units_code : (view : ElfView) (c : Code) → IsRead view → IsCode (plain_view view) c → AreUnitsCode (plain_view view) c
-units_code view c read code b k below inside =
-    let block = some_block c.blocks.items b in
-    let same : body_at c.blocks.items b ≡ body_of (block below) = body_there c.blocks.items b below in
-    let within : k < length (block below).units.items = subst (λ d. k < length d.units) same inside in
-    subst (λ d. is_code_word (plain_view view) (unit_in d k).at ≡ true) (sym same)
-    (units_of_block view c b k (block below) read code below (block_there c.blocks.items b below) within)
-  where
-    some_block : (blocks : List Block) (b : ℕ) → b < length blocks → Block
-    some_block [] b below = absurd (omega (arith, below))
-    some_block (x ∷ xs) zero below = x
-    some_block (x ∷ xs) (suc b) below = some_block xs b (omega (arith, below))
-
-    body_there : (blocks : List Block) (b : ℕ) (below : b < length blocks) → body_at blocks b ≡ body_of (some_block blocks b below)
-    body_there [] b below = absurd (omega (arith, below))
-    body_there (x ∷ xs) zero below = refl
-    body_there (x ∷ xs) (suc b) below = body_there xs b (omega (arith, below))
-
-    block_there : (blocks : List Block) (b : ℕ) (below : b < length blocks) → some_block blocks b below ≡ get_or blocks b (some_block blocks b below)
-    block_there [] b below = absurd (omega (arith, below))
-    block_there (x ∷ xs) zero below = refl
-    block_there (x ∷ xs) (suc b) below = block_there xs b (omega (arith, below))
+pub units_code : (file : List ℕ) (board : Board) (g : Graph) (c : Code) → IsAccepted file board g → IsCode (view_in file) c → AreUnitsCode (view_in file) c
+units_code file board g c accepted code b k below inside =
+    let stand : UnitsStand (view_in file) (unnamed_in file board g) c = code_units_stand file board g c accepted code in
+    let same = body_units c.blocks.items b in
+    subst (λ (us : List Unit). is_code_word (view_in file) (get_or us k no_unit).at ≡ true) (sym same)
+    (stand.code b k (subst (λ (us : List Unit). k < length us) same inside))
 
 -- ---- words of data
 

@@ -164,12 +164,18 @@ is_laid v board none =
       spm = not_true (ranges_overlap board.spm.base board.spm.size board.patch.base board.patch.size) (holds _ SpmOverlapsPatch fourth.0);
     }
 
-pub is_near : (file : List ℕ) (board : Board) (g : Graph) → IsAccepted file board g → IsNear (view_in file) board
-is_near file board g accepted =
+-- a word of code stands near the patch range
+pub record IsNearTo (board : Board) (a : ℕ) : Type 0 where
+  pub even : a % 4 ≡ 0
+  pub above : a < board.patch.base + 1048576
+  pub below : board.patch.base + board.patch.size ≤ a + 1048576
+  pub small : a < 4294967296
+
+pub word_near : (file : List ℕ) (board : Board) (g : Graph) (a : ℕ) → IsAccepted file board g → is_code_word (view_in file) a ≡ true → IsNearTo board a
+word_near file board g a accepted code =
     let v = view_in file in
     let laid = is_laid v board accepted.layout in
-    let code = entry_is_code v accepted.code in
-    let range = code_range v v.entry code in
+    let range = code_range v a code in
     let k = range.0 in
     let in_it = range.1 in
     let from = in_it.from in
@@ -180,19 +186,30 @@ is_near file board g accepted =
     let first = least_patched v board (length v.sections) in
     let last = greatest_patched v board (length v.sections) in
     let near = laid.near in
-    let patch = accepted.lawful.ranges 2 board.patch (omega arith) in
-    let size = patch.some in
-    let ends = patch.within in
+    let size = (accepted.lawful.ranges 2 board.patch (omega arith)).some in
     let loadable = load_segments_loadable file accepted.bytes (none_of_headers file accepted.none) in
-    let small = code_below v v.entry loadable code in
+    let small = code_below v a loadable code in
     record {
-      base = accepted.lawful.patch.base;
-      some = size;
-      ends = omega (arith, ends);
-      entry = code_even v v.entry code;
+      even = code_even v a code;
       above = omega (arith, from, to, least, greatest, first, last, near, size);
       below = omega (arith, from, to, least, greatest, first, last, near, size);
       small = omega (arith, small);
+    }
+
+pub is_near : (file : List ℕ) (board : Board) (g : Graph) → IsAccepted file board g → IsNear (view_in file) board
+is_near file board g accepted =
+    let v = view_in file in
+    let near = word_near file board g v.entry accepted (entry_is_code v accepted.code) in
+    let patch = accepted.lawful.ranges 2 board.patch (omega arith) in
+    let ends = patch.within in
+    record {
+      base = accepted.lawful.patch.base;
+      some = patch.some;
+      ends = omega (arith, ends);
+      entry = near.even;
+      above = near.above;
+      below = near.below;
+      small = near.small;
     }
 
 -- the stub's size, and where its jump stands
@@ -273,7 +290,7 @@ can_start file board g taken accepted off can =
 
 -- ---- the plan that the code makes
 
-jobs_same : (g : Graph) (one other : ℕ → ℕ) (taken : List ℕ) → All (λ o. o < length g.objects.items) taken → ((o : ℕ) → o < length g.objects.items → one o ≡ other o) → map (start_job (objects_of g) one) taken ≡ map (start_job (objects_of g) other) taken
+pub jobs_same : (g : Graph) (one other : ℕ → ℕ) (taken : List ℕ) → All (λ o. o < length g.objects.items) taken → ((o : ℕ) → o < length g.objects.items → one o ≡ other o) → map (start_job (objects_of g) one) taken ≡ map (start_job (objects_of g) other) taken
 jobs_same g one other [] listed same = refl
 jobs_same g one other (o ∷ os) listed same =
     let here = same o (listed 0 o (omega arith)) in

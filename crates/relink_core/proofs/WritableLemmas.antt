@@ -34,6 +34,7 @@ use Rattle.result_setups.proofs.Words.{code_range}
 use Rattle.relocator.specs.declared.places.Places.{Places}
 use Rattle.relocator.specs.SiteWords.{site_at, is_entry, AreSiteWords}
 use Rattle.relink_core.specs.Faults.{headers_fault}
+use Rattle.relink_core.specs.Realises.{data_placing}
 use Rattle.relink_core.specs.Making.{patch_of, AreOfGraph, ArePlacesOf, ArePatchesFor, IsStartSegment, moves_below}
 use Rattle.relink_core.proofs.StubLemmas.{entry_is_code, is_laid, is_near}
 use Rattle.relink_core.proofs.PatchPlaces.{HoldsWord, code_held, data_held, patch_stands, stands_loaded, stand_disjoint}
@@ -80,7 +81,7 @@ some_header file board g accepted =
     let few = few_segments file (program_header_count file) in
     omega (arith, below, few)
 
-few_headers : (file : List ℕ) → first_fault file ≡ None → program_header_count file ≤ 64
+pub few_headers : (file : List ℕ) → first_fault file ≡ None → program_header_count file ≤ 64
 few_headers file none =
     let h = file_header file in
     let header = (both_none (header_fault file) _ none).0 in
@@ -98,7 +99,7 @@ not_full count none is =
     let same = eq-eqb count 64 is in
     absurd (cc (other, same))
 
-small_file : (file : List ℕ) → first_fault file ≡ None → length file ≤ 67108864
+pub small_file : (file : List ℕ) → first_fault file ≡ None → length file ≤ 67108864
 small_file file none =
     let size = (both_none (size_fault file) _ (both_none (header_fault file) _ none).0).0 in
     leb-true (length file) 67108864 (holds (nat_le (length file) 67108864) _ (both_none _ _ size).0)
@@ -196,7 +197,7 @@ is_writable file board g places taken patches s accepted headers codes listed ar
       patched = subst (All (PatchesLoadedWord v)) (sym put) patched;
       disjoint = subst (AllPairs ArePatchesDisjoint) (sym put) disjoint;
       symbols = below_all v g places taken (length v.symbols);
-      distinct = (moves_are v board g places taken accepted.graph listed are).distinct;
+      distinct = (moves_are v board g places (data_placing board g taken) accepted.graph listed are.exact).distinct;
       allowed = addable;
       short = omega (arith, size, small, few, inside, ends, pad);
     }

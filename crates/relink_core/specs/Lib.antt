@@ -8,4 +8,5 @@ pub mod Making
 pub mod Static
 pub mod Placed
 pub mod Segments
+pub mod TakenItems
 pub mod Statements

@@ -3,6 +3,7 @@
 
 mod analysis;
 mod fault;
+mod item_results;
 mod laws;
 mod naming;
 mod patch_code;

@@ -1,7 +1,7 @@
 //! The new segment of a result: control words, the start stub, stubs at entries, and images.
-ghost use Rattle.std.specs.Prelude.{◌≡◌, ℕ, ◌+◌, ◌*◌, ◌<◌, ◌++◌, map, length, IfOk, OnOk};
+ghost use Rattle.std.specs.Prelude.{◌≡◌, ℕ, ◌+◌, ◌*◌, ◌<◌, ◌++◌, map, length, IfOk, OnOk, All};
 ghost use Rattle.overlay_stubs.specs.Layout.{CanStand};
-ghost use Rattle.overlay_stubs.specs.Plans.{code_plan, words_of, IsPlainPlan};
+ghost use Rattle.overlay_stubs.specs.Plans.{code_plan, words_of, IsPlain, IsPlainPlan};
 ghost use Rattle.result_setups.specs.Placement.{piece_bytes};
 ghost use Rattle.result_setups.specs.Result.{code_job};
 ghost use Rattle.relink_core.specs.Static.{placed_pieces};
@@ -60,8 +60,11 @@ pub(crate) fn patch_plan(
 ) -> Result<StubPlan, AllocError>
     requires listed { AreOfGraph items.now.graph.now items.now.objects.now }
     requires starts { HasStarts items.now.graph.now items.now.places.now }
+    requires plain { All IsPlain stubs.items }
     requires room { first_image board.now items.now.objects.now items.now.copies.now stubs.items + copies_bytes items.now.copies.now < 4294967296 }
-    ensures { IfOk result (λ plan. code_plan plan ≡ patch_plan entry board.now items.now.graph.now (start_place items.now.places.now) items.now.objects.now (first_image board.now items.now.objects.now items.now.copies.now stubs.items) items.now.copies.now stubs.items) }
+    ensures plain { IfOk result IsPlainPlan }
+    ensures stubs { IfOk result (λ plan. plan.stubs.items ≡ stubs.items) }
+    ensures plan { IfOk result (λ plan. code_plan plan ≡ patch_plan entry board.now items.now.graph.now (start_place items.now.places.now) items.now.objects.now (first_image board.now items.now.objects.now items.now.copies.now stubs.items) items.now.copies.now stubs.items) }
 {
     let jobs = items.objects.len() + items.copies.len();
     let first = first_image(board, jobs, stubs.len());

@@ -75,7 +75,7 @@ pub fn realise(
 }
 
 /// The bytes once more.
-fn copied(alloc: Global, bytes: &[u8]) -> Result<Vec<u8>, AllocError>
+pub(crate) fn copied(alloc: Global, bytes: &[u8]) -> Result<Vec<u8>, AllocError>
     ensures { IfOk result (λ out. out.items ≡ bytes.now) }
 {
     bytes.to_vec(alloc)

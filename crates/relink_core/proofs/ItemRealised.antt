@@ -1,0 +1,44 @@
+-- A result in which static items stand in the scratchpad realises its choice, and keeps the meaning of its program.
+use Rattle.std.proofs.Common.{◌≡◌, sym, subst, ℕ, ◌<◌, List, [], length, refl, arith}
+use Rattle.std.proofs.lemmas.List.{length-map}
+use Rattle.board_config.specs.declared.board.Board.{Board}
+use Rattle.object_graph.specs.declared.parts.Graph.{Graph}
+use Rattle.code_blocks.specs.declared.parts.Code.{Code}
+use Rattle.block_splitter.specs.declared.piece.Piece.{Piece}
+use Rattle.placement_programme.specs.Plain.{PlainProgramme, PlainChoice, plain_var}
+use Rattle.placement_programme.specs.declared.sides.Programme.{Programme}
+use Rattle.placement_programme.specs.Bounds.{AscendWithin}
+use Rattle.placement_programme.specs.Views.{plain_programme}
+use Rattle.relink_core.proofs.StaticChoices.{off_fits}
+use Rattle.placement_programme.specs.Programme.{side_for}
+use Rattle.relocator.specs.Slots.{item_at, vars_for, items_of}
+use Rattle.result_setups.specs.MovedLaws.{KeepsRuns}
+use Rattle.result_setups.proofs.ResultRuns.{result_keeps}
+use Rattle.relink_core.specs.Choices.{IsAnalysisOf, IsStaticChoice}
+use Rattle.relink_core.specs.Placed.{taken_of, MovesItems, Realises, hands_on, moves}
+use Rattle.relink_core.specs.declared.analysis.Analysis.{Analysis}
+use Rattle.relink_core.proofs.RealiseLemmas.{prepared}
+
+-- ---- what is realised
+
+pub nothing_realised : (file : List ℕ) (board : Board) (g : Graph) (c : Code) (pieces : List Piece) (p : PlainProgramme) (choice : PlainChoice) (out : List ℕ) → IsStaticChoice board g c pieces p choice → choice.take ≡ [] → out ≡ file → Realises file board g c (taken_of p choice) out
+nothing_realised file board g c pieces p choice out is none same = hands_on is.off (rw none refl) same
+
+pub items_realised : (file : List ℕ) (board : Board) (g : Graph) (c : Code) (pieces : List Piece) (p : PlainProgramme) (choice : PlainChoice) (out : List ℕ) → IsStaticChoice board g c pieces p choice → 0 < length choice.take → MovesItems file board g c (items_of p choice) out → Realises file board g c (taken_of p choice) out
+items_realised file board g c pieces p choice out is some moved =
+    let count = length-map choice.take (item_at (vars_for (side_for p choice.on))) in
+    moves is.off (omega (arith, count, some)) moved
+
+-- ---- the meaning
+
+pub items_keep : (file : List ℕ) (board : Board) (a : Analysis) (p : PlainProgramme) (choice : PlainChoice) (out : List ℕ) → IsAnalysisOf file board a → MovesItems file board a.graph a.code (items_of p choice) out → KeepsRuns file out board
+items_keep file board a p choice out is moved =
+    result_keeps file out board a.graph a.code moved.pl
+    (record { accepted = (prepared file board a is).accepted; code = is.code; placement = moved.placement; view = moved.shows })
+
+-- ---- what is taken
+
+pub static_numbers : (board : Board) (g : Graph) (c : Code) (pieces : List Piece) (p : Programme) (choice : PlainChoice) (take : List ℕ) → IsStaticChoice board g c pieces (plain_programme p) choice → take ≡ choice.take → AscendWithin 0 (length p.off.vars.items) take
+static_numbers board g c pieces p choice take is same =
+    subst (AscendWithin 0 (length p.off.vars.items)) (sym same)
+    (subst (λ (n : ℕ). AscendWithin 0 n choice.take) (length-map p.off.vars.items plain_var) (off_fits (plain_programme p) choice is.off is.feasible).numbers)
