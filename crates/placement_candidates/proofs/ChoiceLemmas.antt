@@ -35,10 +35,10 @@ use Rattle.placement_candidates.proofs.AddingLemmas.{items_sum}
 
 -- ---- the numbers of the variables that are kept
 
-abbrev numbers : (ℕ → Bool) → ℕ → List ℕ
+abbrev pub numbers : (ℕ → Bool) → ℕ → List ℕ
 numbers test n = collected test (λ k. k) n
 
-abbrev number_at : List ℕ → ℕ → ℕ
+abbrev pub number_at : List ℕ → ℕ → ℕ
 number_at ns k = slice_index_or ns k 0
 
 record AreNumbers (test : ℕ → Bool) (bound : ℕ) (ns : List ℕ) : Type 0 where
@@ -106,7 +106,7 @@ are_numbers test (suc n) =
       | inr none ↦ subst (λ (more : List ℕ). AreNumbers test (suc n) (numbers test n ++ more)) (sym (rw none refl)) (no_number test n (numbers test n) earlier)
     ]
 
-abbrev kept_of : List PlainFullVar → ℕ → PlainVar
+abbrev pub kept_of : List PlainFullVar → ℕ → PlainVar
 kept_of vs k = plain_kept (var_in vs k)
 
 map_more : (f : ℕ → PlainVar) (ns more : List ℕ) → map f (ns ++ more) ≡ map f ns ++ map f more
@@ -145,7 +145,7 @@ data_at w l ms (suc n) k below =
           ∙ (get_or-append_seam (data_vars w l ms n) (data_var w l ms n) [] no_var ∙ ap (data_var w l ms) (sym last))
     ]
 
-some_piece : (ps : List Piece) (j : ℕ) → j < length ps → Piece
+pub some_piece : (ps : List Piece) (j : ℕ) → j < length ps → Piece
 some_piece [] j below = absurd (omega (arith, below))
 some_piece (p ∷ ps) j below = p
 
@@ -165,24 +165,24 @@ shape_range c p (f, inr (inr single)) = single.is_range
 pub piece_range : (c : Code) (g : Graph) (pieces : List Piece) (j : ℕ) (d : Piece) → AreSomePieces c g pieces → j < length pieces → IsRange c (range_of (slice_index_or pieces j d))
 piece_range c g pieces j d are below = shape_range c (slice_index_or pieces j d) (are.each j d below).copied.shape
 
-abbrev object_count : Scene → ℕ
+abbrev pub object_count : Scene → ℕ
 object_count w = length w.graph.objects.items
 
 -- a variable has the gain of its name, and is static; those of objects stand before those of pieces
-vars_count : (w : Scene) (l : Layout) (pieces : List Piece) (ms : List Transition) → length (static_vars w l pieces ms) ≡ object_count w + length pieces
+pub vars_count : (w : Scene) (l : Layout) (pieces : List Piece) (ms : List Transition) → length (static_vars w l pieces ms) ≡ object_count w + length pieces
 vars_count w l pieces ms =
     let all = length-append (data_vars w l ms (object_count w)) (map (code_var w l ms) pieces) in
     let objects = data_count w l ms (object_count w) in
     let code = length-map pieces (code_var w l ms) in
     omega (arith, all, objects, code)
 
-object_at : (w : Scene) (l : Layout) (pieces : List Piece) (ms : List Transition) (k : ℕ) → k < object_count w → var_in (static_vars w l pieces ms) k ≡ data_var w l ms k
+pub object_at : (w : Scene) (l : Layout) (pieces : List Piece) (ms : List Transition) (k : ℕ) → k < object_count w → var_in (static_vars w l pieces ms) k ≡ data_var w l ms k
 object_at w l pieces ms k below =
     let count = data_count w l ms (object_count w) in
     get_or_append_left (data_vars w l ms (object_count w)) (map (code_var w l ms) pieces) no_var k (omega (arith, count, below))
     ∙ data_at w l ms (object_count w) k below
 
-piece_at : (w : Scene) (l : Layout) (pieces : List Piece) (ms : List Transition) (k : ℕ) (d : Piece) → object_count w ≤ k → k - object_count w < length pieces → var_in (static_vars w l pieces ms) k ≡ code_var w l ms (slice_index_or pieces (k - object_count w) d)
+pub piece_at : (w : Scene) (l : Layout) (pieces : List Piece) (ms : List Transition) (k : ℕ) (d : Piece) → object_count w ≤ k → k - object_count w < length pieces → var_in (static_vars w l pieces ms) k ≡ code_var w l ms (slice_index_or pieces (k - object_count w) d)
 piece_at w l pieces ms k d from below =
     get_or-append_right (data_vars w l ms (object_count w)) (map (code_var w l ms) pieces) (object_count w) k no_var (data_count w l ms (object_count w)) from
     ∙ get_or-map (code_var w l ms) pieces (k - object_count w) d no_var below
@@ -262,30 +262,33 @@ module _ (board : Board) (g : Graph) (c : Code) (t : RegionTable) (pieces : List
   abbrev l : Layout
   l = layout_of g c t board
 
-  abbrev vs : List PlainFullVar
+  abbrev pub vs : List PlainFullVar
   vs = static_vars w l pieces ms
 
-  abbrev kept : List PlainVar
+  abbrev pub kept : List PlainVar
   kept = kept_below vs (length vs)
 
-  abbrev ns : List ℕ
+  abbrev pub ns : List ℕ
   ns = numbers (is_kept vs) (length vs)
 
   kept_length : length kept ≡ length ns
   kept_length = ap (λ (xs : List PlainVar). length xs) (kept_numbers vs (length vs)) ∙ length-map ns (kept_of vs)
 
-  kept_is : (i : ℕ) → i < length kept → slice_index_or kept i no_kept ≡ kept_of vs (number_at ns i)
-  kept_is i below =
-      ap (λ (xs : List PlainVar). slice_index_or xs i no_kept) (kept_numbers vs (length vs))
-      ∙ get_or-map (kept_of vs) ns i 0 no_kept (let same = kept_length in omega (arith, below, same))
+  pub kept_at_place : (i : ℕ) (d : PlainVar) → i < length kept → slice_index_or kept i d ≡ kept_of vs (number_at ns i)
+  kept_at_place i d below =
+      ap (λ (xs : List PlainVar). slice_index_or xs i d) (kept_numbers vs (length vs))
+      ∙ get_or-map (kept_of vs) ns i 0 d (let same = kept_length in omega (arith, below, same))
 
-  number_below : (i : ℕ) → i < length kept → number_at ns i < length vs
+  kept_is : (i : ℕ) → i < length kept → slice_index_or kept i no_kept ≡ kept_of vs (number_at ns i)
+  kept_is i below = kept_at_place i no_kept below
+
+  pub number_below : (i : ℕ) → i < length kept → number_at ns i < length vs
   number_below i below = (are_numbers (is_kept vs) (length vs)).below i (let same = kept_length in omega (arith, below, same))
 
   number_passes : (i : ℕ) → i < length kept → is_kept vs (number_at ns i) ≡ true
   number_passes i below = (are_numbers (is_kept vs) (length vs)).passes i (let same = kept_length in omega (arith, below, same))
 
-  number_order : (i j : ℕ) → i < j → j < length kept → number_at ns i < number_at ns j
+  pub number_order : (i j : ℕ) → i < j → j < length kept → number_at ns i < number_at ns j
   number_order i j less below = (are_numbers (is_kept vs) (length vs)).ordered i j less (let same = kept_length in omega (arith, below, same))
 
   name_is : (i : ℕ) → i < length kept → kept_name kept i ≡ (var_in vs (number_at ns i)).name

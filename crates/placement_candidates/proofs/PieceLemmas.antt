@@ -74,17 +74,21 @@ code_gain_counted one view board g c t q ms p given is =
 
 -- ---- weights
 
-weights_are : (w : Scene) (l : Layout) (p : Piece) → off_weights l (static_code (part_of w p)) ≡ piece_weights l.grain p
-weights_are w l p =
+-- each entry is one or the other
+pub part_entries : (w : Scene) (p : Piece) → (part_of w p).plain_entries + length (part_of w p).border_entries ≡ length p.entries.items
+part_entries w p =
     let entries = p.entries.items in
     let split = length-filter_both (λ b. not (is_border w b)) (is_border w) (λ b. not_again (is_border w b)) entries in
     let count = length-map (filter (is_border w) entries) (displaced_at w) in
-    ap (λ n. (0, rounded_up l.grain p.bytes) ∷ (1, 44 + p.bytes + 8 * n) ∷ in_rows (2 + p.first) (p.last + 1 - p.first) 1)
-    (ap (λ n. length (filter (λ b. not (is_border w b)) entries) + n) count ∙ split)
+    ap (λ n. length (filter (λ b. not (is_border w b)) entries) + n) count ∙ split
   where
     not_again : (b : Bool) → b ≡ not (not b)
     not_again true = refl
     not_again false = refl
+
+weights_are : (w : Scene) (l : Layout) (p : Piece) → off_weights l (static_code (part_of w p)) ≡ piece_weights l.grain p
+weights_are w l p =
+    ap (λ n. (0, rounded_up l.grain p.bytes) ∷ (1, 44 + p.bytes + 8 * n) ∷ in_rows (2 + p.first) (p.last + 1 - p.first) 1) (part_entries w p)
 
 pub code_var_counted : OneInstruction → (view : ElfView) (board : Board) (g : Graph) (c : Code) (t : RegionTable) (q : Profile) (ms : List Transition) (p : Piece) → Given view board g c t q ms → IsPiece c g p → counted_code_var board.prices q c g board.grain p ≡ code_var (scene_of g c t board) (layout_of g c t board) ms p
 code_var_counted one view board g c t q ms p given is =

@@ -251,7 +251,7 @@ module _ (board : Board) (g : Graph) (c : Code) (pieces : List Piece) (p : Plain
   order : AllPairs ComesBefore names
   order = all_ordered vars choice.take is.side.ordered fits.numbers
 
-  split : names ≡ map object_name os ++ map range_name rs
+  pub split : names ≡ map object_name os ++ map range_name rs
   split = split_names g c names good order
 
   good_parts : All (IsStaticName g c) (map object_name os ++ map range_name rs)

@@ -12,8 +12,8 @@ pub fn absolute_keeps_runs()
     ensures { AbsoluteKeepsRuns }
 {}
 
-/// A feasible choice of the programme that a run states for static data can be realised: its variables are those of
-/// different objects of the graph, in their order, with their weights.
+/// A feasible choice of the programme that a run states for static data and static code can be realised: its variables
+/// are those of different objects of the graph and of different pieces of the code, in their order, with their weights.
 pub fn stated_is_realisable()
     ensures { StatedIsRealisable }
 {}

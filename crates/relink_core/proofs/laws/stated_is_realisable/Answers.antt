@@ -2,4 +2,4 @@ use Rattle.relink_core.proofs.StatedLemmas.{stated_choice}
 use Rattle.relink_core.proofs.laws.stated_is_realisable.Goals as goal
 
 pub returns : goal.returns
-returns c = λ board g code t moves choice feasible. stated_choice board g code t moves choice feasible
+returns c = λ board g code t pieces moves choice are feasible. stated_choice board g code t pieces moves are choice feasible
