@@ -21,7 +21,8 @@ use Rattle.result_setups.specs.Placement.{PlacedPiece, Placement, code_spans, Is
 use Rattle.copied_result.specs.declared.copy_source.CopySource.{CopySource}
 use Rattle.copied_result.specs.declared.placed_copy.PlacedCopy.{PlacedCopy}
 use Rattle.copied_result.specs.Copies.{IsPlacedCopy, range_in, place_in, ArePlacedCopies, range_at, no_range}
-use Rattle.relink_core.specs.Static.{range_bytes, range_span, places_from, placed_piece, placed_pieces, placement_of}
+use Rattle.relink_core.specs.Standing.{HasBytes}
+use Rattle.relink_core.specs.Static.{range_span, places_from, placed_piece, placed_pieces, placement_of}
 use Rattle.relink_core.proofs.StaticChoices.{Takes}
 use Rattle.relink_core.proofs.StaticPlaces.{placing_is, objects_before}
 use Rattle.relink_core.proofs.StaticPieces.{span_least, placed_in, placed_apart, code_at, code_even}
@@ -44,6 +45,12 @@ pairs_placed R image (x ∷ xs) all =
     (pairs_placed R next xs (λ i j d before below. all (suc i) (suc j) d (omega (arith, before)) (omega (arith, below))))
 
 -- ---- the copies
+
+bytes_are : (s : CopySource) (x : PlacedCopy) → IsPlacedCopy s x → HasBytes s.graph.now s.code.now x
+bytes_are s x is = ap (λ (n : ℕ). 4 * n) is.copy.count
+
+pub copies_whole : (s : CopySource) (xs : List PlacedCopy) → All (IsPlacedCopy s) xs → All (HasBytes s.graph.now s.code.now) xs
+copies_whole s xs all k d below = bytes_are s (get_or xs k d) (all k d below)
 
 module _ (board : Board) (s : CopySource) (items : List Item) (os : List ℕ) (rs : List BlockRange) (xs : List PlacedCopy) (image : ℕ) (lawful : IsLawful board) (grain : IsGrain s.graph.now.grain) (takes : Takes board s.graph.now s.code.now items os rs) (are : ArePlacedCopies s rs (places_from s.graph.now s.code.now (code_at board s.graph.now os) rs) xs) where
   abbrev g : Graph
@@ -70,9 +77,6 @@ module _ (board : Board) (s : CopySource) (items : List Item) (os : List ℕ) (r
   even : code_at board g os % 4 ≡ 0
   even = code_even board g os lawful grain
 
-  bytes_are : (x : PlacedCopy) → IsPlacedCopy s x → 4 * length x.code.words.items ≡ range_bytes g c x.range
-  bytes_are x is = ap (λ (n : ℕ). 4 * n) is.copy.count
-
   -- where copy `k` lies, and how many bytes it has
   record Lies (x : PlacedCopy) : Type 0 where
     from : code_at board g os ≤ x.at
@@ -89,7 +93,7 @@ module _ (board : Board) (s : CopySource) (items : List Item) (os : List ℕ) (r
       let to = placed.to in
       let room = takes.room in
       let own : range_span g c x.range ≡ range_span g c (range_at rs k) = ap (range_span g c) (range_is k d below) in
-      let bytes = bytes_are x (are.each k d below) in
+      let bytes = bytes_are s x (are.each k d below) in
       let least = span_least g c x.range grain in
       record { from = omega (arith, from, at); to = omega (arith, at, to, own, room); bytes = omega (arith, bytes, least) }
 
@@ -146,7 +150,7 @@ module _ (board : Board) (s : CopySource) (items : List Item) (os : List ℕ) (r
   spans_are : (image : ℕ) (ys : List PlacedCopy) → All (IsPlacedCopy s) ys → code_spans g.grain (placed_pieces image ys) ≡ sum_by (range_span g c) (map range_in ys)
   spans_are image [] all = refl
   spans_are image (y ∷ ys) all =
-      let here = bytes_are y (All-head (IsPlacedCopy s) y ys all) in
+      let here = bytes_are s y (All-head (IsPlacedCopy s) y ys all) in
       let rest = spans_are (image + 4 * length y.code.words.items) ys (All-tail (IsPlacedCopy s) y ys all) in
       (λ i. rounded_up g.grain (here i) + rest i) ∙ sym (sum_by-cons (range_span g c) y.range (map range_in ys))
 

@@ -8,5 +8,6 @@ pub mod Making
 pub mod Static
 pub mod Placed
 pub mod Segments
+pub mod Standing
 pub mod TakenItems
 pub mod Statements

@@ -1,5 +1,6 @@
 //! The result in which static items stand in the scratchpad.
 ghost use Rattle.std.specs.Prelude.{◌≡◌, ℕ, List, [], length, map, replicate, Some, IfOk};
+ghost use Rattle.std.specs.List.{All};
 ghost use Rattle.elf_reader.specs.File.{plain_view};
 ghost use Rattle.loaded_file.specs.Read.{IsRead};
 ghost use Rattle.object_graph.specs.Graphs.{IsGraph};
@@ -11,16 +12,16 @@ ghost use Rattle.placement_programme.specs.Plain.{PlainProgramme, PlainChoice};
 ghost use Rattle.relocator.specs.Slots.{items_of};
 ghost use Rattle.relocator.specs.SiteWords.{AreSiteWords};
 ghost use Rattle.copied_result.specs.Copies.{range_in, place_in};
-ghost use Rattle.relink_core.specs.Choices.{IsAnalysisOf, IsStaticChoice};
+ghost use Rattle.relink_core.specs.Choices.{IsAnalysisOf, IsStaticChoice, taken_names, KeepsMeaning};
 ghost use Rattle.relink_core.specs.Making.{patch_of, moves_below, HasStarts, AreOfGraph};
 ghost use Rattle.relink_core.specs.Placed.{taken_of, MovesItems, Realises};
+ghost use Rattle.relink_core.specs.Standing.{HasBytes, AreStanding};
 ghost use Rattle.relink_core.specs.TakenItems.{IsTakenFor, IsSourceFor, IsWrittenOf};
 
 use crate::analysis::Analysis;
 use crate::naming::{objects_taken, ranges_taken};
 use crate::patch_code::{PlacedItems, patch_code, patch_plan};
 use crate::patching::patches;
-use crate::realising::copied;
 use crate::symbol_moves::symbol_moves;
 use block_splitter::BlockRange;
 use board_config::Board;
@@ -66,7 +67,8 @@ pub(crate) fn realise_items(
     requires analysis { (file : List ℕ) × IsAnalysisOf file board.now a.now }
     requires choice { IsStaticChoice board.now a.now.graph a.now.code a.now.pieces.items (plain_programme p.now) (plain_choice c.now) }
     ensures realises { IfOk result (λ r. (file : List ℕ) → IsAnalysisOf file board.now a.now → Realises file board.now a.now.graph a.now.code (taken_of (plain_programme p.now) (plain_choice c.now)) r.result.bytes.items) }
-    ensures taken { IfOk result (λ r. IsTakenFor board.now a.now (plain_programme p.now) (plain_choice c.now) r.taken) }
+    ensures keeps { IfOk result (λ r. (file : List ℕ) → IsAnalysisOf file board.now a.now → KeepsMeaning (taken_names (plain_programme p.now) (plain_choice c.now)) file r.result.bytes.items board.now) }
+    ensures stands { IfOk result (λ r. AreStanding board.now a.now.graph a.now.code (plain_programme p.now) (plain_choice c.now) r.taken.objects.items r.result.copies.items r.taken.places) }
 {
     let taken = items_taken(alloc, a, board, p, c)?;
     if c.take.is_empty() {
@@ -86,6 +88,13 @@ pub(crate) fn realise_items(
             Err(error) => Err(error),
         }
     }
+}
+
+/// The bytes once more.
+fn copied(alloc: Global, bytes: &[u8]) -> Result<Vec<u8>, AllocError>
+    ensures { IfOk result (λ out. out.items ≡ bytes.now) }
+{
+    bytes.to_vec(alloc)
 }
 
 /// What a choice of static items takes, and where that stands. It fails only where no memory was left.
@@ -113,7 +122,7 @@ fn items_taken(
 }
 
 /// The result in which items are moved to their places. It fails only where no memory was left.
-pub(crate) fn with_items(
+fn with_items(
     alloc: Global,
     a: &Analysis,
     board: &Board,
@@ -124,6 +133,7 @@ pub(crate) fn with_items(
     ensures moved { IfOk result (λ r. (file : List ℕ) (p : PlainProgramme) (choice : PlainChoice) → IsAnalysisOf file board.now a.now → IsTakenFor board.now a.now p choice taken.now → MovesItems file board.now a.now.graph a.now.code (items_of p choice) r.bytes.items) }
     ensures ranges { IfOk result (λ r. map range_in r.copies.items ≡ taken.now.ranges.items) }
     ensures places { IfOk result (λ r. map place_in r.copies.items ≡ taken.now.places.code.items) }
+    ensures whole { IfOk result (λ r. All (HasBytes a.now.graph a.now.code) r.copies.items) }
 {
     let words = place_words(alloc, &a.view, &a.graph, &taken.places)?;
     match with_words(alloc, a, board, taken, &words) {
@@ -185,6 +195,7 @@ fn with_words(
     ensures moved { IfOk result (λ r. (file : List ℕ) (p : PlainProgramme) (choice : PlainChoice) → IsAnalysisOf file board.now a.now → IsTakenFor board.now a.now p choice taken.now → MovesItems file board.now a.now.graph a.now.code (items_of p choice) r.bytes.items) }
     ensures ranges { IfOk result (λ r. map range_in r.copies.items ≡ taken.now.ranges.items) }
     ensures places { IfOk result (λ r. map place_in r.copies.items ≡ taken.now.places.code.items) }
+    ensures whole { IfOk result (λ r. All (HasBytes a.now.graph a.now.code) r.copies.items) }
 {
     let source = CopySource {
         code: &a.code,
@@ -211,6 +222,7 @@ fn with_source(
     ensures moved { IfOk result (λ r. (file : List ℕ) (p : PlainProgramme) (choice : PlainChoice) → IsSourceFor file board.now view.now source.now p choice taken.now → MovesItems file board.now source.now.graph.now source.now.code.now (items_of p choice) r.bytes.items) }
     ensures ranges { IfOk result (λ r. map range_in r.copies.items ≡ taken.now.ranges.items) }
     ensures places { IfOk result (λ r. map place_in r.copies.items ≡ taken.now.places.code.items) }
+    ensures whole { IfOk result (λ r. All (HasBytes source.now.graph.now source.now.code.now) r.copies.items) }
 {
     let copies = copies(alloc, source, &taken.ranges, &taken.places.code)?;
     let stubs = entry_stubs(alloc, source, &copies)?;

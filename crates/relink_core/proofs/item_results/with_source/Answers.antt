@@ -9,6 +9,7 @@ use Rattle.copied_result.specs.Entries.{entries_of, AreEntryStubs}
 use Rattle.relocator.specs.Placing.{chosen_slots}
 use Rattle.relink_core.proofs.ItemPlan.{has_starts, source_is}
 use Rattle.relink_core.proofs.ItemGoals.{chosen_of, copies_many, copies_can, copies_are, objects_listed, plain_all, room_for, plan_made, plan_can, code_is, homes_ascend, stubs_many, pads_reach, padded_are, may_write, is_moved}
+use Rattle.relink_core.proofs.PlacementMade.{copies_whole}
 use Rattle.relink_core.proofs.item_results.with_source.Goals as goal
 
 pub copies-requires-clause-source : goal.copies-requires-clause-source
@@ -224,3 +225,6 @@ returns-in-Ok-clause-moved c = λ file p choice is.
     let patch = code_is file board s p choice t.places chosen xs stubs are entries q code same c.in_ok-code.ensures in
     let padding = padded_are file board s p choice t.places chosen xs stubs are entries ts at c.deref-8.result.now c.in_ok-padded.padded.items same_stubs same_at c.deref-8.ensures.value c.in_ok-padded.ensures in
     is_moved file board s p choice t.places chosen xs stubs are entries c.deref-8.result.now code padding patch c.args.view.now objects c.in-Ok.bytes.items is.same named c.in-Ok.ensures
+
+pub returns-in-Ok-clause-whole : goal.returns-in-Ok-clause-whole
+returns-in-Ok-clause-whole c = copies_whole c.args.source.now c.in_ok-copies.copies.items c.in_ok-copies.ensures.each
