@@ -13,7 +13,7 @@ use Rattle.board_config.specs.declared.board.Board.{Board}
 use Rattle.object_machine.specs.declared.events.Outcome.{Outcome}
 use Rattle.object_machine.specs.declared.events.Outcome.TheVariants as source
 use Rattle.object_machine.specs.State.{SourceState}
-use Rattle.result_setups.specs.MovedLaws.{most_steps}
+use Rattle.result_setups.specs.ResultLaws.{most_steps}
 use Rattle.compare_runner.specs.declared.comparing.Comparison.{Comparison}
 use Rattle.compare_runner.specs.Comparing.{RunsUntil, IsEnough, IsFar, Judges, Reports, JudgesRun}
 

@@ -18,7 +18,7 @@ use Rattle.object_machine.specs.Paired.{at_start}
 use Rattle.simulation.specs.Laws.{EndsAlike, Keeps}
 use Rattle.simulation.proofs.PairedRuns.{paired_first}
 use Rattle.result_setups.specs.HomeLaws.{program_in, source_start, file_start}
-use Rattle.result_setups.specs.MovedLaws.{most_steps}
+use Rattle.result_setups.specs.ResultLaws.{most_steps}
 use Rattle.compare_runner.specs.declared.comparing.Comparison.{Comparison}
 use Rattle.compare_runner.specs.declared.comparing.Comparison.TheVariants.{Differs}
 use Rattle.compare_runner.specs.Comparing.{RunsUntil, IsFar, AreAlike, Reports, JudgesRun}

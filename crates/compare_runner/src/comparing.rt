@@ -9,7 +9,7 @@ ghost use Rattle.code_leaders.specs.Leaders.{is_leader};
 ghost use Rattle.code_blocks.specs.Blocks.{IsCode};
 ghost use Rattle.object_machine.specs.Program.{program_of};
 ghost use Rattle.object_machine.specs.Start.{start_of};
-ghost use Rattle.result_setups.specs.MovedLaws as moved;
+ghost use Rattle.result_setups.specs.ResultLaws as laws;
 ghost use Rattle.compare_runner.specs.Comparing.{Compares};
 
 use crate::judging::judge;
@@ -85,7 +85,7 @@ pub fn compare(
 
 /// How many steps the result of a program that took so many may take.
 fn most_steps(board: &Board, taken: u64) -> u128
-    ensures { result ≡ (taken + 1) * moved.most_steps board.now }
+    ensures { result ≡ (taken + 1) * laws.most_steps board.now }
 {
     let size = board.spm.size;
     (u128::from(taken) + 1) * (12 * u128::from(size) + 256)

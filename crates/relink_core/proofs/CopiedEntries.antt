@@ -20,9 +20,8 @@ use Rattle.block_splitter.proofs.FieldLemmas.{has_unit}
 use Rattle.block_splitter.proofs.CopySizeLemmas.{holds, range_is, some_word, held_words, words_more}
 use Rattle.overlay_stubs.specs.declared.plan.Stub.{Stub}
 use Rattle.overlay_stubs.specs.Plans.{Jumps, IsPlain}
-use Rattle.result_setups.specs.HomeLaws.{IsAccepted}
+use Rattle.result_setups.specs.HomeLaws.{IsAccepted, unnamed_in}
 use Rattle.result_setups.specs.LiveUnits.{UnitsStand}
-use Rattle.result_setups.specs.MovedLaws.{unnamed_in}
 use Rattle.result_setups.proofs.CodeUnits.{code_units_stand}
 use Rattle.result_setups.specs.Placement.{PlacedPiece, Placement, IsPlacedPiece}
 use Rattle.copied_result.specs.declared.copy_source.CopySource.{CopySource}

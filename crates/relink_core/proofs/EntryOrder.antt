@@ -162,7 +162,7 @@ pub record IsOfCode (c : Code) (e : Entry) : Type 0 where
   pub code : e.copy.code ≡ c
   pub below : e.block < length c.blocks.items
 
-no_stub : Stub
+pub no_stub : Stub
 no_stub = record { home = 0; temp = 0; region = 0; body = Jump 0 }
 
 homes_among : (c : Code) (es : List Entry) (d : Entry) (stubs : List Stub) → IsStrictlyIncreasing (starts_of c) → AllPairs Rises es → All (IsOfCode c) es → AreEntryStubs es stubs → IsStrictlyIncreasing (map home_of stubs)

@@ -45,12 +45,12 @@ use Rattle.relink_core.proofs.ItemPlan as item
 use Rattle.relink_core.proofs.ItemPlan.{IsChosen}
 use Rattle.relink_core.proofs.ItemWritten as made
 use Rattle.relink_core.proofs.ItemView.{items_moved}
-use Rattle.relink_core.proofs.RealiseLemmas.{IsAnalysable, prepared, is_read}
+use Rattle.relink_core.proofs.RealiseLemmas.{is_read}
 
 pub chosen_of : (file : List ℕ) (board : Board) (view : ElfView) (s : CopySource) (p : PlainProgramme) (choice : PlainChoice) (t : TakenItems) → IsSourceFor file board view s p choice t → IsChosen file board s p choice t.places
 chosen_of file board view s p choice t is =
     record {
-      analysable = record { accepted = is.extendable.accepted; headers = is.extendable.headers; patch = is.extendable.patch };
+      extendable = is.extendable;
       code = is.code;
       live = is.live;
       pieces = is.pieces;
@@ -61,7 +61,7 @@ chosen_of file board view s p choice t is =
 
 -- an analysis is such a source, with a slice of its pieces
 pub source_for : (file : List ℕ) (board : Board) (a : Analysis) (s : CopySource) (p : PlainProgramme) (choice : PlainChoice) (t : TakenItems) → IsAnalysisOf file board a → IsTakenFor board a p choice t → s.pieces.now ≡ a.pieces.items
-    → (IsAnalysable file board a.graph → IsExtendable file board s.graph.now) → IsCode (view_in file) s.code.now → IsTableOf s.code.now s.live.now
+    → IsExtendable file board s.graph.now → IsCode (view_in file) s.code.now → IsTableOf s.code.now s.live.now
     → ArePieces s.code.now s.graph.now a.pieces.items → IsStaticChoice board s.graph.now s.code.now a.pieces.items p choice
     → ArePlaces s.graph.now 0 (chosen_slots board p choice) t.places → AreSiteWords (plain_view a.view) s.graph.now t.places (replicate (length s.graph.now.sites.items) 0) s.sites.now → IsSourceFor file board a.view s p choice t
 source_for file board a s p choice t is taken listed extendable code live pieces chosen laid words =
@@ -69,7 +69,7 @@ source_for file board a s p choice t is taken listed extendable code live pieces
     record {
       read = is_read file board a is;
       same = same;
-      extendable = extendable (prepared file board a is);
+      extendable = extendable;
       code = code;
       live = live;
       pieces = subst (ArePieces s.code.now s.graph.now) (sym listed) pieces;
@@ -79,9 +79,6 @@ source_for file board a s p choice t is taken listed extendable code live pieces
       laid = laid;
       words = subst (λ (w : PlainView). AreSiteWords w s.graph.now t.places (replicate (length s.graph.now.sites.items) 0) s.sites.now) same words;
     }
-
-pub extendable_of : (file : List ℕ) (board : Board) (g : Graph) → IsAnalysable file board g → IsExtendable file board g
-extendable_of file board g is = record { accepted = is.accepted; headers = is.headers; patch = is.patch }
 
 module _ (file : List ℕ) (board : Board) (s : CopySource) (p : PlainProgramme) (choice : PlainChoice) (places : Places) (is : IsChosen file board s p choice places) where
   abbrev v : PlainView

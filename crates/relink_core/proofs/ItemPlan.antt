@@ -41,12 +41,12 @@ use Rattle.relink_core.specs.Faults.{least_patch}
 use Rattle.relink_core.specs.Making.{start_place, HasStarts}
 use Rattle.relink_core.specs.Segments.{copied_words, copies_bytes, first_image, patch_plan}
 use Rattle.relink_core.specs.Static.{names_taken, objects_named, ranges_named, placed_pieces, placement_of}
+use Rattle.relink_core.specs.TakenItems.{IsExtendable}
 use Rattle.relink_core.proofs.CopiedEntries.{copies_within, entries_can, entries_of_code, homes_code}
 use Rattle.relink_core.proofs.EntryOrder.{IsBelow, stands_behind, entries_rise, homes_rise}
 use Rattle.relink_core.proofs.ItemPlacement.{takes, off_homes, code_places, copies_may, item_placement}
 use Rattle.relink_core.proofs.PatchPlan.{IsImaged, images_between, plan_stands, images_begin}
 use Rattle.relink_core.proofs.PatchRoom.{has_room}
-use Rattle.relink_core.proofs.RealiseLemmas.{IsAnalysable}
 use Rattle.relink_core.proofs.StaticChoices.{Takes}
 use Rattle.relink_core.proofs.StaticNames.{pairs_of_map}
 use Rattle.relink_core.proofs.StaticPieces.{count_placed, code_at}
@@ -83,7 +83,7 @@ no_plain = record { home = 0; temp = 0; to = 0 }
 
 -- an analysed file, and a choice of static items for it
 pub record IsChosen (file : List ℕ) (board : Board) (s : CopySource) (p : PlainProgramme) (choice : PlainChoice) (places : Places) : Type 0 where
-  pub analysable : IsAnalysable file board s.graph.now
+  pub extendable : IsExtendable file board s.graph.now
   pub code : IsCode (view_in file) s.code.now
   pub live : IsTableOf s.code.now s.live.now
   pub pieces : ArePieces s.code.now s.graph.now s.pieces.now
@@ -108,7 +108,7 @@ module _ (file : List ℕ) (board : Board) (s : CopySource) (p : PlainProgramme)
   rs = ranges_named (names_taken p.off.vars choice.take)
 
   accepted : IsAccepted file board g
-  accepted = is.analysable.accepted
+  accepted = is.extendable.accepted
 
   pub taken : Takes board g c (items_of p choice) os rs
   taken = takes file board s p choice accepted is.pieces is.chosen
@@ -148,7 +148,7 @@ module _ (file : List ℕ) (board : Board) (s : CopySource) (p : PlainProgramme)
     placement = item_placement file board s p choice accepted is.pieces is.chosen places xs image is.laid units is.words copies
 
     pub room : least_patch board.fence_i + 44 * (length os + length xs) + 8 * length stubs + copies_bytes xs ≤ board.patch.size
-    room = has_room board s (items_of p choice) os rs xs places.code.items stubs taken copies entries is.analysable.patch
+    room = has_room board s (items_of p choice) os rs xs places.code.items stubs taken copies entries is.extendable.patch
 
     near : IsNear v board
     near = is_near file board g accepted

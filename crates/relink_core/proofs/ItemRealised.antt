@@ -18,7 +18,7 @@ use Rattle.relocator.specs.Slots.{name_at, item_at, vars_for, items_of, code_slo
 use Rattle.relocator.specs.Placing.{chosen_slots}
 use Rattle.copied_result.specs.declared.placed_copy.PlacedCopy.{PlacedCopy}
 use Rattle.copied_result.specs.Copies.{range_in, place_in}
-use Rattle.result_setups.specs.MovedLaws.{KeepsRuns}
+use Rattle.result_setups.specs.ResultLaws.{KeepsRuns}
 use Rattle.result_setups.proofs.ResultRuns.{result_keeps}
 use Rattle.relink_core.specs.Choices.{IsAnalysisOf, IsStaticChoice, taken_names, KeepsMeaning}
 use Rattle.relink_core.specs.Placed.{taken_of, MovesItems, Realises, hands_on, moves}

@@ -63,17 +63,16 @@ use Rattle.relink_core.specs.Placed.{piece_image, piece_words, placement_entries
 use Rattle.relink_core.specs.Segments.{IsPatchCode}
 use Rattle.relink_core.specs.declared.patch_code.PatchCode.{PatchCode}
 use Rattle.relink_core.proofs.CopiedEntries.{entries_of_code, stubs_all}
-use Rattle.relink_core.proofs.EntryOrder.{IsOfCode}
+use Rattle.relink_core.proofs.EntryOrder.{IsOfCode, no_stub}
 use Rattle.relink_core.proofs.ItemPlan as item
 use Rattle.relink_core.proofs.ItemPlan.{IsChosen, no_plain}
 use Rattle.relink_core.proofs.ItemWritten as made
-use Rattle.relink_core.proofs.ItemWritten.{pieces_copies, no_stub}
+use Rattle.relink_core.proofs.ItemWritten.{pieces_copies}
 use Rattle.relink_core.proofs.LoadableLemmas.{words_are_bytes, written_loadable}
-use Rattle.relink_core.proofs.MovedLemmas.{word_from}
 use Rattle.relink_core.proofs.PadHomes.{IsAmong, piece_entry, entries_padded}
 use Rattle.relink_core.proofs.PaddedPatches.{placed_held, all_placed}
 use Rattle.relink_core.proofs.PatchedMemory as patched
-use Rattle.relink_core.proofs.PatchedMemory.{AreHeld}
+use Rattle.relink_core.proofs.PatchedMemory.{word_from, AreHeld}
 use Rattle.relink_core.proofs.RealiseLemmas.{codes, graphs}
 use Rattle.relink_core.proofs.StaticSites.{data_off_code}
 use Rattle.relink_core.proofs.StubLemmas.{IsNear, is_near}
@@ -149,7 +148,7 @@ module _ (file : List ℕ) (board : Board) (s : CopySource) (p : PlainProgramme)
   rs = item.rs file board s p choice places is
 
   accepted : IsAccepted file board g
-  accepted = is.analysable.accepted
+  accepted = is.extendable.accepted
 
   loadable : AreLoadable v.segments
   loadable = load_segments_loadable file accepted.bytes (none_of_headers file accepted.none)

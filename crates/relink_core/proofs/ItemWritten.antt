@@ -16,7 +16,6 @@ use Rattle.code_blocks.specs.declared.parts.Code.{Code}
 use Rattle.block_splitter.specs.declared.block_range.BlockRange.{BlockRange}
 use Rattle.block_splitter.specs.Copies.{Copy}
 use Rattle.overlay_stubs.specs.declared.plan.Stub.{Stub}
-use Rattle.overlay_stubs.specs.declared.plan.Body.TheVariants.{Jump}
 use Rattle.overlay_stubs.specs.Start.{start_at}
 use Rattle.overlay_stubs.specs.Plans.{jump_of, plain_stub}
 use Rattle.overlay_stubs.specs.Layout.{CodePlan, AreCodeWords, images_at, image_places}
@@ -36,13 +35,13 @@ use Rattle.copied_result.specs.Copies.{copied_in, range_in, place_in, ArePlacedC
 use Rattle.copied_result.specs.Entries.{Entry, entries_of, IsEntryStub, AreEntryStubs}
 use Rattle.copied_result.specs.Padding.{home_of, ArePadded}
 use Rattle.relink_core.specs.Making.{patch_of, moves_below}
-use Rattle.relink_core.specs.Realises.{AreSymbolMoves}
 use Rattle.relink_core.specs.Segments.{copied_words, IsPatchCode}
-use Rattle.relink_core.specs.Placed.{name_in, piece_name, piece_place, piece_image, piece_words, IsPlacedAs, IsStubFor, AreStubsFor, result_plan, ArePatchWords, result_segment, IsWrittenFor}
+use Rattle.relink_core.specs.Placed.{name_in, piece_name, piece_place, piece_image, piece_words, IsPlacedAs, IsStubFor, AreStubsFor, result_plan, ArePatchWords, result_segment, IsWrittenFor, AreSymbolMoves}
 use Rattle.relink_core.specs.Static.{object_name, range_name, named_item, placed_pieces}
 use Rattle.relink_core.specs.declared.patch_code.PatchCode.{PatchCode}
+use Rattle.relink_core.proofs.EntryOrder.{no_stub}
 use Rattle.relink_core.proofs.ItemPlan as item
-use Rattle.relink_core.proofs.ItemPlan.{IsChosen, taken, pl, placement, plan, image, ascending, at_code, stands, begins, stub_at, stand_at}
+use Rattle.relink_core.proofs.ItemPlan.{IsChosen, taken, pl, placement, plan, image, ascending, at_code, begins, stub_at, stand_at}
 use Rattle.relink_core.proofs.MoveLemmas.{below_all, moves_are}
 use Rattle.relink_core.proofs.PaddedPatches.{padded_loaded, padded_apart}
 use Rattle.relink_core.proofs.RealiseLemmas.{codes}
@@ -77,9 +76,6 @@ pieces_copies s place os ps at (x ∷ xs) = let rest = pieces_copies s place os 
 stub_for : (e : Entry) (s : Stub) → IsEntryStub e s → IsStubFor e (plain_stub s)
 stub_for e s is = record { home = is.home; free = is.free; jumps = ap jump_of is.body }
 
-pub no_stub : Stub
-no_stub = record { home = 0; temp = 0; region = 0; body = Jump 0 }
-
 stubs_for : (es : List Entry) (stubs : List Stub) → AreEntryStubs es stubs → AreStubsFor es (map plain_stub stubs)
 stubs_for es stubs are =
     let many = are.many in
@@ -110,7 +106,7 @@ module _ (file : List ℕ) (board : Board) (s : CopySource) (p : PlainProgramme)
   rs = item.rs file board s p choice places is
 
   accepted : IsAccepted file board g
-  accepted = is.analysable.accepted
+  accepted = is.extendable.accepted
 
   module _ (xs : List PlacedCopy) (stubs : List Stub) (copies : ArePlacedCopies s rs places.code.items xs) (entries : AreEntryStubs (entries_of (map (copied_in s) xs)) stubs) where
     abbrev placing : Placement
@@ -195,7 +191,7 @@ module _ (file : List ℕ) (board : Board) (s : CopySource) (p : PlainProgramme)
       pub addable : IsAddable v segment
       addable =
           let size = sized in
-          is_addable file board g segment accepted is.analysable.headers patch.base size.0 size.1
+          is_addable file board g segment accepted is.extendable.headers patch.base size.0 size.1
 
       -- ---- it may be written
 

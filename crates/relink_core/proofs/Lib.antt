@@ -1,14 +1,10 @@
 pub mod KeepsLemmas
 pub mod RegionLemmas
-pub mod DataChoices
-pub mod DataPlaces
 pub mod StubLemmas
 pub mod PatchPlaces
 pub mod MoveLemmas
 pub mod WritableLemmas
-pub mod MovedLemmas
 pub mod LoadableLemmas
-pub mod ResultLemmas
 pub mod RealiseLemmas
 pub mod StatedLemmas
 pub mod StaticNames

@@ -20,7 +20,7 @@ use Rattle.result_setups.specs.Placing.{Placing}
 use Rattle.result_setups.proofs.Lists.{element_found}
 use Rattle.cell_values.proofs.GraphObjects.{objects_differ}
 use Rattle.relocator.specs.declared.places.Places.{Places}
-use Rattle.relink_core.specs.Realises.{same_move, moves_with, AreSymbolMoves}
+use Rattle.relink_core.specs.Placed.{same_move, moves_with, AreSymbolMoves}
 use Rattle.relink_core.specs.Making.{start_place, AreOfGraph, range_value, symbol_value, move_to, moves_below}
 
 -- objects of a graph stand where a table has them

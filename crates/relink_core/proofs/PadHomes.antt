@@ -1,28 +1,23 @@
 -- The homes of stubs are just the addresses at which pads stand.
 use Rattle.std.proofs.Common.{◌≡◌, ◌∙◌, ℕ, zero, suc, ◌+◌, ◌<◌, ◌==◌, Bool, true, ◌&&◌, List, [], ◌∷◌, ◌++◌, map, length, get_or, refl, sym, ap, subst, arith}
-use Rattle.std.specs.List.{All, list_any}
-use Rattle.std.proofs.lemmas.Bool.{eqb-true, eq-eqb}
+use Rattle.std.specs.List.{All}
+use Rattle.std.proofs.lemmas.Bool.{eq-eqb}
 use Rattle.std.proofs.lemmas.List.{get_or-map, length-map, length-append, get_or_append_left, get_or-append-add}
 use Rattle.std.proofs.lemmas.List.Elements.{All-weaker}
 use Rattle.std.proofs.lemmas.List.Folds.{list_any_at}
 use Rattle.list_checks.specs.Sorted.{collected}
-use Rattle.list_checks.proofs.TestLemmas.{both, any_at, any_found}
-use Rattle.list_checks.proofs.StepLemmas.{any_place}
+use Rattle.list_checks.proofs.TestLemmas.{any_at}
 use Rattle.code_leaders.specs.Early.{has}
 use Rattle.code_blocks.specs.Numbers.{start_at}
 use Rattle.code_blocks.specs.declared.parts.Code.{Code}
-use Rattle.code_blocks.proofs.ListLemmas.{has_at}
 use Rattle.object_graph.specs.declared.parts.Graph.{Graph}
 use Rattle.block_splitter.specs.Forms.{holds_block}
 use Rattle.block_splitter.specs.Pieces.{is_entry}
 use Rattle.block_splitter.specs.Copies.{Copy}
 use Rattle.block_splitter.proofs.CopySizeLemmas.{collected_at}
-use Rattle.overlay_stubs.specs.declared.plan.Stub.{Stub}
-use Rattle.overlay_stubs.specs.declared.plan.Body.TheVariants.{Jump}
 use Rattle.result_setups.specs.Placement.{PlacedPiece, Placement, copy_of}
 use Rattle.result_setups.specs.Result.{enters, pads_at, is_padded}
-use Rattle.copied_result.specs.Entries.{Entry, entry_at, entry_blocks, entries_in, entries_of, IsEntryStub, AreEntryStubs}
-use Rattle.copied_result.specs.Padding.{home_of}
+use Rattle.copied_result.specs.Entries.{Entry, entry_at, entry_blocks, entries_in, entries_of}
 use Rattle.relink_core.proofs.EntryOrder.{IsEntryIn, entries_inside, entries_all}
 
 -- ---- entries by their copies
@@ -67,9 +62,6 @@ entries_listed (x ∷ xs) (suc j) d e below at =
 
 -- ---- pads
 
-no_stub : Stub
-no_stub = record { home = 0; temp = 0; region = 0; body = Jump 0 }
-
 module _ (c : Code) (g : Graph) (pl : Placement) where
   abbrev copies : List Copy
   copies = map (copy_of c g pl) pl.pieces
@@ -84,30 +76,7 @@ module _ (c : Code) (g : Graph) (pl : Placement) where
       entries_listed copies j x (entry_at x b) (omega (arith, below, count))
       (subst (λ (y : Copy). IsAmong (entries_in y) (entry_at x b)) (sym there) own)
 
-  -- so an address at which a pad stands is the home of a stub
-  pub pad_is_home : (stubs : List Stub) (a : ℕ) → AreEntryStubs (entries_of copies) stubs → is_padded c pl a ≡ true → has (map home_of stubs) a ≡ true
-  pad_is_home stubs a are padded =
-      by_first pl.pieces refl
-    where
-      by_first : (ps : List PlacedPiece) → pl.pieces ≡ ps → has (map home_of stubs) a ≡ true
-      by_first [] none = absurd (cc (ap (λ (qs : List PlacedPiece). list_any (pads_at c a) qs) (sym none) ∙ padded))
-      by_first (y ∷ ys) same =
-          let (j, (below, passes)) = any_place (pads_at c a) pl.pieces y padded in
-          let x = get_or pl.pieces j y in
-          let (b, inside, found) = any_found (λ b. enters c x b && (start_at c b == a)) (length c.blocks.items) passes in
-          let parts = both (enters c x b) (start_at c b == a) found in
-          let at = piece_entry j b y below parts.0 inside in
-          let e = entry_at (copy_of c g pl x) b in
-          let many = are.many in
-          let listed = at.below in
-          let s = get_or stubs at.place no_stub in
-          let stub : IsEntryStub e s = subst (λ (f : Entry). IsEntryStub f s) (at.is e) (are.each at.place e no_stub listed) in
-          let home : s.home ≡ a = stub.home ∙ eqb-true (start_at c b) a parts.1 in
-          let value : get_or (map home_of stubs) at.place 0 ≡ s.home = get_or-map home_of stubs at.place no_stub 0 (omega (arith, listed, many)) in
-          let count = length-map stubs home_of in
-          subst (λ (x : ℕ). has (map home_of stubs) x ≡ true) (value ∙ home) (has_at (map home_of stubs) at.place 0 (omega (arith, listed, many, count)))
-
-  -- and each home of a stub is such an address
+  -- and a pad stands at its home
   abbrev IsPadded : Entry → Type 0
   IsPadded e = is_padded c pl (start_at e.copy.code e.block) ≡ true
 

@@ -77,9 +77,6 @@ code_kept v a code =
       },
     )
 
-pub code_held : (v : PlainView) (a : ℕ) → is_code_word v a ≡ true → (k : ℕ) × HoldsWord v a k
-code_held v a code = let kept = code_kept v a code in (kept.0, kept.1.word)
-
 -- a word of data of a graph stands in a section that isn't
 pub record HoldsNoCode (v : PlainView) (a k : ℕ) : Type 0 where
   pub word : HoldsWord v a k
@@ -123,9 +120,6 @@ data_kept v board g k is below =
           };
           executable = holds.no_code;
         }
-
-pub data_held : (v : PlainView) (board : Board) (g : Graph) (k : ℕ) → IsGraph v board g → k < length g.data_words.items → (j : ℕ) × HoldsWord v (data_word_at g k).at j
-data_held v board g k is below = let kept = data_kept v board g k is below in (kept.0, kept.1.word)
 
 -- ---- where they stand in the file
 

@@ -17,7 +17,6 @@ use Rattle.cell_values.specs.Objects.{absent_object, object_of, objects_of}
 use Rattle.cell_values.proofs.GraphObjects.{object_extends}
 use Rattle.overlay_stubs.specs.declared.plan.CopyJob.{CopyJob}
 use Rattle.overlay_stubs.specs.declared.plan.Stub.{Stub}
-use Rattle.overlay_stubs.specs.declared.plan.Body.TheVariants.{Jump}
 use Rattle.overlay_stubs.specs.Jobs.{AreDisjoint, IsJob}
 use Rattle.overlay_stubs.specs.Start.{CanStart, Spares, start_at, start_bytes, jump_at}
 use Rattle.overlay_stubs.specs.PlainStubs.{PlainStub, CanJump, AreApart}
@@ -96,9 +95,6 @@ stub_jumps e s is can =
     let from = is.free.from in
     let below = is.free.below in
     record { above = is.free.from; below = omega (arith, below); aligned = omega (arith, to, aligned); within = omega (arith, to, within) }
-
-no_stub : Stub
-no_stub = record { home = 0; temp = 0; region = 0; body = Jump 0 }
 
 all_jump : (es : List Entry) (stubs : List Stub) → AreEntryStubs es stubs → All CanEnter es → All CanJump (map plain_stub stubs)
 all_jump [] stubs are can =

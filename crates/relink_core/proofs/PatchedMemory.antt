@@ -1,9 +1,9 @@
 -- What the memory of a result holds whose words are patched and that has a new segment in the patch range.
-use Rattle.std.proofs.Common.{◌≡◌, ◌∙◌, ℕ, ◌+◌, ◌*◌, ◌<◌, ◌≤◌, false, List, map, length, get_or, slice_index, Some, None, sym, ap, subst, arith}
+use Rattle.std.proofs.Common.{◌≡◌, ◌∙◌, ℕ, ◌+◌, ◌*◌, ◌<◌, ◌≤◌, false, List, map, length, get_or, slice_index, Some, None, sym, ap, subst, arith, inl, inr, zero, suc, [], ◌∷◌, ◌++◌, mod-eq_of_lt, refl}
 use Rattle.std.specs.List.{All}
 use Rattle.std.proofs.lemmas.List.{length-map, get_or-map}
-use Rattle.word_bits.specs.Words.{byte_of}
-use Rattle.word_bits.specs.Memory.{Memory}
+use Rattle.word_bits.specs.Words.{byte_of, plus, word_of}
+use Rattle.word_bits.specs.Memory.{Memory, word_at}
 use Rattle.elf_reader.specs.File.{PlainView, view_in}
 use Rattle.elf_reader.specs.Faults.{first_fault}
 use Rattle.elf_reader.specs.Image.{image_of}
@@ -22,10 +22,66 @@ use Rattle.board_config.specs.declared.board.Range.{Range}
 use Rattle.flat_machine.specs.Lines.{HoldsAt}
 use Rattle.object_graph.specs.Sites.{in_range, holds_changed_byte}
 use Rattle.result_setups.specs.Moved.{IsOffWord}
+use Rattle.std.proofs.lemmas.Bool.Decides.{nat_tests}
 use Rattle.relink_core.specs.Making.{patch_of}
-use Rattle.relink_core.proofs.MovedLemmas.{word_from, byte_in_word, byte_in_words, off_word, off_patch}
 use Rattle.relink_core.proofs.PatchPlaces.{HoldsWord, patch_stands}
 use Rattle.relink_core.proofs.WritableLemmas.{length_bytes}
+
+-- ---- words as bytes
+
+rebuilt : (w : ℕ) → w < 4294967296 → word_of (byte_of w 0) (byte_of w 1) (byte_of w 2) (byte_of w 3) ≡ w
+rebuilt w small = omega (arith, small)
+
+pub byte_in_word : (w i : ℕ) → i < 4 → slice_index (word_bytes w) i ≡ byte_of w i
+byte_in_word w zero below = refl
+byte_in_word w (suc zero) below = refl
+byte_in_word w (suc (suc zero)) below = refl
+byte_in_word w (suc (suc (suc zero))) below = refl
+byte_in_word w (suc (suc (suc (suc n)))) below = absurd (omega (arith, below))
+
+-- four bytes in memory are a word
+pub word_from : (mem : Memory) (a w : ℕ) → a + 4 ≤ 4294967296 → w < 4294967296 → ((i : ℕ) → i < 4 → mem (a + i) ≡ byte_of w i) → word_at mem a ≡ w
+word_from mem a w fits small bytes =
+    let one : plus a 1 ≡ a + 1 = mod-eq_of_lt (omega (arith, fits)) in
+    let two : plus a 2 ≡ a + 2 = mod-eq_of_lt (omega (arith, fits)) in
+    let three : plus a 3 ≡ a + 3 = mod-eq_of_lt (omega (arith, fits)) in
+    let none : a ≡ a + 0 = omega arith in
+    let b0 : mem a ≡ byte_of w 0 = ap mem none ∙ bytes 0 (omega arith) in
+    let b1 : mem (plus a 1) ≡ byte_of w 1 = ap mem one ∙ bytes 1 (omega arith) in
+    let b2 : mem (plus a 2) ≡ byte_of w 2 = ap mem two ∙ bytes 2 (omega arith) in
+    let b3 : mem (plus a 3) ≡ byte_of w 3 = ap mem three ∙ bytes 3 (omega arith) in
+    let whole : word_at mem a ≡ word_of (byte_of w 0) (byte_of w 1) (byte_of w 2) (byte_of w 3) =
+    λ i. word_of (b0 i) (b1 i) (b2 i) (b3 i) in
+    whole ∙ rebuilt w small
+
+-- byte `i` of word `k` of some words
+pub byte_in_words : (words : List ℕ) (k i : ℕ) → k < length words → i < 4 → slice_index (words_bytes words) (4 * k + i) ≡ byte_of (slice_index words k) i
+byte_in_words [] k i below inside = absurd (omega (arith, below))
+byte_in_words (w ∷ ws) zero i below inside =
+    let here : 0 + i ≡ i = omega arith in
+    first_four w (words_bytes ws) i inside
+  where
+    first_four : (w : ℕ) (rest : List ℕ) (i : ℕ) → i < 4 → slice_index (word_bytes w ++ rest) (4 * 0 + i) ≡ byte_of w i
+    first_four w rest zero below = refl
+    first_four w rest (suc zero) below = refl
+    first_four w rest (suc (suc zero)) below = refl
+    first_four w rest (suc (suc (suc zero))) below = refl
+    first_four w rest (suc (suc (suc (suc n)))) below = absurd (omega (arith, below))
+byte_in_words (w ∷ ws) (suc k) i below inside =
+    let rest = byte_in_words ws k i (omega (arith, below)) inside in
+    let place : 4 * suc k + i ≡ suc (suc (suc (suc (4 * k + i)))) = omega arith in
+    ap (slice_index (words_bytes (w ∷ ws))) place ∙ rest
+
+-- ---- disjoint addresses
+
+pub off_word : (x a : ℕ) → IsOffWord a x → within x 4 a ≡ false
+off_word x a (inl before) = grind (arith, nat_tests, before)
+off_word x a (inr behind) = grind (arith, nat_tests, behind)
+
+pub off_patch : (base size a n : ℕ) → in_range (record { base = base; size = size }) a ≡ false → n ≤ size → within base n a ≡ false
+off_patch base size a n off part = grind (arith, nat_tests, off, part)
+
+-- ---- the memory
 
 -- each word stands in a loaded section
 abbrev pub AreHeld : PlainView → List (ℕ × ℕ) → Type 0

@@ -25,9 +25,8 @@ use Rattle.block_splitter.specs.Copies.{Patch, address_in, word_of_unit, HasSite
 use Rattle.cell_values.specs.Stands.{address_word}
 use Rattle.word_bits.specs.Words.{plus}
 use Rattle.relocator.specs.declared.places.Places.{Places}
-use Rattle.result_setups.specs.HomeLaws.{IsAccepted}
+use Rattle.result_setups.specs.HomeLaws.{IsAccepted, unnamed_in}
 use Rattle.result_setups.specs.LiveUnits.{UnitsStand}
-use Rattle.result_setups.specs.MovedLaws.{unnamed_in}
 use Rattle.result_setups.proofs.CodeUnits.{body_units, code_units_stand}
 use Rattle.relocator.specs.Placing.{place_at}
 use Rattle.result_setups.specs.Placement.{Placement, AreWordsOfSites}

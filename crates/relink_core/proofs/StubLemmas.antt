@@ -1,10 +1,9 @@
--- The start stub of a result can stand at the beginning of the patch range.
-use Rattle.std.proofs.Common.{◌≡◌, ◌⊎◌, inl, inr, ℕ, zero, suc, ◌+◌, ◌*◌, ◌-◌, ◌%◌, ◌<◌, ◌≤◌, min, max, nat_le, Bool, true, false, List, [], ◌∷◌, map, length, get_or, None, refl, sym, ap, subst, arith, if◌then◌else◌}
+-- Where the patch range lies, and how far it is from the code.
+use Rattle.std.proofs.Common.{◌≡◌, ◌⊎◌, inl, inr, ℕ, zero, suc, ◌+◌, ◌*◌, ◌-◌, ◌%◌, ◌<◌, ◌≤◌, min, max, nat_le, Bool, true, false, List, [], ◌∷◌, map, length, None, refl, sym, ap, subst, arith, if◌then◌else◌}
 use Rattle.std.specs.List.{All}
 use Rattle.std.proofs.lemmas.Bool.{cases_eq, cases_lt, leb-true}
 use Rattle.std.proofs.lemmas.Bool.Decides.{nat_tests}
-use Rattle.std.proofs.lemmas.List.{length-map, length-append}
-use Rattle.std.proofs.lemmas.List.Elements.{All-map}
+use Rattle.std.proofs.lemmas.List.{length-append}
 use Rattle.std.proofs.Math.Nat.{min-le_left, min-le_right, le-max_left, le-max_right}
 use Rattle.list_checks.specs.First.{unless, first_below}
 use Rattle.list_checks.proofs.FirstLemmas.{both_none, holds}
@@ -12,7 +11,6 @@ use Rattle.list_checks.specs.Tests.{ranges_overlap}
 use Rattle.list_checks.proofs.TestLemmas.{not_true}
 use Rattle.rv_decode.specs.Sequences.{distance}
 use Rattle.rv_decode.specs.declared.instructions.Instr.TheVariants.{Jal}
-use Rattle.rv_decode.proofs.SequenceLemmas.{in_reach}
 use Rattle.elf_reader.specs.File.{PlainView, view_in}
 use Rattle.elf_reader.specs.Loaded.{section_at}
 use Rattle.elf_reader.proofs.SegmentLemmas.{none_of_headers, load_segments_loadable}
@@ -24,21 +22,14 @@ use Rattle.code_blocks.specs.declared.fault.CodeFault.TheVariants.{NoText, Entry
 use Rattle.object_graph.specs.LayoutFaults.{has_code, least_below, greatest_below, span_of, patch_far_fault, spm_overlaps_patch_fault, places_fault, layout_fault, spm_overlap_fault, patch_overlap_fault}
 use Rattle.object_graph.specs.declared.fault.GraphFault.TheVariants.{SpmOverlapsPatch}
 use Rattle.object_graph.specs.declared.parts.Graph.{Graph}
-use Rattle.object_graph.proofs.LookupLemmas.{laid_out}
-use Rattle.cell_values.specs.Objects.{absent_object, object_of, objects_of}
-use Rattle.overlay_stubs.specs.Jobs.{AreDisjoint, IsJob}
-use Rattle.overlay_stubs.specs.Start.{StartPlan, before_jump, start_at, jump_at, start_bytes, fences, Spares, CanStart}
+use Rattle.cell_values.specs.Objects.{object_of, objects_of}
+use Rattle.overlay_stubs.specs.Jobs.{AreDisjoint}
+use Rattle.overlay_stubs.specs.Start.{StartPlan, before_jump, start_at, jump_at, start_bytes, fences}
 use Rattle.overlay_stubs.proofs.WordLemmas.{bytes_are}
 use Rattle.result_setups.specs.HomeLaws.{IsAccepted}
-use Rattle.cell_values.proofs.GraphObjects.{object_extends}
 use Rattle.result_setups.proofs.Words.{code_range, code_even, code_below}
-use Rattle.relocator.specs.declared.places.Places.{Places}
-use Rattle.relocator.specs.Laws.{AreObjectsOff}
-use Rattle.result_setups.specs.Placing.{LiesIn, IsPlacing}
-use Rattle.result_setups.specs.Moved.{start_job, start_plan}
+use Rattle.result_setups.specs.Moved.{start_job}
 use Rattle.relink_core.specs.Faults.{least_patch}
-use Rattle.relink_core.specs.Realises.{data_placing}
-use Rattle.relink_core.specs.Making.{start_place, AreOfGraph, ArePlacesOf, CanMove, start_plan_of}
 
 -- ---- ranges
 
@@ -231,73 +222,9 @@ jump_place p =
 
 -- ---- the jobs
 
-pub job_is : (file : List ℕ) (board : Board) (g : Graph) (taken : List ℕ) (o : ℕ) → IsAccepted file board g → AreObjectsOff g (λ k. (object_of g k).home) board.spm.base board.spm.size → IsPlacing board g (data_placing board g taken) → o < length g.objects.items → LiesIn board.spm (objects_of g) (data_placing board g taken).place o → IsJob (start_job (objects_of g) (data_placing board g taken).place o)
-job_is file board g taken o accepted off placing below lies =
-    let some : 0 < (object_of g o).size = (laid_out (view_in file) board g.objects.items accepted.graph.objects).filled o absent_object below in
-    record {
-      some = some;
-      source = (object_extends (view_in file) board g o accepted.graph.objects).ends;
-      target = placing.fit.below o;
-      disjoint = disjoint_of (object_of g o).home (object_of g o).size board.spm.base board.spm.size ((data_placing board g taken).place o) some lies.from lies.to (off o);
-    }
-
-spares : (board : Board) (g : Graph) (place : ℕ → ℕ) (p : StartPlan) (o : ℕ) → p.base ≡ board.patch.base → ranges_overlap board.spm.base board.spm.size board.patch.base board.patch.size ≡ false → 0 < board.spm.size → 0 < board.patch.size → 64 + start_bytes p ≤ board.patch.size → LiesIn board.spm (objects_of g) place o → Spares p (start_job (objects_of g) place o)
-spares board g place p o base off some some_patch inside lies =
-    let from = lies.from in
-    let to = lies.to in
-    elim (ranges_disjoint board.spm.base board.spm.size board.patch.base board.patch.size off some some_patch) [
-      | inl before ↦ inl (omega (arith, before, to, base))
-      | inr behind ↦ inr (omega (arith, behind, from, base, inside))
-    ]
-
--- the stub of the objects that are taken
-abbrev plan_for : List ℕ → Board → Graph → List ℕ → StartPlan
-plan_for file board g taken = start_plan (view_in file) board g (data_placing board g taken)
-
-pub stub_fits : (file : List ℕ) (board : Board) (g : Graph) (taken : List ℕ) → CanMove board g taken → 64 + start_bytes (plan_for file board g taken) ≤ board.patch.size
-stub_fits file board g taken can =
-    let ends = stub_ends board (plan_for file board g taken) refl in
-    let count = length-map taken (start_job (objects_of g) (data_placing board g taken).place) in
-    let room = can.room in
-    omega (arith, ends, count, room)
-
-pub can_start : (file : List ℕ) (board : Board) (g : Graph) (taken : List ℕ) → IsAccepted file board g → AreObjectsOff g (λ k. (object_of g k).home) board.spm.base board.spm.size → CanMove board g taken → CanStart (plan_for file board g taken)
-can_start file board g taken accepted off can =
-    let p = plan_for file board g taken in
-    let place = (data_placing board g taken).place in
-    let placing = can.placing in
-    let near = is_near file board g accepted in
-    let laid = is_laid (view_in file) board accepted.layout in
-    let fits = stub_fits file board g taken can in
-    let jump = jump_place p in
-    let ends = near.ends in
-    let base = near.base in
-    let entry = near.entry in
-    let above = near.above in
-    let below = near.below in
-    let spm_some = (accepted.lawful.ranges 1 board.patch (omega arith)).some in
-    record {
-      aligned = near.base;
-      entry = near.small;
-      jobs = All-map IsJob (start_job (objects_of g) place) taken
-          (λ k d inside. job_is file board g taken (get_or taken k d) accepted off placing (placing.listed k d inside) (placing.moved k d inside));
-      spared = All-map (Spares p) (start_job (objects_of g) place) taken
-          (λ k d inside. spares board g place p (get_or taken k d) refl laid.spm spm_some near.some fits (placing.moved k d inside));
-      ends = omega (arith, fits, ends);
-      reach = in_reach 1048576 (jump_at p) p.entry (omega arith) (omega (arith, jump, fits, ends)) near.small (omega (arith, above)) (omega (arith, jump, fits, below))
-          (omega (arith, base)) (omega (arith, entry));
-    }
-
--- ---- the plan that the code makes
-
 pub jobs_same : (g : Graph) (one other : ℕ → ℕ) (taken : List ℕ) → All (λ o. o < length g.objects.items) taken → ((o : ℕ) → o < length g.objects.items → one o ≡ other o) → map (start_job (objects_of g) one) taken ≡ map (start_job (objects_of g) other) taken
 jobs_same g one other [] listed same = refl
 jobs_same g one other (o ∷ os) listed same =
     let here = same o (listed 0 o (omega arith)) in
     let rest = jobs_same g one other os (λ k d below. listed (suc k) d (omega (arith, below))) same in
     λ i. record { from = (object_of g o).home; to = here i; bytes = (object_of g o).size } ∷ rest i
-
-pub plan_same : (v : PlainView) (board : Board) (g : Graph) (places : Places) (taken : List ℕ) → AreOfGraph g taken → ArePlacesOf board g taken places → start_plan_of v board g places taken ≡ start_plan v board g (data_placing board g taken)
-plan_same v board g places taken listed are =
-    let jobs = jobs_same g (start_place places) (data_placing board g taken).place taken listed are.exact in
-    λ i. record { base = board.patch.base; entry = v.entry; fence_i = board.fence_i; jobs = jobs i }

@@ -1,11 +1,8 @@
 -- What a result changes in its file may be written.
-use Rattle.std.proofs.Common.{◌≡◌, ◌∙◌, inl, inr, ℕ, zero, suc, ◌+◌, ◌*◌, ◌<◌, ◌≤◌, ◌==◌, nat_le, Bool, true, false, not, List, [], ◌∷◌, map, replicate, length, get_or, Some, None, refl, sym, ap, subst, arith}
-use Rattle.std.specs.List.{All, AllPairs}
+use Rattle.std.proofs.Common.{◌≡◌, inl, inr, ℕ, zero, suc, ◌*◌, ◌<◌, ◌≤◌, ◌==◌, nat_le, Bool, true, false, not, List, [], ◌∷◌, length, None, refl, sym, subst, arith}
 use Rattle.std.proofs.lemmas.Bool.{cases_lt, eq-eqb, leb-true}
 use Rattle.std.proofs.lemmas.Bool.Decides.{nat_tests}
-use Rattle.std.proofs.lemmas.List.{length-map, length-append, length-replicate, get_or-map, get_or_default}
-use Rattle.std.proofs.lemmas.List.Elements.{All-map}
-use Rattle.std.proofs.lemmas.List.Folds.{list_any_at}
+use Rattle.std.proofs.lemmas.List.{length-append, get_or_default}
 use Rattle.list_checks.specs.First.{unless}
 use Rattle.list_checks.proofs.FirstLemmas.{none_at, both_none, holds}
 use Rattle.list_checks.specs.Tests.{ranges_overlap}
@@ -17,28 +14,18 @@ use Rattle.elf_reader.specs.Faults.{first_fault}
 use Rattle.elf_reader.specs.Loaded.{no_segment, segment_at}
 use Rattle.elf_reader.specs.declared.fault.ElfFault.TheVariants as elf
 use Rattle.elf_reader.proofs.LoadedLemmas.{loaded_found}
-use Rattle.elf_writer.specs.Pieces.{words_bytes, padding}
-use Rattle.elf_writer.specs.declared.parts.Patch.{Patch}
+use Rattle.elf_writer.specs.Pieces.{words_bytes}
 use Rattle.elf_writer.specs.Parts.{NewSegment}
-use Rattle.elf_writer.specs.Conditions.{PatchesLoadedWord, ArePatchesDisjoint, IsClearOf, IsAddable, IsWritable}
-use Rattle.elf_writer.proofs.FitLemmas.{length_written, number_within, table_inside}
+use Rattle.elf_writer.specs.Conditions.{IsClearOf, IsAddable}
 use Rattle.board_config.specs.declared.board.Board.{Board}
 use Rattle.loaded_file.specs.Code.{is_code_word}
 use Rattle.object_graph.specs.LayoutFaults.{segment_overlaps, patch_overlap_fault}
-use Rattle.object_graph.specs.Graphs.{IsGraph}
 use Rattle.object_graph.specs.declared.parts.Graph.{Graph}
-use Rattle.overlay_stubs.specs.Start.{StartPlan, start_stub, start_bytes}
-use Rattle.rv_decode.proofs.SequenceLemmas.{mean_count}
 use Rattle.result_setups.specs.HomeLaws.{IsAccepted}
 use Rattle.result_setups.proofs.Words.{code_range}
-use Rattle.relocator.specs.declared.places.Places.{Places}
-use Rattle.relocator.specs.SiteWords.{site_at, is_entry, AreSiteWords}
+use Rattle.relocator.specs.SiteWords.{site_at, is_entry}
 use Rattle.relink_core.specs.Faults.{headers_fault}
-use Rattle.relink_core.specs.Realises.{data_placing}
-use Rattle.relink_core.specs.Making.{patch_of, AreOfGraph, ArePlacesOf, ArePatchesFor, IsStartSegment, moves_below}
 use Rattle.relink_core.proofs.StubLemmas.{entry_is_code, is_laid, is_near}
-use Rattle.relink_core.proofs.PatchPlaces.{HoldsWord, code_held, data_held, patch_stands, stands_loaded, stand_disjoint}
-use Rattle.relink_core.proofs.MoveLemmas.{below_all, moves_are}
 
 -- ---- the new segment
 
@@ -47,16 +34,6 @@ length_bytes [] = refl
 length_bytes (w ∷ ws) =
     let rest = length_bytes ws in
     omega (arith, rest)
-
-pub segment_size : (p : StartPlan) (s : NewSegment) → IsStartSegment p s → length s.content ≡ 64 + start_bytes p
-segment_size p s is =
-    let (stub, (whole, means)) = is.are in
-    let count = mean_count stub (start_stub p) means in
-    let all : length is.words ≡ 16 + length stub =
-    ap length whole ∙ length-append (replicate 16 0) stub ∙ ap (λ (n : ℕ). n + length stub) (length-replicate {A = ℕ} 16 0) in
-    let bytes = length_bytes is.words in
-    let content = ap length is.content in
-    omega (arith, count, all, bytes, content)
 
 -- ---- program headers
 
@@ -145,59 +122,3 @@ SitesAreCode v g = (k : ℕ) → k < length g.sites.items → is_code_word v (si
 
 pub entry_itself : (e : ℕ × ℕ) → is_entry e.0 e.1 e ≡ true
 entry_itself e = grind (arith, nat_tests)
-
-pub entry_held : (v : PlainView) (board : Board) (g : Graph) (places : Places) (regions : List ℕ) (entries : List (ℕ × ℕ)) (j : ℕ) (d : ℕ × ℕ) → IsGraph v board g → SitesAreCode v g → AreSiteWords v g places regions entries → j < length entries → (k : ℕ) × HoldsWord v (get_or entries j d).0 k
-entry_held v board g places regions entries j d graph codes new below =
-    let e = get_or entries j d in
-    elim (new.only e.0 e.1 (list_any_at (is_entry e.0 e.1) entries j d below (entry_itself e))) [
-      | inl site ↦
-          let held = code_held v (site_at g site.0).at (codes site.0 site.1.0) in
-          (held.0, subst (λ (a : ℕ). HoldsWord v a held.0) site.1.1 held.1)
-      | inr word ↦
-          let held = data_held v board g word.0 graph word.1.0 in
-          (held.0, subst (λ (a : ℕ). HoldsWord v a held.0) word.1.1 held.1)
-    ]
-
-pub is_writable : (file : List ℕ) (board : Board) (g : Graph) (places : Places) (taken : List ℕ) (patches : List Patch) (s : NewSegment) → IsAccepted file board g → headers_fault (program_header_count file) ≡ None → SitesAreCode (view_in file) g → AreOfGraph g taken → ArePlacesOf board g taken places → ArePatchesFor (view_in file) g places patches → s.base ≡ board.patch.base → 0 < length s.content → length s.content ≤ board.patch.size → IsWritable (view_in file) patches (Some s) (moves_below (view_in file) g places taken (length (view_in file).symbols))
-is_writable file board g places taken patches s accepted headers codes listed are for base some inside =
-    let v = view_in file in
-    let words = for.words in
-    let moves = moves_below v g places taken (length v.symbols) in
-    let addable = is_addable file board g s accepted headers base some inside in
-    let held : (j : ℕ) (d : ℕ × ℕ) → j < length words → (k : ℕ) × HoldsWord v (get_or words j d).0 k =
-    λ j d below. entry_held v board g places (replicate (length g.sites.items) 0) words j d accepted.graph codes for.new below in
-    let patched : All (PatchesLoadedWord v) (map (patch_of v) words) =
-    All-map (PatchesLoadedWord v) (patch_of v) words
-    (λ j d below.
-    let h = held j d below in
-    stands_loaded v (patch_of v (get_or words j d)) h.0 (get_or words j d).0 h.1.below (patch_stands file (get_or words j d) h.0 accepted.none h.1)) in
-    let disjoint : AllPairs ArePatchesDisjoint (map (patch_of v) words) =
-    λ i j d before below.
-    let count = length-map words (patch_of v) in
-    let inside_j : j < length words = omega (arith, below, count) in
-    let inside_i : i < length words = omega (arith, before, inside_j) in
-    let e = get_or words i (0, 0) in
-    let f = get_or words j (0, 0) in
-    let one = held i (0, 0) inside_i in
-    let other = held j (0, 0) inside_j in
-    let here = stand_disjoint v (patch_of v e) (patch_of v f) one.0 other.0 e.0 f.0 one.1.below other.1.below (patch_stands file e one.0 accepted.none one.1) (patch_stands file f other.0 accepted.none other.1) (for.new.disjoint i j (0, 0) before inside_j) in
-    let first = get_or-map (patch_of v) words i (0, 0) d inside_i in
-    let last = get_or-map (patch_of v) words j (0, 0) d inside_j in
-    subst (λ (p : Patch). ArePatchesDisjoint p (get_or (map (patch_of v) words) j d)) (sym first)
-    (subst (λ (p : Patch). ArePatchesDisjoint (patch_of v e) p) (sym last) here) in
-    let put = for.put in
-    let number = number_within file s.base in
-    let table = table_inside file accepted.none (some_header file board g accepted) in
-    let size = length_written v patches s moves number (omega (arith, table)) in
-    let small = small_file file accepted.none in
-    let few = few_headers file accepted.none in
-    let ends = accepted.lawful.patch.most_size in
-    let pad : padding (length file) < 4 = omega arith in
-    record {
-      patched = subst (All (PatchesLoadedWord v)) (sym put) patched;
-      disjoint = subst (AllPairs ArePatchesDisjoint) (sym put) disjoint;
-      symbols = below_all v g places taken (length v.symbols);
-      distinct = (moves_are v board g places (data_placing board g taken) accepted.graph listed are.exact).distinct;
-      allowed = addable;
-      short = omega (arith, size, small, few, inside, ends, pad);
-    }

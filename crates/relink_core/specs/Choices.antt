@@ -20,7 +20,7 @@ use Rattle.placement_programme.specs.Rows.{Layout, Part, static_data, static_cod
 use Rattle.relocator.specs.Slots.{name_at}
 use Rattle.cell_values.specs.Objects.{datum_of}
 use Rattle.result_setups.specs.Absolute.{IsAbsolute}
-use Rattle.result_setups.specs.MovedLaws.{KeepsRuns}
+use Rattle.result_setups.specs.ResultLaws.{KeepsRuns}
 use Rattle.relink_core.specs.declared.analysis.Analysis.{Analysis}
 use Rattle.relink_core.specs.Faults.{analyse_fault}
 use Rattle.relink_core.specs.Keeps.{KeepsPaired}
@@ -43,56 +43,19 @@ pub record IsAnalysisOf (file : List ℕ) (board : Board) (a : Analysis) : Type 
 
 -- ---- the programme
 
--- what the rows and weights of a programme of static data depend on
-abbrev pub data_layout : Board → Graph → ℕ → Layout
-data_layout board g blocks =
+-- what the rows and weights of a programme without overlay depend on
+abbrev pub static_layout : Board → Graph → Code → Layout
+static_layout board g c =
     record {
       scratchpad = board.spm.size;
       patch = board.patch.size;
       fence_i = board.fence_i;
-      blocks = blocks;
+      blocks = length c.blocks.items;
       objects = length g.objects.items;
       regions = 0;
       displaced = [];
       grain = board.grain;
     }
-
--- a variable is that of an object of the graph, and has its weights
-pub record IsDataVar (board : Board) (g : Graph) (blocks : ℕ) (v : PlainVar) : Type 0 where
-  pub object : ℕ
-  pub below : object < length g.objects.items
-  pub name : v.name ≡ StaticData object
-  pub weights : v.weights ≡ off_weights (data_layout board g blocks) (static_data (datum_of g object))
-
--- one object's variable stands before that of the other
-abbrev pub StandsBefore : VarName → VarName → Type 0
-StandsBefore (StaticData one) (StaticData other) = one < other
-StandsBefore one other = ⊥
-
-abbrev pub AreInOrder : PlainVar → PlainVar → Type 0
-AreInOrder v w = StandsBefore v.name w.name
-
--- a side has the rows for a graph and a board, and its variables are those of different objects, in their order. Gains
--- and the fixed cost may be any
-pub record IsDataSide (board : Board) (g : Graph) (blocks : ℕ) (side : PlainSide) : Type 0 where
-  pub rows : side.rows ≡ off_capacities (data_layout board g blocks)
-  pub vars : All (IsDataVar board g blocks) side.vars
-  pub ordered : AllPairs AreInOrder side.vars
-
--- ---- the choice
-
--- a feasible choice of static data
-pub record IsDataChoice (board : Board) (g : Graph) (p : PlainProgramme) (c : PlainChoice) : Type 0 where
-  pub blocks : ℕ
-  pub side : IsDataSide board g blocks p.off
-  pub off : c.on ≡ false
-  pub feasible : IsFeasible p c
-
--- ---- static items
-
--- what the rows and weights of a programme without overlay depend on
-abbrev pub static_layout : Board → Graph → Code → Layout
-static_layout board g c = data_layout board g (length c.blocks.items)
 
 -- a part tells the blocks, the copied bytes and how many entries a piece has; these may be of either kind
 pub record IsPartOf (piece : Piece) (part : Part) : Type 0 where
@@ -122,6 +85,8 @@ pub record IsStaticSide (board : Board) (g : Graph) (c : Code) (pieces : List Pi
   pub rows : side.rows ≡ off_capacities (static_layout board g c)
   pub vars : All (IsStaticVar board g c pieces) side.vars
   pub ordered : AllPairs (λ v w. ComesBefore v.name w.name) side.vars
+
+-- ---- the choice
 
 -- a feasible choice of static items
 pub record IsStaticChoice (board : Board) (g : Graph) (c : Code) (pieces : List Piece) (p : PlainProgramme) (choice : PlainChoice) : Type 0 where

@@ -1,5 +1,6 @@
 -- A result realises what is taken of a programme without overlay: which file it is, and where objects and code stand.
-use Rattle.std.specs.Prelude.{◌≡◌, ℕ, ◌<◌, Bool, false, List, [], ◌++◌, map, length, slice_index_or, Some, All}
+use Rattle.std.specs.Prelude.{◌≡◌, ℕ, ◌==◌, ◌<◌, nat_lt, Bool, false, ◌&&◌, List, [], ◌++◌, map, length, slice_index_or, Some, All}
+use Rattle.std.specs.List.{AllPairs, list_any}
 use Rattle.elf_reader.specs.File.{PlainView, view_in}
 use Rattle.elf_writer.specs.Pieces.{words_bytes}
 use Rattle.elf_writer.specs.declared.parts.Patch.{Patch}
@@ -7,9 +8,11 @@ use Rattle.elf_writer.specs.declared.parts.SymbolMove.{SymbolMove}
 use Rattle.elf_writer.specs.Parts.{NewSegment}
 use Rattle.elf_writer.specs.Written.{written}
 use Rattle.elf_writer.specs.View.{written_view}
-use Rattle.elf_writer.specs.Conditions.{PatchesLoadedWord}
+use Rattle.elf_writer.specs.Conditions.{PatchesLoadedWord, AreOfTwoSymbols}
 use Rattle.board_config.specs.declared.board.Board.{Board}
+use Rattle.loaded_file.specs.Ranges.{is_symbol_of}
 use Rattle.object_graph.specs.declared.parts.Graph.{Graph}
+use Rattle.cell_values.specs.Objects.{object_of}
 use Rattle.code_blocks.specs.Numbers.{start_at}
 use Rattle.code_blocks.specs.declared.parts.Code.{Code}
 use Rattle.block_splitter.specs.Pieces.{IsTemporary}
@@ -22,11 +25,11 @@ use Rattle.placement_programme.specs.Plain.{PlainProgramme, PlainChoice}
 use Rattle.relocator.specs.declared.items.Item.{Item}
 use Rattle.relocator.specs.Slots.{items_of, slots_of, code_slots}
 use Rattle.relocator.specs.Placing.{placed}
+use Rattle.result_setups.specs.Placing.{Placing}
 use Rattle.result_setups.specs.Placement.{PlacedPiece, Placement, data_of, copy_of, IsPlacement}
 use Rattle.result_setups.specs.Result.{placement_plan, IsResultView}
 use Rattle.copied_result.specs.Entries.{Entry, entries_of}
 use Rattle.relink_core.specs.Static.{object_name, range_name}
-use Rattle.relink_core.specs.Realises.{AreSymbolMoves}
 
 -- ---- what is taken
 
@@ -98,6 +101,25 @@ result_segment v board g pl words =
       entry = stub.start_at (placement_plan v board g pl);
       content = words_bytes words;
     }
+
+-- ---- symbols
+
+-- symbol `k` gets the value where it is of object `o` and the object stands there; all symbols of the object's range
+-- do (STT_OBJECT)
+abbrev pub same_move : SymbolMove → SymbolMove → Bool
+same_move m n = (m.symbol == n.symbol) && (m.value == n.value)
+
+abbrev pub moves_with : PlainView → Graph → Placing → SymbolMove → ℕ → Bool
+moves_with v g pl m o =
+    is_symbol_of v (object_of g o).home (object_of g o).size m.symbol && (m.value == pl.place o)
+
+abbrev pub is_symbol_move : PlainView → Graph → Placing → SymbolMove → Bool
+is_symbol_move v g pl m = nat_lt m.symbol (length v.symbols) && list_any (moves_with v g pl m) pl.taken
+
+-- the moved symbols are just those of the objects that are taken, each once
+pub record AreSymbolMoves (v : PlainView) (g : Graph) (pl : Placing) (moves : List SymbolMove) : Type 0 where
+  pub distinct : AllPairs AreOfTwoSymbols moves
+  pub exact : (m : SymbolMove) → list_any (same_move m) moves ≡ is_symbol_move v g pl m
 
 -- ---- which file it is
 

@@ -13,7 +13,7 @@ ghost use Rattle.liveness.specs.Tables.{IsTableOf};
 ghost use Rattle.points_to.specs.Tables.{IsTableOf as IsPointsOf};
 ghost use Rattle.block_splitter.specs.Pieces.{ArePieces};
 ghost use Rattle.relink_core.specs.declared.fault.AnalyseFault.TheVariants as analyse;
-ghost use Rattle.relink_core.specs.Faults.{IsOutermost, headers_fault, file_fault, least_patch, patch_fault, places_fault, view_fault, analyse_fault, ReportsAnalysis, ReportsRegions};
+ghost use Rattle.relink_core.specs.Faults.{IsOutermost, headers_fault, file_fault, least_patch, patch_fault, places_fault, analyse_fault, ReportsAnalysis, ReportsRegions};
 ghost use Rattle.relink_core.specs.Regions.{HasDeadAt, ReportsDead, AreRegions};
 
 use crate::fault::AnalyseFault;

@@ -9,9 +9,8 @@ mod naming;
 mod patch_code;
 mod patching;
 mod realising;
-mod starting;
+mod standing;
 mod symbol_moves;
-mod taking;
 
 pub use analysis::{Analysis, analyse, points_of};
 pub use fault::AnalyseFault;

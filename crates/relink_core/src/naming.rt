@@ -1,5 +1,5 @@
 //! The static items that a choice takes: objects, and ranges of blocks that are copied.
-ghost use Rattle.std.specs.Prelude.{◌≡◌, ◌<◌, ◌++◌, ◌∷◌, [], length, map, IfOk, OnOk};
+ghost use Rattle.std.specs.Prelude.{◌≡◌, ◌<◌, ◌++◌, ◌∷◌, [], length, IfOk, OnOk};
 ghost use Rattle.std.specs.List.{filter_map};
 ghost use Rattle.placement_programme.specs.Views.{plain_programme};
 ghost use Rattle.placement_programme.specs.Bounds.{AscendWithin};

@@ -1,8 +1,10 @@
 //! The new segment of a result: control words, the start stub, stubs at entries, and images.
-ghost use Rattle.std.specs.Prelude.{◌≡◌, ℕ, ◌+◌, ◌*◌, ◌<◌, ◌++◌, map, length, IfOk, OnOk, All};
+ghost use Rattle.std.specs.Prelude.{◌≡◌, ◌+◌, ◌*◌, ◌<◌, ◌++◌, map, length, IfOk, OnOk, All};
+ghost use Rattle.elf_writer.specs.Pieces.{words_bytes};
+ghost use Rattle.cell_values.specs.Objects.{objects_of};
 ghost use Rattle.overlay_stubs.specs.Layout.{CanStand};
 ghost use Rattle.overlay_stubs.specs.Plans.{code_plan, words_of, IsPlain, IsPlainPlan};
-ghost use Rattle.result_setups.specs.Placement.{piece_bytes};
+ghost use Rattle.result_setups.specs.Moved.{start_job};
 ghost use Rattle.result_setups.specs.Result.{code_job};
 ghost use Rattle.relink_core.specs.Static.{placed_pieces};
 ghost use Rattle.relink_core.specs.Faults.{least_patch};
@@ -10,10 +12,10 @@ ghost use Rattle.relink_core.specs.Making.{start_place, HasStarts, AreOfGraph};
 ghost use Rattle.relink_core.specs.Segments.{copied_words, copies_bytes, first_image, patch_plan, IsPatchCode};
 
 use crate::analysis::least_patch;
-use crate::starting::{bytes_of, start_jobs};
+use crate::standing::start_place;
 use board_config::Board;
 use copied_result::PlacedCopy;
-use elf_writer::SegmentBytes;
+use elf_writer::{SegmentBytes, push_words};
 use object_graph::Graph;
 use overlay_stubs::{CopyJob, Stub, StubPlan, stubs};
 use relocator::Places;
@@ -84,6 +86,16 @@ pub(crate) fn patch_plan(
     })
 }
 
+/// The bytes of words, each least byte first.
+fn bytes_of(alloc: Global, words: &[u32]) -> Result<Vec<u8>, AllocError>
+    ensures bytes { IfOk result (λ bytes. bytes.items ≡ words_bytes words.now) }
+    ensures small { All (λ w. w < 4294967296) words.now }
+{
+    let mut bytes = Vec::new(alloc);
+    push_words(&mut bytes, words)?;
+    Ok(bytes)
+}
+
 /// The segment of a plan. It fails only where no memory was left.
 pub(crate) fn patch_code(alloc: Global, plan: &StubPlan) -> Result<PatchCode, AllocError>
     requires plain { IsPlainPlan plan.now }
@@ -111,6 +123,38 @@ fn images(alloc: Global, copies: &[PlacedCopy]) -> Result<Vec<Vec<u32>>, AllocEr
         images.push(copies[k].code.words.to_vec(alloc)?)?;
     }
     Ok(images)
+}
+
+/// The job that copies an object from its home to its place.
+fn start_job(graph: &Graph, places: &Places, object: u32) -> CopyJob
+    requires below { object < length graph.now.objects.items }
+    requires starts { HasStarts graph.now places.now }
+    ensures { result ≡ start_job (objects_of graph.now) (start_place places.now) object }
+{
+    let home = &graph.objects[object as usize];
+    CopyJob {
+        from: home.home,
+        to: start_place(graph, places, object),
+        bytes: home.size,
+    }
+}
+
+/// The jobs of objects, in order.
+fn start_jobs(
+    alloc: Global,
+    graph: &Graph,
+    places: &Places,
+    objects: &[u32],
+) -> Result<Vec<CopyJob>, AllocError>
+    requires listed { AreOfGraph graph.now objects.now }
+    requires starts { HasStarts graph.now places.now }
+    ensures { IfOk result (λ jobs. jobs.items ≡ map (start_job (objects_of graph.now) (start_place places.now)) objects.now) }
+{
+    let mut jobs = Vec::new(alloc);
+    for object in objects {
+        jobs.push(start_job(graph, places, *object))?;
+    }
+    Ok(jobs)
 }
 
 /// Adds the jobs that copy images to their places, where the images stand one behind the other from an address on.

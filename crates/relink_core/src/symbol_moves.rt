@@ -1,11 +1,11 @@
 //! The symbols of objects that are moved.
-ghost use Rattle.std.specs.Prelude.{◌≡◌, ℕ, ◌<◌, ◌≤◌, ◌==◌, ◌&&◌, length, OnOk, IfOk, Option, MatchOption, ◌++◌};
+ghost use Rattle.std.specs.Prelude.{◌≡◌, ◌<◌, ◌≤◌, ◌==◌, ◌&&◌, length, OnOk, IfOk, Option, ◌++◌};
 ghost use Rattle.elf_reader.specs.File.{plain_view};
 ghost use Rattle.loaded_file.specs.Records.{symbol_at};
 ghost use Rattle.cell_values.specs.Objects.{object_of};
 ghost use Rattle.relink_core.specs.Making.{range_value, symbol_value, move_to, moves_below, HasStarts, AreOfGraph};
 
-use crate::taking::start_place;
+use crate::standing::start_place;
 use elf_reader::ElfView;
 use elf_writer::SymbolMove;
 use loaded_file::{LoadedFile, has_range};

@@ -12,7 +12,7 @@ use Rattle.cell_values.specs.Stands.{Places}
 use Rattle.result_setups.specs.Placing.{spans}
 use Rattle.placement_programme.specs.Rows.{rounded_up}
 use Rattle.result_setups.specs.Moved.{start_job}
-use Rattle.result_setups.specs.MovedLaws.{most_steps}
+use Rattle.result_setups.specs.ResultLaws.{most_steps}
 use Rattle.result_setups.specs.Placement.{PlacedPiece, piece_bytes, code_spans}
 use Rattle.result_setups.specs.Result.{code_job}
 
@@ -92,7 +92,3 @@ pub start_more : (plan : StartPlan) (board : Board) (more n each : ℕ) → each
 start_more plan board more n each few little short =
     let fence = fence_short plan.fence_i in
     sum_short (start_run plan) more n each board.spm.size few little (omega (arith, short, fence))
-
-pub start_short : (plan : StartPlan) (board : Board) (n each : ℕ) → each ≤ 256 → jobs_run plan.jobs ≤ 6 * board.spm.size → start_run plan + n * each ≤ (n + 1) * most_steps board
-start_short plan board n each few short =
-    let whole = start_more plan board 0 n each few (omega arith) short in omega (arith, whole)

@@ -12,7 +12,7 @@ use Rattle.code_leaders.specs.Leaders.{is_call_pair, is_leader, is_indirect}
 use Rattle.code_leaders.proofs.LeaderLemmas.{leader_is_code, indirect_is_leader, right_passes}
 use Rattle.code_leaders.proofs.PairLemmas.{pair_is_code}
 use Rattle.code_leaders.proofs.SearchLemmas.{has_found}
-use Rattle.code_blocks.specs.Blocks.{goes_on, start_of, unit_at, unit_addresses, IsBlock, IsCode}
+use Rattle.code_blocks.specs.Blocks.{goes_on, start_of, unit_addresses, IsCode}
 use Rattle.code_blocks.specs.Blocks as code_units
 use Rattle.code_blocks.specs.Edges.{successors, is_indirect_end}
 use Rattle.code_blocks.specs.Ends.{words_left, end_from}
@@ -33,8 +33,7 @@ use Rattle.object_machine.proofs.BlockLemmas.{IsNth, unit_count, some_units}
 use Rattle.object_machine.proofs.BlockLemmas as words
 use Rattle.object_machine.proofs.FollowLemmas.{goes_further, is_true_false}
 use Rattle.simulation.specs.Laws.{IsUnit, OfBlock, Behind}
-use Rattle.result_setups.specs.HomeLaws.{IsAccepted}
-use Rattle.result_setups.specs.MovedLaws.{unnamed_in}
+use Rattle.result_setups.specs.HomeLaws.{IsAccepted, unnamed_in}
 use Rattle.result_setups.specs.LiveUnits.{code_unit, StandsThere, UnitsStand, CodeUnitsStand, ComesNext}
 use Rattle.result_setups.proofs.Words.{code_below}
 use Rattle.result_setups.proofs.HomeSound.{loadable}

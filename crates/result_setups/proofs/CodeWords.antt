@@ -5,10 +5,8 @@ use Rattle.std.proofs.lemmas.Bool.{cases_lt, both_ways, cond_both, eqb-true}
 use Rattle.std.proofs.lemmas.Bool.Decides.{nat_tests}
 use Rattle.std.proofs.lemmas.List.Elements.{All-head, All-tail}
 use Rattle.std.proofs.lemmas.List.Folds.{list_any_at}
-use Rattle.word_bits.specs.Words.{plus, word_of}
 use Rattle.list_checks.specs.Tests.{ranges_overlap}
 use Rattle.elf_reader.specs.File.{PlainView, view_in}
-use Rattle.elf_reader.specs.Image.{image_of}
 use Rattle.elf_reader.specs.Loaded.{section_at}
 use Rattle.board_config.specs.declared.board.Board.{Board}
 use Rattle.loaded_file.specs.Code.{is_code_word, image_word}
@@ -27,12 +25,10 @@ use Rattle.result_setups.specs.HomeLaws.{IsAccepted}
 use Rattle.cell_values.proofs.GraphObjects.{object_moves}
 use Rattle.object_machine.proofs.SiteLemmas.{found_target}
 use Rattle.result_setups.proofs.Sites.{SiteBy, by_high, by_wide, by_store, by_pair, by_low, itself, site_of}
-use Rattle.result_setups.proofs.HomeSound.{loadable}
 use Rattle.result_setups.proofs.HomeStart.{word_given}
-use Rattle.result_setups.proofs.Words.{code_range, code_even, code_below}
+use Rattle.result_setups.proofs.Words.{code_range, code_even}
 use Rattle.relocator.specs.SiteWords.{IsSiteWord}
-use Rattle.result_setups.specs.Moved.{IsMovedSite, IsOffWord, IsMovedView}
-use Rattle.result_setups.specs.Placing.{Placing}
+use Rattle.result_setups.specs.Moved.{IsMovedSite, IsOffWord}
 use Rattle.result_setups.proofs.Loaded.{IsKept, loaded_kept}
 
 -- ---- sites are words of code
@@ -148,7 +144,7 @@ module _ (file : List ℕ) (board : Board) (g : Graph) (accepted : IsAccepted fi
       let here : ranges_overlap d.at 4 u 4 ≡ false = subst (λ (x : ℕ). ranges_overlap x 4 u 4 ≡ false) given.1.at disjoint in
       off_or_in a d.at (λ from to. disjoint_off a u d.at here above under from to)
 
-  -- ---- bytes and words that are kept
+  -- ---- bytes that are kept
 
   -- a byte of code lies off the scratchpad and the patch range
   pub code_kept : (u a : ℕ) → is_code_word v u ≡ true → u ≤ a → a < u + 4 → IsKept v board a
@@ -160,28 +156,3 @@ module _ (file : List ℕ) (board : Board) (g : Graph) (accepted : IsAccepted fi
       let place : s.addr + (a - s.addr) ≡ a = omega (arith, from, above) in
       subst (IsKept v board) place
       (loaded_kept file accepted.none found.0 found.1.loaded (a - s.addr) (omega (arith, from, to, above, under)) board accepted.layout)
-
-  module _ (w : PlainView) (pl : Placing) (is : IsMovedView v w board g pl) where
-    kept_byte : (u a : ℕ) → is_code_word v u ≡ true → target_at g.sites.items u ≡ None → u ≤ a → a < u + 4 → image_of w.segments a ≡ image_of v.segments a
-    kept_byte u a code none above under =
-        let kept = code_kept u a code above under in
-        is.elsewhere a
-        (record {
-          patch = kept.patch;
-          sites = off_others u a code none above under;
-          words = off_words u a code above under;
-          unchanged = kept.unchanged;
-        })
-
-    pub kept_word : (u : ℕ) → is_code_word v u ≡ true → target_at g.sites.items u ≡ None → image_word w u ≡ image_word v u
-    kept_word u code none =
-        let below = code_below v u (loadable file board g accepted) code in
-        λ t.
-        word_of (kept_byte u u code none (omega arith) (omega arith) t)
-        (kept_byte u (plus u 1) code none (omega (arith, below)) (omega (arith, below)) t)
-        (kept_byte u (plus u 2) code none (omega (arith, below)) (omega (arith, below)) t)
-        (kept_byte u (plus u 3) code none (omega (arith, below)) (omega (arith, below)) t)
-
-    -- the word at a site
-    pub moved_word : (u : ℕ) (t : Target) → target_at g.sites.items u ≡ Some t → HasSiteWord v w pl.place u t
-    moved_word u t at = site_word v w pl.place g.sites.items u t (λ k d below same. is.sites k d below) at

@@ -18,7 +18,7 @@ use Rattle.elf_reader.specs.Loadable.{IsByte, AreBytes, IsLoadable, AreLoadable}
 use Rattle.board_config.specs.declared.board.Board.{Board}
 use Rattle.board_config.specs.declared.board.Range.{Range}
 use Rattle.overlay_stubs.specs.Jobs.{copying, IsJob}
-use Rattle.overlay_stubs.specs.Start.{StartPlan, CanStart, Spares, start_stub, start_bytes}
+use Rattle.overlay_stubs.specs.Start.{StartPlan, CanStart, Spares, start_stub}
 use Rattle.rv_decode.specs.Sequences.{MeanAll}
 use Rattle.flat_machine.specs.Lines.{HoldsAt}
 use Rattle.object_graph.specs.Sites.{in_range}
@@ -27,11 +27,14 @@ use Rattle.object_graph.specs.declared.parts.SiteKind.TheVariants.{Hi, LowI}
 use Rattle.object_graph.specs.declared.parts.Site.{Site}
 use Rattle.object_graph.specs.declared.parts.DataWord.{DataWord}
 use Rattle.object_graph.specs.declared.parts.Graph.{Graph}
+use Rattle.code_blocks.specs.declared.parts.Code.{Code}
 use Rattle.cell_values.specs.Objects.{Objects, absent_object, objects_of}
 use Rattle.cell_values.specs.Stands.{Places, Fit}
 use Rattle.cell_values.proofs.Stores.{first_cells}
 use Rattle.result_setups.specs.Placing.{Placing, is_taken, spans, LiesIn, IsInGraph, AreTwo, IsPlacing}
-use Rattle.result_setups.specs.Moved.{start_job, start_plan, HoldsStart, IsMovedSite, IsMovedWord, IsOffWord, IsElsewhere, IsMovedView}
+use Rattle.result_setups.specs.Moved.{start_job, IsMovedSite, IsMovedWord, IsOffWord}
+use Rattle.result_setups.specs.Placement.{Placement}
+use Rattle.result_setups.specs.Result.{placement_plan, HoldsPatch, HasImage, HasPads, is_padded, IsUntouched, IsResultView}
 
 -- ---- the file: LUI and LW of the object at 65568, ADDI and ECALL; the object; and a word of data behind it
 
@@ -99,6 +102,9 @@ place (suc o) = 64
 
 abbrev placing : Placing
 placing = record { place = place; taken = 0 ∷ [] }
+
+abbrev placement : Placement
+placement = record { place = place; objects = 0 ∷ []; pieces = []; sites = [] }
 
 -- ---- any board and graph with these ranges, objects, sites and words
 
@@ -180,10 +186,6 @@ starts =
       ends = omega arith;
       reach = (omega arith, refl);
     }
-
-fits : 64 + start_bytes plan ≤ 65536
-unfolding copying
-fits = omega arith
 
 mean : MeanAll stub (start_stub plan)
 unfolding copying
@@ -285,7 +287,7 @@ same_byte a off first second third =
 
 -- ---- all of it
 
-module _ (board : Board) (g : Graph) (here : IsHere board g) where
+module _ (board : Board) (g : Graph) (c : Code) (here : IsHere board g) where
   objects_are : one ≡ objects_of g
   objects_are = λ t. objects_from (sym here.grain t) (sym here.objects t)
 
@@ -305,7 +307,7 @@ module _ (board : Board) (g : Graph) (here : IsHere board g) where
             (subst (λ os. spans os (0 ∷ []) ≤ 4096) objects_are (omega arith));
       }
 
-  plan_is : plan ≡ start_plan v board g placing
+  plan_is : plan ≡ placement_plan v board g placement
   plan_is =
       λ t.
       record {
@@ -315,14 +317,15 @@ module _ (board : Board) (g : Graph) (here : IsHere board g) where
         jobs = start_job (objects_are t) place 0 ∷ [];
       }
 
-  holds_start : HoldsStart w board plan
-  holds_start =
+  holds_patch : HoldsPatch w board plan
+  holds_patch =
       record {
-        words = replicate 16 0 ++ stub;
+        first = replicate 16 0 ++ stub;
+        behind = [];
         are = (stub, (refl, mean));
         can = starts;
-        inside = subst (λ (r : Range). 64 + start_bytes plan ≤ r.size) (sym here.patch) fits;
-        stands = subst (λ (r : Range). HoldsAt (image_of w.segments) r.base (replicate 16 0 ++ stub)) (sym here.patch) stands;
+        inside = subst (λ (r : Range). 4 * length ((replicate 16 0 ++ stub) ++ []) ≤ r.size) (sym here.patch) (omega arith);
+        stands = subst (λ (r : Range). HoldsAt (image_of w.segments) r.base ((replicate 16 0 ++ stub) ++ [])) (sym here.patch) stands;
       }
 
   high_word : IsMovedSite v w place high
@@ -350,22 +353,27 @@ module _ (board : Board) (g : Graph) (here : IsHere board g) where
   datum_word : IsMovedWord w place datum
   datum_word = first_cells (λ k. image_of w.segments (65572 + k) ≡ byte_of 16777216 k) refl refl refl refl
 
-  elsewhere : (a : ℕ) → IsElsewhere v board g a → image_of w.segments a ≡ image_of v.segments a
+  elsewhere : (a : ℕ) → IsUntouched v board g c placement a → image_of w.segments a ≡ image_of v.segments a
   elsewhere a away =
       let off = subst (λ r. in_range r a ≡ false) here.patch away.patch in
       let sites = subst (λ (items : List Site). All (λ (s : Site). IsOffWord a s.at) items) here.sites away.sites in
       let words = subst (λ (items : List DataWord). All (λ (d : DataWord). IsOffWord a d.at) items) here.words away.words in
       same_byte a off (sites 0 high (omega arith)) (sites 1 high (omega arith)) (words 0 datum (omega arith))
 
-  pub is_moved_view : IsMovedView v w board g placing
-  is_moved_view =
+  abbrev IsBareSite : Site → Type 0
+  IsBareSite s = is_padded c placement s.at ≡ false → IsMovedSite v w place s
+
+  pub is_result_view : IsResultView v w board g c placement
+  is_result_view =
       record {
         loadable = loads;
         entry = sym (ap (λ (r : Range). r.base + 64) here.patch);
-        start = subst (HoldsStart w board) plan_is holds_start;
+        patch = subst (HoldsPatch w board) plan_is holds_patch;
+        images = All-nil (HasImage w board);
+        pads = All-nil (HasPads w board g c placement);
         sites =
-            subst (λ items. All (IsMovedSite v w place) items) (sym here.sites)
-            (All-cons (IsMovedSite v w place) high (low ∷ []) high_word (All-cons (IsMovedSite v w place) low [] low_word (All-nil (IsMovedSite v w place))));
+            subst (λ items. All IsBareSite items) (sym here.sites)
+            (All-cons IsBareSite high (low ∷ []) (λ bare. high_word) (All-cons IsBareSite low [] (λ bare. low_word) (All-nil IsBareSite)));
         words =
             subst (λ items. All (IsMovedWord w place) items) (sym here.words)
             (All-cons (IsMovedWord w place) datum [] datum_word (All-nil (IsMovedWord w place)));

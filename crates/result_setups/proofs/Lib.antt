@@ -17,11 +17,9 @@ pub mod Loaded
 pub mod CodeWords
 pub mod MovedSound
 pub mod UnitWords
-pub mod MovedUnits
 pub mod Bounds
 pub mod StartCells
-pub mod MovedStart
-pub mod Kept
+pub mod MovedObjects
 pub mod CodeUnits
 pub mod LiveUnits
 pub mod ResultSound

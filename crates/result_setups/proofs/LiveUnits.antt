@@ -43,8 +43,7 @@ use Rattle.object_machine.proofs.MeaningLemmas.{LeadsOn}
 use Rattle.object_machine.proofs.LeadLemmas.{leads_read, straight, next_leads}
 use Rattle.object_machine.proofs.FollowLemmas.{goes_further, straight_parts, read_leads, falls_behind, leads_next, unit_reads, is_true_false, cases_bool}
 use Rattle.simulation.specs.Rules.{LiveRules}
-use Rattle.result_setups.specs.HomeLaws.{IsAccepted}
-use Rattle.result_setups.specs.MovedLaws.{unnamed_in}
+use Rattle.result_setups.specs.HomeLaws.{IsAccepted, unnamed_in}
 use Rattle.result_setups.specs.LiveUnits.{code_unit, StandsThere, ComesNext, StepsLeadOn, live_at, LivenessKeeps}
 use Rattle.result_setups.proofs.HomeUnits.{call_words}
 use Rattle.result_setups.proofs.CodeUnits.{IsPlaced, placed, next_within, next_block, next_reached}

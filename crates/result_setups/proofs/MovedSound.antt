@@ -8,7 +8,6 @@ use Rattle.std.proofs.lemmas.List.Elements.{All-head, All-tail}
 use Rattle.list_checks.proofs.TestLemmas.{either}
 use Rattle.word_bits.specs.Memory.{Memory}
 use Rattle.elf_reader.specs.File.{PlainView, view_in}
-use Rattle.elf_reader.specs.Image.{image_of}
 use Rattle.board_config.specs.Board.{mapped_ranges}
 use Rattle.board_config.specs.declared.board.Board.{Board}
 use Rattle.board_config.specs.declared.board.Range.{Range}
@@ -27,13 +26,12 @@ use Rattle.cell_values.proofs.Makes.{moved_uppers_make}
 use Rattle.overlay_stubs.specs.Laws.{CanCopy}
 use Rattle.simulation.specs.Setups.{Sound}
 use Rattle.result_setups.specs.Home.{is_code_byte}
-use Rattle.result_setups.specs.HomeLaws.{IsAccepted}
+use Rattle.result_setups.specs.HomeLaws.{IsAccepted, unnamed_in}
 use Rattle.result_setups.proofs.Memory.{fixed_parts}
 use Rattle.cell_values.proofs.GraphObjects.{object_below, object_moves}
 use Rattle.result_setups.proofs.HomeSound.{sound_home}
 use Rattle.result_setups.specs.Placing.{Placing, is_taken, LiesIn, IsPlacing, placed_setup}
 use Rattle.result_setups.specs.Moved.{start_job}
-use Rattle.result_setups.specs.MovedLaws.{unnamed_in, MovedIsSound}
 use Rattle.result_setups.proofs.Loaded.{IsKept, refuted, loaded_kept}
 use Rattle.result_setups.proofs.CodeWords.{code_kept}
 use Rattle.result_setups.proofs.Bounds.{HasBytes}
@@ -151,8 +149,3 @@ module _ (file : List ℕ) (board : Board) (g : Graph) (accepted : IsAccepted fi
         let moves =
         movable_parts v board home n (object_moves v board g o accepted.graph.objects (placing.listed k d below)) in
         (byte_range_of v home n (symbol_at v moves.symbol) moves.of).filled
-
-pub sound_moved : MovedIsSound
-sound_moved file out board g pl moved =
-    sound_placed file board g moved.accepted pl moved.placing (is_code_byte (view_in file)) (image_of (view_in out).segments) 0
-    (sound_home file board g moved.accepted).still_off_fixed (object_off_code file board g moved.accepted pl moved.placing)

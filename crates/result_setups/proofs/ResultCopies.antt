@@ -54,7 +54,7 @@ use Rattle.simulation.specs.Units.{StandsAt}
 use Rattle.simulation.specs.Forms.{IsAt, ActsFor, ActsAs, OneWordFor, IsFollowed, home_of, CanCome, RunsFor, PairRuns, IsRowKind, RowAt, FormAt, InWords, InRow}
 use Rattle.simulation.specs.Ways.{Comes}
 use Rattle.result_setups.specs.LiveUnits.{code_unit, StandsThere, live_at}
-use Rattle.result_setups.specs.MovedLaws.{unnamed_in}
+use Rattle.result_setups.specs.HomeLaws.{unnamed_in}
 use Rattle.result_setups.specs.Placement.{PlacedPiece, Placement}
 use Rattle.result_setups.specs.PlacedForms.{no_piece, piece_at, copy_at, form_of}
 use Rattle.result_setups.specs.ResultLaws.{IsResult, setup_of_result}
@@ -66,7 +66,7 @@ use Rattle.result_setups.proofs.CodeWords.{listed_word}
 use Rattle.result_setups.proofs.UnitWords.{acts_for}
 use Rattle.result_setups.proofs.ResultSound.{sound_result}
 use Rattle.result_setups.proofs.ResultStill.{same_word, copy_holds, copy_still, copy_mapped}
-use Rattle.result_setups.proofs.ResultWays.{begin_leads, leader_low, temporary_dead, is_copy, words_stand, unit_same, unit_count, block_comes, padded_begins, later_bare, lands_comes, unit_comes, in_order}
+use Rattle.result_setups.proofs.ResultWays.{begin_leads, temporary_dead, is_copy, unit_same, unit_count, block_comes, lands_comes, unit_comes, in_order}
 use Rattle.result_setups.proofs.ResultWays as ways
 use Rattle.result_setups.proofs.ResultForms.{reached_comes, unit_low}
 use Rattle.result_setups.proofs.ResultUnits.{call_register, straight_acts, site_if, no_target, same_register, AreFew, words_few, copy_some, read_register}

@@ -21,7 +21,7 @@ use Rattle.simulation.specs.Forms.{IsFollowed, FormAt, InWords}
 use Rattle.simulation.specs.Ways.{There, Comes}
 use Rattle.simulation.proofs.AnyForms.{home_words}
 use Rattle.result_setups.specs.LiveUnits.{StandsThere, live_at}
-use Rattle.result_setups.specs.MovedLaws.{unnamed_in}
+use Rattle.result_setups.specs.HomeLaws.{unnamed_in}
 use Rattle.result_setups.specs.Placement.{Placement}
 use Rattle.result_setups.specs.Result.{is_padded}
 use Rattle.result_setups.specs.PlacedForms.{AtHome, form_of}

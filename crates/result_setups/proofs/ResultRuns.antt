@@ -26,13 +26,12 @@ use Rattle.simulation.specs.Ways.{Comes, AtAny, Arrivals, within}
 use Rattle.simulation.proofs.AnyRegions.{ways_lead}
 use Rattle.simulation.proofs.Resets.{all_made, moved_code_keeps}
 use Rattle.simulation.proofs.Runs.{keeps_behind}
-use Rattle.result_setups.specs.HomeLaws.{program_in, source_start, file_start}
+use Rattle.result_setups.specs.HomeLaws.{program_in, source_start, file_start, unnamed_in}
 use Rattle.result_setups.specs.LiveUnits.{StandsThere, live_at}
-use Rattle.result_setups.specs.MovedLaws.{unnamed_in, most_steps}
 use Rattle.result_setups.specs.Placement.{Placement}
 use Rattle.result_setups.specs.Result.{placement_plan}
 use Rattle.result_setups.specs.PlacedForms.{AtHome, InCopy, form_of}
-use Rattle.result_setups.specs.ResultLaws.{IsResult, setup_of_result, ResultKeeps}
+use Rattle.result_setups.specs.ResultLaws.{IsResult, setup_of_result, ResultKeeps, most_steps}
 use Rattle.result_setups.proofs.Single.{one_run}
 use Rattle.result_setups.proofs.Bounds.{start_more}
 use Rattle.result_setups.proofs.CodeUnits.{block_of, first}

@@ -22,8 +22,7 @@ use Rattle.code_blocks.specs.declared.parts.Code.{Code}
 use Rattle.cell_values.specs.Objects.{object_of, objects_of}
 use Rattle.simulation.specs.Setups.{Sound}
 use Rattle.result_setups.specs.Home.{is_code_byte}
-use Rattle.result_setups.specs.HomeLaws.{IsAccepted}
-use Rattle.result_setups.specs.MovedLaws.{unnamed_in}
+use Rattle.result_setups.specs.HomeLaws.{IsAccepted, unnamed_in}
 use Rattle.result_setups.specs.Placement.{PlacedPiece, Placement, piece_bytes, data_of, IsPlacedPiece, IsOffObjects, IsPlacement}
 use Rattle.result_setups.specs.Result.{is_copy_byte, is_stub_byte}
 use Rattle.simulation.specs.Setups.{Setup}

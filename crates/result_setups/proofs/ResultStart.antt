@@ -29,9 +29,8 @@ use Rattle.overlay_stubs.specs.Laws.{CanCopy, IsAtStart, started}
 use Rattle.overlay_stubs.proofs.Starting.{start_runs_so}
 use Rattle.simulation.specs.Relation.{Alike}
 use Rattle.result_setups.specs.Home.{is_code_byte}
-use Rattle.result_setups.specs.HomeLaws.{source_start, file_start}
+use Rattle.result_setups.specs.HomeLaws.{source_start, file_start, unnamed_in}
 use Rattle.result_setups.specs.Moved.{start_job, IsOffWord}
-use Rattle.result_setups.specs.MovedLaws.{unnamed_in}
 use Rattle.result_setups.specs.Placement.{PlacedPiece, Placement, piece_bytes, data_of, IsPlacedPiece}
 use Rattle.result_setups.specs.Result.{code_job, placement_jobs, placement_plan, HasImage, is_padded}
 use Rattle.result_setups.specs.ResultLaws.{IsResult, setup_of_result}

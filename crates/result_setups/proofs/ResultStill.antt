@@ -42,7 +42,7 @@ use Rattle.result_setups.proofs.Words.{all_from, even_passes, code_even, code_be
 use Rattle.result_setups.proofs.CodeUnits.{begins}
 use Rattle.result_setups.proofs.CodeWords.{HasSiteWord, site_word, code_kept, off_others, off_words}
 use Rattle.result_setups.proofs.MovedSound.{lies_in_range, spm_mapped, patch_mapped, object_kept}
-use Rattle.result_setups.proofs.MovedStart.{all_outside, copied_cell}
+use Rattle.result_setups.proofs.MovedObjects.{all_outside, copied_cell}
 use Rattle.result_setups.proofs.ResultSound.{patch_lawful, spm_lawful, patch_off_spm}
 
 -- ---- words by their bytes

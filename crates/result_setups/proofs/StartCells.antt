@@ -23,9 +23,8 @@ use Rattle.cell_values.specs.Stands.{Places, Stands, CellStands, moved_uppers}
 use Rattle.object_machine.specs.State.{value}
 use Rattle.object_machine.specs.Start.{in_word, first_cell, where_memory}
 use Rattle.result_setups.specs.Home.{is_code_byte}
-use Rattle.result_setups.specs.HomeLaws.{IsAccepted}
+use Rattle.result_setups.specs.HomeLaws.{IsAccepted, unnamed_in}
 use Rattle.result_setups.specs.Moved.{IsMovedWord, IsOffWord}
-use Rattle.result_setups.specs.MovedLaws.{unnamed_in}
 use Rattle.result_setups.proofs.HomeSound.{sound_home}
 use Rattle.result_setups.proofs.Loaded.{IsKept, refuted}
 use Rattle.result_setups.proofs.CodeWords.{off_or_in}

@@ -33,7 +33,7 @@ use Rattle.simulation.specs.Units.{Completes, StandsAt, StandsForSite, StandsFor
 use Rattle.simulation.specs.Rules.{UnitAt}
 use Rattle.simulation.specs.Forms.{ActsAs}
 use Rattle.simulation.proofs.Completes.{moved_completes}
-use Rattle.result_setups.specs.HomeLaws.{IsAccepted}
+use Rattle.result_setups.specs.HomeLaws.{IsAccepted, unnamed_in}
 use Rattle.result_setups.proofs.Named.{auipc_by}
 use Rattle.cell_values.proofs.GraphObjects.{object_moves}
 use Rattle.result_setups.proofs.Sites.{site_of}
@@ -42,7 +42,6 @@ use Rattle.result_setups.proofs.HomeUnits.{unit_home}
 use Rattle.result_setups.proofs.Words.{code_below}
 use Rattle.relocator.specs.SiteWords.{IsRewritten}
 use Rattle.result_setups.specs.Placing.{placed_setup}
-use Rattle.result_setups.specs.MovedLaws.{unnamed_in}
 use Rattle.result_setups.proofs.CodeWords.{HasSiteWord}
 
 -- ---- instructions at sites

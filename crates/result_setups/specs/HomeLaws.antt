@@ -19,6 +19,7 @@ use Rattle.simulation.specs.Setups.{Setup, Sound}
 use Rattle.simulation.specs.Relation.{Alike}
 use Rattle.simulation.specs.Rules.{all_live}
 use Rattle.simulation.specs.Laws.{IsUnit, AllAtHome, Keeps}
+use Rattle.simulation.specs.Unnamed.{unnamed}
 use Rattle.result_setups.specs.Home.{home_setup}
 
 -- no check of the file, of its layout on a board or of its code fails, and a graph is its graph
@@ -30,10 +31,15 @@ pub record IsAccepted (file : List ℕ) (board : Board) (g : Graph) : Type 0 whe
   pub graph : IsGraph (view_in file) board g
   pub code : code_fault (view_in file) ≡ None
 
--- its program and its setup
+-- its program
 abbrev pub program_in : List ℕ → Board → Graph → Program
 program_in file board g = program_of (view_in file) board g
 
+-- the same program with all upper parts made by a LUI, as in a result in which something moves
+abbrev pub unnamed_in : List ℕ → Board → Graph → Program
+unnamed_in file board g = unnamed (program_in file board g)
+
+-- its setup
 abbrev pub setup_in : List ℕ → Board → Graph → Setup
 setup_in file board g = home_setup (view_in file) board g
 

@@ -5,7 +5,6 @@ pub mod Absolute
 pub use Rattle.relocator.specs.SiteWords
 pub mod Placing
 pub mod Moved
-pub mod MovedLaws
 pub mod LiveUnits
 pub mod Placement
 pub mod Result

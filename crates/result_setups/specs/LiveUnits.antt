@@ -19,8 +19,7 @@ use Rattle.object_machine.specs.State.{SourceState}
 use Rattle.object_machine.specs.Step.{Reads, next_state}
 use Rattle.simulation.specs.Rules.{LiveRules}
 use Rattle.simulation.specs.Laws.{IsUnit}
-use Rattle.result_setups.specs.HomeLaws.{IsAccepted}
-use Rattle.result_setups.specs.MovedLaws.{unnamed_in}
+use Rattle.result_setups.specs.HomeLaws.{IsAccepted, unnamed_in}
 
 -- ---- units and their addresses
 

@@ -1,10 +1,9 @@
 //! Where things stand in a result, and that it keeps its program's meaning: a file that is loaded as it is, and one in which
-//! objects stand in the scratchpad. Definitions and laws alone.
+//! objects and code stand in the scratchpad. Definitions and laws alone.
 #![tactic(auto)]
 
 mod home_laws;
 mod live_laws;
-mod moved_laws;
 mod result_laws;
 
 pub use home_laws::{
@@ -12,5 +11,4 @@ pub use home_laws::{
     units_are_home,
 };
 pub use live_laws::{code_units_stand, liveness_keeps, steps_lead_on};
-pub use moved_laws::{moved_file_keeps, moved_is_sound, start_leads, units_are_moved};
 pub use result_laws::{result_is_sound, result_keeps};

@@ -1,4 +1,5 @@
-use Rattle.relink_core.proofs.ItemGoals.{source_for, extendable_of}
+use Rattle.relink_core.proofs.ItemGoals.{source_for}
+use Rattle.relink_core.proofs.RealiseLemmas.{prepared}
 use Rattle.relink_core.proofs.item_results.with_words.Goals as goal
 
 pub with_source-requires : goal.with_source-requires
@@ -7,11 +8,11 @@ with_source-requires c =
     let (p, choice, taken) = c.requires.taken in
     let a = c.args.a.now in
     let board = c.args.board.now in
-    record { chosen = (file, p, choice, source_for file board a _ p choice c.args.taken.now is taken c.deref.ensures.value (extendable_of file board a.graph) is.code is.live is.pieces taken.chosen taken.laid c.requires.words) }
+    record { chosen = (file, p, choice, source_for file board a _ p choice c.args.taken.now is taken c.deref.ensures.value (prepared file board a is) is.code is.live is.pieces taken.chosen taken.laid c.requires.words) }
 
 pub returns-in-Ok-clause-moved : goal.returns-in-Ok-clause-moved
 returns-in-Ok-clause-moved c = λ file p choice is taken.
     let a = c.args.a.now in
     let board = c.args.board.now in
     c.in-Ok.ensures.moved file p choice
-    (source_for file board a _ p choice c.args.taken.now is taken c.deref.ensures.value (extendable_of file board a.graph) is.code is.live is.pieces taken.chosen taken.laid c.requires.words)
+    (source_for file board a _ p choice c.args.taken.now is taken c.deref.ensures.value (prepared file board a is) is.code is.live is.pieces taken.chosen taken.laid c.requires.words)

@@ -2,7 +2,7 @@ use Rattle.cell_values.specs.Objects.{objects_of}
 use Rattle.result_setups.specs.Moved.{start_job}
 use Rattle.relink_core.specs.Making.{start_place}
 use Rattle.list_checks.proofs.StepLemmas.{collect_more}
-use Rattle.relink_core.proofs.starting.start_jobs.Goals as goal
+use Rattle.relink_core.proofs.patch_code.start_jobs.Goals as goal
 
 pub loop-object-preserved : goal.loop-object-preserved
 loop-object-preserved c =

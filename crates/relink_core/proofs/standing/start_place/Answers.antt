@@ -1,5 +1,5 @@
 use Rattle.std.proofs.Common.{arith}
-use Rattle.relink_core.proofs.taking.start_place.Goals as goal
+use Rattle.relink_core.proofs.standing.start_place.Goals as goal
 
 pub first_place-requires-clause-object : goal.first_place-requires-clause-object
 first_place-requires-clause-object c =
