@@ -112,11 +112,11 @@ certificate_told board_text file input text board p fault accepts states (inr to
 
 -- what a view states, its file states
 pub states_of : (board_text file input : List ℕ) (o : Opened) (p : PlainProgramme) → IsOpened board_text file o
-    → StatesProgramme (plain_view o.analysis.view) o.board o.analysis.graph o.analysis.code o.analysis.regions input p
+    → StatesProgramme (plain_view o.analysis.view) o.board o.analysis.graph o.analysis.code o.analysis.regions o.analysis.pieces.items input p
     → StatesOf file o.board input p
 states_of board_text file input o p is states =
     let a = o.analysis in
     record {
       found = findings file o.board a is.analysed;
-      states = subst (λ (u : PlainView). StatesProgramme u o.board a.graph a.code a.regions input p) (opened_view board_text file o is) states;
+      states = subst (λ (u : PlainView). StatesProgramme u o.board a.graph a.code a.regions a.pieces.items input p) (opened_view board_text file o is) states;
     }

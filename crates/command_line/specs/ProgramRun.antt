@@ -17,7 +17,7 @@ use Rattle.command_line.specs.declared.faults.CommandFault.TheVariants as comman
 -- the run of a file's program on an input states this programme
 pub record StatesOf (file : List ℕ) (board : Board) (input : List ℕ) (p : PlainProgramme) : Type 0 where
   pub found : Findings file board
-  pub states : StatesProgramme (view_in file) board found.graph found.code found.regions input p
+  pub states : StatesProgramme (view_in file) board found.graph found.code found.regions found.pieces input p
 
 -- what is told of the first fault, if there is one: those of the board and the file come before the run
 pub data ReportsProfiled (board_text file input : List ℕ) (told : Option Parts) : Type 0 where

@@ -19,5 +19,5 @@ pub record RelinksTo (file board_text input certificate out report : List ℕ) :
   pub states : StatesOf file board input programme
   pub choice : PlainChoice
   pub says_optimal : Bool
-  pub result : IsResult file board states.found.graph programme choice says_optimal certificate out
-  pub is_report : IsRelinkReport (view_in file) board states.found.graph programme choice says_optimal report
+  pub result : IsResult file board states.found.graph states.found.code programme choice says_optimal certificate out
+  pub is_report : IsRelinkReport (view_in file) board states.found.graph states.found.code programme choice says_optimal report

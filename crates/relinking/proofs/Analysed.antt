@@ -98,4 +98,6 @@ findings file board a is =
       is_code = is.code;
       regions = a.regions;
       are_regions = is.regions;
+      pieces = a.pieces.items;
+      are_pieces = is.pieces;
     }

@@ -1,5 +1,5 @@
 -- The programme that the run of a file's program states, and what it is stated from.
-use Rattle.std.proofs.Common.{◌≡◌, ℕ, ◌+◌, ◌≤◌, ℤ, pos, ◌-ℤ◌, ◌≤ℤ◌, Bool, true, false, if◌then◌else◌, List, [], length, None, refl, sym, subst, arith}
+use Rattle.std.proofs.Common.{◌≡◌, ℕ, ◌+◌, ◌≤◌, ℤ, pos, ◌-ℤ◌, ◌≤ℤ◌, Bool, true, false, if◌then◌else◌, List, length, None, refl, sym, subst, arith}
 use Rattle.elf_reader.specs.File.{plain_view}
 use Rattle.elf_reader.specs.declared.view.ElfView.{ElfView}
 use Rattle.board_config.specs.Board.{IsLawful}
@@ -7,6 +7,7 @@ use Rattle.board_config.specs.declared.board.Board.{Board}
 use Rattle.loaded_file.specs.Read.{IsRead}
 use Rattle.object_graph.specs.Graphs.{IsGraph}
 use Rattle.object_graph.specs.declared.parts.Graph.{Graph}
+use Rattle.block_splitter.specs.declared.piece.Piece.{Piece}
 use Rattle.code_leaders.specs.Leaders.{is_leader}
 use Rattle.code_blocks.specs.Blocks.{IsCode, code_fault}
 use Rattle.code_blocks.specs.Numbers.{starts_of}
@@ -62,22 +63,14 @@ of_one_file view board g c t input q last read lawful is_graph is_code no_fault 
       };
     }
 
--- no pieces are some of a program's pieces
-pub no_pieces : (c : Code) (g : Graph) → AreSomePieces c g []
-no_pieces c g =
-    record {
-      ordered = λ i j d before below. absurd (omega (arith, before, below));
-      each = λ k d below. absurd (omega (arith, below));
-    }
-
 -- the energies of what the run states are those of the run
-pub energies_of : (view : ElfView) (board : Board) (g : Graph) (c : Code) (t : RegionTable) (q : Profile) (transitions : List Transition) (p : PlainProgramme)
-    → AreOfSameFile view board g c t q transitions → p ≡ stated (scene_of g c t board) (layout_of g c t board) [] transitions
+pub energies_of : (view : ElfView) (board : Board) (g : Graph) (c : Code) (t : RegionTable) (pieces : List Piece) (q : Profile) (transitions : List Transition) (p : PlainProgramme)
+    → AreOfSameFile view board g c t q transitions → AreSomePieces c g pieces → p ≡ stated (scene_of g c t board) (layout_of g c t board) pieces transitions
     → EnergiesAreOf (scene_of g c t board) transitions p
-energies_of view board g c t q transitions p one is =
+energies_of view board g c t pieces q transitions p one are is =
     let w = scene_of g c t board in
-    let of_stated : EnergiesAreOf w transitions (stated w (layout_of g c t board) [] transitions) =
-    λ choice feasible. is_of_the_run same_instruction view board g c t q [] transitions choice one (no_pieces c g) feasible in
+    let of_stated : EnergiesAreOf w transitions (stated w (layout_of g c t board) pieces transitions) =
+    λ choice feasible. is_of_the_run same_instruction view board g c t q pieces transitions choice one are feasible in
     subst (λ (r : PlainProgramme). EnergiesAreOf w transitions r) (sym is) of_stated
 
 -- ---- energies

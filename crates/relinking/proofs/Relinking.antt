@@ -1,20 +1,23 @@
 -- A file that is analysed, relinked: what its steps ask of the analysis, and what is told of it.
-use Rattle.std.proofs.Common.{◌≡◌, ◌⊎◌, inl, inr, ℕ, List, Err, sym, subst}
+use Rattle.std.proofs.Common.{◌≡◌, ◌⊎◌, inl, inr, ℕ, List, Err, sym, subst, arith}
 use Rattle.elf_reader.specs.File.{PlainView, view_in}
 use Rattle.board_config.specs.declared.board.Board.{Board}
 use Rattle.object_graph.specs.Graphs.{IsGraph}
 use Rattle.object_graph.specs.declared.parts.Graph.{Graph}
 use Rattle.code_blocks.specs.declared.parts.Code.{Code}
+use Rattle.block_splitter.specs.declared.piece.Piece.{Piece}
+use Rattle.placement_candidates.specs.Stated.{AreSomePieces}
 use Rattle.region_former.specs.declared.table.RegionTable.{RegionTable}
 use Rattle.placement_programme.specs.Plain.{PlainProgramme, PlainChoice}
 use Rattle.placement_programme.specs.Programme.{IsFeasible}
 use Rattle.profile_runner.specs.declared.fault.ProfileFault.{ProfileFault}
 use Rattle.profile_runner.specs.declared.fault.ProfileFault.TheVariants as profile
 use Rattle.relocator.specs.declared.places.Places.{Places}
-use Rattle.relink_core.specs.Choices.{IsDataChoice}
+use Rattle.relink_core.specs.Choices.{IsStaticChoice}
 use Rattle.relink_core.specs.Faults.{IsFaultless, IsFirst}
-use Rattle.relink_core.specs.Making.{AreOfGraph, ArePlacesOf}
-use Rattle.relink_core.specs.Realises.{data_placing}
+use Rattle.relocator.specs.declared.slots.Slot.{Slot}
+use Rattle.relocator.specs.Placing.{placed, ArePlaces}
+use Rattle.relink_core.specs.Making.{AreOfGraph}
 use Rattle.relink_core.specs.declared.fault.AnalyseFault.{AnalyseFault}
 use Rattle.relink_core.specs.declared.fault.AnalyseFault.TheVariants as analyse
 use Rattle.relink_core.proofs.StatedLemmas.{stated_choice}
@@ -62,18 +65,18 @@ run_tells file board v g c t input (profile.AddressFault pc why) same no_fault i
     )
 run_tells file board v g c t input profile.Memory same no_fault is_graph told = tt
 
--- a feasible choice of the programme that a run states is one of static data
-pub states_data : (v : PlainView) (board : Board) (g : Graph) (c : Code) (t : RegionTable) (input : List ℕ) (p : PlainProgramme) (choice : PlainChoice)
-    → StatesProgramme v board g c t input p → IsFeasible p choice → IsDataChoice board g p choice
-states_data v board g c t input p choice states feasible =
-    subst (λ (q : PlainProgramme). IsDataChoice board g q choice) (sym states.programme_is)
-    (stated_choice board g c t states.transitions choice (subst (λ (q : PlainProgramme). IsFeasible q choice) states.programme_is feasible))
+-- a feasible choice of the programme that a run states is one of static items
+pub states_choice : (v : PlainView) (board : Board) (g : Graph) (c : Code) (t : RegionTable) (pieces : List Piece) (input : List ℕ) (p : PlainProgramme) (choice : PlainChoice)
+    → AreSomePieces c g pieces → StatesProgramme v board g c t pieces input p → IsFeasible p choice → IsStaticChoice board g c pieces p choice
+states_choice v board g c t pieces input p choice are states feasible =
+    subst (λ (q : PlainProgramme). IsStaticChoice board g c pieces q choice) (sym states.programme_is)
+    (stated_choice board g c t pieces states.transitions are choice (subst (λ (q : PlainProgramme). IsFeasible q choice) states.programme_is feasible))
 
 -- ---- the lines
 
--- by a table of places that are those of the objects
-pub lines_of_places : (v : PlainView) (board : Board) (g : Graph) (taken : List ℕ) (places : Places) → AreOfGraph g taken → ArePlacesOf board g taken places
-    → moved_lines v g.objects.items (start_in (plain_rows places.of.items)) taken ≡ moved_lines v g.objects.items (data_placing board g taken).place taken
-lines_of_places v board g taken places listed are =
-    moved_same v g.objects.items (start_in (plain_rows places.of.items)) (data_placing board g taken).place taken
-    (λ k d below. are.exact _ (listed k d below))
+-- those of objects, by a table of places for these slots
+pub lines_of_places : (v : PlainView) (g : Graph) (slots : List Slot) (objects : List ℕ) (places : Places) → AreOfGraph g objects → ArePlaces g 0 slots places
+    → moved_lines v g.objects.items (start_in (plain_rows places.of.items)) objects ≡ moved_lines v g.objects.items (placed g slots 0) objects
+lines_of_places v g slots objects places listed are =
+    moved_same v g.objects.items (start_in (plain_rows places.of.items)) (placed g slots 0) objects
+    (λ k d below. are.table.exact _ 0 (listed k d below) (omega arith))

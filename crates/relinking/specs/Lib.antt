@@ -2,4 +2,5 @@ pub mod Runs
 pub mod ProgrammeOfRun
 pub mod FoundChoice
 pub mod Relink
+pub mod Copied
 pub mod Report

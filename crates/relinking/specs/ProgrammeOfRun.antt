@@ -1,9 +1,10 @@
 -- The programme of a placement that the run of a program states, by a table of regions.
-use Rattle.std.specs.Prelude.{◌≡◌, ℕ, pos, List, [], Result, Ok, Err}
+use Rattle.std.specs.Prelude.{◌≡◌, ℕ, pos, List, Result, Ok, Err}
 use Rattle.elf_reader.specs.File.{PlainView}
 use Rattle.board_config.specs.declared.board.Board.{Board}
 use Rattle.object_graph.specs.declared.parts.Graph.{Graph}
 use Rattle.code_blocks.specs.declared.parts.Code.{Code}
+use Rattle.block_splitter.specs.declared.piece.Piece.{Piece}
 use Rattle.object_machine.specs.Program.{program_of}
 use Rattle.object_machine.specs.State.{SourceState}
 use Rattle.object_machine.specs.Start.{start_of}
@@ -28,16 +29,16 @@ EnergiesAreOf w transitions p =
     (choice : PlainChoice) → IsFeasible p choice → programme_energy p choice ≡ pos (energy w (taken_by p choice) transitions)
 
 -- The program, started on the input, takes the board's steps, or fewer where it ends. These are its moves, which meet
--- no address fault, and they state this programme for static data.
-pub record StatesProgramme (v : PlainView) (board : Board) (g : Graph) (c : Code) (t : RegionTable) (input : List ℕ) (p : PlainProgramme) : Type 0 where
+-- no address fault, and they state this programme for static data and for these pieces of code.
+pub record StatesProgramme (v : PlainView) (board : Board) (g : Graph) (c : Code) (t : RegionTable) (pieces : List Piece) (input : List ℕ) (p : PlainProgramme) : Type 0 where
   pub transitions : List Transition
   pub last : SourceState
   pub run : Transitions (program_of v board g) board.steps (start_of v (program_of v board g) g input) transitions last
   pub no_address_fault : IsAddressFault last.outcome → ⊥
-  pub programme_is : p ≡ stated (scene_of g c t board) (layout_of g c t board) [] transitions
+  pub programme_is : p ≡ stated (scene_of g c t board) (layout_of g c t board) pieces transitions
   pub energies : EnergiesAreOf (scene_of g c t board) transitions p
 
 -- the programme of the program's run, or its address fault, or that no memory was left
-abbrev pub ReportsProgramme : PlainView → Board → Graph → Code → RegionTable → List ℕ → Result Programme ProfileFault → Type 0
-ReportsProgramme v board g c t input (Ok p) = StatesProgramme v board g c t input (plain_programme p)
-ReportsProgramme v board g c t input (Err fault) = ReportsCounts v board g c t input (Err fault)
+abbrev pub ReportsProgramme : PlainView → Board → Graph → Code → RegionTable → List Piece → List ℕ → Result Programme ProfileFault → Type 0
+ReportsProgramme v board g c t pieces input (Ok p) = StatesProgramme v board g c t pieces input (plain_programme p)
+ReportsProgramme v board g c t pieces input (Err fault) = ReportsCounts v board g c t input (Err fault)

@@ -5,6 +5,7 @@ use Rattle.elf_reader.specs.File.{view_in}
 use Rattle.board_config.specs.declared.board.Board.{Board}
 use Rattle.object_graph.specs.declared.parts.Graph.{Graph}
 use Rattle.code_blocks.specs.declared.parts.Code.{Code}
+use Rattle.block_splitter.specs.declared.piece.Piece.{Piece}
 use Rattle.object_machine.specs.declared.events.Outcome.TheVariants.{AddressFault}
 use Rattle.region_former.specs.declared.table.RegionTable.{RegionTable}
 use Rattle.placement_programme.specs.Plain.{PlainProgramme, PlainChoice}
@@ -14,8 +15,8 @@ use Rattle.profile_runner.specs.declared.fault.ProfileFault.TheVariants as profi
 use Rattle.relink_core.specs.Choices.{taken_names, KeepsMeaning}
 use Rattle.relink_core.specs.Faults.{IsFaultless, IsFirst}
 use Rattle.relink_core.specs.Findings.{Findings}
-use Rattle.relink_core.specs.Making.{ArePlaced}
-use Rattle.relink_core.specs.Realises.{Realises}
+use Rattle.relink_core.specs.Standing.{AreStanding}
+use Rattle.relink_core.specs.Placed.{taken_of, Realises}
 use Rattle.relink_core.specs.declared.fault.AnalyseFault.{AnalyseFault}
 use Rattle.relink_core.specs.declared.fault.AnalyseFault.TheVariants as analyse
 use Rattle.relinking.specs.FoundChoice.{is_optimal, IsFound}
@@ -27,23 +28,23 @@ use Rattle.relinking.specs.declared.making.RelinkFault.TheVariants as relink
 
 -- A choice that is found of a programme, with its certificate. The result realises the choice and keeps the file's
 -- meaning, on any input; where nothing is taken it is the file, and only paired runs are spoken of.
-pub record IsResult (file : List ℕ) (board : Board) (g : Graph) (p : PlainProgramme) (choice : PlainChoice) (says_optimal : Bool) (certificate out : List ℕ) : Type 0 where
+pub record IsResult (file : List ℕ) (board : Board) (g : Graph) (c : Code) (p : PlainProgramme) (choice : PlainChoice) (says_optimal : Bool) (certificate out : List ℕ) : Type 0 where
   pub found : IsFound p board.nodes choice certificate says_optimal
-  pub realises : Realises file board g (taken_names p choice) out
+  pub realises : Realises file board g c (taken_of p choice) out
   pub keeps : KeepsMeaning (taken_names p choice) file out board
 
--- the file's run on the input states the programme, by this graph, code and table of regions, and the result is one for
--- it, in which the objects that the choice takes stand at their places
-pub record RelinksBy (file : List ℕ) (board : Board) (g : Graph) (c : Code) (t : RegionTable) (input : List ℕ) (r : Relinked) : Type 0 where
-  pub states : StatesProgramme (view_in file) board g c t input (plain_programme r.programme)
-  pub result : IsResult file board g (plain_programme r.programme) (plain_choice r.found.choice) (is_optimal r.found.status) r.certificate.items r.result.bytes.items
-  pub placed : ArePlaced board g (plain_programme r.programme) (plain_choice r.found.choice) r.result.objects.items r.result.places
+-- the file's run on the input states the programme, by this graph, code, table of regions and these pieces, and the
+-- result is one for it, in which what the choice takes stands at its places
+pub record RelinksBy (file : List ℕ) (board : Board) (g : Graph) (c : Code) (t : RegionTable) (pieces : List Piece) (input : List ℕ) (r : Relinked) : Type 0 where
+  pub states : StatesProgramme (view_in file) board g c t pieces input (plain_programme r.programme)
+  pub result : IsResult file board g c (plain_programme r.programme) (plain_choice r.found.choice) (is_optimal r.found.status) r.certificate.items r.result.bytes.items
+  pub stands : AreStanding board g c (plain_programme r.programme) (plain_choice r.found.choice) r.result.objects.items r.result.copies.items r.result.places
 
--- a file that has no fault is relinked by its own graph, code and regions
+-- a file that has no fault is relinked by its own graph, code, regions and pieces
 pub record Relinks (file : List ℕ) (board : Board) (input : List ℕ) (r : Relinked) : Type 0 where
   pub no_fault : IsFaultless file board
   pub found : Findings file board
-  pub relinks : RelinksBy file board found.graph found.code found.regions input r
+  pub relinks : RelinksBy file board found.graph found.code found.regions found.pieces input r
 
 -- why a file is not relinked: the first fault of its analysis, or, where that has none, the address fault of its run
 abbrev pub ReportsRelink : List ℕ → Board → List ℕ → RelinkFault → Type 0

@@ -2,6 +2,7 @@
 //! choice that is found of it is realised, and a report tells what that saves.
 #![tactic(auto)]
 
+mod copied;
 mod finding;
 mod making;
 mod reporting;

@@ -102,7 +102,7 @@ pub fn relink_analysed(
     input: &[u8],
 ) -> Result<Relinked, ProfileFault>
     requires { (file : List ℕ) × IsAnalysisOf file board.now analysis.now }
-    ensures ok { IfOk result (λ r. (file : List ℕ) → IsAnalysisOf file board.now analysis.now → RelinksBy file board.now analysis.now.graph analysis.now.code analysis.now.regions input.now r) }
+    ensures ok { IfOk result (λ r. (file : List ℕ) → IsAnalysisOf file board.now analysis.now → RelinksBy file board.now analysis.now.graph analysis.now.code analysis.now.regions analysis.now.pieces.items input.now r) }
     ensures err { IfErr result (λ fault. ReportsCounts (plain_view analysis.now.view) board.now analysis.now.graph analysis.now.code analysis.now.regions input.now (Err fault)) }
 {
     let programme = programme_of_run(alloc, analysis, board, input)?;

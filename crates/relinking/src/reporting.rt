@@ -6,10 +6,11 @@ ghost use Rattle.relinking.specs.Relink.{RelinksBy};
 ghost use Rattle.relinking.specs.Report.{IsRelinkReport};
 ghost use Rattle.relink_core.specs.Choices.{IsAnalysisOf};
 
+use crate::copied::copies_told;
 use crate::making::Relinked;
 use board_config::Board;
 use branch_bound::Status;
-use printed_lines::{choice_report, push_moved_lines};
+use printed_lines::{choice_report, push_code_lines, push_moved_lines};
 use relink_core::Analysis;
 use std::alloc::{AllocError, Global};
 
@@ -20,8 +21,8 @@ pub fn relink_report(
     board: &Board,
     relinked: &Relinked,
 ) -> Result<Vec<u8>, AllocError>
-    requires { (file input : List ℕ) × IsAnalysisOf file board.now analysis.now × RelinksBy file board.now analysis.now.graph analysis.now.code analysis.now.regions input relinked.now }
-    ensures { IfOk result (λ text. IsRelinkReport (plain_view analysis.now.view) board.now analysis.now.graph (plain_programme relinked.now.programme) (plain_choice relinked.now.found.choice) (is_optimal relinked.now.found.status) text.items) }
+    requires { (file input : List ℕ) × IsAnalysisOf file board.now analysis.now × RelinksBy file board.now analysis.now.graph analysis.now.code analysis.now.regions analysis.now.pieces.items input relinked.now }
+    ensures { IfOk result (λ text. IsRelinkReport (plain_view analysis.now.view) board.now analysis.now.graph analysis.now.code (plain_programme relinked.now.programme) (plain_choice relinked.now.found.choice) (is_optimal relinked.now.found.status) text.items) }
 {
     let programme = &relinked.programme;
     let choice = &relinked.found.choice;
@@ -36,6 +37,8 @@ pub fn relink_report(
         &relinked.result.places.of,
         &relinked.result.objects,
     )?;
+    let copies = copies_told(alloc, &analysis.code, &relinked.result.copies)?;
+    push_code_lines(alloc, &mut report, &copies)?;
     Ok(report)
 }
 

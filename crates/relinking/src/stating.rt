@@ -55,7 +55,7 @@ pub fn programme_of_run(
     input: &[u8],
 ) -> Result<Programme, ProfileFault>
     requires { (file : List ℕ) × IsAnalysisOf file board.now analysis.now }
-    ensures { ReportsProgramme (plain_view analysis.now.view) board.now analysis.now.graph analysis.now.code analysis.now.regions input.now result }
+    ensures { ReportsProgramme (plain_view analysis.now.view) board.now analysis.now.graph analysis.now.code analysis.now.regions analysis.now.pieces.items input.now result }
 {
     let counts = profile_of_run(alloc, analysis, board, input)?;
     match programme(
@@ -64,7 +64,7 @@ pub fn programme_of_run(
         &analysis.graph,
         &analysis.code,
         &analysis.regions,
-        &[],
+        &analysis.pieces,
         board,
     ) {
         Ok(programme) => Ok(programme),

@@ -44,6 +44,6 @@ returns-clause-ok c =
       choice = choice;
       says_optimal = is_optimal relinked.found.status;
       result = made.result;
-      is_report = subst (λ (v : PlainView). IsRelinkReport v o.board a.graph p choice (is_optimal relinked.found.status) c.in_ok-report.report.items)
+      is_report = subst (λ (v : PlainView). IsRelinkReport v o.board a.graph a.code p choice (is_optimal relinked.found.status) c.in_ok-report.report.items)
           (opened_view c.args.board.now file o is) c.in_ok-report.ensures;
     }

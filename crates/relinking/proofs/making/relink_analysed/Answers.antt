@@ -5,7 +5,8 @@ use Rattle.loaded_file.proofs.WordLemmas.{same_view}
 use Rattle.placement_programme.specs.Views.{plain_programme, plain_choice}
 use Rattle.relinking.specs.ProgrammeOfRun.{StatesProgramme}
 use Rattle.relinking.proofs.Counting.{no_memory}
-use Rattle.relinking.proofs.Relinking.{states_data}
+use Rattle.relink_core.proofs.StatedLemmas.{some_of_all}
+use Rattle.relinking.proofs.Relinking.{states_choice}
 use Rattle.relinking.proofs.making.relink_analysed.Goals as goal
 
 pub find_choice-requires : goal.find_choice-requires
@@ -22,8 +23,8 @@ realise-requires-clause-analysis c = (c.requires.0, c.requires.1)
 pub realise-requires-clause-choice : goal.realise-requires-clause-choice
 realise-requires-clause-choice c =
     let a = c.args.analysis.now in
-    states_data (plain_view a.view) c.args.board.now a.graph a.code a.regions c.args.input.now (plain_programme c.in_ok-programme.programme)
-    (plain_choice c.in_ok-solution.solution.found.choice) c.in_ok-programme.ensures c.in_ok-solution.ensures.feasible
+    states_choice (plain_view a.view) c.args.board.now a.graph a.code a.regions a.pieces.items c.args.input.now (plain_programme c.in_ok-programme.programme)
+    (plain_choice c.in_ok-solution.solution.found.choice) (some_of_all a.code a.graph a.pieces.items c.requires.1.pieces) c.in_ok-programme.ensures c.in_ok-solution.ensures.feasible
 
 pub returns-in_err-result-clause-err : goal.returns-in_err-result-clause-err
 returns-in_err-result-clause-err c =
@@ -35,12 +36,12 @@ returns-clause-ok c = λ file is.
     let a = c.args.analysis.now in
     let board = c.args.board.now in
     record {
-      states = subst (λ (v : PlainView). StatesProgramme v board a.graph a.code a.regions c.args.input.now (plain_programme c.in_ok-programme.programme))
+      states = subst (λ (v : PlainView). StatesProgramme v board a.graph a.code a.regions a.pieces.items c.args.input.now (plain_programme c.in_ok-programme.programme))
           (same_view file a.view is.is_file) c.in_ok-programme.ensures;
       result = record {
         found = c.in_ok-solution.ensures;
         realises = c.in_ok-result.ensures.realises file is;
         keeps = c.in_ok-result.ensures.keeps file is;
       };
-      placed = c.in_ok-result.ensures.placed;
+      stands = c.in_ok-result.ensures.stands;
     }

@@ -1,6 +1,12 @@
 use Rattle.placement_programme.specs.Views.{plain_programme}
 use Rattle.relinking.proofs.Counting.{unfaulted}
-use Rattle.relinking.proofs.Energies.{of_one_file, no_pieces, energies_of}
+use Rattle.std.proofs.Common.{◌≡◌, List, sym, subst}
+use Rattle.block_splitter.specs.declared.piece.Piece.{Piece}
+use Rattle.energy_model.specs.Scenes.{scene_of, layout_of}
+use Rattle.placement_candidates.specs.Stated.{AreSomePieces}
+use Rattle.placement_candidates.specs.Selected.{stated}
+use Rattle.relink_core.proofs.StatedLemmas.{some_of_all}
+use Rattle.relinking.proofs.Energies.{of_one_file, energies_of}
 use Rattle.relinking.proofs.Analysed.{may_state}
 use Rattle.relinking.proofs.stating.programme_of_run.Goals as goal
 
@@ -18,7 +24,9 @@ programme-requires-clause-run c =
     )
 
 pub programme-requires-clause-pieces : goal.programme-requires-clause-pieces
-programme-requires-clause-pieces c = no_pieces c.args.analysis.now.code c.args.analysis.now.graph
+programme-requires-clause-pieces c =
+    let a = c.args.analysis.now in
+    subst (λ (ps : List Piece). AreSomePieces a.code a.graph ps) (sym c.deref.ensures.value) (some_of_all a.code a.graph a.pieces.items c.requires.1.pieces)
 
 pub returns-in-Ok : goal.returns-in-Ok
 returns-in-Ok c =
@@ -27,11 +35,14 @@ returns-in-Ok c =
     let (last, made) = c.in_ok-counts.ensures in
     let one = of_one_file analysis.view c.args.board.now analysis.graph analysis.code analysis.regions c.args.input.now c.in_ok-counts.counts last
     may.read c.requires.1.lawful may.graph may.code may.no_fault may.room may.entry c.requires.1.regions.is_formed.one_each made in
+    let is = subst (λ (ps : List Piece). plain_programme c.in-Ok.programme ≡ stated (scene_of analysis.graph analysis.code analysis.regions c.args.board.now) (layout_of analysis.graph analysis.code analysis.regions c.args.board.now) ps made.transitions)
+    c.deref.ensures.value (c.in-Ok.ensures analysis.view made.transitions one) in
     record {
       transitions = made.transitions;
       last = last;
       run = made.run;
       no_address_fault = unfaulted last.outcome made.no_fault;
-      energies = energies_of analysis.view c.args.board.now analysis.graph analysis.code analysis.regions c.in_ok-counts.counts made.transitions (plain_programme c.in-Ok.programme) one (c.in-Ok.ensures analysis.view made.transitions one);
-      programme_is = c.in-Ok.ensures analysis.view made.transitions one;
+      energies = energies_of analysis.view c.args.board.now analysis.graph analysis.code analysis.regions analysis.pieces.items c.in_ok-counts.counts made.transitions (plain_programme c.in-Ok.programme) one
+          (some_of_all analysis.code analysis.graph analysis.pieces.items c.requires.1.pieces) is;
+      programme_is = is;
     }
