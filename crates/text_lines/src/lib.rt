@@ -1,8 +1,15 @@
-//! What programs that read lines of text share: the texts of the files that their words name, and numbers in them.
+//! What programs that read and print lines of text share: the texts of the files that their words name, numbers in them, and
+//! the parts of a line.
 #![tactic(auto)]
+
+mod printing;
 
 use anyhow::{Context, Result};
 use num_traits::Num;
+pub use printing::{
+    end_line, print_address, print_addresses, print_line, print_number, print_number_line,
+    print_numbers, print_text, print_word, print_words,
+};
 use std::alloc::Global;
 use std::rt::{Env, Files};
 use std::{env, fs};
