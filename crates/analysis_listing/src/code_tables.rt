@@ -3,23 +3,24 @@ ghost use Rattle.std.specs.Prelude.{◌<◌, length};
 ghost use Rattle.std.specs.List.Sorted.{IsStrictlyIncreasing};
 ghost use Rattle.code_blocks.specs.Numbers.{starts_of};
 
-use crate::printing::print_addresses;
 use anyhow::Result;
-use code_blocks::{Block, Code, End};
+use code_blocks::{Block, Code, End, Function, Unit};
 use relink_core::Analysis;
+use text_lines::{
+    end_line, print_address, print_addresses, print_number, print_number_line, print_text,
+    print_word,
+};
 
 /// The entry, the indirect leaders, the functions, and the first blocks with their numbers.
 pub(crate) fn print_blocks(rt: &impl Print, code: &Code, most: usize) -> Result<()>
     requires { IsStrictlyIncreasing (starts_of code.now) }
 {
-    println!(rt; "entry {:#010x}", code.entry)?;
-    print!(rt; "indirect")?;
+    print_text(rt, "entry")?;
+    print_addresses(rt, &[code.entry])?;
+    print_text(rt, "indirect")?;
     print_addresses(rt, &code.indirect)?;
     for (k, function) in code.functions.iter().enumerate() {
-        println!(rt;
-            "function {k} {:#010x} {} symbol {}",
-            function.start, function.size, function.name
-        )?;
+        print_function(rt, k as u64, function)?;
     }
     for block in code.blocks.iter().take(most) {
         print_block(rt, code, block)?;
@@ -27,18 +28,23 @@ pub(crate) fn print_blocks(rt: &impl Print, code: &Code, most: usize) -> Result<
     Ok(())
 }
 
+fn print_function(rt: &impl Print, number: u64, function: &Function) -> Result<()> {
+    print_number(rt, "function ", number)?;
+    print_address(rt, " ", function.start)?;
+    print_number(rt, " ", u64::from(function.size))?;
+    print_number_line(rt, " symbol ", u64::from(function.name))
+}
+
 /// A block: its number, where it starts, how many units it has, its function, its end, and the blocks behind it.
 fn print_block(rt: &impl Print, code: &Code, block: &Block) -> Result<()>
     requires { IsStrictlyIncreasing (starts_of code.now) }
 {
     if let Some(number) = code.block_at(block.start) {
-        print!(rt;
-            "block {number} {:#010x} units {}",
-            block.start,
-            block.units.len()
-        )?;
+        print_number(rt, "block ", u64::from(number))?;
+        print_address(rt, " ", block.start)?;
+        print_number(rt, " units ", block.units.len() as u64)?;
         if let Some(function) = block.function {
-            print!(rt; " function {function}")?;
+            print_number(rt, " function ", u64::from(function))?;
         }
         print_end(rt, block.end)?;
         print_successors(rt, code, number)?;
@@ -48,72 +54,82 @@ fn print_block(rt: &impl Print, code: &Code, block: &Block) -> Result<()>
 
 fn print_end(rt: &impl Print, end: End) -> Result<()> {
     match end {
-        End::Fall { next } => print!(rt; " falls to {next:#010x}")?,
-        End::Branch { target, next } => print!(rt; " branches to {target:#010x} or {next:#010x}")?,
-        End::Jump { target } => print!(rt; " jumps to {target:#010x}")?,
-        End::Call { target, back, link } => {
-            print!(rt; " calls {target:#010x} by x{link}, back at {back:#010x}")?;
+        End::Fall { next } => print_address(rt, " falls to ", next),
+        End::Branch { target, next } => {
+            print_address(rt, " branches to ", target)?;
+            print_address(rt, " or ", next)
         }
-        End::Tail { target } => print!(rt; " calls {target:#010x} last")?,
-        End::Indirect { back: Some(back) } => print!(rt;
-            " calls by a register, back at {back:#010x}"
-        )?,
-        End::Indirect { back: None } => print!(rt; " jumps by a register")?,
-        End::Stop => print!(rt; " stops")?,
+        End::Jump { target } => print_address(rt, " jumps to ", target),
+        End::Call { target, back, link } => {
+            print_address(rt, " calls ", target)?;
+            print_number(rt, " by x", u64::from(link))?;
+            print_address(rt, ", back at ", back)
+        }
+        End::Tail { target } => {
+            print_address(rt, " calls ", target)?;
+            print_text(rt, " last")
+        }
+        End::Indirect { back: Some(back) } => {
+            print_address(rt, " calls by a register, back at ", back)
+        }
+        End::Indirect { back: None } => print_text(rt, " jumps by a register"),
+        End::Stop => print_text(rt, " stops"),
     }
-    Ok(())
 }
 
 /// The end of a line with the numbers of the blocks that one leads to without a register.
 fn print_successors(rt: &impl Print, code: &Code, number: u32) -> Result<()>
     requires ascending { IsStrictlyIncreasing (starts_of code.now) }
 {
-    print!(rt; ", then")?;
+    print_text(rt, ", then")?;
     if (number as usize) < code.blocks.len() {
         for next in &code.successors(number) {
-            print!(rt; " {next}")?;
+            print_number(rt, " ", u64::from(*next))?;
         }
     }
-    println!(rt; "")?;
-    Ok(())
+    end_line(rt)
 }
 
 /// A line for each of the first blocks with the words of its units, `*` behind the first of two words, and `!` behind one
 /// that means nothing.
 pub(crate) fn print_units(rt: &impl Print, code: &Code, most: usize) -> Result<()> {
     for block in code.blocks.iter().take(most) {
-        print!(rt; "units {:#010x}", block.start)?;
-        print_words(rt, block)?;
+        print_address(rt, "units ", block.start)?;
+        print_block_words(rt, block)?;
     }
     Ok(())
 }
 
 /// The words of the units of a block, where they stand one behind the other.
-fn print_words(rt: &impl Print, block: &Block) -> Result<()> {
+fn print_block_words(rt: &impl Print, block: &Block) -> Result<()> {
     let mut at = block.start;
     for unit in &block.units {
         if unit.at != at {
-            print!(rt; " at {:#010x}", unit.at)?;
+            print_address(rt, " at ", unit.at)?;
         }
-        let mark = match unit.instr {
-            None => "!",
-            Some(_) if unit.words == 2 => "*",
-            Some(_) => "",
-        };
-        print!(rt; " {:08x}{mark}", unit.raw)?;
+        print_word(rt, " ", unit.raw)?;
+        print_text(rt, mark_of(unit))?;
         at = unit.at.wrapping_add(unit.words.wrapping_mul(4));
     }
-    println!(rt; "")?;
-    Ok(())
+    end_line(rt)
+}
+
+/// What stands behind the first word of a unit.
+fn mark_of(unit: &Unit) -> &'static str {
+    match unit.instr {
+        None => "!",
+        Some(_) if unit.words == 2 => "*",
+        Some(_) => "",
+    }
 }
 
 /// How many there are of what the analyses find.
 pub(crate) fn print_counts(rt: &impl Print, analysis: &Analysis<'_>) -> Result<()> {
-    println!(rt; "functions {}", analysis.code.functions.len())?;
-    println!(rt; "blocks {}", analysis.code.blocks.len())?;
-    println!(rt; "objects {}", analysis.graph.objects.len())?;
-    println!(rt; "sites {}", analysis.graph.sites.len())?;
-    println!(rt; "words {}", analysis.graph.data_words.len())?;
-    println!(rt; "regions {}", analysis.regions.count)?;
-    Ok(())
+    let (code, graph) = (&analysis.code, &analysis.graph);
+    print_number_line(rt, "functions ", code.functions.len() as u64)?;
+    print_number_line(rt, "blocks ", code.blocks.len() as u64)?;
+    print_number_line(rt, "objects ", graph.objects.len() as u64)?;
+    print_number_line(rt, "sites ", graph.sites.len() as u64)?;
+    print_number_line(rt, "words ", graph.data_words.len() as u64)?;
+    print_number_line(rt, "regions ", u64::from(analysis.regions.count))
 }

@@ -10,6 +10,7 @@ use points_to::PointsTable;
 use region_former::RegionTable;
 use relink_core::{Analysis, points_of};
 use rv_decode::RegSet;
+use text_lines::{end_line, print_address, print_number, print_number_line, print_text};
 
 /// How many dead registers are told.
 const DEAD: u32 = 3;
@@ -22,29 +23,33 @@ pub(crate) fn print_live(
     most: usize,
 ) -> Result<()> {
     for block in code.blocks.iter().take(most) {
-        print!(rt; "live {:#010x}", block.start)?;
-        for register in 0..32u8 {
-            if live.is_live(block.start, register) {
-                print!(rt; " x{register}")?;
-            }
-        }
+        print_address(rt, "live ", block.start)?;
+        print_live_registers(rt, live, block.start)?;
         print_dead(rt, live, block.start)?;
+    }
+    Ok(())
+}
+
+fn print_live_registers(rt: &impl Print, live: &LiveTable, leader: u32) -> Result<()> {
+    for register in 0..32u8 {
+        if live.is_live(leader, register) {
+            print_number(rt, " x", u64::from(register))?;
+        }
     }
     Ok(())
 }
 
 /// The end of a line with the least dead registers from x5 on.
 fn print_dead(rt: &impl Print, live: &LiveTable, leader: u32) -> Result<()> {
-    print!(rt; ", dead")?;
+    print_text(rt, ", dead")?;
     let mut told = RegSet { bits: 0 };
     for _ in 0..DEAD {
         if let Some(register) = live.dead_at(leader, told) {
-            print!(rt; " x{register}")?;
+            print_number(rt, " x", u64::from(register))?;
             told.bits |= 1u32.checked_shl(u32::from(register)).unwrap_or(0);
         }
     }
-    println!(rt; "")?;
-    Ok(())
+    end_line(rt)
 }
 
 /// For each of the first blocks the registers that may hold addresses of objects, and which; and the objects that
@@ -59,20 +64,34 @@ pub(crate) fn print_points(
     let points = points_of(rt.alloc(), analysis)?;
     let objects = u32::try_from(analysis.graph.objects.len()).unwrap_or(u32::MAX);
     for block in analysis.code.blocks.iter().take(most) {
-        print!(rt; "points {:#010x}", block.start)?;
-        for register in 0..32u8 {
-            print_held(rt, &points, block.start, register, objects)?;
-        }
-        println!(rt; "")?;
+        print_leader_points(rt, &points, block.start, objects)?;
     }
-    print!(rt; "escape")?;
+    print_escapes(rt, &points, objects)
+}
+
+/// A line with the objects whose addresses the registers may hold where a block begins.
+fn print_leader_points(
+    rt: &impl Print,
+    points: &PointsTable,
+    leader: u32,
+    objects: u32,
+) -> Result<()> {
+    print_address(rt, "points ", leader)?;
+    for register in 0..32u8 {
+        print_held(rt, points, leader, register, objects)?;
+    }
+    end_line(rt)
+}
+
+/// A line with the objects that escape.
+fn print_escapes(rt: &impl Print, points: &PointsTable, objects: u32) -> Result<()> {
+    print_text(rt, "escape")?;
     for object in 0..objects {
         if points.escapes(object) {
-            print!(rt; " {object}")?;
+            print_number(rt, " ", u64::from(object))?;
         }
     }
-    println!(rt; "")?;
-    Ok(())
+    end_line(rt)
 }
 
 /// The objects whose addresses a register may hold where a block begins.
@@ -86,11 +105,10 @@ fn print_held(
     let mut before = false;
     for object in 0..objects {
         if points.may(leader, register, object) {
-            if before {
-                print!(rt; ",{object}")?;
-            } else {
-                print!(rt; " x{register}:{object}")?;
+            if !before {
+                print_number(rt, " x", u64::from(register))?;
             }
+            print_number(rt, if before { "," } else { ":" }, u64::from(object))?;
             before = true;
         }
     }
@@ -99,27 +117,32 @@ fn print_held(
 
 /// For each region, and for none, its blocks and those among them by which it is entered.
 pub(crate) fn print_regions(rt: &impl Print, regions: &RegionTable) -> Result<()> {
-    println!(rt; "regions {}", regions.count)?;
+    print_number_line(rt, "regions ", u64::from(regions.count))?;
     for region in 0..=regions.count {
-        print!(rt; "region {region} blocks")?;
-        for (block, of) in regions.of_block.iter().enumerate() {
-            if *of == region {
-                print!(rt; " {block}")?;
-            }
-        }
-        print_border(rt, regions, region)?;
+        print_region(rt, regions, region)?;
     }
     Ok(())
 }
 
-/// The end of a line with the blocks by which a region is entered.
-fn print_border(rt: &impl Print, regions: &RegionTable, region: u32) -> Result<()> {
-    print!(rt; ", entered at")?;
-    for (block, (of, border)) in regions.of_block.iter().zip(&regions.border).enumerate() {
-        if *of == region && *border {
-            print!(rt; " {block}")?;
+/// A line with the blocks of a region, and those by which it is entered.
+fn print_region(rt: &impl Print, regions: &RegionTable, region: u32) -> Result<()> {
+    print_number(rt, "region ", u64::from(region))?;
+    print_text(rt, " blocks")?;
+    for (block, of) in regions.of_block.iter().enumerate() {
+        if *of == region {
+            print_number(rt, " ", block as u64)?;
         }
     }
-    println!(rt; "")?;
-    Ok(())
+    print_border(rt, regions, region)
+}
+
+/// The end of a line with the blocks by which a region is entered.
+fn print_border(rt: &impl Print, regions: &RegionTable, region: u32) -> Result<()> {
+    print_text(rt, ", entered at")?;
+    for (block, (of, border)) in regions.of_block.iter().zip(&regions.border).enumerate() {
+        if *of == region && *border {
+            print_number(rt, " ", block as u64)?;
+        }
+    }
+    end_line(rt)
 }

@@ -3,62 +3,70 @@ ghost use Rattle.std.specs.Prelude.{List, ℕ};
 ghost use Rattle.relink_core.specs.Choices.{IsAnalysisOf};
 
 use anyhow::Result;
-use board_config::Board;
-use object_graph::{Graph, SiteKind, fixed_ranges};
+use board_config::{Board, Range};
+use object_graph::{DataWord, Graph, Object, Site, SiteKind, fixed_ranges};
 use relink_core::Analysis;
+use text_lines::{print_address, print_number, print_number_line, print_text};
 
 /// The grain, the objects, the sites and words that lead to them, and the code ranges.
 pub(crate) fn print_graph(rt: &impl Print, graph: &Graph) -> Result<()> {
-    println!(rt; "grain {}", graph.grain)?;
-    print_objects(rt, graph)?;
-    print_sites(rt, graph)?;
-    print_data_words(rt, graph)?;
-    for range in &graph.code {
-        println!(rt; "code {:#010x} {}", range.base, range.size)?;
+    print_number_line(rt, "grain ", u64::from(graph.grain))?;
+    for (k, object) in graph.objects.iter().enumerate() {
+        print_object(rt, k as u64, object)?;
     }
-    Ok(())
+    print_sites(rt, &graph.sites)?;
+    print_data_words(rt, &graph.data_words)?;
+    print_code_ranges(rt, &graph.code)
 }
 
-fn print_objects(rt: &impl Print, graph: &Graph) -> Result<()> {
-    for (k, object) in graph.objects.iter().enumerate() {
-        let how = if object.writable {
-            "writable"
-        } else {
-            "constant"
-        };
-        println!(rt;
-            "object {k} {:#010x} {} {how} symbol {}",
-            object.home, object.size, object.name
-        )?;
-    }
-    Ok(())
+fn print_object(rt: &impl Print, number: u64, object: &Object) -> Result<()> {
+    let how = if object.writable {
+        " writable"
+    } else {
+        " constant"
+    };
+    print_number(rt, "object ", number)?;
+    print_address(rt, " ", object.home)?;
+    print_number(rt, " ", u64::from(object.size))?;
+    print_text(rt, how)?;
+    print_number_line(rt, " symbol ", u64::from(object.name))
 }
 
 fn name_of_kind(kind: SiteKind) -> &'static str {
     match kind {
-        SiteKind::Hi => "high",
-        SiteKind::LowI => "low",
-        SiteKind::LowS => "store",
+        SiteKind::Hi => " high",
+        SiteKind::LowI => " low",
+        SiteKind::LowS => " store",
     }
 }
 
-fn print_sites(rt: &impl Print, graph: &Graph) -> Result<()> {
-    for site in &graph.sites {
-        let kind = name_of_kind(site.kind);
-        println!(rt;
-            "site {:#010x} {kind} object {} + {}",
-            site.at, site.object, site.offset
-        )?;
+fn print_sites(rt: &impl Print, sites: &[Site]) -> Result<()> {
+    for site in sites {
+        print_address(rt, "site ", site.at)?;
+        print_text(rt, name_of_kind(site.kind))?;
+        print_target(rt, site.object, site.offset)?;
     }
     Ok(())
 }
 
-fn print_data_words(rt: &impl Print, graph: &Graph) -> Result<()> {
-    for word in &graph.data_words {
-        println!(rt;
-            "word {:#010x} object {} + {}",
-            word.at, word.object, word.offset
-        )?;
+/// The end of a line with an object and an offset in it.
+fn print_target(rt: &impl Print, object: u32, offset: u32) -> Result<()> {
+    print_number(rt, " object ", u64::from(object))?;
+    print_number_line(rt, " + ", u64::from(offset))
+}
+
+fn print_data_words(rt: &impl Print, words: &[DataWord]) -> Result<()> {
+    for word in words {
+        print_address(rt, "word ", word.at)?;
+        print_target(rt, word.object, word.offset)?;
+    }
+    Ok(())
+}
+
+fn print_code_ranges(rt: &impl Print, ranges: &[Range]) -> Result<()> {
+    for range in ranges {
+        print_address(rt, "code ", range.base)?;
+        print_number_line(rt, " ", u64::from(range.size))?;
     }
     Ok(())
 }
@@ -73,8 +81,13 @@ pub(crate) fn print_fixed(
 {
     let ranges = fixed_ranges(rt.alloc(), &analysis.view, board, &analysis.graph)?;
     for range in &ranges {
-        let end = u64::from(range.base) + u64::from(range.size);
-        println!(rt; "fixed {:#010x} to {end:#010x}", range.base)?;
+        print_fixed_range(rt, range)?;
     }
+    Ok(())
+}
+
+fn print_fixed_range(rt: &impl Print, range: &Range) -> Result<()> {
+    let end = u64::from(range.base) + u64::from(range.size);
+    println!(rt; "fixed {:#010x} to {end:#010x}", range.base)?;
     Ok(())
 }

@@ -3,6 +3,7 @@
 
 ghost use Rattle.std.specs.Prelude.{List, ℕ};
 ghost use Rattle.board_config.specs.Board.{IsLawful};
+ghost use Rattle.loaded_file.specs.Read.{IsRead};
 ghost use Rattle.relink_core.specs.Choices.{IsAnalysisOf};
 
 mod code_tables;
@@ -12,7 +13,6 @@ mod graph_tables;
 mod large;
 mod moved;
 mod piece_table;
-mod printing;
 mod profile_table;
 
 use crate::code_tables::{print_blocks, print_counts, print_units};
@@ -27,11 +27,11 @@ use crate::piece_table::print_pieces;
 use crate::profile_table::print_profile;
 use anyhow::{Context, Result, bail};
 use board_config::{Board, read_board};
-use elf_reader::read;
+use elf_reader::{ElfView, read};
 use relink_core::{Analysis, analyse};
 use std::fs;
 use std::rt::Files;
-use text_lines::named_texts;
+use text_lines::{named_texts, print_line, print_text};
 
 /// The name of the program that is made rather than read.
 const LARGE: &str = "large";
@@ -54,17 +54,35 @@ fn list_file(
     let alloc = rt.alloc();
     let view = read(alloc, bytes)?;
     for table in tables.split(',') {
-        println!(rt; "-- {table}")?;
-        match table {
-            "sections" => print_sections(rt, &view)?,
-            "ranges" => print_ranges(rt, &view)?,
-            "relocations" => print_relocations(rt, &view)?,
-            "movable" => print_movable(rt, &view, board)?,
-            "leaders" => print_leaders(rt, &view)?,
-            _ => bail!("a table has no known name"),
-        }
+        list_file_table(rt, table, &view, board)?;
     }
     Ok(())
+}
+
+/// Lists a table of a file that is read.
+fn list_file_table(
+    rt: &(impl Print + AllocGlobal),
+    table: &str,
+    view: &ElfView,
+    board: &Board,
+) -> Result<()>
+    requires { IsRead view.now }
+{
+    print_title(rt, table)?;
+    match table {
+        "sections" => print_sections(rt, view),
+        "ranges" => print_ranges(rt, view),
+        "relocations" => print_relocations(rt, view),
+        "movable" => print_movable(rt, view, board),
+        "leaders" => print_leaders(rt, view),
+        _ => bail!("a table has no known name"),
+    }
+}
+
+/// The line above a table.
+fn print_title(rt: &impl Print, table: &str) -> Result<()> {
+    print_text(rt, "-- ")?;
+    print_line(rt, table)
 }
 
 /// Lists a table of an analysed program. `most` is the number of blocks that are told.
@@ -78,7 +96,7 @@ fn list_program_table(
     requires lawful { IsLawful board.now }
     requires analysed { (file : List ℕ) × IsAnalysisOf file board.now analysis.now }
 {
-    println!(rt; "-- {table}")?;
+    print_title(rt, table)?;
     match table {
         "graph" => print_graph(rt, &analysis.graph),
         "fixed" => print_fixed(rt, analysis, board),
@@ -144,7 +162,8 @@ fn bytes_of(rt: &(impl Files + AllocGlobal), name: &str) -> Result<Vec<u8>> {
 
 /// Lists what a line asks for: `FILE TABLE,TABLE.. KEYS`, where `;` stands between the keys of the board.
 fn list_line(rt: &(impl Files + Print + AllocGlobal), line: &str) -> Result<()> {
-    println!(rt; "== {line}")?;
+    print_text(rt, "== ")?;
+    print_line(rt, line)?;
     let (file, rest) = line.split_once(' ').context("a line names no table")?;
     let (tables, keys) = match rest.split_once(' ') {
         Some((tables, keys)) => (tables, keys),

@@ -20,6 +20,7 @@ use placement_programme::{Choice, Programme, Side, Var, VarName, feasible};
 use relink_core::Analysis;
 use relocator::{Places, layout, site_words};
 use std::alloc::{AllocError, Global};
+use text_lines::{end_line, print_address, print_line};
 
 /// How many bytes of stubs a choice has room for.
 const STUB_ROOM: u64 = 65_452;
@@ -136,16 +137,30 @@ pub(crate) fn print_moved(
     requires analysed { (file : List ℕ) × IsAnalysisOf file board.now analysis.now }
 {
     let Some(places) = first_placed(rt.alloc(), &analysis.graph, board)? else {
-        println!(rt; "no room")?;
-        return Ok(());
+        return print_line(rt, "no room");
     };
+    print_first_row(rt, &places)?;
+    let words = first_words(rt.alloc(), &analysis.view, &analysis.graph, &places)?;
+    print_site_words(rt, &words)
+}
+
+/// A line for each place of the first object.
+fn print_first_row(rt: &impl Print, places: &Places) -> Result<()> {
     if let Some(row) = places.of.first() {
         for place in row {
-            println!(rt; "place {place:#010x}")?;
+            print_address(rt, "place ", *place)?;
+            end_line(rt)?;
         }
     }
-    for (at, word) in &first_words(rt.alloc(), &analysis.view, &analysis.graph, &places)? {
-        println!(rt; "word {at:#010x} {word:#010x}")?;
+    Ok(())
+}
+
+/// A line for each address and its word.
+fn print_site_words(rt: &impl Print, words: &[(u32, u32)]) -> Result<()> {
+    for (at, word) in words {
+        print_address(rt, "word ", *at)?;
+        print_address(rt, " ", *word)?;
+        end_line(rt)?;
     }
     Ok(())
 }

@@ -10,10 +10,12 @@ ghost use Rattle.relink_core.specs.Choices.{IsAnalysisOf};
 use anyhow::Result;
 use block_splitter::{Piece, can_displace, copy_of, displaced};
 use code_blocks::Code;
+use liveness::LiveTable;
 use object_graph::Graph;
 use relink_core::Analysis;
 use rv_decode::RegSet;
 use std::alloc::{AllocError, Global};
+use text_lines::{end_line, print_address, print_number, print_text, print_words};
 
 /// Where copies are told.
 const COPY_AT: u32 = 0x0100_0000;
@@ -81,25 +83,29 @@ fn print_block(
     requires sites { HasSites analysis.now.code analysis.now.graph sites.now }
 {
     let start = analysis.code.blocks[block as usize].start;
-    print!(rt; "block {start:#010x} dead ")?;
-    match analysis.live.dead_at(start, RegSet { bits: 0 }) {
-        Some(register) => print!(rt; "x{register}")?,
-        None => print!(rt; "none")?,
+    print_address(rt, "block ", start)?;
+    print_dead(rt, &analysis.live, start)?;
+    print_text(rt, " displaced")?;
+    if !can_displace(&analysis.code, &analysis.graph, block, DISPLACED_AT) {
+        return end_line(rt);
     }
-    print!(rt; " displaced")?;
-    if can_displace(&analysis.code, &analysis.graph, block, DISPLACED_AT) {
-        let words = displaced(
-            rt.alloc(),
-            block,
-            &analysis.code,
-            &analysis.graph,
-            DISPLACED_AT,
-            sites,
-        )?;
-        print_words(rt, &words)?;
+    let words = displaced(
+        rt.alloc(),
+        block,
+        &analysis.code,
+        &analysis.graph,
+        DISPLACED_AT,
+        sites,
+    )?;
+    print_words(rt, &words)
+}
+
+/// A register that is dead where a block begins.
+fn print_dead(rt: &impl Print, live: &LiveTable, leader: u32) -> Result<()> {
+    match live.dead_at(leader, RegSet { bits: 0 }) {
+        Some(register) => print_number(rt, " dead x", u64::from(register)),
+        None => print_text(rt, " dead none"),
     }
-    println!(rt; "")?;
-    Ok(())
 }
 
 /// A piece: its blocks, its size in bytes, its entries, where the copies of its blocks begin, and the words of its copy.
@@ -113,11 +119,7 @@ fn print_piece(
     requires piece { IsPiece analysis.now.code analysis.now.graph piece.now }
     requires sites { HasSites analysis.now.code analysis.now.graph sites.now }
 {
-    print!(rt;
-        "piece {} {} bytes {} entries",
-        piece.first, piece.last, piece.bytes
-    )?;
-    print_places(rt, &piece.entries)?;
+    print_heading(rt, piece)?;
     let copy = copy_of(
         rt.alloc(),
         piece,
@@ -127,27 +129,25 @@ fn print_piece(
         COPY_AT,
         sites,
     )?;
-    print!(rt; "  starts")?;
+    print_text(rt, "  starts")?;
     print_places(rt, &copy.starts)?;
-    print!(rt; "  copy")?;
-    print_words(rt, &copy.words)?;
-    println!(rt; "")?;
-    Ok(())
+    print_text(rt, "  copy")?;
+    print_words(rt, &copy.words)
+}
+
+/// A line with the blocks of a piece, its size in bytes and its entries.
+fn print_heading(rt: &impl Print, piece: &Piece) -> Result<()> {
+    print_number(rt, "piece ", u64::from(piece.first))?;
+    print_number(rt, " ", u64::from(piece.last))?;
+    print_number(rt, " bytes ", u64::from(piece.bytes))?;
+    print_text(rt, " entries")?;
+    print_places(rt, &piece.entries)
 }
 
 /// The end of a line with these numbers, each behind a space.
 fn print_places(rt: &impl Print, places: &[u32]) -> Result<()> {
     for place in places {
-        print!(rt; " {place}")?;
+        print_number(rt, " ", u64::from(*place))?;
     }
-    println!(rt; "")?;
-    Ok(())
-}
-
-/// These words, each behind a space.
-fn print_words(rt: &impl Print, words: &[u32]) -> Result<()> {
-    for word in words {
-        print!(rt; " {word:08x}")?;
-    }
-    Ok(())
+    end_line(rt)
 }
