@@ -1,0 +1,14 @@
+pub mod Ways
+pub mod JobWays
+pub mod PartWays
+pub mod Control
+pub mod Whole
+pub mod SwitchJobs
+pub mod Checked
+pub mod Counts
+pub mod CodeLemmas
+pub mod Example
+pub mod Coded
+pub mod Ranges
+pub mod Bodies
+pub mod Moves
