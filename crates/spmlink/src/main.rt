@@ -4,23 +4,12 @@
 #![tactic(auto)]
 
 use command_line::run;
-use shelf_io::{DirShelf, OutSink};
+use explanations::explain;
+use shelf_io::{DirShelf, OutSink, Sink};
 use std::env;
 use std::io::{self, ErrorKind};
 use std::process::ExitCode;
 use std::rt::Env;
-
-/// The commands, as they are told on standard error where the words are none of them.
-const USAGE: &str = "usage: spmlink run FILE BOARD INPUT OUT
-       spmlink relink FILE BOARD INPUT OUT CERT
-       spmlink profile FILE BOARD INPUT
-       spmlink compare FILE RESULT BOARD INPUT
-       spmlink check FILE BOARD INPUT CERT
-       spmlink show FILE BOARD
-       spmlink gen SEED KERNELS OUT
-       spmlink hex FILE OUT
-       spmlink hexcheck FILE HEX
-";
 
 /// The words of the command line, without the program's name. A word that is not UTF-8 is in no
 /// command, so there are no words then.
@@ -46,8 +35,8 @@ fn main(rt: HostRuntime) -> ExitCode {
     let mut shelf = DirShelf::new(&rt, rt.alloc());
     let mut out = OutSink::new(rt.stdout());
     let status = run(rt.alloc(), &words, &mut shelf, &mut out);
-    if status == 1 {
-        let _ = rt.eprint(USAGE);
+    if let Ok(text) = explain(rt.alloc(), &words, &mut shelf, status) {
+        let _ = OutSink::new(rt.stderr()).put(&text);
     }
     ExitCode::from(status)
 }

@@ -1,0 +1,198 @@
+use crate::cures::text_at;
+use crate::notes::{Notes, Piece};
+use board_config::BoardFault;
+use std::alloc::AllocError;
+
+/// The keys by their numbers, from 1 on. Those of the table `price` follow the table.
+const KEYS: [&str; 20] = [
+    "main",
+    "spm",
+    "patch",
+    "areas",
+    "price",
+    "fix",
+    "bss",
+    "grain",
+    "fence_i",
+    "main_fetch",
+    "main_read",
+    "main_write",
+    "spm_fetch",
+    "spm_read",
+    "spm_write",
+    "driver",
+    "regions",
+    "steps",
+    "nodes",
+    "twins",
+];
+
+/// What each key may be, in their order.
+const VALUES: [&str; 20] = [
+    "a range, as [0x10000, 0x80000]",
+    "a range of multiples of `grain`, as [0x1000000, 4096]",
+    "a range of multiples of 64, as [0x90000, 0x10000]",
+    "at most 16 ranges, as [[0x20000000, 0x1000]]",
+    "a table of six prices, under the line [price]",
+    "names in quotes, as [\"NAME\"]",
+    "\"fixed\" or \"movable\", with the quotes",
+    "16, 32 or 64",
+    "true or false",
+    "a number from 0 to 10000",
+    "a number from 0 to 10000",
+    "a number from 0 to 10000",
+    "a number from 0 to 10000",
+    "a number from 0 to 10000",
+    "a number from 0 to 10000",
+    "the name of a function, in quotes",
+    "at most 8 lists of names of functions, as [[\"NAME\"], [\"NAME\"]]",
+    "a number from 1 to 1000000000",
+    "a number from 1 to 10000000",
+    "true or false",
+];
+
+/// A line of a text, without its newline.
+#[derive(Clone, Copy)]
+struct Line<'a> {
+    /// Its number, from 1 on.
+    number: u64,
+    /// Where it begins.
+    start: usize,
+    text: &'a [u8],
+}
+
+/// Why a text is no board, and the line of it. It fails only where no memory was left.
+pub fn explain_board(notes: &mut Notes, text: &[u8], fault: &BoardFault) -> Result<(), AllocError> {
+    match fault {
+        BoardFault::NotToml => say_syntax(notes, text),
+        BoardFault::Missing { key } => notes.say(&[
+            Piece::Text("the table [price] of the board lacks "),
+            Piece::Name(key_name(*key).as_bytes()),
+            Piece::Text(": give all six prices, or no table"),
+        ]),
+        BoardFault::WrongType { key } | BoardFault::OutOfRange { key } => {
+            say_value(notes, text, *key)
+        }
+        BoardFault::UnknownKey { name } => say_unknown(notes, text, name.as_bytes()),
+        BoardFault::Memory => Ok(()),
+    }
+}
+
+/// Where a text is no TOML, and why.
+fn say_syntax(notes: &mut Notes, text: &[u8]) -> Result<(), AllocError> {
+    let Err(error) = toml::table_from_slice(notes.alloc(), text) else {
+        return Ok(());
+    };
+    if let Some(span) = error.span() {
+        say_position(notes, text, span.start, error.message())?;
+    }
+    notes.say_words("a text stands in quotes, as bss = \"movable\"; docs/BOARD.md has all keys")
+}
+
+fn say_position(
+    notes: &mut Notes,
+    text: &[u8],
+    place: usize,
+    reason: &str,
+) -> Result<(), AllocError> {
+    let line = line_at(text, place);
+    notes.say(&[
+        Piece::Text("line "),
+        Piece::Number(line.number),
+        Piece::Text(", column "),
+        Piece::Number((place.saturating_sub(line.start) as u64).saturating_add(1)),
+        Piece::Text(" of the board is no TOML: "),
+        Piece::Text(reason),
+    ])?;
+    say_line(notes, &line)
+}
+
+/// A key whose value is of another type, or out of its range.
+fn say_value(notes: &mut Notes, text: &[u8], key: u32) -> Result<(), AllocError> {
+    say_line_of_key(notes, text, key_name(key).as_bytes())?;
+    notes.say(&[
+        Piece::Name(key_name(key).as_bytes()),
+        Piece::Text(" is to be "),
+        Piece::Text(text_at(&VALUES, key.saturating_sub(1))),
+    ])
+}
+
+fn say_unknown(notes: &mut Notes, text: &[u8], name: &[u8]) -> Result<(), AllocError> {
+    say_line_of_key(notes, text, name)?;
+    notes.say(&[
+        Piece::Text("the board has no key "),
+        Piece::Name(name),
+        Piece::Text("; docs/BOARD.md has all keys"),
+    ])
+}
+
+fn say_line_of_key(notes: &mut Notes, text: &[u8], key: &[u8]) -> Result<(), AllocError> {
+    match line_of_key(text, key) {
+        Some(line) => say_line(notes, &line),
+        None => Ok(()),
+    }
+}
+
+fn say_line(notes: &mut Notes, line: &Line) -> Result<(), AllocError> {
+    notes.say(&[
+        Piece::Text("line "),
+        Piece::Number(line.number),
+        Piece::Text(" of the board: "),
+        Piece::Name(line.text),
+    ])
+}
+
+fn key_name(key: u32) -> &'static str {
+    text_at(&KEYS, key.saturating_sub(1))
+}
+
+/// The line that has the byte at a place, or else the last one before it.
+fn line_at(text: &[u8], place: usize) -> Line<'_> {
+    let mut number: u64 = 0;
+    let mut start: usize = 0;
+    for line in text.split(|byte| *byte == b'\n') {
+        number = number.saturating_add(1);
+        let end = start.saturating_add(line.len());
+        if place <= end {
+            return Line {
+                number,
+                start,
+                text: line,
+            };
+        }
+        start = end.saturating_add(1);
+    }
+    Line {
+        number,
+        start,
+        text: &[],
+    }
+}
+
+/// The first line that begins with a key and an equals sign.
+fn line_of_key<'a>(text: &'a [u8], key: &[u8]) -> Option<Line<'a>> {
+    let mut number: u64 = 0;
+    for line in text.split(|byte| *byte == b'\n') {
+        number = number.saturating_add(1);
+        if begins_with_key(line, key) {
+            return Some(Line {
+                number,
+                start: 0,
+                text: line,
+            });
+        }
+    }
+    None
+}
+
+fn begins_with_key(line: &[u8], key: &[u8]) -> bool {
+    match line.trim_ascii_start().strip_prefix(key) {
+        Some(rest) => rest.trim_ascii_start().starts_with(b"="),
+        None => false,
+    }
+}
+
+/// Whether a board gives a key, by a line that begins with it.
+pub fn gives_key(text: &[u8], key: &[u8]) -> bool {
+    line_of_key(text, key).is_some()
+}

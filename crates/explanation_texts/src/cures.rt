@@ -1,0 +1,41 @@
+use crate::notes::Notes;
+use std::alloc::AllocError;
+
+/// Why something is refused, and what to do first.
+#[derive(Clone, Copy)]
+pub(crate) struct Cure {
+    pub(crate) cause: &'static str,
+    pub(crate) first: &'static str,
+}
+
+/// The cure of some of the numbers by which a fault tells what it is about.
+pub(crate) struct CureRow {
+    pub(crate) numbers: &'static [u32],
+    pub(crate) cure: Cure,
+}
+
+impl Cure {
+    /// A line of the cause, and one of what to do first.
+    pub(crate) fn say(&self, notes: &mut Notes) -> Result<(), AllocError> {
+        notes.say_words(self.cause)?;
+        notes.say_first(self.first)
+    }
+}
+
+/// The cure that a table has of a number, or else another one.
+pub(crate) fn cure_of(table: &[CureRow], number: u32, other: Cure) -> Cure {
+    for row in table {
+        if row.numbers.contains(&number) {
+            return row.cure;
+        }
+    }
+    other
+}
+
+/// The text that a table has at a place; empty where it has none.
+pub(crate) fn text_at(table: &[&'static str], place: u32) -> &'static str {
+    match table.get(place as usize) {
+        Some(text) => *text,
+        None => "",
+    }
+}

@@ -1,0 +1,22 @@
+//! The words of all explanations: what a command line, a board or a program lacks, in lines for standard error.
+#![tactic(auto)]
+
+mod boards;
+mod cures;
+mod instructions;
+mod notes;
+mod objects;
+mod places;
+mod refusals;
+mod relocations;
+mod runs;
+mod usage;
+
+pub use boards::{explain_board, gives_key};
+pub use notes::Notes;
+pub use objects::{
+    Label, PinnedSection, Rule, say_load_address, say_more_sections, say_nothing_moved, say_pinned,
+};
+pub use refusals::{explain_elf, explain_refusal};
+pub use runs::{Involved, explain_fault, say_still_running, say_trapped};
+pub use usage::{Command, command_of, explain_words};

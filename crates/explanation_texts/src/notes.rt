@@ -1,0 +1,123 @@
+use std::alloc::{AllocError, Global};
+
+/// A part of a line.
+#[derive(Clone, Copy)]
+pub(crate) enum Piece<'a> {
+    /// Words.
+    Text(&'a str),
+    /// A name of a file or of the command line, in backquotes. It needn't be UTF-8.
+    Name(&'a [u8]),
+    /// The same without backquotes.
+    Bare(&'a [u8]),
+    /// A number in decimal.
+    Number(u64),
+    /// An immediate operand in decimal.
+    Signed(i32),
+    /// An address or a word in hexadecimal.
+    Hex(u32),
+}
+
+/// Lines that explain what a command did. Each begins with `spmlink: `.
+#[derive(Drop)]
+pub struct Notes {
+    alloc: Global,
+    text: Vec<u8>,
+}
+
+impl Notes {
+    /// No lines.
+    pub fn new(alloc: Global) -> Notes {
+        Notes {
+            alloc,
+            text: Vec::new(alloc),
+        }
+    }
+
+    /// The text of all lines.
+    pub fn into_text(self) -> Vec<u8> {
+        self.text
+    }
+
+    /// The allocator of the text.
+    pub fn alloc(&self) -> Global {
+        self.alloc
+    }
+
+    /// Begins a line by some words.
+    pub(crate) fn begin(&mut self, words: &str) -> Result<(), AllocError> {
+        self.add("spmlink: ")?;
+        self.add(words)
+    }
+
+    /// Goes on with a line.
+    pub(crate) fn put(&mut self, pieces: &[Piece]) -> Result<(), AllocError> {
+        for piece in pieces {
+            self.push(piece)?;
+        }
+        Ok(())
+    }
+
+    /// Ends a line by some words.
+    pub(crate) fn end(&mut self, words: &str) -> Result<(), AllocError> {
+        self.add(words)?;
+        self.add("\n")
+    }
+
+    /// Adds a line of these parts.
+    pub(crate) fn say(&mut self, pieces: &[Piece]) -> Result<(), AllocError> {
+        self.begin("")?;
+        self.put(pieces)?;
+        self.end("")
+    }
+
+    /// Adds a line of words.
+    pub(crate) fn say_words(&mut self, words: &str) -> Result<(), AllocError> {
+        self.begin(words)?;
+        self.end("")
+    }
+
+    /// Adds a line of what to do first.
+    pub(crate) fn say_first(&mut self, cure: &str) -> Result<(), AllocError> {
+        self.begin("first: ")?;
+        self.end(cure)
+    }
+
+    fn add(&mut self, text: &str) -> Result<(), AllocError> {
+        self.text.extend_from_slice(text.as_bytes())
+    }
+
+    fn push(&mut self, piece: &Piece) -> Result<(), AllocError> {
+        match *piece {
+            Piece::Text(text) => self.add(text),
+            Piece::Name(name) => self.push_name(name),
+            Piece::Bare(name) => self.text.extend_from_slice(name),
+            Piece::Number(number) => self.push_number(number),
+            Piece::Signed(number) => self.push_signed(number),
+            Piece::Hex(word) => self.push_hex(word),
+        }
+    }
+
+    fn push_name(&mut self, name: &[u8]) -> Result<(), AllocError> {
+        self.text.push(b'`')?;
+        self.text.extend_from_slice(name)?;
+        self.text.push(b'`')?;
+        Ok(())
+    }
+
+    fn push_number(&mut self, number: u64) -> Result<(), AllocError> {
+        let digits = format!(in self.alloc; "{number}")?;
+        self.add(digits.as_str())
+    }
+
+    fn push_signed(&mut self, number: i32) -> Result<(), AllocError> {
+        if number < 0 {
+            self.add("-")?;
+        }
+        self.push_number(u64::from(number.unsigned_abs()))
+    }
+
+    fn push_hex(&mut self, word: u32) -> Result<(), AllocError> {
+        let digits = format!(in self.alloc; "0x{word:x}")?;
+        self.add(digits.as_str())
+    }
+}

@@ -1,0 +1,210 @@
+use crate::notes::{Notes, Piece};
+use std::alloc::AllocError;
+use unchecked_file::{RawSegment, UncheckedFile};
+
+/// How the names begin of the anchors that GCC makes for sections.
+const ANCHOR: &[u8] = b".LANCHOR";
+
+/// A label by which a relocation leads into an object.
+#[derive(Clone, Copy)]
+pub struct Label<'a> {
+    /// Its name.
+    pub name: &'a [u8],
+    /// The name of the section that the relocation changes.
+    pub changed: &'a [u8],
+    /// The name of the object.
+    pub object: &'a [u8],
+}
+
+/// A rule by which objects stay.
+#[derive(Clone, Copy)]
+pub enum Rule<'a> {
+    /// The board keeps all of `.bss`.
+    Zeros,
+    /// A relocation leads to an object of the section by a label.
+    Label(Label<'a>),
+    /// The board lists them, they overlap, or a relocation does not tell how their addresses are made.
+    Other,
+}
+
+/// Objects of a section that stay.
+#[derive(Clone, Copy)]
+pub struct PinnedSection<'a> {
+    /// The name of the section.
+    pub name: &'a [u8],
+    /// How many objects of it stay.
+    pub fixed: u64,
+    /// Why.
+    pub rule: Rule<'a>,
+}
+
+/// What frees objects, by what the label begins with that pins them, or ends with.
+struct LabelCure {
+    start: &'static [u8],
+    end: &'static [u8],
+    first: &'static str,
+}
+
+const LABEL_CURES: [LabelCure; 6] = [
+    LabelCure {
+        start: ANCHOR,
+        end: b"",
+        first: "compile with -fno-section-anchors",
+    },
+    LabelCure {
+        start: b"__start_",
+        end: b"",
+        first: "a program walks the section as one table from its label, so its objects stay; no cure is needed",
+    },
+    LabelCure {
+        start: b"__stop_",
+        end: b"",
+        first: AFTER_LABEL,
+    },
+    LabelCure {
+        start: b"",
+        end: b"_end",
+        first: AFTER_LABEL,
+    },
+    LabelCure {
+        start: b"",
+        end: b"data_start",
+        first: COPIED,
+    },
+    LabelCure {
+        start: b"",
+        end: b"_sdata",
+        first: COPIED,
+    },
+];
+
+const AFTER_LABEL: &str = "put a gap behind the label in the linker script: . = . + 4;";
+
+const COPIED: &str =
+    "leave the loop that copies .data out of the start code, and AT> out of the linker script";
+
+/// That nothing moved, and how many objects may move. It fails only where no memory was left.
+pub fn say_nothing_moved(notes: &mut Notes, movable: u64, total: u64) -> Result<(), AllocError> {
+    if total == 0 {
+        return notes.say_words(
+            "nothing moved: the file has no objects, which are symbols of type OBJECT with a size (strip by strip -g alone)",
+        );
+    }
+    notes.say(&[
+        Piece::Text("nothing moved: "),
+        Piece::Number(movable),
+        Piece::Text(" of "),
+        Piece::Number(total),
+        Piece::Text(" objects may move"),
+        Piece::Text(if movable == 0 {
+            ""
+        } else {
+            ", and in this run none saves more than it costs to copy it"
+        }),
+    ])
+}
+
+/// Objects of a section that stay, why, and what frees them. It fails only where no memory was left.
+pub fn say_pinned(notes: &mut Notes, section: &PinnedSection) -> Result<(), AllocError> {
+    match section.rule {
+        Rule::Zeros => {
+            say_stay(notes, section, "`bss` of the board is \"fixed\"")?;
+            notes.say_first(
+                "write bss = \"movable\" into the board, if no start code clears the section by its addresses",
+            )
+        }
+        Rule::Label(label) => say_label(notes, section, &label),
+        Rule::Other => say_stay(
+            notes,
+            section,
+            "`fix` of the board lists them, they overlap, or a relocation does not tell how their addresses are made",
+        ),
+    }
+}
+
+/// How many other sections have objects that stay. It fails only where no memory was left.
+pub fn say_more_sections(notes: &mut Notes, count: u64) -> Result<(), AllocError> {
+    notes.say(&[
+        Piece::Text("objects of "),
+        Piece::Number(count),
+        Piece::Text(" more sections stay"),
+    ])
+}
+
+fn say_stay(notes: &mut Notes, section: &PinnedSection, reason: &str) -> Result<(), AllocError> {
+    notes.begin("")?;
+    put_stay(notes, section)?;
+    notes.end(reason)
+}
+
+fn put_stay(notes: &mut Notes, section: &PinnedSection) -> Result<(), AllocError> {
+    let is_one = section.fixed == 1;
+    notes.put(&[
+        Piece::Number(section.fixed),
+        Piece::Text(if is_one {
+            " object of "
+        } else {
+            " objects of "
+        }),
+        Piece::Name(section.name),
+        Piece::Text(if is_one { " stays: " } else { " stay: " }),
+    ])
+}
+
+fn say_label(notes: &mut Notes, section: &PinnedSection, label: &Label) -> Result<(), AllocError> {
+    notes.begin("")?;
+    put_stay(notes, section)?;
+    notes.put(&[
+        Piece::Text("a relocation in "),
+        Piece::Name(label.changed),
+        Piece::Text(" leads to "),
+        Piece::Name(label.object),
+        Piece::Text(" by the label "),
+        Piece::Name(label.name),
+    ])?;
+    notes.end(", and so none may move")?;
+    notes.say_first(cure_of(section.name, label))
+}
+
+/// What frees objects from a label.
+fn cure_of(section: &[u8], label: &Label) -> &'static str {
+    if label.changed.starts_with(b".eh_frame") {
+        return "compile with -fno-asynchronous-unwind-tables -fno-unwind-tables, or discard .eh_frame, or put a gap before the section";
+    }
+    if let Some(first) = cure_of_label(label.name) {
+        return first;
+    }
+    if section.starts_with(b".bss") || section.starts_with(b".sbss") {
+        return "leave the loop that clears .bss out of the start code, or let .bss be bytes of the file, as a part of .data";
+    }
+    "put a gap behind the label in the linker script (. = . + 4;), or give it a type and a size"
+}
+
+fn cure_of_label(name: &[u8]) -> Option<&'static str> {
+    for row in &LABEL_CURES {
+        if name.starts_with(row.start) && name.ends_with(row.end) {
+            return Some(row.first);
+        }
+    }
+    None
+}
+
+/// A segment that would be copied from a load address. It fails only where no memory was left.
+pub fn say_load_address(
+    notes: &mut Notes,
+    file: &UncheckedFile,
+    segment: &RawSegment,
+) -> Result<(), AllocError> {
+    notes.say(&[
+        Piece::Text("the segment of "),
+        Piece::Name(file.first_section(segment)),
+        Piece::Text(" runs at "),
+        Piece::Hex(segment.vaddr),
+        Piece::Text(", and its load address is "),
+        Piece::Hex(segment.paddr),
+        Piece::Text(": it is loaded where it runs, and nothing is loaded there"),
+    ])?;
+    notes.say_first(
+        "leave AT> out of the linker script, and the loop that copies the section out of the start code",
+    )
+}

@@ -1,0 +1,238 @@
+use crate::cures::{Cure, CureRow, cure_of};
+use crate::notes::{Notes, Piece};
+use crate::relocations::say_unsupported;
+use board_config::{Board, Range};
+use elf_reader::ElfFault;
+use object_graph::GraphFault;
+use relink_core::AnalyseFault;
+use std::alloc::AllocError;
+use unchecked_file::{RawSegment, UncheckedFile};
+
+/// The section headers, by their number among the tables of a file.
+const SECTION_TABLE: u32 = 4;
+
+/// How many sections of code are told at most.
+const TOLD_SECTIONS: u32 = 3;
+
+/// The number of `e_flags` among the fields of headers.
+const FLAGS: u32 = 7;
+
+/// Fields of headers with values that are not supported, by their numbers.
+const FIELDS: [CureRow; 4] = [
+    CureRow {
+        numbers: &[1, 2, 5],
+        cure: Cure {
+            cause: "the file is none of 32-bit RISC-V",
+            first: "compile and link with -march=rv32im -mabi=ilp32",
+        },
+    },
+    CureRow {
+        numbers: &[4],
+        cure: Cure {
+            cause: "the file is no executable at fixed addresses",
+            first: "link it, with -static and without -shared, -pie and -r",
+        },
+    },
+    CureRow {
+        numbers: &[11],
+        cure: Cure {
+            cause: "the file has a dynamic or interpreter segment",
+            first: "link with -static and -no-pie",
+        },
+    },
+    CureRow {
+        numbers: &[14, 15],
+        cure: Cure {
+            cause: "the file has two symbol tables, or relocations in a form that is not read",
+            first: "link a static executable with -Wl,--emit-relocs",
+        },
+    },
+];
+
+const COMPRESSED: Cure = Cure {
+    cause: "the file has compressed instructions (e_flags has RVC)",
+    first: "compile, assemble and link all of it with -march=rv32im -mabi=ilp32, libraries too",
+};
+
+const OTHER: Cure = Cure {
+    cause: "the file is no ELF file that a linker wrote, is cut off, or is over a limit of docs/COMMAND_LINE.md",
+    first: "give what the linker wrote, without debug sections (strip -g)",
+};
+
+const NO_CODE: Cure = Cure {
+    cause: "no section that is loaded has code, or the entry is no word of it",
+    first: "keep the section headers (link without -s, strip by strip -g alone), and give the start symbol, as -Wl,-e,_start",
+};
+
+/// Why a file is not analysed for a board. It fails only where no memory was left.
+pub fn explain_refusal(
+    notes: &mut Notes,
+    file: &UncheckedFile,
+    board: &Board,
+    fault: &AnalyseFault,
+) -> Result<(), AllocError> {
+    match fault {
+        AnalyseFault::Elf(fault) => explain_elf(notes, file, fault),
+        AnalyseFault::Graph(fault) => explain_layout(notes, file, board, fault),
+        AnalyseFault::Code(_) => NO_CODE.say(notes),
+        _ => Ok(()),
+    }
+}
+
+/// Why a file is not read. It fails only where no memory was left.
+pub fn explain_elf(
+    notes: &mut Notes,
+    file: &UncheckedFile,
+    fault: &ElfFault,
+) -> Result<(), AllocError> {
+    match *fault {
+        ElfFault::WrongKind { field, value } => kind_cure(field, value).say(notes),
+        ElfFault::Unsupported { index, kind } => say_unsupported(notes, file, index, kind),
+        ElfFault::Compressed { section } => say_section(
+            notes,
+            file,
+            section,
+            " has memory and is compressed: link it uncompressed",
+        ),
+        ElfFault::OutOfFile {
+            table: SECTION_TABLE,
+            index,
+        } => say_section(
+            notes,
+            file,
+            index,
+            " does not lie inside the file, which is cut off: link it again",
+        ),
+        ElfFault::Memory => Ok(()),
+        _ => OTHER.say(notes),
+    }
+}
+
+fn kind_cure(field: u32, value: u32) -> Cure {
+    if field == FLAGS && value & 1 == 1 {
+        return COMPRESSED;
+    }
+    cure_of(&FIELDS, field, OTHER)
+}
+
+fn say_section<'a>(
+    notes: &mut Notes,
+    file: &UncheckedFile<'a>,
+    section: u32,
+    words: &'a str,
+) -> Result<(), AllocError> {
+    notes.say(&[
+        Piece::Text("section "),
+        Piece::Name(file.section_name(section)),
+        Piece::Text(words),
+    ])
+}
+
+/// Why a program does not fit a board.
+fn explain_layout(
+    notes: &mut Notes,
+    file: &UncheckedFile,
+    board: &Board,
+    fault: &GraphFault,
+) -> Result<(), AllocError> {
+    match *fault {
+        GraphFault::SpmOverlap { segment } => {
+            say_segment(
+                notes,
+                file,
+                &file.segment(segment),
+                " overlaps the scratchpad",
+            )?;
+            say_range(notes, "spm", &board.spm)
+        }
+        GraphFault::PatchOverlap { segment } => {
+            say_segment(
+                notes,
+                file,
+                &file.segment(segment),
+                " overlaps the patch range",
+            )?;
+            say_range(notes, "patch", &board.patch)
+        }
+        GraphFault::NoArea { segment } => say_outside(notes, file, &file.segment(segment), board),
+        GraphFault::PatchFar { .. } => say_far(notes, file, board),
+        _ => Ok(()),
+    }
+}
+
+/// A segment by its range.
+fn say_segment<'a>(
+    notes: &mut Notes,
+    file: &UncheckedFile<'a>,
+    segment: &RawSegment,
+    words: &'a str,
+) -> Result<(), AllocError> {
+    notes.say(&[
+        Piece::Text("the segment of "),
+        Piece::Name(file.first_section(segment)),
+        Piece::Text(", from "),
+        Piece::Hex(segment.vaddr),
+        Piece::Text(" to "),
+        Piece::Hex(segment.vaddr.wrapping_add(segment.memsz)),
+        Piece::Text(","),
+        Piece::Text(words),
+    ])
+}
+
+fn say_range(notes: &mut Notes, key: &str, range: &Range) -> Result<(), AllocError> {
+    notes.say(&[
+        Piece::Name(key.as_bytes()),
+        Piece::Text(" of the board is from "),
+        Piece::Hex(range.base),
+        Piece::Text(" to "),
+        Piece::Hex(range.base.wrapping_add(range.size)),
+    ])
+}
+
+/// A segment outside the board's memories.
+fn say_outside(
+    notes: &mut Notes,
+    file: &UncheckedFile,
+    segment: &RawSegment,
+    board: &Board,
+) -> Result<(), AllocError> {
+    say_segment(notes, file, segment, " lies in no memory of the board")?;
+    say_range(notes, "main", &board.main)?;
+    notes.say_first(if segment.offset == 0 {
+        "the segment begins with the ELF header: link with -Wl,-N or a linker script, or make `main` larger"
+    } else {
+        "correct the linker script, or `main` or `areas` of the board"
+    })
+}
+
+/// Code that lies far from the patch range or from other code.
+fn say_far(notes: &mut Notes, file: &UncheckedFile, board: &Board) -> Result<(), AllocError> {
+    notes.say_words("the code and the patch range span over 1 MiB, more than a jump reaches:")?;
+    say_code(notes, file)?;
+    say_range(notes, "patch", &board.patch)?;
+    notes.say_first(
+        "link all code together, .init too (-Wl,-N -Wl,--section-start=.init=ADDRESS), near `patch`",
+    )
+}
+
+/// The first sections of code.
+fn say_code(notes: &mut Notes, file: &UncheckedFile) -> Result<(), AllocError> {
+    let mut told: u32 = 0;
+    for k in 0..file.section_count() {
+        let section = file.section(k);
+        if section.is_code() && told < TOLD_SECTIONS {
+            told += 1;
+            say_code_section(notes, file.section_name(k), section.addr)?;
+        }
+    }
+    Ok(())
+}
+
+fn say_code_section(notes: &mut Notes, name: &[u8], address: u32) -> Result<(), AllocError> {
+    notes.say(&[
+        Piece::Text("  code of "),
+        Piece::Name(name),
+        Piece::Text(" at "),
+        Piece::Hex(address),
+    ])
+}

@@ -1,0 +1,135 @@
+use crate::cures::{Cure, CureRow, cure_of, text_at};
+use crate::notes::{Notes, Piece};
+use crate::places::put_place;
+use std::alloc::AllocError;
+use unchecked_file::UncheckedFile;
+
+/// The names of the kinds of relocations (RISC-V psABI, "Relocations").
+const KINDS: [&str; 60] = [
+    "R_RISCV_NONE",
+    "R_RISCV_32",
+    "R_RISCV_64",
+    "R_RISCV_RELATIVE",
+    "R_RISCV_COPY",
+    "R_RISCV_JUMP_SLOT",
+    "R_RISCV_TLS_DTPMOD32",
+    "R_RISCV_TLS_DTPMOD64",
+    "R_RISCV_TLS_DTPREL32",
+    "R_RISCV_TLS_DTPREL64",
+    "R_RISCV_TLS_TPREL32",
+    "R_RISCV_TLS_TPREL64",
+    "R_RISCV_TLSDESC",
+    "",
+    "",
+    "",
+    "R_RISCV_BRANCH",
+    "R_RISCV_JAL",
+    "R_RISCV_CALL",
+    "R_RISCV_CALL_PLT",
+    "R_RISCV_GOT_HI20",
+    "R_RISCV_TLS_GOT_HI20",
+    "R_RISCV_TLS_GD_HI20",
+    "R_RISCV_PCREL_HI20",
+    "R_RISCV_PCREL_LO12_I",
+    "R_RISCV_PCREL_LO12_S",
+    "R_RISCV_HI20",
+    "R_RISCV_LO12_I",
+    "R_RISCV_LO12_S",
+    "R_RISCV_TPREL_HI20",
+    "R_RISCV_TPREL_LO12_I",
+    "R_RISCV_TPREL_LO12_S",
+    "R_RISCV_TPREL_ADD",
+    "R_RISCV_ADD8",
+    "R_RISCV_ADD16",
+    "R_RISCV_ADD32",
+    "R_RISCV_ADD64",
+    "R_RISCV_SUB8",
+    "R_RISCV_SUB16",
+    "R_RISCV_SUB32",
+    "R_RISCV_SUB64",
+    "R_RISCV_GOT32_PCREL",
+    "",
+    "R_RISCV_ALIGN",
+    "R_RISCV_RVC_BRANCH",
+    "R_RISCV_RVC_JUMP",
+    "R_RISCV_RVC_LUI",
+    "R_RISCV_GPREL_I",
+    "R_RISCV_GPREL_S",
+    "R_RISCV_TPREL_I",
+    "R_RISCV_TPREL_S",
+    "R_RISCV_RELAX",
+    "R_RISCV_SUB6",
+    "R_RISCV_SET6",
+    "R_RISCV_SET8",
+    "R_RISCV_SET16",
+    "R_RISCV_SET32",
+    "R_RISCV_32_PCREL",
+    "R_RISCV_IRELATIVE",
+    "R_RISCV_PLT32",
+];
+
+/// What kinds of relocations come of, and what avoids them.
+const CURES: [CureRow; 4] = [
+    CureRow {
+        numbers: &[20],
+        cure: Cure {
+            cause: "position-independent code takes the address from a table",
+            first: "compile and assemble with -fno-pie, and link with -no-pie",
+        },
+    },
+    CureRow {
+        numbers: &[6, 7, 8, 9, 10, 11, 21, 22, 29, 30, 31, 32, 49, 50],
+        cure: Cure {
+            cause: "the symbol is thread-local, as `errno` is: it is found by the tp register",
+            first: "link functions that set no errno in front of the C library",
+        },
+    },
+    CureRow {
+        numbers: &[47, 48],
+        cure: Cure {
+            cause: "the linker made the address by the gp register",
+            first: "link with -Wl,--no-relax (or compile with -msmall-data-limit=0 and set no gp)",
+        },
+    },
+    CureRow {
+        numbers: &[44, 45, 46],
+        cure: Cure {
+            cause: "the code is compressed",
+            first: "compile with -march=rv32im -mabi=ilp32",
+        },
+    },
+];
+
+const OTHER: Cure = Cure {
+    cause: "the address is made in a way that cannot be written anew",
+    first: "link a static executable for -march=rv32im -mabi=ilp32, without -shared and -pie",
+};
+
+/// A relocation of a kind that is not supported.
+pub(crate) fn say_unsupported(
+    notes: &mut Notes,
+    file: &UncheckedFile,
+    index: u32,
+    kind: u32,
+) -> Result<(), AllocError> {
+    if let Some(relocation) = file.relocation(index) {
+        notes.say(&[
+            Piece::Text("relocation "),
+            Piece::Number(u64::from(index)),
+            Piece::Text(" in section "),
+            Piece::Name(relocation.section),
+            Piece::Text(" is "),
+            Piece::Text(text_at(&KINDS, kind)),
+            Piece::Text(" of "),
+            Piece::Name(relocation.symbol),
+        ])?;
+        say_changed(notes, file, relocation.at)?;
+    }
+    cure_of(&CURES, kind, OTHER).say(notes)
+}
+
+fn say_changed(notes: &mut Notes, file: &UncheckedFile, at: u32) -> Result<(), AllocError> {
+    notes.begin("it changes the word")?;
+    put_place(notes, file, at)?;
+    notes.end("")
+}

@@ -1,0 +1,297 @@
+use crate::notes::{Notes, Piece};
+use std::alloc::AllocError;
+
+/// A command, as it is told to one who asks, and which of its words name what it reads. The command's own word is at
+/// place 0.
+pub struct Command {
+    word: &'static str,
+    operands: &'static str,
+    purpose: &'static str,
+    /// The place of FILE.
+    pub file: Option<usize>,
+    /// The place of BOARD.
+    pub board: Option<usize>,
+    /// Whether it analyses FILE for BOARD.
+    pub analyses: bool,
+    /// The place of INPUT, where it measures the program of FILE.
+    pub input: Option<usize>,
+    /// The place of what FILE is relinked to, where it writes that.
+    pub result: Option<usize>,
+}
+
+const COMMANDS: [Command; 9] = [
+    Command {
+        word: "run",
+        operands: "FILE BOARD INPUT OUT",
+        purpose: "runs FILE, and writes under OUT what it writes",
+        file: Some(1),
+        board: Some(2),
+        analyses: false,
+        input: None,
+        result: None,
+    },
+    Command {
+        word: "relink",
+        operands: "FILE BOARD INPUT OUT CERT",
+        purpose: "moves what saves energy, and writes the new file under OUT",
+        file: Some(1),
+        board: Some(2),
+        analyses: true,
+        input: Some(3),
+        result: Some(4),
+    },
+    Command {
+        word: "profile",
+        operands: "FILE BOARD INPUT",
+        purpose: "runs FILE, and counts blocks, reads and writes",
+        file: Some(1),
+        board: Some(2),
+        analyses: true,
+        input: Some(3),
+        result: None,
+    },
+    Command {
+        word: "compare",
+        operands: "FILE RESULT BOARD INPUT",
+        purpose: "runs FILE beside what it was relinked to",
+        file: Some(1),
+        board: Some(3),
+        analyses: true,
+        input: Some(4),
+        result: None,
+    },
+    Command {
+        word: "check",
+        operands: "FILE BOARD INPUT CERT",
+        purpose: "checks a certificate that relink wrote",
+        file: Some(1),
+        board: Some(2),
+        analyses: true,
+        input: Some(3),
+        result: None,
+    },
+    Command {
+        word: "show",
+        operands: "FILE BOARD",
+        purpose: "lists what may move, and the functions",
+        file: Some(1),
+        board: Some(2),
+        analyses: true,
+        input: None,
+        result: None,
+    },
+    Command {
+        word: "gen",
+        operands: "SEED KERNELS OUT",
+        purpose: "writes a generated program under OUT",
+        file: None,
+        board: None,
+        analyses: false,
+        input: None,
+        result: None,
+    },
+    Command {
+        word: "hex",
+        operands: "FILE OUT",
+        purpose: "writes FILE as Intel HEX under OUT",
+        file: Some(1),
+        board: None,
+        analyses: false,
+        input: None,
+        result: None,
+    },
+    Command {
+        word: "hexcheck",
+        operands: "FILE HEX",
+        purpose: "checks that HEX spells FILE",
+        file: Some(1),
+        board: None,
+        analyses: false,
+        input: None,
+        result: None,
+    },
+];
+
+/// First words that ask for the table of commands.
+const HELP: [&str; 3] = ["--help", "-h", "help"];
+
+/// First words that ask for the version.
+const VERSION: [&str; 3] = ["--version", "-V", "version"];
+
+/// The command of a word, if there is one.
+pub fn command_of(word: &str) -> Option<&'static Command> {
+    for command in &COMMANDS {
+        if command.word == word {
+            return Some(command);
+        }
+    }
+    None
+}
+
+/// Why words are no command, and the usage of the command that was meant, or of all. It fails only where no memory was
+/// left.
+pub fn explain_words(notes: &mut Notes, words: &[String]) -> Result<(), AllocError> {
+    let Some(first) = words.first() else {
+        return say_all(notes);
+    };
+    match command_of(first.as_str()) {
+        Some(command) => explain_operands(notes, command, words),
+        None => explain_first(notes, first.as_str()),
+    }
+}
+
+/// A first word that is no command.
+fn explain_first(notes: &mut Notes, word: &str) -> Result<(), AllocError> {
+    if is_one_of(word, &VERSION) {
+        return notes.say_words(
+            "the files that it reads and writes are those of docs/COMMAND_LINE.md; it has no version number",
+        );
+    }
+    if !is_one_of(word, &HELP) {
+        notes.say(&[Piece::Name(word.as_bytes()), Piece::Text(" is no command")])?;
+    }
+    say_all(notes)
+}
+
+fn is_one_of(word: &str, list: &[&str]) -> bool {
+    for other in list {
+        if *other == word {
+            return true;
+        }
+    }
+    false
+}
+
+/// A line for each command.
+fn say_all(notes: &mut Notes) -> Result<(), AllocError> {
+    notes.say_words("usage: spmlink and one of")?;
+    for command in &COMMANDS {
+        say_usage(notes, "  ", command)?;
+    }
+    notes.say_words(
+        "for example: spmlink relink upper.elf examples/default.toml input upper.new.elf upper.cert",
+    )
+}
+
+/// A line of some words and a command.
+fn say_usage(notes: &mut Notes, before: &str, command: &Command) -> Result<(), AllocError> {
+    notes.say(&[
+        Piece::Text(before),
+        Piece::Text(command.word),
+        Piece::Text(" "),
+        Piece::Text(command.operands),
+        Piece::Text(": "),
+        Piece::Text(command.purpose),
+    ])
+}
+
+/// What is wrong with the words behind that of a command.
+fn explain_operands(
+    notes: &mut Notes,
+    command: &Command,
+    words: &[String],
+) -> Result<(), AllocError> {
+    let asks = match words.get(1) {
+        Some(word) => is_one_of(word.as_str(), &HELP),
+        None => false,
+    };
+    if !asks {
+        say_wrong_word(notes, command, words)?;
+    }
+    say_usage(notes, "usage: spmlink ", command)
+}
+
+/// The first word that is wrong.
+fn say_wrong_word(
+    notes: &mut Notes,
+    command: &Command,
+    words: &[String],
+) -> Result<(), AllocError> {
+    for (place, word) in words.iter().enumerate() {
+        if let Some(reason) = fault_of_name(word.as_str()) {
+            return say_word(notes, place, word.as_str(), reason);
+        }
+    }
+    say_count(notes, command, words)
+}
+
+/// That there are too many words or too few, or else which of them the command may not have.
+fn say_count(notes: &mut Notes, command: &Command, words: &[String]) -> Result<(), AllocError> {
+    let given = words.len().saturating_sub(1) as u64;
+    let wanted = count_words(command.operands);
+    if given != wanted {
+        return notes.say(&[
+            Piece::Name(command.word.as_bytes()),
+            Piece::Text(" takes "),
+            Piece::Number(wanted),
+            Piece::Text(" words, and was given "),
+            Piece::Number(given),
+        ]);
+    }
+    match command.file {
+        Some(_) => say_repeated(notes, words),
+        None => notes.say_words(
+            "SEED is a number of 1 to 10 digits below 2^32, and KERNELS is one from 1 to 64",
+        ),
+    }
+}
+
+fn fault_of_name(word: &str) -> Option<&'static str> {
+    if word.is_empty() {
+        return Some("is empty");
+    }
+    if word.starts_with('-') {
+        return Some("begins with `-`, and no word may: write `./-NAME`");
+    }
+    None
+}
+
+fn say_word<'a>(
+    notes: &mut Notes,
+    place: usize,
+    word: &'a str,
+    reason: &'a str,
+) -> Result<(), AllocError> {
+    notes.say(&[
+        Piece::Text("word "),
+        Piece::Number(place as u64),
+        Piece::Text(", "),
+        Piece::Name(word.as_bytes()),
+        Piece::Text(", "),
+        Piece::Text(reason),
+    ])
+}
+
+fn count_words(operands: &str) -> u64 {
+    let mut count: u64 = 0;
+    for _ in operands.split_whitespace() {
+        count = count.saturating_add(1);
+    }
+    count
+}
+
+/// A name that is written and that another word has, too. Names that are written come last.
+fn say_repeated(notes: &mut Notes, words: &[String]) -> Result<(), AllocError> {
+    for place in 1..words.len() {
+        if let Some(other) = repeated(words, words.len() - place) {
+            return say_word(
+                notes,
+                words.len() - place,
+                other,
+                "has the name of another word, and what is written needs a name of its own",
+            );
+        }
+    }
+    Ok(())
+}
+
+/// The word at `place`, if one of the words before it is the same.
+fn repeated(words: &[String], place: usize) -> Option<&str> {
+    let word = words.get(place)?.as_str();
+    for earlier in words.iter().take(place).skip(1) {
+        if earlier.as_str() == word {
+            return Some(word);
+        }
+    }
+    None
+}

@@ -1,0 +1,143 @@
+use crate::names::section_at;
+use elf_reader::{ElfView, STT_SECTION, Symbol};
+use loaded_file::{ByteRange, LoadedFile, counts, has_range, object_ranges, symbol_value, target};
+use object_graph::Graph;
+use std::alloc::{AllocError, Global};
+
+/// The symbol to which the global pointer is set (RISC-V psABI, "Global-pointer").
+const GLOBAL_POINTER: &[u8] = b"__global_pointer$";
+
+/// A label by which a relocation leads into an object.
+#[derive(Clone, Copy)]
+pub(crate) struct LabelUse {
+    /// The number of its symbol.
+    pub(crate) symbol: u32,
+    /// The number of the section that the relocation changes.
+    pub(crate) changed: u32,
+    /// The home of the object.
+    pub(crate) home: u32,
+}
+
+/// The objects of a section.
+#[derive(Clone, Copy)]
+pub(crate) struct SectionObjects {
+    /// How many may not move.
+    pub(crate) fixed: u64,
+    /// A label that pins them.
+    pub(crate) label: Option<LabelUse>,
+}
+
+/// The objects of a file.
+#[derive(Drop)]
+pub(crate) struct ObjectCensus {
+    /// How many there are.
+    pub(crate) total: u64,
+    /// Those of each section.
+    pub(crate) sections: Vec<SectionObjects>,
+}
+
+const NO_OBJECTS: SectionObjects = SectionObjects {
+    fixed: 0,
+    label: None,
+};
+
+/// Counts the objects of a file, and finds for each section a label that pins its objects. It fails only where no
+/// memory was left.
+///
+/// The time grows with n log m, where n is the number of symbols and relocations, and m that of objects.
+pub(crate) fn census(
+    alloc: Global,
+    view: &ElfView,
+    graph: &Graph,
+) -> Result<ObjectCensus, AllocError> {
+    let file = LoadedFile::of(alloc, view)?;
+    let ranges = object_ranges(alloc, &file)?;
+    let mut census = ObjectCensus {
+        total: ranges.len() as u64,
+        sections: vec![in alloc; NO_OBJECTS; view.sections.len()]?,
+    };
+    for range in &ranges {
+        census.count_range(view, graph, range);
+    }
+    census.note_labels(&file, &ranges);
+    Ok(census)
+}
+
+impl ObjectCensus {
+    fn count_range(&mut self, view: &ElfView, graph: &Graph, range: &ByteRange) {
+        if is_movable(graph, range) {
+            return;
+        }
+        if let Some(section) = self.section_of(view, range.home) {
+            section.fixed = section.fixed.saturating_add(1);
+        }
+    }
+
+    fn note_labels(&mut self, file: &LoadedFile, ranges: &[ByteRange]) {
+        for k in 0..file.view.relocs.len() {
+            if let Some(label) = label_of(file, ranges, k) {
+                self.note_label(file.view, label);
+            }
+        }
+    }
+
+    fn note_label(&mut self, view: &ElfView, label: LabelUse) {
+        if let Some(section) = self.section_of(view, label.home) {
+            if section.label.is_none() {
+                section.label = Some(label);
+            }
+        }
+    }
+
+    /// The entry of the section that has the byte at an address.
+    fn section_of(&mut self, view: &ElfView, address: u32) -> Option<&mut SectionObjects> {
+        let place = section_at(view, address)?;
+        self.sections.get_mut(place)
+    }
+}
+
+/// Whether a range is that of an object that may move.
+fn is_movable(graph: &Graph, range: &ByteRange) -> bool {
+    let count = graph
+        .objects
+        .partition_point(|object| object.home < range.home);
+    match graph.objects.get(count) {
+        Some(object) => object.home == range.home && object.size == range.size,
+        None => false,
+    }
+}
+
+/// The label by which relocation `k` leads into an object, if it does.
+fn label_of(file: &LoadedFile, ranges: &[ByteRange], k: usize) -> Option<LabelUse> {
+    let reloc = file.view.relocs.get(k)?;
+    let symbol = file.view.symbols.get(reloc.symbol as usize)?;
+    if !counts(file, reloc) || !is_label(file, symbol) {
+        return None;
+    }
+    let value = symbol_value(file.view, reloc.symbol as usize);
+    let home = match object_with(ranges, value) {
+        Some(home) => home,
+        None => object_with(ranges, target(file.view, reloc))?,
+    };
+    Some(LabelUse {
+        symbol: reloc.symbol,
+        changed: reloc.section,
+        home,
+    })
+}
+
+/// Whether a symbol is none of an object, of a section, or the global pointer.
+fn is_label(file: &LoadedFile, symbol: &Symbol) -> bool {
+    !has_range(file, symbol) && symbol.kind != STT_SECTION && symbol.name != GLOBAL_POINTER
+}
+
+/// The home of an object that has the byte at an address.
+fn object_with(ranges: &[ByteRange], address: u32) -> Option<u32> {
+    let count = ranges.partition_point(|range| range.home <= address);
+    let range = ranges.get(count.checked_sub(1)?)?;
+    if address.wrapping_sub(range.home) < range.size {
+        Some(range.home)
+    } else {
+        None
+    }
+}

@@ -1,0 +1,67 @@
+use explanation_texts::command_of;
+use shelf_io::Shelf;
+use std::alloc::Global;
+use unchecked_file::UncheckedFile;
+
+/// What a command read, and what came of it.
+#[derive(Drop)]
+pub(crate) struct Inputs {
+    pub(crate) alloc: Global,
+    pub(crate) file: Vec<u8>,
+    /// The text of the board, where the command has one.
+    pub(crate) board: Option<Vec<u8>>,
+    /// Whether the command analyses the file for the board.
+    pub(crate) analyses: bool,
+    /// The input of the program, where the command measures it and it can be read twice.
+    pub(crate) input: Option<Vec<u8>>,
+    /// The result that was relinked to.
+    pub(crate) result: Option<Vec<u8>>,
+    pub(crate) status: u8,
+}
+
+impl Inputs {
+    /// The file, as it stands.
+    pub(crate) fn unchecked(&self) -> UncheckedFile<'_> {
+        UncheckedFile { bytes: &self.file }
+    }
+}
+
+/// What a command read; `None` where its file can't be read.
+pub(crate) fn inputs_of<S: Shelf>(
+    alloc: Global,
+    words: &[String],
+    shelf: &mut S,
+    status: u8,
+) -> Option<Inputs> {
+    let command = command_of(words.first()?.as_str())?;
+    Some(Inputs {
+        alloc,
+        file: read_word(alloc, words, shelf, command.file)?,
+        board: read_word(alloc, words, shelf, command.board),
+        analyses: command.analyses,
+        input: read_word(alloc, words, shelf, command.input),
+        result: if status == 0 {
+            read_word(alloc, words, shelf, command.result)
+        } else {
+            None
+        },
+        status,
+    })
+}
+
+/// The bytes under a word. A device may not give them twice, so none but the empty one is read.
+fn read_word<S: Shelf>(
+    alloc: Global,
+    words: &[String],
+    shelf: &mut S,
+    place: Option<usize>,
+) -> Option<Vec<u8>> {
+    let name = words.get(place?)?.as_str();
+    if name.starts_with("/dev/") && name != "/dev/null" {
+        return None;
+    }
+    match shelf.read(alloc, name) {
+        Ok(bytes) => Some(bytes),
+        Err(_) => None,
+    }
+}

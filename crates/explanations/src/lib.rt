@@ -1,0 +1,11 @@
+//! Which explanation is due behind a command: from its words, its status, and what it read.
+#![tactic(auto)]
+
+mod census;
+mod explaining;
+mod inputs;
+mod names;
+mod pinned;
+mod runs;
+
+pub use explaining::explain;

@@ -1,0 +1,55 @@
+use elf_reader::{ElfView, STT_OBJECT};
+use object_graph::Graph;
+
+/// `sh_flags`: the section has memory when the program runs.
+const ALLOCATED: u32 = 2;
+
+/// The place of the section with memory that has the byte at an address.
+pub(crate) fn section_at(view: &ElfView, address: u32) -> Option<usize> {
+    for (place, section) in view.sections.iter().enumerate() {
+        let offset = address.wrapping_sub(section.addr);
+        if section.flags & ALLOCATED != 0 && offset < section.size {
+            return Some(place);
+        }
+    }
+    None
+}
+
+/// The name of the section at a place; empty where there is none.
+pub(crate) fn section_name<'a>(view: &ElfView<'a>, place: usize) -> &'a [u8] {
+    match view.sections.get(place) {
+        Some(section) => section.name,
+        None => &[],
+    }
+}
+
+/// The name of a section by its number; empty where there is none.
+pub(crate) fn section_of_number<'a>(view: &ElfView<'a>, number: u32) -> &'a [u8] {
+    section_name(view, number as usize)
+}
+
+/// The name of a symbol by its number; empty where there is none.
+pub(crate) fn symbol_name<'a>(view: &ElfView<'a>, number: u32) -> &'a [u8] {
+    match view.symbols.get(number as usize) {
+        Some(symbol) => symbol.name,
+        None => &[],
+    }
+}
+
+/// The name of an object that may move, by its number; empty where there is none.
+pub(crate) fn object_name<'a>(view: &ElfView<'a>, graph: &Graph, object: u32) -> &'a [u8] {
+    match graph.objects.get(object as usize) {
+        Some(object) => symbol_name(view, object.name),
+        None => &[],
+    }
+}
+
+/// The name of the object that has the byte at an address, by the symbols; empty where there is none.
+pub(crate) fn name_at<'a>(view: &ElfView<'a>, address: u32) -> &'a [u8] {
+    for symbol in &view.symbols {
+        if symbol.kind == STT_OBJECT && address.wrapping_sub(symbol.value) < symbol.size {
+            return symbol.name;
+        }
+    }
+    &[]
+}

@@ -1,0 +1,150 @@
+use crate::census::{ObjectCensus, SectionObjects, census};
+use crate::inputs::Inputs;
+use crate::names::{name_at, section_name, section_of_number, symbol_name};
+use board_config::Board;
+use elf_reader::{ElfView, SHT_NOBITS};
+use explanation_texts::{
+    Label, Notes, PinnedSection, Rule, gives_key, say_more_sections, say_nothing_moved, say_pinned,
+};
+use object_graph::Graph;
+use std::alloc::{AllocError, Global};
+
+/// How the label of a table begins that a linker collects of a section, and that a program walks.
+const TABLE_START: &[u8] = b"__start_";
+
+/// How a relink went.
+#[derive(Clone, Copy)]
+struct RelinkResult {
+    /// Whether something moved.
+    has_moved: bool,
+    /// Whether the board says itself whether objects of `.bss` may move.
+    tells_bss: bool,
+    /// Whether these may move.
+    bss_movable: bool,
+}
+
+/// The two sections of which most objects stay.
+#[derive(Clone, Copy)]
+struct Largest<'a> {
+    first: Option<PinnedSection<'a>>,
+    second: Option<PinnedSection<'a>>,
+    /// How many sections have objects that stay.
+    count: u64,
+}
+
+/// Which objects stay, and by which rule. It says nothing where all may move and some did.
+pub(crate) fn explain_pinned(
+    notes: &mut Notes,
+    inputs: &Inputs,
+    board: &Board,
+    view: &ElfView,
+    graph: &Graph,
+) -> Result<(), AllocError> {
+    let Some(result) = &inputs.result else {
+        return Ok(());
+    };
+    let relinked = RelinkResult {
+        has_moved: result.as_slice() != inputs.file.as_slice(),
+        tells_bss: tells_bss(inputs),
+        bss_movable: board.bss_movable,
+    };
+    let census = census(inputs.alloc, view, graph)?;
+    if !relinked.has_moved {
+        say_nothing_moved(notes, graph.objects.len() as u64, census.total)?;
+    }
+    largest_of(view, &census, &relinked).say(notes)
+}
+
+fn tells_bss(inputs: &Inputs) -> bool {
+    match &inputs.board {
+        Some(text) => gives_key(text, b"bss"),
+        None => false,
+    }
+}
+
+fn largest_of<'a>(
+    view: &ElfView<'a>,
+    census: &ObjectCensus,
+    relinked: &RelinkResult,
+) -> Largest<'a> {
+    let mut largest = Largest {
+        first: None,
+        second: None,
+        count: 0,
+    };
+    for (place, objects) in census.sections.iter().enumerate() {
+        if let Some(rule) = rule_of(view, place, objects, relinked) {
+            largest.add(PinnedSection {
+                name: section_name(view, place),
+                fixed: objects.fixed,
+                rule,
+            });
+        }
+    }
+    largest
+}
+
+impl<'a> Largest<'a> {
+    fn add(&mut self, section: PinnedSection<'a>) {
+        self.count = self.count.saturating_add(1);
+        if is_larger(&section, &self.first) {
+            self.second = self.first;
+            self.first = Some(section);
+        } else if is_larger(&section, &self.second) {
+            self.second = Some(section);
+        }
+    }
+
+    fn say(&self, notes: &mut Notes) -> Result<(), AllocError> {
+        if let Some(section) = &self.first {
+            say_pinned(notes, section)?;
+        }
+        if let Some(section) = &self.second {
+            say_pinned(notes, section)?;
+        }
+        if self.count > 2 {
+            return say_more_sections(notes, self.count - 2);
+        }
+        Ok(())
+    }
+}
+
+fn is_larger(section: &PinnedSection, other: &Option<PinnedSection>) -> bool {
+    match other {
+        Some(other) => section.fixed > other.fixed,
+        None => true,
+    }
+}
+
+/// The rule by which objects of a section stay, if one is to be told: none where the board asks for it and others moved.
+fn rule_of<'a>(
+    view: &ElfView<'a>,
+    place: usize,
+    objects: &SectionObjects,
+    relinked: &RelinkResult,
+) -> Option<Rule<'a>> {
+    let section = view.sections.get(place)?;
+    if objects.fixed == 0 {
+        return None;
+    }
+    if section.kind == SHT_NOBITS && !relinked.bss_movable {
+        return told_if(!relinked.tells_bss || !relinked.has_moved, Rule::Zeros);
+    }
+    let Some(label) = objects.label else {
+        return told_if(!relinked.has_moved, Rule::Other);
+    };
+    let name = symbol_name(view, label.symbol);
+    let is_table = name.starts_with(TABLE_START);
+    told_if(
+        !relinked.has_moved || !is_table,
+        Rule::Label(Label {
+            name,
+            changed: section_of_number(view, label.changed),
+            object: name_at(view, label.home),
+        }),
+    )
+}
+
+fn told_if(is_told: bool, rule: Rule<'_>) -> Option<Rule<'_>> {
+    if is_told { Some(rule) } else { None }
+}

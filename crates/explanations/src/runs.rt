@@ -1,0 +1,150 @@
+ghost use Rattle.std.specs.Prelude.{ℕ, List};
+ghost use Rattle.relink_core.specs.Choices.{IsAnalysisOf};
+
+use crate::inputs::Inputs;
+use crate::names::{name_at, object_name, section_at, section_name};
+use board_config::Board;
+use elf_reader::ElfView;
+use explanation_texts::{
+    Involved, Notes, explain_fault, say_load_address, say_still_running, say_trapped,
+};
+use fault_trail::{AddressFault, fault_of_run};
+use object_graph::Graph;
+use object_machine::{Outcome, Source};
+use relink_core::Analysis;
+use std::alloc::{AllocError, Global};
+use unchecked_file::UncheckedFile;
+
+/// The statuses of address faults: of a measured run, and of one beside a result.
+const ADDRESS_FAULTS: [u8; 2] = [8, 12];
+
+/// How the names begin of the anchors that GCC makes for sections.
+const ANCHOR: &[u8] = b".LANCHOR";
+
+/// The reason of an access to an object that may move by a plain number.
+const BY_NUMBER: u32 = 4;
+
+/// A measured run that did not come to its program's end.
+pub(crate) fn explain_run(
+    notes: &mut Notes,
+    inputs: &Inputs,
+    board: &Board,
+    analysis: &Analysis<'_>,
+) -> Result<(), AllocError>
+    requires { (file : List ℕ) × IsAnalysisOf file board.now analysis.now }
+{
+    if inputs.status != 0 && !ADDRESS_FAULTS.contains(&inputs.status) {
+        return Ok(());
+    }
+    let Some(input) = &inputs.input else {
+        return Ok(());
+    };
+    let mut source = machine(inputs.alloc, analysis, board, input)?;
+    let file = inputs.unchecked();
+    if inputs.status == 0 {
+        return explain_end(notes, &file, &mut source, board.steps);
+    }
+    explain_faulted(notes, &file, &mut source, analysis, board.steps)
+}
+
+/// A machine at the entry of a program.
+fn machine(
+    alloc: Global,
+    analysis: &Analysis<'_>,
+    board: &Board,
+    input: &[u8],
+) -> Result<Source, AllocError>
+    requires { (file : List ℕ) × IsAnalysisOf file board.now analysis.now }
+{
+    Source::new(
+        alloc,
+        &analysis.view,
+        &analysis.graph,
+        &analysis.code,
+        board,
+        input,
+    )
+}
+
+/// A run that met no address fault.
+fn explain_end(
+    notes: &mut Notes,
+    file: &UncheckedFile,
+    source: &mut Source,
+    steps: u64,
+) -> Result<(), AllocError> {
+    if let Some(segment) = file.segment_loaded_apart() {
+        say_load_address(notes, file, &segment)?;
+    }
+    match source.run(steps)? {
+        Outcome::Trapped { pc } => say_trapped(notes, file, pc),
+        Outcome::GoesOn => say_still_running(notes, file, steps, source.at()),
+        Outcome::Exited(_) | Outcome::AddressFault { .. } => Ok(()),
+    }
+}
+
+/// A run that met an address fault.
+fn explain_faulted(
+    notes: &mut Notes,
+    file: &UncheckedFile,
+    source: &mut Source,
+    analysis: &Analysis<'_>,
+    steps: u64,
+) -> Result<(), AllocError> {
+    let found = fault_of_run(
+        notes.alloc(),
+        source,
+        &analysis.code,
+        &analysis.graph,
+        steps,
+    )?;
+    let Some(fault) = found else {
+        return Ok(());
+    };
+    let involved = involved_in(&analysis.view, &analysis.graph, &fault);
+    explain_fault(notes, file, &fault, &involved)
+}
+
+/// What is known by name of an address fault.
+fn involved_in<'a>(view: &ElfView<'a>, graph: &Graph, fault: &AddressFault) -> Involved<'a> {
+    Involved {
+        object: kept_object(view, graph, fault),
+        bytes: addressed(view, fault),
+        has_symbols: view.symbols.len() > 1,
+        has_relocations: !view.relocs.is_empty(),
+        has_anchors: has_anchors(view),
+    }
+}
+
+/// The object to be kept where nothing else helps: that of the value, or else the one that is addressed by a number.
+fn kept_object<'a>(view: &ElfView<'a>, graph: &Graph, fault: &AddressFault) -> &'a [u8] {
+    match (fault.culprit.origin, fault.culprit.address) {
+        (Some(origin), _) => object_name(view, graph, origin.object),
+        (None, Some(address)) if fault.why == BY_NUMBER => name_at(view, address),
+        _ => &[],
+    }
+}
+
+/// The object or the section that has the byte at the address.
+fn addressed<'a>(view: &ElfView<'a>, fault: &AddressFault) -> &'a [u8] {
+    let Some(address) = fault.culprit.address else {
+        return &[];
+    };
+    let name = name_at(view, address);
+    if !name.is_empty() {
+        return name;
+    }
+    match section_at(view, address) {
+        Some(place) => section_name(view, place),
+        None => &[],
+    }
+}
+
+fn has_anchors(view: &ElfView) -> bool {
+    for symbol in &view.symbols {
+        if symbol.name.starts_with(ANCHOR) {
+            return true;
+        }
+    }
+    false
+}

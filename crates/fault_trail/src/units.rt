@@ -1,0 +1,102 @@
+use crate::origins::Origin;
+use code_blocks::{Code, Unit};
+use object_graph::{Graph, Site};
+use rv_decode::Instr;
+use std::alloc::{AllocError, Global};
+
+/// A unit of code.
+#[derive(Clone, Copy)]
+pub(crate) struct TracedUnit {
+    pub(crate) instr: Option<Instr>,
+    pub(crate) words: u32,
+    /// The site of its first word.
+    pub(crate) site: Option<Site>,
+}
+
+impl TracedUnit {
+    /// The origin of its base: at a site that of the site, unless nothing is known of the base.
+    pub(crate) fn origin_at_site(&self, base: Option<Origin>) -> Option<Origin> {
+        let Origin { object, way } = base?;
+        let object = match self.site {
+            Some(site) => site.object,
+            None => object,
+        };
+        Some(Origin { object, way })
+    }
+}
+
+/// The units of a program by address.
+#[derive(Drop)]
+pub(crate) struct UnitTable {
+    base: u32,
+    units: Vec<Option<TracedUnit>>,
+}
+
+impl UnitTable {
+    /// The units of a program.
+    pub(crate) fn new(alloc: Global, code: &Code, graph: &Graph) -> Result<UnitTable, AllocError> {
+        let base = first_address(code);
+        let mut table = UnitTable {
+            base,
+            units: vec![in alloc; None; word_count(code, base)]?,
+        };
+        for block in &code.blocks {
+            table.put_units(&block.units);
+        }
+        for site in &graph.sites {
+            table.put_site(*site);
+        }
+        Ok(table)
+    }
+
+    fn put_units(&mut self, units: &[Unit]) {
+        for unit in units {
+            let place = self.place(unit.at);
+            if let Some(slot) = self.units.get_mut(place) {
+                *slot = Some(TracedUnit {
+                    instr: unit.instr,
+                    words: unit.words,
+                    site: None,
+                });
+            }
+        }
+    }
+
+    fn put_site(&mut self, site: Site) {
+        let place = self.place(site.at);
+        if let Some(Some(unit)) = self.units.get_mut(place) {
+            unit.site = Some(site);
+        }
+    }
+
+    /// The unit at an address.
+    pub(crate) fn unit_at(&self, at: u32) -> Option<TracedUnit> {
+        match self.units.get(self.place(at)) {
+            Some(unit) => *unit,
+            None => None,
+        }
+    }
+
+    fn place(&self, at: u32) -> usize {
+        (at.wrapping_sub(self.base) / 4) as usize
+    }
+}
+
+/// The address of the first block.
+fn first_address(code: &Code) -> u32 {
+    match code.blocks.first() {
+        Some(block) => block.start,
+        None => 0,
+    }
+}
+
+/// How many words there are from an address to the last unit of the last block.
+fn word_count(code: &Code, base: u32) -> usize {
+    let Some(block) = code.blocks.last() else {
+        return 0;
+    };
+    let Some(unit) = block.units.last() else {
+        return 0;
+    };
+    (unit.at.saturating_sub(base) / 4) as usize + 1
+}

@@ -1,0 +1,47 @@
+# Start code with what other start codes do, each behind a name:
+# SET_TRAPS sets the trap handler, CLEAR_ZEROS clears .bss, COPY_DATA copies .data from its load address, SET_GP sets gp.
+    .section .text.start, "ax", @progbits
+    .globl _start
+    .type _start, @function
+_start:
+#ifdef SET_GP
+    .option push
+    .option norelax
+    lui  gp, %hi(__global_pointer$)
+    addi gp, gp, %lo(__global_pointer$)
+    .option pop
+#endif
+#ifdef SET_TRAPS
+    .word 0x30501073            # csrrw zero, mtvec, zero, which no assembler takes for rv32im
+#endif
+    lui  sp, %hi(__stack_top)
+    addi sp, sp, %lo(__stack_top)
+#ifdef CLEAR_ZEROS
+    lui  a0, %hi(__bss_start)
+    addi a0, a0, %lo(__bss_start)
+    lui  a1, %hi(__bss_end)
+    addi a1, a1, %lo(__bss_end)
+1:  bgeu a0, a1, 2f
+    sb   zero, 0(a0)
+    addi a0, a0, 1
+    j    1b
+2:
+#endif
+#ifdef COPY_DATA
+    lui  a0, 0x40
+    lui  a1, %hi(__data_start)
+    addi a1, a1, %lo(__data_start)
+    lui  a2, %hi(__data_end)
+    addi a2, a2, %lo(__data_end)
+1:  bgeu a1, a2, 2f
+    lbu  t0, 0(a0)
+    sb   t0, 0(a1)
+    addi a0, a0, 1
+    addi a1, a1, 1
+    j    1b
+2:
+#endif
+    call main
+    li   a7, 93
+    ecall
+    .size _start, . - _start
