@@ -18,6 +18,9 @@ use unchecked_file::UncheckedFile;
 /// The statuses of address faults: of a measured run, and of one beside a result.
 const ADDRESS_FAULTS: [u8; 2] = [8, 12];
 
+/// The most steps for which a run is followed again where the command did what it is for.
+const FOLLOWED_STEPS: u64 = 1_000_000;
+
 /// How the names begin of the anchors that GCC makes for sections.
 const ANCHOR: &[u8] = b".LANCHOR";
 
@@ -66,7 +69,7 @@ fn machine(
     )
 }
 
-/// A run that met no address fault.
+/// A run that met no address fault, as far as it is followed.
 fn explain_end(
     notes: &mut Notes,
     file: &UncheckedFile,
@@ -76,10 +79,12 @@ fn explain_end(
     if let Some(segment) = file.segment_loaded_apart() {
         say_load_address(notes, file, &segment)?;
     }
-    match source.run(steps)? {
+    match source.run(steps.min(FOLLOWED_STEPS))? {
         Outcome::Trapped { pc } => say_trapped(notes, file, pc),
-        Outcome::GoesOn => say_still_running(notes, file, steps, source.at()),
-        Outcome::Exited(_) | Outcome::AddressFault { .. } => Ok(()),
+        Outcome::GoesOn if steps <= FOLLOWED_STEPS => {
+            say_still_running(notes, file, steps, source.at())
+        }
+        Outcome::GoesOn | Outcome::Exited(_) | Outcome::AddressFault { .. } => Ok(()),
     }
 }
 
