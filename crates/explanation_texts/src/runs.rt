@@ -168,7 +168,7 @@ fn say_cure(
         return notes.say_first("the file has no relocations: link with -Wl,--emit-relocs");
     }
     if involved.object.is_empty() {
-        return notes.say_first(text_at(&CURES, fault.why));
+        return notes.say_first(cure_text(fault, involved));
     }
     notes.say(&[
         Piece::Text("first: "),
@@ -177,6 +177,14 @@ fn say_cure(
         Piece::Bare(involved.object),
         Piece::Text("\"] in the board"),
     ])
+}
+
+/// What to do where no object is known.
+fn cure_text(fault: &AddressFault, involved: &Involved) -> &'static str {
+    if fault.why == NO_DATA && involved.bytes.is_empty() {
+        return "let the start code set the stack pointer (sp), and list device registers in `areas` of the board";
+    }
+    text_at(&CURES, fault.why)
 }
 
 /// What else than to keep the object, with the word that follows.
