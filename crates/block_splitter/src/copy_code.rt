@@ -1,5 +1,5 @@
 /// The copy of a piece.
-#[derive(Debug, Drop)]
+#[derive(Drop)]
 pub struct CopyCode {
     /// Its words.
     pub words: Vec<u32>,

@@ -1,5 +1,5 @@
 /// Blocks that may be copied into the scratchpad together.
-#[derive(Debug, Drop)]
+#[derive(Drop)]
 pub struct Piece {
     /// The numbers of the first and of the last block.
     pub first: u32,

@@ -2,7 +2,7 @@ use std::alloc::AllocError;
 use thiserror::Error;
 
 /// A range of addresses.
-#[derive(Clone, Copy, Debug)]
+#[derive(Clone, Copy)]
 pub struct Range {
     /// The first address.
     pub base: u32,
@@ -11,7 +11,7 @@ pub struct Range {
 }
 
 /// What each access costs, in units of energy.
-#[derive(Clone, Copy, Debug)]
+#[derive(Clone, Copy)]
 pub struct Prices {
     /// A fetch from the main memory.
     pub main_fetch: u32,
@@ -29,7 +29,7 @@ pub struct Prices {
 
 /// What a board file says: the memory of a board and its prices, what of a program may move, the regions,
 /// and bounds on the work.
-#[derive(Debug, Drop)]
+#[derive(Drop)]
 pub struct Board {
     /// The main memory.
     pub main: Range,

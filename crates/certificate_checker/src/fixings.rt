@@ -9,7 +9,7 @@ use placement_programme::Side;
 use std::alloc::{AllocError, Global};
 
 /// How a node of the search fixes a variable.
-#[derive(Clone, Copy, Debug, PartialEq, Eq)]
+#[derive(Clone, Copy, PartialEq, Eq)]
 pub enum Fixing {
     /// It isn't taken.
     Zero,

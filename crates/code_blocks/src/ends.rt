@@ -1,5 +1,5 @@
 /// How a basic block ends. Addresses are those of the words that run next.
-#[derive(Clone, Copy, Debug)]
+#[derive(Clone, Copy)]
 pub enum End {
     /// The next block begins behind it.
     Fall { next: u32 },

@@ -2,7 +2,7 @@ use crate::ends::End;
 use rv_decode::Instr;
 
 /// What one step runs: an instruction, a call of two instructions, or a word that means none.
-#[derive(Clone, Copy, Debug)]
+#[derive(Clone, Copy)]
 pub struct Unit {
     /// The address of its first word.
     pub at: u32,
@@ -30,7 +30,7 @@ impl Unit {
 }
 
 /// A basic block: units that run one behind the other, entered at the first alone.
-#[derive(Debug, Drop)]
+#[derive(Drop)]
 pub struct Block {
     /// The address of its first unit.
     pub start: u32,
@@ -43,7 +43,7 @@ pub struct Block {
 }
 
 /// A function, which shares no byte with another.
-#[derive(Clone, Copy, Debug)]
+#[derive(Clone, Copy)]
 pub struct Function {
     /// The number of its symbol.
     pub name: u32,
@@ -54,7 +54,7 @@ pub struct Function {
 }
 
 /// The code of a program.
-#[derive(Debug, Drop)]
+#[derive(Drop)]
 pub struct Code {
     /// The functions, by start.
     pub functions: Vec<Function>,

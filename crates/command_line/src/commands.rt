@@ -4,7 +4,7 @@ ghost use Rattle.command_line.specs.Command.{texts, IsName, IsNameWord, AreNames
 use std::alloc::{AllocError, Global};
 
 /// A command, with its names and numbers (docs/COMMAND_LINE.md).
-#[derive(Clone, Copy, Debug)]
+#[derive(Clone, Copy)]
 pub enum Command<'a> {
     Run {
         file: &'a str,
@@ -56,7 +56,7 @@ pub enum Command<'a> {
 }
 
 /// A name of a command, and the place of its word among the words, from 0.
-#[derive(Debug, Drop)]
+#[derive(Drop)]
 pub struct NamedWord<'a> {
     pub place: u32,
     pub name: &'a str,

@@ -23,7 +23,7 @@ use relink_core::Analysis;
 use std::alloc::{AllocError, Global};
 
 /// What a program and its result are beside each other.
-#[derive(Clone, Copy, Debug, PartialEq, Eq)]
+#[derive(Clone, Copy, PartialEq, Eq)]
 pub enum Comparison {
     /// The result wrote the bytes of the program and ended as it did: both exited with one code, or both
     /// trapped. Or the program goes on, and its bytes are the first of the result's. The outcome is the

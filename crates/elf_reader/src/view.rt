@@ -1,5 +1,5 @@
 /// What an ELF file says, borrowed from its bytes.
-#[derive(Debug, Drop)]
+#[derive(Drop)]
 pub struct ElfView<'a> {
     /// The whole file.
     pub bytes: &'a [u8],
@@ -39,7 +39,7 @@ pub struct Segment<'a> {
 }
 
 /// A section (ELF, "Sections").
-#[derive(Debug, Drop)]
+#[derive(Drop)]
 pub struct Section<'a> {
     /// Its name, without the zero byte that ends it.
     pub name: &'a [u8],
@@ -79,7 +79,7 @@ pub struct Symbol<'a> {
 }
 
 /// A relocation (ELF, "Relocation"; RISC-V psABI, "Relocations").
-#[derive(Clone, Copy, Debug)]
+#[derive(Clone, Copy)]
 pub struct Reloc {
     /// The address of the first byte that it changes (`r_offset`).
     pub at: u32,

@@ -1,5 +1,5 @@
 /// What the blocks of a program ran, counted once for all pieces.
-#[derive(Debug, Drop)]
+#[derive(Drop)]
 pub struct BlockCounts {
     /// The words of each block at home, as often as they ran.
     pub home: Vec<u128>,
@@ -12,7 +12,7 @@ pub struct BlockCounts {
 }
 
 /// What a piece ran.
-#[derive(Clone, Copy, Debug)]
+#[derive(Clone, Copy)]
 pub struct PieceCounts {
     /// Its words at home.
     pub home: u128,

@@ -1,5 +1,5 @@
 /// Bytes at addresses that follow one another.
-#[derive(Debug, Drop)]
+#[derive(Drop)]
 pub struct HexRun {
     /// The address of the first byte.
     pub at: u32,
@@ -8,7 +8,7 @@ pub struct HexRun {
 }
 
 /// What a text spells.
-#[derive(Debug, Drop)]
+#[derive(Drop)]
 pub struct HexImage {
     /// The address at which execution begins, where a type 05 record gives one.
     pub entry: Option<u32>,

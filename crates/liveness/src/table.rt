@@ -5,7 +5,7 @@ use crate::registers::{has, joined, lowest_clear};
 use rv_decode::RegSet;
 
 /// The registers that are live where each block of a program begins.
-#[derive(Debug, Drop)]
+#[derive(Drop)]
 pub struct LiveTable {
     /// Where the blocks begin, ascending.
     pub(crate) leaders: Vec<u32>,

@@ -1,7 +1,7 @@
 use board_config::Range;
 
 /// An object that may move.
-#[derive(Clone, Copy, Debug)]
+#[derive(Clone, Copy)]
 pub struct Object {
     /// The number of the first symbol of its range.
     pub name: u32,
@@ -14,7 +14,7 @@ pub struct Object {
 }
 
 /// Which part of an address an instruction makes.
-#[derive(Clone, Copy, Debug)]
+#[derive(Clone, Copy)]
 pub enum SiteKind {
     /// The upper part, in a LUI or an AUIPC.
     Hi,
@@ -25,7 +25,7 @@ pub enum SiteKind {
 }
 
 /// An instruction that makes a part of an address in an object that may move, or at its end.
-#[derive(Clone, Copy, Debug)]
+#[derive(Clone, Copy)]
 pub struct Site {
     /// The address of the instruction.
     pub at: u32,
@@ -38,7 +38,7 @@ pub struct Site {
 }
 
 /// A word of data that holds an address in an object that may move, or at its end.
-#[derive(Clone, Copy, Debug)]
+#[derive(Clone, Copy)]
 pub struct DataWord {
     /// The address of the word, which needn't be a multiple of 4.
     pub at: u32,
@@ -49,7 +49,7 @@ pub struct DataWord {
 }
 
 /// What a file and a board say of the objects that may move.
-#[derive(Debug, Drop)]
+#[derive(Drop)]
 pub struct Graph {
     /// The grain of the board: how many bytes objects keep their places modulo.
     pub grain: u32,

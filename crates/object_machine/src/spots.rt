@@ -1,5 +1,5 @@
 /// Where an access goes, or why it can't.
-#[derive(Clone, Copy, Debug)]
+#[derive(Clone, Copy)]
 pub(crate) enum Spot {
     /// Fixed memory from this address on.
     Fixed(u32),

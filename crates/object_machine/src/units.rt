@@ -6,7 +6,7 @@ use object_graph::Site;
 use rv_decode::Instr;
 
 /// A call of two instructions, an AUIPC and a JALR, which one step runs.
-#[derive(Clone, Copy, Debug)]
+#[derive(Clone, Copy)]
 pub(crate) struct Pair {
     /// Where it goes.
     pub(crate) target: u32,
@@ -17,7 +17,7 @@ pub(crate) struct Pair {
 }
 
 /// A unit of a block with all that a step asks of it.
-#[derive(Clone, Copy, Debug)]
+#[derive(Clone, Copy)]
 pub(crate) struct Prepared {
     /// The address of its first word.
     pub(crate) at: u32,

@@ -1,5 +1,5 @@
 /// Copies `bytes` bytes from one address to another.
-#[derive(Clone, Copy, Debug, PartialEq, Eq)]
+#[derive(Clone, Copy, PartialEq, Eq)]
 pub struct CopyJob {
     pub from: u32,
     pub to: u32,
@@ -7,7 +7,7 @@ pub struct CopyJob {
 }
 
 /// What a stub does: goes to the copy of an entry, or runs the words that its home was taken from.
-#[derive(Debug, Drop)]
+#[derive(Drop)]
 pub enum Body {
     Jump { to: u32 },
     Words(Vec<u32>),
@@ -15,7 +15,7 @@ pub enum Body {
 
 /// A stub that serves the entry at `home`, with a register that is dead there. Region 0 is that of
 /// a plain stub; any other is checked, and switched to.
-#[derive(Debug, Drop)]
+#[derive(Drop)]
 pub struct Stub {
     pub home: u32,
     pub temp: u8,
@@ -25,7 +25,7 @@ pub struct Stub {
 
 /// What the patch range is to hold, from the address `base` on: the jobs of the start stub, the
 /// stubs, for each region the jobs that leave and enter it, and the images of copied code.
-#[derive(Debug, Drop)]
+#[derive(Drop)]
 pub struct StubPlan {
     pub base: u32,
     pub entry: u32,
@@ -40,7 +40,7 @@ pub struct StubPlan {
 
 /// The words of the patch range, which begin with sixteen control words, and the addresses of the
 /// start stub, of each stub in the plan's order, and of each image.
-#[derive(Debug, Drop)]
+#[derive(Drop)]
 pub struct StubCode {
     pub words: Vec<u32>,
     pub start: u32,

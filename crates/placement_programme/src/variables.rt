@@ -1,7 +1,7 @@
 /// What a variable stands for.
 ///
 /// Objects are numbered by home, blocks by address, regions from 1.
-#[derive(Clone, Copy, PartialEq, Eq, Debug)]
+#[derive(Clone, Copy, PartialEq, Eq)]
 pub enum VarName {
     /// An object that stands in the scratchpad throughout.
     StaticData { object: u32 },

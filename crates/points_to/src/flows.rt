@@ -10,7 +10,7 @@ use object_graph::Site;
 
 /// A set of places: place `k` is in it where bit `k` of `bits` is 1. Places 1 to 31 are registers; place 0 is
 /// memory, since x0 holds no address.
-#[derive(Clone, Copy, Debug, PartialEq, Eq)]
+#[derive(Clone, Copy, PartialEq, Eq)]
 pub(crate) struct Places {
     pub(crate) bits: u32,
 }

@@ -6,7 +6,7 @@ use crate::nodes::Nodes;
 use std::alloc::{AllocError, Global};
 
 /// Which marks reached the registers at the beginning of blocks, and memory.
-#[derive(Debug, Drop)]
+#[derive(Drop)]
 pub struct Reached {
     /// The nodes of these registers that some mark reached, ascending.
     pub(crate) nodes: Vec<u32>,

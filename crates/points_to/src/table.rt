@@ -4,7 +4,7 @@ ghost use Rattle.std.specs.List.Sorted.{IsStrictlyIncreasing};
 use crate::reached::Reached;
 
 /// Which registers may hold addresses of each object where the blocks of a program begin, and which objects escape.
-#[derive(Debug, Drop)]
+#[derive(Drop)]
 pub struct PointsTable {
     /// Where the blocks begin, ascending.
     pub(crate) leaders: Vec<u32>,

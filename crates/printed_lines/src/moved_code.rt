@@ -5,7 +5,7 @@ use crate::parts::{address_text, push_named};
 use std::alloc::{AllocError, Global};
 
 /// A piece of code that was copied.
-#[derive(Clone, Copy, Debug, PartialEq, Eq)]
+#[derive(Clone, Copy, PartialEq, Eq)]
 pub struct MovedCode {
     /// The address of its copy.
     pub place: u32,

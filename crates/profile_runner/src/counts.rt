@@ -1,7 +1,7 @@
 use object_machine::Outcome;
 
 /// Control went from one block to another.
-#[derive(Clone, Copy, Debug, PartialEq, Eq)]
+#[derive(Clone, Copy, PartialEq, Eq)]
 pub struct Edge {
     /// The number of the block that it left.
     pub from: u32,
@@ -13,7 +13,7 @@ pub struct Edge {
 
 /// What happened in a run, counted. Blocks and objects have the numbers of the code and of the graph; region 0
 /// is none.
-#[derive(Debug, Drop)]
+#[derive(Drop)]
 pub struct Profile {
     /// How many steps the machine took.
     pub steps: u64,

@@ -5,7 +5,7 @@ use code_blocks::Code;
 use std::alloc::{AllocError, Global};
 
 /// Which region each block of a program has. Region 0 is none.
-#[derive(Debug, Drop)]
+#[derive(Drop)]
 pub struct RegionTable {
     /// How many regions there are, at most 8: they have the numbers from 1 on.
     pub count: u32,

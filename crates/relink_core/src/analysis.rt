@@ -42,7 +42,7 @@ const LEAST_PATCH: u32 = 84;
 const FENCE_I_SIZE: u32 = 4;
 
 /// What a program and a board say of what may move.
-#[derive(Debug, Drop)]
+#[derive(Drop)]
 pub struct Analysis<'a> {
     /// The file.
     pub view: ElfView<'a>,

@@ -10,7 +10,7 @@ use placement_programme::{Choice, Programme, Var, VarName, weight_of};
 use std::alloc::{AllocError, Global};
 
 /// A taken variable.
-#[derive(Clone, Copy, PartialEq, Eq, Debug)]
+#[derive(Clone, Copy, PartialEq, Eq)]
 pub struct Item {
     /// What it stands for.
     pub name: VarName,

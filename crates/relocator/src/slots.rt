@@ -8,7 +8,7 @@ use placement_programme::VarName;
 use std::alloc::{AllocError, Global};
 
 /// Where a taken variable stands in the scratchpad.
-#[derive(Clone, Copy, PartialEq, Eq, Debug)]
+#[derive(Clone, Copy, PartialEq, Eq)]
 pub struct Slot {
     /// What it stands for.
     pub name: VarName,

@@ -141,7 +141,7 @@ pub enum RegKind {
 }
 
 /// A set of registers: register `k` is in it where bit `k` of `bits` is 1.
-#[derive(Clone, Copy, Debug)]
+#[derive(Clone, Copy)]
 pub struct RegSet {
     pub bits: u32,
 }

@@ -1,7 +1,7 @@
 use rv_decode::Instr;
 
 /// The instructions of the copy jobs of a region: those that leave it and enter it, and the same for what its twin keeps.
-#[derive(Debug, Drop)]
+#[derive(Drop)]
 pub struct RegionCode {
     pub leave: Vec<Instr>,
     pub enter: Vec<Instr>,
@@ -11,7 +11,7 @@ pub struct RegionCode {
 
 /// What a switch routine is made of: the address of the control words, whether a FENCE.I stands behind the jobs, whether
 /// regions 1 and 2, 3 and 4, and so on are twins, and the jobs of each region from 1 on.
-#[derive(Debug, Drop)]
+#[derive(Drop)]
 pub struct RoutinePlan {
     pub base: u32,
     pub fence_i: bool,

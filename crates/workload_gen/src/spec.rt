@@ -1,7 +1,7 @@
 use elf_reader::Reloc;
 
 /// What a file to be built holds.
-#[derive(Debug, Drop)]
+#[derive(Drop)]
 pub struct FileSpec {
     /// The address at which execution begins.
     pub entry: u32,
@@ -12,7 +12,7 @@ pub struct FileSpec {
 }
 
 /// A section of a file to be built.
-#[derive(Debug, Drop)]
+#[derive(Drop)]
 pub struct SectionSpec {
     /// Its name.
     pub name: String,
@@ -29,7 +29,7 @@ pub struct SectionSpec {
 }
 
 /// A symbol of a file to be built.
-#[derive(Debug, Drop)]
+#[derive(Drop)]
 pub struct SymbolSpec {
     /// Its name.
     pub name: String,
