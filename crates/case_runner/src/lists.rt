@@ -46,6 +46,8 @@ pub struct Call {
     pub status: u8,
     /// What is printed. Where this is missing, it is not looked at.
     pub prints: Option<String>,
+    /// Whether `clap` takes the words too. Where this is missing, it is not asked.
+    pub clap: Option<bool>,
 }
 
 /// The bytes of a file.

@@ -14,6 +14,7 @@
 //! list or a file that it names can't be read.
 #![tactic(auto)]
 
+mod clap_words;
 mod contents;
 mod lists;
 mod outside;

@@ -1,9 +1,10 @@
 //! One case: its calls, and the first difference to what must come out.
 
+use crate::clap_words::clap_takes;
 use crate::contents::{bytes_of, has_parts};
 use crate::lists::{Call, Case, Content, List, Wanted};
 use crate::outside::Outside;
-use anyhow::Result;
+use anyhow::{Result, bail};
 use std::alloc::{AllocError, Global};
 use std::collections::BTreeMap;
 use std::rt::Files;
@@ -52,6 +53,9 @@ fn called_difference(
         if let Some(difference) = call_difference(alloc, call, status, outside.printed())? {
             return Ok(Some(difference));
         }
+        if let Some(difference) = clap_difference(alloc, call)? {
+            return Ok(Some(difference));
+        }
     }
     Ok(None)
 }
@@ -77,6 +81,21 @@ fn call_difference(
         return Ok(Some(format!(in alloc; "`{words}` status, expected {wanted}, got {status}")?));
     }
     Ok(None)
+}
+
+/// The difference of what `clap` says of a call's words to what it must.
+fn clap_difference(alloc: Global, call: &Call) -> Result<Option<String>> {
+    let Some(wanted) = call.clap else {
+        return Ok(None);
+    };
+    let Ok(taken) = clap_takes(alloc, &call.words) else {
+        bail!("clap has no memory");
+    };
+    if taken == wanted {
+        return Ok(None);
+    }
+    let words = &call.words;
+    Ok(Some(format!(in alloc; "`{words}` clap, expected {wanted}, got {taken}")?))
 }
 
 /// The first name under which what must stand there after the calls does not. A name that only the words of a call have may
