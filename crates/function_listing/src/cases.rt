@@ -2,7 +2,7 @@ use anyhow::{Context, Result, bail};
 use elf_reader::Reloc;
 use elf_writer::push_words;
 use std::alloc::Global;
-use text_lines::{number, numbers};
+use text_lines::{number, numbers, print_number, print_number_line, print_value_line};
 use workload_gen::{FileSpec, SectionSpec, SymbolSpec, build};
 
 /// A file to be built, the bytes behind it, and the input of its runs.
@@ -92,9 +92,11 @@ impl Case {
         let range = file
             .get(from as usize..to as usize)
             .context("the file has no such bytes")?;
-        println!(rt; "built: {} bytes, and from {from} to {to}", file.len())?;
+        print_number(rt, "built: ", file.len() as u64)?;
+        print_number(rt, " bytes, and from ", u64::from(from))?;
+        print_number_line(rt, " to ", u64::from(to))?;
         for line in range.chunks(16) {
-            println!(rt; "  {line:?}")?;
+            print_value_line(rt, "  ", &line)?;
         }
         Ok(())
     }

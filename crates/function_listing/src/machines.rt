@@ -10,7 +10,8 @@ use object_graph::graph;
 use object_machine::Source;
 use paged_store::PageStore;
 use std::alloc::Global;
-use text_lines::number;
+use std::fmt::Debug;
+use text_lines::{number, print_number, print_value, print_value_line};
 
 /// Runs a file on the flat machine: `step` tells the event of one step, and a number the outcome after as many steps, and
 /// the pc; then what was written is told.
@@ -22,14 +23,21 @@ pub(crate) fn tell_flat(rt: &(impl Print + AllocGlobal), case: &Case, text: &str
     let mut machine = Flat::new(rt.alloc(), &view, &board, &case.input, store)?;
     for word in text.split_whitespace() {
         if word == "step" {
-            println!(rt; "  {:?}", machine.step()?)?;
+            print_value_line(rt, "  ", &machine.step()?)?;
         } else {
             let steps = number(word)?;
             let outcome = machine.run(u64::from(steps))?;
-            println!(rt; "  {steps}: {outcome:?}, at {:#x}", machine.at())?;
+            tell_end(rt, steps, &outcome, machine.at())?;
         }
     }
-    println!(rt; "  wrote {:?}", machine.output())?;
+    print_value_line(rt, "  wrote ", &machine.output())
+}
+
+/// How a run of at most `steps` steps ended, and the pc.
+fn tell_end(rt: &impl Print, steps: u32, outcome: &impl Debug, at: u32) -> Result<()> {
+    print_number(rt, "  ", u64::from(steps))?;
+    print_value(rt, ": ", outcome)?;
+    println!(rt; ", at {at:#x}")?;
     Ok(())
 }
 
@@ -51,13 +59,13 @@ pub(crate) fn tell_object(rt: &(impl Print + AllocGlobal), case: &Case, text: &s
     for word in text.split_whitespace() {
         if word == "step" {
             let footprint = machine.footprint();
-            println!(rt; "  {footprint:?}, {:?}", machine.step()?)?;
+            print_value(rt, "  ", &footprint)?;
+            print_value_line(rt, ", ", &machine.step()?)?;
         } else {
             let steps = number(word)?;
             let outcome = machine.run(u64::from(steps))?;
-            println!(rt; "  {steps}: {outcome:?}, at {:#x}", machine.at())?;
+            tell_end(rt, steps, &outcome, machine.at())?;
         }
     }
-    println!(rt; "  wrote {:?}", machine.output())?;
-    Ok(())
+    print_value_line(rt, "  wrote ", &machine.output())
 }

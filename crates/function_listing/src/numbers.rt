@@ -1,7 +1,10 @@
+ghost use Rattle.std.specs.Prelude.{◌+◌, ◌^◌, ◌<◌};
+ghost use Rattle.list_checks.specs.Sorted.{IsSorted};
+
 use anyhow::{Context, Result};
 use list_checks::{arrange, arrange_once, count_under, has, has_inside, place_of, repeats};
 use std::alloc::Global;
-use text_lines::number;
+use text_lines::{number, print_line, print_number, print_value, print_value_line};
 
 fn numbers(alloc: Global, text: &str) -> Result<Vec<u64>> {
     let mut numbers = Vec::new(alloc);
@@ -19,12 +22,23 @@ pub(crate) fn tell_sorted(rt: &(impl Print + AllocGlobal), text: &str) -> Result
     let (from, size) = (u64::from(number(from)?), u64::from(number(size)?));
     let mut sorted = numbers(rt.alloc(), all)?;
     arrange(&mut sorted);
-    let (under, found) = (count_under(&sorted, from), has(&sorted, from));
-    let (inside, again) = (has_inside(&sorted, from, size), repeats(&sorted, from));
-    println!(rt;
-        "{from} in {sorted:?}: {under} under, {found}, {inside} within {size}, {again} again"
-    )?;
+    tell_searches(rt, &sorted, from, size)?;
     arrange_once(&mut sorted);
-    println!(rt; "  {sorted:?}: {:?}", place_of(&sorted, from))?;
-    Ok(())
+    print_value(rt, "  ", &sorted)?;
+    print_value_line(rt, ": ", &place_of(&sorted, from))
+}
+
+/// What searches find in sorted numbers.
+fn tell_searches(rt: &impl Print, sorted: &[u64], from: u64, size: u64) -> Result<()>
+    requires sorted { IsSorted sorted.now }
+    requires fits { from + size < 2 ^ 64 }
+{
+    print_number(rt, "", from)?;
+    print_value(rt, " in ", &sorted)?;
+    print_number(rt, ": ", count_under(sorted, from) as u64)?;
+    print_value(rt, " under, ", &has(sorted, from))?;
+    print_value(rt, ", ", &has_inside(sorted, from, size))?;
+    print_number(rt, " within ", size)?;
+    print_value(rt, ", ", &repeats(sorted, from))?;
+    print_line(rt, " again")
 }

@@ -6,7 +6,8 @@ use cell_values::{Val, compare, join, low_site, op_imm, op_reg, split};
 use object_graph::{Graph, Object};
 use rv_decode::{BranchKind, ImmKind, Instr, RegKind, decode};
 use std::alloc::{AllocError, Global};
-use text_lines::number;
+use std::fmt::Debug;
+use text_lines::{number, print_number, print_value, print_value_line};
 
 /// The graph of two objects. Object 0 has 40 bytes from 0x11038, which is 8 modulo 16 and 56 modulo 64; object 1 has
 /// 64 bytes from 0x11064, which is 4 modulo 16 and 36 modulo 64.
@@ -114,6 +115,13 @@ pub(crate) fn tell_operation(rt: &(impl Print + AllocGlobal), text: &str) -> Res
     }
 }
 
+/// The grain, the operation and the first value.
+fn tell_asked(rt: &impl Print, grain: u32, kind: &impl Debug, a: &Val) -> Result<()> {
+    print_number(rt, "", u64::from(grain))?;
+    print_value(rt, " ", kind)?;
+    print_value(rt, " ", a)
+}
+
 fn tell_registers(rt: &impl Print, kind: RegKind, asked: &Operation, graph: &Graph) -> Result<()>
     requires grain { IsGrain graph.now.grain }
     requires a { IsOfGraph graph.now asked.now.a }
@@ -121,8 +129,9 @@ fn tell_registers(rt: &impl Print, kind: RegKind, asked: &Operation, graph: &Gra
 {
     let Operation { grain, a, b, .. } = asked;
     let made = op_reg(kind, a, b, graph);
-    println!(rt; "{grain} {kind:?} {a:?} {b:?}: {made:?}")?;
-    Ok(())
+    tell_asked(rt, *grain, &kind, a)?;
+    print_value(rt, " ", b)?;
+    print_value_line(rt, ": ", &made)
 }
 
 fn tell_immediate(
@@ -137,8 +146,9 @@ fn tell_immediate(
 {
     let Operation { grain, a, .. } = asked;
     let made = op_imm(kind, a, imm, graph);
-    println!(rt; "{grain} {kind:?} {a:?} {imm}: {made:?}")?;
-    Ok(())
+    tell_asked(rt, *grain, &kind, a)?;
+    print_value(rt, " ", &imm)?;
+    print_value_line(rt, ": ", &made)
 }
 
 fn tell_branch(rt: &impl Print, kind: BranchKind, asked: &Operation, graph: &Graph) -> Result<()>
@@ -147,8 +157,9 @@ fn tell_branch(rt: &impl Print, kind: BranchKind, asked: &Operation, graph: &Gra
 {
     let Operation { grain, a, b, .. } = asked;
     let taken = compare(kind, a, b, graph);
-    println!(rt; "{grain} {kind:?} {a:?} {b:?}: {taken:?}")?;
-    Ok(())
+    tell_asked(rt, *grain, &kind, a)?;
+    print_value(rt, " ", b)?;
+    print_value_line(rt, ": ", &taken)
 }
 
 /// `GRAIN VALUE OBJECT OFFSET`: the address that a low part of an address of the object makes of the value.
@@ -162,11 +173,11 @@ pub(crate) fn tell_address(rt: &(impl Print + AllocGlobal), text: &str) -> Resul
     if !is_of_graph(&a, &graph) || obj as usize >= graph.objects.len() {
         bail!("a value of no object");
     }
-    println!(rt;
-        "{grain} {a:?} {obj} {off}: {:?}",
-        low_site(&a, obj, off, &graph)
-    )?;
-    Ok(())
+    print_number(rt, "", u64::from(grain))?;
+    print_value(rt, " ", &a)?;
+    print_number(rt, " ", u64::from(obj))?;
+    print_number(rt, " ", u64::from(off))?;
+    print_value_line(rt, ": ", &low_site(&a, obj, off, &graph))
 }
 
 /// The cells that a value fills in memory, what they are as a word, and what they are with the first two exchanged.
@@ -175,7 +186,8 @@ pub(crate) fn tell_cells(rt: &impl Print, text: &str) -> Result<()> {
     let cells = split(&v);
     let [first, second, third, fourth] = cells;
     let other = join([second, first, third, fourth]);
-    println!(rt; "{v:?}: {cells:?}")?;
-    println!(rt; "  {:?}, {other:?}", join(cells))?;
-    Ok(())
+    print_value(rt, "", &v)?;
+    print_value_line(rt, ": ", &cells)?;
+    print_value(rt, "  ", &join(cells))?;
+    print_value_line(rt, ", ", &other)
 }

@@ -11,7 +11,7 @@ use elf_reader::{ElfView, Section, Segment, read};
 use elf_writer::{Patch, SegmentBytes, SymbolMove, write};
 use loaded_file::LoadedFile;
 use std::alloc::Global;
-use text_lines::numbers;
+use text_lines::{end_line, numbers, print_line, print_number, print_text, print_value_line};
 
 /// The most bytes of a new segment that these tests let pass.
 const SEGMENT_LIMIT: usize = 0x1000_0000;
@@ -183,10 +183,10 @@ fn tell_parts(rt: &(impl Print + AllocGlobal), bytes: &[u8]) -> Result<()> {
         view.entry, view.ph_count, view.ph_at
     )?;
     for segment in &view.segments {
-        println!(rt; "  {segment:?}")?;
+        print_value_line(rt, "  ", segment)?;
     }
     for symbol in &view.symbols {
-        println!(rt; "  {symbol:?}")?;
+        print_value_line(rt, "  ", symbol)?;
     }
     Ok(())
 }
@@ -194,13 +194,17 @@ fn tell_parts(rt: &(impl Print + AllocGlobal), bytes: &[u8]) -> Result<()> {
 /// Tells what the writer makes of a file with a change.
 pub(crate) fn tell_written(rt: &(impl Print + AllocGlobal), case: &Case, text: &str) -> Result<()> {
     let file = case.built(rt.alloc())?;
+    print_text(rt, "write ")?;
+    print_text(rt, text)?;
     match changed(rt.alloc(), &file, &read_change(rt.alloc(), text)?)? {
         Some(out) => {
-            println!(rt; "write {text}: {} bytes become {}", file.len(), out.len())?;
+            print_number(rt, ": ", file.len() as u64)?;
+            print_number(rt, " bytes become ", out.len() as u64)?;
+            end_line(rt)?;
             tell_changes(rt, &file, &out)?;
             tell_parts(rt, &out)?;
         }
-        None => println!(rt; "write {text}: is not to be written")?,
+        None => print_line(rt, ": is not to be written")?,
     }
     Ok(())
 }

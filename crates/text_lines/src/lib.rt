@@ -8,7 +8,7 @@ use anyhow::{Context, Result};
 use num_traits::Num;
 pub use printing::{
     end_line, print_address, print_addresses, print_line, print_number, print_number_line,
-    print_numbers, print_text, print_word, print_words,
+    print_numbers, print_text, print_value, print_value_line, print_word, print_words,
 };
 use std::alloc::Global;
 use std::rt::{Env, Files};

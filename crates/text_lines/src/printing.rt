@@ -1,5 +1,6 @@
 //! The parts of a line that is printed. To print by a call is cheaper to prove than to print by a format.
 use anyhow::Result;
+use std::fmt::Debug;
 
 /// Prints a text.
 pub fn print_text(rt: &impl Print, text: &str) -> Result<()> {
@@ -25,6 +26,18 @@ pub fn print_number(rt: &impl Print, before: &str, number: u64) -> Result<()> {
 /// Prints a line of a text and a number.
 pub fn print_number_line(rt: &impl Print, before: &str, number: u64) -> Result<()> {
     print_number(rt, before, number)?;
+    end_line(rt)
+}
+
+/// Prints a text and behind it a value as its `Debug` writes it.
+pub fn print_value(rt: &impl Print, before: &str, value: &impl Debug) -> Result<()> {
+    print!(rt; "{before}{value:?}")?;
+    Ok(())
+}
+
+/// Prints a line of a text and a value.
+pub fn print_value_line(rt: &impl Print, before: &str, value: &impl Debug) -> Result<()> {
+    print_value(rt, before, value)?;
     end_line(rt)
 }
 
