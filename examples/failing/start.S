@@ -1,4 +1,4 @@
-# Start code with what other start codes do, each behind a name:
+# Start code with what other start codes do, each behind a name, in front of ../crt0.S:
 # SET_TRAPS sets the trap handler, CLEAR_ZEROS clears .bss, COPY_DATA copies .data from its load address, SET_GP sets gp.
     .section .text.start, "ax", @progbits
     .globl _start
@@ -14,8 +14,6 @@ _start:
 #ifdef SET_TRAPS
     .word 0x30501073            # csrrw zero, mtvec, zero, which no assembler takes for rv32im
 #endif
-    lui  sp, %hi(__stack_top)
-    addi sp, sp, %lo(__stack_top)
 #ifdef CLEAR_ZEROS
     lui  a0, %hi(__bss_start)
     addi a0, a0, %lo(__bss_start)
@@ -41,7 +39,8 @@ _start:
     j    1b
 2:
 #endif
-    call main
-    li   a7, 93
-    ecall
+    j    usual_start
     .size _start, . - _start
+
+#define _start usual_start
+#include "../crt0.S"

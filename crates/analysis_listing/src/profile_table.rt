@@ -7,7 +7,7 @@ use board_config::Board;
 use object_machine::Outcome;
 use profile_runner::{Edge, Profile};
 use relink_core::Analysis;
-use relinking::profile_of_run;
+use relinking::measured_run;
 use text_lines::{
     end_line, print_address, print_number, print_number_line, print_numbers, print_text,
 };
@@ -20,8 +20,8 @@ pub(crate) fn print_profile(
 ) -> Result<()>
     requires { (file : List ℕ) × IsAnalysisOf file board.now analysis.now }
 {
-    match profile_of_run(rt.alloc(), analysis, board, b"") {
-        Ok(profile) => print_counts(rt, &profile),
+    match measured_run(rt.alloc(), analysis, board, b"") {
+        Ok(measured) => print_counts(rt, &measured.profile),
         Err(fault) => {
             println!(rt; "fault: {fault}")?;
             Ok(())

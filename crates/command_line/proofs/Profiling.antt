@@ -1,7 +1,7 @@
 -- A profile of the program of a file, and its address fault.
 use Rattle.std.proofs.Common.{◌≡◌, inl, inr, ℕ, List, length, Ok, Err, refl, sym, subst, ◌∙◌}
 use Rattle.std.proofs.lemmas.List.{length-map}
-use Rattle.elf_reader.specs.File.{PlainView, plain_view}
+use Rattle.elf_reader.specs.File.{PlainView, plain_view, view_in}
 use Rattle.board_config.specs.declared.board.Board.{Board}
 use Rattle.object_graph.specs.declared.parts.Graph.{Graph}
 use Rattle.code_blocks.specs.Blocks.{start_of}
@@ -20,6 +20,9 @@ use Rattle.command_line.specs.Analysed.{IsOpened}
 use Rattle.command_line.specs.declared.opening.Opened.{Opened}
 use Rattle.command_line.proofs.Analysing.{opened_view}
 use Rattle.relinking.specs.Runs.{RunsProgram}
+use Rattle.relinking.specs.MeasuredRuns.{EndsSo}
+use Rattle.relinking.specs.declared.measuring.MeasuredEnd.{MeasuredEnd}
+use Rattle.command_line.specs.Measured.{MeasuresTo}
 use Rattle.printed_lines.specs.Endings.{IsAddressFault}
 use Rattle.command_line.specs.ProgramRun.{RejectsProfiled, of_run}
 use Rattle.printed_lines.specs.ProfileLines.{profile_text}
@@ -94,3 +97,16 @@ profile_runs file board_text input text made =
       taken = transitions_steps (program_in file made.board made.found.graph) made.board.steps (source_start file made.board made.found.graph input) made.last made.transitions made.run;
       outcome_is = refl;
     }
+
+-- how a run of the program of a file that was opened ended
+pub ends_in_file : (file board_text input : List ℕ) (o : Opened) (end : MeasuredEnd) → IsOpened board_text file o
+    → EndsSo (view_in file) o.board o.analysis.graph input end → MeasuresTo file board_text input end
+ends_in_file file board_text input o end is ends =
+    record { board = o.board; accepts = is.accepts; graph = o.analysis.graph; is_graph = is.analysed.graph; ends = ends }
+
+-- the same of the program of its view
+pub measures_to : (file board_text input : List ℕ) (o : Opened) (end : MeasuredEnd) → IsOpened board_text file o
+    → EndsSo (plain_view o.analysis.view) o.board o.analysis.graph input end → MeasuresTo file board_text input end
+measures_to file board_text input o end is ends =
+    ends_in_file file board_text input o end is
+    (subst (λ (u : PlainView). EndsSo u o.board o.analysis.graph input end) (opened_view board_text file o is) ends)

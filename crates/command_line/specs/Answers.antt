@@ -5,11 +5,12 @@ use Rattle.shelf_io.specs.Counts.{Rose}
 use Rattle.command_line.specs.Command.{PlainCommand, IsCommand, Named, reads, writes}
 use Rattle.command_line.specs.FaultLine.{Parts, fault_line, status_of, parts_of}
 use Rattle.shelf_io.specs.Shelf.{ShelfView, LogsFailed}
+use Rattle.relinking.specs.declared.measuring.MeasuredEnd.{MeasuredEnd}
 use Rattle.shelf_io.specs.Sink.{SinkView, PutAll, PutSome}
 use Rattle.shelf_io.specs.declared.shelves.CallKind.TheVariants.{Read}
 use Rattle.command_line.specs.Delivery.{SetsAll, LosesOne, WantsInOne}
 use Rattle.command_line.specs.Meaning.{IsFirst}
-use Rattle.command_line.specs.Performing.{YieldsOf}
+use Rattle.command_line.specs.Performing.{YieldsOf, TellsEndOf}
 use Rattle.command_line.specs.Reading.{HoldsAll}
 use Rattle.command_line.specs.Diagnostic.{IsDiagnosticOf, PutsLine}
 use Rattle.command_line.specs.declared.diagnostic.Diagnostic.{Diagnostic}
@@ -34,6 +35,12 @@ pub record IsDone (words : List (List ℕ)) (old new : ShelfView) (sink sink' : 
   pub text : List ℕ
   pub delivers : Delivers words text old new
   pub printed : PutAll text sink sink'
+
+-- a command of these words tells so of the run that it measures
+pub record TellsRun (words : List (List ℕ)) (told : Option MeasuredEnd) (shelf : ShelfView) : Type 0 where
+  pub command : PlainCommand
+  pub is_command : IsCommand words command
+  pub of_shelf : TellsEndOf command told shelf
 
 -- a read of a name of the command failed in this call
 pub record ReadFails (words : List (List ℕ)) (place : ℕ) (old new : ShelfView) : Type 0 where

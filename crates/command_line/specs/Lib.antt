@@ -11,6 +11,7 @@ pub mod CompareFiles
 pub mod CheckFile
 pub mod ShowFile
 pub mod RelinkFile
+pub mod Measured
 pub mod Meaning
 pub mod Performing
 pub mod Answers

@@ -1,10 +1,12 @@
 -- How a command goes, from its names to its result.
-use Rattle.std.specs.Prelude.{◌≡◌, ◌⊎◌, ℕ, List}
+use Rattle.std.specs.Prelude.{◌≡◌, ◌⊎◌, ℕ, List, Option}
 use Rattle.shelf_io.specs.Shelf.{ShelfView}
+use Rattle.relinking.specs.declared.measuring.MeasuredEnd.{MeasuredEnd}
 use Rattle.shelf_io.specs.Sink.{SinkView, PutAll, PutSome}
 use Rattle.command_line.specs.Command.{PlainCommand, reads, writes}
 use Rattle.command_line.specs.Reading.{HoldsAll, RejectsReads}
 use Rattle.command_line.specs.Meaning.{Yields, RejectsInputs}
+use Rattle.command_line.specs.Measured.{TellsEnd}
 use Rattle.command_line.specs.Delivery.{ArePrepared, SetsAll, LosesOne, WantsInOne}
 use Rattle.command_line.specs.Diagnostic.{IsDiagnosticOf}
 use Rattle.command_line.specs.declared.delivery.PreparedResult.{PreparedResult}
@@ -18,6 +20,7 @@ pub record IsPreparedFor (command : PlainCommand) (inputs : List (List ℕ)) (pr
   pub yields : Yields command inputs outputs prepared.text.items
   pub prepared_outputs : ArePrepared (writes command) outputs prepared.outputs.items
   pub print_fault : IsDiagnosticOf (command_fault.Write 0) prepared.print_fault
+  pub measured : TellsEnd command inputs prepared.measured
 
 -- the result stands ready, and the shelf is as before
 pub record IsPrepared (command : PlainCommand) (prepared : PreparedResult) (old new : ShelfView) : Type 0 where
@@ -51,6 +54,12 @@ pub record Performs (command : PlainCommand) (old new : ShelfView) (sink sink' :
   pub of_shelf : YieldsOf command outputs text old
   pub set : SetsAll (writes command) outputs old new
   pub printed : PutAll text sink sink'
+
+-- what the command tells of the run that it measures, of what the shelf holds
+pub record TellsEndOf (command : PlainCommand) (told : Option MeasuredEnd) (shelf : ShelfView) : Type 0 where
+  pub inputs : List (List ℕ)
+  pub holds : HoldsAll shelf (reads command) inputs
+  pub tells : TellsEnd command inputs told
 
 -- why a command is rejected, and what that leaves
 pub data RejectsPerforming (command : PlainCommand) (old new : ShelfView) (sink mid : SinkView) (fault : CommandFault) : Type 0 where

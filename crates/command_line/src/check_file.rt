@@ -3,9 +3,11 @@ ghost use Rattle.placement_programme.specs.Plain.{PlainChoice};
 ghost use Rattle.placement_programme.specs.Programme.{IsFeasible, gain};
 ghost use Rattle.placement_programme.specs.Views.{plain_programme, plain_choice};
 ghost use Rattle.certificate_checker.specs.Views.{plain_verdict};
+ghost use Rattle.command_line.specs.Measured.{MeasuresTo};
 ghost use Rattle.command_line.specs.CheckFile.{ChecksTo, RejectsChecked, ReportsText, RejectsText, MayReport, ReportsAnswer, RejectsAnswer};
 
 use crate::faults::CommandFault;
+use crate::measured_text::MeasuredText;
 use crate::opening::open;
 use certificate_checker::{Room, Verdict, check_text};
 use placement_programme::{Choice, Programme};
@@ -25,14 +27,19 @@ pub fn check_file(
     board: &[u8],
     input: &[u8],
     cert: &[u8],
-) -> Result<Vec<u8>, CommandFault>
-    ensures ok { IfOk result (λ text. ChecksTo file.now board.now input.now cert.now text.items) }
+) -> Result<MeasuredText, CommandFault>
+    ensures ok { IfOk result (λ made. ChecksTo file.now board.now input.now cert.now made.text.items) }
+    ensures end { IfOk result (λ made. MeasuresTo file.now board.now input.now made.end) }
     ensures err { IfErr result (RejectsChecked board.now file.now input.now cert.now) }
 {
     let opened = open(alloc, file, board)?;
-    let programme = programme_of_run(alloc, &opened.analysis, &opened.board, input)?;
-    match checked(alloc, &programme, opened.board.nodes, cert) {
-        Ok(report) => Ok(report.into_bytes()),
+    let measured = programme_of_run(alloc, &opened.analysis, &opened.board, input)?;
+    match checked(alloc, &measured.programme, opened.board.nodes, cert) {
+        Ok(report) => {
+            let text = report.into_bytes();
+            let end = measured.end;
+            Ok(MeasuredText { text, end })
+        }
         Err(fault) => Err(fault),
     }
 }

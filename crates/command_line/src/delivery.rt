@@ -8,6 +8,7 @@ ghost use Rattle.shelf_io.specs.Shelf.{SetsName};
 use crate::diagnostic::Diagnostic;
 use crate::faults::CommandFault;
 use crate::printing::put_piece;
+use relinking::MeasuredEnd;
 use shelf_io::{Shelf, ShelfFault, Sink};
 use std::alloc::{AllocError, Global};
 
@@ -47,26 +48,34 @@ pub struct PreparedResult<'a> {
     /// What is printed. It may hold names as a file has them, which needn't be UTF-8.
     pub text: Vec<u8>,
     pub print_fault: Diagnostic,
+    /// How the run ended that the command measured, if it measured one.
+    pub measured: Option<MeasuredEnd>,
 }
 
 impl<'a> PreparedResult<'a> {
-    ghost use Rattle.std.specs.Prelude.{◌≡◌, ◌∷◌, [], IfOk};
+    ghost use Rattle.std.specs.Prelude.{◌≡◌, ◌∷◌, [], None, IfOk};
     ghost use Rattle.command_line.specs.Command.{named};
     ghost use Rattle.command_line.specs.Delivery.{ArePrepared};
     ghost use Rattle.command_line.specs.Diagnostic.{IsDiagnosticOf};
     ghost use Rattle.command_line.specs.declared.faults.CommandFault.TheVariants as command_fault;
 
     /// A result that is only printed.
-    pub fn printed(alloc: Global, text: Vec<u8>) -> Result<PreparedResult<'a>, AllocError>
+    pub fn printed(
+        alloc: Global,
+        text: Vec<u8>,
+        measured: Option<MeasuredEnd>,
+    ) -> Result<PreparedResult<'a>, AllocError>
         ensures outputs { IfOk result (λ prepared. ArePrepared [] [] prepared.outputs.items) }
         ensures text { IfOk result (λ prepared. prepared.text ≡ text) }
         ensures print_fault { IfOk result (λ prepared. IsDiagnosticOf (command_fault.Write 0) prepared.print_fault) }
+        ensures measured { IfOk result (λ prepared. prepared.measured ≡ measured) }
     {
         let print_fault = Diagnostic::try_new(alloc, &CommandFault::Write { place: 0 })?;
         Ok(PreparedResult {
             outputs: Vec::new(alloc),
             text,
             print_fault,
+            measured,
         })
     }
 
@@ -81,6 +90,7 @@ impl<'a> PreparedResult<'a> {
         ensures outputs { IfOk result (λ prepared. ArePrepared (named place name.now ∷ []) (bytes.items ∷ []) prepared.outputs.items) }
         ensures text { IfOk result (λ prepared. prepared.text ≡ text) }
         ensures print_fault { IfOk result (λ prepared. IsDiagnosticOf (command_fault.Write 0) prepared.print_fault) }
+        ensures measured { IfOk result (λ prepared. prepared.measured ≡ None) }
     {
         let output = Output::new(alloc, place, name, bytes)?;
         let print_fault = Diagnostic::try_new(alloc, &CommandFault::Write { place: 0 })?;
@@ -89,6 +99,7 @@ impl<'a> PreparedResult<'a> {
             outputs,
             text,
             print_fault,
+            measured: None,
         })
     }
 
@@ -98,10 +109,12 @@ impl<'a> PreparedResult<'a> {
         first: Output<'a>,
         second: Output<'a>,
         text: Vec<u8>,
+        measured: Option<MeasuredEnd>,
     ) -> Result<PreparedResult<'a>, AllocError>
         ensures outputs { IfOk result (λ prepared. prepared.outputs.items ≡ first.entry ∷ second.entry ∷ []) }
         ensures text { IfOk result (λ prepared. prepared.text ≡ text) }
         ensures print_fault { IfOk result (λ prepared. IsDiagnosticOf (command_fault.Write 0) prepared.print_fault) }
+        ensures measured { IfOk result (λ prepared. prepared.measured ≡ measured) }
     {
         let print_fault = Diagnostic::try_new(alloc, &CommandFault::Write { place: 0 })?;
         let outputs = vec![in alloc; first, second]?;
@@ -109,6 +122,7 @@ impl<'a> PreparedResult<'a> {
             outputs,
             text,
             print_fault,
+            measured,
         })
     }
 }

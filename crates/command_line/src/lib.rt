@@ -1,5 +1,5 @@
 //! The commands of spmlink: `run` does what the words of a command line ask for, over a shelf of files and a sink for what is
-//! printed.
+//! printed; `run_command` also tells how a measured run ended.
 #![tactic(auto)]
 
 mod check_file;
@@ -9,6 +9,7 @@ mod delivery;
 mod diagnostic;
 mod faults;
 mod hex_files;
+mod measured_text;
 mod opening;
 mod outcomes;
 mod performing;
@@ -21,4 +22,4 @@ mod run_file;
 mod show_file;
 mod top;
 
-pub use top::run;
+pub use top::{CommandOutcome, run, run_command};

@@ -1,6 +1,6 @@
 ghost use Rattle.std.specs.Prelude.{◌≡◌, OnOk, IfOk, IfErr};
 ghost use Rattle.command_line.specs.Command.{HasNumbers, plain_command};
-ghost use Rattle.command_line.specs.Performing.{IsPrepared, RejectsPreparing, Performs, IsRejectedBy};
+ghost use Rattle.command_line.specs.Performing.{IsPrepared, RejectsPreparing, Performs, TellsEndOf, IsRejectedBy};
 
 use crate::commands::Command;
 use crate::delivery::{PreparedResult, deliver};
@@ -8,6 +8,7 @@ use crate::diagnostic::Diagnostic;
 use crate::faults::CommandFault;
 use crate::reading::read_all;
 use crate::results::prepare_result;
+use relinking::MeasuredEnd;
 use shelf_io::{Shelf, Sink};
 use std::alloc::Global;
 
@@ -31,26 +32,30 @@ fn prepare<'a, S: Shelf>(
     }
 }
 
-/// Does what a command asks for.
+/// Does what a command asks for, and tells how the run ended that it measured, if it measured one.
 pub fn perform_command<S: Shelf, K: Sink>(
     alloc: Global,
     command: &Command<'_>,
     shelf: &mut S,
     out: &mut K,
-) -> Result<(), Diagnostic>
+) -> Result<Option<MeasuredEnd>, Diagnostic>
     requires { HasNumbers (plain_command command.now) }
     ensures ok { OnOk result (Performs (plain_command command.now)
         (S.view shelf.old) (S.view shelf.new)
         (K.view out.old) (K.view out.new)) }
+    ensures end { IfOk result (λ measured. TellsEndOf (plain_command command.now) measured (S.view shelf.old)) }
     ensures err { IfErr result (IsRejectedBy (plain_command command.now)
         (S.view shelf.old) (S.view shelf.new)
         (K.view out.old) (K.view out.new)) }
 {
     match prepare(alloc, command, shelf) {
-        Ok(prepared) => match deliver(prepared, shelf, out) {
-            Ok(()) => Ok(()),
-            Err(diagnostic) => Err(diagnostic),
-        },
+        Ok(prepared) => {
+            let measured = prepared.measured;
+            match deliver(prepared, shelf, out) {
+                Ok(()) => Ok(measured),
+                Err(diagnostic) => Err(diagnostic),
+            }
+        }
         Err(fault) => Err(Diagnostic::new(alloc, &fault)),
     }
 }

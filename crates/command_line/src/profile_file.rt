@@ -1,11 +1,13 @@
 ghost use Rattle.std.specs.Prelude.{IfOk, IfErr};
 ghost use Rattle.command_line.specs.ProgramRun.{RejectsProfiled};
 ghost use Rattle.command_line.specs.ProfileFile.{ProfilesTo};
+ghost use Rattle.command_line.specs.Measured.{MeasuresTo};
 
 use crate::faults::CommandFault;
+use crate::measured_text::MeasuredText;
 use crate::opening::open;
 use printed_lines::profile_lines;
-use relinking::profile_of_run;
+use relinking::measured_run;
 use std::alloc::Global;
 
 /// Runs the program of a file for the board's steps, and tells what happened in lines.
@@ -17,17 +19,20 @@ pub fn profile_file(
     file: &[u8],
     board: &[u8],
     input: &[u8],
-) -> Result<Vec<u8>, CommandFault>
-    ensures ok { IfOk result (λ text. ProfilesTo file.now board.now input.now text.items) }
+) -> Result<MeasuredText, CommandFault>
+    ensures ok { IfOk result (λ made. ProfilesTo file.now board.now input.now made.text.items) }
+    ensures end { IfOk result (λ made. MeasuresTo file.now board.now input.now made.end) }
     ensures err { IfErr result (RejectsProfiled board.now file.now input.now) }
 {
     let opened = open(alloc, file, board)?;
-    let counts = profile_of_run(alloc, &opened.analysis, &opened.board, input)?;
-    Ok(profile_lines(
+    let measured = measured_run(alloc, &opened.analysis, &opened.board, input)?;
+    let text = profile_lines(
         alloc,
         &opened.analysis.view,
         &opened.analysis.graph,
         &opened.analysis.code,
-        &counts,
-    )?)
+        &measured.profile,
+    )?;
+    let end = measured.end;
+    Ok(MeasuredText { text, end })
 }

@@ -1,10 +1,11 @@
 ghost use Rattle.std.specs.Prelude.{IfOk, IfErr};
 ghost use Rattle.command_line.specs.ProgramRun.{RejectsProfiled};
 ghost use Rattle.command_line.specs.RelinkFile.{RelinksTo};
+ghost use Rattle.command_line.specs.Measured.{MeasuresTo};
 
 use crate::faults::CommandFault;
 use crate::opening::open;
-use relinking::{relink_analysed, relink_report};
+use relinking::{MeasuredEnd, relink_analysed, relink_report};
 use std::alloc::Global;
 
 /// The result of a `relink` command, before any of it is written.
@@ -16,6 +17,8 @@ pub struct RelinkedFile {
     pub file: Vec<u8>,
     /// How the choice was found, what it saves, and where stands what has moved, in lines.
     pub report: Vec<u8>,
+    /// How the measured run ended.
+    pub end: MeasuredEnd,
 }
 
 /// Relinks a file for a board. The program is run on the input to measure it, for the board's steps.
@@ -29,6 +32,7 @@ pub fn relink_file(
     input: &[u8],
 ) -> Result<RelinkedFile, CommandFault>
     ensures ok { IfOk result (λ r. RelinksTo file.now board.now input.now r.certificate.items r.file.items r.report.items) }
+    ensures end { IfOk result (λ r. MeasuresTo file.now board.now input.now r.end) }
     ensures err { IfErr result (RejectsProfiled board.now file.now input.now) }
 {
     let opened = open(alloc, file, board)?;
@@ -38,5 +42,6 @@ pub fn relink_file(
         certificate: relinked.certificate,
         file: relinked.result.bytes,
         report,
+        end: relinked.end,
     })
 }

@@ -98,7 +98,8 @@ fn prepare_relink<'a>(
         Ok(relinked) => {
             let first = Output::new(alloc, 5, cert, relinked.certificate)?;
             let second = Output::new(alloc, 4, out, relinked.file)?;
-            Ok(PreparedResult::written_twice(alloc, first, second, relinked.report)?)
+            let end = Some(relinked.end);
+            Ok(PreparedResult::written_twice(alloc, first, second, relinked.report, end)?)
         }
         Err(fault) => Err(fault),
     }
@@ -112,7 +113,7 @@ fn prepare_profile<'a>(alloc: Global, texts: &[Vec<u8>]) -> Result<PreparedResul
         → RejectsInputs (profile_command f b i) (contents texts.now) fault) }
 {
     match profile_file(alloc, &texts[0], &texts[1], &texts[2]) {
-        Ok(text) => Ok(PreparedResult::printed(alloc, text)?),
+        Ok(made) => Ok(PreparedResult::printed(alloc, made.text, Some(made.end))?),
         Err(fault) => Err(fault),
     }
 }
@@ -125,7 +126,7 @@ fn prepare_compare<'a>(alloc: Global, texts: &[Vec<u8>]) -> Result<PreparedResul
         → RejectsInputs (compare_command f r b i) (contents texts.now) fault) }
 {
     match compare_files(alloc, &texts[0], &texts[1], &texts[2], &texts[3]) {
-        Ok(text) => Ok(PreparedResult::printed(alloc, text)?),
+        Ok(text) => Ok(PreparedResult::printed(alloc, text, None)?),
         Err(fault) => Err(fault),
     }
 }
@@ -138,7 +139,7 @@ fn prepare_check<'a>(alloc: Global, texts: &[Vec<u8>]) -> Result<PreparedResult<
         → RejectsInputs (check_command f b i c) (contents texts.now) fault) }
 {
     match check_file(alloc, &texts[0], &texts[1], &texts[2], &texts[3]) {
-        Ok(text) => Ok(PreparedResult::printed(alloc, text)?),
+        Ok(made) => Ok(PreparedResult::printed(alloc, made.text, Some(made.end))?),
         Err(fault) => Err(fault),
     }
 }
@@ -151,7 +152,7 @@ fn prepare_show<'a>(alloc: Global, texts: &[Vec<u8>]) -> Result<PreparedResult<'
         → RejectsInputs (show_command f b) (contents texts.now) fault) }
 {
     match show_file(alloc, &texts[0], &texts[1]) {
-        Ok(text) => Ok(PreparedResult::printed(alloc, text)?),
+        Ok(text) => Ok(PreparedResult::printed(alloc, text, None)?),
         Err(fault) => Err(fault),
     }
 }
@@ -209,7 +210,7 @@ fn prepare_hex_check<'a>(
     match check_hex(alloc, &texts[0], &texts[1]) {
         Ok(()) => {
             let text = String::from_str(alloc, "same\n")?;
-            Ok(PreparedResult::printed(alloc, text.into_bytes())?)
+            Ok(PreparedResult::printed(alloc, text.into_bytes(), None)?)
         }
         Err(fault) => Err(fault),
     }

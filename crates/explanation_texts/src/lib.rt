@@ -3,6 +3,7 @@
 
 mod boards;
 mod cures;
+mod files;
 mod instructions;
 mod notes;
 mod objects;
@@ -13,9 +14,11 @@ mod runs;
 mod usage;
 
 pub use boards::{explain_board, gives_key};
+pub use files::{say_incomplete, say_unread, say_unread_device, say_unwritten};
 pub use notes::Notes;
 pub use objects::{
-    Label, PinnedSection, Rule, say_load_address, say_more_sections, say_nothing_moved, say_pinned,
+    Label, PinnedSection, Rule, is_anchor, say_load_address, say_more_sections, say_nothing_moved,
+    say_pinned, say_prices, say_short_run,
 };
 pub use refusals::{explain_elf, explain_refusal};
 pub use runs::{Involved, explain_fault, say_still_running, say_trapped};

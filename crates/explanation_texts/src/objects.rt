@@ -5,6 +5,11 @@ use unchecked_file::{RawSegment, UncheckedFile};
 /// How the names begin of the anchors that GCC makes for sections.
 const ANCHOR: &[u8] = b".LANCHOR";
 
+/// Whether a symbol is an anchor that GCC makes for a section.
+pub fn is_anchor(name: &[u8]) -> bool {
+    name.starts_with(ANCHOR)
+}
+
 /// A label by which a relocation leads into an object.
 #[derive(Clone, Copy)]
 pub struct Label<'a> {
@@ -104,6 +109,18 @@ pub fn say_nothing_moved(notes: &mut Notes, movable: u64, total: u64) -> Result<
     ])
 }
 
+/// What to do where no access costs less in the scratchpad. It fails only where no memory was left.
+pub fn say_prices(notes: &mut Notes) -> Result<(), AllocError> {
+    notes.say_first(
+        "let spm_fetch, spm_read and spm_write in [price] of the board be less than main_fetch, main_read and main_write",
+    )
+}
+
+/// What to do where all objects may move, and none pays. It fails only where no memory was left.
+pub fn say_short_run(notes: &mut Notes) -> Result<(), AllocError> {
+    notes.say_first("measure a longer run, as on a longer input: a copy is paid once")
+}
+
 /// Objects of a section that stay, why, and what frees them. It fails only where no memory was left.
 pub fn say_pinned(notes: &mut Notes, section: &PinnedSection) -> Result<(), AllocError> {
     match section.rule {
@@ -127,7 +144,11 @@ pub fn say_more_sections(notes: &mut Notes, count: u64) -> Result<(), AllocError
     notes.say(&[
         Piece::Text("objects of "),
         Piece::Number(count),
-        Piece::Text(" more sections stay"),
+        Piece::Text(if count == 1 {
+            " more section stay"
+        } else {
+            " more sections stay"
+        }),
     ])
 }
 

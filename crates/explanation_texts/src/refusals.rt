@@ -137,26 +137,29 @@ fn explain_layout(
 ) -> Result<(), AllocError> {
     match *fault {
         GraphFault::SpmOverlap { segment } => {
-            say_segment(
-                notes,
-                file,
-                &file.segment(segment),
-                " overlaps the scratchpad",
-            )?;
-            say_range(notes, "spm", &board.spm)
+            let segment = file.segment(segment);
+            say_segment(notes, file, &segment, " overlaps the scratchpad")?;
+            say_range(notes, "spm", &board.spm)?;
+            notes.say_first("correct the linker script, or `spm` of the board")
         }
         GraphFault::PatchOverlap { segment } => {
-            say_segment(
-                notes,
-                file,
-                &file.segment(segment),
-                " overlaps the patch range",
-            )?;
-            say_range(notes, "patch", &board.patch)
+            let segment = file.segment(segment);
+            say_segment(notes, file, &segment, " overlaps the patch range")?;
+            say_range(notes, "patch", &board.patch)?;
+            notes.say_first(patch_cure(file, &segment))
         }
         GraphFault::NoArea { segment } => say_outside(notes, file, &file.segment(segment), board),
         GraphFault::PatchFar { .. } => say_far(notes, file, board),
         _ => Ok(()),
+    }
+}
+
+/// What to do about a segment in the patch range. One without a section is as relinking makes it.
+fn patch_cure(file: &UncheckedFile, segment: &RawSegment) -> &'static str {
+    if file.first_section(segment).is_empty() {
+        "give the file that the linker wrote: this one has been relinked, and can't be once more"
+    } else {
+        "correct the linker script, or `patch` of the board"
     }
 }
 

@@ -113,19 +113,28 @@ pub(crate) fn say_unsupported(
     kind: u32,
 ) -> Result<(), AllocError> {
     if let Some(relocation) = file.relocation(index) {
-        notes.say(&[
-            Piece::Text("relocation "),
+        notes.begin("relocation ")?;
+        notes.put(&[
             Piece::Number(u64::from(index)),
             Piece::Text(" in section "),
             Piece::Name(relocation.section),
             Piece::Text(" is "),
-            Piece::Text(text_at(&KINDS, kind)),
-            Piece::Text(" of "),
-            Piece::Name(relocation.symbol),
         ])?;
+        put_kind(notes, kind)?;
+        notes.put(&[Piece::Text(" of "), Piece::Name(relocation.symbol)])?;
+        notes.end("")?;
         say_changed(notes, file, relocation.at)?;
     }
     cure_of(&CURES, kind, OTHER).say(notes)
+}
+
+/// Goes on with a line by the name of a kind, or its number where it has none.
+fn put_kind(notes: &mut Notes, kind: u32) -> Result<(), AllocError> {
+    let name = text_at(&KINDS, kind);
+    if name.is_empty() {
+        return notes.put(&[Piece::Text("kind "), Piece::Number(u64::from(kind))]);
+    }
+    notes.put(&[Piece::Text(name)])
 }
 
 fn say_changed(notes: &mut Notes, file: &UncheckedFile, at: u32) -> Result<(), AllocError> {

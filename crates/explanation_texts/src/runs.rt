@@ -56,12 +56,20 @@ pub struct Involved<'a> {
     pub has_anchors: bool,
 }
 
-/// A measured run that trapped at an address. It fails only where no memory was left.
-pub fn say_trapped(notes: &mut Notes, file: &UncheckedFile, pc: u32) -> Result<(), AllocError> {
+/// A measured run that trapped at an address, in so many steps. It fails only where no memory was left.
+pub fn say_trapped(
+    notes: &mut Notes,
+    file: &UncheckedFile,
+    steps: u64,
+    pc: u32,
+) -> Result<(), AllocError> {
     say_instruction(notes, file, "the measured run trapped", pc)?;
-    notes.say_words(
-        "what is told is of the steps before; first: leave out what RV32IM lacks (no CSR instructions, -march=rv32im)",
-    )
+    notes.say(&[
+        Piece::Text("what is told is of "),
+        Piece::Number(steps),
+        Piece::Text(if steps == 1 { " step" } else { " steps" }),
+    ])?;
+    notes.say_first("leave out what RV32IM lacks (no CSR instructions, -march=rv32im)")
 }
 
 /// A measured run that went on at the end of its steps, and the address where it stood. It fails only where no memory

@@ -17,6 +17,10 @@ pub struct Command {
     pub input: Option<usize>,
     /// The place of what FILE is relinked to, where it writes that.
     pub result: Option<usize>,
+    /// How many words behind its own name what it reads.
+    pub reads: usize,
+    /// The places of what it writes, in this order.
+    pub writes: &'static [usize],
 }
 
 const COMMANDS: [Command; 9] = [
@@ -29,6 +33,8 @@ const COMMANDS: [Command; 9] = [
         analyses: false,
         input: None,
         result: None,
+        reads: 3,
+        writes: &[4],
     },
     Command {
         word: "relink",
@@ -39,6 +45,8 @@ const COMMANDS: [Command; 9] = [
         analyses: true,
         input: Some(3),
         result: Some(4),
+        reads: 3,
+        writes: &[5, 4],
     },
     Command {
         word: "profile",
@@ -49,6 +57,8 @@ const COMMANDS: [Command; 9] = [
         analyses: true,
         input: Some(3),
         result: None,
+        reads: 3,
+        writes: &[],
     },
     Command {
         word: "compare",
@@ -59,6 +69,8 @@ const COMMANDS: [Command; 9] = [
         analyses: true,
         input: Some(4),
         result: None,
+        reads: 4,
+        writes: &[],
     },
     Command {
         word: "check",
@@ -69,6 +81,8 @@ const COMMANDS: [Command; 9] = [
         analyses: true,
         input: Some(3),
         result: None,
+        reads: 4,
+        writes: &[],
     },
     Command {
         word: "show",
@@ -79,6 +93,8 @@ const COMMANDS: [Command; 9] = [
         analyses: true,
         input: None,
         result: None,
+        reads: 2,
+        writes: &[],
     },
     Command {
         word: "gen",
@@ -89,6 +105,8 @@ const COMMANDS: [Command; 9] = [
         analyses: false,
         input: None,
         result: None,
+        reads: 0,
+        writes: &[3],
     },
     Command {
         word: "hex",
@@ -99,6 +117,8 @@ const COMMANDS: [Command; 9] = [
         analyses: false,
         input: None,
         result: None,
+        reads: 1,
+        writes: &[2],
     },
     Command {
         word: "hexcheck",
@@ -109,6 +129,8 @@ const COMMANDS: [Command; 9] = [
         analyses: false,
         input: None,
         result: None,
+        reads: 2,
+        writes: &[],
     },
 ];
 
@@ -246,7 +268,8 @@ fn fault_of_name(word: &str) -> Option<&'static str> {
     None
 }
 
-fn say_word<'a>(
+/// A word, and what is wrong with it. It fails only where no memory was left.
+pub(crate) fn say_word<'a>(
     notes: &mut Notes,
     place: usize,
     word: &'a str,

@@ -2,12 +2,16 @@ ghost use Rattle.std.specs.Prelude.{ℕ, List};
 ghost use Rattle.board_config.specs.Board.{IsLawful};
 ghost use Rattle.relink_core.specs.Choices.{IsAnalysisOf};
 
+use crate::files::{explain_unread, explain_unwritten};
 use crate::inputs::{Inputs, inputs_of};
 use crate::pinned::explain_pinned;
-use crate::runs::explain_run;
+use crate::runs::{explain_end, explain_run};
 use board_config::{Board, read_board};
-use explanation_texts::{Notes, explain_board, explain_elf, explain_refusal, explain_words};
+use explanation_texts::{
+    Command, Notes, command_of, explain_board, explain_elf, explain_refusal, explain_words,
+};
 use relink_core::{AnalyseFault, Analysis, analyse};
+use relinking::MeasuredEnd;
 use shelf_io::Shelf;
 use std::alloc::{AllocError, Global};
 use unchecked_file::UncheckedFile;
@@ -15,9 +19,15 @@ use unchecked_file::UncheckedFile;
 /// The status of words that are no command.
 const NO_COMMAND: u8 = 1;
 
-/// Lines for standard error that explain what a command did, from its words, the files that it read and its status; each
-/// begins with `spmlink: `. The text is empty where all is as one expects. It reads the files again, and analyses and runs
-/// the program as the command did, so it takes no longer than that.
+/// The status of a command that can't read a file.
+const UNREAD: u8 = 2;
+
+/// The status of a command that can't write a file or to standard output.
+const UNWRITTEN: u8 = 3;
+
+/// Lines for standard error that explain what a command did, from its words, the files that it read, its status, and how
+/// its measured run ended; each begins with `spmlink: `. The text is empty where all is as one expects. It reads the files
+/// again, and analyses the program of a relink and of a refusal again. It runs a program only up to its address fault.
 ///
 /// It fails only where no memory was left.
 pub fn explain<S: Shelf>(
@@ -25,20 +35,62 @@ pub fn explain<S: Shelf>(
     words: &[String],
     shelf: &mut S,
     status: u8,
+    end: Option<MeasuredEnd>,
 ) -> Result<Vec<u8>, AllocError> {
     let mut notes = Notes::new(alloc);
-    if status == NO_COMMAND {
-        explain_words(&mut notes, words)?;
-    } else if let Some(inputs) = inputs_of(alloc, words, shelf, status) {
-        explain_inputs(&mut notes, &inputs)?;
+    match command_of_words(words) {
+        Some(command) if status != NO_COMMAND => {
+            explain_command(&mut notes, words, shelf, command, status, end)?;
+        }
+        _ => explain_words(&mut notes, words)?,
     }
     Ok(notes.into_text())
 }
 
-fn explain_inputs(notes: &mut Notes, inputs: &Inputs) -> Result<(), AllocError> {
-    if inputs.status == 0 && inputs.input.is_none() {
-        return Ok(());
+/// The command of the first word, if there is one.
+fn command_of_words(words: &[String]) -> Option<&'static Command> {
+    command_of(words.first()?.as_str())
+}
+
+/// What is to be said of a command.
+fn explain_command<S: Shelf>(
+    notes: &mut Notes,
+    words: &[String],
+    shelf: &mut S,
+    command: &Command,
+    status: u8,
+    end: Option<MeasuredEnd>,
+) -> Result<(), AllocError> {
+    match status {
+        UNREAD => explain_unread(notes, words, shelf, command),
+        UNWRITTEN => explain_unwritten(notes, words, shelf, command),
+        _ => match inputs_of(notes.alloc(), words, shelf, command, status, end) {
+            Some(inputs) => explain_inputs(notes, &inputs),
+            None => Ok(()),
+        },
     }
+}
+
+fn explain_inputs(notes: &mut Notes, inputs: &Inputs) -> Result<(), AllocError> {
+    if inputs.status == 0 {
+        return explain_done(notes, inputs);
+    }
+    explain_files(notes, inputs)
+}
+
+/// A command that did what it is for.
+fn explain_done(notes: &mut Notes, inputs: &Inputs) -> Result<(), AllocError> {
+    if let Some(end) = &inputs.end {
+        explain_end(notes, &inputs.unchecked(), end)?;
+    }
+    match inputs.result {
+        Some(_) => explain_files(notes, inputs),
+        None => Ok(()),
+    }
+}
+
+/// A file, for a board where the command has one.
+fn explain_files(notes: &mut Notes, inputs: &Inputs) -> Result<(), AllocError> {
     match &inputs.board {
         Some(text) => explain_for_board(notes, inputs, text),
         None => explain_file(notes, inputs),

@@ -1,4 +1,5 @@
-use explanation_texts::command_of;
+use explanation_texts::Command;
+use relinking::MeasuredEnd;
 use shelf_io::Shelf;
 use std::alloc::Global;
 use unchecked_file::UncheckedFile;
@@ -12,11 +13,13 @@ pub(crate) struct Inputs {
     pub(crate) board: Option<Vec<u8>>,
     /// Whether the command analyses the file for the board.
     pub(crate) analyses: bool,
-    /// The input of the program, where the command measures it and it can be read twice.
+    /// The input of the program, where the command runs it up to an address fault, and it can be read twice.
     pub(crate) input: Option<Vec<u8>>,
     /// The result that was relinked to.
     pub(crate) result: Option<Vec<u8>>,
     pub(crate) status: u8,
+    /// How the run ended by which the command measured the program.
+    pub(crate) end: Option<MeasuredEnd>,
 }
 
 impl Inputs {
@@ -31,21 +34,24 @@ pub(crate) fn inputs_of<S: Shelf>(
     alloc: Global,
     words: &[String],
     shelf: &mut S,
+    command: &Command,
     status: u8,
+    end: Option<MeasuredEnd>,
 ) -> Option<Inputs> {
-    let command = command_of(words.first()?.as_str())?;
+    let (input, result) = if status == 0 {
+        (None, command.result)
+    } else {
+        (command.input, None)
+    };
     Some(Inputs {
         alloc,
         file: read_word(alloc, words, shelf, command.file)?,
         board: read_word(alloc, words, shelf, command.board),
         analyses: command.analyses,
-        input: read_word(alloc, words, shelf, command.input),
-        result: if status == 0 {
-            read_word(alloc, words, shelf, command.result)
-        } else {
-            None
-        },
+        input: read_word(alloc, words, shelf, input),
+        result: read_word(alloc, words, shelf, result),
         status,
+        end,
     })
 }
 
@@ -57,11 +63,16 @@ fn read_word<S: Shelf>(
     place: Option<usize>,
 ) -> Option<Vec<u8>> {
     let name = words.get(place?)?.as_str();
-    if name.starts_with("/dev/") && name != "/dev/null" {
+    if is_read_once(name) {
         return None;
     }
     match shelf.read(alloc, name) {
         Ok(bytes) => Some(bytes),
         Err(_) => None,
     }
+}
+
+/// Whether a name is that of a device that may not give its bytes twice.
+pub(crate) fn is_read_once(name: &str) -> bool {
+    name.starts_with("/dev/") && name != "/dev/null"
 }

@@ -3,6 +3,7 @@
 
 mod census;
 mod explaining;
+mod files;
 mod inputs;
 mod names;
 mod pinned;

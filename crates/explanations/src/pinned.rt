@@ -1,12 +1,14 @@
 use crate::census::{ObjectCensus, SectionObjects, census};
 use crate::inputs::Inputs;
 use crate::names::{name_at, section_name, section_of_number, symbol_name};
-use board_config::Board;
+use board_config::{Board, Prices};
 use elf_reader::{ElfView, SHT_NOBITS};
 use explanation_texts::{
-    Label, Notes, PinnedSection, Rule, gives_key, say_more_sections, say_nothing_moved, say_pinned,
+    Label, Notes, PinnedSection, Rule, gives_key, is_anchor, say_more_sections, say_nothing_moved,
+    say_pinned, say_prices, say_short_run,
 };
 use object_graph::Graph;
+use object_machine::Outcome;
 use std::alloc::{AllocError, Global};
 
 /// How the label of a table begins that a linker collects of a section, and that a program walks.
@@ -49,10 +51,33 @@ pub(crate) fn explain_pinned(
         bss_movable: board.bss_movable,
     };
     let census = census(inputs.alloc, view, graph)?;
+    let largest = largest_of(view, &census, &relinked);
     if !relinked.has_moved {
-        say_nothing_moved(notes, graph.objects.len() as u64, census.total)?;
+        let movable = graph.objects.len() as u64;
+        say_nothing_moved(notes, movable, census.total)?;
+        if !is_cheaper(&board.prices) {
+            return say_prices(notes);
+        }
+        if movable != 0 && largest.count == 0 && has_exited(inputs) {
+            return say_short_run(notes);
+        }
     }
-    largest_of(view, &census, &relinked).say(notes)
+    largest.say(notes)
+}
+
+/// Whether some access costs less in the scratchpad.
+fn is_cheaper(prices: &Prices) -> bool {
+    prices.spm_fetch < prices.main_fetch
+        || prices.spm_read < prices.main_read
+        || prices.spm_write < prices.main_write
+}
+
+/// Whether the measured run came to the program's end.
+fn has_exited(inputs: &Inputs) -> bool {
+    match &inputs.end {
+        Some(end) => matches!(end.outcome, Outcome::Exited(_)),
+        None => false,
+    }
 }
 
 fn tells_bss(inputs: &Inputs) -> bool {
@@ -95,17 +120,39 @@ impl<'a> Largest<'a> {
         }
     }
 
+    /// A section that an anchor pins comes first: its cure is a flag, and frees most.
     fn say(&self, notes: &mut Notes) -> Result<(), AllocError> {
-        if let Some(section) = &self.first {
-            say_pinned(notes, section)?;
-        }
-        if let Some(section) = &self.second {
-            say_pinned(notes, section)?;
-        }
+        let (first, second) = if is_anchored(&self.second) && !is_anchored(&self.first) {
+            (&self.second, &self.first)
+        } else {
+            (&self.first, &self.second)
+        };
+        say_section(notes, first)?;
+        say_section(notes, second)?;
         if self.count > 2 {
             return say_more_sections(notes, self.count - 2);
         }
         Ok(())
+    }
+}
+
+fn say_section(notes: &mut Notes, section: &Option<PinnedSection<'_>>) -> Result<(), AllocError> {
+    match section {
+        Some(section) => say_pinned(notes, section),
+        None => Ok(()),
+    }
+}
+
+/// Whether an anchor pins the objects of a section.
+fn is_anchored(section: &Option<PinnedSection<'_>>) -> bool {
+    match section {
+        Some(
+            PinnedSection {
+                rule: Rule::Label(label),
+                ..
+            },
+        ) => is_anchor(label.name),
+        _ => false,
     }
 }
 

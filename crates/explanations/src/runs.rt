@@ -6,28 +6,23 @@ use crate::names::{name_at, object_name, section_at, section_name};
 use board_config::Board;
 use elf_reader::ElfView;
 use explanation_texts::{
-    Involved, Notes, explain_fault, say_load_address, say_still_running, say_trapped,
+    Involved, Notes, explain_fault, is_anchor, say_load_address, say_still_running, say_trapped,
 };
 use fault_trail::{AddressFault, fault_of_run};
 use object_graph::Graph;
 use object_machine::{Outcome, Source};
 use relink_core::Analysis;
+use relinking::MeasuredEnd;
 use std::alloc::{AllocError, Global};
 use unchecked_file::UncheckedFile;
 
 /// The statuses of address faults: of a measured run, and of one beside a result.
 const ADDRESS_FAULTS: [u8; 2] = [8, 12];
 
-/// The most steps for which a run is followed again where the command did what it is for.
-const FOLLOWED_STEPS: u64 = 1_000_000;
-
-/// How the names begin of the anchors that GCC makes for sections.
-const ANCHOR: &[u8] = b".LANCHOR";
-
 /// The reason of an access to an object that may move by a plain number.
 const BY_NUMBER: u32 = 4;
 
-/// A measured run that did not come to its program's end.
+/// A run that met an address fault, if this is the status of one. The run is followed again, up to the fault.
 pub(crate) fn explain_run(
     notes: &mut Notes,
     inputs: &Inputs,
@@ -36,18 +31,20 @@ pub(crate) fn explain_run(
 ) -> Result<(), AllocError>
     requires { (file : List ℕ) × IsAnalysisOf file board.now analysis.now }
 {
-    if inputs.status != 0 && !ADDRESS_FAULTS.contains(&inputs.status) {
+    if !ADDRESS_FAULTS.contains(&inputs.status) {
         return Ok(());
     }
     let Some(input) = &inputs.input else {
         return Ok(());
     };
     let mut source = machine(inputs.alloc, analysis, board, input)?;
-    let file = inputs.unchecked();
-    if inputs.status == 0 {
-        return explain_end(notes, &file, &mut source, board.steps);
-    }
-    explain_faulted(notes, &file, &mut source, analysis, board.steps)
+    explain_faulted(
+        notes,
+        &inputs.unchecked(),
+        &mut source,
+        analysis,
+        board.steps,
+    )
 }
 
 /// A machine at the entry of a program.
@@ -69,22 +66,19 @@ fn machine(
     )
 }
 
-/// A run that met no address fault, as far as it is followed.
-fn explain_end(
+/// A measured run that did not come to its program's end.
+pub(crate) fn explain_end(
     notes: &mut Notes,
     file: &UncheckedFile,
-    source: &mut Source,
-    steps: u64,
+    end: &MeasuredEnd,
 ) -> Result<(), AllocError> {
     if let Some(segment) = file.segment_loaded_apart() {
         say_load_address(notes, file, &segment)?;
     }
-    match source.run(steps.min(FOLLOWED_STEPS))? {
-        Outcome::Trapped { pc } => say_trapped(notes, file, pc),
-        Outcome::GoesOn if steps <= FOLLOWED_STEPS => {
-            say_still_running(notes, file, steps, source.at())
-        }
-        Outcome::GoesOn | Outcome::Exited(_) | Outcome::AddressFault { .. } => Ok(()),
+    match end.outcome {
+        Outcome::Trapped { pc } => say_trapped(notes, file, end.steps, pc),
+        Outcome::GoesOn => say_still_running(notes, file, end.steps, end.at),
+        Outcome::Exited(_) | Outcome::AddressFault { .. } => Ok(()),
     }
 }
 
@@ -147,7 +141,7 @@ fn addressed<'a>(view: &ElfView<'a>, fault: &AddressFault) -> &'a [u8] {
 
 fn has_anchors(view: &ElfView) -> bool {
     for symbol in &view.symbols {
-        if symbol.name.starts_with(ANCHOR) {
+        if is_anchor(symbol.name) {
             return true;
         }
     }

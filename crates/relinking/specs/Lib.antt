@@ -1,4 +1,5 @@
 pub mod Runs
+pub mod MeasuredRuns
 pub mod ProgrammeOfRun
 pub mod FoundChoice
 pub mod Relink

@@ -1,5 +1,5 @@
 -- The programme of a placement that the run of a program states, by a table of regions.
-use Rattle.std.specs.Prelude.{◌≡◌, ℕ, pos, List, Result, Ok, Err}
+use Rattle.std.specs.Prelude.{◌≡◌, ℕ, pos, List}
 use Rattle.elf_reader.specs.File.{PlainView}
 use Rattle.board_config.specs.declared.board.Board.{Board}
 use Rattle.object_graph.specs.declared.parts.Graph.{Graph}
@@ -11,17 +11,13 @@ use Rattle.object_machine.specs.Start.{start_of}
 use Rattle.region_former.specs.declared.table.RegionTable.{RegionTable}
 use Rattle.placement_programme.specs.Plain.{PlainProgramme, PlainChoice}
 use Rattle.placement_programme.specs.Programme.{IsFeasible, energy as programme_energy}
-use Rattle.placement_programme.specs.Views.{plain_programme}
-use Rattle.placement_programme.specs.declared.sides.Programme.{Programme}
 use Rattle.profile_runner.specs.Transition.{Transition}
 use Rattle.profile_runner.specs.Transitions.{Transitions}
-use Rattle.profile_runner.specs.declared.fault.ProfileFault.{ProfileFault}
 use Rattle.energy_model.specs.Energy.{Scene, energy}
 use Rattle.placement_candidates.specs.Adding.{taken_by}
 use Rattle.placement_candidates.specs.Selected.{stated}
 use Rattle.energy_model.specs.Scenes.{scene_of, layout_of}
 use Rattle.printed_lines.specs.Endings.{IsAddressFault}
-use Rattle.relinking.specs.Runs.{ReportsCounts}
 
 -- the energy of each feasible choice is that of the moves with what it takes
 abbrev pub EnergiesAreOf : Scene → List Transition → PlainProgramme → Type 0
@@ -37,8 +33,3 @@ pub record StatesProgramme (v : PlainView) (board : Board) (g : Graph) (c : Code
   pub no_address_fault : IsAddressFault last.outcome → ⊥
   pub programme_is : p ≡ stated (scene_of g c t board) (layout_of g c t board) pieces transitions
   pub energies : EnergiesAreOf (scene_of g c t board) transitions p
-
--- the programme of the program's run, or its address fault, or that no memory was left
-abbrev pub ReportsProgramme : PlainView → Board → Graph → Code → RegionTable → List Piece → List ℕ → Result Programme ProfileFault → Type 0
-ReportsProgramme v board g c t pieces input (Ok p) = StatesProgramme v board g c t pieces input (plain_programme p)
-ReportsProgramme v board g c t pieces input (Err fault) = ReportsCounts v board g c t input (Err fault)

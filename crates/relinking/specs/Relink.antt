@@ -21,6 +21,7 @@ use Rattle.relink_core.specs.declared.fault.AnalyseFault.{AnalyseFault}
 use Rattle.relink_core.specs.declared.fault.AnalyseFault.TheVariants as analyse
 use Rattle.relinking.specs.FoundChoice.{is_optimal, IsFound}
 use Rattle.relinking.specs.Runs.{RunsProgram}
+use Rattle.relinking.specs.MeasuredRuns.{EndsSo}
 use Rattle.relinking.specs.ProgrammeOfRun.{StatesProgramme}
 use Rattle.relinking.specs.declared.making.Relinked.{Relinked}
 use Rattle.relinking.specs.declared.making.RelinkFault.{RelinkFault}
@@ -33,11 +34,12 @@ pub record IsResult (file : List ℕ) (board : Board) (g : Graph) (c : Code) (p 
   pub realises : Realises file board g c (taken_of p choice) out
   pub keeps : KeepsMeaning (taken_names p choice) file out board
 
--- the file's run on the input states the programme, by this graph, code, table of regions and these pieces, and the
--- result is one for it, in which what the choice takes stands at its places
+-- the file's run on the input states the programme, by this graph, code, table of regions and these pieces, and ended so;
+-- and the result is one for it, in which what the choice takes stands at its places
 pub record RelinksBy (file : List ℕ) (board : Board) (g : Graph) (c : Code) (t : RegionTable) (pieces : List Piece) (input : List ℕ) (r : Relinked) : Type 0 where
   pub states : StatesProgramme (view_in file) board g c t pieces input (plain_programme r.programme)
   pub result : IsResult file board g c (plain_programme r.programme) (plain_choice r.found.choice) (is_optimal r.found.status) r.certificate.items r.result.bytes.items
+  pub ended : EndsSo (view_in file) board g input r.end
   pub stands : AreStanding board g c (plain_programme r.programme) (plain_choice r.found.choice) r.result.objects.items r.result.copies.items r.result.places
 
 -- a file that has no fault is relinked by its own graph, code, regions and pieces

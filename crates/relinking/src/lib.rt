@@ -5,10 +5,12 @@
 mod copied;
 mod finding;
 mod making;
+mod measuring;
 mod reporting;
 mod stating;
 
 pub use finding::{Solution, find_choice};
 pub use making::{RelinkFault, Relinked, relink, relink_analysed};
+pub use measuring::{MeasuredEnd, MeasuredRun, measured_run};
 pub use reporting::relink_report;
-pub use stating::{profile_of_run, programme_of_run};
+pub use stating::{MeasuredProgramme, programme_of_run};

@@ -6,6 +6,7 @@ ghost use Rattle.relinking.specs.Relink.{RelinksBy, Relinks, ReportsRelink};
 ghost use Rattle.relink_core.specs.Choices.{IsAnalysisOf};
 
 use crate::finding::find_choice;
+use crate::measuring::MeasuredEnd;
 use crate::stating::programme_of_run;
 use board_config::Board;
 use branch_bound::Found;
@@ -22,6 +23,8 @@ pub struct Relinked {
     pub result: Realised,
     /// What the run of the program states.
     pub programme: Programme,
+    /// How the run ended.
+    pub end: MeasuredEnd,
     /// The choice that was found of it.
     pub found: Found,
     /// The text of the choice's certificate.
@@ -105,12 +108,14 @@ pub fn relink_analysed(
     ensures ok { IfOk result (λ r. (file : List ℕ) → IsAnalysisOf file board.now analysis.now → RelinksBy file board.now analysis.now.graph analysis.now.code analysis.now.regions analysis.now.pieces.items input.now r) }
     ensures err { IfErr result (λ fault. ReportsCounts (plain_view analysis.now.view) board.now analysis.now.graph analysis.now.code analysis.now.regions input.now (Err fault)) }
 {
-    let programme = programme_of_run(alloc, analysis, board, input)?;
-    let solution = find_choice(alloc, &programme, board.nodes)?;
-    let result = realise(alloc, analysis, board, &programme, &solution.found.choice)?;
+    let measured = programme_of_run(alloc, analysis, board, input)?;
+    let solution = find_choice(alloc, &measured.programme, board.nodes)?;
+    let choice = &solution.found.choice;
+    let result = realise(alloc, analysis, board, &measured.programme, choice)?;
     Ok(Relinked {
         result,
-        programme,
+        programme: measured.programme,
+        end: measured.end,
         found: solution.found,
         certificate: solution.certificate,
     })

@@ -1,48 +1,26 @@
-ghost use Rattle.std.specs.Prelude.{ℕ, List};
+ghost use Rattle.std.specs.Prelude.{ℕ, List, Err, IfOk, IfErr};
 ghost use Rattle.elf_reader.specs.File.{plain_view};
+ghost use Rattle.placement_programme.specs.Views.{plain_programme};
 ghost use Rattle.relink_core.specs.Choices.{IsAnalysisOf};
 ghost use Rattle.relinking.specs.Runs.{ReportsCounts};
-ghost use Rattle.relinking.specs.ProgrammeOfRun.{ReportsProgramme};
+ghost use Rattle.relinking.specs.MeasuredRuns.{EndsSo};
+ghost use Rattle.relinking.specs.ProgrammeOfRun.{StatesProgramme};
 
+use crate::measuring::{MeasuredEnd, measured_run};
 use board_config::Board;
-use object_machine::Source;
 use placement_candidates::programme;
 use placement_programme::Programme;
-use profile_runner::{Profile, ProfileFault, profile};
+use profile_runner::ProfileFault;
 use relink_core::Analysis;
 use std::alloc::Global;
 
-/// Runs an analysed program for the board's steps, and counts what happens.
-///
-/// The error is the address fault of the run. `Memory` comes only where no memory was left.
-pub fn profile_of_run(
-    alloc: Global,
-    analysis: &Analysis<'_>,
-    board: &Board,
-    input: &[u8],
-) -> Result<Profile, ProfileFault>
-    requires { (file : List ℕ) × IsAnalysisOf file board.now analysis.now }
-    ensures { ReportsCounts (plain_view analysis.now.view) board.now analysis.now.graph analysis.now.code analysis.now.regions input.now result }
-{
-    let mut source = Source::new(
-        alloc,
-        &analysis.view,
-        &analysis.graph,
-        &analysis.code,
-        board,
-        input,
-    )?;
-    match profile(
-        alloc,
-        &mut source,
-        &analysis.code,
-        &analysis.graph,
-        &analysis.regions,
-        board.steps,
-    ) {
-        Ok(profile) => Ok(profile),
-        Err(fault) => Err(fault),
-    }
+/// What a run states.
+#[derive(Drop)]
+pub struct MeasuredProgramme {
+    /// The programme of a placement.
+    pub programme: Programme,
+    /// How the run ended.
+    pub end: MeasuredEnd,
 }
 
 /// The programme of a placement that the run of an analysed program states, for the board's steps.
@@ -53,21 +31,26 @@ pub fn programme_of_run(
     analysis: &Analysis<'_>,
     board: &Board,
     input: &[u8],
-) -> Result<Programme, ProfileFault>
+) -> Result<MeasuredProgramme, ProfileFault>
     requires { (file : List ℕ) × IsAnalysisOf file board.now analysis.now }
-    ensures { ReportsProgramme (plain_view analysis.now.view) board.now analysis.now.graph analysis.now.code analysis.now.regions analysis.now.pieces.items input.now result }
+    ensures ok { IfOk result (λ measured. StatesProgramme (plain_view analysis.now.view) board.now analysis.now.graph analysis.now.code analysis.now.regions analysis.now.pieces.items input.now (plain_programme measured.programme)) }
+    ensures end { IfOk result (λ measured. EndsSo (plain_view analysis.now.view) board.now analysis.now.graph input.now measured.end) }
+    ensures err { IfErr result (λ fault. ReportsCounts (plain_view analysis.now.view) board.now analysis.now.graph analysis.now.code analysis.now.regions input.now (Err fault)) }
 {
-    let counts = profile_of_run(alloc, analysis, board, input)?;
+    let measured = measured_run(alloc, analysis, board, input)?;
     match programme(
         alloc,
-        &counts,
+        &measured.profile,
         &analysis.graph,
         &analysis.code,
         &analysis.regions,
         &analysis.pieces,
         board,
     ) {
-        Ok(programme) => Ok(programme),
+        Ok(programme) => {
+            let end = measured.end;
+            Ok(MeasuredProgramme { programme, end })
+        }
         Err(error) => Err(ProfileFault::from(error)),
     }
 }

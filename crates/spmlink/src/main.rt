@@ -3,7 +3,7 @@
 //! writes and checks Intel HEX.
 #![tactic(auto)]
 
-use command_line::run;
+use command_line::run_command;
 use explanations::explain;
 use shelf_io::{DirShelf, OutSink, Sink};
 use std::env;
@@ -34,9 +34,15 @@ fn main(rt: HostRuntime) -> ExitCode {
     };
     let mut shelf = DirShelf::new(&rt, rt.alloc());
     let mut out = OutSink::new(rt.stdout());
-    let status = run(rt.alloc(), &words, &mut shelf, &mut out);
-    if let Ok(text) = explain(rt.alloc(), &words, &mut shelf, status) {
+    let outcome = run_command(rt.alloc(), &words, &mut shelf, &mut out);
+    if let Ok(text) = explain(
+        rt.alloc(),
+        &words,
+        &mut shelf,
+        outcome.status,
+        outcome.measured,
+    ) {
         let _ = OutSink::new(rt.stderr()).put(&text);
     }
-    ExitCode::from(status)
+    ExitCode::from(outcome.status)
 }

@@ -6,7 +6,7 @@ use Rattle.relinking.specs.FoundChoice.{is_optimal}
 use Rattle.relinking.specs.Report.{IsRelinkReport}
 use Rattle.relinking.proofs.Analysed.{findings}
 use Rattle.command_line.proofs.Analysing.{opened_view, profiled_rejected}
-use Rattle.command_line.proofs.Profiling.{counts_rejected}
+use Rattle.command_line.proofs.Profiling.{counts_rejected, ends_in_file}
 use Rattle.command_line.proofs.relink_file.relink_file.Goals as goal
 
 pub returns-in_err-opened-clause-err : goal.returns-in_err-opened-clause-err
@@ -47,3 +47,9 @@ returns-clause-ok c =
       is_report = subst (λ (v : PlainView). IsRelinkReport v o.board a.graph a.code p choice (is_optimal relinked.found.status) c.in_ok-report.report.items)
           (opened_view c.args.board.now file o is) c.in_ok-report.ensures;
     }
+
+pub returns-clause-end : goal.returns-clause-end
+returns-clause-end c =
+    let o = c.in_ok-opened.opened in
+    let is = c.in_ok-opened.ensures.ok in
+    ends_in_file c.args.file.now c.args.board.now c.args.input.now o c.in_ok-relinked.relinked.end is (c.in_ok-relinked.ensures.ok c.args.file.now is.analysed).ended

@@ -1,5 +1,6 @@
 use Rattle.std.proofs.Common.{[], refl, ℕ, List, sym, subst}
 use Rattle.command_line.specs.Command.{compare_command}
+use Rattle.command_line.specs.Measured.{measures_none}
 use Rattle.command_line.specs.Meaning.{RejectsInputs, compares}
 use Rattle.command_line.proofs.CommandFaults.{compare_rejected}
 use Rattle.command_line.proofs.Readings.{contents_of_four}
@@ -14,6 +15,7 @@ returns-in_ok-printed-in-Ok-clause-ok c f r b i =
       yields = rw made.text (compares f r b i _ _ _ _ refl (sym are) refl c.in-Ok.ensures.ok);
       prepared_outputs = made.outputs;
       print_fault = made.print_fault;
+      measured = measures_none refl made.measured;
     }
 
 pub returns-in-Err-clause-err : goal.returns-in-Err-clause-err

@@ -1,4 +1,5 @@
 use Rattle.std.proofs.Common.{◌∷◌, [], refl, ap}
+use Rattle.command_line.specs.Measured.{measures_none}
 use Rattle.command_line.specs.Meaning.{generates}
 use Rattle.command_line.proofs.results.prepare_gen.Goals as goal
 
@@ -9,4 +10,5 @@ returns-clause-ok c =
       yields = rw (c.in_ok-written.ensures.text, c.into_bytes.ensures.value) (generates _ _ _ refl refl (ap (λ bytes. bytes ∷ []) c.in_ok-file.ensures) c.in_ok-text.ensures);
       prepared_outputs = c.in_ok-written.ensures.outputs;
       print_fault = c.in_ok-written.ensures.print_fault;
+      measured = measures_none refl c.in_ok-written.ensures.measured;
     }

@@ -1,5 +1,6 @@
 use Rattle.std.proofs.Common.{◌∷◌, [], refl, ap, ℕ, List, sym, subst}
 use Rattle.command_line.specs.Command.{hex_command}
+use Rattle.command_line.specs.Measured.{measures_none}
 use Rattle.command_line.specs.Meaning.{RejectsInputs, writes_hex}
 use Rattle.command_line.proofs.CommandFaults.{hex_rejected}
 use Rattle.command_line.proofs.Readings.{contents_of_one}
@@ -14,6 +15,7 @@ returns-in_ok-written-in-Ok-clause-ok c f =
       yields = rw (c.in_ok-written-in-Ok.ensures.text, c.into_bytes.ensures.value) (writes_hex f _ _ refl (sym are) made.sound (ap (λ bytes. bytes ∷ []) made.text) made.line);
       prepared_outputs = c.in_ok-written-in-Ok.ensures.outputs;
       print_fault = c.in_ok-written-in-Ok.ensures.print_fault;
+      measured = measures_none refl c.in_ok-written-in-Ok.ensures.measured;
     }
 
 pub returns-in-Err-clause-err : goal.returns-in-Err-clause-err

@@ -1,5 +1,6 @@
 use Rattle.std.proofs.Common.{[], refl, ℕ, List, sym, subst}
 use Rattle.command_line.specs.Command.{hex_check_command}
+use Rattle.command_line.specs.Measured.{measures_none}
 use Rattle.command_line.specs.Meaning.{RejectsInputs, agrees}
 use Rattle.command_line.proofs.CommandFaults.{check_rejected}
 use Rattle.command_line.proofs.Readings.{contents_of_two}
@@ -14,6 +15,7 @@ returns-in_ok-printed-in-Ok-clause-ok c f h =
       yields = rw (c.in_ok-printed-in-Ok.ensures.text, c.into_bytes.ensures.value) (agrees f h _ _ refl (sym are) checked.0 checked.1 refl c.in_ok-text-in-Ok.ensures.ok);
       prepared_outputs = c.in_ok-printed-in-Ok.ensures.outputs;
       print_fault = c.in_ok-printed-in-Ok.ensures.print_fault;
+      measured = measures_none refl c.in_ok-printed-in-Ok.ensures.measured;
     }
 
 pub returns-in-Err-clause-err : goal.returns-in-Err-clause-err

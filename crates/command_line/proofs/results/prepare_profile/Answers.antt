@@ -1,5 +1,6 @@
 use Rattle.std.proofs.Common.{[], refl, ℕ, List, sym, subst}
 use Rattle.command_line.specs.Command.{profile_command}
+use Rattle.command_line.specs.Measured.{profile_ends}
 use Rattle.command_line.specs.Meaning.{RejectsInputs, profiles}
 use Rattle.command_line.proofs.CommandFaults.{profile_rejected}
 use Rattle.command_line.proofs.Readings.{contents_of_three}
@@ -14,6 +15,7 @@ returns-in_ok-printed-in-Ok-clause-ok c f b i =
       yields = rw made.text (profiles f b i _ _ _ refl (sym are) refl c.in-Ok.ensures.ok);
       prepared_outputs = made.outputs;
       print_fault = made.print_fault;
+      measured = profile_ends f b i _ _ _ _ refl (sym are) made.measured c.in-Ok.ensures.end;
     }
 
 pub returns-in-Err-clause-err : goal.returns-in-Err-clause-err

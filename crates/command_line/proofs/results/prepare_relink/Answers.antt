@@ -1,5 +1,6 @@
 use Rattle.std.proofs.Common.{◌∷◌, [], refl, ℕ, List, sym, subst}
 use Rattle.command_line.specs.Command.{relink_command}
+use Rattle.command_line.specs.Measured.{relink_ends}
 use Rattle.command_line.specs.Meaning.{RejectsInputs, relinks}
 use Rattle.command_line.proofs.CommandFaults.{relink_rejected}
 use Rattle.command_line.proofs.Readings.{contents_of_three}
@@ -14,6 +15,7 @@ returns-in_ok-written_twice-in-Ok-clause-ok c f b i =
       yields = rw made.text (relinks f b i _ _ _ _ _ _ _ refl (sym are) refl c.in-Ok.ensures.ok);
       prepared_outputs = rw made.outputs (c.in_ok-first-in-Ok.ensures, (c.in_ok-second-in-Ok.ensures, tt));
       print_fault = made.print_fault;
+      measured = relink_ends f b i _ _ _ _ _ _ refl (sym are) made.measured c.in-Ok.ensures.end;
     }
 
 pub returns-in-Err-clause-err : goal.returns-in-Err-clause-err

@@ -1,5 +1,6 @@
 use Rattle.std.proofs.Common.{◌∷◌, [], refl, ℕ, List, sym, subst}
 use Rattle.command_line.specs.Command.{run_command}
+use Rattle.command_line.specs.Measured.{measures_none}
 use Rattle.command_line.specs.Meaning.{RejectsInputs, runs}
 use Rattle.command_line.proofs.CommandFaults.{run_rejected}
 use Rattle.command_line.proofs.Readings.{contents_of_three}
@@ -13,6 +14,7 @@ returns-in_ok-written-in-Ok-clause-ok c f b i =
       yields = rw (c.in_ok-written-in-Ok.ensures.text, c.into_bytes.ensures.value) (runs f b i _ _ _ _ _ refl (sym are) refl c.in-Ok.ensures.ok);
       prepared_outputs = c.in_ok-written-in-Ok.ensures.outputs;
       print_fault = c.in_ok-written-in-Ok.ensures.print_fault;
+      measured = measures_none refl c.in_ok-written-in-Ok.ensures.measured;
     }
 
 pub returns-in-Err-clause-err : goal.returns-in-Err-clause-err

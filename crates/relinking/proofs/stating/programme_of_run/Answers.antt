@@ -14,11 +14,11 @@ pub programme-requires-clause-run : goal.programme-requires-clause-run
 programme-requires-clause-run c =
     let analysis = c.args.analysis.now in
     let may = may_state c.requires.0 c.args.board.now analysis c.requires.1 in
-    let (last, made) = c.in_ok-counts.ensures in (
+    let (last, made) = c.in_ok-measured.ensures.ok in (
       analysis.view,
       (
         made.transitions,
-        of_one_file analysis.view c.args.board.now analysis.graph analysis.code analysis.regions c.args.input.now c.in_ok-counts.counts last
+        of_one_file analysis.view c.args.board.now analysis.graph analysis.code analysis.regions c.args.input.now c.in_ok-measured.measured.profile last
             may.read c.requires.1.lawful may.graph may.code may.no_fault may.room may.entry c.requires.1.regions.is_formed.one_each made,
       ),
     )
@@ -28,12 +28,12 @@ programme-requires-clause-pieces c =
     let a = c.args.analysis.now in
     subst (λ (ps : List Piece). AreSomePieces a.code a.graph ps) (sym c.deref.ensures.value) (some_of_all a.code a.graph a.pieces.items c.requires.1.pieces)
 
-pub returns-in-Ok : goal.returns-in-Ok
-returns-in-Ok c =
+pub returns-in-Ok-clause-ok : goal.returns-in-Ok-clause-ok
+returns-in-Ok-clause-ok c =
     let analysis = c.args.analysis.now in
     let may = may_state c.requires.0 c.args.board.now analysis c.requires.1 in
-    let (last, made) = c.in_ok-counts.ensures in
-    let one = of_one_file analysis.view c.args.board.now analysis.graph analysis.code analysis.regions c.args.input.now c.in_ok-counts.counts last
+    let (last, made) = c.in_ok-measured.ensures.ok in
+    let one = of_one_file analysis.view c.args.board.now analysis.graph analysis.code analysis.regions c.args.input.now c.in_ok-measured.measured.profile last
     may.read c.requires.1.lawful may.graph may.code may.no_fault may.room may.entry c.requires.1.regions.is_formed.one_each made in
     let is = subst (λ (ps : List Piece). plain_programme c.in-Ok.programme ≡ stated (scene_of analysis.graph analysis.code analysis.regions c.args.board.now) (layout_of analysis.graph analysis.code analysis.regions c.args.board.now) ps made.transitions)
     c.deref.ensures.value (c.in-Ok.ensures analysis.view made.transitions one) in
@@ -42,7 +42,7 @@ returns-in-Ok c =
       last = last;
       run = made.run;
       no_address_fault = unfaulted last.outcome made.no_fault;
-      energies = energies_of analysis.view c.args.board.now analysis.graph analysis.code analysis.regions analysis.pieces.items c.in_ok-counts.counts made.transitions (plain_programme c.in-Ok.programme) one
+      energies = energies_of analysis.view c.args.board.now analysis.graph analysis.code analysis.regions analysis.pieces.items c.in_ok-measured.measured.profile made.transitions (plain_programme c.in-Ok.programme) one
           (some_of_all analysis.code analysis.graph analysis.pieces.items c.requires.1.pieces) is;
       programme_is = is;
     }

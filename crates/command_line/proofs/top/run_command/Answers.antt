@@ -1,5 +1,5 @@
 use Rattle.command_line.proofs.Exactness.{done_usage, done_command, ends_rejected, ends_usage, ends_command}
-use Rattle.command_line.proofs.top.run.Goals as goal
+use Rattle.command_line.proofs.top.run_command.Goals as goal
 
 pub returns-in-Ok-clause-exact : goal.returns-in-Ok-clause-exact
 returns-in-Ok-clause-exact g c =

@@ -1,4 +1,4 @@
-use Rattle.std.proofs.Common.{◌≡◌, true, Ok, Err, sym, ap, subst}
+use Rattle.std.proofs.Common.{◌≡◌, true, Ok, Err, refl, sym, ap, subst}
 use Rattle.std.proofs.lemmas.Result.{err_from_is_err_and}
 use Rattle.elf_reader.specs.File.{plain_view}
 use Rattle.cell_values.specs.Objects.{IsGrain}
@@ -6,9 +6,9 @@ use Rattle.code_leaders.specs.Leaders.{is_leader}
 use Rattle.object_machine.specs.Program.{program_of}
 use Rattle.object_machine.specs.State.{SourceState}
 use Rattle.object_machine.specs.Machine.{state_of}
-use Rattle.relinking.proofs.Counting.{told_counts, no_memory}
+use Rattle.relinking.proofs.Counting.{told_counts, ends_so, no_memory}
 use Rattle.relinking.proofs.Analysed.{may_state}
-use Rattle.relinking.proofs.stating.profile_of_run.Goals as goal
+use Rattle.relinking.proofs.measuring.measured_run.Goals as goal
 
 pub new-requires-clause-read : goal.new-requires-clause-read
 new-requires-clause-read c = (may_state c.requires.0 c.args.board.now c.args.analysis.now c.requires.1).read
@@ -51,20 +51,27 @@ profile-requires-clause-regions c = c.requires.1.regions.is_formed.one_each
 pub profile-requires-clause-some : goal.profile-requires-clause-some
 profile-requires-clause-some c = c.requires.1.lawful.least_steps
 
-pub returns-in_err-source : goal.returns-in_err-source
-returns-in_err-source c =
+pub returns-in_err-source-clause-err : goal.returns-in_err-source-clause-err
+returns-in_err-source-clause-err c =
     let q = err_from_is_err_and c.from_residual.result c.from_residual.ensures.1 in
     rw (q.1, q.2) (no_memory (plain_view c.args.analysis.now.view) c.args.board.now c.args.analysis.now.graph c.args.analysis.now.code c.args.analysis.now.regions c.args.input.now)
 
-pub returns-in-Ok : goal.returns-in-Ok
-returns-in-Ok c =
+pub returns-in-Ok-clause-ok : goal.returns-in-Ok-clause-ok
+returns-in-Ok-clause-ok c =
     let analysis = c.args.analysis.now in
     let p = program_of (plain_view analysis.view) c.args.board.now analysis.graph in
     told_counts (plain_view analysis.view) c.args.board.now analysis.graph analysis.code analysis.regions c.args.input.now (state_of p c.in_ok-source.source) (state_of p c.profile.new.source) (Ok c.in-Ok.profile)
     c.in_ok-source.ensures.start (c.in-Ok.ensures.run p c.in_ok-source.ensures.program)
 
-pub returns : goal.returns
-returns c =
+pub returns-in-Ok-clause-end : goal.returns-in-Ok-clause-end
+returns-in-Ok-clause-end c =
+    let analysis = c.args.analysis.now in
+    let p = program_of (plain_view analysis.view) c.args.board.now analysis.graph in
+    ends_so (plain_view analysis.view) c.args.board.now analysis.graph analysis.code analysis.regions c.args.input.now (state_of p c.in_ok-source.source) (state_of p c.profile.new.source) c.in-Ok.profile _
+    c.in_ok-source.ensures.start (c.in-Ok.ensures.run p c.in_ok-source.ensures.program) refl refl (c.at.ensures p)
+
+pub returns-clause-err : goal.returns-clause-err
+returns-clause-err c =
     let analysis = c.args.analysis.now in
     let p = program_of (plain_view analysis.view) c.args.board.now analysis.graph in
     told_counts (plain_view analysis.view) c.args.board.now analysis.graph analysis.code analysis.regions c.args.input.now (state_of p c.in_ok-source.source) (state_of p c.profile.new.source) (Err c.in-Err.fault)

@@ -1,0 +1,43 @@
+-- How the run ended by which a command measures the program of a file.
+use Rattle.std.specs.Prelude.{◌≡◌, ℕ, Bool, true, false, List, [], ◌∷◌, Option, Some, None}
+use Rattle.elf_reader.specs.File.{view_in}
+use Rattle.board_config.specs.declared.board.Board.{Board}
+use Rattle.object_graph.specs.Graphs.{IsGraph}
+use Rattle.object_graph.specs.declared.parts.Graph.{Graph}
+use Rattle.relinking.specs.MeasuredRuns.{EndsSo}
+use Rattle.relinking.specs.declared.measuring.MeasuredEnd.{MeasuredEnd}
+use Rattle.command_line.specs.Analysed.{Accepts}
+use Rattle.command_line.specs.Command.{PlainCommand, run_command, relink_command, profile_command, compare_command, check_command, gen_command, hex_command, hex_check_command, show_command}
+
+-- the program of a file, run on an input for the steps of a board, ends so
+pub record MeasuresTo (file board_text input : List ℕ) (end : MeasuredEnd) : Type 0 where
+  pub board : Board
+  pub accepts : Accepts board_text file board
+  pub graph : Graph
+  pub is_graph : IsGraph (view_in file) board graph
+  pub ends : EndsSo (view_in file) board graph input end
+
+-- whether a command measures a program
+abbrev pub measures : PlainCommand → Bool
+measures (run_command file board input out) = false
+measures (relink_command file board input out cert) = true
+measures (profile_command file board input) = true
+measures (compare_command file relinked board input) = false
+measures (check_command file board input cert) = true
+measures (show_command file board) = false
+measures (gen_command seed kernels out) = false
+measures (hex_command file out) = false
+measures (hex_check_command file hex) = false
+
+-- what a command tells of the run that it measures, or nothing where it measures none: a rule for each that does
+pub data TellsEnd (command : PlainCommand) (inputs : List (List ℕ)) (told : Option MeasuredEnd) : Type 0 where
+  relink_ends : (file_name board_name input_name out_name cert_name file board input : List ℕ) (end : MeasuredEnd)
+      → command ≡ relink_command file_name board_name input_name out_name cert_name
+      → inputs ≡ file ∷ board ∷ input ∷ [] → told ≡ Some end → MeasuresTo file board input end → TellsEnd command inputs told
+  profile_ends : (file_name board_name input_name file board input : List ℕ) (end : MeasuredEnd)
+      → command ≡ profile_command file_name board_name input_name
+      → inputs ≡ file ∷ board ∷ input ∷ [] → told ≡ Some end → MeasuresTo file board input end → TellsEnd command inputs told
+  check_ends : (file_name board_name input_name cert_name file board input cert : List ℕ) (end : MeasuredEnd)
+      → command ≡ check_command file_name board_name input_name cert_name
+      → inputs ≡ file ∷ board ∷ input ∷ cert ∷ [] → told ≡ Some end → MeasuresTo file board input end → TellsEnd command inputs told
+  measures_none : measures command ≡ false → told ≡ None → TellsEnd command inputs told
