@@ -2,8 +2,8 @@
 use Rattle.std.proofs.Common.{◌≡◌, inl, inr, ℕ, ◌+◌, ◌<◌, true, false, List, [], ◌∷◌, length, refl, arith}
 use Rattle.std.proofs.lemmas.List.{length-append}
 use Rattle.std.proofs.lemmas.List.Elements.{All-nil, All-cons}
-use Rattle.overlay_stubs.specs.declared.plan.CopyJob.{CopyJob}
-use Rattle.overlay_stubs.specs.Jobs.{copying, IsJob}
+use Rattle.copy_jobs.specs.declared.job.CopyJob.{CopyJob}
+use Rattle.copy_jobs.specs.Jobs.{copying, IsJob}
 use Rattle.overlay_stubs.specs.Start.{StartPlan, CanStart, Spares, start_bytes}
 use Rattle.overlay_stubs.specs.PlainStubs.{PlainStub, CanJump}
 use Rattle.overlay_stubs.specs.Layout.{CodePlan, CanStand, SparesRest, alone, bytes_behind}

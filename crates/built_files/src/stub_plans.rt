@@ -3,7 +3,8 @@ ghost use Rattle.overlay_stubs.specs.Layout.{CanStand};
 ghost use Rattle.overlay_stubs.specs.Plans.{IsPlain, IsPlainPlan, code_plan, plain_stub, words_of};
 
 use anyhow::{Result, bail};
-use overlay_stubs::{Body, CopyJob, Stub, StubPlan, sizes, stubs};
+use copy_jobs::CopyJob;
+use overlay_stubs::{Body, Stub, StubPlan, sizes, stubs};
 use std::alloc::{AllocError, Global};
 
 /// A piece of twelve words, copied for the scratchpad: a table is added, and the last jump goes home.

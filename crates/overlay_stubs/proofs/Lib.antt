@@ -1,8 +1,4 @@
-pub mod Copies
-pub mod Turns
-pub mod JobLemmas
 pub mod WordLemmas
-pub mod ByteLemmas
 pub mod Order
 pub mod Places
 pub mod Starting

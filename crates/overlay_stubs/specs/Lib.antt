@@ -6,7 +6,7 @@ pub use Rattle.flat_machine.specs.Mapping
 pub use Rattle.flat_machine.specs.State
 pub use Rattle.flat_machine.specs.Runs
 pub use Rattle.flat_machine.specs.Lines
-pub mod Jobs
+pub use Rattle.copy_jobs.specs.Jobs
 pub mod Start
 pub mod PlainStubs
 pub mod Layout

@@ -1,5 +1,6 @@
 ghost use Rattle.std.specs.Prelude.{◌≡◌, ℕ, ◌+◌, ◌*◌, ◌<◌, ◌++◌, length, IfOk, replicate};
-ghost use Rattle.overlay_stubs.specs.Start.{CanStart, AreStartWords, fences, start_bytes};
+ghost use Rattle.overlay_stubs.specs.Start.{CanStart, AreStartWords, start_bytes};
+ghost use Rattle.copy_jobs.specs.Jobs.{fences};
 ghost use Rattle.overlay_stubs.specs.PlainStubs.{AreByHome};
 ghost use Rattle.overlay_stubs.specs.Layout.{CanStand, AreCodeWords, bytes_behind};
 ghost use Rattle.overlay_stubs.specs.Plans.{start_of, plain_stubs, code_plan, sizes_of, IsPlainPlan, IsStubCode};

@@ -1,16 +1,10 @@
 // Laws of the definitions: functions that do nothing, whose contracts are what is proved.
-ghost use Rattle.overlay_stubs.specs.Laws.{JobsCopy, StartRuns, PlainStubRuns, PartsStand};
+ghost use Rattle.overlay_stubs.specs.Laws.{StartRuns, PlainStubRuns, PartsStand};
 
 /// Where the words of a start stub stand, with any words behind them, the flat machine copies each job's bytes in order, clears
 /// x5, x7, x28 and x31 and is at the entry after just `start_run` steps. All else is as it was.
 pub fn start_runs()
     ensures { StartRuns }
-{}
-
-/// What jobs leave in memory, byte by byte: outside all targets nothing changes, and a target's byte
-/// is its source's, where no other job is in the way.
-pub fn jobs_copy()
-    ensures { JobsCopy }
 {}
 
 /// Where the two words of a plain stub stand, the flat machine runs them without an access and is

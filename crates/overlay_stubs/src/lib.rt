@@ -10,5 +10,5 @@ mod laws;
 mod plan;
 
 pub use code::{sizes, stubs};
-pub use laws::{jobs_copy, parts_stand, plain_stub_runs, start_runs};
-pub use plan::{Body, CopyJob, Stub, StubCode, StubPlan, StubSizes};
+pub use laws::{parts_stand, plain_stub_runs, start_runs};
+pub use plan::{Body, Stub, StubCode, StubPlan, StubSizes};

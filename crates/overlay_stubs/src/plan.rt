@@ -1,10 +1,4 @@
-/// Copies `bytes` bytes from one address to another.
-#[derive(Clone, Copy, PartialEq, Eq)]
-pub struct CopyJob {
-    pub from: u32,
-    pub to: u32,
-    pub bytes: u32,
-}
+use copy_jobs::CopyJob;
 
 /// What a stub does: goes to the copy of an entry, or runs the words that its home was taken from.
 #[derive(Drop)]

@@ -15,9 +15,10 @@ use crate::analysis::least_patch;
 use crate::standing::start_place;
 use board_config::Board;
 use copied_result::PlacedCopy;
+use copy_jobs::CopyJob;
 use elf_writer::{SegmentBytes, push_words};
 use object_graph::Graph;
-use overlay_stubs::{CopyJob, Stub, StubPlan, stubs};
+use overlay_stubs::{Stub, StubPlan, stubs};
 use relocator::Places;
 use std::alloc::{AllocError, Global};
 

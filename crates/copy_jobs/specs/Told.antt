@@ -6,8 +6,8 @@ use Rattle.flat_machine.specs.declared.events.FlatEvent.{FlatEvent}
 use Rattle.flat_machine.specs.declared.events.FlatOutcome.TheVariants.{GoesOn}
 use Rattle.flat_machine.specs.State.{State}
 use Rattle.flat_machine.specs.Runs.{Does}
-use Rattle.overlay_stubs.specs.declared.plan.CopyJob.{CopyJob}
-use Rattle.overlay_stubs.specs.Jobs.{copies_words, unit_bytes, turns}
+use Rattle.copy_jobs.specs.declared.job.CopyJob.{CopyJob}
+use Rattle.copy_jobs.specs.Jobs.{copies_words, unit_bytes, turns}
 
 abbrev pub access_in : Option FlatAccess → List FlatAccess
 access_in None = []
@@ -49,12 +49,3 @@ job_accesses job = turn_accesses (unit_bytes (copies_words job)) job.from job.to
 
 abbrev pub jobs_accesses : List CopyJob → List FlatAccess
 jobs_accesses jobs = flat_map job_accesses jobs
-
--- a word for each of these registers is written, or read, from an address on
-abbrev pub saves_accesses : List ℕ → ℕ → List FlatAccess
-saves_accesses [] at = []
-saves_accesses (x ∷ xs) at = write_at at ∷ saves_accesses xs (at + 4)
-
-abbrev pub restores_accesses : List ℕ → ℕ → List FlatAccess
-restores_accesses [] at = []
-restores_accesses (x ∷ xs) at = read_at at ∷ restores_accesses xs (at + 4)

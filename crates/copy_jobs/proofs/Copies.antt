@@ -6,7 +6,7 @@ use Rattle.word_bits.specs.Words.{plus, word_of}
 use Rattle.word_bits.specs.Memory.{Memory, put, word_at, put_byte, put_word, bytes_at, put_bytes}
 use Rattle.rv_decode.specs.Acts.{loaded, stored}
 use Rattle.paged_store.proofs.Puts.{put_bytes_before, put_bytes_behind, put_bytes-append, put_bytes-word}
-use Rattle.overlay_stubs.specs.Jobs.{unit_bytes, unit_load, unit_store, AreDisjoint}
+use Rattle.copy_jobs.specs.Jobs.{unit_bytes, unit_load, unit_store, AreDisjoint}
 
 -- the memory after `n` bytes
 abbrev pub after : Memory → ℕ → ℕ → ℕ → Memory

@@ -27,7 +27,7 @@ use Rattle.flat_machine.specs.Lines.{with_hart, acted, IsOrdinary, Fetches, Code
 use Rattle.flat_machine.proofs.Runs.{does_joined}
 use Rattle.flat_machine.proofs.Lines.{line_does}
 use Rattle.flat_machine.proofs.LineWords.{word_kept}
-use Rattle.switch_routine.specs.Told.{access_in, accesses, IsFrom, Way}
+use Rattle.copy_jobs.specs.Told.{access_in, accesses, IsFrom, Way}
 
 -- ---- one behind the other
 

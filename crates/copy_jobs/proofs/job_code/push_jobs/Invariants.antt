@@ -1,7 +1,7 @@
 use Rattle.std.proofs.Common.{◌≡◌, ◌++◌, drop}
 use Rattle.std.specs.List.{flat_map}
-use Rattle.overlay_stubs.specs.Jobs.{copying}
-use Rattle.overlay_stubs.proofs.instructions.push_jobs.Given as goal
+use Rattle.copy_jobs.specs.Jobs.{copying}
+use Rattle.copy_jobs.proofs.job_code.push_jobs.Given as goal
 
 abbrev pub invariant-loop-job : goal.invariant-loop-job
 invariant-loop-job l =

@@ -5,11 +5,9 @@ use Rattle.std.proofs.lemmas.Bool.{cases_eq}
 use Rattle.std.proofs.lemmas.Bool.Decides.{nat_tests}
 use Rattle.std.proofs.lemmas.List.Elements.{All-head, All-tail}
 use Rattle.word_bits.specs.Memory.{Memory, put}
-use Rattle.overlay_stubs.specs.declared.plan.CopyJob.{CopyJob}
-use Rattle.overlay_stubs.specs.Jobs.{copied}
-use Rattle.overlay_stubs.specs.Start.{all_copied}
-use Rattle.overlay_stubs.specs.Laws.{IsOutside, JobsCopy}
-use Rattle.overlay_stubs.proofs.Copies.{after, after_more, after_before, after_behind}
+use Rattle.copy_jobs.specs.declared.job.CopyJob.{CopyJob}
+use Rattle.copy_jobs.specs.Jobs.{copied, all_copied, IsOutside, JobsCopy}
+use Rattle.copy_jobs.proofs.Copies.{after, after_more, after_before, after_behind}
 
 put_here : (m : Memory) (a b v : ℕ) → a ≡ b → put m b v a ≡ v
 unfolding put

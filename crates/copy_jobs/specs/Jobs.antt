@@ -1,8 +1,8 @@
--- Copy jobs: the words of one, and what it leaves in memory.
-use Rattle.std.specs.Prelude.{◌⊎◌, ℕ, ◌+◌, ◌*◌, ◌/◌, ◌%◌, ◌<◌, ◌≤◌, ◌==◌, Bool, true, false, ◌&&◌, List, [], ◌∷◌, ◌++◌, pos, negsuc}
+-- Copy jobs: the words of one, and what jobs leave in memory.
+use Rattle.std.specs.Prelude.{◌≡◌, All, ◌⊎◌, ℕ, ◌+◌, ◌*◌, ◌/◌, ◌%◌, ◌<◌, ◌≤◌, ◌==◌, Bool, true, false, ◌&&◌, List, [], ◌∷◌, ◌++◌, pos, negsuc}
 use Rattle.word_bits.specs.Memory.{Memory, bytes_at, put_bytes}
 use Rattle.rv_decode.specs.declared.instructions.Instr.{Instr}
-use Rattle.rv_decode.specs.declared.instructions.Instr.TheVariants.{Branch, Load, Store, OpImm}
+use Rattle.rv_decode.specs.declared.instructions.Instr.TheVariants.{Branch, Load, Store, OpImm, FenceI}
 use Rattle.rv_decode.specs.declared.instructions.BranchKind.TheVariants.{Bne}
 use Rattle.rv_decode.specs.declared.instructions.LoadKind.{LoadKind}
 use Rattle.rv_decode.specs.declared.instructions.LoadKind.TheVariants.{Lw, Lbu}
@@ -10,7 +10,9 @@ use Rattle.rv_decode.specs.declared.instructions.StoreKind.{StoreKind}
 use Rattle.rv_decode.specs.declared.instructions.StoreKind.TheVariants.{Sb, Sw}
 use Rattle.rv_decode.specs.declared.instructions.ImmKind.TheVariants.{Addi}
 use Rattle.rv_decode.specs.Sequences.{load_immediate}
-use Rattle.overlay_stubs.specs.declared.plan.CopyJob.{CopyJob}
+use Rattle.board_config.specs.declared.board.Range.{Range}
+use Rattle.flat_machine.specs.Lines.{AreMapped}
+use Rattle.copy_jobs.specs.declared.job.CopyJob.{CopyJob}
 
 -- whether a job copies words: where both addresses and the number of bytes are multiples of four.
 -- Any other job copies single bytes.
@@ -53,6 +55,24 @@ job_run job = 6 + 5 * turns job
 abbrev pub copied : Memory → CopyJob → Memory
 copied mem job = put_bytes mem job.to (bytes_at mem job.from job.bytes)
 
+-- ---- jobs in order
+
+-- how many words they run, and the memory after them
+abbrev pub jobs_run : List CopyJob → ℕ
+jobs_run [] = 0
+jobs_run (job ∷ jobs) = job_run job + jobs_run jobs
+
+abbrev pub all_copied : Memory → List CopyJob → Memory
+all_copied mem [] = mem
+all_copied mem (job ∷ jobs) = all_copied (copied mem job) jobs
+
+-- FENCE.I behind jobs, where it is asked for, so that copied code is fetched ("Zifencei")
+abbrev pub fences : Bool → List Instr
+fences true = FenceI 0 ∷ []
+fences false = []
+
+-- ---- conditions
+
 -- ranges of `n` and of `m` addresses don't meet
 abbrev pub AreDisjoint : ℕ → ℕ → ℕ → ℕ → Type 0
 AreDisjoint a n b m = (a + n ≤ b) ⊎ (b + m ≤ a)
@@ -63,3 +83,20 @@ pub record IsJob (job : CopyJob) : Type 0 where
   pub source : job.from + job.bytes < 4294967296
   pub target : job.to + job.bytes < 4294967296
   pub disjoint : AreDisjoint job.from job.bytes job.to job.bytes
+
+-- both ranges of a job are mapped
+abbrev pub CanCopy : List Range → CopyJob → Type 0
+CanCopy map job = AreMapped map job.from job.bytes × AreMapped map job.to job.bytes
+
+-- an address that a job doesn't write
+abbrev pub IsOutside : ℕ → CopyJob → Type 0
+IsOutside a job = (a < job.to) ⊎ (job.to + job.bytes ≤ a)
+
+-- what jobs leave, byte by byte: an address outside all targets keeps its byte; and a byte of a
+-- target is that of its source, if no job before wrote that, and none behind writes over it
+pub record JobsCopy : Type 0 where
+  pub elsewhere : (mem : Memory) (jobs : List CopyJob) (a : ℕ) → All (IsOutside a) jobs →
+      all_copied mem jobs a ≡ mem a
+  pub target : (mem : Memory) (first last : List CopyJob) (job : CopyJob) (i : ℕ) → i < job.bytes →
+      All (IsOutside (job.from + i)) first → All (IsOutside (job.to + i)) last →
+      all_copied mem (first ++ job ∷ last) (job.to + i) ≡ mem (job.from + i)

@@ -23,15 +23,13 @@ use Rattle.flat_machine.specs.State.{State}
 use Rattle.flat_machine.specs.Lines.{with_hart, acted, CodeAt, AreMapped}
 use Rattle.flat_machine.proofs.LineWords.{code_front, code_behind, accessed}
 use Rattle.flat_machine.proofs.SilentLines.{immediate_here, immediate_others}
-use Rattle.overlay_stubs.specs.declared.plan.CopyJob.{CopyJob}
-use Rattle.overlay_stubs.specs.Jobs.{copies_words, unit_bytes, unit_load, unit_store, turn, copying, turns, job_run, AreDisjoint, IsJob}
-use Rattle.overlay_stubs.specs.Start.{jobs_run, all_copied}
-use Rattle.overlay_stubs.specs.Laws.{CanCopy}
-use Rattle.overlay_stubs.proofs.Copies.{after, after_disjoint, after_small, unit_more}
-use Rattle.overlay_stubs.proofs.ByteLemmas.{in_order}
-use Rattle.overlay_stubs.proofs.JobLemmas.{eleven}
-use Rattle.switch_routine.specs.Told.{read_at, write_at, turn_accesses, job_accesses, jobs_accesses}
-use Rattle.switch_routine.proofs.Ways.{StandsStill, Passed, Straight, step_way, lui_follows, addi_follows, load_follows, store_follows, straight, passed_on, passed_as, stay}
+use Rattle.copy_jobs.specs.declared.job.CopyJob.{CopyJob}
+use Rattle.copy_jobs.specs.Jobs.{copies_words, unit_bytes, unit_load, unit_store, turn, copying, turns, job_run, AreDisjoint, IsJob, jobs_run, all_copied, CanCopy}
+use Rattle.copy_jobs.proofs.Copies.{after, after_disjoint, after_small, unit_more}
+use Rattle.copy_jobs.proofs.ByteLemmas.{in_order}
+use Rattle.copy_jobs.proofs.JobRanges.{eleven}
+use Rattle.copy_jobs.specs.Told.{read_at, write_at, turn_accesses, job_accesses, jobs_accesses}
+use Rattle.copy_jobs.proofs.Ways.{StandsStill, Passed, Straight, step_way, lui_follows, addi_follows, load_follows, store_follows, straight, passed_on, passed_as, stay}
 
 -- how many words jobs run
 pub jobs_run-append : (js ks : List CopyJob) → jobs_run (js ++ ks) ≡ jobs_run js + jobs_run ks
