@@ -1,7 +1,14 @@
 pub mod WordLemmas
+pub mod Held
 pub mod Order
 pub mod Places
 pub mod Starting
 pub mod PlainRuns
-pub mod PlanLemmas
 pub mod Alone
+pub mod Serves
+pub mod RegionCodes
+pub mod SizeLemmas
+pub mod WholePlans
+pub mod WholePlaces
+pub mod FromPads
+pub mod Plain

@@ -24,7 +24,7 @@ use Rattle.copy_jobs.specs.Jobs.{copying, fences, jobs_run, all_copied, AreDisjo
 use Rattle.overlay_stubs.specs.Start.{StartPlan, CanStart, Spares, AreStartWords, clears, start_at, jump_at, start_stub, start_bytes, start_run, cleared}
 use Rattle.copy_jobs.proofs.JobWays.{CanRun, jobs_way}
 use Rattle.overlay_stubs.specs.Laws.{IsAtStart, started, StartRuns}
-use Rattle.overlay_stubs.proofs.Places.{held_front}
+use Rattle.overlay_stubs.proofs.Held.{held_front}
 
 -- ---- the end of the stub
 
