@@ -1,5 +1,5 @@
 -- From a pad to the body of a stub.
-use Rattle.std.proofs.Common.{inl, inr, ◌≡◌, ℕ, zero, suc, ◌+◌, ◌-◌, ◌*◌, ◌%◌, ◌<◌, ◌≤◌, ◌==◌, true, false, if◌then◌else◌, List, [], ◌∷◌, ◌++◌, length, slice_index_or, refl, sym, ◌∙◌, ap, subst, arith}
+use Rattle.std.proofs.Common.{◌≡◌, ℕ, zero, suc, ◌+◌, ◌-◌, ◌*◌, ◌%◌, ◌<◌, ◌≤◌, ◌==◌, true, false, List, [], ◌∷◌, ◌++◌, length, refl, ◌∙◌, ap, subst, arith}
 use Rattle.std.specs.Prelude.{All}
 use Rattle.std.proofs.lemmas.Bool.Decides.{nat_tests}
 use Rattle.std.proofs.lemmas.List.Elements.{All-contains}
@@ -13,19 +13,19 @@ use Rattle.rv_decode.proofs.SequenceLemmas.{arrives, mean_count}
 use Rattle.flat_machine.specs.declared.events.FlatAccess.{FlatAccess}
 use Rattle.flat_machine.specs.Mapping.{can_access}
 use Rattle.flat_machine.specs.State.{State}
-use Rattle.flat_machine.specs.Lines.{AreMapped, HoldsAt, CodeAt, Ran, went}
+use Rattle.flat_machine.specs.Lines.{HoldsAt, CodeAt, Ran, went}
 use Rattle.flat_machine.proofs.LineWords.{accessed, words_fetched, word_kept}
 use Rattle.flat_machine.proofs.SilentLines.{one_ran}
 use Rattle.copy_jobs.specs.declared.job.CopyJob.{CopyJob}
-use Rattle.copy_jobs.specs.Jobs.{CanCopy, AreDisjoint}
+use Rattle.copy_jobs.specs.Jobs.{CanCopy}
 use Rattle.copy_jobs.specs.Told.{Way, read_at}
 use Rattle.switch_routine.specs.Switching.{routine, jobs_code}
 use Rattle.switch_routine.specs.Checking.{checking}
 use Rattle.switch_routine.specs.Switches.{FitsJob, HasRoutine, IsAtStub, CameTo, Switched}
 use Rattle.switch_routine.proofs.Checked.{stub_passes_so, stub_switches_so}
 use Rattle.overlay_stubs.specs.Start.{start_at, start_bytes}
-use Rattle.overlay_stubs.specs.Serving.{ServingStub, test_code, test_bytes, IsBody}
-use Rattle.overlay_stubs.specs.Overlay.{OverlayPlan, switching, switch_code, switch_bytes, switch_at, serving_at, serving_place, rest_bytes, CanServe, CanMove, CanHold}
+use Rattle.overlay_stubs.specs.Serving.{ServingStub, test_code, test_bytes}
+use Rattle.overlay_stubs.specs.Overlay.{OverlayPlan, switching, switch_code, switch_at, serving_place, rest_bytes, CanServe, CanMove}
 use Rattle.overlay_stubs.specs.Served.{HasCode, IsAtPad, IsServedInside, ServingStands, CameToBody, body_at, jobs_from, accesses_from, run_from, PadsLead}
 use Rattle.overlay_stubs.proofs.Held.{held_front, held_behind}
 use Rattle.overlay_stubs.proofs.RegionCodes.{some_routine}

@@ -1,5 +1,5 @@
 -- Things by home address, one behind the other.
-use Rattle.std.proofs.Common.{inl, inr, ◌≡◌, ℕ, zero, suc, ◌+◌, ◌*◌, ◌<◌, ◌≤◌, nat_lt, if◌then◌else◌, true, false, List, [], ◌∷◌, map, take, length, slice_index_or, ◌∙◌, ap, subst, arith, refl}
+use Rattle.std.proofs.Common.{inl, inr, ◌≡◌, ℕ, zero, suc, ◌+◌, ◌<◌, ◌≤◌, nat_lt, true, false, List, [], ◌∷◌, map, take, length, slice_index_or, ◌∙◌, ap, subst, arith, refl}
 use Rattle.std.specs.Prelude.{AllPairs}
 use Rattle.std.specs.List.{sum_by}
 use Rattle.std.specs.List.Sorted.{IsPermutation, IsNonDecreasing, IsNonDecreasingBy, IsStrictlyIncreasing, IsPartitionPoint}

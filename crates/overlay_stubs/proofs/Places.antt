@@ -1,13 +1,12 @@
 -- Where the parts of the code stand.
-use Rattle.std.proofs.Common.{◌≡◌, ℕ, zero, suc, ◌+◌, ◌*◌, ◌%◌, ◌<◌, ◌≤◌, List, [], ◌∷◌, ◌++◌, length, slice_index, slice_index_or, refl, ◌∙◌, ap, subst, arith}
+use Rattle.std.proofs.Common.{◌≡◌, ℕ, zero, suc, ◌+◌, ◌*◌, ◌%◌, ◌<◌, List, [], ◌∷◌, ◌++◌, length, slice_index, slice_index_or, refl, ◌∙◌, ap, subst, arith}
 use Rattle.std.specs.Prelude.{All}
 use Rattle.std.specs.List.{flat_map, concat}
 use Rattle.std.proofs.lemmas.Bool.Decides.{nat_tests}
-use Rattle.std.proofs.lemmas.List.{length-append, get_or_default, get_or-append-add}
+use Rattle.std.proofs.lemmas.List.{length-append, get_or_default}
 use Rattle.std.proofs.lemmas.List.Sums.{sum_by-cons}
 use Rattle.std.proofs.lemmas.List.Sorted.{Contains-permutation, sum_by-IsPermutation}
-use Rattle.std.proofs.Math.ListN.{get_or-append}
-use Rattle.word_bits.specs.Memory.{Memory, word_at}
+use Rattle.word_bits.specs.Memory.{Memory}
 use Rattle.rv_decode.specs.Sequences.{MeanAll}
 use Rattle.rv_decode.proofs.SequenceLemmas.{mean_count}
 use Rattle.flat_machine.specs.Lines.{HoldsAt}

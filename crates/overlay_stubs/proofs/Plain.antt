@@ -1,9 +1,8 @@
 -- A plan without regions whose stubs are plain, as a whole plan.
-use Rattle.std.proofs.Common.{inl, inr, ◌≡◌, ℕ, zero, suc, ◌+◌, ◌*◌, ◌%◌, ◌<◌, ◌≤◌, ◌==◌, nat_lt, if◌then◌else◌, List, [], ◌∷◌, ◌++◌, map, length, slice_index_or, refl, sym, ◌∙◌, ap, subst, arith}
+use Rattle.std.proofs.Common.{inl, inr, ◌≡◌, ℕ, zero, suc, ◌+◌, ◌*◌, ◌%◌, ◌<◌, ◌==◌, nat_lt, if◌then◌else◌, List, [], ◌∷◌, ◌++◌, map, length, slice_index_or, refl, sym, ◌∙◌, ap, subst, arith}
 use Rattle.std.specs.Prelude.{All, AllPairs}
 use Rattle.std.specs.List.{flat_map, concat}
 use Rattle.std.specs.List.Sorted.{IsPermutation, IsStrictlyIncreasing}
-use Rattle.std.proofs.lemmas.Bool.Decides.{nat_tests}
 use Rattle.std.proofs.lemmas.List.Elements.{All-nil, All-cons, All-head, All-tail}
 use Rattle.std.proofs.lemmas.List.Sums.{sum_by-cons}
 use Rattle.std.proofs.lemmas.List.Sorted.{IsPermutation-map, All-permutation}
@@ -18,9 +17,9 @@ use Rattle.overlay_stubs.specs.declared.plan.StubPlan.{StubPlan}
 use Rattle.overlay_stubs.specs.declared.plan.StubCode.{StubCode}
 use Rattle.overlay_stubs.specs.Start.{start_bytes}
 use Rattle.overlay_stubs.specs.PlainStubs.{PlainStub, CanJump, home_of, stub_code, stub_bytes, stubs_bytes, bytes_below}
-use Rattle.overlay_stubs.specs.Layout.{CodePlan, CanStand, SparesRest, AreCodeWords, stubs_at, images_at, stub_place, image_places, bytes_behind}
+use Rattle.overlay_stubs.specs.Layout.{CanStand, SparesRest, AreCodeWords, images_at, stub_place, image_places}
 use Rattle.overlay_stubs.specs.Serving.{StubBody, jumps_to, runs_words, ServingStub, serving_home, test_code, serving_size, serving_bytes, served_before, IsBody, AreStubWords, AreServed}
-use Rattle.overlay_stubs.specs.Overlay.{OverlayPlan, switching, switch_code, switch_bytes, switch_at, serving_at, serving_place, overlay_images_at, rest_bytes, CanServeAt, CanServe, SparesWords, CanHold, AreOverlayWords}
+use Rattle.overlay_stubs.specs.Overlay.{switching, switch_code, switch_bytes, switch_at, serving_at, serving_place, overlay_images_at, rest_bytes, CanServeAt, SparesWords, CanHold, AreOverlayWords}
 use Rattle.overlay_stubs.specs.Plans.{Jumps, IsPlain, start_of, jump_of, plain_stub, code_plan, IsPlainPlan, IsStubCode, body_of, serving_stub, HasLists, overlay_plan, IsOverlayCode}
 use Rattle.overlay_stubs.proofs.Order.{below_more}
 

@@ -1,5 +1,5 @@
 -- How many bytes the switch routine takes.
-use Rattle.std.proofs.Common.{inl, inr, ◌≡◌, ℕ, zero, suc, ◌+◌, ◌*◌, ◌<◌, ◌≤◌, List, length, ◌∙◌, ap, arith}
+use Rattle.std.proofs.Common.{inl, inr, ◌≡◌, ℕ, zero, suc, ◌+◌, ◌*◌, ◌<◌, ◌≤◌, List, length, ap, arith}
 use Rattle.std.proofs.lemmas.Bool.{cases_eq}
 use Rattle.rv_decode.specs.declared.instructions.Instr.{Instr}
 use Rattle.copy_jobs.specs.declared.job.CopyJob.{CopyJob}

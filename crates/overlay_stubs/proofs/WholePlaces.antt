@@ -1,22 +1,21 @@
 -- Where the parts of a whole plan's code stand.
-use Rattle.std.proofs.Common.{◌≡◌, ℕ, zero, suc, ◌+◌, ◌*◌, ◌%◌, ◌<◌, ◌≤◌, List, [], ◌∷◌, ◌++◌, length, slice_index, slice_index_or, refl, sym, ◌∙◌, ap, subst, arith}
+use Rattle.std.proofs.Common.{◌≡◌, ℕ, zero, suc, ◌+◌, ◌*◌, ◌%◌, ◌<◌, List, [], ◌++◌, length, slice_index, slice_index_or, refl, ◌∙◌, ap, subst, arith}
 use Rattle.std.specs.Prelude.{All, replicate}
 use Rattle.std.specs.List.{concat}
 use Rattle.std.proofs.lemmas.List.{append_assoc, length-append, get_or_default, get_or-append-add}
 use Rattle.std.proofs.lemmas.List.Sorted.{Contains-permutation, sum_by-IsPermutation}
 use Rattle.word_bits.specs.Memory.{Memory, word_at}
-use Rattle.rv_decode.specs.Sequences.{MeanAll}
 use Rattle.rv_decode.proofs.SequenceLemmas.{mean_count}
 use Rattle.flat_machine.specs.Lines.{HoldsAt}
 use Rattle.overlay_stubs.specs.Start.{start_at, start_bytes, start_stub}
 use Rattle.overlay_stubs.specs.Homes.{bytes_if_before}
 use Rattle.overlay_stubs.specs.Serving.{ServingStub, serving_home, serving_size, serving_bytes, served_before}
-use Rattle.overlay_stubs.specs.Layout.{image_bytes, image_places}
-use Rattle.overlay_stubs.specs.Overlay.{OverlayPlan, switch_code, switch_bytes, switch_at, serving_at, serving_place, overlay_images_at, rest_bytes, AreOverlayWords}
+use Rattle.overlay_stubs.specs.Layout.{image_places}
+use Rattle.overlay_stubs.specs.Overlay.{OverlayPlan, switch_code, switch_bytes, switch_at, serving_at, overlay_images_at, rest_bytes, AreOverlayWords}
 use Rattle.overlay_stubs.specs.Served.{HoldsCode, ServingStands, IsServedInside, OverlayStands}
 use Rattle.overlay_stubs.proofs.Held.{held_front, held_behind}
 use Rattle.overlay_stubs.proofs.Order.{ascend_from, below_fits}
-use Rattle.overlay_stubs.proofs.Serves.{StandsAt, served_count, served_found, size_aligned, before_aligned}
+use Rattle.overlay_stubs.proofs.Serves.{StandsAt, served_count, served_found, before_aligned}
 use Rattle.overlay_stubs.proofs.Places.{images_found}
 
 control_words : (n : ℕ) (xs : List ℕ) → length (replicate n 0 ++ xs) ≡ n + length xs

@@ -1,14 +1,12 @@
 -- What the start stub and plain stubs do on the flat machine, and where the parts of the code stand.
-use Rattle.std.specs.Prelude.{◌≡◌, ◌⊎◌, ℕ, ◌+◌, ◌*◌, ◌%◌, ◌<◌, ◌≤◌, List, [], ◌∷◌, ◌++◌, length, slice_index, slice_index_or, All}
+use Rattle.std.specs.Prelude.{◌≡◌, ℕ, ◌+◌, ◌*◌, ◌%◌, ◌<◌, ◌≤◌, List, [], length, slice_index, slice_index_or, All}
 use Rattle.word_bits.specs.Memory.{Memory}
 use Rattle.rv_decode.specs.Acts.{Registers}
 use Rattle.rv_decode.specs.Sequences.{MeanAll}
-use Rattle.board_config.specs.declared.board.Range.{Range}
 use Rattle.flat_machine.specs.declared.events.FlatOutcome.TheVariants.{GoesOn}
 use Rattle.flat_machine.specs.State.{State}
 use Rattle.flat_machine.specs.Runs.{Steps}
 use Rattle.flat_machine.specs.Lines.{AreMapped, HoldsAt, IsAtWords, Ran, words_from}
-use Rattle.copy_jobs.specs.declared.job.CopyJob.{CopyJob}
 use Rattle.overlay_stubs.specs.Start.{StartPlan, CanStart, BeginWithStart, start_at, start_bytes, start_run, cleared}
 use Rattle.copy_jobs.specs.Jobs.{all_copied, CanCopy}
 use Rattle.overlay_stubs.specs.PlainStubs.{PlainStub, stub_code, stub_bytes}

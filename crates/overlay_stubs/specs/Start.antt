@@ -1,10 +1,10 @@
 -- The start stub: the jobs in order, a fence where one is asked for, the registers cleared, and a
 -- jump to the program's entry. The control words stand before it.
-use Rattle.std.specs.Prelude.{◌≡◌, ℕ, ◌+◌, ◌*◌, ◌%◌, ◌<◌, Bool, true, false, List, [], ◌∷◌, ◌++◌, length, replicate, pos, All}
+use Rattle.std.specs.Prelude.{◌≡◌, ℕ, ◌+◌, ◌*◌, ◌%◌, ◌<◌, Bool, List, [], ◌∷◌, ◌++◌, length, replicate, pos, All}
 use Rattle.std.specs.List.{flat_map}
-use Rattle.word_bits.specs.Memory.{Memory, put}
+use Rattle.word_bits.specs.Memory.{put}
 use Rattle.rv_decode.specs.declared.instructions.Instr.{Instr}
-use Rattle.rv_decode.specs.declared.instructions.Instr.TheVariants.{Jal, OpImm, FenceI}
+use Rattle.rv_decode.specs.declared.instructions.Instr.TheVariants.{Jal, OpImm}
 use Rattle.rv_decode.specs.declared.instructions.ImmKind.TheVariants.{Addi}
 use Rattle.rv_decode.specs.Table.{IsEvenWithin}
 use Rattle.rv_decode.specs.Sequences.{distance, MeanAll}

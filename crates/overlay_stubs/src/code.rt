@@ -9,10 +9,10 @@ ghost use Rattle.overlay_stubs.specs.Plans.{start_of, serving_stubs, code_plan, 
 
 use crate::images::{image_places, push_images};
 use crate::instructions::start_stub;
+use crate::part_sizes::sizes;
 use crate::plan::{Stub, StubCode, StubPlan};
 use crate::routine::routine_words;
 use crate::serving::{all_stub_words, by_home, stub_places};
-use crate::part_sizes::sizes;
 use rv_decode::encode_all;
 use std::alloc::{AllocError, Global};
 

@@ -6,12 +6,12 @@ mod code;
 mod images;
 mod instructions;
 mod laws;
+mod part_sizes;
 mod plan;
 mod routine;
 mod serving;
-mod part_sizes;
 
 pub use code::{plain_code, stubs};
 pub use laws::{overlay_stands, pads_lead, parts_stand, plain_stub_runs, start_runs};
-pub use plan::{Body, Stub, StubCode, StubPlan, StubSizes};
 pub use part_sizes::sizes;
+pub use plan::{Body, Stub, StubCode, StubPlan, StubSizes};

@@ -1,4 +1,4 @@
-use Rattle.std.proofs.Common.{◌+◌, ◌<◌, sym, subst, arith}
+use Rattle.std.proofs.Common.{sym, subst, arith}
 use Rattle.overlay_stubs.specs.Overlay.{CanServeFrom, switch_at}
 use Rattle.overlay_stubs.specs.Plans.{serving_stubs, overlay_plan}
 use Rattle.overlay_stubs.proofs.WholePlans.{stubs_can, stubs_fit}

@@ -1,4 +1,4 @@
-use Rattle.std.proofs.Common.{◌≡◌, ℕ, ◌+◌, ◌*◌, ◌<◌, ◌≤◌, ap, arith}
+use Rattle.std.proofs.Common.{◌≡◌, ap, arith}
 use Rattle.switch_routine.specs.Counts.{first_words}
 use Rattle.overlay_stubs.specs.Overlay.{switching}
 use Rattle.overlay_stubs.specs.Plans.{overlay_plan}

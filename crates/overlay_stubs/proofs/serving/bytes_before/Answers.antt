@@ -1,4 +1,4 @@
-use Rattle.std.proofs.Common.{◌≡◌, ◌≤◌, ℕ, ◌+◌, List, length, slice_index, nat_lt, rules, ◌∙◌, ap, arith}
+use Rattle.std.proofs.Common.{ℕ, List, length, slice_index, nat_lt, rules, ◌∙◌, ap, arith}
 use Rattle.std.proofs.lemmas.List.{length-map}
 use Rattle.std.proofs.lemmas.List.Sorted.{IsPartitionPoint-from_clause, IsPartitionedBy-ltb}
 use Rattle.overlay_stubs.specs.Serving.{serving_home, serving_size}

@@ -1,4 +1,4 @@
-use Rattle.std.proofs.Common.{List, ◌<◌, sym, subst, arith}
+use Rattle.std.proofs.Common.{List, sym, subst, arith}
 use Rattle.std.specs.Prelude.{All}
 use Rattle.rv_decode.specs.declared.instructions.Instr.{Instr}
 use Rattle.rv_decode.specs.Table.{IsInRange}
