@@ -2,11 +2,11 @@
 use Rattle.std.proofs.Common.{◌≡◌, inl, inr, ℕ, ◌+◌, ◌<◌, true, false, List, [], ◌∷◌, length, refl, arith}
 use Rattle.std.proofs.lemmas.List.{length-append}
 use Rattle.std.proofs.lemmas.List.Elements.{All-nil, All-cons}
-use Rattle.overlay_stubs.specs.declared.plan.CopyJob.{CopyJob}
-use Rattle.overlay_stubs.specs.Jobs.{copying, IsJob}
-use Rattle.overlay_stubs.specs.Start.{StartPlan, CanStart, Spares, start_bytes}
+use Rattle.copy_jobs.specs.declared.job.CopyJob.{CopyJob}
+use Rattle.copy_jobs.specs.Jobs.{copying, IsJob}
+use Rattle.overlay_stubs.specs.Start.{StartPlan, CanStart, Spares}
 use Rattle.overlay_stubs.specs.PlainStubs.{PlainStub, CanJump}
-use Rattle.overlay_stubs.specs.Layout.{CodePlan, CanStand, SparesRest, alone, bytes_behind}
+use Rattle.overlay_stubs.specs.Layout.{CodePlan, CanStand, SparesRest, alone}
 use Rattle.overlay_stubs.proofs.Alone.{alone_stands}
 
 -- one job of words, from behind the stub
@@ -85,7 +85,3 @@ two_start =
 
 pub two_stand : CanStand (alone two)
 two_stand = alone_stands two two_start
-
--- what can stand there has small sizes
-pub sizes_fit : (p : CodePlan) → CanStand p → start_bytes p.start + bytes_behind p < 4294967296
-sizes_fit p can = let ends = can.ends in omega (arith, ends)

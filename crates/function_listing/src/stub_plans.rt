@@ -3,7 +3,8 @@ ghost use Rattle.overlay_stubs.specs.Layout.{CanStand};
 ghost use Rattle.overlay_stubs.specs.Plans.{IsPlain, IsPlainPlan, code_plan, plain_stub, words_of};
 
 use anyhow::{Result, bail};
-use overlay_stubs::{Body, CopyJob, Stub, StubPlan, sizes, stubs};
+use copy_jobs::CopyJob;
+use overlay_stubs::{Body, Stub, StubPlan, plain_code, sizes};
 use std::alloc::{AllocError, Global};
 
 /// A piece of twelve words, copied for the scratchpad: a table is added, and the last jump goes home.
@@ -37,11 +38,14 @@ fn plan_of(
         base: 0x0009_0000,
         entry: 0x0001_0000,
         fence_i,
+        twins: false,
         start,
         stubs,
         regions: 0,
         leave: Vec::new(alloc),
         enter: Vec::new(alloc),
+        kept_leave: Vec::new(alloc),
+        kept_enter: Vec::new(alloc),
         images,
     }
 }
@@ -120,10 +124,9 @@ fn plan_named(alloc: Global, name: &str) -> Result<StubPlan>
 }
 
 /// Tells the words of the patch range for the plan `words`, `bytes` or `piece`, and where the parts stand.
-#[tactic(auto, using(crate::proofs::Examples::sizes_fit))]
 pub(crate) fn tell_stub(rt: &(impl Print + AllocGlobal), text: &str) -> Result<()> {
     let plan = plan_named(rt.alloc(), text)?;
-    let code = stubs(rt.alloc(), &plan)?;
+    let code = plain_code(rt.alloc(), &plan)?;
     println!(rt; "stub of {text} at {:#x}, {:?}", code.start, sizes(&plan))?;
     println!(rt; "  stubs {:?}, images {:?}", code.stub_at, code.image_at)?;
     for word in &code.words {

@@ -5,7 +5,7 @@ use Rattle.std.proofs.lemmas.List.{append-nil}
 use Rattle.std.proofs.lemmas.List.Elements.{All-nil}
 use Rattle.std.proofs.lemmas.List.Sorted.{length_permutation}
 use Rattle.rv_decode.specs.Sequences.{MeanAll}
-use Rattle.overlay_stubs.specs.declared.plan.CopyJob.{CopyJob}
+use Rattle.copy_jobs.specs.declared.job.CopyJob.{CopyJob}
 use Rattle.overlay_stubs.specs.Start.{StartPlan, CanStart, Spares, AreStartWords}
 use Rattle.overlay_stubs.specs.PlainStubs.{PlainStub, CanJump, stub_code}
 use Rattle.overlay_stubs.specs.Layout.{alone, SparesRest, CanStand, AreCodeWords}

@@ -1,6 +1,6 @@
 -- The start stub as a whole.
-use Rattle.std.proofs.Common.{◌≡◌, ℕ, zero, suc, ◌+◌, ◌*◌, ◌<◌, Bool, true, false, List, [], ◌∷◌, ◌++◌, length, slice_index, refl, sym, ◌∙◌, ap, subst, arith}
-use Rattle.std.specs.Prelude.{replicate}
+use Rattle.std.proofs.Common.{◌≡◌, inl, inr, ℕ, zero, suc, ◌+◌, ◌*◌, ◌<◌, Bool, true, false, List, [], ◌∷◌, ◌++◌, length, slice_index, slice_index_or, refl, sym, ◌∙◌, ap, subst, arith}
+use Rattle.std.specs.Prelude.{All, replicate}
 use Rattle.std.specs.List.{flat_map}
 use Rattle.std.proofs.lemmas.Grind.{common_steps}
 use Rattle.std.proofs.lemmas.List.{length-append}
@@ -15,15 +15,16 @@ use Rattle.rv_decode.proofs.SequenceLemmas.{arrives, mean_count}
 use Rattle.flat_machine.specs.Mapping.{can_access}
 use Rattle.flat_machine.specs.State.{State}
 use Rattle.flat_machine.specs.Runs.{Steps}
-use Rattle.flat_machine.proofs.Runs.{steps_joined}
+use Rattle.flat_machine.proofs.Runs.{steps_joined, steps_of_events}
 use Rattle.flat_machine.specs.Lines.{with_hart, acted, Line, CodeAt, HoldsAt}
 use Rattle.flat_machine.proofs.Lines.{line_runs, ArePlain, plain_line, plain_pc, plain_mem}
-use Rattle.flat_machine.proofs.LineWords.{code_front, code_behind, words_fetched, accessed}
-use Rattle.overlay_stubs.specs.Jobs.{copying}
-use Rattle.overlay_stubs.specs.Start.{StartPlan, CanStart, AreStartWords, fences, clears, start_at, jump_at, start_stub, start_bytes, jobs_run, start_run, all_copied, cleared}
+use Rattle.flat_machine.proofs.LineWords.{code_kept, code_front, code_behind, words_fetched, accessed}
+use Rattle.copy_jobs.specs.declared.job.CopyJob.{CopyJob}
+use Rattle.copy_jobs.specs.Jobs.{copying, fences, jobs_run, all_copied, AreDisjoint}
+use Rattle.overlay_stubs.specs.Start.{StartPlan, CanStart, Spares, AreStartWords, clears, start_at, jump_at, start_stub, start_bytes, start_run, cleared}
+use Rattle.copy_jobs.proofs.JobWays.{CanRun, jobs_way}
 use Rattle.overlay_stubs.specs.Laws.{IsAtStart, started, StartRuns}
-use Rattle.overlay_stubs.proofs.JobLemmas.{jobs_done}
-use Rattle.overlay_stubs.proofs.Places.{held_front}
+use Rattle.overlay_stubs.proofs.Held.{held_front}
 
 -- ---- the end of the stub
 
@@ -90,36 +91,56 @@ module _ (p : StartPlan) (words : List ℕ) (s : State) (can : CanStart p) (are 
   in_order : start_stub p ≡ flat_map copying p.jobs ++ tail
   in_order = grind (arith, common_steps)
 
+  spares : (job : CopyJob) → Spares p job → AreDisjoint job.to job.bytes (start_at p) (start_bytes p)
+  spares job (inl before) = inl (omega (arith, before))
+  spares job (inr past) = inr (omega (arith, past))
+
+  can_run : All (CanRun s here.going (start_at p) (start_bytes p) can.ends s.hart.mem) p.jobs
+  can_run k d below =
+      record {
+        is = can.jobs k d below;
+        can = here.copied k d below;
+        spares = spares (slice_index_or p.jobs k d) (can.spared k d below);
+      }
+
   pub runs : Steps (start_run p) s (started p s)
   runs =
       let order = in_order in
       let size = ap (λ (is : List Instr). length is) order in
       let ends_at = can.ends in
+      let length_all = length-append (flat_map copying p.jobs) tail in
       let whole : CodeAt s.map s.hart.mem (start_at p) (flat_map copying p.jobs ++ tail) =
       subst (λ is. CodeAt s.map s.hart.mem (start_at p) is) order code in
+      let lo : ℕ = start_at p in
+      let room : ℕ = start_bytes p in
       let jobs =
-      jobs_done s here.going p.base (64 + start_bytes p) (omega arith) p.jobs tail (start_at p) s.hart can.jobs here.copied can.spared
-      here.bytes here.pc (omega arith) (omega arith) whole in
+      jobs_way s here.going lo room ends_at s.hart.mem p.jobs (start_at p) s.hart can_run here.bytes
+      (λ x low high. refl) here.pc (code_front (flat_map copying p.jobs) tail s.map s.hart.mem (start_at p) whole) (omega arith) (omega (arith, size, length_all)) in
       let h1 : Hart = jobs.0 in
-      let done = jobs.1.1 in
+      let done = jobs.1 in
+      let jobs_run_so : Steps (jobs_run p.jobs) (with_hart s s.hart) (with_hart s h1) =
+      subst (λ n. Steps n s (with_hart s h1)) done.passed.way.count (steps_of_events done.passed.way.events s (with_hart s h1) done.passed.way.does) in
       let a1 : ℕ = start_at p + 4 * length (flat_map copying p.jobs) in
+      let behind : CodeAt s.map h1.mem a1 tail =
+      code_kept tail s.map s.hart.mem h1.mem a1 (omega (arith, size, length_all, ends_at))
+      (λ x low high. done.passed.still x (omega (arith, low)) (omega (arith, high, size, length_all)))
+      (code_behind (flat_map copying p.jobs) tail s.map s.hart.mem (start_at p) whole) in
       let length_tail = length-append (fences p.fence_i ++ clears) (Jal 0 (distance (jump_at p) p.entry) ∷ []) in
-      let length_all = length-append (flat_map copying p.jobs) tail in
       let length_before = length-append (flat_map copying p.jobs) (fences p.fence_i ++ clears) in
       let count_ends = ends_count p.fence_i in
       let fits : a1 + 4 * length (fences p.fence_i ++ clears) < 4294967296 = omega arith in
       let plain = ends_plain p.fence_i in
       let h2 : Hart = acted (fences p.fence_i ++ clears) h1 in
       let line =
-      plain_line (fences p.fence_i ++ clears) s h1 a1 plain done.pc fits
-      (code_front (fences p.fence_i ++ clears) (Jal 0 (distance (jump_at p) p.entry) ∷ []) s.map h1.mem a1 done.code) in
+      plain_line (fences p.fence_i ++ clears) s h1 a1 plain done.passed.pc fits
+      (code_front (fences p.fence_i ++ clears) (Jal 0 (distance (jump_at p) p.entry) ∷ []) s.map h1.mem a1 behind) in
       let cleared_run = line_runs (fences p.fence_i ++ clears) s h1 here.going line in
-      let pc_2 : h2.pc ≡ jump_at p = plain_pc (fences p.fence_i ++ clears) s h1 a1 plain done.pc fits ∙ omega arith in
+      let pc_2 : h2.pc ≡ jump_at p = plain_pc (fences p.fence_i ++ clears) s h1 a1 plain done.passed.pc fits ∙ omega arith in
       let mem_2 = plain_mem (fences p.fence_i ++ clears) s h1 plain in
       let jump_code : CodeAt s.map h1.mem (jump_at p) (Jal 0 (distance (jump_at p) p.entry) ∷ []) =
       let place : a1 + 4 * length (fences p.fence_i ++ clears) ≡ jump_at p = omega arith in
       subst (λ x. CodeAt s.map h1.mem x (Jal 0 (distance (jump_at p) p.entry) ∷ [])) place
-      (code_behind (fences p.fence_i ++ clears) (Jal 0 (distance (jump_at p) p.entry) ∷ []) s.map h1.mem a1 done.code) in
+      (code_behind (fences p.fence_i ++ clears) (Jal 0 (distance (jump_at p) p.entry) ∷ []) s.map h1.mem a1 behind) in
       let jump_line : Line s (Jal 0 (distance (jump_at p) p.entry) ∷ []) h2 =
       let moved : CodeAt s.map h2.mem h2.pc (Jal 0 (distance (jump_at p) p.entry) ∷ []) =
       subst (λ m. CodeAt s.map m h2.pc (Jal 0 (distance (jump_at p) p.entry) ∷ [])) (sym mem_2)
@@ -138,7 +159,7 @@ module _ (p : StartPlan) (words : List ℕ) (s : State) (can : CanStart p) (are 
       steps_joined (length (fences p.fence_i ++ clears)) 1 (with_hart s h1) (with_hart s h2) (with_hart s h3) cleared_run jump_run in
       let all =
       steps_joined (jobs_run p.jobs) (length (fences p.fence_i ++ clears) + 1) (with_hart s s.hart) (with_hart s h1) (with_hart s h3)
-      jobs.1.0 ended in
+      jobs_run_so ended in
       let count : jobs_run p.jobs + (length (fences p.fence_i ++ clears) + 1) ≡ start_run p = omega arith in
       subst (λ n. Steps n s (started p s)) count
       (subst (λ h. Steps (jobs_run p.jobs + (length (fences p.fence_i ++ clears) + 1)) s (with_hart s h)) last all)

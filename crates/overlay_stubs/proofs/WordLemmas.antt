@@ -1,53 +1,20 @@
 -- Words and the instructions that they mean.
-use Rattle.std.proofs.Common.{◌≡◌, ◌+◌, ◌*◌, Bool, true, false, List, [], ◌∷◌, ◌++◌, length, pos, negsuc, refl, arith}
+use Rattle.std.proofs.Common.{◌≡◌, ◌+◌, ◌*◌, Bool, true, false, List, [], ◌∷◌, ◌++◌, length, pos, refl, arith}
 use Rattle.std.specs.Prelude.{All}
 use Rattle.std.specs.List.{flat_map}
 use Rattle.std.proofs.lemmas.List.{length-append}
 use Rattle.std.proofs.lemmas.List.Elements.{All-nil, All-cons, All-head, All-tail, All-append}
-use Rattle.rv_decode.specs.declared.instructions.Instr.TheVariants.{Jal, Branch, Load, Store, OpImm, FenceI}
-use Rattle.rv_decode.specs.declared.instructions.BranchKind.TheVariants.{Bne}
-use Rattle.rv_decode.specs.declared.instructions.LoadKind.TheVariants.{Lw, Lbu}
-use Rattle.rv_decode.specs.declared.instructions.StoreKind.TheVariants.{Sb, Sw}
+use Rattle.rv_decode.specs.declared.instructions.Instr.TheVariants.{Jal, OpImm}
 use Rattle.rv_decode.specs.declared.instructions.ImmKind.TheVariants.{Addi}
 use Rattle.rv_decode.specs.Table.{IsInRange}
-use Rattle.rv_decode.specs.Sequences.{load_immediate, distance}
-use Rattle.rv_decode.proofs.SequenceLemmas.{immediate_in_range, jump_in_range, one_in_range}
-use Rattle.overlay_stubs.specs.declared.plan.CopyJob.{CopyJob}
-use Rattle.overlay_stubs.specs.Jobs.{copies_words, turn, copying}
-use Rattle.overlay_stubs.specs.Start.{StartPlan, CanStart, fences, clears, before_jump, jump_at, start_stub, start_bytes}
+use Rattle.rv_decode.specs.Sequences.{distance}
+use Rattle.rv_decode.proofs.SequenceLemmas.{jump_in_range, one_in_range}
+use Rattle.copy_jobs.specs.Jobs.{copying, fences}
+use Rattle.copy_jobs.proofs.JobRanges.{all_range, fences_range, jobs_count}
+use Rattle.overlay_stubs.specs.Start.{StartPlan, CanStart, clears, before_jump, jump_at, start_stub, start_bytes}
 use Rattle.overlay_stubs.specs.PlainStubs.{PlainStub, CanJump, stub_code}
-use Rattle.overlay_stubs.proofs.JobLemmas.{eleven}
 
 -- ---- the fields of the stub's instructions are in range
-
-turn_range : (words : Bool) → All IsInRange (turn words)
-turn_range true =
-    All-cons IsInRange (Load Lw 31 5 (pos 0)) (Store Sw 7 31 (pos 0) ∷ OpImm Addi 5 5 (pos 4) ∷ OpImm Addi 7 7 (pos 4) ∷ Branch Bne 5 28 (negsuc 15) ∷ []) (omega arith, omega arith, omega arith)
-    (All-cons IsInRange (Store Sw 7 31 (pos 0)) (OpImm Addi 5 5 (pos 4) ∷ OpImm Addi 7 7 (pos 4) ∷ Branch Bne 5 28 (negsuc 15) ∷ []) (omega arith, omega arith, omega arith)
-    (All-cons IsInRange (OpImm Addi 5 5 (pos 4)) (OpImm Addi 7 7 (pos 4) ∷ Branch Bne 5 28 (negsuc 15) ∷ []) (omega arith, omega arith, omega arith)
-    (All-cons IsInRange (OpImm Addi 7 7 (pos 4)) (Branch Bne 5 28 (negsuc 15) ∷ []) (omega arith, omega arith, omega arith) (one_in_range (Branch Bne 5 28 (negsuc 15)) (omega arith, omega arith, (omega arith, refl))))))
-turn_range false =
-    All-cons IsInRange (Load Lbu 31 5 (pos 0)) (Store Sb 7 31 (pos 0) ∷ OpImm Addi 5 5 (pos 1) ∷ OpImm Addi 7 7 (pos 1) ∷ Branch Bne 5 28 (negsuc 15) ∷ []) (omega arith, omega arith, omega arith)
-    (All-cons IsInRange (Store Sb 7 31 (pos 0)) (OpImm Addi 5 5 (pos 1) ∷ OpImm Addi 7 7 (pos 1) ∷ Branch Bne 5 28 (negsuc 15) ∷ []) (omega arith, omega arith, omega arith)
-    (All-cons IsInRange (OpImm Addi 5 5 (pos 1)) (OpImm Addi 7 7 (pos 1) ∷ Branch Bne 5 28 (negsuc 15) ∷ []) (omega arith, omega arith, omega arith)
-    (All-cons IsInRange (OpImm Addi 7 7 (pos 1)) (Branch Bne 5 28 (negsuc 15) ∷ []) (omega arith, omega arith, omega arith) (one_in_range (Branch Bne 5 28 (negsuc 15)) (omega arith, omega arith, (omega arith, refl))))))
-
-copying_range : (job : CopyJob) → All IsInRange (copying job)
-unfolding copying
-copying_range job =
-    All-append IsInRange (load_immediate 5 job.from) (load_immediate 7 job.to ++ (load_immediate 28 (job.from + job.bytes) ++ turn (copies_words job)))
-    (immediate_in_range 5 job.from (omega arith))
-    (All-append IsInRange (load_immediate 7 job.to) (load_immediate 28 (job.from + job.bytes) ++ turn (copies_words job)) (immediate_in_range 7 job.to (omega arith))
-    (All-append IsInRange (load_immediate 28 (job.from + job.bytes)) (turn (copies_words job)) (immediate_in_range 28 (job.from + job.bytes) (omega arith))
-    (turn_range (copies_words job))))
-
-all_range : (jobs : List CopyJob) → All IsInRange (flat_map copying jobs)
-all_range [] = All-nil IsInRange
-all_range (job ∷ jobs) = All-append IsInRange (copying job) (flat_map copying jobs) (copying_range job) (all_range jobs)
-
-fences_range : (fence : Bool) → All IsInRange (fences fence)
-fences_range true = one_in_range (FenceI 0) (omega arith, refl, refl)
-fences_range false = All-nil IsInRange
 
 clears_range : All IsInRange clears
 clears_range =
@@ -70,14 +37,6 @@ jumps_range (stub ∷ stubs) can =
     (jumps_range stubs (All-tail CanJump stub stubs can))
 
 -- ---- how many words
-
-jobs_count : (jobs : List CopyJob) → length (flat_map copying jobs) ≡ 11 * length jobs
-jobs_count [] = refl
-jobs_count (job ∷ jobs) =
-    let first = eleven job in
-    let both = length-append (copying job) (flat_map copying jobs) in
-    let rest = jobs_count jobs in
-    omega arith
 
 ends_count : (fence : Bool) → length (fences fence ++ clears) ≡ length (fences fence) + 4
 ends_count true = refl

@@ -1,21 +1,16 @@
 -- What the start stub and plain stubs do on the flat machine, and where the parts of the code stand.
-use Rattle.std.specs.Prelude.{◌≡◌, ◌⊎◌, ℕ, ◌+◌, ◌*◌, ◌%◌, ◌<◌, ◌≤◌, List, [], ◌∷◌, ◌++◌, length, slice_index, slice_index_or, All}
+use Rattle.std.specs.Prelude.{◌≡◌, ℕ, ◌+◌, ◌*◌, ◌%◌, ◌<◌, ◌≤◌, List, [], length, slice_index, slice_index_or, All}
 use Rattle.word_bits.specs.Memory.{Memory}
 use Rattle.rv_decode.specs.Acts.{Registers}
 use Rattle.rv_decode.specs.Sequences.{MeanAll}
-use Rattle.board_config.specs.declared.board.Range.{Range}
 use Rattle.flat_machine.specs.declared.events.FlatOutcome.TheVariants.{GoesOn}
 use Rattle.flat_machine.specs.State.{State}
 use Rattle.flat_machine.specs.Runs.{Steps}
 use Rattle.flat_machine.specs.Lines.{AreMapped, HoldsAt, IsAtWords, Ran, words_from}
-use Rattle.overlay_stubs.specs.declared.plan.CopyJob.{CopyJob}
-use Rattle.overlay_stubs.specs.Start.{StartPlan, CanStart, BeginWithStart, start_at, start_bytes, start_run, all_copied, cleared}
+use Rattle.overlay_stubs.specs.Start.{StartPlan, CanStart, BeginWithStart, start_at, start_bytes, start_run, cleared}
+use Rattle.copy_jobs.specs.Jobs.{all_copied, CanCopy}
 use Rattle.overlay_stubs.specs.PlainStubs.{PlainStub, stub_code, stub_bytes}
 use Rattle.overlay_stubs.specs.Layout.{CodePlan, AreCodeWords, stub_place, stubs_at, images_at, image_places, bytes_behind}
-
--- both ranges of a job are mapped
-abbrev pub CanCopy : List Range → CopyJob → Type 0
-CanCopy map job = AreMapped map job.from job.bytes × AreMapped map job.to job.bytes
 
 -- the flat machine goes on at the start stub, whose words stand in its memory; any registers
 pub record IsAtStart (p : StartPlan) (code : List ℕ) (s : State) : Type 0 where
@@ -43,19 +38,6 @@ abbrev pub StartRuns : Type 0
 StartRuns =
     (p : StartPlan) (words : List ℕ) (s : State) → CanStart p → BeginWithStart p words →
     IsAtStart p words s → Steps (start_run p) s (started p s)
-
--- an address that a job doesn't write
-abbrev pub IsOutside : ℕ → CopyJob → Type 0
-IsOutside a job = (a < job.to) ⊎ (job.to + job.bytes ≤ a)
-
--- what jobs leave, byte by byte: an address outside all targets keeps its byte; and a byte of a
--- target is that of its source, if no job before wrote that, and none behind writes over it
-pub record JobsCopy : Type 0 where
-  pub elsewhere : (mem : Memory) (jobs : List CopyJob) (a : ℕ) → All (IsOutside a) jobs →
-      all_copied mem jobs a ≡ mem a
-  pub target : (mem : Memory) (first last : List CopyJob) (job : CopyJob) (i : ℕ) → i < job.bytes →
-      All (IsOutside (job.from + i)) first → All (IsOutside (job.to + i)) last →
-      all_copied mem (first ++ job ∷ last) (job.to + i) ≡ mem (job.from + i)
 
 -- ---- plain stubs
 

@@ -3,8 +3,8 @@
 use Rattle.std.specs.Prelude.{◌≡◌, ℕ, ◌+◌, ◌*◌, ◌<◌, List, [], ◌∷◌, ◌++◌, length, All}
 use Rattle.std.specs.List.{flat_map, concat}
 use Rattle.rv_decode.specs.Sequences.{MeanAll}
-use Rattle.overlay_stubs.specs.declared.plan.CopyJob.{CopyJob}
-use Rattle.overlay_stubs.specs.Jobs.{AreDisjoint}
+use Rattle.copy_jobs.specs.declared.job.CopyJob.{CopyJob}
+use Rattle.copy_jobs.specs.Jobs.{AreDisjoint}
 use Rattle.overlay_stubs.specs.Start.{StartPlan, CanStart, AreStartWords, start_at, start_bytes}
 use Rattle.overlay_stubs.specs.PlainStubs.{PlainStub, CanJump, stub_code, AreApart, AreByHome, stubs_bytes, bytes_below}
 

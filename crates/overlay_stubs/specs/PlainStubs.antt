@@ -1,9 +1,9 @@
 -- Plain stubs: each is a jump to the copy of an entry. They stand in the order of their homes.
-use Rattle.std.specs.Prelude.{◌≡◌, ℕ, ◌*◌, ◌%◌, ◌<◌, ◌≤◌, nat_lt, List, map, length, if◌then◌else◌, AllPairs}
+use Rattle.std.specs.Prelude.{◌≡◌, ℕ, ◌*◌, ◌%◌, ◌<◌, ◌≤◌, List, length}
 use Rattle.std.specs.List.{sum_by}
-use Rattle.std.specs.List.Sorted.{IsPermutation, IsStrictlyIncreasing}
 use Rattle.rv_decode.specs.declared.instructions.Instr.{Instr}
 use Rattle.rv_decode.specs.Sequences.{jump_absolute}
+use Rattle.overlay_stubs.specs.Homes.{HaveHomes, AreOrdered, bytes_before}
 
 -- a stub that serves the entry at `home`, and goes to `to` by the register `temp`
 pub record PlainStub : Type 0 where
@@ -27,21 +27,20 @@ pub record CanJump (stub : PlainStub) : Type 0 where
 
 -- ---- stubs by home address
 
-abbrev pub homes_of : List PlainStub → List ℕ
-homes_of stubs = map (λ stub. stub.home) stubs
+abbrev pub home_of : PlainStub → ℕ
+home_of stub = stub.home
 
 -- no two have one home
 abbrev pub AreApart : List PlainStub → Type 0
-AreApart stubs = AllPairs (λ a b. a ≡ b → ⊥) (homes_of stubs)
+AreApart stubs = HaveHomes home_of stubs
 
 -- the same stubs, by home address
-pub record AreByHome (stubs ordered : List PlainStub) : Type 0 where
-  pub same : IsPermutation stubs ordered
-  pub ascend : IsStrictlyIncreasing (homes_of ordered)
+abbrev pub AreByHome : List PlainStub → List PlainStub → Type 0
+AreByHome stubs ordered = AreOrdered PlainStub home_of stubs ordered
 
 -- the bytes of all, and of those whose homes are lower
 abbrev pub stubs_bytes : List PlainStub → ℕ
 stubs_bytes stubs = sum_by stub_bytes stubs
 
 abbrev pub bytes_below : ℕ → List PlainStub → ℕ
-bytes_below home stubs = sum_by (λ stub. if nat_lt stub.home home then stub_bytes stub else 0) stubs
+bytes_below home stubs = bytes_before home_of stub_bytes home stubs

@@ -1,7 +1,8 @@
 -- The plan and the code of stubs as the definitions see them.
-use Rattle.std.specs.Prelude.{◌≡◌, ℕ, List, [], map, Vec, All}
+use Rattle.std.specs.Prelude.{◌≡◌, ℕ, ◌-◌, ◌%◌, ◌==◌, nat_lt, Bool, ◌&&◌, ◌||◌, List, [], map, length, slice_index_or, Vec, All}
 use Rattle.std.specs.declared.alloc.Global.{Global}
 use Rattle.std.specs.Borrow.{Bor}
+use Rattle.copy_jobs.specs.declared.job.CopyJob.{CopyJob}
 use Rattle.overlay_stubs.specs.declared.plan.Body.{Body}
 use Rattle.overlay_stubs.specs.declared.plan.Body.TheVariants.{Jump, Words}
 use Rattle.overlay_stubs.specs.declared.plan.Stub.{Stub}
@@ -9,8 +10,10 @@ use Rattle.overlay_stubs.specs.declared.plan.StubPlan.{StubPlan}
 use Rattle.overlay_stubs.specs.declared.plan.StubCode.{StubCode}
 use Rattle.overlay_stubs.specs.declared.plan.StubSizes.{StubSizes}
 use Rattle.overlay_stubs.specs.Start.{StartPlan, start_at, start_bytes}
-use Rattle.overlay_stubs.specs.PlainStubs.{PlainStub, stubs_bytes}
+use Rattle.overlay_stubs.specs.PlainStubs.{PlainStub}
+use Rattle.overlay_stubs.specs.Serving.{StubBody, jumps_to, runs_words, ServingStub, serving_bytes}
 use Rattle.overlay_stubs.specs.Layout.{CodePlan, images_at, stub_place, image_places, image_bytes, AreCodeWords}
+use Rattle.overlay_stubs.specs.Overlay.{OverlayPlan, AreOverlayWords, serving_place, overlay_images_at, switch_bytes}
 
 -- the start stub that a plan asks for
 abbrev pub start_of : StubPlan → StartPlan
@@ -26,16 +29,13 @@ pub record IsPlain (stub : Stub) : Type 0 where
   pub region : stub.region ≡ 0
   pub jumps : Jumps stub.body
 
--- where it goes. Other stubs go nowhere yet
+-- where it goes. A stub that runs words goes nowhere
 abbrev pub jump_of : Body → ℕ
 jump_of (Jump to) = to
 jump_of (Words words) = 0
 
 abbrev pub plain_stub : Stub → PlainStub
 plain_stub stub = record { home = stub.home; temp = stub.temp; to = jump_of stub.body }
-
-abbrev pub plain_stubs : List (Bor Stub) → List PlainStub
-plain_stubs stubs = map (λ stub. plain_stub stub.now) stubs
 
 -- the words of an image
 abbrev pub words_of : Vec ℕ Global → List ℕ
@@ -47,6 +47,8 @@ pub record IsPlainPlan (plan : StubPlan) : Type 0 where
   pub regions : plan.regions ≡ 0
   pub leave : plan.leave.items ≡ []
   pub enter : plan.enter.items ≡ []
+  pub kept_leave : plan.kept_leave.items ≡ []
+  pub kept_enter : plan.kept_enter.items ≡ []
 
 -- what such a plan asks for
 abbrev pub code_plan : StubPlan → CodePlan
@@ -64,12 +66,66 @@ pub record IsStubCode (p : CodePlan) (code : StubCode) : Type 0 where
   pub stub_at : code.stub_at.items ≡ map (stub_place p) p.stubs
   pub image_at : code.image_at.items ≡ image_places (images_at p) p.images
 
--- and its sizes
-abbrev pub sizes_of : CodePlan → StubSizes
-sizes_of p =
+-- ---- whole plans
+
+abbrev pub body_of : Body → StubBody
+body_of (Jump to) = jumps_to to
+body_of (Words words) = runs_words words.items
+
+abbrev pub serving_stub : Stub → ServingStub
+serving_stub stub = record { home = stub.home; temp = stub.temp; region = stub.region; body = body_of stub.body }
+
+abbrev pub seen_stub : Bor Stub → ServingStub
+seen_stub stub = serving_stub stub.now
+
+abbrev pub serving_stubs : List (Bor Stub) → List ServingStub
+serving_stubs stubs = map seen_stub stubs
+
+-- the jobs of a region's number
+abbrev pub jobs_of : Vec CopyJob Global → List CopyJob
+jobs_of jobs = jobs.items
+
+abbrev pub jobs_at : List (Vec CopyJob Global) → ℕ → List CopyJob
+jobs_at lists i = slice_index_or (map jobs_of lists) i []
+
+-- each list of lists has one for each region
+pub record HasLists (plan : StubPlan) : Type 0 where
+  pub leave : length plan.leave.items ≡ plan.regions
+  pub enter : length plan.enter.items ≡ plan.regions
+  pub kept_leave : length plan.kept_leave.items ≡ plan.regions
+  pub kept_enter : length plan.kept_enter.items ≡ plan.regions
+
+abbrev pub overlay_plan : StubPlan → OverlayPlan
+overlay_plan plan =
+    record {
+      start = start_of plan;
+      stubs = map serving_stub plan.stubs.items;
+      twins = plan.twins;
+      regions = plan.regions;
+      leave = jobs_at plan.leave.items;
+      enter = jobs_at plan.enter.items;
+      kept_leave = jobs_at plan.kept_leave.items;
+      kept_enter = jobs_at plan.kept_enter.items;
+      images = map words_of plan.images.items;
+    }
+
+-- whether the region i + 1 has a twin
+abbrev pub has_twin : OverlayPlan → ℕ → Bool
+has_twin p i = p.twins && ((i % 2 == 1) || nat_lt i (p.regions - 1))
+
+-- its code: all words, and where the parts stand, in the plan's order
+pub record IsOverlayCode (p : OverlayPlan) (code : StubCode) : Type 0 where
+  pub words : AreOverlayWords p code.words.items
+  pub start : code.start ≡ start_at p.start
+  pub stub_at : code.stub_at.items ≡ map (serving_place p) p.stubs
+  pub image_at : code.image_at.items ≡ image_places (overlay_images_at p) p.images
+
+-- and its sizes, in bytes
+abbrev pub overlay_sizes : OverlayPlan → StubSizes
+overlay_sizes p =
     record {
       start = start_bytes p.start;
-      stubs = stubs_bytes p.stubs;
-      routine = 0;
+      stubs = serving_bytes p.stubs;
+      routine = switch_bytes p;
       images = image_bytes p.images;
     }

@@ -1,16 +1,16 @@
 -- The start stub: the jobs in order, a fence where one is asked for, the registers cleared, and a
 -- jump to the program's entry. The control words stand before it.
-use Rattle.std.specs.Prelude.{◌≡◌, ℕ, ◌+◌, ◌*◌, ◌%◌, ◌<◌, Bool, true, false, List, [], ◌∷◌, ◌++◌, length, replicate, pos, All}
+use Rattle.std.specs.Prelude.{◌≡◌, ℕ, ◌+◌, ◌*◌, ◌%◌, ◌<◌, Bool, List, [], ◌∷◌, ◌++◌, length, replicate, pos, All}
 use Rattle.std.specs.List.{flat_map}
-use Rattle.word_bits.specs.Memory.{Memory, put}
+use Rattle.word_bits.specs.Memory.{put}
 use Rattle.rv_decode.specs.declared.instructions.Instr.{Instr}
-use Rattle.rv_decode.specs.declared.instructions.Instr.TheVariants.{Jal, OpImm, FenceI}
+use Rattle.rv_decode.specs.declared.instructions.Instr.TheVariants.{Jal, OpImm}
 use Rattle.rv_decode.specs.declared.instructions.ImmKind.TheVariants.{Addi}
 use Rattle.rv_decode.specs.Table.{IsEvenWithin}
 use Rattle.rv_decode.specs.Sequences.{distance, MeanAll}
 use Rattle.rv_decode.specs.Acts.{Registers}
-use Rattle.overlay_stubs.specs.declared.plan.CopyJob.{CopyJob}
-use Rattle.overlay_stubs.specs.Jobs.{copying, copied, job_run, AreDisjoint, IsJob}
+use Rattle.copy_jobs.specs.declared.job.CopyJob.{CopyJob}
+use Rattle.copy_jobs.specs.Jobs.{copying, fences, jobs_run, AreDisjoint, IsJob}
 
 -- what a start stub is made of
 pub record StartPlan : Type 0 where
@@ -20,11 +20,6 @@ pub record StartPlan : Type 0 where
   pub entry : ℕ
   pub fence_i : Bool
   pub jobs : List CopyJob
-
--- FENCE.I, so that copied code is fetched ("Zifencei")
-abbrev pub fences : Bool → List Instr
-fences true = FenceI 0 ∷ []
-fences false = []
 
 -- the registers that the jobs used hold 0 again
 abbrev pub clears : List Instr
@@ -74,17 +69,9 @@ pub record CanStart (p : StartPlan) : Type 0 where
   pub reach : IsEvenWithin 1048576 (distance (jump_at p) p.entry)
 
 -- how many words the stub runs
-abbrev pub jobs_run : List CopyJob → ℕ
-jobs_run [] = 0
-jobs_run (job ∷ jobs) = job_run job + jobs_run jobs
-
 abbrev pub start_run : StartPlan → ℕ
 start_run p = jobs_run p.jobs + (length (fences p.fence_i) + 5)
 
--- the memory after the jobs, and the registers when the program begins
-abbrev pub all_copied : Memory → List CopyJob → Memory
-all_copied mem [] = mem
-all_copied mem (job ∷ jobs) = all_copied (copied mem job) jobs
-
+-- the registers when the program begins
 abbrev pub cleared : Registers → Registers
 cleared regs = put (put (put (put regs 5 0) 7 0) 28 0) 31 0

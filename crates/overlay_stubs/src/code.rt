@@ -1,13 +1,18 @@
+//! The code of a plan.
 ghost use Rattle.std.specs.Prelude.{◌≡◌, ℕ, ◌+◌, ◌*◌, ◌<◌, ◌++◌, length, IfOk, replicate};
-ghost use Rattle.overlay_stubs.specs.Start.{CanStart, AreStartWords, fences, start_bytes};
-ghost use Rattle.overlay_stubs.specs.PlainStubs.{AreByHome};
-ghost use Rattle.overlay_stubs.specs.Layout.{CanStand, AreCodeWords, bytes_behind};
-ghost use Rattle.overlay_stubs.specs.Plans.{start_of, plain_stubs, code_plan, sizes_of, IsPlainPlan, IsStubCode};
+ghost use Rattle.overlay_stubs.specs.Start.{CanStart, AreStartWords};
+ghost use Rattle.overlay_stubs.specs.Homes.{AreOrdered};
+ghost use Rattle.overlay_stubs.specs.Serving.{ServingStub, serving_home};
+ghost use Rattle.overlay_stubs.specs.Layout.{CanStand};
+ghost use Rattle.overlay_stubs.specs.Overlay.{CanHold, AreOverlayWords, serving_at, switch_at};
+ghost use Rattle.overlay_stubs.specs.Plans.{start_of, serving_stubs, code_plan, overlay_plan, HasLists, IsPlainPlan, IsStubCode, IsOverlayCode};
 
-use crate::images::{image_bytes, image_places, push_images};
+use crate::images::{image_places, push_images};
 use crate::instructions::start_stub;
-use crate::jumps::{by_home, jump_words, stub_places};
-use crate::plan::{Stub, StubCode, StubPlan, StubSizes};
+use crate::part_sizes::sizes;
+use crate::plan::{Stub, StubCode, StubPlan};
+use crate::routine::routine_words;
+use crate::serving::{all_stub_words, by_home, stub_places};
 use rv_decode::encode_all;
 use std::alloc::{AllocError, Global};
 
@@ -33,61 +38,65 @@ fn start_words(alloc: Global, plan: &StubPlan) -> Result<Vec<u32>, AllocError>
     }
 }
 
-// All words of a plan, whose stubs are given by home address.
-fn code_words(alloc: Global, plan: &StubPlan, ordered: &[&Stub]) -> Result<Vec<u32>, AllocError>
-    requires can { CanStand (code_plan plan.now) }
-    requires by_home { AreByHome (code_plan plan.now).stubs (plain_stubs ordered.now) }
-    ensures { IfOk result (λ words. AreCodeWords (code_plan plan.now) words.items) }
+// All words of a plan, whose stubs are given by home address, and begin at `first`; the routine stands at `switch`.
+fn code_words(
+    alloc: Global,
+    plan: &StubPlan,
+    ordered: &[&Stub],
+    first: u32,
+    switch: u32,
+) -> Result<Vec<u32>, AllocError>
+    requires lists { HasLists plan.now }
+    requires can { CanHold (overlay_plan plan.now) }
+    requires by_home { AreOrdered ServingStub serving_home (overlay_plan plan.now).stubs (serving_stubs ordered.now) }
+    requires first { first ≡ serving_at (overlay_plan plan.now) }
+    requires switch { switch ≡ switch_at (overlay_plan plan.now) }
+    ensures { IfOk result (λ words. AreOverlayWords (overlay_plan plan.now) words.items) }
 {
     let mut words = start_words(alloc, plan)?;
-    let jumps = jump_words(alloc, ordered)?;
-    words.extend_from_slice(&jumps)?;
+    let served = all_stub_words(alloc, ordered, plan.base, first, switch)?;
+    let routine = routine_words(alloc, plan)?;
+    words.extend_from_slice(&served)?;
+    words.extend_from_slice(&routine)?;
     push_images(&mut words, &plan.images)?;
     Ok(words)
 }
 
 /// The code of the patch range: sixteen control words, which are 0; the start stub, whose jobs
-/// copy their bytes in order before the program begins; plain stubs by home address, each of which
-/// jumps to the copy of its entry; and the words of the images, in the plan's order.
+/// copy their bytes in order before the program begins; stubs by home address; the switch routine,
+/// where the plan has regions; and the words of the images, in the plan's order.
 ///
-/// Regions, and stubs that are checked, are not built yet: a plan has none.
+/// A stub of region 0 is its body alone. Any other passes to its body where its region is current,
+/// as the first control word tells, and else calls the routine. It fails only where no memory was
+/// left.
 pub fn stubs(alloc: Global, plan: &StubPlan) -> Result<StubCode, AllocError>
+    requires lists { HasLists plan.now }
+    requires can { CanHold (overlay_plan plan.now) }
+    ensures { IfOk result (IsOverlayCode (overlay_plan plan.now)) }
+{
+    let ordered = by_home(alloc, &plan.stubs)?;
+    let bytes = sizes(plan);
+    let start = plan.base + 64;
+    let first = start + bytes.start;
+    let switch = first + bytes.stubs;
+    let words = code_words(alloc, plan, &ordered, first, switch)?;
+    Ok(StubCode {
+        words,
+        start,
+        stub_at: stub_places(alloc, &plan.stubs, &ordered, first)?,
+        image_at: image_places(alloc, &plan.images, switch + bytes.routine)?,
+    })
+}
+
+/// The code of a plan without regions, all of whose stubs are plain: no checks, and no routine. It
+/// fails only where no memory was left.
+pub fn plain_code(alloc: Global, plan: &StubPlan) -> Result<StubCode, AllocError>
     requires plain { IsPlainPlan plan.now }
     requires can { CanStand (code_plan plan.now) }
     ensures { IfOk result (IsStubCode (code_plan plan.now)) }
 {
-    let ordered = by_home(alloc, &plan.stubs)?;
-    let words = code_words(alloc, plan, &ordered)?;
-    let bytes = sizes(plan);
-    let start = plan.base + 64;
-    let first_stub = start + bytes.start;
-    let first_image = first_stub + bytes.stubs;
-    Ok(StubCode {
-        words,
-        start,
-        stub_at: stub_places(alloc, &plan.stubs, &ordered, first_stub)?,
-        image_at: image_places(alloc, &plan.images, first_image)?,
-    })
-}
-
-fn fence_bytes(fence_i: bool) -> u32
-    ensures { result ≡ 4 * length (fences fence_i) }
-{
-    if fence_i { 4 } else { 0 }
-}
-
-/// The bytes of each part of the code of a plan, of which none is a switch routine yet. The control
-/// words are in none of them.
-pub fn sizes(plan: &StubPlan) -> StubSizes
-    requires plain { IsPlainPlan plan.now }
-    requires small { start_bytes (code_plan plan.now).start + bytes_behind (code_plan plan.now) < 4294967296 }
-    ensures { result ≡ sizes_of (code_plan plan.now) }
-{
-    let fence = fence_bytes(plan.fence_i);
-    StubSizes {
-        start: 44 * (plan.start.len() as u32) + fence + 20,
-        stubs: 8 * (plan.stubs.len() as u32),
-        routine: 0,
-        images: image_bytes(&plan.images),
+    match stubs(alloc, plan) {
+        Ok(code) => Ok(code),
+        Err(error) => Err(error),
     }
 }

@@ -1,16 +1,11 @@
 // Laws of the definitions: functions that do nothing, whose contracts are what is proved.
-ghost use Rattle.overlay_stubs.specs.Laws.{JobsCopy, StartRuns, PlainStubRuns, PartsStand};
+ghost use Rattle.overlay_stubs.specs.Laws.{StartRuns, PlainStubRuns, PartsStand};
+ghost use Rattle.overlay_stubs.specs.Served.{OverlayStands, PadsLead};
 
 /// Where the words of a start stub stand, with any words behind them, the flat machine copies each job's bytes in order, clears
 /// x5, x7, x28 and x31 and is at the entry after just `start_run` steps. All else is as it was.
 pub fn start_runs()
     ensures { StartRuns }
-{}
-
-/// What jobs leave in memory, byte by byte: outside all targets nothing changes, and a target's byte
-/// is its source's, where no other job is in the way.
-pub fn jobs_copy()
-    ensures { JobsCopy }
 {}
 
 /// Where the two words of a plain stub stand, the flat machine runs them without an access and is
@@ -22,4 +17,16 @@ pub fn plain_stub_runs()
 /// Where the words of a plan's code stand in memory, each stub and each image stands at its place.
 pub fn parts_stand()
     ensures { PartsStand }
+{}
+
+/// The same for the code of a plan with regions: each stub, the routine and each image stand at their places.
+pub fn overlay_stands()
+    ensures { OverlayStands }
+{}
+
+/// From the pad of a stub with a region control comes to the stub's body, whatever the registers hold. Where its region is
+/// current, nothing else changes but the stub's own register. Where another is, the routine has made the switch from that
+/// one to the stub's: memory is as the jobs of that switch leave it, but for the control words, and the code is as it was.
+pub fn pads_lead()
+    ensures { PadsLead }
 {}

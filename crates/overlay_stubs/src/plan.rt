@@ -1,10 +1,4 @@
-/// Copies `bytes` bytes from one address to another.
-#[derive(Clone, Copy, PartialEq, Eq)]
-pub struct CopyJob {
-    pub from: u32,
-    pub to: u32,
-    pub bytes: u32,
-}
+use copy_jobs::CopyJob;
 
 /// What a stub does: goes to the copy of an entry, or runs the words that its home was taken from.
 #[derive(Drop)]
@@ -24,17 +18,22 @@ pub struct Stub {
 }
 
 /// What the patch range is to hold, from the address `base` on: the jobs of the start stub, the
-/// stubs, for each region the jobs that leave and enter it, and the images of copied code.
+/// stubs, the jobs of each region from 1 on, and the images of copied code. Jobs of a region leave
+/// and enter it. Where regions 1 and 2, 3 and 4, and so on are twins, its kept jobs are left out in
+/// a switch between the two.
 #[derive(Drop)]
 pub struct StubPlan {
     pub base: u32,
     pub entry: u32,
     pub fence_i: bool,
+    pub twins: bool,
     pub start: Vec<CopyJob>,
     pub stubs: Vec<Stub>,
     pub regions: u32,
     pub leave: Vec<Vec<CopyJob>>,
     pub enter: Vec<Vec<CopyJob>>,
+    pub kept_leave: Vec<Vec<CopyJob>>,
+    pub kept_enter: Vec<Vec<CopyJob>>,
     pub images: Vec<Vec<u32>>,
 }
 

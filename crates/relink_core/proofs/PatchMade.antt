@@ -6,7 +6,7 @@ use Rattle.std.proofs.lemmas.List.Elements.{filter_map-append}
 use Rattle.placement_programme.specs.declared.variables.VarName.{VarName}
 use Rattle.placement_programme.specs.Plain.{PlainVar}
 use Rattle.relocator.specs.Slots.{name_at}
-use Rattle.overlay_stubs.specs.declared.plan.CopyJob.{CopyJob}
+use Rattle.copy_jobs.specs.declared.job.CopyJob.{CopyJob}
 use Rattle.result_setups.specs.Result.{code_job}
 use Rattle.copied_result.specs.declared.placed_copy.PlacedCopy.{PlacedCopy}
 use Rattle.relink_core.specs.Static.{placed_piece, placed_pieces, names_taken}

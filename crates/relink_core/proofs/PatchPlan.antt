@@ -15,9 +15,9 @@ use Rattle.object_graph.proofs.LookupLemmas.{laid_out}
 use Rattle.block_splitter.specs.Copies.{words_before, address_of}
 use Rattle.cell_values.specs.Objects.{absent_object, object_of, objects_of}
 use Rattle.cell_values.proofs.GraphObjects.{object_extends}
-use Rattle.overlay_stubs.specs.declared.plan.CopyJob.{CopyJob}
+use Rattle.copy_jobs.specs.declared.job.CopyJob.{CopyJob}
 use Rattle.overlay_stubs.specs.declared.plan.Stub.{Stub}
-use Rattle.overlay_stubs.specs.Jobs.{AreDisjoint, IsJob}
+use Rattle.copy_jobs.specs.Jobs.{AreDisjoint, IsJob}
 use Rattle.overlay_stubs.specs.Start.{CanStart, Spares, start_at, start_bytes, jump_at}
 use Rattle.overlay_stubs.specs.PlainStubs.{PlainStub, CanJump, AreApart}
 use Rattle.overlay_stubs.specs.Layout.{CodePlan, CanStand, SparesRest, stubs_at, images_at, bytes_behind}

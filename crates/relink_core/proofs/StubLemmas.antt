@@ -23,8 +23,8 @@ use Rattle.object_graph.specs.LayoutFaults.{has_code, least_below, greatest_belo
 use Rattle.object_graph.specs.declared.fault.GraphFault.TheVariants.{SpmOverlapsPatch}
 use Rattle.object_graph.specs.declared.parts.Graph.{Graph}
 use Rattle.cell_values.specs.Objects.{object_of, objects_of}
-use Rattle.overlay_stubs.specs.Jobs.{AreDisjoint}
-use Rattle.overlay_stubs.specs.Start.{StartPlan, before_jump, start_at, jump_at, start_bytes, fences}
+use Rattle.copy_jobs.specs.Jobs.{AreDisjoint, fences}
+use Rattle.overlay_stubs.specs.Start.{StartPlan, before_jump, start_at, jump_at, start_bytes}
 use Rattle.overlay_stubs.proofs.WordLemmas.{bytes_are}
 use Rattle.result_setups.specs.HomeLaws.{IsAccepted}
 use Rattle.result_setups.proofs.Words.{code_range, code_even, code_below}

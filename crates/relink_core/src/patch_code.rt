@@ -15,9 +15,10 @@ use crate::analysis::least_patch;
 use crate::standing::start_place;
 use board_config::Board;
 use copied_result::PlacedCopy;
+use copy_jobs::CopyJob;
 use elf_writer::{SegmentBytes, push_words};
 use object_graph::Graph;
-use overlay_stubs::{CopyJob, Stub, StubPlan, stubs};
+use overlay_stubs::{Stub, StubPlan, plain_code};
 use relocator::Places;
 use std::alloc::{AllocError, Global};
 
@@ -77,11 +78,14 @@ pub(crate) fn patch_plan(
         base: board.patch.base,
         entry,
         fence_i: board.fence_i,
+        twins: false,
         start,
         stubs,
         regions: 0,
         leave: Vec::new(alloc),
         enter: Vec::new(alloc),
+        kept_leave: Vec::new(alloc),
+        kept_enter: Vec::new(alloc),
         images,
     })
 }
@@ -102,7 +106,7 @@ pub(crate) fn patch_code(alloc: Global, plan: &StubPlan) -> Result<PatchCode, Al
     requires can { CanStand (code_plan plan.now) }
     ensures { IfOk result (IsPatchCode (code_plan plan.now)) }
 {
-    let code = stubs(alloc, plan)?;
+    let code = plain_code(alloc, plan)?;
     let bytes = bytes_of(alloc, &code.words)?;
     Ok(PatchCode {
         segment: SegmentBytes {

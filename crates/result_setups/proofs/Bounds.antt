@@ -4,9 +4,9 @@ use Rattle.std.specs.Prelude.{All}
 use Rattle.std.proofs.lemmas.List.Elements.{All-head, All-tail}
 use Rattle.std.proofs.lemmas.Nat.{mul-le}
 use Rattle.board_config.specs.declared.board.Board.{Board}
-use Rattle.overlay_stubs.specs.declared.plan.CopyJob.{CopyJob}
-use Rattle.overlay_stubs.specs.Jobs.{unit_bytes, copies_words, job_run, IsJob}
-use Rattle.overlay_stubs.specs.Start.{StartPlan, fences, jobs_run, start_run}
+use Rattle.copy_jobs.specs.declared.job.CopyJob.{CopyJob}
+use Rattle.copy_jobs.specs.Jobs.{unit_bytes, copies_words, job_run, IsJob, fences, jobs_run}
+use Rattle.overlay_stubs.specs.Start.{StartPlan, start_run}
 use Rattle.cell_values.specs.Objects.{Objects, IsGrain}
 use Rattle.cell_values.specs.Stands.{Places}
 use Rattle.result_setups.specs.Placing.{spans}

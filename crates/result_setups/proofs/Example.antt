@@ -17,7 +17,7 @@ use Rattle.elf_reader.specs.Image.{has_byte, image_of}
 use Rattle.elf_reader.specs.Loadable.{IsByte, AreBytes, IsLoadable, AreLoadable}
 use Rattle.board_config.specs.declared.board.Board.{Board}
 use Rattle.board_config.specs.declared.board.Range.{Range}
-use Rattle.overlay_stubs.specs.Jobs.{copying, IsJob}
+use Rattle.copy_jobs.specs.Jobs.{copying, IsJob}
 use Rattle.overlay_stubs.specs.Start.{StartPlan, CanStart, Spares, start_stub}
 use Rattle.rv_decode.specs.Sequences.{MeanAll}
 use Rattle.flat_machine.specs.Lines.{HoldsAt}

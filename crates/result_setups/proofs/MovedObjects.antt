@@ -7,11 +7,9 @@ use Rattle.std.proofs.lemmas.List.Elements.{All-nil, All-cons, All-head, All-tai
 use Rattle.list_checks.proofs.TestLemmas.{either}
 use Rattle.word_bits.specs.Memory.{Memory}
 use Rattle.board_config.specs.declared.board.Range.{Range}
-use Rattle.overlay_stubs.specs.declared.plan.CopyJob.{CopyJob}
-use Rattle.overlay_stubs.specs.Jobs.{copied}
-use Rattle.overlay_stubs.specs.Start.{all_copied}
-use Rattle.overlay_stubs.specs.Laws.{IsOutside}
-use Rattle.overlay_stubs.proofs.ByteLemmas.{jobs_copy_so}
+use Rattle.copy_jobs.specs.declared.job.CopyJob.{CopyJob}
+use Rattle.copy_jobs.specs.Jobs.{copied, all_copied, IsOutside}
+use Rattle.copy_jobs.proofs.ByteLemmas.{jobs_copy_so}
 use Rattle.object_graph.specs.Sites.{in_range}
 use Rattle.cell_values.specs.Objects.{Objects}
 use Rattle.cell_values.specs.Stands.{Places, Fit}

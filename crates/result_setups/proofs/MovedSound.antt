@@ -23,7 +23,7 @@ use Rattle.code_leaders.proofs.LeaderLemmas.{left_passes, right_passes}
 use Rattle.cell_values.specs.Objects.{object_of, objects_of}
 use Rattle.cell_values.specs.Stands.{Places}
 use Rattle.cell_values.proofs.Makes.{moved_uppers_make}
-use Rattle.overlay_stubs.specs.Laws.{CanCopy}
+use Rattle.copy_jobs.specs.Jobs.{CanCopy}
 use Rattle.simulation.specs.Setups.{Sound}
 use Rattle.result_setups.specs.Home.{is_code_byte}
 use Rattle.result_setups.specs.HomeLaws.{IsAccepted, unnamed_in}

@@ -22,10 +22,10 @@ use Rattle.cell_values.specs.Origins.{ByLui}
 use Rattle.cell_values.specs.Stands.{CellStands, moved_uppers}
 use Rattle.object_machine.specs.Start.{first_cell}
 use Rattle.object_machine.specs.Paired.{at_start}
-use Rattle.overlay_stubs.specs.declared.plan.CopyJob.{CopyJob}
-use Rattle.overlay_stubs.specs.Jobs.{IsJob}
-use Rattle.overlay_stubs.specs.Start.{StartPlan, jobs_run, start_run, all_copied}
-use Rattle.overlay_stubs.specs.Laws.{CanCopy, IsAtStart, started}
+use Rattle.copy_jobs.specs.declared.job.CopyJob.{CopyJob}
+use Rattle.copy_jobs.specs.Jobs.{IsJob, jobs_run, all_copied, CanCopy}
+use Rattle.overlay_stubs.specs.Start.{StartPlan, start_run}
+use Rattle.overlay_stubs.specs.Laws.{IsAtStart, started}
 use Rattle.overlay_stubs.proofs.Starting.{start_runs_so}
 use Rattle.simulation.specs.Relation.{Alike}
 use Rattle.result_setups.specs.Home.{is_code_byte}

@@ -23,11 +23,9 @@ use Rattle.code_blocks.specs.Numbers.{start_at}
 use Rattle.code_blocks.specs.declared.parts.Code.{Code}
 use Rattle.cell_values.specs.Objects.{object_of, objects_of}
 use Rattle.object_machine.specs.Program.{Target, target_at}
-use Rattle.overlay_stubs.specs.declared.plan.CopyJob.{CopyJob}
-use Rattle.overlay_stubs.specs.Jobs.{copied}
-use Rattle.overlay_stubs.specs.Start.{all_copied}
-use Rattle.overlay_stubs.specs.Laws.{IsOutside}
-use Rattle.overlay_stubs.proofs.ByteLemmas.{in_order, jobs_copy_so}
+use Rattle.copy_jobs.specs.declared.job.CopyJob.{CopyJob}
+use Rattle.copy_jobs.specs.Jobs.{copied, all_copied, IsOutside}
+use Rattle.copy_jobs.proofs.ByteLemmas.{in_order, jobs_copy_so}
 use Rattle.simulation.specs.Setups.{Setup}
 use Rattle.simulation.specs.Units.{StandsAt}
 use Rattle.result_setups.specs.Home.{is_code_byte}

@@ -3,7 +3,7 @@ use Rattle.std.specs.Prelude.{◌≡◌, ◌⊎◌, ℕ, ◌+◌, ◌<◌, ◌�
 use Rattle.word_bits.specs.Words.{byte_of}
 use Rattle.elf_reader.specs.File.{PlainView}
 use Rattle.elf_reader.specs.Image.{image_of}
-use Rattle.overlay_stubs.specs.declared.plan.CopyJob.{CopyJob}
+use Rattle.copy_jobs.specs.declared.job.CopyJob.{CopyJob}
 use Rattle.loaded_file.specs.Code.{image_word}
 use Rattle.object_graph.specs.declared.parts.Site.{Site}
 use Rattle.object_graph.specs.declared.parts.DataWord.{DataWord}

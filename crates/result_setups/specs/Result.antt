@@ -19,9 +19,10 @@ use Rattle.flat_machine.specs.Lines.{HoldsAt}
 use Rattle.block_splitter.specs.Forms.{holds_block}
 use Rattle.block_splitter.specs.Pieces.{IsTemporary, is_entry}
 use Rattle.block_splitter.specs.Copies.{Copy, address_of, words_before}
-use Rattle.overlay_stubs.specs.declared.plan.CopyJob.{CopyJob}
+use Rattle.copy_jobs.specs.declared.job.CopyJob.{CopyJob}
 use Rattle.overlay_stubs.specs.Start as stub
-use Rattle.overlay_stubs.specs.Start.{StartPlan, CanStart, AreStartWords, all_copied}
+use Rattle.overlay_stubs.specs.Start.{StartPlan, CanStart, AreStartWords}
+use Rattle.copy_jobs.specs.Jobs.{all_copied}
 use Rattle.simulation.specs.Setups.{Setup}
 use Rattle.result_setups.specs.Home.{is_code_byte}
 use Rattle.result_setups.specs.Moved.{start_job, IsMovedSite, IsMovedWord, IsOffWord}

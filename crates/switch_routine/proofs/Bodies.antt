@@ -4,7 +4,7 @@ use Rattle.std.proofs.lemmas.List.Elements.{All-nil, All-cons}
 use Rattle.word_bits.specs.Words.{upper_half}
 use Rattle.flat_machine.specs.Lines.{fetch_of, went}
 use Rattle.flat_machine.proofs.SilentLines.{upper_set, set_other, absolute_ran}
-use Rattle.switch_routine.specs.Told.{IsFrom}
+use Rattle.copy_jobs.specs.Told.{IsFrom}
 use Rattle.switch_routine.specs.Switches.{BodyJumps}
 
 pub body_jumps_so : BodyJumps

@@ -21,16 +21,16 @@ use Rattle.flat_machine.specs.State.{State}
 use Rattle.flat_machine.specs.Lines.{with_hart, acted, CodeAt}
 use Rattle.flat_machine.proofs.LineWords.{code_front, code_behind, word_kept}
 use Rattle.flat_machine.proofs.SilentLines.{set_there, set_other, read_there}
-use Rattle.overlay_stubs.specs.declared.plan.CopyJob.{CopyJob}
-use Rattle.overlay_stubs.specs.Start.{all_copied}
-use Rattle.overlay_stubs.proofs.ByteLemmas.{jobs_copy_so}
+use Rattle.copy_jobs.specs.declared.job.CopyJob.{CopyJob}
+use Rattle.copy_jobs.specs.Jobs.{all_copied}
+use Rattle.copy_jobs.proofs.ByteLemmas.{jobs_copy_so}
 use Rattle.switch_routine.specs.Parts.{Kept, SwitchPlan, minus_imm, all_parts}
 use Rattle.switch_routine.specs.Switching.{switch_jobs, routine_run, asked}
-use Rattle.switch_routine.specs.Checking.{saved_registers, saves, restores, tests, calls, checking}
-use Rattle.switch_routine.specs.Told.{Way, read_at, write_at, jobs_accesses, saves_accesses, restores_accesses}
+use Rattle.switch_routine.specs.Checking.{saved_registers, saves, restores, tests, calls, checking, saves_accesses, restores_accesses}
+use Rattle.copy_jobs.specs.Told.{Way, read_at, write_at, jobs_accesses}
 use Rattle.switch_routine.specs.Switches.{FitsJob, HasRoutine, IsAtStub, CameTo, Switched, StubPasses, StubSwitches, switch_accesses}
-use Rattle.switch_routine.proofs.Ways.{StandsStill, Passed, line_accesses, follow, straight, step_way, lui_follows, addi_follows, load_follows, passed_on, passed_as}
-use Rattle.switch_routine.proofs.JobWays.{CanRun}
+use Rattle.copy_jobs.proofs.Ways.{StandsStill, Passed, line_accesses, follow, straight, step_way, lui_follows, addi_follows, load_follows, passed_on, passed_as}
+use Rattle.copy_jobs.proofs.JobWays.{CanRun}
 use Rattle.switch_routine.proofs.PartWays.{zero_where, FitsSome, FitsPart}
 use Rattle.switch_routine.proofs.Control.{upper, word_fits, control_at, control_access, saved, saved_outside, saved_small, saved_holds, in_or, saved_some, Holds, holds_kept, word_outside, IsKnown, Saves, saves_do, Restores, restores_do}
 use Rattle.switch_routine.proofs.Whole.{RoutineDone, routine_way}

@@ -4,7 +4,7 @@ use Rattle.std.specs.List.{flat_map}
 use Rattle.std.proofs.lemmas.Grind.{flat_map-append}
 use Rattle.std.proofs.lemmas.List.{append_assoc, flat_map_more}
 use Rattle.rv_decode.specs.declared.instructions.Instr.{Instr}
-use Rattle.overlay_stubs.specs.Start.{fences}
+use Rattle.copy_jobs.specs.Jobs.{fences}
 use Rattle.switch_routine.specs.Parts.{Part, SwitchPlan, leave_part, enter_part, first_parts, part_code}
 use Rattle.switch_routine.specs.Switching.{begins, ends, routine}
 

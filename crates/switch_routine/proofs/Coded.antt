@@ -5,8 +5,8 @@ use Rattle.std.specs.List.{flat_map}
 use Rattle.std.proofs.lemmas.Grind.{flat_map-append}
 use Rattle.rv_decode.specs.declared.instructions.Instr.{Instr}
 use Rattle.rv_decode.specs.declared.instructions.BranchKind.TheVariants.{Beq}
-use Rattle.overlay_stubs.specs.declared.plan.CopyJob.{CopyJob}
-use Rattle.overlay_stubs.specs.Start.{fences}
+use Rattle.copy_jobs.specs.declared.job.CopyJob.{CopyJob}
+use Rattle.copy_jobs.specs.Jobs.{fences}
 use Rattle.switch_routine.specs.Parts.{Part, SwitchPlan, twin_in, kept_of, leave_part, enter_part, first_parts, all_parts, guarded, kept_code, part_code}
 use Rattle.switch_routine.specs.Switching.{begins, ends, routine, jobs_code, IsCodeOf, RoutineOfJobs}
 

@@ -15,9 +15,9 @@ use Rattle.flat_machine.specs.Mapping.{can_access}
 use Rattle.flat_machine.specs.State.{State}
 use Rattle.flat_machine.specs.Lines.{acted, AreMapped}
 use Rattle.flat_machine.proofs.LineWords.{accessed, word_kept}
-use Rattle.switch_routine.specs.Checking.{saved_registers, saves, restores}
-use Rattle.switch_routine.specs.Told.{read_at, write_at, saves_accesses, restores_accesses}
-use Rattle.switch_routine.proofs.Ways.{Straight, line_accesses, load_follows, store_follows}
+use Rattle.switch_routine.specs.Checking.{saved_registers, saves, restores, saves_accesses, restores_accesses}
+use Rattle.copy_jobs.specs.Told.{read_at, write_at}
+use Rattle.copy_jobs.proofs.Ways.{Straight, line_accesses, load_follows, store_follows}
 
 pub register_is : (regs : Registers) (k : ℕ) → (k ≡ 0 → ⊥) → register regs k ≡ regs k
 register_is regs k some = grind (arith, nat_tests)

@@ -10,13 +10,12 @@ use Rattle.std.proofs.lemmas.List.Sums.{sum_by-cons, sum_by-append}
 use Rattle.std.proofs.lemmas.List.Elements.{All-head, All-tail}
 use Rattle.rv_decode.specs.declared.instructions.Instr.{Instr}
 use Rattle.rv_decode.specs.Acts.{Registers}
-use Rattle.overlay_stubs.specs.declared.plan.CopyJob.{CopyJob}
-use Rattle.overlay_stubs.specs.Jobs.{copying, copies_words, unit_bytes, job_run}
-use Rattle.overlay_stubs.specs.Start.{fences, jobs_run}
+use Rattle.copy_jobs.specs.declared.job.CopyJob.{CopyJob}
+use Rattle.copy_jobs.specs.Jobs.{copying, copies_words, unit_bytes, job_run, fences, jobs_run}
 use Rattle.switch_routine.specs.Parts.{Part, SwitchPlan, twin_in, kept_of, leave_part, enter_part, first_parts, all_parts, kept_code, part_code}
 use Rattle.switch_routine.specs.Switching.{ends, routine, jobs_code, asked, kept_jobs, part_jobs, kept_run, part_run, switch_jobs, routine_run}
-use Rattle.overlay_stubs.proofs.JobLemmas.{eleven}
-use Rattle.switch_routine.proofs.JobWays.{jobs_run-append}
+use Rattle.copy_jobs.proofs.JobRanges.{eleven}
+use Rattle.copy_jobs.proofs.JobWays.{jobs_run-append}
 use Rattle.switch_routine.specs.Counts.{is_region, kept_unless, side_jobs, tests_run, twin_test_run, twin_run, span, spans, kept_words, first_words, SwitchRunsJobs, SwitchRunsWords, SwitchIsBounded, RoutineCount}
 
 -- ---- of the parts of one side at most one runs its jobs

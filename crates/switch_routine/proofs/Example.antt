@@ -5,7 +5,7 @@ use Rattle.std.proofs.lemmas.Bool.Decides.{nat_tests}
 use Rattle.std.proofs.lemmas.List.Elements.{All-nil, All-cons}
 use Rattle.word_bits.specs.Words.{byte_of}
 use Rattle.word_bits.specs.Memory.{Memory, zeros, word_at}
-use Rattle.overlay_stubs.specs.Jobs.{copying}
+use Rattle.copy_jobs.specs.Jobs.{copying}
 use Rattle.flat_machine.specs.declared.events.FlatOutcome.TheVariants.{GoesOn}
 use Rattle.flat_machine.specs.State.{State}
 use Rattle.flat_machine.specs.Lines.{AreMapped, CodeAt}

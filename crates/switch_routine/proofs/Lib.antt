@@ -1,5 +1,3 @@
-pub mod Ways
-pub mod JobWays
 pub mod PartWays
 pub mod Control
 pub mod Whole

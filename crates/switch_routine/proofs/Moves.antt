@@ -3,11 +3,9 @@ use Rattle.std.proofs.Common.{inl, inr, ℕ, suc, ◌+◌, ◌<◌, List, [], �
 use Rattle.std.specs.Prelude.{All}
 use Rattle.std.proofs.lemmas.List.Elements.{All-nil, All-cons, All-head, All-tail}
 use Rattle.word_bits.specs.Memory.{Memory}
-use Rattle.overlay_stubs.specs.declared.plan.CopyJob.{CopyJob}
-use Rattle.overlay_stubs.specs.Jobs.{copied, AreDisjoint}
-use Rattle.overlay_stubs.specs.Start.{all_copied}
-use Rattle.overlay_stubs.specs.Laws.{IsOutside}
-use Rattle.overlay_stubs.proofs.ByteLemmas.{jobs_copy_so, in_order}
+use Rattle.copy_jobs.specs.declared.job.CopyJob.{CopyJob}
+use Rattle.copy_jobs.specs.Jobs.{copied, AreDisjoint, all_copied, IsOutside}
+use Rattle.copy_jobs.proofs.ByteLemmas.{jobs_copy_so, in_order}
 use Rattle.switch_routine.specs.Moves.{SparesJob, AreApart, IsMoved, JobsMove}
 
 abbrev Each : CopyJob → CopyJob → Type 0

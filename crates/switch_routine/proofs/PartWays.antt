@@ -20,12 +20,12 @@ use Rattle.flat_machine.specs.State.{State}
 use Rattle.flat_machine.specs.Lines.{CodeAt}
 use Rattle.flat_machine.proofs.LineWords.{code_front, code_behind}
 use Rattle.flat_machine.proofs.SilentLines.{set_there, set_other}
-use Rattle.overlay_stubs.specs.declared.plan.CopyJob.{CopyJob}
-use Rattle.overlay_stubs.specs.Start.{jobs_run}
+use Rattle.copy_jobs.specs.declared.job.CopyJob.{CopyJob}
+use Rattle.copy_jobs.specs.Jobs.{jobs_run}
 use Rattle.switch_routine.specs.Parts.{Kept, Part, minus_imm, guarded, kept_code, part_code}
 use Rattle.switch_routine.specs.Switching.{jobs_code, asked, kept_jobs, part_jobs, kept_run, part_run}
-use Rattle.switch_routine.proofs.Ways.{StandsStill, Passed, step_way, addi_follows, follow, passed_on}
-use Rattle.switch_routine.proofs.JobWays.{Done, CanRun, nothing_done, done_on, done_as, jobs_way}
+use Rattle.copy_jobs.proofs.Ways.{StandsStill, Passed, step_way, addi_follows, follow, passed_on}
+use Rattle.copy_jobs.proofs.JobWays.{Done, CanRun, nothing_done, done_on, done_as, jobs_way}
 
 -- the difference is 0 just where both are equal
 pub zero_where : (v n : ℕ) → v < 4294967296 → n < 2048 → (offset v (minus_imm n) == 0) ≡ (v == n)

@@ -19,7 +19,7 @@ use Rattle.rv_decode.specs.declared.instructions.BranchKind.TheVariants.{Beq, Bn
 use Rattle.rv_decode.specs.Table.{IsWithin, IsEvenWithin, IsInRange}
 use Rattle.rv_decode.specs.Sequences.{distance}
 use Rattle.rv_decode.proofs.SequenceLemmas.{lower_within, one_in_range}
-use Rattle.overlay_stubs.specs.Start.{fences}
+use Rattle.copy_jobs.specs.Jobs.{fences}
 use Rattle.switch_routine.specs.Parts.{Part, SwitchPlan, minus_imm, twin_of, twin_in, kept_of, leave_part, enter_part, first_parts, guarded, kept_code, part_code}
 use Rattle.switch_routine.specs.Switching.{begins, ends, routine}
 use Rattle.switch_routine.specs.Checking.{saved_registers, saves, restores, tests, calls, checking}

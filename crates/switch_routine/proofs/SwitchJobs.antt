@@ -8,11 +8,9 @@ use Rattle.std.proofs.lemmas.Bool.Decides.{nat_tests}
 use Rattle.word_bits.specs.Memory.{Memory}
 use Rattle.rv_decode.specs.Acts.{Registers}
 use Rattle.flat_machine.specs.State.{State}
-use Rattle.overlay_stubs.specs.declared.plan.CopyJob.{CopyJob}
-use Rattle.overlay_stubs.specs.Jobs.{copied, AreDisjoint}
-use Rattle.overlay_stubs.specs.Start.{all_copied}
-use Rattle.overlay_stubs.specs.Laws.{IsOutside}
-use Rattle.overlay_stubs.proofs.ByteLemmas.{jobs_copy_so}
+use Rattle.copy_jobs.specs.declared.job.CopyJob.{CopyJob}
+use Rattle.copy_jobs.specs.Jobs.{copied, AreDisjoint, all_copied, IsOutside}
+use Rattle.copy_jobs.proofs.ByteLemmas.{jobs_copy_so}
 use Rattle.switch_routine.specs.Parts.{Kept, Part, SwitchPlan, twin_of, kept_of, leave_part, enter_part, first_parts, all_parts}
 use Rattle.switch_routine.specs.Switching.{kept_jobs, part_jobs}
 use Rattle.switch_routine.specs.Switches.{FitsJob}

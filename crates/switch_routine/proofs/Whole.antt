@@ -17,12 +17,12 @@ use Rattle.flat_machine.specs.State.{State}
 use Rattle.flat_machine.specs.Lines.{acted, CodeAt, AreMapped}
 use Rattle.flat_machine.proofs.LineWords.{code_front, code_behind}
 use Rattle.flat_machine.proofs.SilentLines.{set_there, set_other}
-use Rattle.overlay_stubs.specs.declared.plan.CopyJob.{CopyJob}
-use Rattle.overlay_stubs.specs.Start.{fences, all_copied}
+use Rattle.copy_jobs.specs.declared.job.CopyJob.{CopyJob}
+use Rattle.copy_jobs.specs.Jobs.{fences, all_copied}
 use Rattle.switch_routine.specs.Parts.{SwitchPlan, part_code, all_parts}
 use Rattle.switch_routine.specs.Switching.{begins, ends, routine, jobs_code, asked, part_run, switch_jobs, routine_run}
-use Rattle.switch_routine.specs.Told.{read_at, write_at, jobs_accesses}
-use Rattle.switch_routine.proofs.Ways.{StandsStill, Passed, Straight, step_way, lui_follows, load_follows, store_follows, fence_follows, straight, passed_on, passed_as, line_accesses}
+use Rattle.copy_jobs.specs.Told.{read_at, write_at, jobs_accesses}
+use Rattle.copy_jobs.proofs.Ways.{StandsStill, Passed, Straight, step_way, lui_follows, load_follows, store_follows, fence_follows, straight, passed_on, passed_as, line_accesses}
 use Rattle.switch_routine.proofs.PartWays.{Asks, FitsPart, parts_way}
 use Rattle.switch_routine.proofs.Control.{upper, control_at, control_access}
 

@@ -8,6 +8,8 @@ use Rattle.rv_decode.specs.declared.instructions.StoreKind.TheVariants.{Sw}
 use Rattle.rv_decode.specs.declared.instructions.ImmKind.TheVariants.{Addi}
 use Rattle.rv_decode.specs.declared.instructions.BranchKind.TheVariants.{Beq}
 use Rattle.rv_decode.specs.Sequences.{distance}
+use Rattle.flat_machine.specs.declared.events.FlatAccess.{FlatAccess}
+use Rattle.copy_jobs.specs.Told.{read_at, write_at}
 use Rattle.switch_routine.specs.Parts.{minus_imm}
 
 -- the registers that a switch uses. Their words are kept in the control words behind the first
@@ -39,3 +41,14 @@ checking base t r at switch =
     tests base t r
     ++ (Lui t (upper_half base) ∷ saves t saved_registers (base + 4)
     ++ (calls r (at + 52) switch ++ (Lui t (upper_half base) ∷ restores t saved_registers (base + 4))))
+
+-- ---- accesses
+
+-- a word for each of these registers is written, or read, from an address on
+abbrev pub saves_accesses : List ℕ → ℕ → List FlatAccess
+saves_accesses [] at = []
+saves_accesses (x ∷ xs) at = write_at at ∷ saves_accesses xs (at + 4)
+
+abbrev pub restores_accesses : List ℕ → ℕ → List FlatAccess
+restores_accesses [] at = []
+restores_accesses (x ∷ xs) at = read_at at ∷ restores_accesses xs (at + 4)

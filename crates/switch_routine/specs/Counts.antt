@@ -1,8 +1,8 @@
 -- Which jobs a switch runs and how many words, by region; and a bound of these words.
 use Rattle.std.specs.Prelude.{◌≡◌, ℕ, zero, suc, ◌+◌, ◌-◌, ◌*◌, ◌/◌, ◌<◌, ◌≤◌, ◌==◌, nat_lt, nat_le, Bool, ◌&&◌, if◌then◌else◌, List, [], ◌++◌, length, All, Option, Some, None}
 use Rattle.std.specs.List.{sum_by}
-use Rattle.overlay_stubs.specs.declared.plan.CopyJob.{CopyJob}
-use Rattle.overlay_stubs.specs.Start.{fences, jobs_run}
+use Rattle.copy_jobs.specs.declared.job.CopyJob.{CopyJob}
+use Rattle.copy_jobs.specs.Jobs.{fences, jobs_run}
 use Rattle.switch_routine.specs.Parts.{SwitchPlan, twin_in}
 use Rattle.switch_routine.specs.Switching.{routine, routine_run, jobs_code, switch_jobs}
 

@@ -1,7 +1,7 @@
 -- An example: one region with one job of eight bytes, and a stub by x5 whose body jumps to the job's target.
 use Rattle.std.specs.Prelude.{ℕ, false, List, [], ◌∷◌, ◌++◌}
 use Rattle.rv_decode.specs.Sequences.{MeanAll, jump_absolute}
-use Rattle.overlay_stubs.specs.declared.plan.CopyJob.{CopyJob}
+use Rattle.copy_jobs.specs.declared.job.CopyJob.{CopyJob}
 use Rattle.switch_routine.specs.Parts.{SwitchPlan}
 use Rattle.switch_routine.specs.Switching.{routine, jobs_code}
 use Rattle.switch_routine.specs.Checking.{checking}

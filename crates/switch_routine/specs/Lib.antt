@@ -5,13 +5,11 @@ pub use Rattle.rv_decode.specs.Sequences
 pub use Rattle.flat_machine.specs.State
 pub use Rattle.flat_machine.specs.Runs
 pub use Rattle.flat_machine.specs.Lines
-pub use Rattle.overlay_stubs.specs.Jobs
-pub use Rattle.overlay_stubs.specs.Start
-pub use Rattle.overlay_stubs.specs.Laws
+pub use Rattle.copy_jobs.specs.Jobs
+pub use Rattle.copy_jobs.specs.Told
 pub mod Parts
 pub mod Switching
 pub mod Checking
-pub mod Told
 pub mod Switches
 pub mod Counts
 pub mod Moves

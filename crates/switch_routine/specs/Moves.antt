@@ -1,9 +1,8 @@
 -- What jobs move that are not in each other's way.
 use Rattle.std.specs.Prelude.{◌≡◌, ℕ, ◌+◌, ◌<◌, List, ◌++◌, All, AllPairs}
 use Rattle.word_bits.specs.Memory.{Memory}
-use Rattle.overlay_stubs.specs.declared.plan.CopyJob.{CopyJob}
-use Rattle.overlay_stubs.specs.Jobs.{AreDisjoint}
-use Rattle.overlay_stubs.specs.Start.{all_copied}
+use Rattle.copy_jobs.specs.declared.job.CopyJob.{CopyJob}
+use Rattle.copy_jobs.specs.Jobs.{AreDisjoint, all_copied}
 
 -- what a job writes meets neither what another reads nor what it writes
 pub record SparesJob (job other : CopyJob) : Type 0 where

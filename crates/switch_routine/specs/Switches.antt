@@ -7,14 +7,12 @@ use Rattle.flat_machine.specs.declared.events.FlatAccess.{FlatAccess}
 use Rattle.flat_machine.specs.declared.events.FlatOutcome.TheVariants.{GoesOn}
 use Rattle.flat_machine.specs.State.{State}
 use Rattle.flat_machine.specs.Lines.{AreMapped, CodeAt, with_hart}
-use Rattle.overlay_stubs.specs.declared.plan.CopyJob.{CopyJob}
-use Rattle.overlay_stubs.specs.Jobs.{AreDisjoint, IsJob}
-use Rattle.overlay_stubs.specs.Start.{all_copied}
-use Rattle.overlay_stubs.specs.Laws.{CanCopy, IsOutside}
+use Rattle.copy_jobs.specs.declared.job.CopyJob.{CopyJob}
+use Rattle.copy_jobs.specs.Jobs.{AreDisjoint, IsJob, all_copied, CanCopy, IsOutside}
 use Rattle.switch_routine.specs.Parts.{SwitchPlan}
 use Rattle.switch_routine.specs.Switching.{routine, routine_run, jobs_code, switch_jobs}
-use Rattle.switch_routine.specs.Checking.{checking, saved_registers}
-use Rattle.switch_routine.specs.Told.{Way, read_at, write_at, jobs_accesses, saves_accesses, restores_accesses}
+use Rattle.switch_routine.specs.Checking.{checking, saved_registers, saves_accesses, restores_accesses}
+use Rattle.copy_jobs.specs.Told.{Way, read_at, write_at, jobs_accesses}
 
 -- ---- where they stand
 

@@ -8,9 +8,8 @@ use Rattle.rv_decode.specs.declared.instructions.Instr.TheVariants.{Lui, Load, S
 use Rattle.rv_decode.specs.declared.instructions.LoadKind.TheVariants.{Lw}
 use Rattle.rv_decode.specs.declared.instructions.StoreKind.TheVariants.{Sw}
 use Rattle.rv_decode.specs.Acts.{Registers}
-use Rattle.overlay_stubs.specs.declared.plan.CopyJob.{CopyJob}
-use Rattle.overlay_stubs.specs.Jobs.{copying}
-use Rattle.overlay_stubs.specs.Start.{fences, jobs_run}
+use Rattle.copy_jobs.specs.declared.job.CopyJob.{CopyJob}
+use Rattle.copy_jobs.specs.Jobs.{copying, fences, jobs_run}
 use Rattle.switch_routine.specs.Parts.{Kept, Part, SwitchPlan, part_code, all_parts}
 
 -- ---- instructions

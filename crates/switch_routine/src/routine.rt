@@ -1,7 +1,7 @@
 // The switch routine.
 ghost use Rattle.std.specs.Prelude.{◌≡◌, ℕ, ◌+◌, ◌*◌, ◌<◌, ◌++◌, length, OnOk, IfOk, IfSome, option_map};
 ghost use Rattle.std.specs.List.{flat_map};
-ghost use Rattle.overlay_stubs.specs.Start.{fences};
+ghost use Rattle.copy_jobs.specs.Jobs.{fences};
 ghost use Rattle.switch_routine.specs.Parts.{twin_in, first_parts, part_code, kept_code};
 ghost use Rattle.switch_routine.specs.Switching.{routine, begins, ends};
 ghost use Rattle.switch_routine.specs.Plans.{plan_of, side_part, CanBuild};
@@ -9,6 +9,7 @@ ghost use Rattle.switch_routine.specs.Plans.{plan_of, side_part, CanBuild};
 use crate::checking::{load_control, store_control};
 use crate::guards::push_guarded;
 use crate::plan::{RoutinePlan, Side};
+use copy_jobs::push_fence;
 use rv_decode::{BranchKind, Instr, lui};
 use std::alloc::{AllocError, Global};
 
@@ -100,9 +101,7 @@ fn push_parts(
 fn push_ends(code: &mut Vec<Instr>, base: u32, fence_i: bool) -> Result<(), AllocError>
     ensures { OnOk result (code.new.items ≡ code.old.items ++ (fences fence_i ++ ends base)) }
 {
-    if fence_i {
-        code.push(Instr::FenceI { bits: 0 })?;
-    }
+    push_fence(code, fence_i)?;
     let back = Instr::Jalr {
         rd: 0,
         rs1: 29,

@@ -1,9 +1,17 @@
-use Rattle.std.proofs.Common.{map}
-use Rattle.std.proofs.lemmas.List.Sorted.{All-permutation}
-use Rattle.overlay_stubs.specs.PlainStubs.{CanJump}
-use Rattle.overlay_stubs.specs.Plans.{plain_stub, plain_stubs}
+use Rattle.std.proofs.Common.{sym, subst, arith}
+use Rattle.overlay_stubs.specs.Overlay.{CanServeFrom, switch_at}
+use Rattle.overlay_stubs.specs.Plans.{serving_stubs, overlay_plan}
+use Rattle.overlay_stubs.proofs.WholePlans.{stubs_can, stubs_fit}
 use Rattle.overlay_stubs.proofs.code.code_words.Goals as goal
 
-pub jump_words-requires : goal.jump_words-requires
-jump_words-requires c =
-    All-permutation CanJump (map plain_stub c.args.plan.now.stubs.items) (plain_stubs c.args.ordered.now) c.requires.by_home.same c.requires.can.jumps
+pub all_stub_words-requires-clause-can : goal.all_stub_words-requires-clause-can
+all_stub_words-requires-clause-can c =
+    subst (λ x. CanServeFrom 2047 x c.args.first (serving_stubs c.args.ordered.now)) (sym c.requires.switch)
+    (subst (λ y. CanServeFrom 2047 (switch_at (overlay_plan c.args.plan.now)) y (serving_stubs c.args.ordered.now)) (sym c.requires.first)
+    (stubs_can (overlay_plan c.args.plan.now) (serving_stubs c.args.ordered.now) c.requires.by_home c.requires.can))
+
+pub all_stub_words-requires-clause-fits : goal.all_stub_words-requires-clause-fits
+all_stub_words-requires-clause-fits c =
+    let first = c.requires.first in
+    let fit = stubs_fit (overlay_plan c.args.plan.now) (serving_stubs c.args.ordered.now) c.requires.by_home c.requires.can in
+    omega (arith, first, fit)

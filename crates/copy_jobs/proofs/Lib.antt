@@ -1,0 +1,5 @@
+pub mod Copies
+pub mod ByteLemmas
+pub mod JobRanges
+pub mod Ways
+pub mod JobWays

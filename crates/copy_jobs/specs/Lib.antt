@@ -1,0 +1,10 @@
+pub use Rattle.word_bits.specs.Memory
+pub use Rattle.rv_decode.specs.Acts
+pub use Rattle.rv_decode.specs.Table
+pub use Rattle.rv_decode.specs.Sequences
+pub use Rattle.flat_machine.specs.Mapping
+pub use Rattle.flat_machine.specs.State
+pub use Rattle.flat_machine.specs.Runs
+pub use Rattle.flat_machine.specs.Lines
+pub mod Jobs
+pub mod Told
