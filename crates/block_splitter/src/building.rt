@@ -1,8 +1,7 @@
 ghost use Rattle.std.specs.Prelude.{◌≡◌, ℕ, ◌<◌, false, length, slice_index_or, IfOk};
 ghost use Rattle.std.specs.List.Sorted.{IsStrictlyIncreasing};
-ghost use Rattle.elf_reader.specs.File.{PlainView};
 ghost use Rattle.code_leaders.specs.Early.{has};
-ghost use Rattle.code_blocks.specs.Blocks.{IsCode};
+ghost use Rattle.code_blocks.specs.Blocks.{IsSomeCode};
 ghost use Rattle.code_blocks.specs.Numbers.{start_at};
 ghost use Rattle.object_graph.specs.Lookups.{IsSomeGraph};
 ghost use Rattle.liveness.specs.Tables.{IsTableOf};
@@ -25,7 +24,7 @@ pub(crate) fn table_of(
     live: &LiveTable,
     graph: &Graph,
 ) -> Result<Table, AllocError>
-    requires code { (v : PlainView) × IsCode v code.now }
+    requires code { IsSomeCode code.now }
     requires live { IsTableOf code.now live.now }
     requires graph { IsSomeGraph graph.now }
     ensures { IfOk result (IsTable code.now graph.now) }
@@ -46,7 +45,7 @@ fn all_forms(
     live: &LiveTable,
     graph: &Graph,
 ) -> Result<Vec<Option<BlockForm>>, AllocError>
-    requires code { (v : PlainView) × IsCode v code.now }
+    requires code { IsSomeCode code.now }
     requires live { IsTableOf code.now live.now }
     requires graph { IsSomeGraph graph.now }
     ensures each { IfOk result (λ forms. length forms.items ≡ block_count code.now) }

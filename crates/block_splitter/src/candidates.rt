@@ -1,9 +1,7 @@
 ghost use Rattle.std.specs.Prelude.{◌≡◌, ◌↔◌, ℕ, suc, ◌<◌, ◌≤◌, Bool, true, ◌++◌, IfOk, OnOk, Some};
 ghost use Rattle.std.specs.List.{list_any, AllPairs};
-ghost use Rattle.std.specs.List.Sorted.{IsStrictlyIncreasing};
-ghost use Rattle.elf_reader.specs.File.{PlainView};
-ghost use Rattle.code_blocks.specs.Blocks.{IsCode};
-ghost use Rattle.code_blocks.specs.Numbers.{starts_of};
+ghost use Rattle.code_blocks.specs.Blocks.{IsSomeCode};
+ghost use Rattle.code_blocks.specs.Numbers.{Ascends};
 ghost use Rattle.code_blocks.specs.Leads.{owner_at};
 ghost use Rattle.block_splitter.specs.declared.block_range.BlockRange.{BlockRange};
 ghost use Rattle.block_splitter.specs.Pieces.{ComesBefore};
@@ -16,7 +14,7 @@ use std::alloc::{AllocError, Global};
 
 /// The ranges of blocks that have the shape of a piece: functions, loops and single blocks.
 pub(crate) fn candidates(alloc: Global, code: &Code) -> Result<Vec<BlockRange>, AllocError>
-    requires code { (v : PlainView) × IsCode v code.now }
+    requires code { IsSomeCode code.now }
     ensures { IfOk result (λ ranges. AreCandidates code.now ranges.items) }
 {
     let mut ranges = Vec::new(alloc);
@@ -40,7 +38,7 @@ fn arrange(ranges: &mut Vec<BlockRange>)
 
 /// The first block of the function of block `b`, by that of the block before.
 fn run_first(code: &Code, before: usize, b: usize) -> usize
-    requires code { (v : PlainView) × IsCode v code.now }
+    requires code { IsSomeCode code.now }
     requires below { b < block_count code.now }
     requires before { (k : ℕ) → b ≡ suc k → IsRunFirst code.now k before }
     ensures { IsRunFirst code.now b result }
@@ -72,7 +70,7 @@ fn add_ending(
     first: usize,
     last: usize,
 ) -> Result<(), AllocError>
-    requires code { (v : PlainView) × IsCode v code.now }
+    requires code { IsSomeCode code.now }
     requires below { last < block_count code.now }
     requires first { IsRunFirst code.now last first }
     ensures { OnOk result (AddsEnding code.now last ranges.old.items ranges.new.items) }
@@ -96,7 +94,7 @@ fn add_range(ranges: &mut Vec<BlockRange>, first: Option<u32>, last: u32) -> Res
 
 /// The block itself, if it is of a function.
 fn single_first(code: &Code, b: usize) -> Option<u32>
-    requires ascending { IsStrictlyIncreasing (starts_of code.now) }
+    requires ascending { Ascends code.now }
     requires below { b < block_count code.now }
     ensures { IsOnly (StartsSingle code.now b) result }
 {
@@ -108,7 +106,7 @@ fn single_first(code: &Code, b: usize) -> Option<u32>
 
 /// The first block of the loop that block `b` closes, if it does.
 fn loop_first(code: &Code, b: usize) -> Option<u32>
-    requires code { (v : PlainView) × IsCode v code.now }
+    requires code { IsSomeCode code.now }
     requires below { b < block_count code.now }
     ensures { IsOnly (StartsLoop code.now b) result }
 {
@@ -147,7 +145,7 @@ fn is_loop(code: &Code, first: usize, last: usize) -> bool
 
 /// The first block of a function whose last block is `last`.
 fn function_first(code: &Code, first: usize, last: usize) -> Option<u32>
-    requires code { (v : PlainView) × IsCode v code.now }
+    requires code { IsSomeCode code.now }
     requires below { last < block_count code.now }
     requires first { IsRunFirst code.now last first }
     ensures { IsOnly (StartsFunction code.now last) result }

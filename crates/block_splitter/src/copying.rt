@@ -1,6 +1,5 @@
 ghost use Rattle.std.specs.Prelude.{◌≡◌, ◌+◌, ◌%◌, ◌≤◌, true, length, IfOk};
-ghost use Rattle.elf_reader.specs.File.{PlainView};
-ghost use Rattle.code_blocks.specs.Blocks.{IsCode};
+ghost use Rattle.code_blocks.specs.Blocks.{IsSomeCode};
 ghost use Rattle.liveness.specs.Tables.{IsTableOf};
 ghost use Rattle.object_graph.specs.Lookups.{IsSomeGraph};
 ghost use Rattle.block_splitter.specs.Forms.{holds_block};
@@ -34,7 +33,7 @@ pub fn copy_of(
     at: u32,
     sites: &[(u32, u32)],
 ) -> Result<CopyCode, AllocError>
-    requires code { (v : PlainView) × IsCode v code.now }
+    requires code { IsSomeCode code.now }
     requires live { IsTableOf code.now live.now }
     requires graph { IsSomeGraph graph.now }
     requires piece { IsPiece code.now graph.now piece.now }

@@ -1,8 +1,7 @@
 ghost use Rattle.std.specs.Prelude.{◌≡◌, ◌+◌, ◌%◌, ◌<◌, ◌∷◌, [], length, map, pos, IfOk};
 ghost use Rattle.std.specs.List.Sorted.{IsStrictlyIncreasing};
 ghost use Rattle.rv_decode.specs.Sequences.{distance, MeanAll};
-ghost use Rattle.elf_reader.specs.File.{PlainView};
-ghost use Rattle.code_blocks.specs.Blocks.{IsCode};
+ghost use Rattle.code_blocks.specs.Blocks.{IsSomeCode};
 ghost use Rattle.object_graph.specs.Lookups.{IsSomeGraph};
 ghost use Rattle.block_splitter.specs.Forms.{is_site, body_at, unit_in, kind_of};
 ghost use Rattle.block_splitter.specs.Copies.{address_in, HasSites, IsDisplaced, Reaches, ReachesTargets, RunsThenJumps};
@@ -29,7 +28,7 @@ pub fn displaced(
     at: u32,
     sites: &[(u32, u32)],
 ) -> Result<Vec<u32>, AllocError>
-    requires code { (v : PlainView) × IsCode v code.now }
+    requires code { IsSomeCode code.now }
     requires graph { IsSomeGraph graph.now }
     requires block { block < length code.now.blocks.items }
     requires aligned { at % 4 ≡ 0 }

@@ -1,9 +1,7 @@
 ghost use Rattle.std.specs.Prelude.{◌≡◌, ◌≤◌, ◌<◌, ◌+◌, ◌&&◌, ◌++◌, ◌∷◌, [], if◌then◌else◌, IfOk, OnOk};
-ghost use Rattle.std.specs.List.Sorted.{IsStrictlyIncreasing};
 ghost use Rattle.list_checks.specs.Sorted.{collected};
-ghost use Rattle.elf_reader.specs.File.{PlainView};
-ghost use Rattle.code_blocks.specs.Blocks.{IsCode};
-ghost use Rattle.code_blocks.specs.Numbers.{starts_of};
+ghost use Rattle.code_blocks.specs.Blocks.{IsSomeCode};
+ghost use Rattle.code_blocks.specs.Numbers.{Ascends};
 ghost use Rattle.object_graph.specs.Lookups.{IsSomeGraph};
 ghost use Rattle.object_graph.specs.declared.parts.Graph.{Graph};
 ghost use Rattle.liveness.specs.Tables.{IsTableOf};
@@ -32,7 +30,7 @@ pub fn pieces(
     live: &LiveTable,
     graph: &Graph,
 ) -> Result<Vec<Piece>, AllocError>
-    requires code { (v : PlainView) × IsCode v code.now }
+    requires code { IsSomeCode code.now }
     requires live { IsTableOf code.now live.now }
     requires graph { IsSomeGraph graph.now }
     ensures { IfOk result (λ pieces. ArePieces code.now graph.now pieces.items) }
@@ -49,7 +47,7 @@ fn pieces_among(
     table: &Table,
     ranges: &[BlockRange],
 ) -> Result<Vec<Piece>, AllocError>
-    requires ascending { IsStrictlyIncreasing (starts_of code.now) }
+    requires ascending { Ascends code.now }
     requires table { (g : Graph) × IsTable code.now g table.now }
     requires ranges { AreCandidates code.now ranges.now }
     ensures { IfOk result (λ pieces. (g : Graph) → IsTable code.now g table.now → ArePieces code.now g pieces.items) }
@@ -68,7 +66,7 @@ fn add_piece(
     table: &Table,
     range: &BlockRange,
 ) -> Result<(), AllocError>
-    requires ascending { IsStrictlyIncreasing (starts_of code.now) }
+    requires ascending { Ascends code.now }
     requires table { (g : Graph) × IsTable code.now g table.now }
     requires shape { HasShape code.now range.now }
     ensures { OnOk result ((g : Graph) → IsTable code.now g table.now → AddsPiece code.now g range.now pieces.old.items pieces.new.items) }
@@ -93,7 +91,7 @@ fn entries(
     table: &Table,
     range: &BlockRange,
 ) -> Result<Vec<u32>, AllocError>
-    requires ascending { IsStrictlyIncreasing (starts_of code.now) }
+    requires ascending { Ascends code.now }
     requires range { IsRange code.now range.now }
     requires table { (g : Graph) × IsTable code.now g table.now }
     ensures { IfOk result (λ entries. entries.items ≡ collected (λ b. holds_block b range.now && is_entry code.now range.now b) (λ b. b) (block_count code.now)) }
@@ -113,7 +111,7 @@ fn add_entry(
     range: &BlockRange,
     b: usize,
 ) -> Result<(), AllocError>
-    requires ascending { IsStrictlyIncreasing (starts_of code.now) }
+    requires ascending { Ascends code.now }
     requires from { range.now.first ≤ b }
     requires to { b ≤ range.now.last }
     requires below { b < block_count code.now }

@@ -1,11 +1,9 @@
 ghost use Rattle.std.specs.Prelude.{◌≡◌, ◌<◌, ◌↔◌, min, true, false, length};
 ghost use Rattle.std.specs.List.{All};
-ghost use Rattle.std.specs.List.Sorted.{IsStrictlyIncreasing};
-ghost use Rattle.elf_reader.specs.File.{PlainView};
 ghost use Rattle.code_leaders.specs.Early.{has};
-ghost use Rattle.code_blocks.specs.Blocks.{IsCode};
+ghost use Rattle.code_blocks.specs.Blocks.{IsSomeCode};
 ghost use Rattle.code_blocks.specs.Edges.{successors};
-ghost use Rattle.code_blocks.specs.Numbers.{starts_of};
+ghost use Rattle.code_blocks.specs.Numbers.{starts_of, Ascends};
 ghost use Rattle.code_blocks.specs.declared.parts.Code.{Code};
 ghost use Rattle.object_graph.specs.Lookups.{IsSomeGraph};
 ghost use Rattle.liveness.specs.Tables.{IsTableOf};
@@ -24,7 +22,7 @@ use object_graph::Graph;
 
 /// What the pieces that hold block `b` depend on, if a piece may hold it.
 pub(crate) fn form_of(code: &Code, live: &LiveTable, graph: &Graph, b: usize) -> Option<BlockForm>
-    requires code { (v : PlainView) × IsCode v code.now }
+    requires code { IsSomeCode code.now }
     requires live { IsTableOf code.now live.now }
     requires graph { IsSomeGraph graph.now }
     requires below { b < block_count code.now }
@@ -48,7 +46,7 @@ pub(crate) fn form_of(code: &Code, live: &LiveTable, graph: &Graph, b: usize) ->
 
 /// Whether a block may be copied.
 fn is_copyable(code: &Code, live: &LiveTable, b: usize) -> bool
-    requires code { (v : PlainView) × IsCode v code.now }
+    requires code { IsSomeCode code.now }
     requires live { IsTableOf code.now live.now }
     requires below { b < block_count code.now }
     ensures { (result ≡ true) ↔ IsCopyable code.now b }
@@ -84,7 +82,7 @@ fn may_copy(unit: &Unit) -> bool
 
 /// Whether all that an end leads to begins a block.
 fn leads_to_blocks(code: &Code, end: &End) -> bool
-    requires { IsStrictlyIncreasing (starts_of code.now) }
+    requires { Ascends code.now }
     ensures { (result ≡ true) ↔ All (λ a. has (starts_of code.now) a ≡ true) (successors end.now) }
 {
     match *end {
@@ -100,7 +98,7 @@ fn leads_to_blocks(code: &Code, end: &End) -> bool
 
 /// Whether a block begins at an address.
 fn begins_block(code: &Code, address: u32) -> bool
-    requires { IsStrictlyIncreasing (starts_of code.now) }
+    requires { Ascends code.now }
     ensures { result ≡ has (starts_of code.now) address }
 {
     match code.block_at(address) {

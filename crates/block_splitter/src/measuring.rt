@@ -1,6 +1,6 @@
 ghost use Rattle.std.specs.Prelude.{◌≡◌, ◌⊎◌, ◌+◌, ◌^◌, ◌<◌, ◌≤◌, nat_lt, ◌&&◌, ◌||◌, length, IfSome, MatchOption};
 ghost use Rattle.std.specs.List.Sorted.{IsStrictlyIncreasing};
-ghost use Rattle.code_blocks.specs.Numbers.{starts_of};
+ghost use Rattle.code_blocks.specs.Numbers.{starts_of, Ascends};
 ghost use Rattle.code_blocks.specs.declared.parts.Code.{Code};
 ghost use Rattle.object_graph.specs.declared.parts.Graph.{Graph};
 ghost use Rattle.block_splitter.specs.Forms.{is_site, copy_words};
@@ -36,7 +36,7 @@ impl Extent {
 
 /// How many words the copy of a range takes, if all its blocks may stand in it and it isn't too large.
 pub(crate) fn measure(code: &Code, table: &Table, range: &BlockRange) -> Option<u64>
-    requires ascending { IsStrictlyIncreasing (starts_of code.now) }
+    requires ascending { Ascends code.now }
     requires range { IsRange code.now range.now }
     requires table { (g : Graph) × IsTable code.now g table.now }
     ensures few { IfSome result (λ w. w ≤ most_words) }

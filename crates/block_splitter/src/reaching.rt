@@ -1,6 +1,5 @@
 ghost use Rattle.std.specs.Prelude.{◌≡◌, ◌↔◌, ◌+◌, ◌<◌, length, true};
-ghost use Rattle.elf_reader.specs.File.{PlainView};
-ghost use Rattle.code_blocks.specs.Blocks.{IsCode};
+ghost use Rattle.code_blocks.specs.Blocks.{IsSomeCode};
 ghost use Rattle.object_graph.specs.Lookups.{IsSomeGraph};
 ghost use Rattle.block_splitter.specs.Forms.{is_site, body_at, unit_in, kind_of};
 ghost use Rattle.block_splitter.specs.Copies.{Reaches, ReachesTargets};
@@ -14,7 +13,7 @@ use rv_decode::distance;
 /// Whether the first unit of a block may be displaced to `at`: whether JAL reaches from its words there to where the
 /// unit leads.
 pub fn can_displace(code: &Code, graph: &Graph, block: u32, at: u32) -> bool
-    requires code { (v : PlainView) × IsCode v code.now }
+    requires code { IsSomeCode code.now }
     requires graph { IsSomeGraph graph.now }
     requires block { block < length code.now.blocks.items }
     ensures { let body = body_at code.now.blocks.items block in

@@ -1,7 +1,6 @@
 ghost use Rattle.std.specs.Prelude.{◌≡◌, ℕ, ◌<◌, ◌≤◌, ◌==◌, ◌&&◌, ◌||◌, nat_lt, length, IfOk};
 ghost use Rattle.std.specs.List.{list_any};
-ghost use Rattle.std.specs.List.Sorted.{IsStrictlyIncreasing};
-ghost use Rattle.code_blocks.specs.Numbers.{starts_of, start_at};
+ghost use Rattle.code_blocks.specs.Numbers.{start_at, Ascends};
 ghost use Rattle.code_blocks.specs.Leads.{leads_to};
 ghost use Rattle.block_splitter.specs.Facts.{block_count, sources_at, AreSources};
 
@@ -11,7 +10,7 @@ use std::alloc::{AllocError, Global};
 
 /// The sources of each block.
 pub(crate) fn all_sources(alloc: Global, code: &Code) -> Result<Vec<Sources>, AllocError>
-    requires ascending { IsStrictlyIncreasing (starts_of code.now) }
+    requires ascending { Ascends code.now }
     ensures each { IfOk result (λ sources. length sources.items ≡ block_count code.now) }
     ensures are { IfOk result (λ sources. (b : ℕ) → b < block_count code.now → AreSources code.now b (block_count code.now) (sources_at sources.items b)) }
 {
@@ -22,7 +21,7 @@ pub(crate) fn all_sources(alloc: Global, code: &Code) -> Result<Vec<Sources>, Al
 
 /// Each block as its own source.
 fn own_sources(alloc: Global, code: &Code) -> Result<Vec<Sources>, AllocError>
-    requires ascending { IsStrictlyIncreasing (starts_of code.now) }
+    requires ascending { Ascends code.now }
     ensures each { IfOk result (λ sources. length sources.items ≡ block_count code.now) }
     ensures own { IfOk result (λ sources. (b : ℕ) → b < block_count code.now → ((sources_at sources.items b).least ≡ b) × ((sources_at sources.items b).greatest ≡ b)) }
 {
@@ -39,7 +38,7 @@ fn own_sources(alloc: Global, code: &Code) -> Result<Vec<Sources>, AllocError>
 
 /// The number of a block in 32 bits: blocks begin at addresses, so there are no more.
 pub(crate) fn number_of(code: &Code, block: usize) -> u32
-    requires ascending { IsStrictlyIncreasing (starts_of code.now) }
+    requires ascending { Ascends code.now }
     requires below { block < block_count code.now }
     ensures { result ≡ block }
 {
@@ -56,7 +55,7 @@ fn number_below(number: usize, address: u32) -> u32
 
 /// Adds the sources of all blocks.
 fn add_all(sources: &mut [Sources], code: &Code)
-    requires ascending { IsStrictlyIncreasing (starts_of code.now) }
+    requires ascending { Ascends code.now }
     requires each { length sources.old ≡ block_count code.now }
     requires own { (b : ℕ) → b < block_count code.now → ((sources_at sources.old b).least ≡ b) × ((sources_at sources.old b).greatest ≡ b) }
     ensures each { length sources.new ≡ block_count code.now }
@@ -69,7 +68,7 @@ fn add_all(sources: &mut [Sources], code: &Code)
 
 /// Adds block `a` to the sources of the blocks to which it leads.
 fn add_behind(sources: &mut [Sources], code: &Code, a: usize)
-    requires ascending { IsStrictlyIncreasing (starts_of code.now) }
+    requires ascending { Ascends code.now }
     requires below { a < block_count code.now }
     requires each { length sources.old ≡ block_count code.now }
     ensures each { length sources.new ≡ length sources.old }
@@ -82,7 +81,7 @@ fn add_behind(sources: &mut [Sources], code: &Code, a: usize)
 
 /// Adds block `a` to the sources of the blocks at addresses.
 fn add_at_all(sources: &mut [Sources], code: &Code, a: usize, addresses: &[u32])
-    requires ascending { IsStrictlyIncreasing (starts_of code.now) }
+    requires ascending { Ascends code.now }
     requires below { a < block_count code.now }
     requires each { length sources.old ≡ block_count code.now }
     ensures each { length sources.new ≡ length sources.old }
@@ -96,7 +95,7 @@ fn add_at_all(sources: &mut [Sources], code: &Code, a: usize, addresses: &[u32])
 
 /// Adds block `a` to the sources of the block at an address, if one begins there.
 fn add_at(sources: &mut [Sources], code: &Code, a: usize, address: u32)
-    requires ascending { IsStrictlyIncreasing (starts_of code.now) }
+    requires ascending { Ascends code.now }
     requires below { a < block_count code.now }
     requires each { length sources.old ≡ block_count code.now }
     ensures each { length sources.new ≡ length sources.old }

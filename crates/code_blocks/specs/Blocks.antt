@@ -91,6 +91,10 @@ pub record IsCode (v : PlainView) (c : Code) : Type 0 where
   pub indirect_ascending : IsStrictlyIncreasing c.indirect.items
   pub indirect : (a : ℕ) → has c.indirect.items a ≡ is_indirect v a
 
+-- the code of some file
+abbrev pub IsSomeCode : Code → Type 0
+IsSomeCode c = (v : PlainView) × IsCode v c
+
 -- ---- faults
 
 -- some word of code

@@ -1,6 +1,7 @@
 -- The numbers of blocks, and to which of them direct edges lead.
 use Rattle.std.specs.Prelude.{◌≡◌, ℕ, ◌<◌, false, List, map, length, slice_index, slice_index_or, Option, MatchOption}
 use Rattle.std.specs.List.{All, filter}
+use Rattle.std.specs.List.Sorted.{IsStrictlyIncreasing}
 use Rattle.code_leaders.specs.Early.{has}
 use Rattle.code_blocks.specs.Blocks.{start_of}
 use Rattle.code_blocks.specs.declared.ends.End.{End}
@@ -14,6 +15,10 @@ starts_of c = map start_of c.blocks.items
 
 abbrev pub start_at : Code → ℕ → ℕ
 start_at c k = slice_index (starts_of c) k
+
+-- blocks ascend by their starts
+abbrev pub Ascends : Code → Type 0
+Ascends c = IsStrictlyIncreasing (starts_of c)
 
 -- the end of block `k`
 abbrev pub ending_of : Block → End

@@ -32,9 +32,13 @@ pub fn blocks(alloc: Global, view: &ElfView) -> Result<Code, CodeFault>
     ensures fault { ReportsUnless CodeFault.Memory result (code_fault (plain_view view.now)) }
     ensures code { IfOk result (IsCode (plain_view view.now)) }
 {
-    let file = LoadedFile::of(alloc, view)?;
+    let Ok(file) = LoadedFile::of(alloc, view) else {
+        return Err(CodeFault::Memory);
+    };
     check_entry(&file)?;
-    let leaders = leaders(alloc, &file)?;
+    let Ok(leaders) = leaders(alloc, &file) else {
+        return Err(CodeFault::Memory);
+    };
     check_count(view, &leaders)?;
     match code_from(alloc, &file, leaders) {
         Ok(code) => Ok(code),

@@ -3,7 +3,7 @@ ghost use Rattle.std.specs.Prelude.{◌≡◌, [], ◌∷◌};
 use crate::ends::End;
 use crate::parts::Code;
 use smallvec::SmallVec;
-use std::alloc::Global;
+use std::alloc::{AllocError, Global};
 
 impl End {
     ghost use Rattle.std.specs.Prelude.{◌≤◌, length};
@@ -45,11 +45,22 @@ fn two_addresses(alloc: Global, first: u32, second: u32) -> SmallVec<u32, 2>
 }
 
 impl Code {
-    ghost use Rattle.std.specs.Prelude.{ℕ, ◌+◌, ◌<◌, ◌≤◌, nat_lt, true, false, List, ◌++◌, length};
+    ghost use Rattle.std.specs.Prelude.{ℕ, ◌+◌, ◌<◌, ◌≤◌, nat_lt, true, false, List, ◌++◌, length, IfOk};
     ghost use Rattle.std.specs.List.Sorted.{IsStrictlyIncreasing, IsPartitionPoint};
     ghost use Rattle.smallvec.specs.SmallVec.{HasRoomFor};
     ghost use Rattle.code_blocks.specs.Edges.{successors};
     ghost use Rattle.code_blocks.specs.Numbers.{starts_of, end_at, IsNumberAt, AreNumbersAt};
+
+    /// Where the blocks begin, in their order. It fails only where no memory was left.
+    pub fn starts(&self, alloc: Global) -> Result<Vec<u32>, AllocError>
+        ensures { IfOk result (λ starts. starts.items ≡ starts_of self.now) }
+    {
+        let mut starts = Vec::new(alloc);
+        for block in &self.blocks {
+            starts.push(block.start)?;
+        }
+        Ok(starts)
+    }
 
     /// The number of the block that begins at `leader`, if one does, by binary search.
     pub fn block_at(&self, leader: u32) -> Option<u32>

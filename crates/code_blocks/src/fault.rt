@@ -1,4 +1,3 @@
-use std::alloc::AllocError;
 use thiserror::Error;
 
 /// Why the code of a program can't be split into blocks, the first in this order.
@@ -16,15 +15,4 @@ pub enum CodeFault {
     /// No memory was left.
     #[error("out of memory")]
     Memory,
-}
-
-impl From<AllocError> for CodeFault {
-    ghost use Rattle.std.specs.Prelude.{◌≡◌};
-    ghost use Rattle.code_blocks.specs.declared.fault.CodeFault.TheVariants.{Memory};
-
-    ghost from_gives = { λ _ fault. fault ≡ Memory };
-
-    fn from(_error: AllocError) -> CodeFault {
-        CodeFault::Memory
-    }
 }

@@ -3,6 +3,7 @@ use Rattle.std.specs.Prelude.{◌≡◌, ℕ, zero, suc, ◌+◌, ◌%◌, ◌==
 use Rattle.elf_reader.specs.Layout.{file_header, program_header_count, program_header, section_count, section_header, symbol_at, symbol_record, relocation_record}
 use Rattle.elf_reader.specs.Sections.{section_content, section_names, symbol_names, name_in, symbol_table, symbol_count_of, relocation_count_at, symbol_of_info, kind_of_info}
 use Rattle.elf_reader.specs.declared.records.ProgramHeader.{ProgramHeader}
+use Rattle.elf_reader.specs.declared.records.RelocationRecord.{RelocationRecord}
 use Rattle.elf_reader.specs.declared.view.ElfView.{ElfView}
 use Rattle.elf_reader.specs.declared.view.Segment.{Segment}
 use Rattle.elf_reader.specs.declared.view.Section.{Section}
@@ -154,17 +155,20 @@ symbols_in file (Some table) = symbols_below file table (symbol_count_of (sectio
 abbrev pub all_symbols : List ℕ → List PlainSymbol
 all_symbols file = symbols_in file (symbol_table file)
 
--- relocation `i` of section header `k`, which changes the section that sh_info names
-abbrev pub relocation_of : List ℕ → ℕ → ℕ → Reloc
-relocation_of file k i =
-    let r = relocation_record file k i in
+-- what a record tells of a relocation of a section
+abbrev pub relocation_by : RelocationRecord → ℕ → Reloc
+relocation_by r section =
     record {
       at = r.r_offset;
       kind = kind_of_info r.r_info;
       symbol = symbol_of_info r.r_info;
       addend = r.r_addend;
-      section = (section_header file k).sh_info;
+      section = section;
     }
+
+-- relocation `i` of section header `k`, which changes the section that sh_info names
+abbrev pub relocation_of : List ℕ → ℕ → ℕ → Reloc
+relocation_of file k i = relocation_by (relocation_record file k i) (section_header file k).sh_info
 
 -- its first n relocations
 abbrev pub relocations_within : List ℕ → ℕ → ℕ → List Reloc

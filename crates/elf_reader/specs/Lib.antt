@@ -11,6 +11,7 @@ pub mod ProgramHeaderChecks
 pub mod SectionChecks
 pub mod SymbolChecks
 pub mod RelocationChecks
+pub mod SectionPasses
 pub mod Faults
 pub mod Placed
 pub mod SymbolTables

@@ -1,14 +1,19 @@
 -- What holds of a file in which no check fails, and of its segments.
 use Rattle.std.specs.Prelude.{◌≡◌, ℕ, ◌+◌, ◌<◌, ◌≤◌, false, IsTrue, List, length, All}
 use Rattle.std.specs.List.{AllPairs}
-use Rattle.elf_reader.specs.Layout.{program_header_count, program_header_at, program_header}
+use Rattle.elf_reader.specs.Layout.{file_header, program_header_count, program_header_at, program_header}
 use Rattle.elf_reader.specs.File.{PlainSegment, is_load}
 use Rattle.list_checks.specs.Tests.{ranges_overlap}
+use Rattle.elf_reader.specs.declared.records.FileHeader.{FileHeader}
 use Rattle.elf_reader.specs.declared.records.ProgramHeader.{ProgramHeader}
 
 -- the program header table lies inside the file
 abbrev pub HasProgramHeaders : List ℕ → Type 0
 HasProgramHeaders file = (k : ℕ) → k < program_header_count file → program_header_at file k + 32 ≤ length file
+
+-- and `h` is the ELF header
+abbrev pub HasProgramTable : List ℕ → FileHeader → Type 0
+HasProgramTable file h = (h ≡ file_header file) × HasProgramHeaders file
 
 -- a program header's segment lies inside a file of `size` bytes and fits into its memory, which ends
 -- below 2 ^ 32

@@ -1,12 +1,17 @@
 -- What holds of the sections of a file in which no check fails.
-use Rattle.std.specs.Prelude.{ℕ, ◌+◌, ◌<◌, ◌≤◌, IsTrue, List, length}
+use Rattle.std.specs.Prelude.{◌≡◌, ℕ, ◌+◌, ◌<◌, ◌≤◌, IsTrue, List, length}
 use Rattle.elf_reader.specs.Layout.{file_header, section_count, section_header_at, section_header, symbol_at, relocation_at}
 use Rattle.elf_reader.specs.Sections.{stands_in_file, is_string_table, names_section, has_name, section_names, symbol_count_of, relocation_count_at}
+use Rattle.elf_reader.specs.declared.records.FileHeader.{FileHeader}
 use Rattle.elf_reader.specs.declared.records.SectionHeader.{SectionHeader}
 
 -- the table of section headers lies inside the file
 abbrev pub HasSectionHeaders : List ℕ → Type 0
 HasSectionHeaders file = (k : ℕ) → k < section_count file → section_header_at file k + 40 ≤ length file
+
+-- and `h` is the ELF header
+abbrev pub HasSectionTable : List ℕ → FileHeader → Type 0
+HasSectionTable file h = (h ≡ file_header file) × HasSectionHeaders file
 
 -- a section's content, where it stands in the file, lies inside a file of `size` bytes
 abbrev pub HasContent : ℕ → SectionHeader → Type 0

@@ -8,11 +8,14 @@ use Rattle.elf_reader.specs.HeaderChecks.{capped}
 use Rattle.elf_reader.specs.declared.fault.ElfFault.{ElfFault}
 use Rattle.elf_reader.specs.declared.fault.ElfFault.TheVariants.{WrongKind, BadIndex, Unsupported, OverLimit}
 use Rattle.elf_reader.specs.declared.records.RelocationRecord.{RelocationRecord}
+use Rattle.elf_reader.specs.declared.records.SectionHeader.{SectionHeader}
 
--- section header `k` is not of relocations without addends (SHT_REL) that change an allocated section
+-- a section header is not of relocations without addends (SHT_REL) that change an allocated section
+abbrev pub rel_fault_of : List ℕ → SectionHeader → Option ElfFault
+rel_fault_of file s = unless (not (is_rel s && names_section file is_allocated s.sh_info)) (WrongKind 14 9)
+
 abbrev pub rel_fault : List ℕ → ℕ → Option ElfFault
-rel_fault file k =
-    unless (not (is_rel (section_header file k) && names_section file is_allocated (section_header file k).sh_info)) (WrongKind 14 9)
+rel_fault file k = rel_fault_of file (section_header file k)
 
 abbrev pub rels_fault : List ℕ → Option ElfFault
 rels_fault file = first_below (rel_fault file) (section_count file)
@@ -24,10 +27,13 @@ is_table_of (Some table) k = k == table
 
 -- relocations of section header `k` that change an allocated section name symbols of the symbol table
 -- (sh_link), in entries of 12 bytes
+abbrev pub rela_table_fault_of : Option ℕ → ℕ → SectionHeader → Option ElfFault
+rela_table_fault_of table k s =
+    unless (is_table_of table s.sh_link) (BadIndex 7 k)
+    or_else unless (has_entries 12 s) (WrongKind 17 s.sh_entsize)
+
 abbrev pub rela_table_fault : List ℕ → ℕ → Option ElfFault
-rela_table_fault file k =
-    unless (is_table_of (symbol_table file) (section_header file k).sh_link) (BadIndex 7 k)
-    or_else unless (has_entries 12 (section_header file k)) (WrongKind 17 (section_header file k).sh_entsize)
+rela_table_fault file k = rela_table_fault_of (symbol_table file) k (section_header file k)
 
 -- relocations of section header `k` change a section (sh_info). Where that isn't allocated, the rest
 -- is not read

@@ -1,7 +1,3 @@
-ghost use Rattle.std.specs.Prelude.{◌≡◌};
-ghost use Rattle.elf_reader.specs.declared.fault.ElfFault.TheVariants.{Memory};
-
-use std::alloc::AllocError;
 use thiserror::Error;
 
 /// The first check that a file fails, in the order in which `read` makes them.
@@ -51,12 +47,4 @@ pub enum ElfFault {
     /// No memory was left.
     #[error("out of memory")]
     Memory,
-}
-
-impl From<AllocError> for ElfFault {
-    ghost from_gives = { λ _ fault. fault ≡ Memory };
-
-    fn from(_error: AllocError) -> ElfFault {
-        ElfFault::Memory
-    }
 }

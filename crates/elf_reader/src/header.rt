@@ -149,26 +149,22 @@ pub(crate) fn has_bit(word: u32, bit: u32) -> bool
 fn check_sizes(header: &FileHeader) -> Result<(), ElfFault>
     ensures { Reports result (sizes_fault header.now) }
 {
-    check_field(
-        field::E_EHSIZE,
-        u32::from(header.e_ehsize),
-        FILE_HEADER_SIZE as u32,
-    )?;
+    check_size_field(field::E_EHSIZE, header.e_ehsize, FILE_HEADER_SIZE)?;
     if header.e_phnum > 0 {
-        check_field(
-            field::E_PHENTSIZE,
-            u32::from(header.e_phentsize),
-            PROGRAM_HEADER_SIZE as u32,
-        )?;
+        check_size_field(field::E_PHENTSIZE, header.e_phentsize, PROGRAM_HEADER_SIZE)?;
     }
     if header.e_shnum > 0 {
-        check_field(
-            field::E_SHENTSIZE,
-            u32::from(header.e_shentsize),
-            SECTION_HEADER_SIZE as u32,
-        )?;
+        check_size_field(field::E_SHENTSIZE, header.e_shentsize, SECTION_HEADER_SIZE)?;
     }
     Ok(())
+}
+
+/// The check of a field that tells the size of a record.
+fn check_size_field(field: u32, size: u16, wanted: usize) -> Result<(), ElfFault>
+    requires { wanted < 4294967296 }
+    ensures { Reports result (field_fault field size wanted) }
+{
+    check_field(field, u32::from(size), wanted as u32)
 }
 
 fn check_counts(header: &FileHeader) -> Result<(), ElfFault>

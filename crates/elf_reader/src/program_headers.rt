@@ -2,7 +2,7 @@ ghost use Rattle.std.specs.Prelude.{◌≡◌, ℕ, ◌+◌, ◌*◌, ◌<◌, �
 ghost use Rattle.list_checks.specs.First.{Reports};
 ghost use Rattle.elf_reader.specs.Layout.{file_header, program_header};
 ghost use Rattle.elf_reader.specs.ProgramHeaderChecks.{place_fault, table_fault, load_fault, program_fault, entry_fault, entries_fault, memory_size, memory_fault, overlaps, pair_fault, pairs_fault, overlap_fault, program_headers_fault};
-ghost use Rattle.elf_reader.specs.Loadable.{HasProgramHeaders, HasSegments};
+ghost use Rattle.elf_reader.specs.Loadable.{HasProgramTable, HasProgramHeaders, HasSegments};
 
 use crate::fault::ElfFault;
 use crate::kinds::PT_LOAD;
@@ -32,8 +32,7 @@ pub(crate) fn check_program_headers(bytes: &[u8], header: &FileHeader) -> Result
 
 /// Program header `k` of the file.
 pub(crate) fn program_header(bytes: &[u8], header: &FileHeader, k: u16) -> ProgramHeader
-    requires header { header.now ≡ file_header bytes.now }
-    requires headers { HasProgramHeaders bytes.now }
+    requires headers { HasProgramTable bytes.now header.now }
     requires below { k < header.now.e_phnum }
     ensures { result ≡ program_header bytes.now k }
 {
@@ -72,8 +71,7 @@ fn check_place(bytes: &[u8], header: &FileHeader, k: u16) -> Result<(), ElfFault
 
 #[tactic(auto, using(list_checks::proofs::FirstLemmas::first_found))]
 fn check_entries(bytes: &[u8], header: &FileHeader) -> Result<(), ElfFault>
-    requires header { header.now ≡ file_header bytes.now }
-    requires headers { HasProgramHeaders bytes.now }
+    requires headers { HasProgramTable bytes.now header.now }
     ensures fault { Reports result (entries_fault bytes.now) }
     ensures segments { OnOk result (HasSegments bytes.now) }
 {
@@ -84,8 +82,7 @@ fn check_entries(bytes: &[u8], header: &FileHeader) -> Result<(), ElfFault>
 }
 
 fn check_entry(bytes: &[u8], header: &FileHeader, k: u16) -> Result<(), ElfFault>
-    requires header { header.now ≡ file_header bytes.now }
-    requires headers { HasProgramHeaders bytes.now }
+    requires headers { HasProgramTable bytes.now header.now }
     requires below { k < header.now.e_phnum }
     ensures { Reports result (entry_fault bytes.now k) }
 {
@@ -130,8 +127,7 @@ fn check_load(size: usize, k: u16, program: &ProgramHeader) -> Result<(), ElfFau
 }
 
 fn check_memory(bytes: &[u8], header: &FileHeader) -> Result<(), ElfFault>
-    requires header { header.now ≡ file_header bytes.now }
-    requires headers { HasProgramHeaders bytes.now }
+    requires headers { HasProgramTable bytes.now header.now }
     ensures { Reports result (memory_fault bytes.now) }
 {
     let mut total: u64 = 0;
@@ -162,8 +158,7 @@ fn memory_of(program: &ProgramHeader) -> u64
 
 #[tactic(auto, using(list_checks::proofs::FirstLemmas::first_found))]
 fn check_overlaps(bytes: &[u8], header: &FileHeader) -> Result<(), ElfFault>
-    requires header { header.now ≡ file_header bytes.now }
-    requires headers { HasProgramHeaders bytes.now }
+    requires headers { HasProgramTable bytes.now header.now }
     ensures { Reports result (overlap_fault bytes.now) }
 {
     for first in 0..header.e_phnum {
@@ -174,8 +169,7 @@ fn check_overlaps(bytes: &[u8], header: &FileHeader) -> Result<(), ElfFault>
 
 #[tactic(auto, using(list_checks::proofs::FirstLemmas::first_found, crate::proofs::Overlaps::no_lower))]
 fn check_pairs(bytes: &[u8], header: &FileHeader, first: u16) -> Result<(), ElfFault>
-    requires header { header.now ≡ file_header bytes.now }
-    requires headers { HasProgramHeaders bytes.now }
+    requires headers { HasProgramTable bytes.now header.now }
     requires below { first < header.now.e_phnum }
     ensures { Reports result (pairs_fault bytes.now first) }
 {
@@ -188,8 +182,7 @@ fn check_pairs(bytes: &[u8], header: &FileHeader, first: u16) -> Result<(), ElfF
 
 #[tactic(auto, unfolding(crate::specs::ProgramHeaderChecks::pair_fault))]
 fn check_pair(bytes: &[u8], header: &FileHeader, first: u16, second: u16) -> Result<(), ElfFault>
-    requires header { header.now ≡ file_header bytes.now }
-    requires headers { HasProgramHeaders bytes.now }
+    requires headers { HasProgramTable bytes.now header.now }
     requires order { first < second }
     requires below { second < header.now.e_phnum }
     ensures { Reports result (pair_fault bytes.now first second) }

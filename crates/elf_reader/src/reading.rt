@@ -41,7 +41,10 @@ pub fn read<'a>(alloc: Global, bytes: &'a [u8]) -> Result<ElfView<'a>, ElfFault>
     check_sections(bytes, &header)?;
     let table = check_symbols(bytes, &header)?;
     check_relocations(bytes, &header, table, symbol_count(bytes, &header, table))?;
-    Ok(view_of(alloc, bytes, &header, table)?)
+    match view_of(alloc, bytes, &header, table) {
+        Ok(view) => Ok(view),
+        Err(_) => Err(ElfFault::Memory),
+    }
 }
 
 /// The view of a file in which no check fails, whose symbol table is that of section header `table`.

@@ -1,9 +1,8 @@
 ghost use Rattle.std.specs.Prelude.{◌≡◌, ℕ, ◌+◌, ◌<◌, ◌≤◌, OnOk};
 ghost use Rattle.list_checks.specs.First.{Reports};
-ghost use Rattle.elf_reader.specs.Layout.{file_header};
 ghost use Rattle.elf_reader.specs.Sections.{symbol_table, symbol_count, relocation_count_at, relocation_count_below, relocation_count};
-ghost use Rattle.elf_reader.specs.RelocationChecks.{rel_fault, rels_fault, is_table_of, rela_table_fault, rela_section_fault, rela_fault, relas_fault, relocation_limit_fault, is_supported, relocation_fault_of, relocation_fault, section_relocations_fault, relocation_entries_fault, relocations_fault};
-ghost use Rattle.elf_reader.specs.Placed.{HasSectionHeaders, HasContents};
+ghost use Rattle.elf_reader.specs.RelocationChecks.{rel_fault_of, is_table_of, rela_table_fault_of, rela_fault, relas_fault, relocation_limit_fault, is_supported, relocation_fault_of, relocation_fault, section_relocations_fault, relocation_entries_fault, relocations_fault};
+ghost use Rattle.elf_reader.specs.Placed.{HasSectionTable, HasContents};
 
 use crate::fault::ElfFault;
 use crate::kinds::SHT_REL;
@@ -12,7 +11,8 @@ use crate::records::{FileHeader, RELOCATION_SIZE, RelocationRecord, SectionHeade
 use crate::relocations::{
     is_allocated_section, is_relocation_section, relocation_count_at, relocation_record,
 };
-use crate::sections::{is_allocated, section_header};
+use crate::section_checks::{SectionCheck, check_each};
+use crate::sections::{has_entries, is_allocated, section_header};
 
 /// The most relocations of a file.
 const MAX_RELOCATIONS: u64 = 262_144;
@@ -25,39 +25,28 @@ pub(crate) fn check_relocations(
     table: Option<u16>,
     symbols: u32,
 ) -> Result<(), ElfFault>
-    requires header { header.now ≡ file_header bytes.now }
-    requires headers { HasSectionHeaders bytes.now }
+    requires headers { HasSectionTable bytes.now header.now }
     requires contents { HasContents bytes.now }
     requires table { table ≡ symbol_table bytes.now }
     requires symbols { symbols ≡ symbol_count bytes.now }
     ensures fault { Reports result (relocations_fault bytes.now) }
     ensures limit { OnOk result (relocation_count bytes.now ≤ 262144) }
 {
-    check_rels(bytes, header)?;
+    check_each(bytes, header, SectionCheck::Rel)?;
     check_relas(bytes, header, table)?;
     check_limit(bytes, header)?;
     check_entries(bytes, header, symbols)
 }
 
-#[tactic(auto, using(list_checks::proofs::FirstLemmas::first_found))]
-fn check_rels(bytes: &[u8], header: &FileHeader) -> Result<(), ElfFault>
-    requires header { header.now ≡ file_header bytes.now }
-    requires headers { HasSectionHeaders bytes.now }
-    ensures { Reports result (rels_fault bytes.now) }
+/// A section does not hold relocations without addends that change a section with memory.
+pub(crate) fn check_rel(
+    bytes: &[u8],
+    header: &FileHeader,
+    section: &SectionHeader,
+) -> Result<(), ElfFault>
+    requires headers { HasSectionTable bytes.now header.now }
+    ensures { Reports result (rel_fault_of bytes.now section.now) }
 {
-    for k in 0..header.e_shnum {
-        check_rel(bytes, header, k)?;
-    }
-    Ok(())
-}
-
-fn check_rel(bytes: &[u8], header: &FileHeader, k: u16) -> Result<(), ElfFault>
-    requires header { header.now ≡ file_header bytes.now }
-    requires headers { HasSectionHeaders bytes.now }
-    requires below { k < header.now.e_shnum }
-    ensures { Reports result (rel_fault bytes.now k) }
-{
-    let section = section_header(bytes, header, k);
     if section.sh_type == SHT_REL && is_allocated_section(bytes, header, section.sh_info) {
         return Err(ElfFault::WrongKind {
             field: field::SH_TYPE,
@@ -68,8 +57,7 @@ fn check_rel(bytes: &[u8], header: &FileHeader, k: u16) -> Result<(), ElfFault>
 }
 
 fn check_relas(bytes: &[u8], header: &FileHeader, table: Option<u16>) -> Result<(), ElfFault>
-    requires header { header.now ≡ file_header bytes.now }
-    requires headers { HasSectionHeaders bytes.now }
+    requires headers { HasSectionTable bytes.now header.now }
     requires table { table ≡ symbol_table bytes.now }
     ensures { Reports result (relas_fault bytes.now) }
 {
@@ -80,32 +68,15 @@ fn check_relas(bytes: &[u8], header: &FileHeader, table: Option<u16>) -> Result<
 }
 
 fn check_rela(bytes: &[u8], header: &FileHeader, table: Option<u16>, k: u16) -> Result<(), ElfFault>
-    requires header { header.now ≡ file_header bytes.now }
-    requires headers { HasSectionHeaders bytes.now }
+    requires headers { HasSectionTable bytes.now header.now }
     requires table { table ≡ symbol_table bytes.now }
     requires below { k < header.now.e_shnum }
     ensures { Reports result (rela_fault bytes.now k) }
 {
-    if is_relocation_section(&section_header(bytes, header, k)) {
-        check_rela_section(bytes, header, table, k)
-    } else {
-        Ok(())
-    }
-}
-
-fn check_rela_section(
-    bytes: &[u8],
-    header: &FileHeader,
-    table: Option<u16>,
-    k: u16,
-) -> Result<(), ElfFault>
-    requires header { header.now ≡ file_header bytes.now }
-    requires headers { HasSectionHeaders bytes.now }
-    requires table { table ≡ symbol_table bytes.now }
-    requires below { k < header.now.e_shnum }
-    ensures { Reports result (rela_section_fault bytes.now k) }
-{
     let section = section_header(bytes, header, k);
+    if !is_relocation_section(&section) {
+        return Ok(());
+    }
     if section.sh_info >= u32::from(header.e_shnum) {
         return Err(ElfFault::BadIndex {
             table: table::RELOCATION_SECTIONS,
@@ -113,33 +84,23 @@ fn check_rela_section(
         });
     }
     if is_allocated(&section_header(bytes, header, section.sh_info as u16)) {
-        check_rela_table(bytes, header, table, k)
+        check_rela_table(table, k, &section)
     } else {
         Ok(())
     }
 }
 
-fn check_rela_table(
-    bytes: &[u8],
-    header: &FileHeader,
-    table: Option<u16>,
-    k: u16,
-) -> Result<(), ElfFault>
-    requires header { header.now ≡ file_header bytes.now }
-    requires headers { HasSectionHeaders bytes.now }
-    requires table { table ≡ symbol_table bytes.now }
-    requires below { k < header.now.e_shnum }
-    ensures { Reports result (rela_table_fault bytes.now k) }
+/// The relocations of section header `k` name symbols of the symbol table, in entries of their size.
+fn check_rela_table(table: Option<u16>, k: u16, section: &SectionHeader) -> Result<(), ElfFault>
+    ensures { Reports result (rela_table_fault_of table k section.now) }
 {
-    let section = section_header(bytes, header, k);
     if !is_table(table, section.sh_link) {
         return Err(ElfFault::BadIndex {
             table: table::RELOCATION_SECTIONS,
             index: u32::from(k),
         });
     }
-    let size = RELOCATION_SIZE as u32;
-    if section.sh_entsize != size || section.sh_size % size != 0 {
+    if !has_entries(section, RELOCATION_SIZE) {
         return Err(ElfFault::WrongKind {
             field: field::RELOCATION_ENTSIZE,
             value: section.sh_entsize,
@@ -159,8 +120,7 @@ fn is_table(table: Option<u16>, number: u32) -> bool
 }
 
 fn check_limit(bytes: &[u8], header: &FileHeader) -> Result<(), ElfFault>
-    requires header { header.now ≡ file_header bytes.now }
-    requires headers { HasSectionHeaders bytes.now }
+    requires headers { HasSectionTable bytes.now header.now }
     ensures fault { Reports result (relocation_limit_fault bytes.now) }
     ensures limit { OnOk result (relocation_count bytes.now ≤ 262144) }
 {
@@ -180,8 +140,7 @@ fn check_limit(bytes: &[u8], header: &FileHeader) -> Result<(), ElfFault>
 
 #[tactic(auto, using(list_checks::proofs::FirstLemmas::first_found))]
 fn check_entries(bytes: &[u8], header: &FileHeader, symbols: u32) -> Result<(), ElfFault>
-    requires header { header.now ≡ file_header bytes.now }
-    requires headers { HasSectionHeaders bytes.now }
+    requires headers { HasSectionTable bytes.now header.now }
     requires contents { HasContents bytes.now }
     requires symbols { symbols ≡ symbol_count bytes.now }
     requires limit { relocation_count bytes.now ≤ 262144 }
@@ -203,8 +162,7 @@ fn check_section_entries(
     k: u16,
     first: u32,
 ) -> Result<(), ElfFault>
-    requires header { header.now ≡ file_header bytes.now }
-    requires headers { HasSectionHeaders bytes.now }
+    requires headers { HasSectionTable bytes.now header.now }
     requires contents { HasContents bytes.now }
     requires symbols { symbols ≡ symbol_count bytes.now }
     requires below { k < header.now.e_shnum }

@@ -1,8 +1,8 @@
 ghost use Rattle.std.specs.Prelude.{◌≡◌, ℕ, ◌+◌, ◌<◌, ◌++◌, IfOk, OnOk};
-ghost use Rattle.elf_reader.specs.Layout.{file_header, relocation_record};
+ghost use Rattle.elf_reader.specs.Layout.{relocation_record};
 ghost use Rattle.elf_reader.specs.Sections.{is_allocated, is_relocation_section, names_section, relocation_count_at};
-ghost use Rattle.elf_reader.specs.File.{relocation_of, relocations_within, all_relocations};
-ghost use Rattle.elf_reader.specs.Placed.{HasSectionHeaders, HasContents};
+ghost use Rattle.elf_reader.specs.File.{relocation_by, relocations_within, all_relocations};
+ghost use Rattle.elf_reader.specs.Placed.{HasSectionTable, HasContents};
 
 use crate::kinds::SHT_RELA;
 use crate::records::{FileHeader, RELOCATION_SIZE, RelocationRecord, SectionHeader};
@@ -16,8 +16,7 @@ pub(crate) fn read_relocations(
     bytes: &[u8],
     header: &FileHeader,
 ) -> Result<Vec<Reloc>, AllocError>
-    requires header { header.now ≡ file_header bytes.now }
-    requires headers { HasSectionHeaders bytes.now }
+    requires headers { HasSectionTable bytes.now header.now }
     requires contents { HasContents bytes.now }
     ensures { IfOk result (λ relocs. relocs.items ≡ all_relocations bytes.now) }
 {
@@ -35,35 +34,30 @@ fn push_section(
     header: &FileHeader,
     k: u16,
 ) -> Result<(), AllocError>
-    requires header { header.now ≡ file_header bytes.now }
-    requires headers { HasSectionHeaders bytes.now }
+    requires headers { HasSectionTable bytes.now header.now }
     requires contents { HasContents bytes.now }
     requires below { k < header.now.e_shnum }
     ensures { OnOk result (relocs.new.items ≡ relocs.old.items ++ relocations_within bytes.now k (relocation_count_at bytes.now k)) }
 {
     let count = relocation_count_at(bytes, header, k);
+    let changed = section_header(bytes, header, k).sh_info;
     for i in 0..count {
-        relocs.push(relocation(bytes, header, k, i))?;
+        let record = relocation_record(bytes, header, k, i);
+        relocs.push(relocation_by(&record, changed))?;
     }
     Ok(())
 }
 
-/// Relocation `i` of section header `k`.
-fn relocation(bytes: &[u8], header: &FileHeader, k: u16, i: u32) -> Reloc
-    requires header { header.now ≡ file_header bytes.now }
-    requires headers { HasSectionHeaders bytes.now }
-    requires contents { HasContents bytes.now }
-    requires below { k < header.now.e_shnum }
-    requires read { i < relocation_count_at bytes.now k }
-    ensures { result ≡ relocation_of bytes.now k i }
+/// The relocation that a record tells, of section `changed`.
+fn relocation_by(record: &RelocationRecord, changed: u32) -> Reloc
+    ensures { result ≡ relocation_by «record».now changed }
 {
-    let record = relocation_record(bytes, header, k, i);
     Reloc {
         at: record.r_offset,
         kind: record.kind(),
         symbol: record.symbol(),
         addend: record.r_addend,
-        section: section_header(bytes, header, k).sh_info,
+        section: changed,
     }
 }
 
@@ -74,8 +68,7 @@ pub(crate) fn relocation_record(
     k: u16,
     i: u32,
 ) -> RelocationRecord
-    requires header { header.now ≡ file_header bytes.now }
-    requires headers { HasSectionHeaders bytes.now }
+    requires headers { HasSectionTable bytes.now header.now }
     requires contents { HasContents bytes.now }
     requires below { k < header.now.e_shnum }
     requires read { i < relocation_count_at bytes.now k }
@@ -90,8 +83,7 @@ pub(crate) fn relocation_record(
 
 /// How many relocations of section header `k` are read.
 pub(crate) fn relocation_count_at(bytes: &[u8], header: &FileHeader, k: u16) -> u32
-    requires header { header.now ≡ file_header bytes.now }
-    requires headers { HasSectionHeaders bytes.now }
+    requires headers { HasSectionTable bytes.now header.now }
     requires below { k < header.now.e_shnum }
     ensures { result ≡ relocation_count_at bytes.now k }
 {
@@ -112,8 +104,7 @@ pub(crate) fn is_relocation_section(section: &SectionHeader) -> bool
 
 /// The number is that of an allocated section.
 pub(crate) fn is_allocated_section(bytes: &[u8], header: &FileHeader, number: u32) -> bool
-    requires header { header.now ≡ file_header bytes.now }
-    requires headers { HasSectionHeaders bytes.now }
+    requires headers { HasSectionTable bytes.now header.now }
     ensures { result ≡ names_section bytes.now is_allocated number }
 {
     number < u32::from(header.e_shnum)

@@ -1,15 +1,17 @@
 ghost use Rattle.std.specs.Prelude.{◌≡◌, ℕ, ◌+◌, ◌*◌, ◌<◌, ◌≤◌, nat_lt, IsTrue, length, OnOk};
-ghost use Rattle.list_checks.specs.First.{Reports};
-ghost use Rattle.elf_reader.specs.Layout.{file_header};
+ghost use Rattle.list_checks.specs.First.{Reports, first_below};
+ghost use Rattle.elf_reader.specs.Layout.{file_header, section_count};
 ghost use Rattle.elf_reader.specs.Sections.{is_string_table, names_section, has_name, section_names};
-ghost use Rattle.elf_reader.specs.SectionChecks.{header_place_fault, header_places_fault, overlaps_file_header, table_start_fault, content_fault, section_place_fault, section_places_fault, compressed_fault_of, compressed_fault, compressed_sections_fault, loaded_relocations_fault_of, loaded_relocations_fault, section_kinds_fault, section_headers_fault, names_table_fault, section_name_fault, section_names_fault, names_fault, sections_fault};
-ghost use Rattle.elf_reader.specs.Placed.{HasSectionHeaders, HasContents, HasNamesTable, HasSectionNames};
+ghost use Rattle.elf_reader.specs.SectionChecks.{header_place_fault, header_places_fault, overlaps_file_header, table_start_fault, content_fault, section_places_fault, compressed_fault_of, loaded_relocations_fault_of, section_headers_fault, names_table_fault, section_name_fault, section_names_fault, names_fault, sections_fault};
+ghost use Rattle.elf_reader.specs.SectionPasses.{section_fault};
+ghost use Rattle.elf_reader.specs.Placed.{HasSectionTable, HasSectionHeaders, HasContents, HasNamesTable, HasSectionNames};
 
 use crate::fault::ElfFault;
 use crate::header::has_bit;
 use crate::kinds::{SHT_REL, SHT_RELA};
 use crate::numbers::{field, table};
 use crate::records::{FILE_HEADER_SIZE, FileHeader, SECTION_HEADER_SIZE, SectionHeader};
+use crate::relocation_checks::check_rel;
 use crate::sections::{is_allocated, is_in_file, is_string_table, section_header, section_names};
 use crate::string_table::names_end;
 
@@ -38,8 +40,8 @@ fn check_section_headers(bytes: &[u8], header: &FileHeader) -> Result<(), ElfFau
     check_table(bytes, header)?;
     check_table_start(bytes, header)?;
     check_places(bytes, header)?;
-    check_compressed(bytes, header)?;
-    check_kinds(bytes, header)
+    check_each(bytes, header, SectionCheck::Compression)?;
+    check_each(bytes, header, SectionCheck::Loaded)
 }
 
 #[tactic(auto, using(list_checks::proofs::FirstLemmas::first_found))]
@@ -90,31 +92,13 @@ fn overlaps_file_header(offset: u32, size: usize) -> bool
     size > 0 && (offset as usize) < FILE_HEADER_SIZE
 }
 
-#[tactic(auto, using(list_checks::proofs::FirstLemmas::first_found))]
 fn check_places(bytes: &[u8], header: &FileHeader) -> Result<(), ElfFault>
-    requires header { header.now ≡ file_header bytes.now }
-    requires headers { HasSectionHeaders bytes.now }
+    requires headers { HasSectionTable bytes.now header.now }
     ensures fault { Reports result (section_places_fault bytes.now) }
     ensures contents { OnOk result (HasContents bytes.now) }
 {
-    for k in 0..header.e_shnum {
-        check_place(bytes, header, k)?;
-    }
+    check_each(bytes, header, SectionCheck::Place)?;
     Ok(())
-}
-
-fn check_place(bytes: &[u8], header: &FileHeader, k: u16) -> Result<(), ElfFault>
-    requires header { header.now ≡ file_header bytes.now }
-    requires headers { HasSectionHeaders bytes.now }
-    requires below { k < header.now.e_shnum }
-    ensures { Reports result (section_place_fault bytes.now k) }
-{
-    let section = section_header(bytes, header, k);
-    if is_in_file(section.sh_type) {
-        check_content(bytes.len(), k, &section)
-    } else {
-        Ok(())
-    }
 }
 
 fn check_content(size: usize, k: u16, section: &SectionHeader) -> Result<(), ElfFault>
@@ -135,27 +119,53 @@ fn check_content(size: usize, k: u16, section: &SectionHeader) -> Result<(), Elf
     Ok(())
 }
 
-#[tactic(auto, using(list_checks::proofs::FirstLemmas::first_found))]
-fn check_compressed(bytes: &[u8], header: &FileHeader) -> Result<(), ElfFault>
-    requires header { header.now ≡ file_header bytes.now }
-    requires headers { HasSectionHeaders bytes.now }
-    ensures { Reports result (compressed_sections_fault bytes.now) }
+/// What is checked of each section header.
+#[derive(Clone, Copy)]
+pub(crate) enum SectionCheck {
+    /// The content, where it stands in the file, lies inside the file, and does not meet the ELF header.
+    Place,
+    /// No section with memory is compressed.
+    Compression,
+    /// No section with memory holds relocations.
+    Loaded,
+    /// No section holds relocations without addends that change a section with memory.
+    Rel,
+}
+
+/// The check of all section headers, in their order.
+pub(crate) fn check_each(
+    bytes: &[u8],
+    header: &FileHeader,
+    check: SectionCheck,
+) -> Result<(), ElfFault>
+    requires headers { HasSectionTable bytes.now header.now }
+    ensures { Reports result (first_below (section_fault check bytes.now) (section_count bytes.now)) }
 {
     for k in 0..header.e_shnum {
-        check_compressed_at(bytes, header, k)?;
+        check_at(bytes, header, check, k)?;
     }
     Ok(())
 }
 
-fn check_compressed_at(bytes: &[u8], header: &FileHeader, k: u16) -> Result<(), ElfFault>
-    requires header { header.now ≡ file_header bytes.now }
-    requires headers { HasSectionHeaders bytes.now }
+/// The check of section header `k`.
+fn check_at(bytes: &[u8], header: &FileHeader, check: SectionCheck, k: u16) -> Result<(), ElfFault>
+    requires headers { HasSectionTable bytes.now header.now }
     requires below { k < header.now.e_shnum }
-    ensures { Reports result (compressed_fault bytes.now k) }
+    ensures { Reports result (section_fault check bytes.now k) }
 {
-    check_compression(k, &section_header(bytes, header, k))
+    let section = section_header(bytes, header, k);
+    match check {
+        SectionCheck::Place if is_in_file(section.sh_type) => {
+            check_content(bytes.len(), k, &section)
+        }
+        SectionCheck::Place => Ok(()),
+        SectionCheck::Compression => check_compression(k, &section),
+        SectionCheck::Loaded => check_loaded(&section),
+        SectionCheck::Rel => check_rel(bytes, header, &section),
+    }
 }
 
+/// No section with memory is compressed.
 fn check_compression(k: u16, section: &SectionHeader) -> Result<(), ElfFault>
     ensures { Reports result (compressed_fault_of k section.now) }
 {
@@ -167,28 +177,8 @@ fn check_compression(k: u16, section: &SectionHeader) -> Result<(), ElfFault>
     Ok(())
 }
 
-#[tactic(auto, using(list_checks::proofs::FirstLemmas::first_found))]
-fn check_kinds(bytes: &[u8], header: &FileHeader) -> Result<(), ElfFault>
-    requires header { header.now ≡ file_header bytes.now }
-    requires headers { HasSectionHeaders bytes.now }
-    ensures { Reports result (section_kinds_fault bytes.now) }
-{
-    for k in 0..header.e_shnum {
-        check_kind_at(bytes, header, k)?;
-    }
-    Ok(())
-}
-
-fn check_kind_at(bytes: &[u8], header: &FileHeader, k: u16) -> Result<(), ElfFault>
-    requires header { header.now ≡ file_header bytes.now }
-    requires headers { HasSectionHeaders bytes.now }
-    requires below { k < header.now.e_shnum }
-    ensures { Reports result (loaded_relocations_fault bytes.now k) }
-{
-    check_kind(&section_header(bytes, header, k))
-}
-
-fn check_kind(section: &SectionHeader) -> Result<(), ElfFault>
+/// No section with memory holds relocations.
+fn check_loaded(section: &SectionHeader) -> Result<(), ElfFault>
     ensures { Reports result (loaded_relocations_fault_of section.now) }
 {
     let relocates = section.sh_type == SHT_REL
@@ -203,8 +193,7 @@ fn check_kind(section: &SectionHeader) -> Result<(), ElfFault>
 }
 
 fn check_names(bytes: &[u8], header: &FileHeader) -> Result<(), ElfFault>
-    requires header { header.now ≡ file_header bytes.now }
-    requires headers { HasSectionHeaders bytes.now }
+    requires headers { HasSectionTable bytes.now header.now }
     requires contents { HasContents bytes.now }
     ensures fault { Reports result (names_fault bytes.now) }
     ensures table { OnOk result (HasNamesTable bytes.now) }
@@ -218,8 +207,7 @@ fn check_names(bytes: &[u8], header: &FileHeader) -> Result<(), ElfFault>
 }
 
 fn check_names_table(bytes: &[u8], header: &FileHeader) -> Result<(), ElfFault>
-    requires header { header.now ≡ file_header bytes.now }
-    requires headers { HasSectionHeaders bytes.now }
+    requires headers { HasSectionTable bytes.now header.now }
     ensures fault { Reports result (names_table_fault bytes.now) }
     ensures table { OnOk result (IsTrue (names_section bytes.now is_string_table header.now.e_shstrndx)) }
 {
@@ -235,8 +223,7 @@ fn check_names_table(bytes: &[u8], header: &FileHeader) -> Result<(), ElfFault>
 
 #[tactic(auto, using(list_checks::proofs::FirstLemmas::first_found))]
 fn check_section_names(bytes: &[u8], header: &FileHeader) -> Result<(), ElfFault>
-    requires header { header.now ≡ file_header bytes.now }
-    requires headers { HasSectionHeaders bytes.now }
+    requires headers { HasSectionTable bytes.now header.now }
     requires contents { HasContents bytes.now }
     requires table { IsTrue (names_section bytes.now is_string_table header.now.e_shstrndx) }
     ensures fault { Reports result (section_names_fault bytes.now) }
@@ -256,8 +243,7 @@ fn check_section_name(
     k: u16,
     names_end: usize,
 ) -> Result<(), ElfFault>
-    requires header { header.now ≡ file_header bytes.now }
-    requires headers { HasSectionHeaders bytes.now }
+    requires headers { HasSectionTable bytes.now header.now }
     requires below { k < header.now.e_shnum }
     requires end { (start : ℕ) → has_name (section_names bytes.now) start ≡ nat_lt start names_end }
     ensures { Reports result (section_name_fault bytes.now k) }

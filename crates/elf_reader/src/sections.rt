@@ -1,8 +1,8 @@
 ghost use Rattle.std.specs.Prelude.{◌≡◌, ℕ, ◌+◌, ◌*◌, ◌<◌, ◌≤◌, [], ◌∷◌, ◌++◌, map, IsTrue, length, IfOk, OnOk};
-ghost use Rattle.elf_reader.specs.Layout.{file_header, section_header};
-ghost use Rattle.elf_reader.specs.Sections.{stands_in_file, is_allocated, is_string_table, names_section, content_of, section_names};
+ghost use Rattle.elf_reader.specs.Layout.{section_header};
+ghost use Rattle.elf_reader.specs.Sections.{stands_in_file, is_allocated, has_entries, is_string_table, names_section, content_of, section_names};
 ghost use Rattle.elf_reader.specs.File.{plain_section, section_of, all_sections};
-ghost use Rattle.elf_reader.specs.Placed.{HasSectionHeaders, HasContent, HasContents, HasNamesTable, HasSectionNames};
+ghost use Rattle.elf_reader.specs.Placed.{HasSectionTable, HasContent, HasContents, HasNamesTable, HasSectionNames};
 
 use crate::header::has_bit;
 use crate::kinds::{SHT_NOBITS, SHT_NULL, SHT_STRTAB};
@@ -20,8 +20,7 @@ pub(crate) fn read_sections<'a>(
     bytes: &'a [u8],
     header: &FileHeader,
 ) -> Result<Vec<Section<'a>>, AllocError>
-    requires header { header.now ≡ file_header bytes.now }
-    requires headers { HasSectionHeaders bytes.now }
+    requires headers { HasSectionTable bytes.now header.now }
     requires contents { HasContents bytes.now }
     requires table { HasNamesTable bytes.now }
     requires names { HasSectionNames bytes.now }
@@ -46,8 +45,7 @@ fn push_section<'a>(
     names: &StringTable<'a>,
     k: u16,
 ) -> Result<(), AllocError>
-    requires header { header.now ≡ file_header bytes.now }
-    requires headers { HasSectionHeaders bytes.now }
+    requires headers { HasSectionTable bytes.now header.now }
     requires contents { HasContents bytes.now }
     requires table { names.now.bytes.now ≡ section_names bytes.now }
     requires names { HasSectionNames bytes.now }
@@ -71,8 +69,7 @@ fn push_section<'a>(
 
 /// Section header `k` of the file.
 pub(crate) fn section_header(bytes: &[u8], header: &FileHeader, k: u16) -> SectionHeader
-    requires header { header.now ≡ file_header bytes.now }
-    requires headers { HasSectionHeaders bytes.now }
+    requires headers { HasSectionTable bytes.now header.now }
     requires below { k < header.now.e_shnum }
     ensures { result ≡ section_header bytes.now k }
 {
@@ -96,10 +93,18 @@ pub(crate) fn is_allocated(section: &SectionHeader) -> bool
     has_bit(section.sh_flags, ALLOC_BIT)
 }
 
+/// Whether a section is a table of entries of `size` bytes.
+pub(crate) fn has_entries(section: &SectionHeader, size: usize) -> bool
+    requires positive { 0 < size }
+    requires small { size < 4294967296 }
+    ensures { result ≡ has_entries size section.now }
+{
+    section.sh_entsize == size as u32 && section.sh_size % size as u32 == 0
+}
+
 /// Whether there is a section header `k`, and it is of a string table.
 pub(crate) fn is_string_table(bytes: &[u8], header: &FileHeader, k: u32) -> bool
-    requires header { header.now ≡ file_header bytes.now }
-    requires headers { HasSectionHeaders bytes.now }
+    requires headers { HasSectionTable bytes.now header.now }
     ensures { result ≡ names_section bytes.now is_string_table k }
 {
     k < u32::from(header.e_shnum) && section_header(bytes, header, k as u16).sh_type == SHT_STRTAB
@@ -107,8 +112,7 @@ pub(crate) fn is_string_table(bytes: &[u8], header: &FileHeader, k: u32) -> bool
 
 /// The content of the string table of the sections' names.
 pub(crate) fn section_names<'a>(bytes: &'a [u8], header: &FileHeader) -> &'a [u8]
-    requires header { header.now ≡ file_header bytes.now }
-    requires headers { HasSectionHeaders bytes.now }
+    requires headers { HasSectionTable bytes.now header.now }
     requires contents { HasContents bytes.now }
     requires table { IsTrue (names_section bytes.now is_string_table header.now.e_shstrndx) }
     ensures { result.now ≡ section_names bytes.now }

@@ -1,7 +1,6 @@
 ghost use Rattle.std.specs.Prelude.{◌≡◌, ℕ, ◌+◌, ◌<◌, ◌++◌, map, IfOk, OnOk};
-ghost use Rattle.elf_reader.specs.Layout.{file_header};
 ghost use Rattle.elf_reader.specs.File.{plain_segment, segments_at, load_segments};
-ghost use Rattle.elf_reader.specs.Loadable.{HasProgramHeaders, HasSegments};
+ghost use Rattle.elf_reader.specs.Loadable.{HasProgramTable, HasSegments};
 
 use crate::kinds::PT_LOAD;
 use crate::program_headers::program_header;
@@ -15,8 +14,7 @@ pub(crate) fn read_segments<'a>(
     bytes: &'a [u8],
     header: &FileHeader,
 ) -> Result<Vec<Segment<'a>>, AllocError>
-    requires header { header.now ≡ file_header bytes.now }
-    requires headers { HasProgramHeaders bytes.now }
+    requires headers { HasProgramTable bytes.now header.now }
     requires segments { HasSegments bytes.now }
     ensures { IfOk result (λ segments. map plain_segment segments.items ≡ load_segments bytes.now) }
 {
@@ -34,8 +32,7 @@ fn push_segment<'a>(
     header: &FileHeader,
     k: u16,
 ) -> Result<(), AllocError>
-    requires header { header.now ≡ file_header bytes.now }
-    requires headers { HasProgramHeaders bytes.now }
+    requires headers { HasProgramTable bytes.now header.now }
     requires segments { HasSegments bytes.now }
     requires below { k < header.now.e_phnum }
     ensures { OnOk result (map plain_segment segments.new.items ≡ map plain_segment segments.old.items ++ segments_at bytes.now k) }

@@ -4,7 +4,7 @@ ghost use Rattle.list_checks.specs.Tests.{any_below};
 ghost use Rattle.elf_reader.specs.Layout.{file_header, section_count, section_header};
 ghost use Rattle.elf_reader.specs.Sections.{is_table_at, is_string_table, names_section, has_name, symbol_table_below, symbol_table, symbol_count_of, symbol_names};
 ghost use Rattle.elf_reader.specs.SymbolChecks.{second_table_fault, one_table_fault, symbol_size_fault, shares_bytes, overlaps_section_headers, shared_table_fault, symbol_strings_fault, symbol_limit_fault, has_section, symbol_fault, symbol_entries_fault, symbol_table_fault, symbols_fault};
-ghost use Rattle.elf_reader.specs.Placed.{HasSectionHeaders, HasContents, HasSymbols};
+ghost use Rattle.elf_reader.specs.Placed.{HasSectionTable, HasContents, HasSymbols};
 ghost use Rattle.elf_reader.specs.SymbolTables.{HasReadable};
 
 use crate::fault::ElfFault;
@@ -12,7 +12,7 @@ use crate::kinds::SHT_SYMTAB;
 use crate::numbers::{field, limit, table};
 use crate::ranges::intersect;
 use crate::records::{FileHeader, SECTION_HEADER_SIZE, SYMBOL_SIZE, SectionHeader, SymbolRecord};
-use crate::sections::{is_in_file, is_string_table, section_header};
+use crate::sections::{has_entries, is_in_file, is_string_table, section_header};
 use crate::string_table::names_end;
 use crate::symbols::{symbol_count_of, symbol_names, symbol_record};
 
@@ -24,8 +24,7 @@ const SHN_LORESERVE: u16 = 0xff00;
 
 /// The section header of the symbol table of a file that passes the symbols' checks, if there is one.
 pub(crate) fn check_symbols(bytes: &[u8], header: &FileHeader) -> Result<Option<u16>, ElfFault>
-    requires header { header.now ≡ file_header bytes.now }
-    requires headers { HasSectionHeaders bytes.now }
+    requires headers { HasSectionTable bytes.now header.now }
     requires contents { HasContents bytes.now }
     ensures fault { Reports result (symbols_fault bytes.now) }
     ensures table { IfOk result (λ table. table ≡ symbol_table bytes.now) }
@@ -42,8 +41,7 @@ pub(crate) fn check_symbols(bytes: &[u8], header: &FileHeader) -> Result<Option<
 
 /// The section header of the only symbol table, if there is one.
 fn find_table(bytes: &[u8], header: &FileHeader) -> Result<Option<u16>, ElfFault>
-    requires header { header.now ≡ file_header bytes.now }
-    requires headers { HasSectionHeaders bytes.now }
+    requires headers { HasSectionTable bytes.now header.now }
     ensures fault { Reports result (one_table_fault bytes.now) }
     ensures table { IfOk result (λ table. table ≡ symbol_table bytes.now) }
 {
@@ -61,8 +59,7 @@ fn table_after(
     earlier: Option<u16>,
     k: u16,
 ) -> Result<Option<u16>, ElfFault>
-    requires header { header.now ≡ file_header bytes.now }
-    requires headers { HasSectionHeaders bytes.now }
+    requires headers { HasSectionTable bytes.now header.now }
     requires below { k < header.now.e_shnum }
     requires earlier { earlier ≡ symbol_table_below bytes.now k }
     ensures fault { Reports result (second_table_fault bytes.now k) }
@@ -81,8 +78,7 @@ fn table_after(
 }
 
 fn check_table(bytes: &[u8], header: &FileHeader, table: u16) -> Result<(), ElfFault>
-    requires header { header.now ≡ file_header bytes.now }
-    requires headers { HasSectionHeaders bytes.now }
+    requires headers { HasSectionTable bytes.now header.now }
     requires contents { HasContents bytes.now }
     requires below { table < header.now.e_shnum }
     requires table { IsTrue (is_table_at bytes.now table) }
@@ -98,8 +94,7 @@ fn check_table(bytes: &[u8], header: &FileHeader, table: u16) -> Result<(), ElfF
 fn check_size(section: &SectionHeader) -> Result<(), ElfFault>
     ensures { Reports result (symbol_size_fault section.now) }
 {
-    let size = SYMBOL_SIZE as u32;
-    if section.sh_entsize != size || section.sh_size % size != 0 {
+    if !has_entries(section, SYMBOL_SIZE) {
         return Err(ElfFault::WrongKind {
             field: field::SYMBOL_ENTSIZE,
             value: section.sh_entsize,
@@ -109,8 +104,7 @@ fn check_size(section: &SectionHeader) -> Result<(), ElfFault>
 }
 
 fn check_shared(bytes: &[u8], header: &FileHeader, table: u16) -> Result<(), ElfFault>
-    requires header { header.now ≡ file_header bytes.now }
-    requires headers { HasSectionHeaders bytes.now }
+    requires headers { HasSectionTable bytes.now header.now }
     requires below { table < header.now.e_shnum }
     ensures { Reports result (shared_table_fault bytes.now table) }
 {
@@ -135,8 +129,7 @@ fn overlaps_section_headers(bytes: &[u8], header: &FileHeader, section: &Section
 
 /// The content of some other section meets that of section `table`.
 fn shares_some(bytes: &[u8], header: &FileHeader, table: u16) -> bool
-    requires header { header.now ≡ file_header bytes.now }
-    requires headers { HasSectionHeaders bytes.now }
+    requires headers { HasSectionTable bytes.now header.now }
     requires below { table < header.now.e_shnum }
     ensures { result ≡ any_below (shares_bytes bytes.now table) (section_count bytes.now) }
 {
@@ -150,8 +143,7 @@ fn shares_some(bytes: &[u8], header: &FileHeader, table: u16) -> bool
 
 /// Section `k` is another one, whose content meets that of section `table`.
 fn shares_bytes(bytes: &[u8], header: &FileHeader, table: u16, k: u16) -> bool
-    requires header { header.now ≡ file_header bytes.now }
-    requires headers { HasSectionHeaders bytes.now }
+    requires headers { HasSectionTable bytes.now header.now }
     requires below { table < header.now.e_shnum }
     requires other { k < header.now.e_shnum }
     ensures { result ≡ shares_bytes bytes.now table k }
@@ -169,8 +161,7 @@ fn shares_bytes(bytes: &[u8], header: &FileHeader, table: u16, k: u16) -> bool
 }
 
 fn check_strings(bytes: &[u8], header: &FileHeader, table: u16) -> Result<(), ElfFault>
-    requires header { header.now ≡ file_header bytes.now }
-    requires headers { HasSectionHeaders bytes.now }
+    requires headers { HasSectionTable bytes.now header.now }
     requires below { table < header.now.e_shnum }
     ensures { Reports result (symbol_strings_fault bytes.now table) }
 {
@@ -199,8 +190,7 @@ fn check_limit(section: &SectionHeader) -> Result<(), ElfFault>
 }
 
 fn check_entries(bytes: &[u8], header: &FileHeader, table: u16) -> Result<(), ElfFault>
-    requires header { header.now ≡ file_header bytes.now }
-    requires headers { HasSectionHeaders bytes.now }
+    requires headers { HasSectionTable bytes.now header.now }
     requires contents { HasContents bytes.now }
     requires below { table < header.now.e_shnum }
     requires places { HasSymbols bytes.now table }
@@ -223,8 +213,7 @@ fn check_symbol(
     names_end: usize,
     i: u32,
 ) -> Result<(), ElfFault>
-    requires header { header.now ≡ file_header bytes.now }
-    requires headers { HasSectionHeaders bytes.now }
+    requires headers { HasSectionTable bytes.now header.now }
     requires below { table < header.now.e_shnum }
     requires places { HasSymbols bytes.now table }
     requires names { (start : ℕ) → has_name (symbol_names bytes.now table) start ≡ nat_lt start names_end }

@@ -1,8 +1,8 @@
 ghost use Rattle.std.specs.Prelude.{◌≡◌, ℕ, ◌+◌, ◌*◌, ◌<◌, ◌≤◌, ◌++◌, ◌∷◌, [], map, IsTrue, length, IfOk, OnOk};
-ghost use Rattle.elf_reader.specs.Layout.{file_header, section_header, symbol_record};
+ghost use Rattle.elf_reader.specs.Layout.{section_header, symbol_record};
 ghost use Rattle.elf_reader.specs.Sections.{is_string_table, names_section, symbol_table, symbol_count_of, symbol_count, symbol_names};
 ghost use Rattle.elf_reader.specs.File.{plain_symbol, symbol_of, symbols_below, all_symbols};
-ghost use Rattle.elf_reader.specs.Placed.{HasSectionHeaders, HasContents, HasSymbols};
+ghost use Rattle.elf_reader.specs.Placed.{HasSectionTable, HasContents, HasSymbols};
 ghost use Rattle.elf_reader.specs.SymbolTables.{IsReadable, HasReadable};
 
 use crate::records::{FileHeader, SYMBOL_SIZE, SectionHeader, SymbolRecord};
@@ -18,9 +18,8 @@ pub(crate) fn read_symbols<'a>(
     header: &FileHeader,
     table: Option<u16>,
 ) -> Result<Vec<Symbol<'a>>, AllocError>
-    requires header { header.now ≡ file_header bytes.now }
     requires small { length bytes.now ≤ 67108864 }
-    requires headers { HasSectionHeaders bytes.now }
+    requires headers { HasSectionTable bytes.now header.now }
     requires contents { HasContents bytes.now }
     requires table { table ≡ symbol_table bytes.now }
     requires readable { HasReadable bytes.now table }
@@ -39,9 +38,8 @@ fn read_table<'a>(
     header: &FileHeader,
     table: u16,
 ) -> Result<Vec<Symbol<'a>>, AllocError>
-    requires header { header.now ≡ file_header bytes.now }
     requires small { length bytes.now ≤ 67108864 }
-    requires headers { HasSectionHeaders bytes.now }
+    requires headers { HasSectionTable bytes.now header.now }
     requires contents { HasContents bytes.now }
     requires readable { IsReadable bytes.now table }
     ensures { IfOk result (λ symbols. map plain_symbol symbols.items ≡ symbols_below bytes.now table (symbol_count_of (section_header bytes.now table))) }
@@ -64,9 +62,8 @@ fn push_symbol<'a>(
     names: &StringTable<'a>,
     i: u32,
 ) -> Result<(), AllocError>
-    requires header { header.now ≡ file_header bytes.now }
     requires small { length bytes.now ≤ 67108864 }
-    requires headers { HasSectionHeaders bytes.now }
+    requires headers { HasSectionTable bytes.now header.now }
     requires readable { IsReadable bytes.now table }
     requires names { names.now.bytes.now ≡ symbol_names bytes.now table }
     requires entry { i < symbol_count_of (section_header bytes.now table) }
@@ -87,8 +84,7 @@ fn push_symbol<'a>(
 
 /// How many symbols the file has; none without a table.
 pub(crate) fn symbol_count(bytes: &[u8], header: &FileHeader, table: Option<u16>) -> u32
-    requires header { header.now ≡ file_header bytes.now }
-    requires headers { HasSectionHeaders bytes.now }
+    requires headers { HasSectionTable bytes.now header.now }
     requires table { table ≡ symbol_table bytes.now }
     requires readable { HasReadable bytes.now table }
     ensures { result ≡ symbol_count bytes.now }
@@ -108,8 +104,7 @@ pub(crate) fn symbol_count_of(table: &SectionHeader) -> u32
 
 /// The record of entry `i` of the table of section header `table`.
 pub(crate) fn symbol_record(bytes: &[u8], header: &FileHeader, table: u16, i: u32) -> SymbolRecord
-    requires header { header.now ≡ file_header bytes.now }
-    requires headers { HasSectionHeaders bytes.now }
+    requires headers { HasSectionTable bytes.now header.now }
     requires below { table < header.now.e_shnum }
     requires places { HasSymbols bytes.now table }
     requires entry { i < symbol_count_of (section_header bytes.now table) }
@@ -121,8 +116,7 @@ pub(crate) fn symbol_record(bytes: &[u8], header: &FileHeader, table: u16, i: u3
 
 /// The content of the string table of the symbols' names.
 pub(crate) fn symbol_names<'a>(bytes: &'a [u8], header: &FileHeader, table: u16) -> &'a [u8]
-    requires header { header.now ≡ file_header bytes.now }
-    requires headers { HasSectionHeaders bytes.now }
+    requires headers { HasSectionTable bytes.now header.now }
     requires contents { HasContents bytes.now }
     requires below { table < header.now.e_shnum }
     requires strings { IsTrue (names_section bytes.now is_string_table (section_header bytes.now table).sh_link) }

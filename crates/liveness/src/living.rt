@@ -25,7 +25,7 @@ pub fn live(alloc: Global, code: &Code) -> Result<LiveTable, AllocError>
     let mut live = vec![in alloc; 0; hub as usize + 1]?;
     find_live(alloc, code, hub, &mut rows, &mut live)?;
     Ok(LiveTable {
-        leaders: leaders_of(alloc, code)?,
+        leaders: code.starts(alloc)?,
         live,
     })
 }
@@ -51,15 +51,4 @@ fn no_edges(alloc: Global, hub: u32) -> Result<Vec<Vec<Edge>>, AllocError>
         rows.push(Vec::new(alloc))?;
     }
     Ok(rows)
-}
-
-/// Where the blocks begin.
-fn leaders_of(alloc: Global, code: &Code) -> Result<Vec<u32>, AllocError>
-    ensures { IfOk result (λ leaders. leaders.items ≡ starts_of code.now) }
-{
-    let mut leaders = Vec::new(alloc);
-    for block in &code.blocks {
-        leaders.push(block.start)?;
-    }
-    Ok(leaders)
 }

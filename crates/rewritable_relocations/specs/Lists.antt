@@ -2,16 +2,14 @@
 use Rattle.std.specs.Prelude.{◌≡◌, ℕ, ◌+◌, ◌*◌, ◌==◌, Bool, not, ◌&&◌, ◌||◌, if◌then◌else◌, List, length}
 use Rattle.std.specs.Int.{cast_unsigned, w32}
 use Rattle.std.specs.List.{count_by, list_any}
-use Rattle.word_bits.specs.Words.{upper_half}
 use Rattle.list_checks.specs.Tests.{any_below}
-use Rattle.rv_decode.specs.Fields.{opcode_of}
 use Rattle.elf_reader.specs.File.{PlainView}
 use Rattle.elf_reader.specs.declared.view.Reloc.{Reloc}
 use Rattle.loaded_file.specs.Code.{is_code_word, image_word}
 use Rattle.loaded_file.specs.Records.{symbol_at, reloc_at, counts, symbol_of, is_hint, is_call_kind, width_of}
 use Rattle.loaded_file.specs.Ranges.{has_range}
 use Rattle.list_checks.specs.Sorted.{IsSorted, count_below}
-use Rattle.rewritable_relocations.specs.Rewritable.{is_addi, is_load_word, is_store_word, i_low, s_low, u_high, distance, is_pair_low}
+use Rattle.rewritable_relocations.specs.Rewritable.{is_addi, is_load_word, is_store_word, i_low, s_low, is_upper_of, distance, is_pair_low}
 use Rattle.rewritable_relocations.specs.declared.lists.RelocationLists.{RelocationLists}
 use Rattle.rewritable_relocations.specs.declared.lists.Listed.{Listed}
 use Rattle.rewritable_relocations.specs.declared.lists.Listed.TheVariants.{RangeStart, RangeEnd, ChangeStart, ChangeEnd, Call, LowKey}
@@ -73,11 +71,7 @@ low_key v j = (symbol_of v (reloc_at v j)).value * 8192 + low_part v (reloc_at v
 
 -- a PCREL_HI20 (23) of an AUIPC (23) of the upper part of the distance
 abbrev pub is_upper_pair : PlainView → Reloc → Bool
-is_upper_pair v r =
-    (r.kind == 23)
-    && is_code_word v r.at
-    && (opcode_of (image_word v r.at) == 23)
-    && (u_high (image_word v r.at) == upper_half (distance v r))
+is_upper_pair v r = is_upper_of v r 23 23 (distance v r)
 
 -- how many symbols or relocations a list is of, which of them it has, and their numbers
 abbrev pub count_of : Listed → PlainView → ℕ

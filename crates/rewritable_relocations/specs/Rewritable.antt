@@ -89,13 +89,17 @@ takes_low_i w a = (is_addi w || is_load_word w) && (i_low w == a % 4096)
 abbrev pub takes_low_s : ℕ → ℕ → Bool
 takes_low_s w a = is_store_word w && (s_low w == a % 4096)
 
+-- a relocation of a kind at a U-type instruction of an opcode, of the upper part of `a`
+abbrev pub is_upper_of : PlainView → Reloc → ℕ → ℕ → ℕ → Bool
+is_upper_of v r kind opcode a =
+    (r.kind == kind)
+    && is_code_word v r.at
+    && (opcode_of (image_word v r.at) == opcode)
+    && (u_high (image_word v r.at) == upper_half a)
+
 -- HI20 (26): a LUI (55) of the upper part of its target
 abbrev pub is_rewritable_high : PlainView → Reloc → Bool
-is_rewritable_high v r =
-    (r.kind == 26)
-    && is_code_word v r.at
-    && (opcode_of (image_word v r.at) == 55)
-    && (u_high (image_word v r.at) == upper_half (target v r))
+is_rewritable_high v r = is_upper_of v r 26 55 (target v r)
 
 -- LO12_I (27) and LO12_S (28): the low part
 abbrev pub is_rewritable_low : PlainView → Reloc → Bool

@@ -8,9 +8,11 @@ ghost use Rattle.rewritable_relocations.specs.Lists.{form_part};
 use elf_reader::{R_RISCV_LO12_I, R_RISCV_LO12_S, R_RISCV_PCREL_LO12_I, R_RISCV_PCREL_LO12_S};
 use rv_decode::{funct3, opcode};
 
-const LUI: u32 = 0x37;
+/// The opcode of LUI.
+pub(crate) const LUI: u32 = 0x37;
 
-const AUIPC: u32 = 0x17;
+/// The opcode of AUIPC.
+pub(crate) const AUIPC: u32 = 0x17;
 
 const OP_IMM: u32 = 0x13;
 
@@ -42,18 +44,11 @@ fn s_low(word: u32) -> u32
     ((word >> 25) << 5) | ((word >> 7) & 0x1f)
 }
 
-/// A LUI with this upper part.
-pub(crate) fn is_lui_of(word: u32, upper: u32) -> bool
-    ensures { result ≡ (opcode_of word == 55) && (u_high word == upper) }
+/// A U-type instruction of an opcode, LUI or AUIPC, with this upper part.
+pub(crate) fn has_upper(word: u32, major: u32, upper: u32) -> bool
+    ensures { result ≡ (opcode_of word == major) && (u_high word == upper) }
 {
-    opcode(word) == LUI && u_high(word) == upper
-}
-
-/// An AUIPC with this upper part.
-pub(crate) fn is_auipc_of(word: u32, upper: u32) -> bool
-    ensures { result ≡ (opcode_of word == 23) && (u_high word == upper) }
-{
-    opcode(word) == AUIPC && u_high(word) == upper
+    opcode(word) == major && u_high(word) == upper
 }
 
 /// ADDI.

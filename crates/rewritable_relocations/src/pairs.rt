@@ -3,10 +3,10 @@ ghost use Rattle.list_checks.specs.Tests.{any_below};
 ghost use Rattle.elf_reader.specs.File.{plain_view};
 ghost use Rattle.loaded_file.specs.Records.{reloc_at};
 ghost use Rattle.loaded_file.specs.Read.{IsRead};
-ghost use Rattle.rewritable_relocations.specs.Rewritable.{is_rewritable_high, is_rewritable_low, is_rewritable_pair, distance, is_call_at, is_unpaired};
+ghost use Rattle.rewritable_relocations.specs.Rewritable.{is_upper_of, is_rewritable_high, is_rewritable_low, is_rewritable_pair, distance, is_call_at, is_unpaired};
 ghost use Rattle.rewritable_relocations.specs.Lists.{is_upper_pair, AreListsOf};
 
-use crate::fields::{is_auipc_of, is_lui_of, takes_low};
+use crate::fields::{AUIPC, LUI, has_upper, takes_low};
 use crate::listing::{KEYS, change_start};
 use crate::lists::RelocationLists;
 use crate::standing::code_word;
@@ -22,11 +22,19 @@ pub(crate) fn is_rewritable_high(file: &LoadedFile, reloc: &Reloc) -> bool
     requires read { IsRead file.now.view.now }
     ensures { result ≡ is_rewritable_high (plain_view file.now.view.now) reloc.now }
 {
-    if reloc.kind != R_RISCV_HI20 {
+    is_upper_of(file, reloc, R_RISCV_HI20, LUI, target(file.view, reloc))
+}
+
+/// A relocation of this kind at a word of this opcode, which has the upper part of `address`.
+fn is_upper_of(file: &LoadedFile, reloc: &Reloc, kind: u32, major: u32, address: u32) -> bool
+    requires read { IsRead file.now.view.now }
+    ensures { result ≡ is_upper_of (plain_view file.now.view.now) reloc.now kind major address }
+{
+    if reloc.kind != kind {
         return false;
     }
     match code_word(file, reloc.at) {
-        Some(word) => is_lui_of(word, hi20(target(file.view, reloc))),
+        Some(word) => has_upper(word, major, hi20(address)),
         None => false,
     }
 }
@@ -62,13 +70,8 @@ fn is_upper_pair(file: &LoadedFile, reloc: &Reloc) -> bool
     requires read { IsRead file.now.view.now }
     ensures { result ≡ is_upper_pair (plain_view file.now.view.now) reloc.now }
 {
-    if reloc.kind != R_RISCV_PCREL_HI20 {
-        return false;
-    }
-    match code_word(file, reloc.at) {
-        Some(word) => is_auipc_of(word, hi20(distance(file.view, reloc))),
-        None => false,
-    }
+    let far = distance(file.view, reloc);
+    is_upper_of(file, reloc, R_RISCV_PCREL_HI20, AUIPC, far)
 }
 
 /// No call begins at relocation `i`, and all low parts that name its AUIPC fit it.

@@ -7,4 +7,4 @@ pub returns-in_err-check_count-clause-fault : goal.returns-in_err-check_count-cl
 returns-in_err-check_count-clause-fault c =
     let p = err_from_is_err_and c.from_residual-in_err-check_count.result c.from_residual-in_err-check_count.ensures.1 in
     rw (p.1, p.2)
-    (inr (third_fault _ _ _ _ (rw c.in_ok-file.ensures at c.in_ok-check_entry.ensures) c.in_err-check_count.ensures))
+    (inr (third_fault _ _ _ _ (rw c.in-Ok.ensures at c.in_ok-check_entry.ensures) c.in_err-check_count.ensures))

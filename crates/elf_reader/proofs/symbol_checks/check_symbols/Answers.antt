@@ -8,7 +8,7 @@ pub check_table-requires-clause-below : goal.check_table-requires-clause-below
 check_table-requires-clause-below c =
     let file = c.args.bytes.now in
     let is = table_is file (section_count file) c.in-Some.table (sym c.in_ok-table.ensures.table ∙ c.in-Some.is) in
-    subst (λ (h : FileHeader). c.in-Some.table < h.e_shnum) (sym c.requires.header) is.0
+    subst (λ (h : FileHeader). c.in-Some.table < h.e_shnum) (sym c.requires.headers.0) is.0
 
 pub check_table-requires-clause-table : goal.check_table-requires-clause-table
 check_table-requires-clause-table c =

@@ -8,5 +8,5 @@ use Rattle.elf_reader.proofs.symbol_checks.shares_some.Goals as goal
 pub returns-then-shares_bytes : goal.returns-then-shares_bytes
 returns-then-shares_bytes c =
     let file = c.args.bytes.now in
-    let below = below_count file c.args.header.now c.loop-k.k c.requires.header c.loop-k-test.true in
+    let below = below_count file c.args.header.now c.loop-k.k c.requires.headers.0 c.loop-k-test.true in
     sym (any_at (shares_bytes file c.args.table) (section_count file) c.loop-k.k below (rw (← c.shares_bytes.ensures) c.if-shares_bytes.true))

@@ -1,6 +1,6 @@
 use Rattle.std.proofs.Common.{◌≡◌, map, take}
 use Rattle.code_blocks.specs.Blocks.{start_of}
-use Rattle.liveness.proofs.living.leaders_of.Given as goal
+use Rattle.code_blocks.proofs.parts.Code.starts.Given as goal
 
 abbrev pub invariant-loop-block : goal.invariant-loop-block
-invariant-loop-block l = l.leaders.items ≡ map start_of (take l.block-index l.code.blocks.items)
+invariant-loop-block l = l.starts.items ≡ map start_of (take l.block-index l.self.blocks.items)
