@@ -3,29 +3,24 @@ use Rattle.std.proofs.Common.{◌≡◌, ◌≢◌, inl, inr, ℕ, suc, ◌+◌,
 use Rattle.std.proofs.lemmas.Bool.{cases_eq, cases_lt}
 use Rattle.branch_bound.specs.Greatest.{IsGreatestOf, Greatest, GainsMore}
 
+-- what came before gains less than what gains more
+earlier_less : (P : ℕ → Type 0) (gain : ℕ → ℕ) (n : ℕ) (best : Option ℕ) (k : ℕ) → Greatest P gain n best → GainsMore gain best n → k < n → P k → gain k < gain n
+earlier_less P gain n None k none more below holds = absurd (none k below holds)
+earlier_less P gain n (Some j) k found more below holds =
+    let most = found.greatest k below holds in omega (arith, most, more)
+
 -- it is the new number
 pub new_greatest : (P : ℕ → Type 0) (gain : ℕ → ℕ) (n : ℕ) (best : Option ℕ) → Greatest P gain n best → P n → GainsMore gain best n → IsGreatestOf P gain (suc n) n
-new_greatest P gain n None none here more =
+new_greatest P gain n best so_far here more =
     record {
       inside = omega arith;
       holds = here;
       greatest = λ k below holds.
           elim (cases_eq k n) [
             | inl same ↦ subst (λ m. gain k ≤ gain m) same (omega arith)
-            | inr other ↦ absurd (none k (omega (arith, below, other)) holds)
+            | inr other ↦ let less = earlier_less P gain n best k so_far more (omega (arith, below, other)) holds in omega (arith, less)
           ];
-      first = λ k below holds. absurd (none k below holds);
-    }
-new_greatest P gain n (Some j) found here more =
-    record {
-      inside = omega arith;
-      holds = here;
-      greatest = λ k below holds.
-          elim (cases_eq k n) [
-            | inl same ↦ subst (λ m. gain k ≤ gain m) same (omega arith)
-            | inr other ↦ let most = found.greatest k (omega (arith, below, other)) holds in omega (arith, most, more)
-          ];
-      first = λ k below holds. let most = found.greatest k below holds in omega (arith, most, more);
+      first = λ k below holds. earlier_less P gain n best k so_far more below holds;
     }
 
 -- or the old one

@@ -7,14 +7,17 @@ use Rattle.certificate_checker.specs.Rules.{Holds}
 use Rattle.certificate_checker.specs.Spelling.{IsTreeInRange}
 use Rattle.certificate_checker.specs.Views.{plain_tree}
 use Rattle.certificate_checker.specs.declared.trees.Tree.{Tree}
+use Rattle.branch_bound.specs.declared.visiting.Visit.{Visit}
+use Rattle.branch_bound.specs.declared.visiting.Visit.TheVariants.{Open}
 use Rattle.branch_bound.specs.Assignments.{FailsEveryLeafRule, IsGreatestFree}
 use Rattle.branch_bound.specs.Entries.{StatedFrom, Each}
-use Rattle.branch_bound.specs.Searching.{EntryBelow, Reports, HasLevels}
+use Rattle.branch_bound.specs.Searching.{EntryBelow, Reports, Visits, HasLevels}
 use Rattle.certificate_checker.specs.Fixings.{fixing_of, is_free}
 use Rattle.certificate_checker.specs.declared.fixings.Fixing.{Fixing}
 use Rattle.certificate_checker.specs.declared.fixings.Fixing.TheVariants.{Zero, One, Free}
 use Rattle.side_search.proofs.Greater.{holds_more}
 use Rattle.branch_bound.proofs.MarkLemmas.{fewer_free}
+use Rattle.branch_bound.proofs.VisitLemmas.{zero_marks}
 use Rattle.branch_bound.proofs.EntryLemmas.{entry_more, each_more, each_first, each_second, finished, some_entry, TwoLists, two_lists}
 
 -- no budget
@@ -48,37 +51,63 @@ tells_first s start marks j best more left middle after branches order used firs
     subst (λ es. Each (EntryBelow s more) (take left es) × (left < length es)) (sym lists.whole)
     (subst (λ n. Each (EntryBelow s more) (take n (marks ∷ (lists.ones ++ lists.zeroes))) × (n < length (marks ∷ (lists.ones ++ lists.zeroes)))) (sym used) whole)
 
+-- what is known where both children were searched
+pub record Children (s : PlainSide) (start : ℕ) (marks : List Fixing) (j best between more left middle second after : ℕ) (one zero_tree : Option Tree) : Type 0 where
+  pub branches : Branches s start marks j best
+  pub grows : best ≤ between
+  pub grows_on : between ≤ more
+  pub used : left ≡ suc middle
+  pub by_one : Reports s start (slice_set marks j One) between middle second one
+  pub by_zero : Reports s start (slice_set marks j Zero) more second after zero_tree
+
+pub children : (s : PlainSide) (start old : ℕ) (marks kept : List Fixing) (j best between more left middle second after : ℕ) (visit : Visit) (one_read one zero_read zero_tree : Option Tree) → start ≤ old → old ≤ best → visit ≡ Open j → Visits s best marks visit → EntryBelow s best marks → best ≤ between → between ≤ more → left ≡ suc middle → kept ≡ slice_set marks j One
+    → one_read ≡ one → ((n : ℕ) → n ≤ best → Reports s n (slice_set marks j One) between middle second one_read)
+    → zero_read ≡ zero_tree → ((n : ℕ) → n ≤ between → Reports s n (slice_set kept j Zero) more second after zero_read)
+    → Children s start marks j best between more left middle second after one zero_tree
+children s start old marks kept j best between more left middle second after visit one_read one zero_read zero_tree order grown is_open visited here grows grows_on used is_kept one_is one_tells zero_is zero_tells =
+    let visits = subst (λ (v : Visit). Visits s best marks v) is_open visited in
+    let from : start ≤ best = omega (arith, order, grown) in
+    let there = subst (λ (m : List Fixing). Reports s start m more second after zero_read) (zero_marks marks kept j is_kept) (zero_tells start (omega (arith, from, grows))) in
+    record {
+      branches = record { from_start = from; fails = visits.0; greatest = visits.1; here = here };
+      grows = grows;
+      grows_on = grows_on;
+      used = used;
+      by_one = subst (λ (o : Option Tree). Reports s start (slice_set marks j One) between middle second o) one_is (one_tells start from);
+      by_zero = subst (λ (o : Option Tree). Reports s start (slice_set marks j Zero) more second after o) zero_is there;
+    }
+
 -- it ends under the other child
-pub tells_second : (s : PlainSide) (start : ℕ) (marks : List Fixing) (j best between more left middle second after : ℕ) (tree : Tree) → Branches s start marks j best → best ≤ between → between ≤ more → left ≡ suc middle → Reports s start (slice_set marks j One) between middle second (Some tree) → Reports s start (slice_set marks j Zero) more second after None → Reports s start marks more left after None
-tells_second s start marks j best between more left middle second after tree branches order next used first last entries stated =
-    let lists = two_lists s start best marks j entries branches.from_start branches.fails branches.greatest stated in
-    let ones = finished s start more (slice_set marks j One) (plain_tree tree) lists.ones (holds_more s between more (slice_set marks j One) (plain_tree tree) next first.0) lists.by_one in
-    let budget = first.1 lists.ones lists.by_one in
-    let under = last lists.zeroes lists.by_zero in
+pub tells_second : (s : PlainSide) (start : ℕ) (marks : List Fixing) (j best between more left middle second after : ℕ) (tree : Tree) → Children s start marks j best between more left middle second after (Some tree) None → Reports s start marks more left after None
+tells_second s start marks j best between more left middle second after tree cs entries stated =
+    let lists = two_lists s start best marks j entries cs.branches.from_start cs.branches.fails cs.branches.greatest stated in
+    let ones = finished s start more (slice_set marks j One) (plain_tree tree) lists.ones (holds_more s between more (slice_set marks j One) (plain_tree tree) cs.grows_on cs.by_one.0) lists.by_one in
+    let budget = cs.by_one.1 lists.ones lists.by_one in
+    let under = cs.by_zero lists.zeroes lists.by_zero in
     let long = length-append lists.ones lists.zeroes in
     let whole : Each (EntryBelow s more) (take (suc middle) (marks ∷ (lists.ones ++ lists.zeroes))) × (suc middle < length (marks ∷ (lists.ones ++ lists.zeroes))) = (
-      (entry_more s best more marks (omega (arith, order, next)) branches.here, each_second (EntryBelow s more) middle second lists.ones lists.zeroes budget ones under.0),
+      (entry_more s best more marks (omega (arith, cs.grows, cs.grows_on)) cs.branches.here, each_second (EntryBelow s more) middle second lists.ones lists.zeroes budget ones under.0),
       let inside = under.1 in omega (arith, inside, budget, long),
     ) in
     subst (λ es. Each (EntryBelow s more) (take left es) × (left < length es)) (sym lists.whole)
-    (subst (λ n. Each (EntryBelow s more) (take n (marks ∷ (lists.ones ++ lists.zeroes))) × (n < length (marks ∷ (lists.ones ++ lists.zeroes)))) (sym used) whole)
+    (subst (λ n. Each (EntryBelow s more) (take n (marks ∷ (lists.ones ++ lists.zeroes))) × (n < length (marks ∷ (lists.ones ++ lists.zeroes)))) (sym cs.used) whole)
 
 -- both children are finished
-pub tells_both : (s : PlainSide) (start : ℕ) (marks : List Fixing) (j best between more left middle second after : ℕ) (one_tree zero_tree tree : Tree) → Branches s start marks j best → between ≤ more → left ≡ suc middle → Reports s start (slice_set marks j One) between middle second (Some one_tree) → Reports s start (slice_set marks j Zero) more second after (Some zero_tree) → plain_tree tree ≡ branch j (plain_tree zero_tree) (plain_tree one_tree) → Reports s start marks more left after (Some tree)
-tells_both s start marks j best between more left middle second after one_tree zero_tree tree branches next used first last is =
+pub tells_both : (s : PlainSide) (start : ℕ) (marks : List Fixing) (j best between more left middle second after : ℕ) (one_tree zero_tree tree : Tree) → Children s start marks j best between more left middle second after (Some one_tree) (Some zero_tree) → plain_tree tree ≡ branch j (plain_tree zero_tree) (plain_tree one_tree) → Reports s start marks more left after (Some tree)
+tells_both s start marks j best between more left middle second after one_tree zero_tree tree cs is =
     let held : Holds s more marks (branch j (plain_tree zero_tree) (plain_tree one_tree)) = (
-      record { inside = branches.greatest.inside; free_there = branches.greatest.holds },
-      last.0,
-      holds_more s between more (slice_set marks j One) (plain_tree one_tree) next first.0,
+      record { inside = cs.branches.greatest.inside; free_there = cs.branches.greatest.holds },
+      cs.by_zero.0,
+      holds_more s between more (slice_set marks j One) (plain_tree one_tree) cs.grows_on cs.by_one.0,
     ) in (
       subst (λ t. Holds s more marks t) (sym is) held,
       λ entries stated.
-          let lists = two_lists s start best marks j entries branches.from_start branches.fails branches.greatest stated in
-          let ones = first.1 lists.ones lists.by_one in
-          let zeroes = last.1 lists.zeroes lists.by_zero in
+          let lists = two_lists s start best marks j entries cs.branches.from_start cs.branches.fails cs.branches.greatest stated in
+          let ones = cs.by_one.1 lists.ones lists.by_one in
+          let zeroes = cs.by_zero.1 lists.zeroes lists.by_zero in
           let long = length-append lists.ones lists.zeroes in
           let whole = ap length lists.whole in
-          omega (arith, ones, zeroes, long, whole, used),
+          omega (arith, ones, zeroes, long, whole, cs.used),
     )
 
 -- levels

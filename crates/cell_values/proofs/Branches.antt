@@ -62,62 +62,38 @@ other_numbers Beq p size d q byte_range e taken first second disjoint known =
 other_numbers Bne p size d q byte_range e taken first second disjoint known =
     let parts = answer (nat_lt d size && nat_lt e byte_range) true taken known in
     rw (differ p size d q byte_range e first second disjoint parts.0) parts.1
-other_numbers Blt p size d q byte_range e taken first second disjoint known = cc
-other_numbers Bge p size d q byte_range e taken first second disjoint known = cc
-other_numbers Bltu p size d q byte_range e taken first second disjoint known = cc
-other_numbers Bgeu p size d q byte_range e taken first second disjoint known = cc
+other_numbers kind p size d q byte_range e taken first second disjoint known = cc
 
 -- an address up to the end of its object is above 0
 above : (p size d n : ℕ) → 0 < p → p + size < 4294967296 → (n == 0) && nat_le d size ≡ true → nat_lt n (plus p d) ≡ true
 above p size d n positive below near = grind (arith, nat_tests)
 
+answer_above : (p size d n : ℕ) (result taken : Bool) → 0 < p → p + size < 4294967296 → known_if ((n == 0) && nat_le d size) result ≡ Some taken → (nat_lt n (plus p d) ≡ true) × (result ≡ taken)
+answer_above p size d n result taken positive below known =
+    let parts = answer ((n == 0) && nat_le d size) result taken known in (above p size d n positive below parts.0, parts.1)
+
+-- what each comparison of the greater with the less is, and of the less with the greater
+abbrev is_above : BranchKind → Bool
+is_above Bne = true
+is_above Bgeu = true
+is_above kind = false
+
+abbrev is_below : BranchKind → Bool
+is_below Bne = true
+is_below Bltu = true
+is_below kind = false
+
 above_numbers : (kind : BranchKind) (p size d n : ℕ) (taken : Bool) → 0 < p → p + size < 4294967296 → above_zero ((n == 0) && nat_le d size) kind ≡ Some taken → is_taken kind (plus p d) n ≡ taken
-above_numbers Beq p size d n taken positive below known =
-    let parts = answer ((n == 0) && nat_le d size) false taken known in
-    let near = above p size d n positive below parts.0 in
-    let result = parts.1 in
-    grind (arith, nat_tests)
-above_numbers Bne p size d n taken positive below known =
-    let parts = answer ((n == 0) && nat_le d size) true taken known in
-    let near = above p size d n positive below parts.0 in
-    let result = parts.1 in
-    grind (arith, nat_tests)
-above_numbers Bltu p size d n taken positive below known =
-    let parts = answer ((n == 0) && nat_le d size) false taken known in
-    let near = above p size d n positive below parts.0 in
-    let result = parts.1 in
-    grind (arith, nat_tests)
-above_numbers Bgeu p size d n taken positive below known =
-    let parts = answer ((n == 0) && nat_le d size) true taken known in
-    let near = above p size d n positive below parts.0 in
-    let result = parts.1 in
-    grind (arith, nat_tests)
 above_numbers Blt p size d n taken positive below known = cc
 above_numbers Bge p size d n taken positive below known = cc
+above_numbers kind p size d n taken positive below known =
+    let (near, result) = answer_above p size d n (is_above kind) taken positive below known in grind (arith, nat_tests, near, result)
 
 below_numbers : (kind : BranchKind) (p size d n : ℕ) (taken : Bool) → 0 < p → p + size < 4294967296 → zero_below ((n == 0) && nat_le d size) kind ≡ Some taken → is_taken kind n (plus p d) ≡ taken
-below_numbers Beq p size d n taken positive below known =
-    let parts = answer ((n == 0) && nat_le d size) false taken known in
-    let near = above p size d n positive below parts.0 in
-    let result = parts.1 in
-    grind (arith, nat_tests)
-below_numbers Bne p size d n taken positive below known =
-    let parts = answer ((n == 0) && nat_le d size) true taken known in
-    let near = above p size d n positive below parts.0 in
-    let result = parts.1 in
-    grind (arith, nat_tests)
-below_numbers Bltu p size d n taken positive below known =
-    let parts = answer ((n == 0) && nat_le d size) true taken known in
-    let near = above p size d n positive below parts.0 in
-    let result = parts.1 in
-    grind (arith, nat_tests)
-below_numbers Bgeu p size d n taken positive below known =
-    let parts = answer ((n == 0) && nat_le d size) false taken known in
-    let near = above p size d n positive below parts.0 in
-    let result = parts.1 in
-    grind (arith, nat_tests)
 below_numbers Blt p size d n taken positive below known = cc
 below_numbers Bge p size d n taken positive below known = cc
+below_numbers kind p size d n taken positive below known =
+    let (near, result) = answer_above p size d n (is_below kind) taken positive below known in grind (arith, nat_tests, near, result)
 
 abbrev pub AreComparable : BranchKind → Val → Val → Type 0
 AreComparable kind (Addr o d) (Addr p e) = AreOffsets kind d e

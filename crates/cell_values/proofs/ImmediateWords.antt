@@ -4,7 +4,7 @@ use Rattle.std.specs.Int.{cast_unsigned, w32}
 use Rattle.rv_decode.specs.Table.{IsImmInRange}
 use Rattle.rv_decode.specs.Acts.{imm_value, reg_value}
 use Rattle.rv_decode.specs.declared.instructions.ImmKind.{ImmKind}
-use Rattle.rv_decode.specs.declared.instructions.ImmKind.TheVariants.{Addi, Slti, Sltiu, Xori, Ori, Andi, Slli, Srli, Srai}
+use Rattle.rv_decode.specs.declared.instructions.ImmKind.TheVariants.{Slti}
 use Rattle.rv_decode.proofs.Words.{fitting, imm_fits}
 use Rattle.cell_values.specs.Objects.{Objects}
 use Rattle.rv_decode.specs.Operations.{operation_of}
@@ -35,19 +35,5 @@ by_registers kind same os place up fit makes m k x imm w word range disjoint sta
 pub immediates_stand : ImmediatesStand
 immediates_stand os place up fit makes kind m k (Int n) imm w word range disjoint stands = cc
 immediates_stand os place up fit makes Slti m k x imm w word range disjoint stands = tt
-immediates_stand os place up fit makes Addi m k x imm w word range disjoint stands =
-    by_registers Addi (λ a i. refl) os place up fit makes m k x imm w word range disjoint stands
-immediates_stand os place up fit makes Sltiu m k x imm w word range disjoint stands =
-    by_registers Sltiu (λ a i. refl) os place up fit makes m k x imm w word range disjoint stands
-immediates_stand os place up fit makes Xori m k x imm w word range disjoint stands =
-    by_registers Xori (λ a i. refl) os place up fit makes m k x imm w word range disjoint stands
-immediates_stand os place up fit makes Ori m k x imm w word range disjoint stands =
-    by_registers Ori (λ a i. refl) os place up fit makes m k x imm w word range disjoint stands
-immediates_stand os place up fit makes Andi m k x imm w word range disjoint stands =
-    by_registers Andi (λ a i. refl) os place up fit makes m k x imm w word range disjoint stands
-immediates_stand os place up fit makes Slli m k x imm w word range disjoint stands =
-    by_registers Slli (λ a i. refl) os place up fit makes m k x imm w word range disjoint stands
-immediates_stand os place up fit makes Srli m k x imm w word range disjoint stands =
-    by_registers Srli (λ a i. refl) os place up fit makes m k x imm w word range disjoint stands
-immediates_stand os place up fit makes Srai m k x imm w word range disjoint stands =
-    by_registers Srai (λ a i. refl) os place up fit makes m k x imm w word range disjoint stands
+immediates_stand os place up fit makes kind m k x imm w word range disjoint stands =
+    by_registers kind (λ a i. refl) os place up fit makes m k x imm w word range disjoint stands

@@ -4,7 +4,7 @@ use Rattle.std.specs.Int.{cast_unsigned}
 use Rattle.std.proofs.lemmas.Int.{to_z-of_z}
 use Rattle.rv_decode.specs.Acts.{imm_value, reg_value}
 use Rattle.rv_decode.specs.declared.instructions.ImmKind.{ImmKind}
-use Rattle.rv_decode.specs.declared.instructions.ImmKind.TheVariants.{Addi, Slti, Sltiu, Xori, Ori, Andi, Slli, Srli, Srai}
+use Rattle.rv_decode.specs.declared.instructions.ImmKind.TheVariants.{Addi, Slti}
 use Rattle.cell_values.specs.Laws.{ImmediatesAreNumbers}
 use Rattle.rv_decode.specs.Operations.{operation_of}
 use Rattle.cell_values.specs.declared.values.Val.TheVariants.{Int}
@@ -15,27 +15,13 @@ immediate_word (negsuc n) fits = omega arith
 
 -- of numbers alone; SLTI reads the immediate with its sign
 same_number : (kind : ImmKind) (n : ℕ) (imm : ℤ) → FitsSigned w32 imm → imm_value kind n imm ≡ reg_value (operation_of kind) n (cast_unsigned w32 imm)
-same_number Addi n imm fits = refl
 same_number Slti n imm fits = rw (to_z-of_z w32 imm fits) refl
-same_number Sltiu n imm fits = refl
-same_number Xori n imm fits = refl
-same_number Ori n imm fits = refl
-same_number Andi n imm fits = refl
-same_number Slli n imm fits = refl
-same_number Srli n imm fits = refl
-same_number Srai n imm fits = refl
+same_number kind n imm fits = refl
 
 same_int : (kind : ImmKind) (n : ℕ) (imm : ℤ) → FitsSigned w32 imm → Int (imm_value kind n imm) ≡ Int (reg_value (operation_of kind) n (cast_unsigned w32 imm))
 same_int kind n imm fits = ap Int (same_number kind n imm fits)
 
 pub immediates_are_numbers : ImmediatesAreNumbers
 immediates_are_numbers os Addi (Int n) imm fits = same_int Addi n imm fits
-immediates_are_numbers os Slti (Int n) imm fits = same_int Slti n imm fits
-immediates_are_numbers os Sltiu (Int n) imm fits = same_int Sltiu n imm fits
-immediates_are_numbers os Xori (Int n) imm fits = same_int Xori n imm fits
-immediates_are_numbers os Ori (Int n) imm fits = same_int Ori n imm fits
-immediates_are_numbers os Andi (Int n) imm fits = same_int Andi n imm fits
-immediates_are_numbers os Slli (Int n) imm fits = same_int Slli n imm fits
-immediates_are_numbers os Srli (Int n) imm fits = same_int Srli n imm fits
-immediates_are_numbers os Srai (Int n) imm fits = same_int Srai n imm fits
+immediates_are_numbers os kind (Int n) imm fits = same_int kind n imm fits
 immediates_are_numbers os kind a imm fits = refl

@@ -6,19 +6,18 @@ use Rattle.cell_values.specs.Objects.{IsGrain}
 use Rattle.cell_values.proofs.Bits.{at_grain, LowReports}
 
 -- sums and differences wrap at a multiple of the grain
+sums_low : (g : ℕ) → IsGrain g → LowReports plus g × LowReports minus g
+sums_low =
+    at_grain (λ g. LowReports plus g × LowReports minus g)
+    (λ w z a b first second. omega arith, λ w z a b first second. omega arith)
+    (λ w z a b first second. omega arith, λ w z a b first second. omega arith)
+    (λ w z a b first second. omega arith, λ w z a b first second. omega arith)
+
 pub sum_low : (g : ℕ) → IsGrain g → LowReports plus g
-sum_low =
-    at_grain (LowReports plus)
-    (λ w z a b first second. omega arith)
-    (λ w z a b first second. omega arith)
-    (λ w z a b first second. omega arith)
+sum_low g grain = (sums_low g grain).0
 
 pub difference_low : (g : ℕ) → IsGrain g → LowReports minus g
-difference_low =
-    at_grain (LowReports minus)
-    (λ w z a b first second. omega arith)
-    (λ w z a b first second. omega arith)
-    (λ w z a b first second. omega arith)
+difference_low g grain = (sums_low g grain).1
 
 -- an upper part has no low bits
 pub upper_low : (g : ℕ) → IsGrain g → (a : ℕ) → upper_half a * 4096 % g ≡ 0 % g

@@ -1,6 +1,7 @@
 -- Call pairs, and the leaders that rest on them.
 use Rattle.std.proofs.Common.{◌≡◌, ◌∙◌, ℕ, ◌+◌, ◌-◌, ◌*◌, ◌/◌, ◌%◌, ◌<◌, ◌≤◌, ◌==◌, Bool, true, false, not, ◌&&◌, ◌||◌, List, [], ◌∷◌, ◌++◌, length, take, slice_index_or, refl, sym, ap, subst, arith}
 use Rattle.std.specs.List.{list_any}
+use Rattle.std.specs.List.Sorted.{IsStrictlyIncreasing}
 use Rattle.std.proofs.lemmas.Bool.{eqb-true, eq-eqb}
 use Rattle.std.proofs.lemmas.Bool.Decides.{nat_tests}
 use Rattle.std.proofs.lemmas.List.Folds.{Any-from_list_any, list_any_at, list_any-append, list_any_more}
@@ -16,7 +17,7 @@ use Rattle.loaded_file.proofs.WordLemmas.{lies_from, lies_to}
 use Rattle.code_leaders.specs.Words.{is_jalr, is_auipc, links, pair_target, code_word, passes_at, passes_in, any_code_word}
 use Rattle.code_leaders.specs.Leaders.{is_named, is_early, calls, is_pair_of_words, is_call_by, is_call_pair, pair_goes_to, pair_comes_back, is_leader, link_comes_back, is_indirect}
 use Rattle.code_leaders.specs.Early.{has}
-use Rattle.code_leaders.specs.Pairs.{are_code_words, may_be_pair, makes_pair, leads_to, returns_to}
+use Rattle.code_leaders.specs.Pairs.{AreThose, are_code_words, may_be_pair, makes_pair, leads_to, returns_to}
 use Rattle.code_leaders.proofs.EarlyLemmas.{more_by, by_rules}
 use Rattle.code_leaders.proofs.LeaderLemmas.{both_pass}
 use Rattle.code_leaders.proofs.SearchLemmas.{has_found, has_at}
@@ -244,3 +245,13 @@ not_leader v p pair =
 pub pair_is_code : (v : PlainView) (p : ℕ) → is_call_pair v p ≡ true → (is_code_word v p ≡ true) × (is_code_word v (p + 4) ≡ true) × (is_leader v (p + 4) ≡ false)
 pair_is_code v p pair =
     let parts = pair_parts v p pair in (parts.code, parts.behind, not_leader v p parts)
+
+-- ---- lists of them
+
+pub none_yet : (numbers : List ℕ) (a : ℕ) → numbers ≡ [] → has numbers a ≡ false
+none_yet numbers a is = rw is refl
+
+-- a list that was arranged
+pub those_arranged : (test : ℕ → Bool) (numbers before : List ℕ) → IsStrictlyIncreasing numbers → ((a : ℕ) → has numbers a ≡ has before a) → ((a : ℕ) → has before a ≡ test a) → AreThose test numbers
+those_arranged test numbers before ascending same exact =
+    record { ascending = ascending; exact = λ a. same a ∙ exact a }

@@ -21,7 +21,7 @@ pub has_at : (xs : List ℕ) (a k : ℕ) → k < length xs → slice_index_or xs
 has_at xs a k below here = list_any_at (λ x. a == x) xs k a below (eq-eqb a _ (sym here))
 
 -- numbers that rise do not fall
-not_falling : (xs : List ℕ) → IsStrictlyIncreasing xs → (i j : ℕ) → i ≤ j → j < length xs → slice_index_or xs i 0 ≤ slice_index_or xs j 0
+pub not_falling : (xs : List ℕ) → IsStrictlyIncreasing xs → (i j : ℕ) → i ≤ j → j < length xs → slice_index_or xs i 0 ≤ slice_index_or xs j 0
 not_falling xs rise i j before below =
     elim (cases_lt i j) [
       | inl lower ↦ let less = AllPairs-from_increasing xs rise i j 0 lower below in omega (arith, less)

@@ -112,6 +112,29 @@ two_of w x i j (k ∷ l ∷ []) first second all =
     ap (λ (y : Instr). y ∷ l ∷ []) (same_instruction w k i all.0 first) ∙ ap (λ (y : Instr). i ∷ y ∷ []) (same_instruction x l j all.1.0 second)
 two_of w x i j (k ∷ l ∷ m ∷ is) first second all = absurd all.1.1
 
+-- what doesn't go straight on
+abbrev pub Goes : Instr → Type 0
+Goes instr.Ebreak = Unit {0}
+Goes (instr.Jal rd off) = Unit {0}
+Goes (instr.Jalr rd rs1 imm) = Unit {0}
+Goes (instr.Branch kind rs1 rs2 off) = Unit {0}
+Goes i = ⊥
+
+pub jumps_not : (v : PlainView) (a : ℕ) (i : Instr) → NoJump v a → Means (image_word v a) i → Goes i → ⊥
+jumps_not v a instr.Ebreak none means goes =
+    let stops : is_ebreak (image_word v a) ≡ true = ap (λ (x : ℕ). x == 1048691) means in let other = none.ebreak in cc (stops, other)
+jumps_not v a (instr.Jal rd off) none means goes =
+    let jumps : is_jal (image_word v a) ≡ true = ap (λ (o : ℕ). o == 111) means.0 in let other = none.jal in cc (jumps, other)
+jumps_not v a (instr.Jalr rd rs1 imm) none means goes =
+    let o = means.0 in
+    let f = means.1 in
+    let jumps : is_jalr (image_word v a) ≡ true = rw (o, f) refl in
+    let other = none.jalr in
+    cc (jumps, other)
+jumps_not v a (instr.Branch kind rs1 rs2 off) none means goes =
+    let jumps = branch_test kind (image_word v a) means.0 means.1 in let other = none.branch in cc (jumps, other)
+jumps_not v a i none means goes = goes
+
 module _ (v : PlainView) (site : ℕ → Bool) (a : ℕ) where
   abbrev w : ℕ
   w = image_word v a
@@ -154,18 +177,10 @@ module _ (v : PlainView) (site : ℕ → Bool) (a : ℕ) where
       cond_both (site a) Plain (Upper rd (plus a (imm * 4096))) (IsHomeOf v site a)
       (λ there. plain_home (instr.Auipc rd imm) none.pair means (inl there))
       (λ elsewhere. upper_home rd imm none.pair fits means)
-  straight_home (Some instr.Ebreak) some means none fits =
-      let stops : is_ebreak w ≡ true = ap (λ (x : ℕ). x == 1048691) means in let other = none.ebreak in absurd (cc (stops, other))
-  straight_home (Some (instr.Jal rd off)) some means none fits =
-      let jumps : is_jal w ≡ true = ap (λ (o : ℕ). o == 111) means.0 in let other = none.jal in absurd (cc (jumps, other))
-  straight_home (Some (instr.Jalr rd rs1 imm)) some means none fits =
-      let o = means.0 in
-      let f = means.1 in
-      let jumps : is_jalr w ≡ true = rw (o, f) refl in
-      let other = none.jalr in
-      absurd (cc (jumps, other))
-  straight_home (Some (instr.Branch kind rs1 rs2 off)) some means none fits =
-      let jumps = branch_test kind w means.0 means.1 in let other = none.branch in absurd (cc (jumps, other))
+  straight_home (Some instr.Ebreak) some means none fits = absurd (jumps_not v a instr.Ebreak none means tt)
+  straight_home (Some (instr.Jal rd off)) some means none fits = absurd (jumps_not v a (instr.Jal rd off) none means tt)
+  straight_home (Some (instr.Jalr rd rs1 imm)) some means none fits = absurd (jumps_not v a (instr.Jalr rd rs1 imm) none means tt)
+  straight_home (Some (instr.Branch kind rs1 rs2 off)) some means none fits = absurd (jumps_not v a (instr.Branch kind rs1 rs2 off) none means tt)
   straight_home (Some (instr.Lui rd imm)) some means none fits =
       plain_home (instr.Lui rd imm) none.pair means (inr (acts_anywhere (instr.Lui rd imm) tt))
   straight_home (Some (instr.Load kind rd rs1 imm)) some means none fits =

@@ -11,8 +11,7 @@ use Rattle.rv_decode.specs.Fields.{rd_of, rs1_of, i_immediate, j_immediate}
 use Rattle.rv_decode.specs.Table.{Means, MeansNothing}
 use Rattle.elf_reader.specs.File.{PlainView}
 use Rattle.loaded_file.specs.Code.{image_word}
-use Rattle.code_leaders.specs.Words.{is_branch, is_jal, is_jalr, links, pair_target}
-use Rattle.code_leaders.specs.Meanings.{is_ebreak}
+use Rattle.code_leaders.specs.Words.{is_branch, is_jalr, links, pair_target}
 use Rattle.code_leaders.specs.Leaders.{is_call_pair}
 use Rattle.code_leaders.specs.Early.{has}
 use Rattle.code_blocks.specs.Blocks.{IsUnit, IsCode}
@@ -30,7 +29,7 @@ use Rattle.block_splitter.specs.Pieces.{is_stop, IsCopyable}
 use Rattle.copied_code.specs.Laws.{unit_at, falls_to}
 use Rattle.copied_code.proofs.Alike.{IsStraight}
 use Rattle.copied_code.proofs.Ends.{NoJump, goes_no_jump, EndsSo}
-use Rattle.copied_code.proofs.Homes.{unlinked, jal_is, jalr_is, auipc_is, pair_words, branch_test, branch_opcode}
+use Rattle.copied_code.proofs.Homes.{jumps_not, unlinked, jal_is, jalr_is, auipc_is, pair_words, branch_opcode}
 use Rattle.copied_code.proofs.Units.{block_at, unit_of_block, some_at, last_test, other_test}
 
 -- a block begins there
@@ -82,18 +81,10 @@ module _ (v : PlainView) (c : Code) (site : ℕ → Bool) (a : ℕ) (F : Type 0)
       cond_both (site a) Plain (Upper rd _) Is
       (λ there. plain_so (instr.Auipc rd imm) none falls means (inl there))
       (λ elsewhere. (imm, (none.pair, (means, (elsewhere, falls)))))
-  straight_so (Some instr.Ebreak) some means none falls =
-      let stops : is_ebreak w ≡ true = ap (λ (x : ℕ). x == 1048691) means in let other = none.ebreak in absurd (cc (stops, other))
-  straight_so (Some (instr.Jal rd off)) some means none falls =
-      let jumps : is_jal w ≡ true = ap (λ (o : ℕ). o == 111) means.0 in let other = none.jal in absurd (cc (jumps, other))
-  straight_so (Some (instr.Jalr rd rs1 imm)) some means none falls =
-      let o = means.0 in
-      let f = means.1 in
-      let jumps : is_jalr w ≡ true = rw (o, f) refl in
-      let other = none.jalr in
-      absurd (cc (jumps, other))
-  straight_so (Some (instr.Branch kind rs1 rs2 off)) some means none falls =
-      let jumps = branch_test kind w means.0 means.1 in let other = none.branch in absurd (cc (jumps, other))
+  straight_so (Some instr.Ebreak) some means none falls = absurd (jumps_not v a instr.Ebreak none means tt)
+  straight_so (Some (instr.Jal rd off)) some means none falls = absurd (jumps_not v a (instr.Jal rd off) none means tt)
+  straight_so (Some (instr.Jalr rd rs1 imm)) some means none falls = absurd (jumps_not v a (instr.Jalr rd rs1 imm) none means tt)
+  straight_so (Some (instr.Branch kind rs1 rs2 off)) some means none falls = absurd (jumps_not v a (instr.Branch kind rs1 rs2 off) none means tt)
   straight_so (Some (instr.Lui rd imm)) some means none falls = plain_so (instr.Lui rd imm) none falls means (inr tt)
   straight_so (Some (instr.Load kind rd rs1 imm)) some means none falls = plain_so (instr.Load kind rd rs1 imm) none falls means (inr tt)
   straight_so (Some (instr.Store kind rs1 rs2 imm)) some means none falls = plain_so (instr.Store kind rs1 rs2 imm) none falls means (inr tt)

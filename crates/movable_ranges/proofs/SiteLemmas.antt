@@ -1,6 +1,6 @@
 -- Which relocations give a site of some object, and that an object shares a word just where one of its own
 -- relocations tells so.
-use Rattle.std.proofs.Common.{◌≡◌, ◌∙◌, inl, inr, ℕ, ◌<◌, ◌==◌, nat_lt, nat_le, Bool, true, false, not, ◌&&◌, List, length, refl, sym, ap, subst}
+use Rattle.std.proofs.Common.{◌≡◌, ◌∙◌, inl, inr, ℕ, ◌<◌, ◌==◌, nat_lt, nat_le, Bool, true, false, not, ◌&&◌, List, length, refl, sym, ap, subst, arith}
 use Rattle.std.specs.List.{count_by}
 use Rattle.std.proofs.lemmas.Bool.{eq-eqb, eqb-true}
 use Rattle.list_checks.specs.Tests.{any_below}
@@ -129,20 +129,10 @@ word_shared v j below gives =
     ∙ sym (two_places (gives_by v (at_number at)) (length v.relocs) j (both_made (gives_some v j) (at_number at at) gives (eq-eqb at at refl)) below)
 
 leads_regrouped : (c m f s : Bool) → c && m && f ≡ true → s ≡ true → c && s && (m && f) ≡ true
-leads_regrouped true true true true leads shares = refl
-leads_regrouped true true true false leads shares = shares
-leads_regrouped true true false s leads shares = cc
-leads_regrouped true false f s leads shares = cc
-leads_regrouped false m f s leads shares = cc
+leads_regrouped c m f s leads shares = grind (arith, leads, shares)
 
 leads_parts : (c m f s : Bool) → c && s && (m && f) ≡ true → (c && m && f ≡ true) × (s ≡ true)
-leads_parts true true true true shares = (refl, refl)
-leads_parts true true true false shares = cc
-leads_parts true true false true shares = cc
-leads_parts true true false false shares = cc
-leads_parts true false f true shares = cc
-leads_parts true false f false shares = cc
-leads_parts false m f s shares = cc
+leads_parts c m f s shares = (grind (arith, shares), grind (arith, shares))
 
 -- relocation `i` leads to the object and gives such a site
 made_from : (v : PlainView) (home n i : ℕ) → i < length v.relocs → leads_to v home n i ≡ true → shares_from v i ≡ true → shares_a_word v home n ≡ true

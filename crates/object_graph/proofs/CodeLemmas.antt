@@ -1,5 +1,5 @@
 -- Data that lies in a loaded section without code has no byte of a code word.
-use Rattle.std.proofs.Common.{◌≡◌, inl, inr, ℕ, ◌+◌, ◌-◌, ◌<◌, ◌==◌, ◌%◌, true, false, ◌&&◌, List, length, None, sym, subst, arith}
+use Rattle.std.proofs.Common.{◌≡◌, inl, inr, ◌≤◌, ℕ, ◌+◌, ◌-◌, ◌<◌, ◌==◌, ◌%◌, true, false, ◌&&◌, List, length, None, sym, subst, arith}
 use Rattle.std.proofs.lemmas.Bool.{eqb-true, cases_Bool, cases_lt, both_ways}
 use Rattle.std.proofs.lemmas.Bool.Decides.{nat_tests}
 use Rattle.list_checks.specs.Tests.{any_below, lies_in, ranges_overlap}
@@ -27,23 +27,17 @@ pub record SharesByte (k_addr k_size j_addr j_size : ℕ) : Type 0 where
   pub inside_other : n < j_size
   pub same : j_addr + n ≡ k_addr + i
 
+byte_at : (k_addr k_size j_addr j_size b : ℕ) → k_addr ≤ b → b - k_addr < k_size → j_addr ≤ b → b - j_addr < j_size → SharesByte k_addr k_size j_addr j_size
+byte_at k_addr k_size j_addr j_size b from inside from_other inside_other =
+    record { i = b - k_addr; n = b - j_addr; inside = inside; inside_other = inside_other; same = omega (arith, from, from_other) }
+
 shared_byte : (k_addr k_size j_addr j_size p m a n : ℕ) → lies_in k_addr k_size p m ≡ true → lies_in j_addr j_size a n ≡ true → ranges_overlap p m a n ≡ true → SharesByte k_addr k_size j_addr j_size
 shared_byte k_addr k_size j_addr j_size p m a n lies lies_other overlap =
     elim (cases_lt p a) [
-      | inl before ↦ record {
-        i = a - k_addr;
-        n = a - j_addr;
-        inside = grind (arith, nat_tests, lies, lies_other, overlap, before);
-        inside_other = grind (arith, nat_tests, lies, lies_other, overlap, before);
-        same = grind (arith, nat_tests, lies, lies_other, overlap, before);
-      }
-      | inr behind ↦ record {
-        i = p - k_addr;
-        n = p - j_addr;
-        inside = grind (arith, nat_tests, lies, lies_other, overlap, behind);
-        inside_other = grind (arith, nat_tests, lies, lies_other, overlap, behind);
-        same = grind (arith, nat_tests, lies, lies_other, overlap, behind);
-      }
+      | inl before ↦
+          byte_at k_addr k_size j_addr j_size a (grind (arith, nat_tests, lies, lies_other, overlap, before)) (grind (arith, nat_tests, lies, lies_other, overlap, before)) (grind (arith, nat_tests, lies, lies_other, overlap, before)) (grind (arith, nat_tests, lies, lies_other, overlap, before))
+      | inr behind ↦
+          byte_at k_addr k_size j_addr j_size p (grind (arith, nat_tests, lies, lies_other, overlap, behind)) (grind (arith, nat_tests, lies, lies_other, overlap, behind)) (grind (arith, nat_tests, lies, lies_other, overlap, behind)) (grind (arith, nat_tests, lies, lies_other, overlap, behind))
     ]
 
 -- a section of content that shares a byte with another loaded one is that one

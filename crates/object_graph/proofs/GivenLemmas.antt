@@ -190,18 +190,10 @@ pair_is v i =
 
 -- tests of a pair in another order
 drops : (a b rest far : Bool) → a && (b && false && rest && far) ≡ false
-drops true true rest far = refl
-drops true false rest far = refl
-drops false b rest far = refl
+drops a b rest far = grind arith
 
 turned_round : (len leads own here far : Bool) → len && (leads && own && here && far) ≡ len && (here && true && (leads && own && far))
-turned_round false leads own here far = refl
-turned_round true true true true far = refl
-turned_round true true true false far = refl
-turned_round true true false true far = refl
-turned_round true true false false far = refl
-turned_round true false own true far = refl
-turned_round true false own false far = refl
+turned_round len leads own here far = grind arith
 
 regrouped : (len leads pair low here far k own makes here' : Bool) → low ≡ true → pair ≡ k && own → here ≡ here' → (k ≡ true → makes ≡ true) → len && (leads && pair && (low && here) && far) ≡ k && (len && (here' && makes && (leads && own && far)))
 regrouped len leads pair low here far true own makes here' first second third fourth =

@@ -99,8 +99,7 @@ objects_held v board objects a are =
 -- ---- spans that are added
 
 or_more : (old now more here new : Bool) → now ≡ (old || more) → new ≡ (now || here) → new ≡ (old || (more || here))
-or_more true now more here new first second = second ∙ rw first refl
-or_more false now more here new first second = second ∙ rw first refl
+or_more old now more here new first second = grind (arith, first, second)
 
 -- one element of a list more
 pub element_more : {A : Type 0} (test : A → Bool) (xs : List A) (k : ℕ) (d : A) (old now new here : Bool) → k < length xs → now ≡ (old || list_any test (take k xs)) → new ≡ (now || here) → here ≡ test (slice_index_or xs k d) → new ≡ (old || list_any test (take (k + 1) xs))
@@ -110,12 +109,7 @@ element_more test xs k d old now new here below first second same =
     ∙ ap (λ b. old || b) (sym (list_any_more test xs k d below))
 
 regrouped : (old byte header table kind place : Bool) → ((old || (byte && (header || table))) || (kind && (byte && place))) ≡ (old || (byte && (header || (table || (kind && place)))))
-regrouped true byte header table kind place = refl
-regrouped false true true table kind place = refl
-regrouped false true false true kind place = refl
-regrouped false true false false kind place = refl
-regrouped false false header table true place = refl
-regrouped false false header table false place = refl
+regrouped old byte header table kind place = grind arith
 
 -- one section more
 pub table_more : (v : PlainView) (s : PlainSegment) (t : PlainSection) (a k : ℕ) (old now new : Bool) → section_at v k ≡ t → now ≡ (old || puts_changed_byte v s a k) → new ≡ (now || puts_table s t a) → new ≡ (old || puts_changed_byte v s a (k + 1))
@@ -151,12 +145,7 @@ changing_held v board a both code objects bytes listed_code listed_objects first
 -- ---- fixed memory
 
 without : (m s p c o h : Bool) → (m && not (s || p || c || o || h)) ≡ (m && not s && not p && not c && not o && not h)
-without true true p c o h = refl
-without true false true c o h = refl
-without true false false true o h = refl
-without true false false false true h = refl
-without true false false false false h = refl
-without false s p c o h = refl
+without m s p c o h = grind arith
 
 pub fixed_parts : (v : PlainView) (board : Board) (a : ℕ) → (is_mapped board a && not (is_changing v board a)) ≡ is_fixed_memory v board a
 fixed_parts v board a =

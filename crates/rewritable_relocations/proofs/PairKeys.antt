@@ -114,13 +114,7 @@ unpaired_second v lists high at low a b keys more_keys are here lows first is fa
     first_fails a b _ fails (ap (λ c. c || b) told ∙ ap (λ c. list_any (is_inside (high.at * 8192) d) items || c) more ∙ unpaired_is v lists high size are sum)
 
 pair_order : (k c o u call unpaired : Bool) → ((k && c && o && u) && (not call && not unpaired)) ≡ (k && c && o && not call && u && not unpaired)
-pair_order true true true true true unpaired = refl
-pair_order true true true true false unpaired = refl
-pair_order true true true false true unpaired = refl
-pair_order true true true false false unpaired = refl
-pair_order true true false u call unpaired = refl
-pair_order true false o u call unpaired = refl
-pair_order false c o u call unpaired = refl
+pair_order k c o u call unpaired = grind arith
 
 -- the parts of a rewritable pair
 pub pair_is : (v : PlainView) (i : ℕ) (r : Reloc) (upper alone : Bool) → reloc_at v i ≡ r → upper ≡ is_upper_pair v r → alone ≡ (not (any_below (is_call_at v (reloc_at v i).at) (length v.relocs)) && not (any_below (is_unpaired v (reloc_at v i)) (length v.relocs))) → (upper && alone) ≡ is_rewritable_pair v (reloc_at v i)

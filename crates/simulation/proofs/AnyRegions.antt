@@ -8,7 +8,7 @@ use Rattle.flat_machine.specs.Runs.{Does}
 use Rattle.flat_machine.specs.State.{State}
 use Rattle.flat_machine.proofs.Runs.{does_joined}
 use Rattle.object_machine.specs.declared.events.Outcome.{Outcome}
-use Rattle.object_machine.specs.declared.events.Outcome.TheVariants.{GoesOn, Exited, Trapped, AddressFault}
+use Rattle.object_machine.specs.declared.events.Outcome.TheVariants.{GoesOn, AddressFault}
 use Rattle.object_machine.specs.Program.{Program}
 use Rattle.object_machine.specs.State.{SourceState}
 use Rattle.object_machine.specs.Step.{Reads, next_state}
@@ -47,30 +47,6 @@ module _ (p : Program) (l : Setup) (live : ℕ → ℕ → Type 0) (comes form :
               ),
             ),
           )
-      any_ends (Exited code) n k is outcome unit_told after made held =
-          let alone : tells s read t es =
-          joins.alone s read t es (subst (λ (x : SourceState). x.outcome ≡ GoesOn → ⊥) (sym is) (λ going. cc)) unit_told in (
-            es,
-            (
-              t',
-              (
-                does,
-                subst (λ o. Tells o (tells s read t) es × Ends o (AtAny p l live form holds) n (reset k) t') (sym outcome) (alone, after),
-              ),
-            ),
-          )
-      any_ends (Trapped pc) n k is outcome unit_told after made held =
-          let alone : tells s read t es =
-          joins.alone s read t es (subst (λ (x : SourceState). x.outcome ≡ GoesOn → ⊥) (sym is) (λ going. cc)) unit_told in (
-            es,
-            (
-              t',
-              (
-                does,
-                subst (λ o. Tells o (tells s read t) es × Ends o (AtAny p l live form holds) n (reset k) t') (sym outcome) (alone, after),
-              ),
-            ),
-          )
       any_ends (AddressFault pc why) n k is outcome unit_told after made held = (
         es,
         (
@@ -81,6 +57,18 @@ module _ (p : Program) (l : Setup) (live : ℕ → ℕ → Type 0) (comes form :
           ),
         ),
       )
+      any_ends ended n k is outcome unit_told after made held =
+          let alone : tells s read t es =
+          joins.alone s read t es (subst (λ (x : SourceState). x.outcome ≡ GoesOn → ⊥) (sym is) (λ going. cc)) unit_told in (
+            es,
+            (
+              t',
+              (
+                does,
+                subst (λ o. Tells o (tells s read t) es × Ends o (AtAny p l live form holds) n (reset k) t') (sym outcome) (alone, after),
+              ),
+            ),
+          )
 
     any_kept : KeptBySteps p reset tells (AtAny p l live form holds)
     any_kept s m t read here reads paired =

@@ -20,29 +20,16 @@ use Rattle.simulation.specs.Units.{StandsAt}
 use Rattle.simulation.specs.Relation.{Alike}
 use Rattle.simulation.specs.Forms.{IsAt}
 use Rattle.simulation.specs.Ways.{Way, There, Near, Far, Across, way_fetched, reached_by}
-use Rattle.simulation.proofs.Steps.{does_words, is_at}
+use Rattle.simulation.proofs.Steps.{alike_on, does_words, is_at}
 use Rattle.simulation.proofs.Controls.{word_runs}
 
 module _ (p : Program) (l : Setup) (live : ℕ → ℕ → Type 0) (r v : ℕ) (s : SourceState) (m : Origins) where
   -- registers that don't matter may differ
   pub dead_alike : (t : State) (f : Registers) (c : ℕ) → HasWords (went t f c) → ((k : ℕ) → live v k → register f k ≡ register t.hart.regs k) → Alike p l live r v s m t → Alike p l live r v s m (went t f c)
   dead_alike t f c words same alike =
-      record {
-        regs = λ k lives.
-            subst (λ w. Stands p.objects (l.place r) (l.upper r) (m.regs k) (value s.regs k) w) (sym (same k lives)) (alike.regs k lives);
-        values = alike.values;
-        fixed = alike.fixed;
-        cells = alike.cells;
-        fixed_words = alike.fixed_words;
-        cell_words = alike.cell_words;
-        still = alike.still;
-        map = alike.map;
-        going = alike.going;
-        source_going = alike.source_going;
-        words = words;
-        input = alike.input;
-        output = alike.output;
-      }
+      alike_on p l live r v v s m m t s.regs s.pc f c alike
+      (λ k lives. subst (λ w. Stands p.objects (l.place r) (l.upper r) (m.regs k) (value s.regs k) w) (sym (same k lives)) (alike.regs k lives))
+      alike.values alike.fixed alike.cells words
 
   -- so words may run that write none but these
   ran_alike : (t : State) (fetched : List ℕ) (f : Registers) (c : ℕ) → Ran t fetched f c → ((k : ℕ) → live v k → register f k ≡ register t.hart.regs k) → Alike p l live r v s m t → Alike p l live r v s m (went t f c)

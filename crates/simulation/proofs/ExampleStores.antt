@@ -135,21 +135,14 @@ unit_at u i means below home = record { one = one; pair = λ is. cc; below = bel
     one (Some j) single other =
         subst (λ q. OneWordAt program setup 0 u (Some q)) (same_instruction (program.word u) i j means other) home
 
-stands_lui : StandsAt setup 0 1024 8887
+words_stand : StandsAt setup 0 1024 8887 × StandsAt setup 0 1028 6464035 × StandsAt setup 0 1032 4367619 × StandsAt setup 0 1036 115
 unfolding put
-stands_lui = record { fetched = refl; still = λ i below. grind (arith, nat_tests); word = refl }
-
-stands_store : StandsAt setup 0 1028 6464035
-unfolding put
-stands_store = record { fetched = refl; still = λ i below. grind (arith, nat_tests); word = refl }
-
-stands_load : StandsAt setup 0 1032 4367619
-unfolding put
-stands_load = record { fetched = refl; still = λ i below. grind (arith, nat_tests); word = refl }
-
-stands_call : StandsAt setup 0 1036 115
-unfolding put
-stands_call = record { fetched = refl; still = λ i below. grind (arith, nat_tests); word = refl }
+words_stand = (
+  record { fetched = refl; still = λ i below. grind (arith, nat_tests); word = refl },
+  record { fetched = refl; still = λ i below. grind (arith, nat_tests); word = refl },
+  record { fetched = refl; still = λ i below. grind (arith, nat_tests); word = refl },
+  record { fetched = refl; still = λ i below. grind (arith, nat_tests); word = refl },
+)
 
 completes : (u : ℕ) → Completes program setup 0 u target (pos 4)
 completes u = moved_completes program setup 0 u target (pos 4) setup_sound refl refl
@@ -166,20 +159,20 @@ means_load = (refl, refl, refl, refl, refl)
 unit_lui : UnitAt program setup 0 1024
 unit_lui =
     unit_at 1024 (Lui 5 1) means_lui (omega arith)
-    (8887, (Lui 5 2, (stands_lui, ((refl, refl, refl), ((omega arith, omega arith), (2, (refl, refl)))))))
+    (8887, (Lui 5 2, (words_stand.0, ((refl, refl, refl), ((omega arith, omega arith), (2, (refl, refl)))))))
 
 unit_store : UnitAt program setup 0 1028
 unit_store =
     unit_at 1028 store means_store (omega arith)
-    (6464035, (store, (stands_store, (means_store, ((omega arith, omega arith, omega arith), (pos 4, (refl, completes 1028)))))))
+    (6464035, (store, (words_stand.1, (means_store, ((omega arith, omega arith, omega arith), (pos 4, (refl, completes 1028)))))))
 
 unit_load : UnitAt program setup 0 1032
 unit_load =
     unit_at 1032 load means_load (omega arith)
-    (4367619, (load, (stands_load, (means_load, ((omega arith, omega arith, omega arith), (pos 4, (refl, completes 1032)))))))
+    (4367619, (load, (words_stand.2, (means_load, ((omega arith, omega arith, omega arith), (pos 4, (refl, completes 1032)))))))
 
 unit_call : UnitAt program setup 0 1036
-unit_call = unit_at 1036 Ecall refl (omega arith) (115, (Ecall, (stands_call, (refl, (tt, refl)))))
+unit_call = unit_at 1036 Ecall refl (omega arith) (115, (Ecall, (words_stand.3, (refl, (tt, refl)))))
 
 -- no other unit is found
 four_units : (u : ℕ) → IsUnit program u → (u ≡ 1024) ⊎ ((u ≡ 1028) ⊎ ((u ≡ 1032) ⊎ (u ≡ 1036)))

@@ -20,6 +20,7 @@ use Rattle.simulation.specs.Laws.{at_home, IsUnit, AllAtHome, Keeps}
 use Rattle.simulation.specs.Forms.{FormAt}
 use Rattle.simulation.specs.Ways.{AtAny, Arrivals, within}
 use Rattle.simulation.specs.Unnamed.{unnamed}
+use Rattle.simulation.proofs.Steps.{alike_on}
 use Rattle.simulation.proofs.AnyRegions.{runs_keep}
 use Rattle.simulation.proofs.AtHome.{home_form, any_held, home_runs_keep}
 use Rattle.simulation.proofs.Unnamed.{unnamed_paired}
@@ -69,21 +70,12 @@ module _ (p : Program) (l : Setup) (r : ℕ) (moved : l.upper r ≡ moved_uppers
 
   pub alike_reset : (live : ℕ → ℕ → Type 0) (u : ℕ) (s : SourceState) (m : Origins) (t : State) → Alike p l live r u s m t → Alike p l live r u s at_start t
   alike_reset live u s m t alike =
-      record {
-        regs = λ k lives. value_reset (m.regs k) _ _ (alike.regs k lives);
-        values = alike.values;
-        fixed = λ a fixed. cell_reset (m.fixed a) _ _ (alike.fixed a fixed);
-        cells = λ o i below. cell_reset (m.cells o i) _ _ (alike.cells o i below);
-        fixed_words = alike.fixed_words;
-        cell_words = alike.cell_words;
-        still = alike.still;
-        map = alike.map;
-        going = alike.going;
-        source_going = alike.source_going;
-        words = alike.words;
-        input = alike.input;
-        output = alike.output;
-      }
+      alike_on p l live r u u s m at_start t s.regs s.pc t.hart.regs t.hart.pc alike
+      (λ k lives. value_reset (m.regs k) _ _ (alike.regs k lives))
+      alike.values
+      (λ a fixed. cell_reset (m.fixed a) _ _ (alike.fixed a fixed))
+      (λ o i below. cell_reset (m.cells o i) _ _ (alike.cells o i below))
+      alike.words
 
 -- where both machines are at a unit, they are so with all origins set to LUI
 pub any_reset : (p : Program) (l : Setup) (live : ℕ → ℕ → Type 0) (form : ℕ → ℕ → ℕ → Type 0) (holds : ℕ → SourceState → Origins → Type 0) → ((r : ℕ) → l.upper r ≡ moved_uppers (l.place r)) → ((r : ℕ) (s : SourceState) (m : Origins) → holds r s m → holds r s at_start) → (s : SourceState) (m : Origins) (t : State) → AtAny p l live form holds s m t → AtAny p l live form holds s at_start t

@@ -17,7 +17,7 @@ use Rattle.flat_machine.specs.Mapping.{can_access}
 use Rattle.flat_machine.specs.State.{State, trap}
 use Rattle.flat_machine.specs.Step.{Performs, ReadsNothing, StepAt, Step, performed, event_of}
 use Rattle.flat_machine.specs.Step.{Reads as FlatReads}
-use Rattle.flat_machine.specs.Lines.{Fetches}
+use Rattle.flat_machine.specs.Lines.{Fetches, went}
 use Rattle.flat_machine.specs.Runs.{Does}
 use Rattle.flat_machine.specs.Sizes.{HasWords}
 use Rattle.flat_machine.proofs.Runs.{performs_meaning, steps_of_events}
@@ -27,7 +27,7 @@ use Rattle.cell_values.specs.Laws.{HoldsWord}
 use Rattle.cell_values.specs.declared.values.Val.{Val}
 use Rattle.cell_values.specs.declared.values.Val.TheVariants.{Int}
 use Rattle.cell_values.specs.Origins.{Origin}
-use Rattle.cell_values.specs.Stands.{Stands}
+use Rattle.cell_values.specs.Stands.{Stands, CellStands}
 use Rattle.cell_values.specs.Cells.{put_at}
 use Rattle.object_machine.specs.declared.events.Outcome.{Outcome}
 use Rattle.object_machine.specs.declared.events.Outcome.TheVariants.{GoesOn, Exited, Trapped, AddressFault}
@@ -173,6 +173,25 @@ pub with_writes : (lives : ℕ → Type 0) (f : Registers) (rd w : ℕ) → Writ
 with_writes lives f rd w =
     record { here = λ other lives. read_there f rd w other; others = λ k lives. read_other f rd w k }
 
+-- states that were alike, with other registers and pcs, and other origins
+pub alike_on : (p : Program) (l : Setup) (live : ℕ → ℕ → Type 0) (r u v : ℕ) (s : SourceState) (m n : Origins) (t : State) (regs : Values) (pc : ℕ) (f : Registers) (c : ℕ) → Alike p l live r u s m t → ((k : ℕ) → live v k → Stands p.objects (l.place r) (l.upper r) (n.regs k) (value regs k) (register f k)) → ((k : ℕ) → live v k → HoldsWord (value regs k)) → ((a : ℕ) → p.is_fixed a ≡ true → CellStands (l.place r) (l.upper r) (n.fixed a) (s.fixed a) (t.hart.mem a)) → ((o i : ℕ) → i < p.objects.size o → CellStands (l.place r) (l.upper r) (n.cells o i) (s.cells o i) (t.hart.mem (l.place r o + i))) → HasWords (went t f c) → Alike p l live r v (record s { pc = pc; regs = regs }) n (went t f c)
+alike_on p l live r u v s m n t regs pc f c alike regs_stand values fixed cells words =
+    record {
+      regs = regs_stand;
+      values = values;
+      fixed = fixed;
+      cells = cells;
+      fixed_words = alike.fixed_words;
+      cell_words = alike.cell_words;
+      still = alike.still;
+      map = alike.map;
+      going = alike.going;
+      source_going = alike.source_going;
+      words = words;
+      input = alike.input;
+      output = alike.output;
+    }
+
 -- the registers of a state `s` and of one that is like it at `u`, after a write of `x` and `w`, for a unit at `v`
 module _ (p : Program) (l : Setup) (live : ℕ → ℕ → Type 0) (r u v : ℕ) (s : SourceState) (m : Origins) (t : State) (alike : Alike p l live r u s m t) (rd w : ℕ) (x : Val) (origins : ℕ → Origin) (f : Registers) (keeps : (k : ℕ) → live v k → (k ≡ rd → ⊥) → live u k) (made : (k : ℕ) → (k ≡ rd → ⊥) → origins k ≡ m.regs k) (writes : WritesAt (live v) rd w t.hart.regs f) (stands : Stands p.objects (l.place r) (l.upper r) (origins rd) x w) (holds : HoldsWord x) where
   zero_stands : (k : ℕ) → k ≡ 0 → Stands p.objects (l.place r) (l.upper r) (origins k) (value (with_value s.regs rd x) k) (register f k)
@@ -216,21 +235,7 @@ module _ (p : Program) (l : Setup) (live : ℕ → ℕ → Type 0) (r u v : ℕ)
   -- the states are alike again, with the pc's anywhere
   pub wrote_on : (c : ℕ) → HasWords (record t { hart = record { pc = c; regs = f; mem = t.hart.mem } }) → Alike p l live r v (record (wrote s rd x) { pc = v }) (record m { regs = origins }) (record t { hart = record { pc = c; regs = f; mem = t.hart.mem } })
   wrote_on c words =
-      record {
-        regs = regs_wrote;
-        values = values_wrote;
-        fixed = alike.fixed;
-        cells = alike.cells;
-        fixed_words = alike.fixed_words;
-        cell_words = alike.cell_words;
-        still = alike.still;
-        map = alike.map;
-        going = alike.going;
-        source_going = alike.source_going;
-        words = words;
-        input = alike.input;
-        output = alike.output;
-      }
+      alike_on p l live r u v s m (record m { regs = origins }) t (with_value s.regs rd x) v f c alike regs_wrote values_wrote alike.fixed alike.cells words
 
 -- ---- what an instruction reads and writes
 

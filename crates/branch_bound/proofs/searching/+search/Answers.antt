@@ -8,7 +8,7 @@ use Rattle.certificate_checker.specs.Fixings.{is_free}
 use Rattle.certificate_checker.specs.declared.fixings.Fixing.{Fixing}
 use Rattle.certificate_checker.specs.declared.fixings.Fixing.TheVariants.{Zero, One}
 use Rattle.side_search.proofs.Branches.{back_once, back_twice}
-use Rattle.branch_bound.proofs.TellLemmas.{Branches, tells_first, tells_second, tells_both, levels_both}
+use Rattle.branch_bound.proofs.TellLemmas.{Branches, children, tells_first, tells_second, tells_both, levels_both}
 use Rattle.branch_bound.proofs.VisitLemmas.{zero_marks, fewer_again}
 use Rattle.branch_bound.proofs.searching.+search.Goals as goal
 
@@ -46,26 +46,8 @@ returns-in-None-2-clause-kept t c =
 pub returns-in-None-2-clause-tells : goal.returns-in-None-2-clause-tells
 returns-in-None-2-clause-tells t c =
     λ start order.
-    let s = plain_side c.args.side.now in
-    let marks = c.args.marks.now in
-    let j = c.in-Open.number in
-    let best = c.visit.new.run.best.gain in
-    let between = c.search.new.run.best.gain in
-    let more = c.search-2.new.run.best.gain in
-    let middle = c.visit.new.run.left in
-    let second = c.search.new.run.left in
-    let after = c.search-2.new.run.left in
-    let grows = c.in_ok-tree.ensures.grows in
-    let grows_one = c.in_ok-search.ensures.grows in
-    let used = c.in_ok-tree.ensures.left in
-    let some = c.if-run-eq0.false in
-    let from : start ≤ best = omega (arith, order, grows) in
-    let visits = subst (λ (v : Visit). Visits s best marks v) c.in-Open.is c.in_ok-tree.ensures.visits in
-    let branches : Branches s start marks j best = record { from_start = from; fails = visits.0; greatest = visits.1; here = c.in_ok-tree.ensures.here } in
-    let first = subst (λ (o : Option Tree). Reports s start (slice_set marks j One) between middle second o) c.in-Some.is (c.in_ok-search.ensures.tells start from) in
-    let there = subst (λ (m : List Fixing). Reports s start m more second after c.in_ok-search-2.field-0) (zero_marks marks c.search.new.marks j c.in_ok-search.ensures.kept) (c.in_ok-search-2.ensures.tells start (omega (arith, from, grows_one))) in
-    let last = subst (λ (o : Option Tree). Reports s start (slice_set marks j Zero) more second after o) c.in-None-2.is there in
-    tells_second s start marks j best between more c.args.run.now.left middle second after c.in-Some.tree branches grows_one c.in_ok-search-2.ensures.grows (omega (arith, used, some)) first last
+    tells_second _ start _ _ _ _ _ _ _ _ _ c.in-Some.tree
+    (children (plain_side c.args.side.now) start c.args.run.now.best.gain c.args.marks.now c.search.new.marks c.in-Open.number c.visit.new.run.best.gain c.search.new.run.best.gain c.search-2.new.run.best.gain c.args.run.now.left c.visit.new.run.left c.search.new.run.left c.search-2.new.run.left _ _ _ _ _ order c.in_ok-tree.ensures.grows c.in-Open.is c.in_ok-tree.ensures.visits c.in_ok-tree.ensures.here c.in_ok-search.ensures.grows c.in_ok-search-2.ensures.grows (omega (arith, c.in_ok-tree.ensures.left, c.if-run-eq0.false)) c.in_ok-search.ensures.kept c.in-Some.is c.in_ok-search.ensures.tells c.in-None-2.is c.in_ok-search-2.ensures.tells)
 
 pub returns-clause-kept : goal.returns-clause-kept
 returns-clause-kept t c =
@@ -88,23 +70,6 @@ returns-clause-levels t c =
 pub returns-clause-tells : goal.returns-clause-tells
 returns-clause-tells t c =
     λ start order.
-    let s = plain_side c.args.side.now in
-    let marks = c.args.marks.now in
-    let j = c.in-Open.number in
-    let best = c.visit.new.run.best.gain in
-    let between = c.search.new.run.best.gain in
-    let more = c.search-2.new.run.best.gain in
-    let middle = c.visit.new.run.left in
-    let second = c.search.new.run.left in
-    let after = c.search-2.new.run.left in
-    let grows = c.in_ok-tree.ensures.grows in
-    let grows_one = c.in_ok-search.ensures.grows in
-    let used = c.in_ok-tree.ensures.left in
-    let some = c.if-run-eq0.false in
-    let from : start ≤ best = omega (arith, order, grows) in
-    let visits = subst (λ (v : Visit). Visits s best marks v) c.in-Open.is c.in_ok-tree.ensures.visits in
-    let branches : Branches s start marks j best = record { from_start = from; fails = visits.0; greatest = visits.1; here = c.in_ok-tree.ensures.here } in
-    let first = subst (λ (o : Option Tree). Reports s start (slice_set marks j One) between middle second o) c.in-Some.is (c.in_ok-search.ensures.tells start from) in
-    let there = subst (λ (m : List Fixing). Reports s start m more second after c.in_ok-search-2.field-0) (zero_marks marks c.search.new.marks j c.in_ok-search.ensures.kept) (c.in_ok-search-2.ensures.tells start (omega (arith, from, grows_one))) in
-    let last = subst (λ (o : Option Tree). Reports s start (slice_set marks j Zero) more second after o) c.in-Some-2.is there in
-    tells_both s start marks j best between more c.args.run.now.left middle second after c.in-Some.tree c.in-Some-2.tree c.in_ok-branch_on.field-0 branches c.in_ok-search-2.ensures.grows (omega (arith, used, some)) first last c.in_ok-branch_on.ensures
+    tells_both _ start _ _ _ _ _ _ _ _ _ c.in-Some.tree c.in-Some-2.tree c.in_ok-branch_on.field-0
+    (children (plain_side c.args.side.now) start c.args.run.now.best.gain c.args.marks.now c.search.new.marks c.in-Open.number c.visit.new.run.best.gain c.search.new.run.best.gain c.search-2.new.run.best.gain c.args.run.now.left c.visit.new.run.left c.search.new.run.left c.search-2.new.run.left _ _ _ _ _ order c.in_ok-tree.ensures.grows c.in-Open.is c.in_ok-tree.ensures.visits c.in_ok-tree.ensures.here c.in_ok-search.ensures.grows c.in_ok-search-2.ensures.grows (omega (arith, c.in_ok-tree.ensures.left, c.if-run-eq0.false)) c.in_ok-search.ensures.kept c.in-Some.is c.in_ok-search.ensures.tells c.in-Some-2.is c.in_ok-search-2.ensures.tells)
+    c.in_ok-branch_on.ensures

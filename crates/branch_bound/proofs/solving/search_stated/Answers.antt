@@ -1,10 +1,14 @@
-use Rattle.std.proofs.Common.{◌≡◌, ◌≤◌, ◌≤ℤ◌, ℕ, pos, Option, sym, subst, arith}
+use Rattle.std.proofs.Common.{◌≤◌, ◌≤ℤ◌, ℕ, pos, sym, subst, arith}
+use Rattle.placement_programme.specs.Plain.{PlainProgramme}
 use Rattle.placement_programme.specs.Programme.{IsFeasible, gain}
 use Rattle.placement_programme.specs.Views.{plain_programme}
 use Rattle.certificate_checker.specs.Views.{plain_certificate}
+use Rattle.certificate_checker.specs.Shows.{all_free}
+use Rattle.branch_bound.specs.Greedy.{IsStart}
 use Rattle.branch_bound.specs.Growing.{CannotGrow}
-use Rattle.branch_bound.specs.Searching.{choice_of}
-use Rattle.branch_bound.specs.Solving.{Searched, ReachesFirst, AreTreesOf}
+use Rattle.branch_bound.specs.Searching.{choice_of, Reports}
+use Rattle.branch_bound.specs.declared.outcomes.Outcome.{Outcome}
+use Rattle.branch_bound.specs.Solving.{Searched, ReportsOn, ReachesFirst, AreTreesOf}
 use Rattle.branch_bound.proofs.ListLemmas.{enough_nodes}
 use Rattle.branch_bound.proofs.SolveLemmas.{closes_side, closes_on, reaches_first, ends_within, match_more, gain_from_zero}
 use Rattle.branch_bound.proofs.solving.search_stated.Goals as goal
@@ -26,25 +30,29 @@ trees_of-requires-clause-on c =
     let first = c.in_ok-off.ensures.grows in
     closes_on (plain_programme c.args.p.now).on c.in_ok-start.start.gain c.in_ok-on.on.best.gain c.in_ok-best.best.gain c.in_ok-off.off.left c.in_ok-on.on.left c.in_ok-on.on.tree c.in_ok-best.ensures.grows (c.in_ok-on.ensures.tells c.in_ok-start.start.gain first)
 
-pub found-requires-clause-trees : goal.found-requires-clause-trees
-found-requires-clause-trees c =
-    let p = plain_programme c.args.p.now in
-    let start = c.in_ok-start.start.gain in
-    let off = c.in_ok-off.off in
-    let on = c.in_ok-on.on in
-    let best = c.in_ok-best.best in
-    let first = c.in_ok-off.ensures.grows in
-    let second = c.in_ok-on.ensures.grows in
-    let last = c.in_ok-best.ensures.grows in
-    let searched : Searched p c.args.nodes start off.best.gain on.best.gain best.gain off.left on.left off.tree on.tree = record {
-      is_start = c.in_ok-start.ensures.start;
+-- what both searches tell
+searched_in : (p : PlainProgramme) (nodes start best : ℕ) (off on : Outcome) → IsStart p start → start ≤ off.best.gain → off.best.gain ≤ on.best.gain → on.best.gain ≤ best
+    → ((s : ℕ) → s ≤ start → Reports p.off s (all_free p.off) off.best.gain nodes off.left off.tree)
+    → ((s : ℕ) → s ≤ off.best.gain → ReportsOn p.on s on.best.gain off.left on.left on.tree)
+    → Searched p nodes start off.best.gain on.best.gain best off.left on.left off.tree on.tree
+searched_in p nodes start best off on is first second last by_off by_on =
+    record {
+      is_start = is;
       from = omega (arith, first, second, last);
       off_order = omega (arith, second, last);
       on_order = last;
-      by_off = c.in_ok-off.ensures.tells start (omega arith);
-      by_on = c.in_ok-on.ensures.tells start first;
-    } in
-    match_more (AreTreesOf p best.gain) c.in_ok-trees.trees (λ both. ends_within p c.args.nodes start off.best.gain on.best.gain best.gain off.left on.left off.tree on.tree (choice_of p best) searched c.in_ok-best.ensures.incumbent.accepted.gains both.0 both.1) c.in_ok-trees.ensures
+      by_off = by_off start (omega arith);
+      by_on = by_on start first;
+    }
+
+pub found-requires-clause-trees : goal.found-requires-clause-trees
+found-requires-clause-trees c =
+    let p = plain_programme c.args.p.now in
+    let off = c.in_ok-off.off in
+    let on = c.in_ok-on.on in
+    let best = c.in_ok-best.best in
+    let searched = searched_in p c.args.nodes c.in_ok-start.start.gain best.gain off on c.in_ok-start.ensures.start c.in_ok-off.ensures.grows c.in_ok-on.ensures.grows c.in_ok-best.ensures.grows c.in_ok-off.ensures.tells c.in_ok-on.ensures.tells in
+    match_more (AreTreesOf p best.gain) c.in_ok-trees.trees (λ both. ends_within p c.args.nodes c.in_ok-start.start.gain off.best.gain on.best.gain best.gain off.left on.left off.tree on.tree (choice_of p best) searched c.in_ok-best.ensures.incumbent.accepted.gains both.0 both.1) c.in_ok-trees.ensures
 
 pub returns-clause-feasible : goal.returns-clause-feasible
 returns-clause-feasible c =
@@ -60,23 +68,12 @@ returns-clause-gain c =
 pub returns-clause-reach : goal.returns-clause-reach
 returns-clause-reach c =
     let p = plain_programme c.args.p.now in
-    let start = c.in_ok-start.start.gain in
     let off = c.in_ok-off.off in
     let on = c.in_ok-on.on in
     let best = c.in_ok-best.best in
-    let first = c.in_ok-off.ensures.grows in
-    let second = c.in_ok-on.ensures.grows in
-    let last = c.in_ok-best.ensures.grows in
-    let searched : Searched p c.args.nodes start off.best.gain on.best.gain best.gain off.left on.left off.tree on.tree = record {
-      is_start = c.in_ok-start.ensures.start;
-      from = omega (arith, first, second, last);
-      off_order = omega (arith, second, last);
-      on_order = last;
-      by_off = c.in_ok-off.ensures.tells start (omega arith);
-      by_on = c.in_ok-on.ensures.tells start first;
-    } in
+    let searched = searched_in p c.args.nodes c.in_ok-start.start.gain best.gain off on c.in_ok-start.ensures.start c.in_ok-off.ensures.grows c.in_ok-on.ensures.grows c.in_ok-best.ensures.grows c.in_ok-off.ensures.tells c.in_ok-on.ensures.tells in
     subst (λ choice. ReachesFirst p c.args.nodes choice) (sym c.in_ok-answer.ensures.choice)
-    (reaches_first p c.args.nodes start off.best.gain on.best.gain best.gain off.left on.left off.tree on.tree (choice_of p best) searched c.in_ok-best.ensures.incumbent.accepted.gains)
+    (reaches_first p c.args.nodes c.in_ok-start.start.gain off.best.gain on.best.gain best.gain off.left on.left off.tree on.tree (choice_of p best) searched c.in_ok-best.ensures.incumbent.accepted.gains)
 
 pub returns-clause-grown : goal.returns-clause-grown
 returns-clause-grown c =

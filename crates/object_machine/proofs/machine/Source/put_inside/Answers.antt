@@ -5,17 +5,10 @@ use Rattle.object_machine.specs.Machine.{seen_state}
 use Rattle.object_machine.proofs.StoreLemmas.{home, fixed_with, cells_with, fixed_stays, object_put, spans_object, store_of_graph}
 use Rattle.object_machine.proofs.machine.Source.put_inside.Goals as goal
 
-pub invariant_of-self : goal.invariant_of-self
-invariant_of-self c =
+pub invariant_of-self-clause-cells : goal.invariant_of-self-clause-cells
+invariant_of-self-clause-cells c =
     let m = c.args.self.now in
-    record {
-      inside = m.inside;
-      at = m.at;
-      below = m.below;
-      values = m.values;
-      cells = store_of_graph m.tables.graph c.set_all.result (cells_of m.memory) (cells_of c.set_all.new.self) (c.home_of.result + c.args.offset) c.args.cells.now c.set_all.ensures.set c.set_all.ensures.err m.cells c.requires.of;
-      consumed_of_input = m.consumed_of_input;
-    }
+    store_of_graph m.tables.graph c.set_all.result (cells_of m.memory) (cells_of c.set_all.new.self) (c.home_of.result + c.args.offset) c.args.cells.now c.set_all.ensures.set c.set_all.ensures.err m.cells c.requires.of
 
 pub returns-in-Ok-clause-state : goal.returns-in-Ok-clause-state
 returns-in-Ok-clause-state c =

@@ -6,17 +6,10 @@ use Rattle.object_machine.specs.Machine.{seen_state}
 use Rattle.object_machine.proofs.RegisterLemmas.{regs_set}
 use Rattle.object_machine.proofs.machine.Source.set_register.Goals as goal
 
-pub invariant_of-self : goal.invariant_of-self
-invariant_of-self c =
+pub invariant_of-self-clause-values : goal.invariant_of-self-clause-values
+invariant_of-self-clause-values c =
     let m = c.args.self.now in
-    record {
-      inside = m.inside;
-      at = m.at;
-      below = m.below;
-      values = All-set (IsOfGraph m.tables.graph) m.regs c.from.result c.args.v c.requires.of m.values;
-      cells = m.cells;
-      consumed_of_input = m.consumed_of_input;
-    }
+    All-set (IsOfGraph m.tables.graph) m.regs c.from.result c.args.v c.requires.of m.values
 
 pub returns-then-rd-ne0-clause-state : goal.returns-then-rd-ne0-clause-state
 returns-then-rd-ne0-clause-state c =
