@@ -37,11 +37,12 @@ pub fn relink_file(
 {
     let opened = open(alloc, file, board)?;
     let relinked = relink_analysed(alloc, &opened.analysis, &opened.board, input)?;
+    let end = relinked.end;
     let report = relink_report(alloc, &opened.analysis, &opened.board, &relinked)?;
     Ok(RelinkedFile {
         certificate: relinked.certificate,
         file: relinked.result.bytes,
         report,
-        end: relinked.end,
+        end,
     })
 }

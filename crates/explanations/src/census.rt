@@ -1,11 +1,9 @@
 use crate::names::section_at;
-use elf_reader::{ElfView, STT_SECTION, Symbol};
-use loaded_file::{ByteRange, LoadedFile, counts, has_range, object_ranges, symbol_value, target};
+use elf_reader::ElfView;
+use loaded_file::{ByteRange, LoadedFile, counts, object_ranges, symbol_value, target};
+use movable_ranges::is_alias;
 use object_graph::Graph;
 use std::alloc::{AllocError, Global};
-
-/// The symbol to which the global pointer is set (RISC-V psABI, "Global-pointer").
-const GLOBAL_POINTER: &[u8] = b"__global_pointer$";
 
 /// A label by which a relocation leads into an object.
 #[derive(Clone, Copy)]
@@ -110,11 +108,11 @@ fn is_movable(graph: &Graph, range: &ByteRange) -> bool {
 /// The label by which relocation `k` leads into an object, if it does.
 fn label_of(file: &LoadedFile, ranges: &[ByteRange], k: usize) -> Option<LabelUse> {
     let reloc = file.view.relocs.get(k)?;
-    let symbol = file.view.symbols.get(reloc.symbol as usize)?;
-    if !counts(file, reloc) || !is_label(file, symbol) {
+    let number = reloc.symbol as usize;
+    if !counts(file, reloc) || !is_alias(file, number) {
         return None;
     }
-    let value = symbol_value(file.view, reloc.symbol as usize);
+    let value = symbol_value(file.view, number);
     let home = match object_with(ranges, value) {
         Some(home) => home,
         None => object_with(ranges, target(file.view, reloc))?,
@@ -124,11 +122,6 @@ fn label_of(file: &LoadedFile, ranges: &[ByteRange], k: usize) -> Option<LabelUs
         changed: reloc.section,
         home,
     })
-}
-
-/// Whether a symbol is none of an object, of a section, or the global pointer.
-fn is_label(file: &LoadedFile, symbol: &Symbol) -> bool {
-    !has_range(file, symbol) && symbol.kind != STT_SECTION && symbol.name != GLOBAL_POINTER
 }
 
 /// The home of an object that has the byte at an address.

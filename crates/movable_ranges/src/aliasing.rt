@@ -57,8 +57,9 @@ fn push_alias(aliases: &mut Vec<u64>, file: &LoadedFile, i: usize) -> Result<(),
     Ok(())
 }
 
-/// Symbol `k` tells of no object: it is neither that of one, nor of a section, nor the global pointer.
-fn is_alias(file: &LoadedFile, k: usize) -> bool
+/// Whether symbol `k` tells of no object: it is neither that of one, nor of a section, nor the global pointer. A
+/// relocation that leads into an object by such a symbol keeps all objects of the section.
+pub fn is_alias(file: &LoadedFile, k: usize) -> bool
     ensures { result ≡ is_alias (plain_view file.now.view.now) (symbol_at (plain_view file.now.view.now) k) }
 {
     match file.view.symbols.get(k) {

@@ -12,5 +12,6 @@ mod soundness;
 mod top;
 mod words;
 
+pub use aliasing::is_alias;
 pub use meaning::{meant_range, place_of_symbol};
 pub use top::movable_ranges;

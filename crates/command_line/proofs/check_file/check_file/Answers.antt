@@ -19,7 +19,7 @@ programme_of_run-requires c = (c.args.file.now, c.in_ok-opened.ensures.ok.analys
 
 pub returns-in_err-measured-clause-err : goal.returns-in_err-measured-clause-err
 returns-in_err-measured-clause-err c =
-    let p = err_from_is_err_and c.from_residual-in_err-measured.result c.from_residual-in_err-measured.ensures.err.1 in
+    let p = err_from_is_err_and c.from_residual-in_err-measured.result c.from_residual-in_err-measured.ensures.1 in
     rw (p.1, p.2)
     (run_rejected_first c.args.board.now c.args.file.now c.args.input.now c.args.cert.now _
     (counts_rejected c.args.board.now c.args.file.now c.args.input.now c.in_ok-opened.opened _ c.in_ok-opened.ensures.ok c.in_err-measured.ensures.err))
