@@ -188,67 +188,23 @@ straight_fields : (site : ℕ → Bool) (at raw : ℕ) (o : Option Instr) → De
 straight_fields site at raw None means = tt
 straight_fields site at raw (Some (instr.Auipc rd imm)) means =
     cond_both (site at) _ _ HasFields (λ yes. tt) (λ no. (in_range raw (instr.Auipc rd imm) means).0)
-straight_fields site at raw (Some instr.Ebreak) means = tt
-straight_fields site at raw (Some (instr.Lui rd imm)) means = tt
-straight_fields site at raw (Some (instr.Jal rd off)) means = tt
-straight_fields site at raw (Some (instr.Jalr rd rs1 imm)) means = tt
-straight_fields site at raw (Some (instr.Branch kind rs1 rs2 off)) means = tt
-straight_fields site at raw (Some (instr.Load kind rd rs1 imm)) means = tt
-straight_fields site at raw (Some (instr.Store kind rs1 rs2 imm)) means = tt
-straight_fields site at raw (Some (instr.OpImm kind rd rs1 imm)) means = tt
-straight_fields site at raw (Some (instr.OpReg kind rd rs1 rs2)) means = tt
-straight_fields site at raw (Some (instr.Fence bits)) means = tt
-straight_fields site at raw (Some (instr.FenceI bits)) means = tt
-straight_fields site at raw (Some instr.Ecall) means = tt
+straight_fields site at raw (Some i) means = tt
 
 branch_fields : (target raw : ℕ) (o : Option Instr) → Decodes raw o → HasFields (branch_kind target o)
 branch_fields target raw None means = tt
 branch_fields target raw (Some (instr.Branch kind rs1 rs2 off)) means =
     let range = in_range raw (instr.Branch kind rs1 rs2 off) means in (range.0, range.1)
-branch_fields target raw (Some (instr.Auipc rd imm)) means = tt
-branch_fields target raw (Some instr.Ebreak) means = tt
-branch_fields target raw (Some (instr.Lui rd imm)) means = tt
-branch_fields target raw (Some (instr.Jal rd off)) means = tt
-branch_fields target raw (Some (instr.Jalr rd rs1 imm)) means = tt
-branch_fields target raw (Some (instr.Load kind rd rs1 imm)) means = tt
-branch_fields target raw (Some (instr.Store kind rs1 rs2 imm)) means = tt
-branch_fields target raw (Some (instr.OpImm kind rd rs1 imm)) means = tt
-branch_fields target raw (Some (instr.OpReg kind rd rs1 rs2)) means = tt
-branch_fields target raw (Some (instr.Fence bits)) means = tt
-branch_fields target raw (Some (instr.FenceI bits)) means = tt
-branch_fields target raw (Some instr.Ecall) means = tt
+branch_fields target raw (Some i) means = tt
 
 tail_fields : (target raw : ℕ) (o : Option Instr) → Decodes raw o → HasFields (tail_kind target o)
 tail_fields target raw None means = tt
 tail_fields target raw (Some (instr.Auipc rd imm)) means = (in_range raw (instr.Auipc rd imm) means).0
-tail_fields target raw (Some (instr.Branch kind rs1 rs2 off)) means = tt
-tail_fields target raw (Some instr.Ebreak) means = tt
-tail_fields target raw (Some (instr.Lui rd imm)) means = tt
-tail_fields target raw (Some (instr.Jal rd off)) means = tt
-tail_fields target raw (Some (instr.Jalr rd rs1 imm)) means = tt
-tail_fields target raw (Some (instr.Load kind rd rs1 imm)) means = tt
-tail_fields target raw (Some (instr.Store kind rs1 rs2 imm)) means = tt
-tail_fields target raw (Some (instr.OpImm kind rd rs1 imm)) means = tt
-tail_fields target raw (Some (instr.OpReg kind rd rs1 rs2)) means = tt
-tail_fields target raw (Some (instr.Fence bits)) means = tt
-tail_fields target raw (Some (instr.FenceI bits)) means = tt
-tail_fields target raw (Some instr.Ecall) means = tt
+tail_fields target raw (Some i) means = tt
 
 indirect_fields : (back raw : ℕ) (o : Option Instr) → Decodes raw o → HasFields (indirect_kind (Some back) o)
 indirect_fields back raw None means = tt
 indirect_fields back raw (Some (instr.Jalr rd rs1 imm)) means = in_range raw (instr.Jalr rd rs1 imm) means
-indirect_fields back raw (Some (instr.Auipc rd imm)) means = tt
-indirect_fields back raw (Some (instr.Branch kind rs1 rs2 off)) means = tt
-indirect_fields back raw (Some instr.Ebreak) means = tt
-indirect_fields back raw (Some (instr.Lui rd imm)) means = tt
-indirect_fields back raw (Some (instr.Jal rd off)) means = tt
-indirect_fields back raw (Some (instr.Load kind rd rs1 imm)) means = tt
-indirect_fields back raw (Some (instr.Store kind rs1 rs2 imm)) means = tt
-indirect_fields back raw (Some (instr.OpImm kind rd rs1 imm)) means = tt
-indirect_fields back raw (Some (instr.OpReg kind rd rs1 rs2)) means = tt
-indirect_fields back raw (Some (instr.Fence bits)) means = tt
-indirect_fields back raw (Some (instr.FenceI bits)) means = tt
-indirect_fields back raw (Some instr.Ecall) means = tt
+indirect_fields back raw (Some i) means = tt
 
 last_fields : (site : ℕ → Bool) (e : End) (u : Unit) → LinksFit e → Decodes u.raw u.instr → HasFields (last_kind site e u)
 last_fields site (end.Branch target next) u fits means = branch_fields target u.raw u.instr means

@@ -102,67 +102,23 @@ exit_to p b a plan inside leads out = plan.copied.exits b a inside leads out
 straight_exits : (x : Copy) (site : ℕ → Bool) (at : ℕ) (o : Option Instr) → HasExits x (straight_kind site at o)
 straight_exits x site at None = tt
 straight_exits x site at (Some (instr.Auipc rd imm)) = cond_both (site at) _ _ (HasExits x) (λ yes. tt) (λ no. tt)
-straight_exits x site at (Some (instr.Branch kind rs1 rs2 off)) = tt
-straight_exits x site at (Some instr.Ebreak) = tt
-straight_exits x site at (Some (instr.Lui rd imm)) = tt
-straight_exits x site at (Some (instr.Jal rd off)) = tt
-straight_exits x site at (Some (instr.Jalr rd rs1 imm)) = tt
-straight_exits x site at (Some (instr.Load kind rd rs1 imm)) = tt
-straight_exits x site at (Some (instr.Store kind rs1 rs2 imm)) = tt
-straight_exits x site at (Some (instr.OpImm kind rd rs1 imm)) = tt
-straight_exits x site at (Some (instr.OpReg kind rd rs1 rs2)) = tt
-straight_exits x site at (Some (instr.Fence bits)) = tt
-straight_exits x site at (Some (instr.FenceI bits)) = tt
-straight_exits x site at (Some instr.Ecall) = tt
+straight_exits x site at (Some i) = tt
 
 branch_exits : (x : Copy) (target : ℕ) (o : Option Instr) → HasExit x target → HasExits x (branch_kind target o)
 branch_exits x target None exit = tt
 branch_exits x target (Some (instr.Branch kind rs1 rs2 off)) exit = exit
-branch_exits x target (Some (instr.Auipc rd imm)) exit = tt
-branch_exits x target (Some instr.Ebreak) exit = tt
-branch_exits x target (Some (instr.Lui rd imm)) exit = tt
-branch_exits x target (Some (instr.Jal rd off)) exit = tt
-branch_exits x target (Some (instr.Jalr rd rs1 imm)) exit = tt
-branch_exits x target (Some (instr.Load kind rd rs1 imm)) exit = tt
-branch_exits x target (Some (instr.Store kind rs1 rs2 imm)) exit = tt
-branch_exits x target (Some (instr.OpImm kind rd rs1 imm)) exit = tt
-branch_exits x target (Some (instr.OpReg kind rd rs1 rs2)) exit = tt
-branch_exits x target (Some (instr.Fence bits)) exit = tt
-branch_exits x target (Some (instr.FenceI bits)) exit = tt
-branch_exits x target (Some instr.Ecall) exit = tt
+branch_exits x target (Some i) exit = tt
 
 tail_exits : (x : Copy) (target : ℕ) (o : Option Instr) → HasExits x (tail_kind target o)
 tail_exits x target None = tt
 tail_exits x target (Some (instr.Auipc rd imm)) = tt
-tail_exits x target (Some (instr.Branch kind rs1 rs2 off)) = tt
-tail_exits x target (Some instr.Ebreak) = tt
-tail_exits x target (Some (instr.Lui rd imm)) = tt
-tail_exits x target (Some (instr.Jal rd off)) = tt
-tail_exits x target (Some (instr.Jalr rd rs1 imm)) = tt
-tail_exits x target (Some (instr.Load kind rd rs1 imm)) = tt
-tail_exits x target (Some (instr.Store kind rs1 rs2 imm)) = tt
-tail_exits x target (Some (instr.OpImm kind rd rs1 imm)) = tt
-tail_exits x target (Some (instr.OpReg kind rd rs1 rs2)) = tt
-tail_exits x target (Some (instr.Fence bits)) = tt
-tail_exits x target (Some (instr.FenceI bits)) = tt
-tail_exits x target (Some instr.Ecall) = tt
+tail_exits x target (Some i) = tt
 
 indirect_exits : (x : Copy) (back : Option ℕ) (o : Option Instr) → HasExits x (indirect_kind back o)
 indirect_exits x None o = tt
 indirect_exits x (Some back) None = tt
 indirect_exits x (Some back) (Some (instr.Jalr rd rs1 imm)) = tt
-indirect_exits x (Some back) (Some (instr.Auipc rd imm)) = tt
-indirect_exits x (Some back) (Some (instr.Branch kind rs1 rs2 off)) = tt
-indirect_exits x (Some back) (Some instr.Ebreak) = tt
-indirect_exits x (Some back) (Some (instr.Lui rd imm)) = tt
-indirect_exits x (Some back) (Some (instr.Jal rd off)) = tt
-indirect_exits x (Some back) (Some (instr.Load kind rd rs1 imm)) = tt
-indirect_exits x (Some back) (Some (instr.Store kind rs1 rs2 imm)) = tt
-indirect_exits x (Some back) (Some (instr.OpImm kind rd rs1 imm)) = tt
-indirect_exits x (Some back) (Some (instr.OpReg kind rd rs1 rs2)) = tt
-indirect_exits x (Some back) (Some (instr.Fence bits)) = tt
-indirect_exits x (Some back) (Some (instr.FenceI bits)) = tt
-indirect_exits x (Some back) (Some instr.Ecall) = tt
+indirect_exits x (Some back) (Some i) = tt
 
 last_exits : (x : Copy) (site : ℕ → Bool) (e : End) (u : Unit) → ((a : ℕ) → Contains (onward e) a → HasExit x a) → CanCall x.code e → HasExits x (last_kind site e u)
 last_exits x site (end.Branch target next) u exits calls = branch_exits x target u.instr (exits target (0, omega arith, refl))

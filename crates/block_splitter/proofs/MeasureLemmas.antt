@@ -3,7 +3,6 @@ use Rattle.std.proofs.Common.{◌≡◌, ◌∙◌, ◌⊎◌, inl, inr, ℕ, ze
 use Rattle.std.specs.List.{Contains}
 use Rattle.std.specs.List.Sorted.{IsStrictlyIncreasing}
 use Rattle.std.proofs.lemmas.Bool.{both_ways, cases_order, eqb-true, eq-eqb}
-use Rattle.std.proofs.lemmas.Bool.Decides.{nat_tests}
 use Rattle.std.proofs.lemmas.List.{length-map, get_or_default}
 use Rattle.std.proofs.lemmas.List.Folds.{Any-from_list_any}
 use Rattle.list_checks.specs.Tests.{any_below}
@@ -24,27 +23,10 @@ use Rattle.block_splitter.specs.declared.measuring.Extent.{Extent}
 use Rattle.block_splitter.specs.Forms.{holds_block, begins_in, body_at}
 use Rattle.block_splitter.specs.Pieces.{HasTemporary, IsRange, IsCopyable, is_entry, onward, most_words}
 use Rattle.block_splitter.specs.Facts.{block_count, last_leaving, target_of, next_of, full_size, IsExit, IsForm, IsExtent, is_within, extra_words, IsBarred, MayStand, size_in}
-use Rattle.block_splitter.proofs.SourceLemmas.{start_less}
+use Rattle.code_blocks.proofs.StartLemmas.{start_less, starts_ordered}
 use Rattle.block_splitter.proofs.SizeLemmas.{leaving, splits}
 
 -- ---- addresses and ranges
-
-le_same : (x y i j : ℕ) → (i ≡ j → x ≡ y) → (i < j → x < y) → (j < i → y < x) → nat_le x y ≡ nat_le i j
-le_same x y i j same less more =
-    elim (cases_order i j) [
-      | inl here ↦ let e = same here in grind (arith, nat_tests, here, e)
-      | inr other ↦ elim other [
-        | inl lower ↦ let e = less lower in grind (arith, nat_tests, lower, e)
-        | inr higher ↦ let e = more higher in grind (arith, nat_tests, higher, e)
-      ]
-    ]
-
-starts_ordered : (c : Code) (i j : ℕ) → IsStrictlyIncreasing (starts_of c) → i < block_count c → j < block_count c → nat_le (start_at c i) (start_at c j) ≡ nat_le i j
-starts_ordered c i j ascending first second =
-    le_same (start_at c i) (start_at c j) i j
-    (λ same. ap (start_at c) same)
-    (λ lower. start_less c i j ascending lower second)
-    (λ higher. start_less c j i ascending higher first)
 
 pub one_start : (c : Code) (i j : ℕ) → IsStrictlyIncreasing (starts_of c) → i < block_count c → j < block_count c → start_at c i ≡ start_at c j → i ≡ j
 one_start c i j ascending first second same =
@@ -89,8 +71,8 @@ within_is c range x a ascending is extent found =
     let (k, below, at) = numbered c a found in
     let ordered = is.ordered in
     let within = is.below in
-    let low : nat_le x.from a ≡ nat_le range.first k = (λ i. nat_le (extent.from i) (sym at i)) ∙ starts_ordered c range.first k ascending (omega (arith, ordered, within)) below in
-    let high : nat_le a x.to ≡ nat_le k range.last = (λ i. nat_le (sym at i) (extent.to i)) ∙ starts_ordered c k range.last ascending below within in
+    let low : nat_le x.from a ≡ nat_le range.first k = (λ i. nat_le (extent.from i) (sym at i)) ∙ (starts_ordered c range.first k ascending (omega (arith, ordered, within)) below).1 in
+    let high : nat_le a x.to ≡ nat_le k range.last = (λ i. nat_le (sym at i) (extent.to i)) ∙ (starts_ordered c k range.last ascending below within).1 in
     (λ i. low i && high i) ∙ sym (begins_is c range k ascending below) ∙ ap (begins_in (starts_of c) range) at
 
 -- ---- exits

@@ -26,19 +26,8 @@ upper_same inside false rd value = refl
 
 straight_same : (inside is : ℕ → Bool) (at : ℕ) (o : Option Instr) → copy_size inside (straight_kind is at o) ≡ copy_size (λ a. true) (straight_kind is at o)
 straight_same inside is at None = refl
-straight_same inside is at (Some (instr.Lui rd imm)) = refl
 straight_same inside is at (Some (instr.Auipc rd imm)) = upper_same inside (is at) rd _
-straight_same inside is at (Some (instr.Jal rd off)) = refl
-straight_same inside is at (Some (instr.Jalr rd rs1 imm)) = refl
-straight_same inside is at (Some (instr.Branch kind rs1 rs2 off)) = refl
-straight_same inside is at (Some (instr.Load kind rd rs1 imm)) = refl
-straight_same inside is at (Some (instr.Store kind rs1 rs2 imm)) = refl
-straight_same inside is at (Some (instr.OpImm kind rd rs1 imm)) = refl
-straight_same inside is at (Some (instr.OpReg kind rd rs1 rs2)) = refl
-straight_same inside is at (Some (instr.Fence bits)) = refl
-straight_same inside is at (Some (instr.FenceI bits)) = refl
-straight_same inside is at (Some instr.Ecall) = refl
-straight_same inside is at (Some instr.Ebreak) = refl
+straight_same inside is at (Some i) = refl
 
 upper_none : (site : Bool) (rd value : ℕ) → leaving_words (if site then kind.Plain else kind.Upper rd value) ≡ 0
 upper_none true rd value = refl
@@ -55,28 +44,15 @@ zero_leaving inside t true = refl
 zero_leaving inside t false = refl
 
 branch_step : (b : Bool) → (if b then 1 else 3) ≡ 1 + (if b then 0 else 2)
-branch_step true = refl
-branch_step false = refl
+branch_step b = grind arith
 
 jump_step : (b : Bool) → (if b then 1 else 2) ≡ 1 + (if b then 0 else 1)
-jump_step true = refl
-jump_step false = refl
+jump_step b = grind arith
 
 branch_splits : (inside : ℕ → Bool) (t : ℕ) (o : Option Instr) → Splits inside (Some t) (branch_kind t o)
 branch_splits inside t None = zero_leaving inside t (inside t)
-branch_splits inside t (Some (instr.Lui rd imm)) = zero_leaving inside t (inside t)
-branch_splits inside t (Some (instr.Auipc rd imm)) = zero_leaving inside t (inside t)
-branch_splits inside t (Some (instr.Jal rd off)) = zero_leaving inside t (inside t)
-branch_splits inside t (Some (instr.Jalr rd rs1 imm)) = zero_leaving inside t (inside t)
 branch_splits inside t (Some (instr.Branch kind rs1 rs2 off)) = branch_step (inside t)
-branch_splits inside t (Some (instr.Load kind rd rs1 imm)) = zero_leaving inside t (inside t)
-branch_splits inside t (Some (instr.Store kind rs1 rs2 imm)) = zero_leaving inside t (inside t)
-branch_splits inside t (Some (instr.OpImm kind rd rs1 imm)) = zero_leaving inside t (inside t)
-branch_splits inside t (Some (instr.OpReg kind rd rs1 rs2)) = zero_leaving inside t (inside t)
-branch_splits inside t (Some (instr.Fence bits)) = zero_leaving inside t (inside t)
-branch_splits inside t (Some (instr.FenceI bits)) = zero_leaving inside t (inside t)
-branch_splits inside t (Some instr.Ecall) = zero_leaving inside t (inside t)
-branch_splits inside t (Some instr.Ebreak) = zero_leaving inside t (inside t)
+branch_splits inside t (Some i) = zero_leaving inside t (inside t)
 
 plus_none : (x y : ℕ) → x ≡ y → x ≡ y + 0
 plus_none x y same = omega (arith, same)
@@ -84,35 +60,13 @@ plus_none x y same = omega (arith, same)
 tail_same : (inside : ℕ → Bool) (t : ℕ) (o : Option Instr) → copy_size inside (tail_kind t o) ≡ copy_size (λ a. true) (tail_kind t o)
 tail_same inside t None = refl
 tail_same inside t (Some (instr.Lui rd imm)) = refl
-tail_same inside t (Some (instr.Auipc rd imm)) = refl
-tail_same inside t (Some (instr.Jal rd off)) = refl
-tail_same inside t (Some (instr.Jalr rd rs1 imm)) = refl
-tail_same inside t (Some (instr.Branch kind rs1 rs2 off)) = refl
-tail_same inside t (Some (instr.Load kind rd rs1 imm)) = refl
-tail_same inside t (Some (instr.Store kind rs1 rs2 imm)) = refl
-tail_same inside t (Some (instr.OpImm kind rd rs1 imm)) = refl
-tail_same inside t (Some (instr.OpReg kind rd rs1 rs2)) = refl
-tail_same inside t (Some (instr.Fence bits)) = refl
-tail_same inside t (Some (instr.FenceI bits)) = refl
-tail_same inside t (Some instr.Ecall) = refl
-tail_same inside t (Some instr.Ebreak) = refl
+tail_same inside t (Some i) = refl
 
 indirect_same : (inside : ℕ → Bool) (back : Option ℕ) (o : Option Instr) → copy_size inside (indirect_kind back o) ≡ copy_size (λ a. true) (indirect_kind back o)
 indirect_same inside None o = refl
 indirect_same inside (Some b) None = refl
 indirect_same inside (Some b) (Some (instr.Lui rd imm)) = refl
-indirect_same inside (Some b) (Some (instr.Auipc rd imm)) = refl
-indirect_same inside (Some b) (Some (instr.Jal rd off)) = refl
-indirect_same inside (Some b) (Some (instr.Jalr rd rs1 imm)) = refl
-indirect_same inside (Some b) (Some (instr.Branch kind rs1 rs2 off)) = refl
-indirect_same inside (Some b) (Some (instr.Load kind rd rs1 imm)) = refl
-indirect_same inside (Some b) (Some (instr.Store kind rs1 rs2 imm)) = refl
-indirect_same inside (Some b) (Some (instr.OpImm kind rd rs1 imm)) = refl
-indirect_same inside (Some b) (Some (instr.OpReg kind rd rs1 rs2)) = refl
-indirect_same inside (Some b) (Some (instr.Fence bits)) = refl
-indirect_same inside (Some b) (Some (instr.FenceI bits)) = refl
-indirect_same inside (Some b) (Some instr.Ecall) = refl
-indirect_same inside (Some b) (Some instr.Ebreak) = refl
+indirect_same inside (Some b) (Some i) = refl
 
 last_splits : (inside is : ℕ → Bool) (e : End) (u : Unit) → Splits inside (target_of e) (last_kind is e u)
 last_splits inside is (end.Fall next) u = plus_none _ _ (straight_same inside is u.at u.instr)

@@ -1,40 +1,9 @@
 -- The least and the greatest source of each block.
 use Rattle.std.proofs.Common.{◌≡◌, ◌∙◌, ◌⊎◌, inl, inr, ℕ, min, max, ◌<◌, ◌==◌, nat_lt, Bool, true, false, ◌&&◌, ◌||◌, List, set, length, refl, sym, ap, arith}
-use Rattle.std.specs.List.Sorted.{IsStrictlyIncreasing}
-use Rattle.std.proofs.lemmas.Bool.{cases_order}
 use Rattle.std.proofs.lemmas.Bool.Decides.{nat_tests}
-use Rattle.std.proofs.lemmas.List.{length-map, get_or-set_same, get_or-set_other}
-use Rattle.std.proofs.lemmas.List.Kept.{AllPairs-from_increasing}
-use Rattle.code_blocks.specs.Blocks.{start_of}
-use Rattle.code_blocks.specs.Numbers.{starts_of, start_at}
-use Rattle.code_blocks.specs.declared.parts.Code.{Code}
+use Rattle.std.proofs.lemmas.List.{get_or-set_same, get_or-set_other}
 use Rattle.block_splitter.specs.declared.block_form.Sources.{Sources}
-use Rattle.block_splitter.specs.Facts.{block_count, no_sources, sources_at}
-
--- ---- numbers and starts
-
-same_test : (x y k b : ℕ) → (k ≡ b → x ≡ y) → (k < b → x < y) → (b < k → y < x) → (x == y) ≡ (k == b)
-same_test x y k b same less more =
-    elim (cases_order k b) [
-      | inl here ↦ let e = same here in grind (arith, nat_tests, here, e)
-      | inr other ↦ elim other [
-        | inl lower ↦ let e = less lower in grind (arith, nat_tests, lower, e)
-        | inr higher ↦ let e = more higher in grind (arith, nat_tests, higher, e)
-      ]
-    ]
-
-pub start_less : (c : Code) (i j : ℕ) → IsStrictlyIncreasing (starts_of c) → i < j → j < block_count c → start_at c i < start_at c j
-start_less c i j ascending lower below =
-    let count = length-map c.blocks.items start_of in
-    AllPairs-from_increasing (starts_of c) ascending i j 0 lower (omega (arith, below, count))
-
--- an address is the start of block `b` just where the block that begins there is `b`
-pub is_number : (c : Code) (a k b : ℕ) → IsStrictlyIncreasing (starts_of c) → (k < block_count c) × (start_at c k ≡ a) → b < block_count c → (a == start_at c b) ≡ (k == b)
-is_number c a k b ascending (within, at) below =
-    same_test a (start_at c b) k b
-    (λ same. sym at ∙ ap (start_at c) same)
-    (λ lower. let less = start_less c k b ascending lower below in omega (arith, less, at))
-    (λ higher. let less = start_less c b k ascending higher within in omega (arith, less, at))
+use Rattle.block_splitter.specs.Facts.{no_sources, sources_at}
 
 -- ---- one source more
 

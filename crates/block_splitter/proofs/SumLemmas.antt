@@ -78,11 +78,7 @@ either_side first last a range true begins ends = grind (arith, nat_tests, begin
 either_side first last a range false begins ends = grind (arith, nat_tests, begins, ends)
 
 or_four : (a b c d : Bool) → (a || b) || (c || d) ≡ (a || c) || (b || d)
-or_four true b c d = refl
-or_four false true true d = refl
-or_four false true false d = refl
-or_four false false true d = refl
-or_four false false false d = refl
+or_four a b c d = grind arith
 
 -- a block outside leads to a block just where one below the range or one above it does
 pub from_outside : (range : BlockRange) (leads : ℕ → Bool) (n : ℕ) → any_below (λ a. not (holds_block a range) && leads a) n ≡ any_below (λ a. nat_lt a range.first && leads a) n || any_below (λ a. nat_lt range.last a && leads a) n

@@ -11,3 +11,4 @@ pub mod NumberLemmas
 pub mod CodeLemmas
 pub mod EntryLemmas
 pub mod OrderLemmas
+pub mod StartLemmas

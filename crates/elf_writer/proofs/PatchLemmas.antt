@@ -153,7 +153,8 @@ patches_loaded file ps new ms j d g a i none is below below_g from to is_place w
     changed_bytes_loaded file ps new ms g (a + i) none is below_g (has_there t a i from to within_word)
     ∙ word_written file ps new ms j d i (file_place v (a + i) g) (image_of v.segments (a + i)) none is below place within_word
 
-filled_by : (v : PlainView) (k g : ℕ) (s : PlainSection) → IsFilled v k g s (segment_at v g) ⊎ IsZeroed s (segment_at v g) → s.kind ≡ 1 → IsFilled v k g s (segment_at v g)
+-- a section with content is loaded by what fills it
+pub filled_by : (v : PlainView) (k g : ℕ) (s : PlainSection) → IsFilled v k g s (segment_at v g) ⊎ IsZeroed s (segment_at v g) → s.kind ≡ 1 → IsFilled v k g s (segment_at v g)
 filled_by v k g s (inl filled) kind = filled
 filled_by v k g s (inr zeroed) kind = absurd (omega (arith, kind, zeroed.kind))
 

@@ -6,7 +6,7 @@ use Rattle.std.proofs.lemmas.Bool.Decides.{nat_tests}
 use Rattle.std.proofs.lemmas.List.{map-append}
 use Rattle.std.proofs.lemmas.List.Elements.{All-nil, All-head, All-tail, All-push, All-map}
 use Rattle.list_checks.proofs.FirstLemmas.{both_none}
-use Rattle.elf_writer.proofs.Standing.{stands_range}
+use Rattle.elf_writer.proofs.Standing.{Stands, stands_range}
 use Rattle.elf_reader.specs.Layout.{program_header_count, program_header, program_header_in}
 use Rattle.elf_reader.specs.File.{PlainSegment, view_in, is_load, segment_of, segments_at, segments_below, load_segments}
 use Rattle.elf_reader.specs.Faults.{first_fault}
@@ -23,7 +23,7 @@ use Rattle.elf_writer.specs.View.{changed_segment, added_segment, numbered_behin
 use Rattle.elf_writer.proofs.FitLemmas.{numbers_below, number_within}
 use Rattle.elf_writer.proofs.WrittenLemmas.{ranges_written}
 use Rattle.elf_writer.proofs.HeaderRead.{header_is}
-use Rattle.elf_writer.proofs.TableRead.{program_header_stays, program_header_before, program_header_behind, has_table, new_read}
+use Rattle.elf_writer.proofs.TableRead.{program_header_stays, program_header_before, program_header_behind, IsLoadHeader, has_table, new_read}
 
 pub segments_hold : (file : List ℕ) → first_fault file ≡ None → HasSegments file
 segments_hold file none =
@@ -99,31 +99,25 @@ between_from file n (suc j) =
     (λ load. All-push (λ s. nat_lt s.index n ≡ false) (between file n j) (segment_of file (n + j) p) earlier from)
     (λ other. rw append-nil earlier)
 
+-- a segment that is loaded, with its content
+pub segment_loaded : (file : List ℕ) (k at place base memory flags : ℕ) (content : List ℕ) → IsLoadHeader file at place base (length content) memory flags → Stands file place content → (if is_load (program_header_in file at) then segment_of file k (program_header_in file at) ∷ [] else []) ≡ record { index = k; offset = place; vaddr = base; memsz = memory; flags = flags; content = content } ∷ []
+segment_loaded file k at place base memory flags content facts stands =
+    let p = program_header_in file at in
+    let load : is_load p ≡ true = ap (λ (n : ℕ). n == 1) facts.kind in
+    let end : p.p_offset + p.p_filesz ≡ place + length content = λ i. facts.offset i + facts.filesz i in
+    let read : slice_range file p.p_offset (p.p_offset + p.p_filesz) ≡ content = (λ i. slice_range file (facts.offset i) (end i)) ∙ stands_range file place content stands in
+    cond-true (is_load p) (segment_of file k p ∷ []) [] load
+    ∙ (λ i. record { index = k; offset = facts.offset i; vaddr = facts.vaddr i; memsz = facts.memsz i; flags = facts.flags_are i; content = read i } ∷ [])
+
 new_at : (file : List ℕ) (ps : List Patch) (s : NewSegment) (ms : List SymbolMove) → first_fault file ≡ None → IsWritable (view_in file) ps (Some s) ms → s.entry < 4294967296 → segments_at (written (view_in file) ps (Some s) ms) (new_number (view_in file) s) ≡ added_segment (view_in file) s ∷ []
 new_at file ps s ms none is entry =
     let v = view_in file in
     let out = written v ps (Some s) ms in
     let n = new_number v s in
-    let p = program_header_in out (table_place v + 32 * n) in
-    let found : program_header out n ≡ p = ap (λ at. program_header_in out (at + 32 * n)) (header_is file ps (Some s) ms none is entry).at_is in
-    let facts = new_read file ps s ms none is in
-    let load : is_load p ≡ true = ap (λ (k : ℕ). k == 1) facts.kind in
-    let end : p.p_offset + p.p_filesz ≡ content_place v + length s.content = λ i. facts.offset i + facts.filesz i in
-    let content : slice_range out p.p_offset (p.p_offset + p.p_filesz) ≡ s.content =
-    (λ i. slice_range out (facts.offset i) (end i)) ∙ stands_range out (content_place v) s.content (has_table file ps s ms none is).content
-    in
+    let at = table_place v + 32 * n in
+    let found : program_header out n ≡ program_header_in out at = ap (λ from. program_header_in out (from + 32 * n)) (header_is file ps (Some s) ms none is entry).at_is in
     (λ i. if is_load (found i) then segment_of out n (found i) ∷ [] else [])
-    ∙ (cond-true (is_load p) (segment_of out n p ∷ []) [] load
-    ∙ (λ i.
-    record {
-      index = n;
-      offset = facts.offset i;
-      vaddr = facts.vaddr i;
-      memsz = facts.memsz i;
-      flags = facts.flags i;
-      content = content i;
-    }
-    ∷ []))
+    ∙ segment_loaded out n at (content_place v) s.base (length s.content) 7 s.content (new_read file ps s ms none is) (has_table file ps s ms none is).content
 
 last_read : (file : List ℕ) (ps : List Patch) (s : NewSegment) (ms : List SymbolMove) (j : ℕ) → first_fault file ≡ None → IsWritable (view_in file) ps (Some s) ms → s.entry < 4294967296 → new_number (view_in file) s + j ≤ program_header_count file
     → segments_below (written (view_in file) ps (Some s) ms) (suc (new_number (view_in file) s + j))

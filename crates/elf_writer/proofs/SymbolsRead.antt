@@ -206,21 +206,20 @@ kept_byte out file symbols ms start i at r bytes stand is_at below other =
     bytes r (omega (arith, below))
     ∙ free_stays (moves_changes symbols ms) (at + r) (slice_index file (at + r)) (field_free symbols ms start i r (at + r) stand (omega (arith, is_at)) below other)
 
+word_off : (out file : List ℕ) (symbols : List PlainSymbol) (ms : List SymbolMove) (start i at r : ℕ) → BytesMoved out file symbols ms at → All (StandsFrom symbols start) ms → at ≡ start + 16 * i → ((k : ℕ) → k < 4 → (r + k < 14) × ((nat_le 4 (r + k) && nat_lt (r + k) 8) ≡ false)) → word_in out (at + r) ≡ word_in file (at + r)
+word_off out file symbols ms start i at r bytes stand is_at off =
+    word_alike out (at + r) file (at + r) 4 0 (at + r) (at + r)
+    (λ k below.
+    let same : at + (r + k) ≡ at + r + k = omega arith in
+    let here = kept_byte out file symbols ms start i at (r + k) bytes stand is_at (off k below).0 (off k below).1 in
+    sym (ap (slice_index out) same) ∙ (here ∙ ap (slice_index file) same))
+    (omega arith) (omega arith) (omega arith)
+
 kept_word : (out file : List ℕ) (symbols : List PlainSymbol) (ms : List SymbolMove) (start i at r : ℕ) → BytesMoved out file symbols ms at → All (StandsFrom symbols start) ms → at ≡ start + 16 * i → (r ≡ 0) ⊎ (r ≡ 8) → word_in out (at + r) ≡ word_in file (at + r)
 kept_word out file symbols ms start i at r bytes stand is_at (inl first) =
-    word_alike out (at + r) file (at + r) 4 0 (at + r) (at + r)
-    (λ k below.
-    let same : at + (r + k) ≡ at + r + k = omega arith in
-    let here = kept_byte out file symbols ms start i at (r + k) bytes stand is_at (omega (arith, first, below)) (grind (arith, nat_tests, first, below)) in
-    sym (ap (slice_index out) same) ∙ (here ∙ ap (slice_index file) same))
-    (omega arith) (omega arith) (omega arith)
+    word_off out file symbols ms start i at r bytes stand is_at (λ k below. (omega (arith, first, below), grind (arith, nat_tests, first, below)))
 kept_word out file symbols ms start i at r bytes stand is_at (inr later) =
-    word_alike out (at + r) file (at + r) 4 0 (at + r) (at + r)
-    (λ k below.
-    let same : at + (r + k) ≡ at + r + k = omega arith in
-    let here = kept_byte out file symbols ms start i at (r + k) bytes stand is_at (omega (arith, later, below)) (grind (arith, nat_tests, later, below)) in
-    sym (ap (slice_index out) same) ∙ (here ∙ ap (slice_index file) same))
-    (omega arith) (omega arith) (omega arith)
+    word_off out file symbols ms start i at r bytes stand is_at (λ k below. (omega (arith, later, below), grind (arith, nat_tests, later, below)))
 
 -- the bytes of the fields that moves change
 value_bytes : (file : List ℕ) (at : ℕ) → word_in file (at + 4) ≡ word_of (slice_index file (at + 4)) (slice_index file (at + 5)) (slice_index file (at + 6)) (slice_index file (at + 7))

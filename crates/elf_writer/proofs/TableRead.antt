@@ -3,11 +3,11 @@ use Rattle.std.proofs.Common.{◌≡◌, ◌∙◌, ℕ, ◌+◌, ◌-◌, ◌*�
 use Rattle.std.specs.List.{All}
 use Rattle.std.proofs.lemmas.List.Elements.{All-nil, All-append}
 use Rattle.list_checks.specs.Tests.{ranges_overlap}
-use Rattle.elf_writer.specs.Pieces.{zero_bytes, padding}
+use Rattle.elf_writer.specs.Pieces.{IsWord, words_bytes, zero_bytes, padding}
 use Rattle.elf_writer.proofs.ZeroLemmas.{length-zero_bytes}
 use Rattle.elf_writer.proofs.Standing.{Stands, stands_whole, stands_first, stands_behind, byte_there, words_there}
 use Rattle.elf_reader.specs.Layout.{file_header, program_header_count, program_header_in, program_header, section_count, section_header}
-use Rattle.elf_reader.specs.File.{PlainSection, PlainView, view_in}
+use Rattle.elf_reader.specs.File.{PlainSection, view_in}
 use Rattle.elf_reader.specs.Faults.{first_fault}
 use Rattle.elf_reader.proofs.LoadedLemmas.{length_sections, section_is, byte_of_range}
 use Rattle.elf_reader.specs.Loaded.{no_section}
@@ -141,32 +141,32 @@ program_header_behind file ps s ms j none is entry below =
     ∙ (ap (program_header_in out) from
     ∙ (program_header_alike out (place + 32 * j) file (record_place v n + 32 * j) here ∙ ap (program_header_in file) to))
 
--- the new one
-pub record IsNew (v : PlainView) (s : NewSegment) (out : List ℕ) (at : ℕ) : Type 0 where
+-- the program header at a place, of a segment that is loaded
+pub record IsLoadHeader (out : List ℕ) (at place base size memory flags : ℕ) : Type 0 where
   pub kind : (program_header_in out at).p_type ≡ 1
-  pub offset : (program_header_in out at).p_offset ≡ content_place v
-  pub vaddr : (program_header_in out at).p_vaddr ≡ s.base
-  pub filesz : (program_header_in out at).p_filesz ≡ length s.content
-  pub memsz : (program_header_in out at).p_memsz ≡ length s.content
-  pub flags : (program_header_in out at).p_flags ≡ 7
+  pub offset : (program_header_in out at).p_offset ≡ place
+  pub vaddr : (program_header_in out at).p_vaddr ≡ base
+  pub filesz : (program_header_in out at).p_filesz ≡ size
+  pub memsz : (program_header_in out at).p_memsz ≡ memory
+  pub flags_are : (program_header_in out at).p_flags ≡ flags
 
-new_there : (v : PlainView) (s : NewSegment) (out : List ℕ) (at : ℕ) → content_place v < 4294967296 → s.base < 4294967296 → length s.content < 4294967296 → Stands out at (new_record v s) → IsNew v s out at
+pub load_header_there : (out : List ℕ) (at place base size memory flags : ℕ) → IsWord place → IsWord base → IsWord size → IsWord memory → IsWord flags → Stands out at (words_bytes (1 ∷ place ∷ base ∷ base ∷ size ∷ memory ∷ flags ∷ 4 ∷ [])) → IsLoadHeader out at place base size memory flags
 unfolding program_header_in
-new_there v s out at place_fits base_fits size_fits h =
-    let words : List ℕ = 1 ∷ content_place v ∷ s.base ∷ s.base ∷ length s.content ∷ length s.content ∷ 7 ∷ 4 ∷ [] in
+load_header_there out at place base size memory flags place_fits base_fits size_fits memory_fits flags_fit h =
+    let words : List ℕ = 1 ∷ place ∷ base ∷ base ∷ size ∷ memory ∷ flags ∷ 4 ∷ [] in
     record {
       kind = words_there out at at words 0 (omega arith) (omega arith) (omega arith) h;
       offset = words_there out at (at + 4) words 1 refl (omega arith) place_fits h;
       vaddr = words_there out at (at + 8) words 2 refl (omega arith) base_fits h;
       filesz = words_there out at (at + 16) words 4 refl (omega arith) size_fits h;
-      memsz = words_there out at (at + 20) words 5 refl (omega arith) size_fits h;
-      flags = words_there out at (at + 24) words 6 refl (omega arith) (omega arith) h;
+      memsz = words_there out at (at + 20) words 5 refl (omega arith) memory_fits h;
+      flags_are = words_there out at (at + 24) words 6 refl (omega arith) flags_fit h;
     }
 
-pub new_read : (file : List ℕ) (ps : List Patch) (s : NewSegment) (ms : List SymbolMove) → first_fault file ≡ None → IsWritable (view_in file) ps (Some s) ms → IsNew (view_in file) s (written (view_in file) ps (Some s) ms) (table_place (view_in file) + 32 * new_number (view_in file) s)
+pub new_read : (file : List ℕ) (ps : List Patch) (s : NewSegment) (ms : List SymbolMove) → first_fault file ≡ None → IsWritable (view_in file) ps (Some s) ms → IsLoadHeader (written (view_in file) ps (Some s) ms) (table_place (view_in file) + 32 * new_number (view_in file) s) (content_place (view_in file)) s.base (length s.content) (length s.content) 7
 new_read file ps s ms none is =
     let v = view_in file in
     let fit = table_inside_file file ps s ms none is in
     let short = fit.short in
     let ends = is.allowed.ends in
-    new_there v s (written v ps (Some s) ms) (table_place v + 32 * new_number v s) (omega (arith, short)) (omega (arith, ends)) (omega (arith, short)) (has_table file ps s ms none is).here
+    load_header_there (written v ps (Some s) ms) (table_place v + 32 * new_number v s) (content_place v) s.base (length s.content) (length s.content) 7 (omega (arith, short)) (omega (arith, ends)) (omega (arith, short)) (omega (arith, short)) (omega arith) (has_table file ps s ms none is).here

@@ -258,19 +258,10 @@ came_is c g t board q ms p run =
 
 -- control comes from outside, or stays with the transition before
 parts_begun : (held begun internal : Bool) → ◌≡◌ {A = ℕ} (if held then (if begun then 1 else 0) else 0) ((if held then (if begun && not internal then 1 else 0) else 0) + (if held then (if begun && internal then 1 else 0) else 0))
-parts_begun true true true = refl
-parts_begun true true false = refl
-parts_begun true false internal = refl
-parts_begun false begun internal = refl
+parts_begun held begun internal = grind arith
 
 held_next : (held begun internal next : Bool) → (begun ≡ true → held ≡ next) → ◌≡◌ {A = ℕ} (if held then (if begun && internal then 1 else 0) else 0) (if internal then (if begun then (if next then 1 else 0) else 0) else 0)
-held_next held true true next same = ap (λ (x : Bool). if x then 1 else 0) (same refl)
-held_next true true false next same = refl
-held_next false true false next same = refl
-held_next true false true next same = refl
-held_next false false true next same = refl
-held_next true false false next same = refl
-held_next false false false next same = refl
+held_next held begun internal next same = grind (arith, same)
 
 begun_parts : (w : Scene) (p : BlockRange) (ms : List Transition) (j : ℕ) → Follows w ms → j < length ms → sum_below (begun_at w p ms) (suc j) ≡ sum_below (outside_at w p ms) (suc j) + sum_below (stays_at w p ms) j
 begun_parts w p ms zero all below =

@@ -33,12 +33,10 @@ use Rattle.energy_model.proofs.WordLemmas.{IsCountedRun, words_ran, block_counte
 -- ---- a step in a copy: its words where all is of the copy, and those by which control leaves it
 
 out_words : (b : Bool) → (if b then 3 else 1) ≡ 1 + (if b then 2 else 0)
-out_words true = refl
-out_words false = refl
+out_words b = grind arith
 
 jump_words : (b : Bool) → (if b then 1 else 2) ≡ 1 + (if b then 0 else 1)
-jump_words true = refl
-jump_words false = refl
+jump_words b = grind arith
 
 split_words : (inside : ℕ → Bool) (next : ℕ) (kind : UnitKind) → copied_words inside next kind ≡ copy_size (λ a. true) kind + exit_words inside next kind
 split_words inside next Plain = refl
@@ -57,19 +55,8 @@ upper_exit false inside next rd value = refl
 
 pub straight_stays : (sites inside : ℕ → Bool) (next at : ℕ) (i : Option Instr) → exit_words inside next (straight_kind sites at i) ≡ 0
 straight_stays sites inside next at None = refl
-straight_stays sites inside next at (Some (instr.Lui rd imm)) = refl
 straight_stays sites inside next at (Some (instr.Auipc rd imm)) = upper_exit (sites at) inside next rd _
-straight_stays sites inside next at (Some (instr.Jal rd off)) = refl
-straight_stays sites inside next at (Some (instr.Jalr rd rs1 imm)) = refl
-straight_stays sites inside next at (Some (instr.Branch kind rs1 rs2 off)) = refl
-straight_stays sites inside next at (Some (instr.Load kind rd rs1 imm)) = refl
-straight_stays sites inside next at (Some (instr.Store kind rs1 rs2 imm)) = refl
-straight_stays sites inside next at (Some (instr.OpImm kind rd rs1 imm)) = refl
-straight_stays sites inside next at (Some (instr.OpReg kind rd rs1 rs2)) = refl
-straight_stays sites inside next at (Some (instr.Fence bits)) = refl
-straight_stays sites inside next at (Some (instr.FenceI bits)) = refl
-straight_stays sites inside next at (Some instr.Ecall) = refl
-straight_stays sites inside next at (Some instr.Ebreak) = refl
+straight_stays sites inside next at (Some i) = refl
 
 last_exit : (last : Bool) (x y : ℕ) (first second : UnitKind) (inside : ℕ → Bool) (next : ℕ) → exit_words inside next second ≡ 0 → exit_words inside next (if last then first else second) + (if last then x else 0) ≡ (if last then exit_words inside next (if last then first else second) + x else 0)
 last_exit true x y first second inside next none = refl

@@ -30,23 +30,10 @@ add_times : (c d x : ℕ) → (c + d) * x ≡ c * x + d * x
 add_times c d x = grind arith
 
 times_edge : (go same under here : Bool) (x : ℕ) → under ≡ true → (if go && same && (under && here) then 1 else 0) * x ≡ (if here then (if go && same then x else 0) else 0)
-times_edge true true true true x is = omega arith
-times_edge true true true false x is = omega arith
-times_edge true false true true x is = omega arith
-times_edge true false true false x is = omega arith
-times_edge false same true true x is = omega arith
-times_edge false same true false x is = omega arith
-times_edge go same false here x is = cc
+times_edge go same under here x is = grind (arith, is)
 
 swapped : (go same under : Bool) (x : ℕ) → (if under then (if go && same then x else 0) else 0) ≡ (if same then (if go && under then x else 0) else 0)
-swapped true true true x = refl
-swapped true true false x = refl
-swapped true false true x = refl
-swapped true false false x = refl
-swapped false true true x = refl
-swapped false true false x = refl
-swapped false false true x = refl
-swapped false false false x = refl
+swapped go same under x = grind arith
 
 counted_from : (starts : List ℕ) (ms : List Transition) (a n : ℕ) (value : ℕ → ℕ) → sum_below (λ b. count_below (is_edge starts ms a b) n * value b) (length starts) ≡ sum_below (λ i. if block_of starts ms i == a then (if crosses starts ms i then value (next_number starts ms i) else 0) else 0) n
 counted_from starts ms a zero value = sum_zero (λ b. 0 * value b) (length starts) (λ b below. omega arith)

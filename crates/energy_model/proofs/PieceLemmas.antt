@@ -105,35 +105,13 @@ few_stay c g q range b counts held below may =
 tail_stays : (inside : ℕ → Bool) (next target : ℕ) (i : Option Instr) → exit_words inside next (tail_kind target i) ≡ 0
 tail_stays inside next target None = refl
 tail_stays inside next target (Some (instr.Lui rd imm)) = refl
-tail_stays inside next target (Some (instr.Auipc rd imm)) = refl
-tail_stays inside next target (Some (instr.Jal rd off)) = refl
-tail_stays inside next target (Some (instr.Jalr rd rs1 imm)) = refl
-tail_stays inside next target (Some (instr.Branch kind rs1 rs2 off)) = refl
-tail_stays inside next target (Some (instr.Load kind rd rs1 imm)) = refl
-tail_stays inside next target (Some (instr.Store kind rs1 rs2 imm)) = refl
-tail_stays inside next target (Some (instr.OpImm kind rd rs1 imm)) = refl
-tail_stays inside next target (Some (instr.OpReg kind rd rs1 rs2)) = refl
-tail_stays inside next target (Some (instr.Fence bits)) = refl
-tail_stays inside next target (Some (instr.FenceI bits)) = refl
-tail_stays inside next target (Some instr.Ecall) = refl
-tail_stays inside next target (Some instr.Ebreak) = refl
+tail_stays inside next target (Some i) = refl
 
 indirect_stays : (inside : ℕ → Bool) (next : ℕ) (back : Option ℕ) (i : Option Instr) → exit_words inside next (indirect_kind back i) ≡ 0
 indirect_stays inside next None i = refl
 indirect_stays inside next (Some back) None = refl
 indirect_stays inside next (Some back) (Some (instr.Lui rd imm)) = refl
-indirect_stays inside next (Some back) (Some (instr.Auipc rd imm)) = refl
-indirect_stays inside next (Some back) (Some (instr.Jal rd off)) = refl
-indirect_stays inside next (Some back) (Some (instr.Jalr rd rs1 imm)) = refl
-indirect_stays inside next (Some back) (Some (instr.Branch kind rs1 rs2 off)) = refl
-indirect_stays inside next (Some back) (Some (instr.Load kind rd rs1 imm)) = refl
-indirect_stays inside next (Some back) (Some (instr.Store kind rs1 rs2 imm)) = refl
-indirect_stays inside next (Some back) (Some (instr.OpImm kind rd rs1 imm)) = refl
-indirect_stays inside next (Some back) (Some (instr.OpReg kind rd rs1 rs2)) = refl
-indirect_stays inside next (Some back) (Some (instr.Fence bits)) = refl
-indirect_stays inside next (Some back) (Some (instr.FenceI bits)) = refl
-indirect_stays inside next (Some back) (Some instr.Ecall) = refl
-indirect_stays inside next (Some back) (Some instr.Ebreak) = refl
+indirect_stays inside next (Some back) (Some i) = refl
 
 closed_words : (sites inside : ℕ → Bool) (next : ℕ) (e : End) (u : Unit) → may_stay e ≡ false → leaving_words inside next (last_kind sites e u) e ≡ 0
 closed_words sites inside next (end.Fall behind) u closed = cc

@@ -49,19 +49,18 @@ copy_fetches w piece ms i =
     fetched_in_copy w piece ms i * w.board.prices.spm_fetch
     + (if comes_in w piece ms i then 3 * w.board.prices.main_fetch else 0)
 
+abbrev pub price_in : Bool → Scene → List Transition → VarName → ℕ → ℕ
+price_in fast w ms (StaticData o) i = touch_price w.board.prices fast o (transition_at ms i).access
+price_in fast w ms (StaticCode first last) i =
+    if is_held w (range first last) ms i then (if fast then copy_fetches w (range first last) ms i else home_fetches w (range first last) ms i) else 0
+price_in fast w ms (OverlayData r o) i = 0
+price_in fast w ms (OverlayCode r first last) i = 0
+
 abbrev pub slow_price : Scene → List Transition → VarName → ℕ → ℕ
-slow_price w ms (StaticData o) i = touch_price w.board.prices false o (transition_at ms i).access
-slow_price w ms (StaticCode first last) i =
-    if is_held w (range first last) ms i then home_fetches w (range first last) ms i else 0
-slow_price w ms (OverlayData r o) i = 0
-slow_price w ms (OverlayCode r first last) i = 0
+slow_price = price_in false
 
 abbrev pub fast_price : Scene → List Transition → VarName → ℕ → ℕ
-fast_price w ms (StaticData o) i = touch_price w.board.prices true o (transition_at ms i).access
-fast_price w ms (StaticCode first last) i =
-    if is_held w (range first last) ms i then copy_fetches w (range first last) ms i else 0
-fast_price w ms (OverlayData r o) i = 0
-fast_price w ms (OverlayCode r first last) i = 0
+fast_price = price_in true
 
 -- ---- an item that has nothing in common with others
 

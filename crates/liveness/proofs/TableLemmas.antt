@@ -1,11 +1,10 @@
 -- What is read of a table of live registers, and how one is made.
-use Rattle.std.proofs.Common.{◌≡◌, ◌⊎◌, inl, inr, ℕ, ◌+◌, ◌<◌, ◌≤◌, Bool, true, false, List, [], ◌∷◌, ◌++◌, length, replicate, slice_set, slice_index_or, Option, Some, None, Vec, refl, sym, ap, subst, ◌∙◌, arith}
+use Rattle.std.proofs.Common.{◌≡◌, ◌⊎◌, inl, inr, ℕ, ◌+◌, ◌<◌, Bool, true, false, List, [], ◌∷◌, ◌++◌, length, replicate, slice_set, slice_index_or, Option, Some, None, Vec, refl, sym, ap, subst, ◌∙◌, arith}
 use Rattle.std.specs.Prelude.{◌↔◌}
 use Rattle.std.specs.Global.{Global}
 use Rattle.std.specs.List.Sorted.{IsStrictlyIncreasing}
 use Rattle.std.proofs.lemmas.Bool.{cases_eq, cases_lt}
-use Rattle.std.proofs.lemmas.List.{get_or-map, length-map, get_or_past, get_or-replicate, length-replicate, get_or-set_same, get_or-set_other, map-append, get_or_append_left, get_or_push, length_push}
-use Rattle.std.proofs.lemmas.List.Kept.{AllPairs-from_increasing}
+use Rattle.std.proofs.lemmas.List.{get_or-map, length-map, get_or_past, get_or-set_same, get_or-set_other, map-append, get_or_append_left, get_or_push, length_push}
 use Rattle.rv_decode.specs.declared.instructions.RegSet.{RegSet}
 use Rattle.code_leaders.specs.Early.{has}
 use Rattle.code_blocks.specs.Blocks.{start_of}
@@ -14,7 +13,7 @@ use Rattle.code_blocks.specs.declared.parts.Block.{Block}
 use Rattle.code_blocks.specs.declared.parts.Code.{Code}
 use Rattle.reach_graph.specs.declared.edges.Edge.{Edge}
 use Rattle.reach_graph.specs.Reaching.{HasMark, word_at, edges_of, row_items, plain_rows, AreInside}
-use Rattle.reach_graph.proofs.MarkLemmas.{none_in_zero}
+use Rattle.reach_graph.proofs.MarkLemmas.{none_in_zero, none_in_zeros}
 use Rattle.code_blocks.specs.Leads.{units_in, units_at, IsBlockOf}
 use Rattle.liveness.specs.Live.{LiveAt, Live}
 use Rattle.liveness.specs.Summaries.{UsedFirst}
@@ -24,14 +23,6 @@ use Rattle.liveness.specs.Tables.{AreLive, IsFree, IsLeastDead}
 use Rattle.liveness.proofs.EdgeLemmas.{is_start, one_start}
 
 -- ---- a table that is read
-
--- numbers that rise do not fall
-pub not_falling : (xs : List ℕ) → IsStrictlyIncreasing xs → (i j : ℕ) → i ≤ j → j < length xs → slice_index_or xs i 0 ≤ slice_index_or xs j 0
-not_falling xs rise i j before below =
-    elim (cases_lt i j) [
-      | inl lower ↦ let less = AllPairs-from_increasing xs rise i j 0 lower below in omega (arith, less)
-      | inr behind ↦ let same : i ≡ j = omega (arith, before, behind) in rw same (omega arith)
-    ]
 
 live_of : (c : Code) (leaders : List ℕ) (leader i x : ℕ) → leaders ≡ starts_of c → IsStrictlyIncreasing leaders → IsBlockOf c i → start_at c i ≡ leader → Live c leader x → LiveAt c x i 0
 live_of c leaders leader i x same ascending inside begins live =
@@ -82,16 +73,9 @@ module _ (c : Code) (leader : ℕ) (avoid : RegSet) (word taken : ℕ) (live : (
 
 -- ---- the marks of blocks
 
-word_of_zeros : (n b : ℕ) → word_at (replicate n 0) b ≡ 0
-word_of_zeros n b =
-    elim (cases_lt b n) [
-      | inl below ↦ get_or-replicate n b 0 0 below
-      | inr past ↦ get_or_past (replicate n 0) b 0 (omega (arith, past, length-replicate {A = ℕ} n 0))
-    ]
-
 pub no_marks : (c : Code) (n : ℕ) (words : List ℕ) → words ≡ replicate n 0 → AreMarks c 0 words
 no_marks c n words same b x low = (
-  λ has. absurd (none_in_zero x (subst (λ (w : ℕ). HasMark w x) (ap (λ (ws : List ℕ). word_at ws b) same ∙ word_of_zeros n b) has)),
+  λ has. absurd (none_in_zeros n b x words same has),
   λ told. let below = told.0 in absurd (omega (arith, below)),
 )
 

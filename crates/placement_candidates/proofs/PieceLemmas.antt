@@ -189,12 +189,17 @@ pieces_few c g (p ∷ pieces) blocks are =
 abs_difference : (a b bound : ℕ) → a ≤ bound → b ≤ bound → unsigned_abs (pos a -ℤ pos b) ≤ bound
 abs_difference a b bound first second = omega (arith, ints, first, second)
 
+-- what a copy of so many words costs at most
+pub job_within : (prices : Prices) (n most : ℕ) → AreLawfulPrices prices → n ≤ most → into_price prices n ≤ (6 + 5 * most) * 10000 + most * 10000 + most * 10000
+job_within prices n most lawful few =
+    let fetches = mul-le (6 + 5 * n) prices.main_fetch (6 + 5 * most) 10000 (omega (arith, few)) lawful.main_fetch in
+    let reads = mul-le n prices.main_read most 10000 few lawful.main_read in
+    let writes = mul-le n prices.spm_write most 10000 few lawful.spm_write in
+    omega (arith, fetches, reads, writes)
+
 copy_job_small : (prices : Prices) (n : ℕ) → AreLawfulPrices prices → n ≤ 4096 → into_price prices n ≤ 400000000
 copy_job_small prices n lawful few =
-    let fetches = mul-le (6 + 5 * n) prices.main_fetch (6 + 5 * 4096) 10000 (omega (arith, few)) lawful.main_fetch in
-    let reads = mul-le n prices.main_read 4096 10000 few lawful.main_read in
-    let writes = mul-le n prices.spm_write 4096 10000 few lawful.spm_write in
-    omega (arith, fetches, reads, writes)
+    let within = job_within prices n 4096 lawful few in omega (arith, within)
 
 pub code_gain_small : (c : Code) (g : Graph) (q : Profile) (prices : Prices) (p : Piece) → CountsCode c g q → AreLawfulPrices prices → CanCountPiece c p → unsigned_abs (counted_code_gain prices q c g p) ≤ 100000000000000000
 code_gain_small c g q prices p counts lawful can =

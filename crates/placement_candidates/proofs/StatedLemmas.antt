@@ -44,7 +44,7 @@ use Rattle.energy_model.proofs.CountsLemmas.{counts_code}
 use Rattle.energy_model.proofs.BaseLemmas.{few_transitions, base_stated, home_small, counts_energy}
 use Rattle.placement_candidates.proofs.LimitLemmas.{blocks_few, objects_few}
 use Rattle.placement_candidates.proofs.SpanLemmas.{spans_small}
-use Rattle.placement_candidates.proofs.PieceLemmas.{code_vars_counted, can_count_piece, pieces_few, code_gains_small, code_vars_weigh}
+use Rattle.placement_candidates.proofs.PieceLemmas.{job_within, code_vars_counted, can_count_piece, pieces_few, code_gains_small, code_vars_weigh}
 
 abbrev Given : ElfView → Board → Graph → Code → RegionTable → Profile → List Transition → Type 0
 Given view board g c t q ms = AreOfSameFile view board g c t q ms
@@ -196,10 +196,7 @@ accesses_small reads writes read write first second third fourth =
 
 job_small : (prices : Prices) (n : ℕ) → AreLawfulPrices prices → n ≤ 4294967296 → into_price prices n ≤ 400000000000000
 job_small prices n lawful few =
-    let fetches = mul-le (6 + 5 * n) prices.main_fetch (6 + 5 * 4294967296) 10000 (omega (arith, few)) lawful.main_fetch in
-    let reads = mul-le n prices.main_read 4294967296 10000 few lawful.main_read in
-    let writes = mul-le n prices.spm_write 4294967296 10000 few lawful.spm_write in
-    omega (arith, fetches, reads, writes)
+    let within = job_within prices n 4294967296 lawful few in omega (arith, within)
 
 gain_small : (view : ElfView) (board : Board) (g : Graph) (c : Code) (t : RegionTable) (q : Profile) (ms : List Transition) (k : ℕ) → Given view board g c t q ms → k < length g.objects.items → unsigned_abs (counted_gain board.prices q g k) ≤ 500000000000000
 gain_small view board g c t q ms k given below =

@@ -1,21 +1,21 @@
 -- Nodes and their marks, in lists that grow at their ends.
-use Rattle.std.proofs.Common.{◌≡◌, ◌≢◌, inl, inr, ℕ, zero, suc, ◌+◌, ◌*◌, ◌%◌, ◌^◌, ◌<◌, ◌≤◌, ◌==◌, true, false, if◌then◌else◌, List, [], ◌∷◌, ◌++◌, length, slice_index_or, slice_set, replicate, refl, sym, ◌∙◌, ap, subst, arith}
+use Rattle.std.proofs.Common.{◌≡◌, ◌≢◌, inl, inr, ℕ, zero, suc, ◌+◌, ◌*◌, ◌%◌, ◌^◌, ◌<◌, ◌==◌, true, false, if◌then◌else◌, List, [], ◌∷◌, ◌++◌, length, slice_index_or, slice_set, replicate, refl, sym, ◌∙◌, ap, subst, arith}
 use Rattle.std.specs.Prelude.{◌↔◌, IsTrue}
 use Rattle.std.specs.List.{AllPairs, list_any}
 use Rattle.std.specs.List.Sorted.{IsStrictlyIncreasing}
-use Rattle.std.proofs.lemmas.Bool.{cases_eq, cases_lt, eq-eqb}
+use Rattle.std.proofs.lemmas.Bool.{cases_eq, eq-eqb}
 use Rattle.std.proofs.lemmas.Bool.Decides.{nat_tests}
 use Rattle.std.specs.Int.{bit_at}
 use Rattle.std.proofs.lemmas.Nat.{one_shl}
 use Rattle.std.proofs.lemmas.Nat.Bits.{bit_at-pow_same, bit_at-pow_other}
-use Rattle.std.proofs.lemmas.List.{get_or_append_left, get_or_push, length_push, get_or_past, get_or-replicate, length-replicate, get_or-set_same, get_or-set_other}
+use Rattle.std.proofs.lemmas.List.{get_or_append_left, get_or_push, length_push, get_or-set_same, get_or-set_other}
 use Rattle.std.proofs.lemmas.List.Kept.{AllPairs-from_increasing}
 use Rattle.std.proofs.lemmas.List.Quantifiers.{all_pairs_push}
 use Rattle.list_checks.proofs.TestLemmas.{neither}
 use Rattle.code_leaders.specs.Early.{has}
 use Rattle.reach_graph.specs.Reaching.{HasMark, word_at, Reaches}
 use Rattle.reach_graph.specs.declared.edges.Edge.{Edge}
-use Rattle.reach_graph.proofs.MarkLemmas.{none_in_zero}
+use Rattle.reach_graph.proofs.MarkLemmas.{none_in_zero, none_in_zeros}
 use Rattle.points_to.specs.Nodes.{memory}
 use Rattle.points_to.specs.Tables.{word_of, Kept, AreKept, Keeps, Begins, IsReached}
 
@@ -120,30 +120,15 @@ listed_pairs (y ∷ nodes) (v ∷ words) (suc i) m pairs same inside is =
 pub listed : (nodes words : List ℕ) (i m : ℕ) → IsStrictlyIncreasing nodes → length words ≡ length nodes → i < length nodes → slice_index_or nodes i 0 ≡ m → word_of nodes words m ≡ word_at words i
 listed nodes words i m rise same inside is = listed_pairs nodes words i m (AllPairs-from_increasing nodes rise) same inside is
 
--- numbers that rise do not fall
-pub not_falling : (xs : List ℕ) → IsStrictlyIncreasing xs → (i j : ℕ) → i ≤ j → j < length xs → slice_index_or xs i 0 ≤ slice_index_or xs j 0
-not_falling xs rise i j before below =
-    elim (cases_lt i j) [
-      | inl lower ↦ let less = AllPairs-from_increasing xs rise i j 0 lower below in omega (arith, less)
-      | inr behind ↦ let same : i ≡ j = omega (arith, before, behind) in rw same (omega arith)
-    ]
-
 -- a word of no marks
 pub no_mark : (w k : ℕ) → w ≡ 0 → IsTrue false ↔ HasMark w k
 no_mark w k none = (λ never. absurd cc, λ mark. absurd (none_in_zero k (subst (λ (v : ℕ). HasMark v k) none mark)))
 
 -- ---- marks to begin with
 
-word_of_zeros : (n b : ℕ) → word_at (replicate n 0) b ≡ 0
-word_of_zeros n b =
-    elim (cases_lt b n) [
-      | inl below ↦ get_or-replicate n b 0 0 below
-      | inr past ↦ get_or_past (replicate n 0) b 0 (omega (arith, past, length-replicate {A = ℕ} n 0))
-    ]
-
 pub begun_none : (first n : ℕ) (marks : List ℕ) → marks ≡ replicate n 0 → Begins first 0 marks
 begun_none first n marks bare = record {
-  only = λ m k has. absurd (none_in_zero k (subst (λ (w : ℕ). HasMark w k) (ap (λ (ws : List ℕ). word_at ws m) bare ∙ word_of_zeros n m) has));
+  only = λ m k has. absurd (none_in_zeros n m k marks bare has);
   there = λ k low. absurd (omega (arith, low));
 }
 

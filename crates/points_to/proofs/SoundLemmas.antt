@@ -132,6 +132,16 @@ module _ (c : Code) (g : Graph) (o : ℕ) where
             ])
       ]
 
+  unit_next : (u : Unit) (us : List Unit) (b k : ℕ) → drop k (units_at c b) ≡ u ∷ us → (k < length (units_at c b)) × (u ≡ unit_of c b k) × (drop (suc k) (units_at c b) ≡ us)
+  unit_next u us b k is =
+      let left = length-drop k (units_at c b) in
+      let long : length (drop k (units_at c b)) ≡ suc (length us) = ap length is in
+      let inside : k < length (units_at c b) = omega (arith, left, long) in
+      let parts : unit_of c b k ∷ drop (suc k) (units_at c b) ≡ u ∷ us = sym (drop-cons (units_at c b) k no_unit inside) ∙ is in
+      let unit : u ≡ unit_of c b k = cc parts in
+      let rest : drop (suc k) (units_at c b) ≡ us = cc parts in
+      (inside, unit, rest)
+
   -- where a block leads from a register that holds an address
   record Comes (b y : ℕ) : Type 0 where
     register : 0 < y → Derives c g o (Held b (length (units_at c b)) y)
@@ -147,12 +157,7 @@ module _ (c : Code) (g : Graph) (o : ℕ) where
         escapes = λ zero_place. absurd (omega (arith, some, leads, zero_place));
       }
   comes (u ∷ us) b k x y within is holder leads held =
-      let left = length-drop k (units_at c b) in
-      let long : length (drop k (units_at c b)) ≡ suc (length us) = ap length is in
-      let inside : k < length (units_at c b) = omega (arith, left, long) in
-      let parts : unit_of c b k ∷ drop (suc k) (units_at c b) ≡ u ∷ us = sym (drop-cons (units_at c b) k no_unit inside) ∙ is in
-      let unit : u ≡ unit_of c b k = cc parts in
-      let rest : drop (suc k) (units_at c b) ≡ us = cc parts in
+      let (inside, unit, rest) = unit_next u us b k is in
       elim leads [
         | inl (place, stores) ↦
             let here = subst (λ (v : Unit). x ≡ stored_by v.instr) unit stores in record {
@@ -188,12 +193,7 @@ module _ (c : Code) (g : Graph) (o : ℕ) where
   unit_sound : (us : List Unit) (b k f t : ℕ) → IsBlockOf c b → k ≤ length (units_at c b) → drop k (units_at c b) ≡ us → UnitEdges n b g.sites.items us f t → Reports c g o f → Reports c g o t
   unit_sound [] b k f t below within is edge from = absurd edge
   unit_sound (u ∷ us) b k f t below within is edge from =
-      let left = length-drop k (units_at c b) in
-      let long : length (drop k (units_at c b)) ≡ suc (length us) = ap length is in
-      let inside : k < length (units_at c b) = omega (arith, left, long) in
-      let parts : unit_of c b k ∷ drop (suc k) (units_at c b) ≡ u ∷ us = sym (drop-cons (units_at c b) k no_unit inside) ∙ is in
-      let unit : u ≡ unit_of c b k = cc parts in
-      let rest : drop (suc k) (units_at c b) ≡ us = cc parts in
+      let (inside, unit, rest) = unit_next u us b k is in
       elim edge [
         | inl source ↦ source_sound us b k f t below inside rest (subst (λ (v : Unit). SourceEdges n b g.sites.items v us f t) unit source) from
         | inr later ↦ unit_sound us b (suc k) f t below (omega (arith, inside)) rest later from

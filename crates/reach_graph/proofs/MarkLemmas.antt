@@ -1,8 +1,10 @@
 -- Marks of words, and of tables of them.
-use Rattle.std.proofs.Common.{◌≡◌, ◌⊎◌, inl, inr, ℕ, zero, suc, ◌<◌, max, min, bit_or, bit_and, sym, ◌∙◌, arith}
+use Rattle.std.proofs.Common.{◌≡◌, ◌⊎◌, inl, inr, ℕ, zero, suc, ◌<◌, max, min, bit_or, bit_and, List, replicate, sym, ◌∙◌, ap, subst, arith}
 use Rattle.std.specs.Int.{bit_at}
 use Rattle.std.proofs.lemmas.Nat.Bits.{bit_at_or, bit_at_and}
-use Rattle.reach_graph.specs.Reaching.{HasMark}
+use Rattle.std.proofs.lemmas.Bool.{cases_lt}
+use Rattle.std.proofs.lemmas.List.{get_or_past, get_or-replicate, length-replicate}
+use Rattle.reach_graph.specs.Reaching.{HasMark, word_at}
 
 one_left : (x y : ℕ) → x ≡ 1 → y < 2 → max x y ≡ 1
 one_left x y e below = omega (arith, e, below)
@@ -50,3 +52,15 @@ and_second a b k has = second_one (bit_at a k) (bit_at b k) (sym (bit_at_and a b
 -- 0 has no mark
 pub none_in_zero : (k : ℕ) → HasMark 0 k → ⊥
 none_in_zero k has = absurd (omega (arith, has))
+
+zero_there : (n b : ℕ) → word_at (replicate n 0) b ≡ 0
+zero_there n b =
+    elim (cases_lt b n) [
+      | inl below ↦ get_or-replicate n b 0 0 below
+      | inr past ↦ get_or_past (replicate n 0) b 0 (omega (arith, past, length-replicate {A = ℕ} n 0))
+    ]
+
+-- a table of zeros has no marks
+pub none_in_zeros : (n b k : ℕ) (marks : List ℕ) → marks ≡ replicate n 0 → HasMark (word_at marks b) k → ⊥
+none_in_zeros n b k marks bare has =
+    none_in_zero k (subst (λ (w : ℕ). HasMark w k) (ap (λ (ws : List ℕ). word_at ws b) bare ∙ zero_there n b) has)

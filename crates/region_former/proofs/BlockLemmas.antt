@@ -2,10 +2,9 @@
 use Rattle.std.proofs.Common.{◌≡◌, ◌∙◌, ◌⊎◌, inl, inr, ℕ, zero, suc, ◌<◌, ◌==◌, Bool, true, false, not, ◌&&◌, ◌||◌, List, [], ◌∷◌, set, length, slice_index_or, Option, Some, Vec, Global, refl, sym, ap, subst, arith}
 use Rattle.std.specs.List.{list_any}
 use Rattle.std.specs.List.Sorted.{IsStrictlyIncreasing}
-use Rattle.std.proofs.lemmas.Bool.{cases_order, eqb-true, both_ways}
+use Rattle.std.proofs.lemmas.Bool.{eqb-true, both_ways}
 use Rattle.std.proofs.lemmas.Bool.Decides.{nat_tests}
 use Rattle.std.proofs.lemmas.List.{length-map, get_or-map, get_or-set_same, get_or-set_other, length-set}
-use Rattle.std.proofs.lemmas.List.Kept.{AllPairs-from_increasing}
 use Rattle.std.proofs.lemmas.List.Folds.{list_any_at}
 use Rattle.list_checks.specs.Tests.{any_below}
 use Rattle.list_checks.proofs.TestLemmas.{both, same_tests, any_at, any_found}
@@ -15,35 +14,11 @@ use Rattle.code_blocks.specs.Edges.{successors}
 use Rattle.code_blocks.specs.Numbers.{starts_of, start_at, end_at}
 use Rattle.code_blocks.specs.declared.parts.Code.{Code}
 use Rattle.code_blocks.specs.Leads.{is_some_of, owner_at, is_of}
+use Rattle.code_blocks.proofs.StartLemmas.{is_number}
 use Rattle.region_former.specs.Flow.{block_count, leads_into}
 use Rattle.region_former.specs.Reaching.{enters_at}
 use Rattle.region_former.specs.Propagation.{row_of}
 use Rattle.region_former.specs.Rows.{truth_at, begins_there, leads_there, AreRows}
-
--- ---- numbers and starts
-
-same_test : (x y k b : ℕ) → (k ≡ b → x ≡ y) → (k < b → x < y) → (b < k → y < x) → (x == y) ≡ (k == b)
-same_test x y k b same less more =
-    elim (cases_order k b) [
-      | inl here ↦ let e = same here in grind (arith, nat_tests, here, e)
-      | inr other ↦ elim other [
-        | inl lower ↦ let e = less lower in grind (arith, nat_tests, lower, e)
-        | inr higher ↦ let e = more higher in grind (arith, nat_tests, higher, e)
-      ]
-    ]
-
-start_less : (c : Code) (i j : ℕ) → IsStrictlyIncreasing (starts_of c) → i < j → j < block_count c → start_at c i < start_at c j
-start_less c i j ascending lower below =
-    let count = length-map c.blocks.items start_of in
-    AllPairs-from_increasing (starts_of c) ascending i j 0 lower (omega (arith, below, count))
-
--- an address is the start of block `b` just where the block that begins there is `b`
-pub is_number : (c : Code) (a k b : ℕ) → IsStrictlyIncreasing (starts_of c) → (k < block_count c) × (start_at c k ≡ a) → b < block_count c → (a == start_at c b) ≡ (k == b)
-is_number c a k b ascending (within, at) below =
-    same_test a (start_at c b) k b
-    (λ same. sym at ∙ ap (start_at c) same)
-    (λ lower. let less = start_less c k b ascending lower below in omega (arith, less, at))
-    (λ higher. let less = start_less c b k ascending higher within in omega (arith, less, at))
 
 -- ---- marks of blocks
 
@@ -124,11 +99,7 @@ any_never test zero never = refl
 any_never test (suc n) never = let earlier = any_never test n never in let here = never n in rw (earlier, here) refl
 
 or_four : (a b c d : Bool) → (a || b) || (c || d) ≡ (a || c) || (b || d)
-or_four true b c d = refl
-or_four false true true d = refl
-or_four false true false d = refl
-or_four false false true d = refl
-or_four false false false d = refl
+or_four a b c d = grind arith
 
 and_or : (f x y : Bool) → f && (x || y) ≡ (f && x) || (f && y)
 and_or true x y = refl

@@ -26,7 +26,6 @@ pub mod ResultSound
 pub mod ResultStill
 pub mod ResultStart
 pub mod ResultWays
-pub mod ResultForms
 pub mod ResultUnits
 pub mod ResultCopies
 pub mod ResultRuns

@@ -66,9 +66,8 @@ use Rattle.result_setups.proofs.CodeWords.{listed_word}
 use Rattle.result_setups.proofs.UnitWords.{acts_for}
 use Rattle.result_setups.proofs.ResultSound.{sound_result}
 use Rattle.result_setups.proofs.ResultStill.{same_word, copy_holds, copy_still, copy_mapped}
-use Rattle.result_setups.proofs.ResultWays.{begin_leads, temporary_dead, is_copy, unit_same, unit_count, block_comes, lands_comes, unit_comes, in_order}
+use Rattle.result_setups.proofs.ResultWays.{begin_leads, temporary_dead, is_copy, unit_same, unit_count, block_comes, lands_comes, unit_comes, in_order, reached_comes, unit_low}
 use Rattle.result_setups.proofs.ResultWays as ways
-use Rattle.result_setups.proofs.ResultForms.{reached_comes, unit_low}
 use Rattle.result_setups.proofs.ResultUnits.{call_register, straight_acts, site_if, no_target, same_register, AreFew, words_few, copy_some, read_register}
 
 module _ (file out : List ℕ) (board : Board) (g : Graph) (c : Code) (pl : Placement) (result : IsResult file out board g c pl) (n : ℕ) (inside : n < length pl.pieces) (r u b k : ℕ) (held : holds_block b (piece_at pl n).range ≡ true) (stands : StandsThere c u b k) where

@@ -38,8 +38,7 @@ use Rattle.result_setups.proofs.CodeUnits.{block_of, first}
 use Rattle.result_setups.proofs.LiveUnits.{steps_lead_on, liveness_keeps}
 use Rattle.result_setups.proofs.ResultSound.{sound_result}
 use Rattle.result_setups.proofs.ResultStart.{stub_runs, start_alike, stub_short}
-use Rattle.result_setups.proofs.ResultWays.{block_comes}
-use Rattle.result_setups.proofs.ResultForms.{home_form}
+use Rattle.result_setups.proofs.ResultWays.{block_comes, home_form}
 use Rattle.result_setups.proofs.ResultCopies.{copy_form}
 
 module _ (file out : List ℕ) (board : Board) (g : Graph) (c : Code) (pl : Placement) (result : IsResult file out board g c pl) where

@@ -53,14 +53,11 @@ module _ (file out : List ℕ) (board : Board) (g : Graph) (c : Code) (pl : Plac
   abbrev v : PlainView
   v = view_in file
 
-  abbrev w : PlainView
-  w = view_in out
-
   abbrev plan : StartPlan
   plan = placement_plan v board g pl
 
   abbrev image : Memory
-  image = image_of w.segments
+  image = image_of (view_in out).segments
 
   abbrev left : Memory
   left = all_copied image (placement_jobs g pl)
@@ -79,7 +76,7 @@ module _ (file out : List ℕ) (board : Board) (g : Graph) (c : Code) (pl : Plac
 
   cell_stands : (a : ℕ) → IsKept v board a → is_code_byte v a ≡ false → CellStands pl.place (moved_uppers pl.place) ByLui (first_cell (image_of v.segments) g.data_words.items a) (image a)
   cell_stands a kept no_code =
-      words_stand v w pl.place a g.data_words.items result.view.words
+      words_stand v (view_in out) pl.place a g.data_words.items result.view.words
       (λ off.
       result.view.elsewhere a
       (record {
@@ -92,7 +89,7 @@ module _ (file out : List ℕ) (board : Board) (g : Graph) (c : Code) (pl : Plac
 
   -- ---- the stub runs
 
-  can_copy_code : (x : PlacedPiece) → IsPlacedPiece board g c pl x → HasImage w board x → CanCopy (mapped_ranges board) (code_job x)
+  can_copy_code : (x : PlacedPiece) → IsPlacedPiece board g c pl x → HasImage (view_in out) board x → CanCopy (mapped_ranges board) (code_job x)
   can_copy_code x placed has =
       let from = has.lies.from in
       let to = has.lies.to in (
@@ -112,7 +109,7 @@ module _ (file out : List ℕ) (board : Board) (g : Graph) (c : Code) (pl : Plac
   words = result.view.patch.first ++ result.view.patch.behind
 
   small : (a : ℕ) → image a < 256
-  small a = (start_words 0 w.segments (mapped_ranges board) [] (omega arith) result.view.loadable (All-nil _)).hart.mem a
+  small a = (start_words 0 (view_in out).segments (mapped_ranges board) [] (omega arith) result.view.loadable (All-nil _)).hart.mem a
 
   at_stub : (input : List ℕ) → IsAtStart plan words (file_start out board input)
   at_stub input =
@@ -131,7 +128,7 @@ module _ (file out : List ℕ) (board : Board) (g : Graph) (c : Code) (pl : Plac
       start_runs_so plan words (file_start out board input) result.view.patch.can
       (result.view.patch.first, (result.view.patch.behind, (result.view.patch.are, refl))) (at_stub input)
 
-  entry_below : w.entry < 4294967296
+  entry_below : (view_in out).entry < 4294967296
   entry_below =
       let entry = result.view.entry in
       let ends = result.view.patch.can.ends in
@@ -154,7 +151,7 @@ module _ (file out : List ℕ) (board : Board) (g : Graph) (c : Code) (pl : Plac
         source_going = refl;
         words =
             steps_words keeps_words (start_run plan) (file_start out board input) (started plan (file_start out board input))
-            (start_words w.entry w.segments (mapped_ranges board) input entry_below result.view.loadable bytes) (stub_runs input);
+            (start_words (view_in out).entry (view_in out).segments (mapped_ranges board) input entry_below result.view.loadable bytes) (stub_runs input);
         input = refl;
         output = refl;
       }

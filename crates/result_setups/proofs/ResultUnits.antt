@@ -26,19 +26,12 @@ use Rattle.simulation.specs.Forms.{ActsFor}
 
 -- what has to do with no address does the same wherever it stands
 pub straight_acts : (p : Program) (arrive : ℕ → ℕ → Type 0) (u a : ℕ) (i : Instr) → IsStraight i → ActsFor p arrive u a i i
-straight_acts p arrive u a (instr.Lui rd n) straight = refl
-straight_acts p arrive u a (instr.Load kind rd rs1 imm) straight = refl
-straight_acts p arrive u a (instr.Store kind rs1 rs2 imm) straight = refl
-straight_acts p arrive u a (instr.OpImm kind rd rs1 imm) straight = refl
-straight_acts p arrive u a (instr.OpReg kind rd rs1 rs2) straight = refl
-straight_acts p arrive u a (instr.Fence bits) straight = refl
-straight_acts p arrive u a (instr.FenceI bits) straight = refl
-straight_acts p arrive u a instr.Ecall straight = refl
 straight_acts p arrive u a (instr.Auipc rd n) straight = absurd straight
 straight_acts p arrive u a (instr.Jal rd off) straight = absurd straight
 straight_acts p arrive u a (instr.Jalr rd rs1 imm) straight = absurd straight
 straight_acts p arrive u a (instr.Branch kind rs1 rs2 off) straight = absurd straight
 straight_acts p arrive u a instr.Ebreak straight = absurd straight
+straight_acts p arrive u a i straight = refl
 
 -- ---- sites
 

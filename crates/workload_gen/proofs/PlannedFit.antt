@@ -43,42 +43,25 @@ pub asked_other : (kind : ℕ) (ss : List SectionPlan) → (8 == kind) ≡ false
 asked_other kind ss empty bytes =
     All-map (IsOther kind) asked ss (λ k d within. cond_both (ltb 0 (get_or ss k d).empty) 8 1 (λ n. (n == kind) ≡ false) (λ _. empty) (λ _. bytes))
 
+-- a section that stands in the file
+with_content : (s : Planned) → IsName s.name → IsWord s.kind → IsWord s.flags → IsWord s.addr → IsWord s.link → IsWord s.info → (stands_in_file s.kind ≡ true) × (s.size ≡ length s.content) → IsPlanned s
+with_content s name kind flags addr link info size =
+    record { name = name; kind = kind; flags = flags; addr = addr; link = link; info = info; size = inl size }
+
 -- the symbol table, the tables of names, and the relocations
 pub symbol_table_fits : (f : FilePlan) → length f.sections ≤ 60 → IsPlanned (symbol_table_of f)
 symbol_table_fits f few =
-    record {
-      name = All-from_recursion (λ byte. byte ≢ 0) (codes ".symtab") (omega arith);
-      kind = omega arith;
-      flags = omega arith;
-      addr = omega arith;
-      link = omega arith;
-      info = omega arith;
-      size = inl (refl, refl);
-    }
+    with_content (symbol_table_of f) (All-from_recursion (λ byte. byte ≢ 0) (codes ".symtab") (omega arith)) (omega arith) (omega arith) (omega arith) (omega arith) (omega arith) (refl, refl)
 
 pub names_fit : (name : List ℕ) (names : List (List ℕ)) → IsName name → IsPlanned (names_of name names)
 names_fit name names is_name =
-    record {
-      name = is_name;
-      kind = omega arith;
-      flags = omega arith;
-      addr = omega arith;
-      link = omega arith;
-      info = omega arith;
-      size = inl (refl, refl);
-    }
+    with_content (names_of name names) is_name (omega arith) (omega arith) (omega arith) (omega arith) (omega arith) (refl, refl)
 
 relocations_fit : (table k : ℕ) (s : SectionPlan) → IsWord table → IsWord k → IsName s.name → IsPlanned (relocations_of table k s)
 relocations_fit table k s table_fits section_fits name =
-    record {
-      name = All-append (λ byte. byte ≢ 0) (codes ".rela") s.name (All-from_recursion (λ byte. byte ≢ 0) (codes ".rela") (omega arith)) name;
-      kind = omega arith;
-      flags = omega arith;
-      addr = omega arith;
-      link = table_fits;
-      info = section_fits;
-      size = inl (refl, refl);
-    }
+    with_content (relocations_of table k s)
+    (All-append (λ byte. byte ≢ 0) (codes ".rela") s.name (All-from_recursion (λ byte. byte ≢ 0) (codes ".rela") (omega arith)) name)
+    (omega arith) (omega arith) (omega arith) table_fits section_fits (refl, refl)
 
 pub all_relocations_fit : (table k : ℕ) (ss : List SectionPlan) → IsWord table → k + length ss < 4294967296 → All IsSection ss → All IsPlanned (relocation_sections table k ss)
 all_relocations_fit table k [] table_fits few fit = All-nil IsPlanned

@@ -1,7 +1,7 @@
 -- The records of a file, read where their bytes stand.
 use Rattle.std.proofs.Common.{◌≡◌, ℕ, ◌+◌, ◌*◌, ◌<◌, List, [], ◌∷◌, ◌++◌, length, refl, ap, ◌∙◌, arith}
 use Rattle.std.specs.Int.{cast_signed, cast_unsigned, w32}
-use Rattle.elf_reader.specs.Layout.{file_header, section_header_in, program_header_in, symbol_record_in, relocation_record_in}
+use Rattle.elf_reader.specs.Layout.{file_header, section_header_in, symbol_record_in, relocation_record_in}
 use Rattle.elf_reader.specs.Sections.{kind_of_info, symbol_of_info}
 use Rattle.elf_reader.specs.declared.view.Reloc.{Reloc}
 use Rattle.std.proofs.lemmas.Int.{ints}
@@ -9,6 +9,7 @@ use Rattle.workload_gen.specs.Plan.{SectionPlan}
 use Rattle.elf_writer.specs.Pieces.{IsWord, half_bytes, words_bytes, zero_bytes}
 use Rattle.workload_gen.specs.Built.{Planned, memory_size, segment_flags, section_header_bytes, program_header_bytes, relocation_bytes, file_header_bytes}
 use Rattle.workload_gen.specs.Readable.{IsRelocation}
+use Rattle.elf_writer.proofs.TableRead.{IsLoadHeader, load_header_there}
 use Rattle.elf_writer.proofs.Standing.{Stands, stands_first, stands_behind, byte_there, half_there, words_there}
 
 -- ---- section headers
@@ -51,27 +52,13 @@ section_header_there file at place name_at s place_fits name_fits fits h =
 
 -- ---- program headers
 
-pub record IsProgram (file : List ℕ) (at place : ℕ) (s : SectionPlan) : Type 0 where
-  pub kind : (program_header_in file at).p_type ≡ 1
-  pub offset : (program_header_in file at).p_offset ≡ place
-  pub vaddr : (program_header_in file at).p_vaddr ≡ s.addr
-  pub filesz : (program_header_in file at).p_filesz ≡ length s.content
-  pub memsz : (program_header_in file at).p_memsz ≡ memory_size s
-  pub flags : (program_header_in file at).p_flags ≡ segment_flags s.flags
+abbrev pub IsProgram : List ℕ → ℕ → ℕ → SectionPlan → Type 0
+IsProgram file at place s = IsLoadHeader file at place s.addr (length s.content) (memory_size s) (segment_flags s.flags)
 
 pub program_header_there : (file : List ℕ) (at place : ℕ) (s : SectionPlan) → IsWord place → IsWord s.addr → IsWord (length s.content) → IsWord (memory_size s)
     → Stands file at (program_header_bytes place s) → IsProgram file at place s
-unfolding program_header_in
 program_header_there file at place s place_fits addr_fits size_fits memory_fits h =
-    let words : List ℕ = 1 ∷ place ∷ s.addr ∷ s.addr ∷ length s.content ∷ memory_size s ∷ segment_flags s.flags ∷ 4 ∷ [] in
-    record {
-      kind = words_there file at at words 0 (omega arith) (omega arith) (omega arith) h;
-      offset = words_there file at (at + 4) words 1 refl (omega arith) place_fits h;
-      vaddr = words_there file at (at + 8) words 2 refl (omega arith) addr_fits h;
-      filesz = words_there file at (at + 16) words 4 refl (omega arith) size_fits h;
-      memsz = words_there file at (at + 20) words 5 refl (omega arith) memory_fits h;
-      flags = words_there file at (at + 24) words 6 refl (omega arith) (omega arith) h;
-    }
+    load_header_there file at place s.addr (length s.content) (memory_size s) (segment_flags s.flags) place_fits addr_fits size_fits memory_fits (omega arith) h
 
 -- ---- symbols
 

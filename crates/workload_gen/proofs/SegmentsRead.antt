@@ -1,15 +1,16 @@
 -- The segments of a built file, read back.
-use Rattle.std.proofs.Common.{◌≡◌, ℕ, ◌+◌, ◌<◌, ◌==◌, ltb, true, List, [], ◌∷◌, ◌++◌, length, map, slice_range, refl, ap, ◌∙◌, arith, length-append}
+use Rattle.std.proofs.Common.{◌≡◌, ℕ, ◌+◌, ◌<◌, ltb, List, [], ◌∷◌, ◌++◌, length, map, refl, ap, arith, length-append}
 use Rattle.std.specs.List.{All}
-use Rattle.std.proofs.lemmas.Bool.{cond_both, cond-true}
+use Rattle.std.proofs.lemmas.Bool.{cond_both}
 use Rattle.std.proofs.lemmas.List.Elements.{All-head, All-tail}
-use Rattle.elf_reader.specs.Layout.{program_header_at, program_header}
-use Rattle.elf_reader.specs.File.{PlainSegment, is_load, segment_of, segments_at, segments_below}
+use Rattle.elf_reader.specs.Layout.{program_header_at}
+use Rattle.elf_reader.specs.File.{PlainSegment, segments_at, segments_below}
 use Rattle.workload_gen.specs.Plan.{SectionPlan}
 use Rattle.elf_writer.specs.Pieces.{IsWord, zero_bytes, padded, padding}
 use Rattle.workload_gen.specs.Built.{memory_size, asked, contents, segment_flags, program_header_bytes, program_headers}
 use Rattle.workload_gen.specs.Readable.{IsSection, segments_from}
-use Rattle.elf_writer.proofs.Standing.{Stands, stands_first, stands_behind, stands_range}
+use Rattle.elf_writer.proofs.SegmentsRead.{segment_loaded}
+use Rattle.elf_writer.proofs.Standing.{Stands, stands_first, stands_behind}
 use Rattle.workload_gen.proofs.Records.{IsProgram, program_header_there}
 use Rattle.workload_gen.proofs.Steps.{grown_none, grown_more}
 
@@ -27,22 +28,7 @@ segment_from k place s =
 segment_is : (file : List ℕ) (k place : ℕ) (s : SectionPlan) → IsProgram file (program_header_at file k) place s → Stands file place s.content
     → segments_at file k ≡ segment_from k place s ∷ []
 segment_is file k place s program bytes =
-    let p = program_header file k in
-    let load : is_load p ≡ true = ap (λ (n : ℕ). n == 1) program.kind in
-    let end : p.p_offset + p.p_filesz ≡ place + length s.content = λ i. program.offset i + program.filesz i in
-    let content : slice_range file p.p_offset (p.p_offset + p.p_filesz) ≡ s.content = (λ i. slice_range file (program.offset i) (end i)) ∙ stands_range file place s.content bytes in
-    let segment : segment_of file k p ≡ segment_from k place s =
-    λ i.
-    record {
-      index = k;
-      offset = program.offset i;
-      vaddr = program.vaddr i;
-      memsz = program.memsz i;
-      flags = program.flags i;
-      content = content i;
-    }
-    in
-    cond-true (is_load p) (segment_of file k p ∷ []) [] load ∙ ap (λ (x : PlainSegment). x ∷ []) segment
+    segment_loaded file k (program_header_at file k) place s.addr (memory_size s) (segment_flags s.flags) s.content program bytes
 
 segment_there : (file : List ℕ) (k place : ℕ) (s : SectionPlan) → IsSection s → place + length (padded s.content) < 16777216
     → Stands file (program_header_at file k) (program_header_bytes place s) → Stands file place (padded s.content)

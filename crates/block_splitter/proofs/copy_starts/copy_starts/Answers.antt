@@ -11,16 +11,14 @@ loop-b-init c = rw c.new-starts.ensures.items (starts_none (copy_in c.args.plan.
 pub overflow_mul-words : goal.overflow_mul-words
 overflow_mul-words c =
     let p = c.args.plan.now in
-    let inside : holds_block c.loop-b.b p.range ≡ true = holds c.loop-b.b p.range c.loop-b.auto.b (omega (arith, c.loop-b-test.true)) in
-    let within = begins_within p c.loop-b.b c.requires inside in
+    let within = begins_within p c.loop-b.b c.requires (holds c.loop-b.b p.range c.loop-b.auto.b (omega (arith, c.loop-b-test.true))) in
     let so_far = c.loop-b.invariant.counted in
     omega (arith, within, so_far)
 
 pub overflow_add-words : goal.overflow_add-words
 overflow_add-words c =
     let p = c.args.plan.now in
-    let inside : holds_block c.loop-b.b p.range ≡ true = holds c.loop-b.b p.range c.loop-b.auto.b (omega (arith, c.loop-b-test.true)) in
-    let ends = block_ends p c.loop-b.b c.requires inside in
+    let ends = block_ends p c.loop-b.b c.requires (holds c.loop-b.b p.range c.loop-b.auto.b (omega (arith, c.loop-b-test.true))) in
     let so_far = c.loop-b.invariant.counted in
     let here = c.block_words-words.ensures in
     omega (arith, ends, so_far, here)

@@ -1,6 +1,7 @@
 use Rattle.std.proofs.Common.{◌∙◌, min, max, ap}
 use Rattle.block_splitter.specs.Facts.{sources_at}
-use Rattle.block_splitter.proofs.SourceLemmas.{is_number, least_there, greatest_there}
+use Rattle.code_blocks.proofs.StartLemmas.{is_number}
+use Rattle.block_splitter.proofs.SourceLemmas.{least_there, greatest_there}
 use Rattle.block_splitter.proofs.sources.add_at.Goals as goal
 
 pub returns-in-Some-clause-least : goal.returns-in-Some-clause-least

@@ -1,5 +1,7 @@
 use Rattle.std.proofs.Common.{◌≡◌, ◌∙◌, ℕ, ◌<◌, slice_index_or, length, ap, subst, arith}
 use Rattle.std.proofs.lemmas.List.{get_or_default}
+use Rattle.object_graph.specs.Lookups.{IsSomeGraph}
+use Rattle.object_graph.specs.declared.parts.Graph.{Graph}
 use Rattle.object_graph.specs.declared.parts.DataWord.{DataWord}
 use Rattle.points_to.specs.Nodes.{Adds, Upto, OneEdge, WordEdge, no_word, object_node, memory}
 use Rattle.reach_graph.specs.Reaching.{plain_rows}
@@ -7,21 +9,22 @@ use Rattle.points_to.proofs.EdgeLemmas.{adds_more}
 use Rattle.points_to.proofs.SiteLemmas.{word_inside}
 use Rattle.points_to.proofs.blocks.push_words.Goals as goal
 
+-- the object of a word of the list
+object_inside : (g : Graph) (i : ℕ) (w : DataWord) → IsSomeGraph g → i < length g.data_words.items → w ≡ slice_index_or g.data_words.items i w → w.object < length g.objects.items
+object_inside g i w some inside is =
+    let below = word_inside g i w some inside in
+    let object : w.object ≡ (slice_index_or g.data_words.items i w).object = ap (λ (d : DataWord). d.object) is in
+    omega (arith, below, object)
+
 pub object-requires : goal.object-requires
 object-requires c =
-    let inside : c.loop-i.i < length c.args.graph.now.data_words.items = omega arith in
-    let w = c.index.result.now in
-    let below = word_inside c.args.graph.now c.loop-i.i w c.requires.graph inside in
-    let object : w.object ≡ (slice_index_or c.args.graph.now.data_words.items c.loop-i.i w).object = ap (λ (d : DataWord). d.object) c.index.ensures in
-    omega (arith, below, object, c.requires.objects)
+    let below = object_inside c.args.graph.now c.loop-i.i c.index.result.now c.requires.graph (omega arith) c.index.ensures in
+    omega (arith, below, c.requires.objects)
 
 pub push-requires : goal.push-requires
 push-requires c =
-    let inside : c.loop-i.i < length c.args.graph.now.data_words.items = omega arith in
-    let w = c.index.result.now in
-    let below = word_inside c.args.graph.now c.loop-i.i w c.requires.graph inside in
-    let object : w.object ≡ (slice_index_or c.args.graph.now.data_words.items c.loop-i.i w).object = ap (λ (d : DataWord). d.object) c.index.ensures in
-    omega (arith, below, object, c.requires.objects, c.object.ensures, c.requires.room)
+    let below = object_inside c.args.graph.now c.loop-i.i c.index.result.now c.requires.graph (omega arith) c.index.ensures in
+    omega (arith, below, c.requires.objects, c.object.ensures, c.requires.room)
 
 pub loop-i-preserved : goal.loop-i-preserved
 loop-i-preserved c =

@@ -1,6 +1,7 @@
 use Rattle.std.proofs.Common.{ap}
 use Rattle.region_former.specs.Borders.{region_in}
-use Rattle.region_former.proofs.BlockLemmas.{is_number, entered_there, entered_not}
+use Rattle.code_blocks.proofs.StartLemmas.{is_number}
+use Rattle.region_former.proofs.BlockLemmas.{entered_there, entered_not}
 use Rattle.region_former.proofs.borders.enter_at.Goals as goal
 
 pub returns-then-regions-block-clause-entered : goal.returns-then-regions-block-clause-entered

@@ -13,22 +13,16 @@ word_at-word-requires-clause-code c =
 
 pub place_at-place-requires-clause-object : goal.place_at-place-requires-clause-object
 place_at-place-requires-clause-object c =
-    let v = plain_view c.args.file.now.view.now in
-    let g = c.args.graph.now in
-    let s = c.index-site.result.now in
-    let object = (listed_here v g.objects.items g.sites.items c.args.k s c.requires.graph.1.sites c.requires.below c.index-site.ensures).object in
+    let object = (listed_here (plain_view c.args.file.now.view.now) c.args.graph.now.objects.items c.args.graph.now.sites.items c.args.k c.index-site.result.now c.requires.graph.1.sites c.requires.below c.index-site.ensures).object in
     let most = c.requires.places.objects in
     omega (arith, object, most)
 
 pub place_at-place-requires-clause-region : goal.place_at-place-requires-clause-region
 place_at-place-requires-clause-region c =
-    let v = plain_view c.args.file.now.view.now in
-    let g = c.args.graph.now in
-    let s = c.index-site.result.now in
-    let object = (listed_here v g.objects.items g.sites.items c.args.k s c.requires.graph.1.sites c.requires.below c.index-site.ensures).object in
+    let object = (listed_here (plain_view c.args.file.now.view.now) c.args.graph.now.objects.items c.args.graph.now.sites.items c.args.k c.index-site.result.now c.requires.graph.1.sites c.requires.below c.index-site.ensures).object in
     let below = c.requires.below in
     let long = c.requires.places.sites in
-    c.requires.places.regions s.object c.args.k object (omega (arith, below, long))
+    c.requires.places.regions c.index-site.result.now.object c.args.k object (omega (arith, below, long))
 
 pub new_word-requires : goal.new_word-requires
 new_word-requires c =

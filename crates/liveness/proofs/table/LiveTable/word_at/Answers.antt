@@ -5,7 +5,8 @@ use Rattle.std.proofs.lemmas.List.Sorted.{searched}
 use Rattle.code_leaders.proofs.SearchLemmas.{search_tells}
 use Rattle.reach_graph.specs.Reaching.{HasMark, word_at}
 use Rattle.liveness.specs.Live.{Live}
-use Rattle.liveness.proofs.TableLemmas.{not_falling, found_live, none_live}
+use Rattle.code_leaders.proofs.SearchLemmas.{not_falling}
+use Rattle.liveness.proofs.TableLemmas.{found_live, none_live}
 use Rattle.liveness.proofs.table.LiveTable.word_at.Goals as goal
 
 pub returns-in-Ok : goal.returns-in-Ok

@@ -5,7 +5,8 @@ use Rattle.std.proofs.lemmas.List.Sorted.{searched}
 use Rattle.code_leaders.proofs.SearchLemmas.{search_tells}
 use Rattle.reach_graph.specs.Reaching.{HasMark}
 use Rattle.points_to.specs.Tables.{word_of}
-use Rattle.points_to.proofs.KeptLemmas.{not_falling, listed, unlisted, no_mark}
+use Rattle.code_leaders.proofs.SearchLemmas.{not_falling}
+use Rattle.points_to.proofs.KeptLemmas.{listed, unlisted, no_mark}
 use Rattle.points_to.proofs.reached.Reached.has.Goals as goal
 
 pub returns-in-Ok : goal.returns-in-Ok

@@ -5,7 +5,7 @@ use Rattle.code_leaders.proofs.SearchLemmas.{search_tells}
 use Rattle.points_to.specs.Points.{MayHold}
 use Rattle.points_to.specs.Nodes.{entry}
 use Rattle.points_to.specs.Tables.{Holds, plain}
-use Rattle.points_to.proofs.KeptLemmas.{not_falling}
+use Rattle.code_leaders.proofs.SearchLemmas.{not_falling}
 use Rattle.points_to.proofs.QueryLemmas.{follows, never, found_holds, none_holds, no_register}
 use Rattle.points_to.proofs.table.PointsTable.may.Goals as goal
 
