@@ -1,3 +1,6 @@
+ghost use Rattle.std.specs.Prelude.{◌≡◌};
+ghost use Rattle.certificate_checker.specs.declared.fault.CertFault.TheVariants.{Memory};
+
 use std::alloc::{AllocError, AllocFailed};
 use thiserror::Error;
 
@@ -25,9 +28,6 @@ pub enum CertFault {
 }
 
 impl From<AllocError> for CertFault {
-    ghost use Rattle.std.specs.Prelude.{◌≡◌};
-    ghost use Rattle.certificate_checker.specs.declared.fault.CertFault.TheVariants.{Memory};
-
     ghost from_gives = { λ _ fault. fault ≡ Memory };
 
     fn from(_error: AllocError) -> CertFault {
@@ -36,9 +36,6 @@ impl From<AllocError> for CertFault {
 }
 
 impl<T: Drop> From<AllocFailed<T>> for CertFault {
-    ghost use Rattle.std.specs.Prelude.{◌≡◌};
-    ghost use Rattle.certificate_checker.specs.declared.fault.CertFault.TheVariants.{Memory};
-
     ghost from_gives = { λ _ fault. fault ≡ Memory };
 
     fn from(_error: AllocFailed<T>) -> CertFault {

@@ -32,11 +32,7 @@ pub fn is_one(marks: &[Fixing], number: usize) -> bool
     requires { number < length marks.now }
     ensures { IsTrue result ↔ (fixing_of marks.now number ≡ One) }
 {
-    match fixing_of(marks, number) {
-        Fixing::One => true,
-        Fixing::Zero => false,
-        Fixing::Free => false,
-    }
+    matches!(fixing_of(marks, number), Fixing::One)
 }
 
 /// Whether a variable isn't fixed.
@@ -44,11 +40,7 @@ pub fn is_free(marks: &[Fixing], number: usize) -> bool
     requires { number < length marks.now }
     ensures { IsTrue result ↔ (fixing_of marks.now number ≡ Free) }
 {
-    match fixing_of(marks, number) {
-        Fixing::Free => true,
-        Fixing::Zero => false,
-        Fixing::One => false,
-    }
+    matches!(fixing_of(marks, number), Fixing::Free)
 }
 
 /// A side's variables, all free.

@@ -1,5 +1,5 @@
 -- Ranges that are disjoint, and what passes over relocations and symbols add to their marks.
-use Rattle.std.proofs.Common.{◌≡◌, inl, inr, ℕ, ◌+◌, ◌<◌, ◌≤◌, nat_le, Bool, true, false, ◌&&◌, ◌||◌, List, Option, None, arith, add-one}
+use Rattle.std.proofs.Common.{◌≡◌, inl, inr, ℕ, ◌+◌, ◌<◌, ◌≤◌, nat_le, Bool, true, false, ◌&&◌, ◌||◌, List, Option, None, refl, arith, add-one}
 use Rattle.std.specs.List.{AllPairs}
 use Rattle.std.specs.List.Sorted.{IsNonDecreasingBy}
 use Rattle.std.proofs.lemmas.Bool.{cases_lt}
@@ -45,3 +45,14 @@ pub behind_shut : (a b gate : Bool) (rule : ℕ → ℕ → Bool) (ranges : List
 behind_shut true true gate rule ranges is shut k below = cc
 behind_shut true false gate rule ranges is shut k below = λ i. false
 behind_shut false b gate rule ranges is shut k below = λ i. false
+
+-- marks to which five rules are added one behind the other
+all_five : (o z l a u s : Bool) → (o || z || l || a || u || s) ≡ (o || (z || l || a || (u || s)))
+all_five true z l a u s = refl
+all_five false true l a u s = refl
+all_five false false true a u s = refl
+all_five false false false true u s = refl
+all_five false false false false u s = refl
+
+pub five_rules : (o z l a u s m n p q r : Bool) → m ≡ (o || z) → n ≡ (m || l) → p ≡ (n || a) → q ≡ (p || u) → r ≡ (q || s) → r ≡ (o || (z || l || a || (u || s)))
+five_rules o z l a u s m n p q r first second third fourth fifth = rw (fifth, fourth, third, second, first) (all_five o z l a u s)

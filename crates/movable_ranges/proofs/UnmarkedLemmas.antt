@@ -16,8 +16,7 @@ use Rattle.loaded_file.specs.ByteRanges.{is_byte_range, has_byte_range_in, byte_
 use Rattle.loaded_file.proofs.ByteRangeLemmas.{both_made}
 use Rattle.loaded_file.proofs.OverlapLemmas.{any_place, overlaps_later, overlap_marks}
 use Rattle.movable_ranges.specs.Fixed.{is_in_zeros, is_listed, is_aliased, is_unrewritable, is_shared, is_movable}
-use Rattle.movable_ranges.specs.Shares.{shares_a_word}
-use Rattle.movable_ranges.specs.Rules.{is_immovable}
+use Rattle.movable_ranges.specs.Shares.{shares_a_word, is_immovable}
 use Rattle.movable_ranges.specs.Disjoint.{IsDisjoint, mark_at, AreMarks, unmarked_below}
 use Rattle.movable_ranges.proofs.SiteLemmas.{shared_is}
 

@@ -2,11 +2,15 @@
 use Rattle.std.specs.Prelude.{◌≡◌, ℕ, zero, suc, ◌+◌, ◌<◌, ◌≤◌, ◌==◌, Bool, false, ◌||◌, if◌then◌else◌, List, [], ◌∷◌, ◌++◌, length, slice_index_or, Option, None, Some}
 use Rattle.std.specs.List.{AllPairs}
 use Rattle.loaded_file.specs.declared.byte_ranges.ByteRange.{ByteRange}
-use Rattle.loaded_file.specs.ByteRanges.{byte_range_at}
+use Rattle.loaded_file.specs.ByteRanges.{byte_range_at, IsFilled}
 
 -- each ends where or before each later one begins
 abbrev pub IsDisjoint : List ByteRange → Type 0
 IsDisjoint ranges = AllPairs (λ a b. a.home + a.size ≤ b.home) ranges
+
+-- and none is empty
+abbrev pub AreApart : List ByteRange → Type 0
+AreApart ranges = IsDisjoint ranges × IsFilled ranges
 
 -- a rule of ranges, at range `k` of a list
 abbrev pub rule_at : (ℕ → ℕ → Bool) → List ByteRange → ℕ → Bool

@@ -9,4 +9,3 @@ pub mod Disjoint
 pub mod Meant
 pub mod Aliases
 pub mod Shares
-pub mod Rules

@@ -1,5 +1,5 @@
 -- Which relocations give a site of any object, and by which of them an object has a site at a word with
--- another one.
+-- another one. The rules by which ranges that meet no other one stay where they are.
 use Rattle.std.specs.Prelude.{◌≡◌, ℕ, ◌+◌, ◌==◌, nat_lt, nat_le, Bool, ◌&&◌, ◌||◌, length}
 use Rattle.std.specs.List.{count_by, list_any}
 use Rattle.list_checks.specs.Tests.{any_below}
@@ -9,6 +9,8 @@ use Rattle.loaded_file.specs.Records.{symbol_at, reloc_at, counts, symbol_of, ta
 use Rattle.loaded_file.specs.Ranges.{has_range, inside}
 use Rattle.rewritable_relocations.specs.Rewritable.{displacement, is_rewritable_pair, is_pair_low}
 use Rattle.list_checks.specs.Sorted.{IsSorted, count_below}
+use Rattle.board_config.specs.declared.board.Board.{Board}
+use Rattle.movable_ranges.specs.Fixed.{is_in_zeros, is_listed, is_aliased, is_unrewritable}
 use Rattle.movable_ranges.specs.Meant.{leads_inside, is_direct}
 use Rattle.movable_ranges.specs.declared.cover.Cover.{Cover}
 use Rattle.movable_ranges.specs.declared.cover.Bound.{Bound}
@@ -101,6 +103,12 @@ is_shared_from v home n i =
 -- an object has a site that shares its word
 abbrev pub shares_a_word : PlainView → ℕ → ℕ → Bool
 shares_a_word v home n = any_below (is_shared_from v home n) (length v.relocs)
+
+-- the rules of symbols, and those of relocations
+abbrev pub is_immovable : PlainView → Board → ℕ → ℕ → Bool
+is_immovable v board home n =
+    is_in_zeros v board home n || is_listed v board home n || is_aliased v home n
+    || (is_unrewritable v home n || shares_a_word v home n)
 
 -- the addresses of all sites, as often as there are sites, and those of the AUIPCs of which a low part
 -- shares its word

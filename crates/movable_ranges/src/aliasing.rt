@@ -4,10 +4,9 @@ ghost use Rattle.list_checks.specs.Tests.{any_below};
 ghost use Rattle.elf_reader.specs.File.{plain_symbol, plain_view};
 ghost use Rattle.loaded_file.specs.Records.{symbol_at};
 ghost use Rattle.loaded_file.specs.Ranges.{has_range, inside};
-ghost use Rattle.loaded_file.specs.ByteRanges.{IsFilled};
 ghost use Rattle.list_checks.specs.Sorted.{IsSorted};
 ghost use Rattle.movable_ranges.specs.Fixed.{is_alias, aliases_into, has_aliased_section, is_aliased};
-ghost use Rattle.movable_ranges.specs.Disjoint.{IsDisjoint, IsBelow, Finds, is_place, mark_at, AddsRule};
+ghost use Rattle.movable_ranges.specs.Disjoint.{AreApart, IsBelow, Finds, is_place, mark_at, AddsRule};
 ghost use Rattle.movable_ranges.specs.Aliases.{aliases_by, is_hit, is_hit_in};
 
 use crate::marks::{is_marked, mark, no_marks};
@@ -119,8 +118,7 @@ pub(crate) fn mark_aliased(
     ranges: &[ByteRange],
 )
     requires aliased { (s : ℕ) → mark_at aliased.now s ≡ any_below (aliases_into (plain_view file.now.view.now) s) (length (plain_view file.now.view.now).relocs) }
-    requires disjoint { IsDisjoint ranges.now }
-    requires filled { IsFilled ranges.now }
+    requires ranges { AreApart ranges.now }
     requires len { length marks.old ≡ length ranges.now }
     ensures adds { AddsRule (is_aliased (plain_view file.now.view.now)) ranges.now marks.old marks.new }
     ensures len { length marks.new ≡ length marks.old }
@@ -138,8 +136,7 @@ fn aliased_place(
     k: usize,
 ) -> Option<usize>
     requires aliased { (s : ℕ) → mark_at aliased.now s ≡ any_below (aliases_into (plain_view file.now.view.now) s) (length (plain_view file.now.view.now).relocs) }
-    requires disjoint { IsDisjoint ranges.now }
-    requires filled { IsFilled ranges.now }
+    requires ranges { AreApart ranges.now }
     requires below { k < length file.now.view.now.symbols.items }
     ensures found { Finds (λ home n. has_aliased_section (plain_view file.now.view.now) home n k) ranges.now result }
     ensures below { IsBelow (length ranges.now) result }

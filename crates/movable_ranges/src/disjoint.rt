@@ -1,7 +1,7 @@
 ghost use Rattle.std.specs.Prelude.{◌≡◌, ℕ, ◌<◌, ◌≤◌, ◌==◌, ◌&&◌, length};
 ghost use Rattle.loaded_file.specs.Ranges.{inside};
-ghost use Rattle.loaded_file.specs.ByteRanges.{byte_range_at, IsFilled};
-ghost use Rattle.movable_ranges.specs.Disjoint.{IsDisjoint, IsBelow, Finds};
+ghost use Rattle.loaded_file.specs.ByteRanges.{byte_range_at};
+ghost use Rattle.movable_ranges.specs.Disjoint.{AreApart, IsDisjoint, IsBelow, Finds};
 
 use loaded_file::ByteRange;
 
@@ -37,8 +37,7 @@ pub(crate) fn place_holding(ranges: &[ByteRange], address: u32) -> Option<usize>
 
 /// The range of `size` bytes at `home`, if it is one.
 pub(crate) fn place_of(ranges: &[ByteRange], home: u32, size: u32) -> Option<usize>
-    requires disjoint { IsDisjoint ranges.now }
-    requires filled { IsFilled ranges.now }
+    requires ranges { AreApart ranges.now }
     ensures found { Finds (λ a n. (home == a) && (size == n)) ranges.now result }
     ensures below { IsBelow (length ranges.now) result }
 {

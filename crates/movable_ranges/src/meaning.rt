@@ -2,9 +2,9 @@ ghost use Rattle.std.specs.Prelude.{◌≡◌, ℕ, ◌<◌, true, false, length
 ghost use Rattle.elf_reader.specs.File.{plain_symbol, plain_view};
 ghost use Rattle.loaded_file.specs.Records.{reloc_at, target};
 ghost use Rattle.loaded_file.specs.Ranges.{is_of};
-ghost use Rattle.loaded_file.specs.ByteRanges.{byte_range_at, IsFilled};
+ghost use Rattle.loaded_file.specs.ByteRanges.{byte_range_at};
 ghost use Rattle.rewritable_relocations.specs.Rewritable.{is_meant};
-ghost use Rattle.movable_ranges.specs.Disjoint.{IsDisjoint, IsBelow, Finds};
+ghost use Rattle.movable_ranges.specs.Disjoint.{AreApart, IsBelow, Finds};
 ghost use Rattle.movable_ranges.specs.Meant.{means_by};
 
 use crate::disjoint::{place_holding, place_of};
@@ -17,8 +17,7 @@ use loaded_file::{ByteRange, LoadedFile, has_range, target};
 ///
 /// The time grows with the logarithm of the number of ranges.
 pub fn meant_range(file: &LoadedFile, ranges: &[ByteRange], i: usize) -> Option<usize>
-    requires disjoint { IsDisjoint ranges.now }
-    requires filled { IsFilled ranges.now }
+    requires ranges { AreApart ranges.now }
     requires below { i < length file.now.view.now.relocs.items }
     ensures { MatchOption result ((k : ℕ) → k < length ranges.now → is_meant (plain_view file.now.view.now) (byte_range_at ranges.now k).home (byte_range_at ranges.now k).size (reloc_at (plain_view file.now.view.now) i) ≡ false) (λ k. (k < length ranges.now) × (is_meant (plain_view file.now.view.now) (byte_range_at ranges.now k).home (byte_range_at ranges.now k).size (reloc_at (plain_view file.now.view.now) i) ≡ true)) }
 {
@@ -30,8 +29,7 @@ pub fn meant_range(file: &LoadedFile, ranges: &[ByteRange], i: usize) -> Option<
 
 /// The range that a relocation means.
 pub(crate) fn place_meant(file: &LoadedFile, ranges: &[ByteRange], reloc: &Reloc) -> Option<usize>
-    requires disjoint { IsDisjoint ranges.now }
-    requires filled { IsFilled ranges.now }
+    requires ranges { AreApart ranges.now }
     ensures found { Finds (λ home n. is_meant (plain_view file.now.view.now) home n reloc.now) ranges.now result }
     ensures below { IsBelow (length ranges.now) result }
 {
@@ -48,8 +46,7 @@ fn place_by_symbol(
     reloc: &Reloc,
     symbol: &Symbol,
 ) -> Option<usize>
-    requires disjoint { IsDisjoint ranges.now }
-    requires filled { IsFilled ranges.now }
+    requires ranges { AreApart ranges.now }
     ensures found { Finds (means_by (plain_view file.now.view.now) (plain_symbol symbol.now) (target (plain_view file.now.view.now) reloc.now)) ranges.now result }
     ensures below { IsBelow (length ranges.now) result }
 {
@@ -64,8 +61,7 @@ fn place_by_symbol(
 ///
 /// The time grows with the logarithm of the number of ranges.
 pub fn place_of_symbol(file: &LoadedFile, ranges: &[ByteRange], symbol: &Symbol) -> Option<usize>
-    requires disjoint { IsDisjoint ranges.now }
-    requires filled { IsFilled ranges.now }
+    requires ranges { AreApart ranges.now }
     ensures found { Finds (λ home n. is_of (plain_view file.now.view.now) home n (plain_symbol symbol.now)) ranges.now result }
     ensures below { IsBelow (length ranges.now) result }
 {

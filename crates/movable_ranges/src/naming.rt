@@ -2,9 +2,8 @@ ghost use Rattle.std.specs.Prelude.{◌≡◌, ℕ, ◌<◌, ◌==◌, ◌||◌,
 ghost use Rattle.list_checks.specs.Tests.{any_below};
 ghost use Rattle.elf_reader.specs.File.{plain_symbol, plain_view};
 ghost use Rattle.loaded_file.specs.Ranges.{owner_of};
-ghost use Rattle.loaded_file.specs.ByteRanges.{IsFilled};
 ghost use Rattle.movable_ranges.specs.Fixed.{is_listed_name, stands_in_zeros, has_listed_name, is_in_zeros, is_listed};
-ghost use Rattle.movable_ranges.specs.Disjoint.{IsDisjoint, IsBelow, Finds, AddsRule};
+ghost use Rattle.movable_ranges.specs.Disjoint.{AreApart, IsBelow, Finds, AddsRule};
 
 use crate::marks::mark;
 use crate::meaning::place_of_symbol;
@@ -14,8 +13,7 @@ use loaded_file::{ByteRange, LoadedFile};
 
 /// Marks the ranges in sections without content, if the board doesn't let these move.
 pub(crate) fn mark_zeros(marks: &mut [bool], file: &LoadedFile, board: &Board, ranges: &[ByteRange])
-    requires disjoint { IsDisjoint ranges.now }
-    requires filled { IsFilled ranges.now }
+    requires ranges { AreApart ranges.now }
     requires len { length marks.old ≡ length ranges.now }
     ensures adds { AddsRule (is_in_zeros (plain_view file.now.view.now) board.now) ranges.now marks.old marks.new }
     ensures len { length marks.new ≡ length marks.old }
@@ -27,8 +25,7 @@ pub(crate) fn mark_zeros(marks: &mut [bool], file: &LoadedFile, board: &Board, r
 
 /// Marks the ranges in sections without content.
 fn mark_all_zeros(marks: &mut [bool], file: &LoadedFile, ranges: &[ByteRange])
-    requires disjoint { IsDisjoint ranges.now }
-    requires filled { IsFilled ranges.now }
+    requires ranges { AreApart ranges.now }
     requires len { length marks.old ≡ length ranges.now }
     ensures adds { AddsRule (λ home n. any_below (stands_in_zeros (plain_view file.now.view.now) home n) (length (plain_view file.now.view.now).symbols)) ranges.now marks.old marks.new }
     ensures len { length marks.new ≡ length marks.old }
@@ -40,8 +37,7 @@ fn mark_all_zeros(marks: &mut [bool], file: &LoadedFile, ranges: &[ByteRange])
 
 /// The range of symbol `k`, if it stands in a section without content.
 fn place_in_zeros(file: &LoadedFile, ranges: &[ByteRange], k: usize) -> Option<usize>
-    requires disjoint { IsDisjoint ranges.now }
-    requires filled { IsFilled ranges.now }
+    requires ranges { AreApart ranges.now }
     requires below { k < length file.now.view.now.symbols.items }
     ensures found { Finds (λ home n. stands_in_zeros (plain_view file.now.view.now) home n k) ranges.now result }
     ensures below { IsBelow (length ranges.now) result }
@@ -71,8 +67,7 @@ pub(crate) fn mark_listed(
     board: &Board,
     ranges: &[ByteRange],
 )
-    requires disjoint { IsDisjoint ranges.now }
-    requires filled { IsFilled ranges.now }
+    requires ranges { AreApart ranges.now }
     requires len { length marks.old ≡ length ranges.now }
     ensures adds { AddsRule (is_listed (plain_view file.now.view.now) board.now) ranges.now marks.old marks.new }
     ensures len { length marks.new ≡ length marks.old }
@@ -84,8 +79,7 @@ pub(crate) fn mark_listed(
 
 /// The range of symbol `k`, if its name or that of its section stands in the board's list.
 fn listed_place(file: &LoadedFile, board: &Board, ranges: &[ByteRange], k: usize) -> Option<usize>
-    requires disjoint { IsDisjoint ranges.now }
-    requires filled { IsFilled ranges.now }
+    requires ranges { AreApart ranges.now }
     requires below { k < length file.now.view.now.symbols.items }
     ensures found { Finds (λ home n. has_listed_name (plain_view file.now.view.now) board.now home n k) ranges.now result }
     ensures below { IsBelow (length ranges.now) result }

@@ -1,9 +1,8 @@
 ghost use Rattle.std.specs.Prelude.{◌≡◌, ℕ, ◌<◌, ◌&&◌, length};
 ghost use Rattle.elf_reader.specs.File.{plain_view};
 ghost use Rattle.loaded_file.specs.Records.{reloc_at, counts};
-ghost use Rattle.loaded_file.specs.ByteRanges.{IsFilled};
 ghost use Rattle.rewritable_relocations.specs.Marks.{all_rewritable};
-ghost use Rattle.movable_ranges.specs.Disjoint.{IsDisjoint, IsBelow, Finds, AddsRule};
+ghost use Rattle.movable_ranges.specs.Disjoint.{AreApart, IsBelow, Finds, AddsRule};
 ghost use Rattle.movable_ranges.specs.Shares.{shares_from, is_shared_from, shares_a_word, AreSharedWords};
 
 use crate::marks::mark;
@@ -23,8 +22,7 @@ pub(crate) fn mark_shared(
 )
     requires rewritable { rewritable.now ≡ all_rewritable (plain_view file.now.view.now) }
     requires words { AreSharedWords (plain_view file.now.view.now) words.now }
-    requires disjoint { IsDisjoint ranges.now }
-    requires filled { IsFilled ranges.now }
+    requires ranges { AreApart ranges.now }
     requires len { length marks.old ≡ length ranges.now }
     ensures adds { AddsRule (shares_a_word (plain_view file.now.view.now)) ranges.now marks.old marks.new }
     ensures len { length marks.new ≡ length marks.old }
@@ -45,8 +43,7 @@ fn shared_place(
 ) -> Option<usize>
     requires rewritable { rewritable.now ≡ all_rewritable (plain_view file.now.view.now) }
     requires words { AreSharedWords (plain_view file.now.view.now) words.now }
-    requires disjoint { IsDisjoint ranges.now }
-    requires filled { IsFilled ranges.now }
+    requires ranges { AreApart ranges.now }
     requires below { i < length file.now.view.now.relocs.items }
     ensures found { Finds (λ home n. is_shared_from (plain_view file.now.view.now) home n i) ranges.now result }
     ensures below { IsBelow (length ranges.now) result }

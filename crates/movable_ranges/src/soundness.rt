@@ -1,11 +1,10 @@
 ghost use Rattle.std.specs.Prelude.{◌≡◌, ◌<◌, ◌&&◌, not, nat_le, length};
 ghost use Rattle.elf_reader.specs.File.{plain_view};
 ghost use Rattle.loaded_file.specs.Records.{reloc_at};
-ghost use Rattle.loaded_file.specs.ByteRanges.{IsFilled};
 ghost use Rattle.rewritable_relocations.specs.Marks.{all_rewritable};
 ghost use Rattle.rewritable_relocations.specs.Rewritable.{displacement, is_meant, is_rewritable_pair};
 ghost use Rattle.movable_ranges.specs.Fixed.{is_unrewritable_by, is_unrewritable};
-ghost use Rattle.movable_ranges.specs.Disjoint.{IsDisjoint, IsBelow, Finds, AddsRule};
+ghost use Rattle.movable_ranges.specs.Disjoint.{AreApart, IsBelow, Finds, AddsRule};
 ghost use Rattle.movable_ranges.specs.Meant.{is_direct, is_site_kind, leads_inside};
 
 use crate::marks::mark;
@@ -22,8 +21,7 @@ pub(crate) fn mark_unrewritable(
     ranges: &[ByteRange],
 )
     requires rewritable { rewritable.now ≡ all_rewritable (plain_view file.now.view.now) }
-    requires disjoint { IsDisjoint ranges.now }
-    requires filled { IsFilled ranges.now }
+    requires ranges { AreApart ranges.now }
     requires len { length marks.old ≡ length ranges.now }
     ensures adds { AddsRule (is_unrewritable (plain_view file.now.view.now)) ranges.now marks.old marks.new }
     ensures len { length marks.new ≡ length marks.old }
@@ -41,8 +39,7 @@ fn unrewritable_place(
     i: usize,
 ) -> Option<usize>
     requires rewritable { rewritable.now ≡ all_rewritable (plain_view file.now.view.now) }
-    requires disjoint { IsDisjoint ranges.now }
-    requires filled { IsFilled ranges.now }
+    requires ranges { AreApart ranges.now }
     requires below { i < length file.now.view.now.relocs.items }
     ensures found { Finds (λ home n. is_unrewritable_by (plain_view file.now.view.now) home n i) ranges.now result }
     ensures below { IsBelow (length ranges.now) result }
@@ -62,8 +59,7 @@ fn misled_place(
     reloc: &Reloc,
     is_rewritable: bool,
 ) -> Option<usize>
-    requires disjoint { IsDisjoint ranges.now }
-    requires filled { IsFilled ranges.now }
+    requires ranges { AreApart ranges.now }
     ensures found { Finds (λ home n. is_meant (plain_view file.now.view.now) home n reloc.now && not (nat_le (displacement (plain_view file.now.view.now) home reloc.now) n && is_rewritable)) ranges.now result }
     ensures below { IsBelow (length ranges.now) result }
 {
@@ -75,8 +71,7 @@ fn misled_place(
 
 /// The range that a relocation means, if it leads into it or to its end.
 pub(crate) fn leading_place(file: &LoadedFile, ranges: &[ByteRange], reloc: &Reloc) -> Option<usize>
-    requires disjoint { IsDisjoint ranges.now }
-    requires filled { IsFilled ranges.now }
+    requires ranges { AreApart ranges.now }
     ensures found { Finds (leads_inside (plain_view file.now.view.now) reloc.now) ranges.now result }
     ensures below { IsBelow (length ranges.now) result }
 {

@@ -5,9 +5,8 @@ ghost use Rattle.loaded_file.specs.Ranges.{is_range, is_overlapped};
 ghost use Rattle.loaded_file.specs.ByteRanges.{has_byte_range_in, IsFilled};
 ghost use Rattle.rewritable_relocations.specs.Marks.{all_rewritable};
 ghost use Rattle.movable_ranges.specs.Fixed.{aliases_into, is_movable};
-ghost use Rattle.movable_ranges.specs.Disjoint.{IsDisjoint, mark_at, AddsRule, AreMarks};
-ghost use Rattle.movable_ranges.specs.Rules.{is_immovable_by_symbols, is_immovable_by_relocations, is_immovable};
-ghost use Rattle.movable_ranges.specs.Shares.{AreSharedWords};
+ghost use Rattle.movable_ranges.specs.Disjoint.{AreApart, IsDisjoint, mark_at, AddsRule, AreMarks};
+ghost use Rattle.movable_ranges.specs.Shares.{is_immovable, AreSharedWords};
 
 use crate::aliasing::{aliased_sections, mark_aliased};
 use crate::marks::{no_marks, unmarked};
@@ -60,8 +59,7 @@ fn immovable_marks(
     ranges: &[ByteRange],
 ) -> Result<Vec<bool>, AllocError>
     requires rewritable { rewritable.now ≡ all_rewritable (plain_view file.now.view.now) }
-    requires disjoint { IsDisjoint ranges.now }
-    requires filled { IsFilled ranges.now }
+    requires ranges { AreApart ranges.now }
     ensures { IfOk result (λ immovable. AreMarks (is_immovable (plain_view file.now.view.now) board.now) ranges.now immovable.items) }
 {
     let aliased = aliased_sections(alloc, file)?;
@@ -73,7 +71,8 @@ fn immovable_marks(
     Ok(marks)
 }
 
-/// Marks them, by what is known of sections and words.
+/// Marks them, by what is known of sections and words: in a section without content, by a name, beside an object into
+/// which a relocation aliases, by a relocation that isn't rewritable, or by sites that share a word.
 fn mark_immovable(
     marks: &mut [bool],
     file: &LoadedFile,
@@ -86,53 +85,14 @@ fn mark_immovable(
     requires rewritable { rewritable.now ≡ all_rewritable (plain_view file.now.view.now) }
     requires aliased { (s : ℕ) → mark_at aliased.now s ≡ any_below (aliases_into (plain_view file.now.view.now) s) (length (plain_view file.now.view.now).relocs) }
     requires words { AreSharedWords (plain_view file.now.view.now) words.now }
-    requires disjoint { IsDisjoint ranges.now }
-    requires filled { IsFilled ranges.now }
+    requires ranges { AreApart ranges.now }
     requires len { length marks.old ≡ length ranges.now }
     ensures adds { AddsRule (is_immovable (plain_view file.now.view.now) board.now) ranges.now marks.old marks.new }
-    ensures len { length marks.new ≡ length marks.old }
-{
-    mark_by_symbols(marks, file, board, aliased, ranges);
-    mark_by_relocations(marks, file, rewritable, words, ranges);
-}
-
-/// Marks the ranges that stay by their symbols: in a section without content, by a name, or beside an object
-/// into which a relocation aliases.
-fn mark_by_symbols(
-    marks: &mut [bool],
-    file: &LoadedFile,
-    board: &Board,
-    aliased: &[bool],
-    ranges: &[ByteRange],
-)
-    requires aliased { (s : ℕ) → mark_at aliased.now s ≡ any_below (aliases_into (plain_view file.now.view.now) s) (length (plain_view file.now.view.now).relocs) }
-    requires disjoint { IsDisjoint ranges.now }
-    requires filled { IsFilled ranges.now }
-    requires len { length marks.old ≡ length ranges.now }
-    ensures adds { AddsRule (is_immovable_by_symbols (plain_view file.now.view.now) board.now) ranges.now marks.old marks.new }
     ensures len { length marks.new ≡ length marks.old }
 {
     mark_zeros(marks, file, board, ranges);
     mark_listed(marks, file, board, ranges);
     mark_aliased(marks, file, aliased, ranges);
-}
-
-/// Marks those that stay by relocations: by one that isn't rewritable, or by sites that share a word.
-fn mark_by_relocations(
-    marks: &mut [bool],
-    file: &LoadedFile,
-    rewritable: &[bool],
-    words: &SharedWords,
-    ranges: &[ByteRange],
-)
-    requires rewritable { rewritable.now ≡ all_rewritable (plain_view file.now.view.now) }
-    requires words { AreSharedWords (plain_view file.now.view.now) words.now }
-    requires disjoint { IsDisjoint ranges.now }
-    requires filled { IsFilled ranges.now }
-    requires len { length marks.old ≡ length ranges.now }
-    ensures adds { AddsRule (is_immovable_by_relocations (plain_view file.now.view.now)) ranges.now marks.old marks.new }
-    ensures len { length marks.new ≡ length marks.old }
-{
     mark_unrewritable(marks, file, rewritable, ranges);
     mark_shared(marks, file, rewritable, words, ranges);
 }

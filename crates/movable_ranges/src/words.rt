@@ -2,8 +2,9 @@ ghost use Rattle.std.specs.Prelude.{◌≡◌, ℕ, ◌+◌, ◌<◌, Bool, ◌&
 ghost use Rattle.std.specs.List.{count_by, list_any};
 ghost use Rattle.list_checks.specs.Tests.{any_below};
 ghost use Rattle.elf_reader.specs.File.{plain_symbol, plain_view};
-ghost use Rattle.loaded_file.specs.Records.{reloc_at, symbol_of};
+ghost use Rattle.loaded_file.specs.Records.{reloc_at, counts, symbol_of};
 ghost use Rattle.rewritable_relocations.specs.Marks.{all_rewritable};
+ghost use Rattle.rewritable_relocations.specs.Rewritable.{is_pair_low};
 ghost use Rattle.list_checks.specs.Sorted.{IsSorted, count_below};
 ghost use Rattle.movable_ranges.specs.Shares.{IsCover, leads_some, leads_by, is_high_by, is_low_of_some, gives_some, gives_by, repeats_at, is_low_shared, is_shared_low, AreSharedWords};
 
@@ -180,7 +181,14 @@ fn is_low_of_some(file: &LoadedFile, pairs: &[u64], j: usize) -> bool
     ensures { result ≡ is_low_of_some (plain_view file.now.view.now) j }
 {
     let reloc = &file.view.relocs[j];
-    counts(file, reloc) && is_pair_low(reloc.kind) && has(pairs, high_address(file.view, reloc))
+    counts_as_low(file, reloc) && has(pairs, high_address(file.view, reloc))
+}
+
+/// A relocation counts, and is of the low part of a pair.
+fn counts_as_low(file: &LoadedFile, reloc: &Reloc) -> bool
+    ensures { result ≡ counts (plain_view file.now.view.now) reloc.now && is_pair_low reloc.now.kind }
+{
+    counts(file, reloc) && is_pair_low(reloc.kind)
 }
 
 /// Where the AUIPC of a low part stands: at its symbol.
@@ -228,8 +236,7 @@ fn is_low_shared(file: &LoadedFile, sites: &[u64], j: usize) -> bool
     requires below { j < length file.now.view.now.relocs.items }
     ensures { result ≡ is_low_shared (plain_view file.now.view.now) j }
 {
-    let reloc = &file.view.relocs[j];
-    counts(file, reloc) && is_pair_low(reloc.kind) && is_shared(file.view, sites, j)
+    counts_as_low(file, &file.view.relocs[j]) && is_shared(file.view, sites, j)
 }
 
 /// There are two sites at the address of relocation `j`.

@@ -1,7 +1,7 @@
 use Rattle.std.proofs.Common.{◌≡◌, length, arith}
 use Rattle.elf_reader.specs.File.{plain_view}
-use Rattle.movable_ranges.specs.Rules.{is_immovable}
 use Rattle.movable_ranges.proofs.MarkLemmas.{marks_written}
+use Rattle.movable_ranges.specs.Shares.{is_immovable}
 use Rattle.movable_ranges.proofs.top.immovable_marks.Goals as goal
 
 pub returns : goal.returns
