@@ -31,20 +31,20 @@ other_object inside Beq = known_if inside false
 other_object inside Bne = known_if inside true
 other_object inside kind = None
 
--- an address up to the end of its object, and 0: they are not the same, and 0 is below
+-- an address up to the end of its object, and 0, which is the first of the two or the second: they are not the same, and
+-- 0 is below
+abbrev pub beside_zero : Bool → Bool → BranchKind → Option Bool
+beside_zero zero_first near Beq = known_if near false
+beside_zero zero_first near Bne = known_if near true
+beside_zero zero_first near Bltu = known_if near zero_first
+beside_zero zero_first near Bgeu = known_if near (not zero_first)
+beside_zero zero_first near kind = None
+
 abbrev pub above_zero : Bool → BranchKind → Option Bool
-above_zero near Beq = known_if near false
-above_zero near Bne = known_if near true
-above_zero near Bltu = known_if near false
-above_zero near Bgeu = known_if near true
-above_zero near kind = None
+above_zero near kind = beside_zero false near kind
 
 abbrev pub zero_below : Bool → BranchKind → Option Bool
-zero_below near Beq = known_if near false
-zero_below near Bne = known_if near true
-zero_below near Bltu = known_if near true
-zero_below near Bgeu = known_if near false
-zero_below near kind = None
+zero_below near kind = beside_zero true near kind
 
 -- whether a branch is taken, where it is known
 abbrev pub compare : Objects → BranchKind → Val → Val → Option Bool

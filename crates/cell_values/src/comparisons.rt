@@ -1,6 +1,6 @@
 ghost use Rattle.std.specs.Prelude.{◌≡◌, ◌<◌, length};
 ghost use Rattle.cell_values.specs.Objects.{IsOfGraph, objects_of, object_of};
-ghost use Rattle.cell_values.specs.Comparisons.{compare, known_if, within, same_object, other_object, above_zero, zero_below};
+ghost use Rattle.cell_values.specs.Comparisons.{compare, known_if, within, same_object, other_object, beside_zero};
 
 use crate::values::Val;
 use object_graph::Graph;
@@ -24,10 +24,10 @@ pub fn compare(kind: BranchKind, a: &Val, b: &Val, graph: &Graph) -> Option<bool
             other_object(inside, kind)
         }
         (Val::Addr { obj, off }, Val::Int(n)) => {
-            above_zero(n == 0 && off <= size_of(obj, graph), kind)
+            beside_zero(false, n == 0 && off <= size_of(obj, graph), kind)
         }
         (Val::Int(n), Val::Addr { obj, off }) => {
-            zero_below(n == 0 && off <= size_of(obj, graph), kind)
+            beside_zero(true, n == 0 && off <= size_of(obj, graph), kind)
         }
         _ => None,
     }
@@ -72,24 +72,16 @@ fn other_object(inside: bool, kind: BranchKind) -> Option<bool>
     }
 }
 
-/// An address and a number; `near` says that the one lies up to the end of its object and the other is 0.
-fn above_zero(near: bool, kind: BranchKind) -> Option<bool>
-    ensures { result ≡ above_zero near kind }
+/// An address and a number, which is the first of the two where `zero_first` holds; `near` says that the one lies up to the end
+/// of its object and the other is 0.
+fn beside_zero(zero_first: bool, near: bool, kind: BranchKind) -> Option<bool>
+    ensures { result ≡ beside_zero zero_first near kind }
 {
     match kind {
-        BranchKind::Beq | BranchKind::Bltu => known_if(near, false),
-        BranchKind::Bne | BranchKind::Bgeu => known_if(near, true),
-        BranchKind::Blt | BranchKind::Bge => None,
-    }
-}
-
-/// A number and an address; `near` says that the one is 0 and the other lies up to the end of its object.
-fn zero_below(near: bool, kind: BranchKind) -> Option<bool>
-    ensures { result ≡ zero_below near kind }
-{
-    match kind {
-        BranchKind::Beq | BranchKind::Bgeu => known_if(near, false),
-        BranchKind::Bne | BranchKind::Bltu => known_if(near, true),
+        BranchKind::Beq => known_if(near, false),
+        BranchKind::Bne => known_if(near, true),
+        BranchKind::Bltu => known_if(near, zero_first),
+        BranchKind::Bgeu => known_if(near, !zero_first),
         BranchKind::Blt | BranchKind::Bge => None,
     }
 }

@@ -98,27 +98,9 @@ Cause command_fault.Usage words old new sink mid = IsNoCommand words × (new ≡
 Cause (command_fault.Read place) words old new sink mid = ReadFails words place old new × (mid ≡ sink)
 Cause (command_fault.Write place) words old new sink mid =
     (WriteFails words place old new × (mid ≡ sink)) ⊎ PrintFails words place old new sink mid
-Cause (command_fault.Board fault) words old new sink mid =
-    InputFails words (command_fault.Board fault) old new × (mid ≡ sink)
-Cause (command_fault.Elf fault) words old new sink mid =
-    InputFails words (command_fault.Elf fault) old new × (mid ≡ sink)
-Cause (command_fault.Analyse fault) words old new sink mid =
-    InputFails words (command_fault.Analyse fault) old new × (mid ≡ sink)
-Cause (command_fault.AddressFault pc why) words old new sink mid =
-    InputFails words (command_fault.AddressFault pc why) old new × (mid ≡ sink)
-Cause (command_fault.Certificate fault) words old new sink mid =
-    InputFails words (command_fault.Certificate fault) old new × (mid ≡ sink)
-Cause command_fault.BadChoice words old new sink mid = InputFails words command_fault.BadChoice old new × (mid ≡ sink)
-Cause (command_fault.WrongTree side node) words old new sink mid =
-    InputFails words (command_fault.WrongTree side node) old new × (mid ≡ sink)
-Cause (command_fault.Hex fault) words old new sink mid =
-    InputFails words (command_fault.Hex fault) old new × (mid ≡ sink)
-Cause (command_fault.Differs at) words old new sink mid =
-    InputFails words (command_fault.Differs at) old new × (mid ≡ sink)
-Cause (command_fault.SourceFault pc why) words old new sink mid =
-    InputFails words (command_fault.SourceFault pc why) old new × (mid ≡ sink)
 Cause command_fault.Memory words old new sink mid =
     (WantsBeforeWriting words old new ⊎ WriteWantsMemory words old new) × (mid ≡ sink)
+Cause fault words old new sink mid = InputFails words fault old new × (mid ≡ sink)
 
 -- a fault whose line is still to be put, and why it came
 pub record HasCause (words : List (List ℕ)) (old new : ShelfView) (sink mid : SinkView) (r : Diagnostic)

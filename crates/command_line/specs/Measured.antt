@@ -19,15 +19,10 @@ pub record MeasuresTo (file board_text input : List ℕ) (end : MeasuredEnd) : T
 
 -- whether a command measures a program
 abbrev pub measures : PlainCommand → Bool
-measures (run_command file board input out) = false
 measures (relink_command file board input out cert) = true
 measures (profile_command file board input) = true
-measures (compare_command file relinked board input) = false
 measures (check_command file board input cert) = true
-measures (show_command file board) = false
-measures (gen_command seed kernels out) = false
-measures (hex_command file out) = false
-measures (hex_check_command file hex) = false
+measures command = false
 
 -- what a command tells of the run that it measures, or nothing where it measures none: a rule for each that does
 pub data TellsEnd (command : PlainCommand) (inputs : List (List ℕ)) (told : Option MeasuredEnd) : Type 0 where

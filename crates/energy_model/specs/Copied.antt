@@ -24,15 +24,9 @@ unit_words g copied b k = if copied then copy_size (λ a. true) (kind_of (is_sit
 -- the words more of a copied last unit that leads out of its copy, `next` being where control goes: a branch out that is
 -- taken, a jump out
 abbrev pub exit_words : (ℕ → Bool) → ℕ → UnitKind → ℕ
-exit_words inside next Plain = 0
-exit_words inside next (Upper rd value) = 0
 exit_words inside next (Branch kind rs1 rs2 target) = if (next == target) && not (inside target) then 2 else 0
 exit_words inside next (Jump target) = if inside target then 0 else 1
-exit_words inside next (Call target back link) = 0
-exit_words inside next (Tail target register) = 0
-exit_words inside next Indirect = 0
-exit_words inside next (Linking back link base imm) = 0
-exit_words inside next Halt = 0
+exit_words inside next kind = 0
 
 -- and those behind it where its block falls out
 abbrev pub leaving_words : (ℕ → Bool) → ℕ → UnitKind → End → ℕ

@@ -33,18 +33,22 @@ scene_of g c t board =
       board = board;
     }
 
-abbrev pub layout_of : Graph → Code → RegionTable → Board → Layout
-layout_of g c t board =
+-- what rows and weights depend on where a programme has this many regions
+abbrev pub layout_with : Board → Graph → Code → ℕ → Layout
+layout_with board g c regions =
     record {
       scratchpad = board.spm.size;
       patch = board.patch.size;
       fence_i = board.fence_i;
       blocks = length c.blocks.items;
       objects = length g.objects.items;
-      regions = t.count;
+      regions = regions;
       displaced = [];
       grain = board.grain;
     }
+
+abbrev pub layout_of : Graph → Code → RegionTable → Board → Layout
+layout_of g c t board = layout_with board g c t.count
 
 -- the transitions are of a run of the program of a file on a board, for the board's steps or until it ends, and the profile
 -- tells of them. The run begins where execution of the file does, which is where a block of the code begins

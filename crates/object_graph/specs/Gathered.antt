@@ -88,32 +88,34 @@ leads_by v ranges k offset i =
 
 -- ---- sites
 
+-- relocation `j` stands where the site `s` of a range of the list does, and is of its kind, and this holds
+abbrev pub marks_site : PlainView → List ByteRange → Site → ℕ → Bool → Bool
+marks_site v ranges s j holds =
+    nat_lt s.object (length ranges)
+    && (((reloc_at v j).at == s.at)
+    && makes_part s.kind (reloc_at v j).kind
+    && holds)
+
 -- relocation `j` gives the site `s` of a range of the list: by itself; as the upper part of a pair; as the
 -- lower part of one; in any way
 abbrev pub gives_alone : PlainView → List ByteRange → Site → ℕ → Bool
 gives_alone v ranges s j =
-    nat_lt s.object (length ranges)
-    && (((reloc_at v j).at == s.at)
-    && makes_part s.kind (reloc_at v j).kind
-    && gives_directly v (byte_range_at ranges s.object).home (byte_range_at ranges s.object).size s.offset j)
+    marks_site v ranges s j
+    (gives_directly v (byte_range_at ranges s.object).home (byte_range_at ranges s.object).size s.offset j)
 
 abbrev pub gives_high : PlainView → List ByteRange → Site → ℕ → Bool
 gives_high v ranges s j = ((reloc_at v j).kind == 23) && gives_alone v ranges s j
 
 abbrev pub gives_low : PlainView → List ByteRange → Site → ℕ → Bool
 gives_low v ranges s j =
-    nat_lt s.object (length ranges)
-    && (((reloc_at v j).at == s.at)
-    && makes_part s.kind (reloc_at v j).kind
-    && (counts v (reloc_at v j)
-    && any_below (gives_low_of v (byte_range_at ranges s.object).home (byte_range_at ranges s.object).size s.offset j) (length v.relocs)))
+    marks_site v ranges s j
+    (counts v (reloc_at v j)
+    && any_below (gives_low_of v (byte_range_at ranges s.object).home (byte_range_at ranges s.object).size s.offset j) (length v.relocs))
 
 abbrev pub is_site_in : PlainView → List ByteRange → Site → ℕ → Bool
 is_site_in v ranges s j =
-    nat_lt s.object (length ranges)
-    && (((reloc_at v j).at == s.at)
-    && makes_part s.kind (reloc_at v j).kind
-    && gives_offset v (byte_range_at ranges s.object).home (byte_range_at ranges s.object).size s.offset j)
+    marks_site v ranges s j
+    (gives_offset v (byte_range_at ranges s.object).home (byte_range_at ranges s.object).size s.offset j)
 
 -- where a site and a word of data stand
 abbrev pub site_place : Site → ℕ

@@ -14,7 +14,7 @@ use Rattle.overlay_stubs.specs.Homes.{bytes_if_before}
 use Rattle.overlay_stubs.specs.PlainStubs.{PlainStub, home_of, stub_code, stub_bytes, stubs_bytes, bytes_below}
 use Rattle.overlay_stubs.specs.Layout.{CodePlan, AreCodeWords, stubs_at, images_at, image_places, bytes_behind}
 use Rattle.overlay_stubs.specs.Start.{start_bytes, start_stub}
-use Rattle.overlay_stubs.specs.Laws.{StubStands, LiesInside, PartsStand}
+use Rattle.overlay_stubs.specs.Laws.{StubStands, LiesInside, PartsStand, ImagesStand}
 use Rattle.overlay_stubs.proofs.Held.{held_front, held_behind}
 use Rattle.overlay_stubs.proofs.Order.{Ascend, ascend_from, ascend_behind, below_more, below_fits, first_below, later_below}
 
@@ -131,7 +131,7 @@ module _ (p : CodePlan) (words : List ℕ) (are : AreCodeWords p words) where
         subst (λ (s : PlainStub). StandsAt mem (stubs_at p + bytes_below s.home are.ordered) s) here found in
         subst (λ n. StandsAt mem (stubs_at p + n) stub) same there
 
-    pub images_stand : (j : ℕ) → j < length p.images → HoldsAt mem (slice_index (image_places (images_at p) p.images) j) (slice_index_or p.images j [])
+    pub images_stand : ImagesStand mem (images_at p) p.images
     images_stand j below =
         let count = jumps_count in
         images_found p.images mem (images_at p) j
@@ -141,7 +141,7 @@ pub parts_stand_so : PartsStand
 parts_stand_so =
     record {
       stubs = λ p words mem are held. stubs_stand p words are mem held;
-      images = λ p words mem j are held below. images_stand p words are mem held j below;
+      images = λ p words mem are held. images_stand p words are mem held;
       inside = lies_inside;
       count = λ p words are. words_count p words are;
     }

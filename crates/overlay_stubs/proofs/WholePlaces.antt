@@ -12,6 +12,7 @@ use Rattle.overlay_stubs.specs.Homes.{bytes_if_before}
 use Rattle.overlay_stubs.specs.Serving.{ServingStub, serving_home, serving_size, serving_bytes, served_before}
 use Rattle.overlay_stubs.specs.Layout.{image_places}
 use Rattle.overlay_stubs.specs.Overlay.{OverlayPlan, switch_code, switch_bytes, switch_at, serving_at, overlay_images_at, rest_bytes, AreOverlayWords}
+use Rattle.overlay_stubs.specs.Laws.{ImagesStand}
 use Rattle.overlay_stubs.specs.Served.{HoldsCode, ServingStands, IsServedInside, OverlayStands}
 use Rattle.overlay_stubs.proofs.Held.{held_front, held_behind}
 use Rattle.overlay_stubs.proofs.Order.{ascend_from, below_fits}
@@ -106,7 +107,7 @@ module _ (p : OverlayPlan) (words : List ℕ) (are : AreOverlayWords p words) wh
         subst (λ (s : ServingStub). StandsAt p.start.base (switch_at p) mem (serving_at p + served_before s.home are.ordered) s) here found in
         subst (λ n. StandsAt p.start.base (switch_at p) mem (serving_at p + n) stub) same there
 
-    pub images_stand : (j : ℕ) → j < length p.images → HoldsAt mem (slice_index (image_places (overlay_images_at p) p.images) j) (slice_index_or p.images j [])
+    pub images_stand : ImagesStand mem (overlay_images_at p) p.images
     images_stand j below =
         let count = switch_count in
         images_found p.images mem (overlay_images_at p) j
@@ -117,7 +118,7 @@ overlay_stands_so =
     record {
       stubs = λ p words mem are held. stubs_stand p words are mem held;
       switch = λ p words mem are held. (are.switch, (are.switches, switch_stands p words are mem held));
-      images = λ p words mem j are held below. images_stand p words are mem held j below;
+      images = λ p words mem are held. images_stand p words are mem held;
       inside = served_inside;
       count = λ p words are. words_count p words are;
     }

@@ -63,14 +63,18 @@ pub record LiesInside (p : CodePlan) (stub : PlainStub) : Type 0 where
   pub from : stubs_at p ≤ stub_place p stub
   pub ends : stub_place p stub + stub_bytes stub ≤ images_at p
 
+-- images stand in memory, one behind the other
+abbrev pub ImagesStand : Memory → ℕ → List (List ℕ) → Type 0
+ImagesStand mem first images =
+    (j : ℕ) → j < length images → HoldsAt mem (slice_index (image_places first images) j) (slice_index_or images j [])
+
 -- where the words of a plan stand in memory, each stub and each image stands at its place. There are as many words as
 -- the parts take
 pub record PartsStand : Type 0 where
   pub stubs : (p : CodePlan) (words : List ℕ) (mem : Memory) → AreCodeWords p words →
       HoldsAt mem p.start.base words → All (StubStands p mem) p.stubs
-  pub images : (p : CodePlan) (words : List ℕ) (mem : Memory) (j : ℕ) → AreCodeWords p words →
-      HoldsAt mem p.start.base words → j < length p.images →
-      HoldsAt mem (slice_index (image_places (images_at p) p.images) j) (slice_index_or p.images j [])
+  pub images : (p : CodePlan) (words : List ℕ) (mem : Memory) → AreCodeWords p words →
+      HoldsAt mem p.start.base words → ImagesStand mem (images_at p) p.images
   pub inside : (p : CodePlan) → p.start.base % 4 ≡ 0 → All (LiesInside p) p.stubs
   pub count : (p : CodePlan) (words : List ℕ) → AreCodeWords p words →
       4 * length words ≡ 64 + start_bytes p.start + bytes_behind p

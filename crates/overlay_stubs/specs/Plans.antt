@@ -59,12 +59,17 @@ code_plan plan =
       images = map words_of plan.images.items;
     }
 
--- its code: all words, and where the parts stand, in the plan's order
-pub record IsStubCode (p : CodePlan) (code : StubCode) : Type 0 where
-  pub words : AreCodeWords p code.words.items
-  pub start : code.start ≡ start_at p.start
-  pub stub_at : code.stub_at.items ≡ map (stub_place p) p.stubs
-  pub image_at : code.image_at.items ≡ image_places (images_at p) p.images
+-- a code: words that a plan asks for, and where the start stub, the stubs and the images stand, in the plan's order
+pub record HasParts (asked : List ℕ → Type 0) (first : ℕ) (places images : List ℕ) (code : StubCode) : Type 0 where
+  pub words : asked code.words.items
+  pub start : code.start ≡ first
+  pub stub_at : code.stub_at.items ≡ places
+  pub image_at : code.image_at.items ≡ images
+
+-- its code: all words, and where the parts stand
+abbrev pub IsStubCode : CodePlan → StubCode → Type 0
+IsStubCode p code =
+    HasParts (AreCodeWords p) (start_at p.start) (map (stub_place p) p.stubs) (image_places (images_at p) p.images) code
 
 -- ---- whole plans
 
@@ -113,12 +118,10 @@ overlay_plan plan =
 abbrev pub has_twin : OverlayPlan → ℕ → Bool
 has_twin p i = p.twins && ((i % 2 == 1) || nat_lt i (p.regions - 1))
 
--- its code: all words, and where the parts stand, in the plan's order
-pub record IsOverlayCode (p : OverlayPlan) (code : StubCode) : Type 0 where
-  pub words : AreOverlayWords p code.words.items
-  pub start : code.start ≡ start_at p.start
-  pub stub_at : code.stub_at.items ≡ map (serving_place p) p.stubs
-  pub image_at : code.image_at.items ≡ image_places (overlay_images_at p) p.images
+-- its code: all words, and where the parts stand
+abbrev pub IsOverlayCode : OverlayPlan → StubCode → Type 0
+IsOverlayCode p code =
+    HasParts (AreOverlayWords p) (start_at p.start) (map (serving_place p) p.stubs) (image_places (overlay_images_at p) p.images) code
 
 -- and its sizes, in bytes
 abbrev pub overlay_sizes : OverlayPlan → StubSizes

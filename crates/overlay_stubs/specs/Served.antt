@@ -1,5 +1,5 @@
 -- Where the parts of the code of a patch range stand in memory, and how stubs with a region come from a pad to their body.
-use Rattle.std.specs.Prelude.{◌≡◌, ℕ, ◌+◌, ◌*◌, ◌%◌, ◌<◌, ◌≤◌, List, [], ◌∷◌, length, slice_index, slice_index_or, All, Contains}
+use Rattle.std.specs.Prelude.{◌≡◌, ℕ, ◌+◌, ◌*◌, ◌%◌, ◌<◌, ◌≤◌, List, [], ◌∷◌, length, slice_index, All, Contains}
 use Rattle.word_bits.specs.Memory.{Memory, word_at}
 use Rattle.rv_decode.specs.declared.instructions.Instr.TheVariants.{Jal}
 use Rattle.rv_decode.specs.Acts.{HoldsWords}
@@ -14,7 +14,7 @@ use Rattle.copy_jobs.specs.Told.{Way, read_at}
 use Rattle.switch_routine.specs.Switching.{routine_run, switch_jobs}
 use Rattle.switch_routine.specs.Switches.{CameTo, Switched, switch_accesses}
 use Rattle.overlay_stubs.specs.Start.{start_at, start_bytes}
-use Rattle.overlay_stubs.specs.Layout.{image_places}
+use Rattle.overlay_stubs.specs.Laws.{ImagesStand}
 use Rattle.overlay_stubs.specs.Serving.{ServingStub, serving_size, IsBody, AreStubWords}
 use Rattle.overlay_stubs.specs.Overlay.{OverlayPlan, switching, switch_code, switch_at, serving_at, serving_place, overlay_images_at, rest_bytes, CanHold, AreOverlayWords}
 
@@ -44,9 +44,8 @@ pub record OverlayStands : Type 0 where
       All (ServingStands p mem) p.stubs
   pub switch : (p : OverlayPlan) (words : List ℕ) (mem : Memory) → AreOverlayWords p words → HoldsCode mem p.start.base words →
       (switch : List ℕ) × (MeanAll switch (switch_code p) × HoldsAt mem (switch_at p) switch)
-  pub images : (p : OverlayPlan) (words : List ℕ) (mem : Memory) (j : ℕ) → AreOverlayWords p words →
-      HoldsCode mem p.start.base words → j < length p.images →
-      HoldsAt mem (slice_index (image_places (overlay_images_at p) p.images) j) (slice_index_or p.images j [])
+  pub images : (p : OverlayPlan) (words : List ℕ) (mem : Memory) → AreOverlayWords p words →
+      HoldsCode mem p.start.base words → ImagesStand mem (overlay_images_at p) p.images
   pub inside : (p : OverlayPlan) → p.start.base % 4 ≡ 0 → All (IsServedInside p) p.stubs
   pub count : (p : OverlayPlan) (words : List ℕ) → AreOverlayWords p words →
       4 * length words ≡ 64 + start_bytes p.start + rest_bytes p

@@ -74,29 +74,27 @@ abbrev pub is_upper_pair : PlainView → Reloc → Bool
 is_upper_pair v r = is_upper_of v r 23 23 (distance v r)
 
 -- how many symbols or relocations a list is of, which of them it has, and their numbers
+pub record Numbering : Type 0 where
+  pub count : ℕ
+  pub listed : ℕ → Bool
+  pub number : ℕ → ℕ
+
+abbrev pub numbering : Listed → PlainView → Numbering
+numbering RangeStart v = record { count = length v.symbols; listed = is_ranged v; number = range_start v }
+numbering RangeEnd v = record { count = length v.symbols; listed = is_ranged v; number = range_end v }
+numbering ChangeStart v = record { count = length v.relocs; listed = is_changing v; number = change_start v }
+numbering ChangeEnd v = record { count = length v.relocs; listed = is_changing v; number = change_end v }
+numbering Call v = record { count = length v.relocs; listed = is_calling v; number = change_start v }
+numbering LowKey v = record { count = length v.relocs; listed = is_lower v; number = low_key v }
+
 abbrev pub count_of : Listed → PlainView → ℕ
-count_of RangeStart v = length v.symbols
-count_of RangeEnd v = length v.symbols
-count_of ChangeStart v = length v.relocs
-count_of ChangeEnd v = length v.relocs
-count_of Call v = length v.relocs
-count_of LowKey v = length v.relocs
+count_of list v = (numbering list v).count
 
 abbrev pub is_listed : Listed → PlainView → ℕ → Bool
-is_listed RangeStart v = is_ranged v
-is_listed RangeEnd v = is_ranged v
-is_listed ChangeStart v = is_changing v
-is_listed ChangeEnd v = is_changing v
-is_listed Call v = is_calling v
-is_listed LowKey v = is_lower v
+is_listed list v = (numbering list v).listed
 
 abbrev pub number_of : Listed → PlainView → ℕ → ℕ
-number_of RangeStart v = range_start v
-number_of RangeEnd v = range_end v
-number_of ChangeStart v = change_start v
-number_of ChangeEnd v = change_end v
-number_of Call v = change_start v
-number_of LowKey v = low_key v
+number_of list v = (numbering list v).number
 
 -- the lists are those of a view
 pub record AreListsOf (v : PlainView) (lists : RelocationLists) : Type 0 where

@@ -210,14 +210,18 @@ table_symbols_below seed (suc i) =
     ++ record { name = numbered 116 i; value = table_start seed i; size = 4 * table_words seed i; kind = 1; section = 2 }
     ∷ []
 
-abbrev pub workload_symbols : ℕ → ℕ → List SymbolPlan
-workload_symbols seed k =
+-- the symbols of a program of `k` kernels with these of its tables
+abbrev pub symbols_with : ℕ → List SymbolPlan → List SymbolPlan
+symbols_with k tables =
     record { name = codes "main"; value = text_start; size = main_size k; kind = 2; section = 1 }
     ∷ []
     ++ kernel_symbols_below k k
-    ++ table_symbols_below seed k
+    ++ tables
     ++ record { name = codes "out"; value = out_start; size = 4; kind = 1; section = 3 }
     ∷ []
+
+abbrev pub workload_symbols : ℕ → ℕ → List SymbolPlan
+workload_symbols seed k = symbols_with k (table_symbols_below seed k)
 
 -- a section of words
 abbrev pub words_plan : List ℕ → ℕ → ℕ → List ℕ → List Reloc → SectionPlan
