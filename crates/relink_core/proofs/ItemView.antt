@@ -278,7 +278,7 @@ module _ (file : List ℕ) (board : Board) (s : CopySource) (p : PlainProgramme)
           let count = length-map pl.pieces piece_words in
           let all = image_places (images_at whole_plan) whole_plan.images in
           let held_there : HoldsAt memory (slice_index all j) (get_or whole_plan.images j []) =
-          parts_stand_so.images whole_plan patch.words memory j words_are words_hold (omega (arith, below, count)) in
+          parts_stand_so.images whole_plan patch.words memory words_are words_hold j (omega (arith, below, count)) in
           let place : get_or all j 0 ≡ x.image = ap (λ (ns : List ℕ). get_or ns j 0) (sym images) ∙ get_or-map piece_image pl.pieces j d 0 below in
           let words : get_or whole_plan.images j [] ≡ x.words = get_or-map piece_words pl.pieces j d [] below in
           record {
