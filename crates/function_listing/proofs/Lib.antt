@@ -1,2 +1,3 @@
 pub mod AllowedLemmas
 pub mod Examples
+pub mod RegionExample

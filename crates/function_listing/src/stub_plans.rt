@@ -1,10 +1,12 @@
-ghost use Rattle.std.specs.Prelude.{◌≡◌, map, All, IfOk};
+ghost use Rattle.std.specs.Prelude.{◌≡◌, [], ◌∷◌, map, length, All, IfOk};
 ghost use Rattle.overlay_stubs.specs.Layout.{CanStand};
-ghost use Rattle.overlay_stubs.specs.Plans.{IsPlain, IsPlainPlan, code_plan, plain_stub, words_of};
+ghost use Rattle.overlay_stubs.specs.Serving.{jumps_to};
+ghost use Rattle.overlay_stubs.specs.Overlay.{CanHold};
+ghost use Rattle.overlay_stubs.specs.Plans.{IsPlain, IsPlainPlan, HasLists, code_plan, overlay_plan, plain_stub, serving_stub, jobs_of, words_of};
 
 use anyhow::{Result, bail};
 use copy_jobs::CopyJob;
-use overlay_stubs::{Body, Stub, StubPlan, plain_code, sizes};
+use overlay_stubs::{Body, Stub, StubCode, StubPlan, StubSizes, plain_code, sizes, stubs};
 use std::alloc::{AllocError, Global};
 
 /// A piece of twelve words, copied for the scratchpad: a table is added, and the last jump goes home.
@@ -123,14 +125,90 @@ fn plan_named(alloc: Global, name: &str) -> Result<StubPlan>
     }
 }
 
-/// Tells the words of the patch range for the plan `words`, `bytes` or `piece`, and where the parts stand.
-pub(crate) fn tell_stub(rt: &(impl Print + AllocGlobal), text: &str) -> Result<()> {
-    let plan = plan_named(rt.alloc(), text)?;
-    let code = plain_code(rt.alloc(), &plan)?;
-    println!(rt; "stub of {text} at {:#x}, {:?}", code.start, sizes(&plan))?;
+/// The stub of an entry in a region: it jumps to the copy that the region's job brings in.
+fn region_stub() -> Stub
+    ensures { serving_stub result ≡ record { home = 65568; temp = 5; region = 1; body = jumps_to 16777216 } }
+{
+    Stub {
+        home: 0x0001_0020,
+        temp: 5,
+        region: 1,
+        body: Body::Jump { to: 0x0100_0000 },
+    }
+}
+
+/// The job that brings the copy in, from its image.
+fn enter_job() -> CopyJob
+    ensures { result ≡ record { from = 590092; to = 16777216; bytes = 8 } }
+{
+    CopyJob {
+        from: 0x0009_010c,
+        to: 0x0100_0000,
+        bytes: 8,
+    }
+}
+
+/// One region with these jobs.
+fn one_region(alloc: Global, jobs: Vec<CopyJob>) -> Result<Vec<Vec<CopyJob>>, AllocError>
+    ensures jobs { IfOk result (λ lists. map jobs_of lists.items ≡ jobs.items ∷ []) }
+    ensures one { IfOk result (λ lists. length lists.items ≡ 1) }
+{
+    let lists = vec![in alloc; jobs]?;
+    Ok(lists)
+}
+
+/// A plan with one region, which one job enters and none leaves.
+fn plan_of_region(alloc: Global) -> Result<StubPlan, AllocError>
+    ensures can { IfOk result (λ plan. CanHold (overlay_plan plan)) }
+    ensures lists { IfOk result HasLists }
+{
+    let stubs = vec![in alloc; region_stub()]?;
+    let jobs = vec![in alloc; enter_job()]?;
+    let image = Vec::from_slice(alloc, &[0x00a0_0513, 0x0000_8067])?;
+    let leave = one_region(alloc, Vec::new(alloc))?;
+    let enter = one_region(alloc, jobs)?;
+    let kept_leave = one_region(alloc, Vec::new(alloc))?;
+    let kept_enter = one_region(alloc, Vec::new(alloc))?;
+    let images = vec![in alloc; image]?;
+    Ok(StubPlan {
+        base: 0x0009_0000,
+        entry: 0x0001_0000,
+        fence_i: false,
+        twins: false,
+        start: Vec::new(alloc),
+        stubs,
+        regions: 1,
+        leave,
+        enter,
+        kept_leave,
+        kept_enter,
+        images,
+    })
+}
+
+/// Tells the words of the patch range, and where the parts stand.
+fn tell_code(rt: &impl Print, text: &str, code: &StubCode, sizes: StubSizes) -> Result<()> {
+    println!(rt; "stub of {text} at {:#x}, {:?}", code.start, sizes)?;
     println!(rt; "  stubs {:?}, images {:?}", code.stub_at, code.image_at)?;
     for word in &code.words {
         println!(rt; "  {word:#010x}")?;
     }
     Ok(())
+}
+
+/// Tells of the plan with a region.
+fn tell_region(rt: &(impl Print + AllocGlobal)) -> Result<()> {
+    let plan = plan_of_region(rt.alloc())?;
+    let code = stubs(rt.alloc(), &plan)?;
+    tell_code(rt, "region", &code, sizes(&plan))
+}
+
+/// Tells the words of the patch range for the plan `words`, `bytes`, `piece` or `region`, and where the parts stand.
+pub(crate) fn tell_stub(rt: &(impl Print + AllocGlobal), text: &str) -> Result<()> {
+    if text == "region" {
+        return tell_region(rt);
+    }
+    let plan = plan_named(rt.alloc(), text)?;
+    let code = plain_code(rt.alloc(), &plan)?;
+    tell_code(rt, text, &code, sizes(&plan))
 }
