@@ -1,9 +1,9 @@
 -- The weights of a candidate stand in rows of its side.
-use Rattle.std.proofs.Common.{◌≡◌, ℕ, zero, suc, ◌+◌, ◌*◌, ◌<◌, ◌≤◌, true, false, List, [], ◌∷◌, ◌++◌, length, length-append, arith}
+use Rattle.std.proofs.Common.{◌≡◌, ℕ, zero, suc, ◌+◌, ◌*◌, ◌<◌, ◌≤◌, Bool, true, false, List, [], ◌∷◌, ◌++◌, length, length-append, arith}
 use Rattle.std.proofs.lemmas.List.{length-replicate}
 use Rattle.std.proofs.Math.Nat.{mul-le-mul_left}
 use Rattle.placement_programme.specs.Bounds.{RowsWithin, row_of}
-use Rattle.placement_programme.specs.Rows.{Layout, static_data, static_code, overlay_data, overlay_code, off_capacities, on_capacities, in_rows, blocks_of, off_block_row, block_row, object_row, data_span, code_span, on_code_bytes, job_bytes, patch_row}
+use Rattle.placement_programme.specs.Rows.{Layout, static_data, static_code, overlay_data, overlay_code, kept_data, off_capacities, on_capacities, in_rows, blocks_of, off_block_row, block_row, object_row, data_span, code_span, on_code_bytes, job_bytes, patch_row, space_row, first_twin, kept_data_bytes, pairs_of}
 use Rattle.placement_programme.specs.Laws.{WeightsAreInRows}
 
 pub rows_lower : (low mid high : ℕ) (ws : List (ℕ × ℕ)) → low ≤ mid → RowsWithin mid high ws → RowsWithin low high ws
@@ -38,6 +38,11 @@ object_rows_end regions o objects inside =
     let more = mul-le-mul_left regions inside in
     omega (arith, more)
 
+-- the regions of a pair are among those that there are
+pub pair_inside : (twins : Bool) (regions pair : ℕ) → pair ≤ pairs_of twins regions → 2 * pair ≤ regions
+pair_inside false regions pair is = omega (arith, is)
+pair_inside true regions pair is = omega (arith, is)
+
 pub weights_in_rows : WeightsAreInRows
 weights_in_rows false l (static_data o) inside side = rw (off_length l) (omega arith, omega arith, (omega arith, omega arith, tt))
 weights_in_rows false l (static_code c) inside side =
@@ -52,6 +57,7 @@ weights_in_rows false l (static_code c) inside side =
     )
 weights_in_rows false l (overlay_data r o) inside side = absurd side
 weights_in_rows false l (overlay_code r c) inside side = absurd side
+weights_in_rows false l (kept_data pair o) inside side = absurd side
 weights_in_rows true l (static_data o) inside side =
     let end = object_rows_end l.regions o.number l.objects inside in
     let count = l.regions + 2 + l.blocks + l.objects * l.regions in
@@ -90,3 +96,14 @@ weights_in_rows true l (overlay_code r c) inside side =
         in_rows_within (block_row l c.first) (blocks_of c) 1 (suc (patch_row l)) count (omega arith) (omega (arith, part.0, part.1)),
       ),
     )
+weights_in_rows true l (kept_data pair o) inside side =
+    let end = object_rows_end l.regions o.number l.objects inside.1 in
+    let some = inside.0.0 in
+    let pair_end = pair_inside l.twins l.regions pair inside.0.1 in
+    let count = l.regions + 2 + l.blocks + l.objects * l.regions in
+    let space = in_rows_within (space_row (first_twin pair)) 2 (data_span l.grain o) 0 (l.regions + 1) (omega arith) (omega (arith, some, pair_end)) in
+    let patch : RowsWithin (l.regions + 1) (l.regions + 2) ((patch_row l, kept_data_bytes o) ∷ []) = (omega arith, omega arith, tt) in
+    let objects = in_rows_within (object_row l o.number (first_twin pair)) 2 1 (l.regions + 2) count (omega (arith, some)) (omega (arith, some, pair_end, end)) in
+    let before = rows_joined 0 (l.regions + 1) (l.regions + 2) (in_rows (space_row (first_twin pair)) 2 (data_span l.grain o)) ((patch_row l, kept_data_bytes o) ∷ []) (omega arith) (omega arith) space patch in
+    rw (on_length l)
+    (rows_joined 0 (l.regions + 2) count (in_rows (space_row (first_twin pair)) 2 (data_span l.grain o) ++ (patch_row l, kept_data_bytes o) ∷ []) (in_rows (object_row l o.number (first_twin pair)) 2 1) (omega arith) (omega arith) before objects)

@@ -6,7 +6,7 @@ use Rattle.placement_programme.specs.Plain.{PlainSide, PlainProgramme}
 use Rattle.placement_programme.specs.Bounds.{AscendWithin, RowsWithin}
 use Rattle.placement_programme.specs.Programme.{load, Fits, IsFeasible, gain, nothing}
 use Rattle.placement_programme.specs.Sums.{takes}
-use Rattle.placement_programme.specs.Rows.{Layout, Datum, Part, Candidate, static_data, static_code, overlay_data, overlay_code, capacities, weights, IsOfSide, IsCandidateOf}
+use Rattle.placement_programme.specs.Rows.{Layout, Datum, Part, Candidate, static_data, static_code, overlay_data, overlay_code, kept_data, capacities, weights, IsOfSide, IsCandidateOf}
 
 -- the empty choice is feasible and gains nothing
 abbrev pub NothingIsFeasible : Type 0
@@ -47,6 +47,7 @@ layout_with scratchpad blocks objects regions displaced =
       scratchpad = scratchpad;
       patch = 65536;
       fence_i = false;
+      twins = false;
       blocks = blocks;
       objects = objects;
       regions = regions;
@@ -92,3 +93,26 @@ RegionWeights =
     × (weights true region_layout (overlay_data 2 second_table) ≡ (2, 32) ∷ (3, 88) ∷ (10, 1) ∷ [])
     × (weights true region_layout (overlay_code 1 last_blocks) ≡ (1, 32) ∷ (3, 68) ∷ (5, 1) ∷ (6, 1) ∷ [])
     × (weights false region_layout (static_code last_blocks) ≡ (0, 32) ∷ (1, 88) ∷ (3, 1) ∷ (4, 1) ∷ [])
+
+-- the same file where the board asks for twins: 24 bytes more for each of the two, and what a table weighs that they keep
+abbrev pub twin_layout : Layout
+twin_layout =
+    record {
+      scratchpad = 1024;
+      patch = 65536;
+      fence_i = false;
+      twins = true;
+      blocks = 3;
+      objects = 2;
+      regions = 2;
+      displaced = 2 ∷ 3 ∷ [];
+      grain = 16;
+    }
+
+abbrev pub TwinRows : Type 0
+TwinRows = capacities true twin_layout ≡ 1024 ∷ 1024 ∷ 1024 ∷ 65140 ∷ 1 ∷ 1 ∷ 1 ∷ 1 ∷ 1 ∷ 1 ∷ 1 ∷ []
+
+abbrev pub TwinWeights : Type 0
+TwinWeights =
+    (weights true twin_layout (kept_data 1 first_table) ≡ (1, 1024) ∷ (2, 1024) ∷ (3, 88) ∷ (7, 1) ∷ (8, 1) ∷ [])
+    × (weights true twin_layout (kept_data 1 second_table) ≡ (1, 32) ∷ (2, 32) ∷ (3, 176) ∷ (9, 1) ∷ (10, 1) ∷ [])

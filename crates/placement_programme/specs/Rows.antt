@@ -12,10 +12,12 @@
 --     on    R + 2 + b, for block b                       1
 --     on    R + 2 + blocks + o * R + r - 1, for          1
 --           object o and region r from 1 to R
+--
+-- Where the board asks for twins, regions 2k - 1 and 2k are pair k of twins, and an object may be kept for a pair.
 use Rattle.std.specs.Prelude.{ℕ, zero, suc, ◌+◌, ◌-◌, ◌*◌, ◌/◌, ◌%◌, ◌==◌, nat_lt, ◌<◌, ◌≤◌, Bool, true, false, if◌then◌else◌, IsTrue, List, [], ◌∷◌, ◌++◌, length, replicate}
 use Rattle.std.specs.List.{sum_by, AllPairs}
 use Rattle.placement_programme.specs.declared.variables.VarName.{VarName}
-use Rattle.placement_programme.specs.declared.variables.VarName.TheVariants.{StaticData, StaticCode, OverlayData, OverlayCode}
+use Rattle.placement_programme.specs.declared.variables.VarName.TheVariants.{StaticData, StaticCode, OverlayData, OverlayCode, KeptData}
 
 -- what the rows depend on
 pub record Layout : Type 0 where
@@ -24,6 +26,8 @@ pub record Layout : Type 0 where
   pub patch : ℕ
   -- FENCE.I stands behind the copies of the start stub and of the switch routine
   pub fence_i : Bool
+  -- objects may be kept for pairs of regions
+  pub twins : Bool
   -- how many blocks, objects that may move, and regions there are
   pub blocks : ℕ
   pub objects : ℕ
@@ -49,12 +53,13 @@ pub record Part : Type 0 where
   pub plain_entries : ℕ
   pub border_entries : List ℕ
 
--- what a variable stands for: a static item, or one that is overlaid in a region
+-- what a variable stands for: a static item, one that is overlaid in a region, or an object that is kept for a pair
 pub data Candidate : Type 0 where
   static_data : Datum → Candidate
   static_code : Part → Candidate
   overlay_data : ℕ → Datum → Candidate
   overlay_code : ℕ → Part → Candidate
+  kept_data : ℕ → Datum → Candidate
 
 -- the name of its variable
 abbrev pub name_of : Candidate → VarName
@@ -62,6 +67,17 @@ name_of (static_data o) = StaticData o.number
 name_of (static_code c) = StaticCode c.first c.last
 name_of (overlay_data r o) = OverlayData r o.number
 name_of (overlay_code r c) = OverlayCode r c.first c.last
+name_of (kept_data pair o) = KeptData pair o.number
+
+-- the twins of a pair, and how many pairs there are
+abbrev pub first_twin : ℕ → ℕ
+first_twin pair = 2 * pair - 1
+
+abbrev pub second_twin : ℕ → ℕ
+second_twin pair = 2 * pair
+
+abbrev pub pairs_of : Bool → ℕ → ℕ
+pairs_of twins regions = if twins then regions / 2 else 0
 
 -- `n` rounded up to a multiple of the grain
 abbrev pub rounded_up : ℕ → ℕ → ℕ
@@ -75,7 +91,7 @@ abbrev pub code_span : ℕ → Part → ℕ
 code_span grain c = rounded_up grain c.copied
 
 -- the patch bytes that no variable changes: control words and start stub without jobs; on the on side also a checking
--- stub for each border entry, and the switch routine
+-- stub for each border entry, and the switch routine, with two tests for each region that has a twin
 abbrev pub start_bytes : Layout → ℕ
 start_bytes l = 84 + (if l.fence_i then 4 else 0)
 
@@ -85,6 +101,7 @@ checking_stub_bytes displaced_words = 4 * (22 + displaced_words)
 abbrev pub fixed_bytes : Layout → ℕ
 fixed_bytes l =
     start_bytes l + sum_by checking_stub_bytes l.displaced + 4 * (5 + 6 * l.regions) + (if l.fence_i then 4 else 0)
+    + 48 * pairs_of l.twins l.regions
 
 -- the patch bytes of an item: its copy job, and for an object that is overlaid and written also the job back
 abbrev pub job_bytes : ℕ
@@ -92,6 +109,10 @@ job_bytes = 44
 
 abbrev pub overlay_data_bytes : Datum → ℕ
 overlay_data_bytes o = job_bytes + (if o.writable then job_bytes else 0)
+
+-- an object that is kept for a pair has these jobs in the parts of both regions
+abbrev pub kept_data_bytes : Datum → ℕ
+kept_data_bytes o = 2 * overlay_data_bytes o
 
 -- a piece also has its image. On the off side each outer entry has a stub of 8 bytes. On the on side border entries
 -- are checked, and the stubs of those are among the fixed bytes: there they change by 4 * (2 - displaced words), since
@@ -152,9 +173,11 @@ off_weights l (static_code c) =
     (off_space_row, code_span l.grain c) ∷ (off_patch_row, off_code_bytes c) ∷ in_rows (off_block_row c.first) (blocks_of c) 1
 off_weights l (overlay_data r o) = []
 off_weights l (overlay_code r c) = []
+off_weights l (kept_data pair o) = []
 
 -- what an item weighs on the on side: a static one takes its space in all regions, one that is overlaid in a region
--- in that alone. Each block is copied once at most, and each object stands in one place in each region
+-- in that alone, one that is kept for a pair in both its regions. Each block is copied once at most, and each object
+-- stands in one place in each region
 abbrev pub on_weights : Layout → Candidate → List (ℕ × ℕ)
 on_weights l (static_data o) =
     in_rows (space_row 0) (l.regions + 1) (data_span l.grain o) ++ (patch_row l, job_bytes) ∷ []
@@ -166,6 +189,9 @@ on_weights l (overlay_data r o) =
     (space_row r, data_span l.grain o) ∷ (patch_row l, overlay_data_bytes o) ∷ (object_row l o.number r, 1) ∷ []
 on_weights l (overlay_code r c) =
     (space_row r, code_span l.grain c) ∷ (patch_row l, on_code_bytes c) ∷ in_rows (block_row l c.first) (blocks_of c) 1
+on_weights l (kept_data pair o) =
+    in_rows (space_row (first_twin pair)) 2 (data_span l.grain o) ++ (patch_row l, kept_data_bytes o) ∷ []
+    ++ in_rows (object_row l o.number (first_twin pair)) 2 1
 
 -- both sides, the on side where the truth value is true
 abbrev pub capacities : Bool → Layout → List ℕ
@@ -183,6 +209,7 @@ IsOfSide false (static_data o) = Unit {0}
 IsOfSide false (static_code c) = Unit {0}
 IsOfSide false (overlay_data r o) = ⊥
 IsOfSide false (overlay_code r c) = ⊥
+IsOfSide false (kept_data pair o) = ⊥
 
 -- a candidate is of this layout: its numbers are in range
 abbrev pub IsPartOf : Layout → Part → Type 0
@@ -191,19 +218,24 @@ IsPartOf l c = (c.first ≤ c.last) × (c.last < l.blocks)
 abbrev pub IsRegionOf : Layout → ℕ → Type 0
 IsRegionOf l r = (1 ≤ r) × (r ≤ l.regions)
 
+abbrev pub IsPairOf : Layout → ℕ → Type 0
+IsPairOf l pair = (1 ≤ pair) × (pair ≤ pairs_of l.twins l.regions)
+
 abbrev pub IsCandidateOf : Layout → Candidate → Type 0
 IsCandidateOf l (static_data o) = o.number < l.objects
 IsCandidateOf l (static_code c) = IsPartOf l c
 IsCandidateOf l (overlay_data r o) = IsRegionOf l r × (o.number < l.objects)
 IsCandidateOf l (overlay_code r c) = IsRegionOf l r × IsPartOf l c
+IsCandidateOf l (kept_data pair o) = IsPairOf l pair × (o.number < l.objects)
 
 -- the order of variables: static data by home; static code by first, then last block; overlay data by region, then
--- home; overlay code by region, first, last
+-- home; overlay code by region, first, last; kept data by pair, then home
 abbrev pub order_key : Candidate → List ℕ
 order_key (static_data o) = 0 ∷ o.home ∷ []
 order_key (static_code c) = 1 ∷ c.first ∷ c.last ∷ []
 order_key (overlay_data r o) = 2 ∷ r ∷ o.home ∷ []
 order_key (overlay_code r c) = 3 ∷ r ∷ c.first ∷ c.last ∷ []
+order_key (kept_data pair o) = 4 ∷ pair ∷ o.home ∷ []
 
 -- a key comes before another one: the first numbers that differ decide
 abbrev pub key_before : List ℕ → List ℕ → Bool

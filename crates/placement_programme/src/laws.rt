@@ -1,4 +1,4 @@
-ghost use Rattle.placement_programme.specs.Laws.{NothingIsFeasible, NothingFits, NumbersAscend, MoreLoad, FewerFit, WeightsAreInRows, ExampleRows, ExampleWeights, RegionRows, RegionWeights};
+ghost use Rattle.placement_programme.specs.Laws.{NothingIsFeasible, NothingFits, NumbersAscend, MoreLoad, FewerFit, WeightsAreInRows, ExampleRows, ExampleWeights, RegionRows, RegionWeights, TwinRows, TwinWeights};
 
 /// The empty choice is feasible and gains 0.
 pub fn nothing_is_feasible()
@@ -48,4 +48,14 @@ pub fn region_rows()
 /// What a static table, an overlaid one that is written, and a piece on each side weigh there.
 pub fn region_weights()
     ensures { RegionWeights }
+{}
+
+/// The capacities there where the board asks for twins.
+pub fn twin_rows()
+    ensures { TwinRows }
+{}
+
+/// What a table weighs there that both regions keep, and one that is written.
+pub fn twin_weights()
+    ensures { TwinWeights }
 {}

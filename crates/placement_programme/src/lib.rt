@@ -20,7 +20,7 @@ pub use full_sides::{Full, FullSide};
 pub use gains::{energy, gain_of, gain_of_side};
 pub use laws::{
     example_rows, example_weights, fewer_fit, more_load, nothing_fits, nothing_is_feasible,
-    region_rows, region_weights, weights_are_in_rows,
+    region_rows, region_weights, twin_rows, twin_weights, weights_are_in_rows,
 };
 pub use rows::{rows_ascend, value_in};
 pub use sides::{Programme, Side};

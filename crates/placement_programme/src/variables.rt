@@ -11,6 +11,9 @@ pub enum VarName {
     OverlayData { region: u32, object: u32 },
     /// A piece of code that does.
     OverlayCode { region: u32, first: u32, last: u32 },
+    /// An object that stands in one place of the scratchpad while either region of a pair of twins is current: pair k
+    /// is of the regions 2k - 1 and 2k.
+    KeptData { pair: u32, object: u32 },
 }
 
 /// A variable: an item that may be taken.
