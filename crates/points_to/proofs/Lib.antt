@@ -11,3 +11,4 @@ pub mod KeptLemmas
 pub mod FactLemmas
 pub mod QueryLemmas
 pub mod SweepLemmas
+pub mod OverlaidLemmas

@@ -4,6 +4,7 @@ pub use Rattle.object_graph.specs.Lookups
 pub use Rattle.code_blocks.specs.Edges
 pub use Rattle.code_blocks.specs.Numbers
 pub mod Points
+pub mod Overlaid
 pub mod Flows
 pub mod Nodes
 pub mod Sweeps

@@ -5,6 +5,7 @@
 mod blocks;
 mod edges;
 mod flows;
+mod laws;
 mod marks;
 mod nodes;
 mod pointing;
@@ -15,6 +16,7 @@ mod sweeping;
 mod table;
 mod units;
 
+pub use laws::words_escape;
 pub use pointing::points;
 pub use reached::Reached;
 pub use table::PointsTable;
