@@ -1,5 +1,5 @@
 -- The energy of a run under a choice of what stands in the scratchpad: the sum of its steps, in price units.
-use Rattle.std.specs.Prelude.{ℕ, zero, suc, ◌+◌, ◌-◌, ◌*◌, ◌/◌, ◌%◌, ◌==◌, Bool, true, false, not, ◌&&◌, List, [], ◌∷◌, map, length, slice_index_or, Option, Some, None, is_some, if◌then◌else◌}
+use Rattle.std.specs.Prelude.{ℕ, zero, suc, ◌+◌, ◌-◌, ◌*◌, ◌/◌, ◌%◌, ◌==◌, nat_lt, nat_le, Bool, true, false, not, ◌&&◌, List, [], ◌∷◌, map, length, slice_index_or, Option, Some, None, is_some, if◌then◌else◌}
 use Rattle.std.specs.List.{list_any, sum_by}
 use Rattle.rv_decode.specs.declared.instructions.Instr.{Instr}
 use Rattle.rv_decode.specs.declared.instructions.Instr.TheVariants.{Load, Store}
@@ -235,8 +235,24 @@ abbrev pub test_words : ℕ → ℕ → ℕ
 test_words regions zero = 3 * regions
 test_words regions (suc s) = 3 * regions - 1
 
+-- regions 1 and 2 are twins, 3 and 4, and so on, where the board has twins; the last has none where their count is odd
+abbrev pub twin_of : ℕ → ℕ
+twin_of zero = 0
+twin_of (suc r) = if r % 2 == 0 then r + 2 else r
+
+abbrev pub has_twin : ℕ → ℕ → Bool
+has_twin regions r = nat_lt 0 r && nat_le (twin_of r) regions
+
+-- the test of a region that is met for its twin: three words where that is the other region, and else two
+abbrev pub twin_words : ℕ → ℕ → ℕ → ℕ
+twin_words regions r other = if has_twin regions r then (if twin_of r == other then 3 else 2) else 0
+
+abbrev pub twins_words : Scene → ℕ → ℕ → ℕ
+twins_words w s r = if w.board.twins then twin_words w.region_count s r + twin_words w.region_count r s else 0
+
 abbrev pub switch_words : Scene → ℕ → ℕ → ℕ
-switch_words w s r = 18 + 2 + test_words w.region_count s + test_words w.region_count r + 3 + fence_words w.board
+switch_words w s r =
+    18 + 2 + test_words w.region_count s + test_words w.region_count r + twins_words w s r + 3 + fence_words w.board
 
 abbrev pub switch_price : Scene → List VarName → ℕ → ℕ → ℕ
 switch_price w names s r =

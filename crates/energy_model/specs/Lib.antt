@@ -8,3 +8,4 @@ pub mod Priced
 pub mod Base
 pub mod Copied
 pub mod Counts
+pub mod Overlay

@@ -4,6 +4,7 @@
 mod base;
 mod block_counts;
 mod blocks;
+mod checks;
 mod edges;
 mod pieces;
 mod units;
@@ -12,4 +13,5 @@ mod words;
 pub use base::base_of;
 pub use block_counts::{BlockCounts, PieceCounts};
 pub use blocks::count_blocks;
+pub use checks::count_checks;
 pub use pieces::count_piece;

@@ -1,0 +1,74 @@
+-- What a run costs more where there is overlay and nothing is taken, as it is counted from the tables of a profile: checks
+-- where control enters a region, first units that are displaced there, and changes of the current region.
+use Rattle.std.specs.Prelude.{◌≡◌, ℕ, suc, ◌+◌, ◌-◌, ◌*◌, ◌==◌, Bool, true, false, not, ◌&&◌, if◌then◌else◌, List, [], length, slice_index_or}
+use Rattle.list_checks.specs.Sorted.{sum_below}
+use Rattle.elf_reader.specs.declared.view.ElfView.{ElfView}
+use Rattle.board_config.specs.declared.board.Board.{Board}
+use Rattle.board_config.specs.declared.board.Prices.{Prices}
+use Rattle.object_graph.specs.declared.parts.Graph.{Graph}
+use Rattle.code_blocks.specs.declared.parts.Code.{Code}
+use Rattle.region_former.specs.declared.table.RegionTable.{RegionTable}
+use Rattle.profile_runner.specs.Transition.{Transition, is_going}
+use Rattle.profile_runner.specs.Counts.{plain_rows, entry}
+use Rattle.profile_runner.specs.declared.counts.Profile.{Profile}
+use Rattle.block_splitter.specs.Forms.{Body, body_at, unit_in, is_site, kind_of, displaced_words}
+use Rattle.energy_model.specs.Energy.{Scene, Taken, nothing_taken, arrival_price, switch_price, steps_energy}
+use Rattle.energy_model.specs.Copied.{arrivals_in}
+use Rattle.energy_model.specs.Scenes.{scene_of, AreOfSameFile}
+
+-- there is overlay, and nothing is taken
+abbrev pub overlay_alone : Taken
+overlay_alone = record { on = true; names = [] }
+
+-- a value of the blocks by which control enters a region, of the first `n`
+abbrev pub at_borders : List Bool → (ℕ → ℕ) → ℕ → ℕ
+at_borders borders value n = sum_below (λ b. if slice_index_or borders b false then value b else 0) n
+
+-- ---- checks: one each time that such a block begins
+
+abbrev pub checks_in : Profile → List Bool → ℕ → ℕ
+checks_in q borders n = at_borders borders (arrivals_in q) n
+
+-- ---- displaced units
+
+-- the run ended with the first unit of block `b`, of which one word ran then
+abbrev pub ends_first : Profile → ℕ → Bool
+ends_first q b = (b == q.last.0) && (q.last.1 == 1) && not (is_going q.outcome)
+
+-- how often the first unit of block `b` ran and the machine went on
+abbrev pub first_runs : Profile → ℕ → ℕ
+first_runs q b = arrivals_in q b - (if ends_first q b then 1 else 0)
+
+-- the words of first units where control enters regions: those that run displaced, and those that would at home
+abbrev pub displaced_run : Code → Graph → Profile → List Bool → ℕ
+displaced_run c g q borders =
+    at_borders borders (λ b. first_runs q b * displaced_words (kind_of (is_site g) (body_at c.blocks.items b) 0)) (length c.blocks.items)
+
+abbrev pub first_words : Code → Profile → List Bool → ℕ
+first_words c q borders =
+    at_borders borders (λ b. first_runs q b * (unit_in (body_at c.blocks.items b) 0).words) (length c.blocks.items)
+
+-- ---- changes of the current region, without what they copy
+
+abbrev pub changes_from : Scene → Profile → ℕ → ℕ → ℕ
+changes_from w q s n = sum_below (λ r. entry (plain_rows q.switches.items) s r * switch_price w [] s r) n
+
+abbrev pub changes_price : Scene → Profile → ℕ
+changes_price w q = sum_below (λ s. changes_from w q s (suc w.region_count)) (suc w.region_count)
+
+-- ---- all of it
+
+abbrev pub checks_price : Prices → Profile → List Bool → ℕ → ℕ
+checks_price prices q borders n = checks_in q borders n * arrival_price prices false true
+
+-- the energy with overlay and nothing taken, and the words that would run at home, are the energy without overlay and what is
+-- counted
+abbrev pub OverlayIsCounted : Type 0
+OverlayIsCounted =
+    (view : ElfView) (board : Board) (g : Graph) (c : Code) (t : RegionTable) (q : Profile) (transitions : List Transition)
+    → AreOfSameFile view board g c t q transitions
+    → steps_energy (scene_of g c t board) overlay_alone transitions + first_words c q t.border.items * board.prices.main_fetch
+    ≡ steps_energy (scene_of g c t board) nothing_taken transitions
+    + checks_price board.prices q t.border.items (length c.blocks.items)
+    + displaced_run c g q t.border.items * board.prices.main_fetch
+    + changes_price (scene_of g c t board) q
