@@ -242,7 +242,7 @@ block_begun : (w : Scene) (ms : List Transition) (i : ℕ) → begins (scene_sta
 block_begun w ms zero begun = refl
 block_begun w ms (suc i) begun = rw begun refl
 
-arrived_sum : (w : Scene) (ms : List Transition) (b n : ℕ) → arrived w ms n b ≡ sum_below (λ i. if block_at w ms i == b then (if begins (scene_starts w) ms i then 1 else 0) else 0) n
+pub arrived_sum : (w : Scene) (ms : List Transition) (b n : ℕ) → arrived w ms n b ≡ sum_below (λ i. if block_at w ms i == b then (if begins (scene_starts w) ms i then 1 else 0) else 0) n
 arrived_sum w ms b zero = refl
 arrived_sum w ms b (suc n) =
     let earlier = arrived_sum w ms b n in

@@ -116,7 +116,7 @@ current_choice : (last x y : ℕ) (b : Bool) → x ≤ last → y ≤ last → (
 current_choice last x y true first second = first
 current_choice last x y false first second = second
 
-current_fits : (starts regions : List ℕ) (ms : List Transition) (last i : ℕ) → All (λ r. r ≤ last) regions → current starts regions ms i ≤ last
+pub current_fits : (starts regions : List ℕ) (ms : List Transition) (last i : ℕ) → All (λ r. r ≤ last) regions → current starts regions ms i ≤ last
 current_fits starts regions ms last zero all = omega arith
 current_fits starts regions ms last (suc i) all =
     let earlier = current_fits starts regions ms last i all in

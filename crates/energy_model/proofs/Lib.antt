@@ -14,3 +14,6 @@ pub mod BaseLemmas
 pub mod CountsLemmas
 pub mod EdgeLemmas
 pub mod PieceLemmas
+pub mod ChangeLemmas
+pub mod OverlayLemmas
+pub mod TogetherLemmas

@@ -75,7 +75,7 @@ before_last w ms words b i all below =
     sum_same (ran_of w ms words b) (λ j. only b words (block_at w ms j) (unit_number w ms j)) i (λ j inside.
     going_value (transition_at ms j).goes_on (block_at w ms j == b) (words (block_at w ms j) (unit_number w ms j)) 1 (all.goes_on j (omega (arith, inside, below))))
 
-sum_if : (test : Bool) (f : ℕ → ℕ) (n : ℕ) → sum_below (λ k. if test then f k else 0) n ≡ (if test then sum_below f n else 0)
+pub sum_if : (test : Bool) (f : ℕ → ℕ) (n : ℕ) → sum_below (λ k. if test then f k else 0) n ≡ (if test then sum_below f n else 0)
 sum_if true f n = refl
 sum_if false f n = sum_zero (λ k. 0) n (λ k below. refl)
 

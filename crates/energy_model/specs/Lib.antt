@@ -9,3 +9,4 @@ pub mod Base
 pub mod Copied
 pub mod Counts
 pub mod Overlay
+pub mod Together

@@ -1,0 +1,17 @@
+// Laws of the definitions: functions that do nothing, whose contracts are what is proved.
+ghost use Rattle.energy_model.specs.Overlay.{OverlayIsCounted};
+ghost use Rattle.energy_model.specs.Together.{SavesAsAlone};
+
+/// What overlay costs with nothing taken is what the tables of a profile count.
+pub fn overlay_is_counted()
+    ensures { OverlayIsCounted }
+{
+    rv_decode::one_instruction();
+}
+
+/// An item saves with others, with which it has nothing in common, what it saves alone.
+pub fn saves_as_alone()
+    ensures { SavesAsAlone }
+{
+    rv_decode::one_instruction();
+}
