@@ -17,3 +17,4 @@ pub mod PieceLemmas
 pub mod ChangeLemmas
 pub mod OverlayLemmas
 pub mod TogetherLemmas
+pub mod ObjectLemmas

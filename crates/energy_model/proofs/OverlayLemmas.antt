@@ -19,7 +19,8 @@ use Rattle.block_splitter.specs.Forms.{body_at, unit_in, is_site, kind_of, displ
 use Rattle.energy_model.specs.Energy.{Scene, starts_of, block_in, block_at, unit_number, region_before, region_with, arrival_price, access_price, switch_price, step_energy, steps_energy, nothing_taken}
 use Rattle.energy_model.specs.Scenes.{scene_of, AreOfSameFile}
 use Rattle.energy_model.specs.Copied.{arrivals_in}
-use Rattle.energy_model.specs.Overlay.{overlay_alone, at_borders, checks_in, ends_first, first_runs, displaced_run, first_words, changes_price, checks_price, OverlayIsCounted}
+use Rattle.energy_model.specs.Together.{taken}
+use Rattle.energy_model.specs.Overlay.{at_borders, checks_in, ends_first, first_runs, displaced_run, first_words, changes_price, checks_price, OverlayIsCounted}
 use Rattle.energy_model.proofs.SceneLemmas.{Follows, unit_of_transition}
 use Rattle.energy_model.proofs.SumLemmas.{sum_two, arrived}
 use Rattle.energy_model.proofs.PlaceLemmas.{by_places}
@@ -106,7 +107,7 @@ same_first false f k zero_is = refl
 ran_is_first : (begun goes : Bool) (k : ℕ) → (k == 0) ≡ begun → begun && goes ≡ true → k ≡ 0
 ran_is_first begun goes k is ran = eqb-true k 0 (is ∙ (both begun goes ran).0)
 
-step_overlay : (w : Scene) (ms : List Transition) (i : ℕ) → Follows w ms → i < length ms → step_energy w overlay_alone ms i + first_words_at w ms i * w.board.prices.main_fetch ≡ step_energy w nothing_taken ms i + checked_at w ms i * arrival_price w.board.prices false true + displaced_at w ms i * w.board.prices.main_fetch + changed_at w ms i
+step_overlay : (w : Scene) (ms : List Transition) (i : ℕ) → Follows w ms → i < length ms → step_energy w (taken true []) ms i + first_words_at w ms i * w.board.prices.main_fetch ≡ step_energy w nothing_taken ms i + checked_at w ms i * arrival_price w.board.prices false true + displaced_at w ms i * w.board.prices.main_fetch + changed_at w ms i
 step_overlay w ms i all below =
     let body = block_in w (block_at w ms i) in
     let k = unit_number w ms i in
@@ -120,7 +121,7 @@ step_overlay w ms i all below =
     let access = access_price w nothing_taken ms i in
     let first = first_begins w ms i all below in
     let zero_is = ran_is_first begun goes k first in
-    let with_it : step_energy w overlay_alone ms i ≡ (if goes then (if border && (k == 0) then displaced else words) else 1) * fetch + access + (if begun && true then (if border then 5 else 0) * fetch + (if border then read else 0) else 0) + changed_at w ms i = refl in
+    let with_it : step_energy w (taken true []) ms i ≡ (if goes then (if border && (k == 0) then displaced else words) else 1) * fetch + access + (if begun && true then (if border then 5 else 0) * fetch + (if border then read else 0) else 0) + changed_at w ms i = refl in
     let without : step_energy w nothing_taken ms i ≡ (if goes then words else 1) * fetch + access + (if begun && true then 0 * fetch + 0 else 0) + 0 = refl in
     let form = form_parts goes border (k == 0) begun displaced words fetch first in
     let way = way_parts begun border fetch read in
@@ -135,12 +136,12 @@ step_overlay w ms i all below =
 
 -- ---- a run
 
-steps_overlay : (w : Scene) (ms : List Transition) → Follows w ms → steps_energy w overlay_alone ms + sum_below (first_words_at w ms) (length ms) * w.board.prices.main_fetch ≡ steps_energy w nothing_taken ms + sum_below (checked_at w ms) (length ms) * arrival_price w.board.prices false true + sum_below (displaced_at w ms) (length ms) * w.board.prices.main_fetch + sum_below (changed_at w ms) (length ms)
+steps_overlay : (w : Scene) (ms : List Transition) → Follows w ms → steps_energy w (taken true []) ms + sum_below (first_words_at w ms) (length ms) * w.board.prices.main_fetch ≡ steps_energy w nothing_taken ms + sum_below (checked_at w ms) (length ms) * arrival_price w.board.prices false true + sum_below (displaced_at w ms) (length ms) * w.board.prices.main_fetch + sum_below (changed_at w ms) (length ms)
 steps_overlay w ms all =
     let n = length ms in
     let fetch = w.board.prices.main_fetch in
     let check = arrival_price w.board.prices false true in
-    let f = step_energy w overlay_alone ms in
+    let f = step_energy w (taken true []) ms in
     let g = step_energy w nothing_taken ms in
     let first = λ (i : ℕ). first_words_at w ms i * fetch in
     let checks = λ (i : ℕ). checked_at w ms i * check in

@@ -46,7 +46,7 @@ free_block b name (other ∷ names) apart copied =
 -- ---- the access of a step
 
 -- what an access costs if an item brings its object
-abbrev touch : Prices → Bool → ℕ → VarName → Option Access → ℕ
+abbrev pub touch : Prices → Bool → ℕ → VarName → Option Access → ℕ
 touch prices fast r name None = 0
 touch prices fast r name (Some a) = if brings a.object r name then direction_price prices fast a.write else 0
 
@@ -66,7 +66,7 @@ one_access prices name names r (Some a) goes_on instr is apart =
 -- ---- the words of a step, and the way to them
 
 -- by the piece of which its block is copied
-abbrev by_piece : Scene → Bool → List Transition → ℕ → Option BlockRange → ℕ
+abbrev pub by_piece : Scene → Bool → List Transition → ℕ → Option BlockRange → ℕ
 by_piece w on ms i o =
     form_words o w (is_checked w (taken on []) (block_at w ms i)) (block_in w (block_at w ms i)) (unit_number w ms i) (transition_at ms i) * fetch_price o w.board.prices
     + (if begins (starts_of w) ms i && comes_from_outside w o ms i then arrival_price w.board.prices (is_some o) (is_checked w (taken on []) (block_at w ms i)) else 0)
@@ -82,10 +82,10 @@ one_piece f b (Some p) rest free = held_piece f p (holds_block b p) rest free
 
 -- ---- the copies of a change
 
-abbrev jobs : Scene → ℕ → ℕ → VarName → ℕ
+abbrev pub jobs : Scene → ℕ → ℕ → VarName → ℕ
 jobs w s r name = leave_job w s name + enter_job w r name
 
-abbrev changes : Scene → Bool → List Transition → ℕ → Bool
+abbrev pub changes : Scene → Bool → List Transition → ℕ → Bool
 changes w on ms i = on && not (region_before w ms i == region_with w ms i)
 
 one_switch : (w : Scene) (name : VarName) (names : List VarName) (s r : ℕ) → switch_price w (name ∷ names) s r ≡ switch_price w names s r + jobs w s r name
@@ -100,12 +100,12 @@ if_more false x y z is = refl
 
 -- ---- a step
 
-abbrev slow_price : Scene → Bool → List Transition → VarName → ℕ → ℕ
+abbrev pub slow_price : Scene → Bool → List Transition → VarName → ℕ → ℕ
 slow_price w on ms name i =
     touch w.board.prices false (region_with w ms i) name (transition_at ms i).access
     + (if copies (block_at w ms i) name then by_piece w on ms i None else 0)
 
-abbrev fast_price : Scene → Bool → List Transition → VarName → ℕ → ℕ
+abbrev pub fast_price : Scene → Bool → List Transition → VarName → ℕ → ℕ
 fast_price w on ms name i =
     touch w.board.prices true (region_with w ms i) name (transition_at ms i).access
     + (if copies (block_at w ms i) name then by_piece w on ms i (piece_in name) else 0)
@@ -120,7 +120,7 @@ step_parts w on names ms i =
     let sum : step_energy w (taken on names) ms i ≡ words + access_price w (taken on names) ms i + way + change_price w (taken on names) ms i = refl in
     omega (arith, sum)
 
-step_more : (w : Scene) (on : Bool) (name : VarName) (names : List VarName) (ms : List Transition) (i : ℕ) → Follows w ms → i < length ms → IsApartFromAll name names → step_energy w (taken on (name ∷ names)) ms i + slow_price w on ms name i ≡ step_energy w (taken on names) ms i + fast_price w on ms name i
+pub step_more : (w : Scene) (on : Bool) (name : VarName) (names : List VarName) (ms : List Transition) (i : ℕ) → Follows w ms → i < length ms → IsApartFromAll name names → step_energy w (taken on (name ∷ names)) ms i + slow_price w on ms name i ≡ step_energy w (taken on names) ms i + fast_price w on ms name i
 step_more w on name names ms i all below apart =
     let u = unit_of_transition w ms i in
     let b = block_at w ms i in

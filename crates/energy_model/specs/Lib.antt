@@ -8,5 +8,5 @@ pub mod Priced
 pub mod Base
 pub mod Copied
 pub mod Counts
-pub mod Overlay
 pub mod Together
+pub mod Overlay

@@ -1,6 +1,6 @@
 -- What a run costs more where there is overlay and nothing is taken, as it is counted from the tables of a profile: checks
 -- where control enters a region, first units that are displaced there, and changes of the current region.
-use Rattle.std.specs.Prelude.{◌≡◌, ℕ, suc, ◌+◌, ◌-◌, ◌*◌, ◌==◌, Bool, true, false, not, ◌&&◌, if◌then◌else◌, List, [], length, slice_index_or}
+use Rattle.std.specs.Prelude.{◌≡◌, ℕ, suc, ◌+◌, ◌-◌, ◌*◌, ◌<◌, ◌≤◌, ◌==◌, Bool, true, false, not, ◌&&◌, if◌then◌else◌, List, [], ◌∷◌, length, slice_index_or}
 use Rattle.list_checks.specs.Sorted.{sum_below}
 use Rattle.elf_reader.specs.declared.view.ElfView.{ElfView}
 use Rattle.board_config.specs.declared.board.Board.{Board}
@@ -11,14 +11,12 @@ use Rattle.region_former.specs.declared.table.RegionTable.{RegionTable}
 use Rattle.profile_runner.specs.Transition.{Transition, is_going}
 use Rattle.profile_runner.specs.Counts.{plain_rows, entry}
 use Rattle.profile_runner.specs.declared.counts.Profile.{Profile}
-use Rattle.block_splitter.specs.Forms.{Body, body_at, unit_in, is_site, kind_of, displaced_words}
-use Rattle.energy_model.specs.Energy.{Scene, Taken, nothing_taken, arrival_price, switch_price, steps_energy}
+use Rattle.placement_programme.specs.declared.variables.VarName.TheVariants.{OverlayData}
+use Rattle.block_splitter.specs.Forms.{body_at, unit_in, is_site, kind_of, displaced_words}
+use Rattle.energy_model.specs.Energy.{Scene, nothing_taken, read_price, write_price, arrival_price, enter_job, leave_job, switch_price, steps_energy, side_energy}
 use Rattle.energy_model.specs.Copied.{arrivals_in}
 use Rattle.energy_model.specs.Scenes.{scene_of, AreOfSameFile}
-
--- there is overlay, and nothing is taken
-abbrev pub overlay_alone : Taken
-overlay_alone = record { on = true; names = [] }
+use Rattle.energy_model.specs.Together.{taken}
 
 -- a value of the blocks by which control enters a region, of the first `n`
 abbrev pub at_borders : List Bool → (ℕ → ℕ) → ℕ → ℕ
@@ -67,8 +65,35 @@ abbrev pub OverlayIsCounted : Type 0
 OverlayIsCounted =
     (view : ElfView) (board : Board) (g : Graph) (c : Code) (t : RegionTable) (q : Profile) (transitions : List Transition)
     → AreOfSameFile view board g c t q transitions
-    → steps_energy (scene_of g c t board) overlay_alone transitions + first_words c q t.border.items * board.prices.main_fetch
+    → steps_energy (scene_of g c t board) (taken true []) transitions + first_words c q t.border.items * board.prices.main_fetch
     ≡ steps_energy (scene_of g c t board) nothing_taken transitions
     + checks_price board.prices q t.border.items (length c.blocks.items)
     + displaced_run c g q t.border.items * board.prices.main_fetch
     + changes_price (scene_of g c t board) q
+
+-- ---- an object that is overlaid in region `r`
+
+abbrev pub reads_in : Profile → ℕ → ℕ → ℕ
+reads_in q o r = entry (plain_rows q.reads.items) o r
+
+abbrev pub writes_in : Profile → ℕ → ℕ → ℕ
+writes_in q o r = entry (plain_rows q.writes.items) o r
+
+abbrev pub accesses_price : Prices → Bool → ℕ → ℕ → ℕ
+accesses_price prices fast reads writes = reads * read_price fast prices + writes * write_price fast prices
+
+-- its copies: one each time that the region becomes current, and where it is writable one back when that ceases to be
+abbrev pub object_copies : Scene → Profile → ℕ → ℕ → ℕ
+object_copies w q r o =
+    slice_index_or q.enters.items r 0 * enter_job w r (OverlayData r o) + slice_index_or q.leaves.items r 0 * leave_job w r (OverlayData r o)
+
+-- what it costs, and its accesses at home, are the energy without it, its accesses in the scratchpad, and its copies
+abbrev pub ObjectIsCounted : Type 0
+ObjectIsCounted =
+    (view : ElfView) (board : Board) (g : Graph) (c : Code) (t : RegionTable) (q : Profile) (transitions : List Transition) (r o : ℕ)
+    → AreOfSameFile view board g c t q transitions → r ≤ t.count → o < length g.objects.items
+    → side_energy (scene_of g c t board) (taken true (OverlayData r o ∷ [])) transitions
+    + accesses_price board.prices false (reads_in q o r) (writes_in q o r)
+    ≡ side_energy (scene_of g c t board) (taken true []) transitions
+    + accesses_price board.prices true (reads_in q o r) (writes_in q o r)
+    + object_copies (scene_of g c t board) q r o

@@ -1,10 +1,17 @@
 // Laws of the definitions: functions that do nothing, whose contracts are what is proved.
-ghost use Rattle.energy_model.specs.Overlay.{OverlayIsCounted};
+ghost use Rattle.energy_model.specs.Overlay.{OverlayIsCounted, ObjectIsCounted};
 ghost use Rattle.energy_model.specs.Together.{SavesAsAlone};
 
 /// What overlay costs with nothing taken is what the tables of a profile count.
 pub fn overlay_is_counted()
     ensures { OverlayIsCounted }
+{
+    rv_decode::one_instruction();
+}
+
+/// What an object costs that is overlaid in a region is what the tables of a profile count.
+pub fn object_is_counted()
+    ensures { ObjectIsCounted }
 {
     rv_decode::one_instruction();
 }
