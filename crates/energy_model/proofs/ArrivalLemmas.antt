@@ -21,7 +21,7 @@ use Rattle.block_splitter.specs.Forms.{body_at, holds_block}
 use Rattle.block_splitter.proofs.MeasureLemmas.{one_start}
 use Rattle.energy_model.specs.Energy.{Scene, starts_of as scene_starts, block_in, block_at, may_stay, is_internal}
 use Rattle.energy_model.specs.Scenes.{scene_of}
-use Rattle.energy_model.specs.Copied.{arrivals_in, leaving, coming, sum_in, stays_in, stayed, pending, pending_inside, came_in}
+use Rattle.energy_model.specs.Copied.{arrivals_in, leaving, coming, sum_in, stayed, stayed_to, pending, pending_inside, pending_to, came_in, came_to}
 use Rattle.energy_model.proofs.FollowLemmas.{number_found}
 use Rattle.energy_model.proofs.SceneLemmas.{Follows}
 use Rattle.energy_model.proofs.SumLemmas.{sum_small, arrived}
@@ -157,26 +157,27 @@ pending_is c g t board q ms b run below =
     all_but_one (coming q.edges.items b) (if start_at c b == c.entry then 1 else 0) (arrivals_in q b) (sum_below (crossing (starts_of c) ms (into b)) (length ms - 1)) (crossing (starts_of c) ms (into b) (length ms - 1))
     parts.come_is parts.arrivals_is
 
--- ---- control that stays in a piece
+-- ---- control that stays in a piece, and comes to blocks that pass a test
 
-abbrev stays_at : Scene → BlockRange → List Transition → ℕ → ℕ
-stays_at w p ms i =
-    if is_held w p ms i && may_stay (block_in w (block_at w ms i)).end then crossing (scene_starts w) ms (λ a x. stays_in p x) i else 0
+abbrev pub stays_at : Scene → BlockRange → (ℕ → Bool) → List Transition → ℕ → ℕ
+stays_at w p to ms i =
+    if is_held w p ms i && may_stay (block_in w (block_at w ms i)).end then crossing (scene_starts w) ms (λ a x. if to x then 1 else 0) i else 0
 
 nested : (held may : Bool) (x : ℕ) → (if held then (if may then x else 0) else 0) ≡ (if held && may then x else 0)
 nested true may x = refl
 nested false may x = refl
 
-stayed_is : (c : Code) (g : Graph) (t : RegionTable) (board : Board) (q : Profile) (ms : List Transition) (p : BlockRange) → IsCountedRun c g t board q ms → stayed c q p ≡ sum_below (stays_at (scene_of g c t board) p ms) (length ms)
-stayed_is c g t board q ms p run =
+stayed_is : (c : Code) (g : Graph) (t : RegionTable) (board : Board) (q : Profile) (ms : List Transition) (p : BlockRange) (to : ℕ → Bool) → IsCountedRun c g t board q ms → stayed_to c q p to ≡ sum_below (stays_at (scene_of g c t board) p to ms) (length ms)
+stayed_is c g t board q ms p to run =
     let starts = starts_of c in
     let count = length-map c.blocks.items start_of in
     let edges = q.edges.items in
     let may = λ (a : ℕ). may_stay (body_at c.blocks.items a).end in
-    sum_same (λ a. if holds_block a p then (if may a then leaving edges a (stays_in p) else 0) else 0) (λ a. if holds_block a p && may a then leaving edges a (stays_in p) else 0) (length c.blocks.items)
-    (λ a below. nested (holds_block a p) (may a) (leaving edges a (stays_in p)))
-    ∙ (ap (sum_below (λ a. if holds_block a p && may a then leaving edges a (stays_in p) else 0)) (sym count)
-    ∙ edges_cross starts ms edges (λ a. holds_block a p && may a) (λ a x. stays_in p x) run.edges (λ i below. let less = (run.all.each i below).inside in omega (arith, less, count)))
+    let value = λ (x : ℕ). if to x then 1 else 0 in
+    sum_same (λ a. if holds_block a p then (if may a then leaving edges a value else 0) else 0) (λ a. if holds_block a p && may a then leaving edges a value else 0) (length c.blocks.items)
+    (λ a below. nested (holds_block a p) (may a) (leaving edges a value))
+    ∙ (ap (sum_below (λ a. if holds_block a p && may a then leaving edges a value else 0)) (sym count)
+    ∙ edges_cross starts ms edges (λ a. holds_block a p && may a) (λ a x. value x) run.edges (λ i below. let less = (run.all.each i below).inside in omega (arith, less, count)))
 
 held_single : (holds crosses here : Bool) → ◌≡◌ {A = ℕ} (if holds then (if crosses then (if here then 1 else 0) else 0) else 0) (if here then (if holds then (if crosses then 1 else 0) else 0) else 0)
 held_single true true true = refl
@@ -193,39 +194,43 @@ below_crosses false true true = refl
 below_crosses false true false = refl
 below_crosses false false holds = refl
 
-pending_sum : (c : Code) (g : Graph) (t : RegionTable) (board : Board) (q : Profile) (ms : List Transition) (p : BlockRange) → IsCountedRun c g t board q ms → sum_in p (pending c q) (length c.blocks.items) ≡ crossing (starts_of c) ms (λ a x. stays_in p x) (length ms - 1)
-pending_sum c g t board q ms p run =
+pending_sum : (c : Code) (g : Graph) (t : RegionTable) (board : Board) (q : Profile) (ms : List Transition) (to : ℕ → Bool) → IsCountedRun c g t board q ms → sum_below (λ b. if to b then pending c q b else 0) (length c.blocks.items) ≡ crossing (starts_of c) ms (λ a x. if to x then 1 else 0) (length ms - 1)
+pending_sum c g t board q ms to run =
     let starts = starts_of c in
     let i = length ms - 1 in
     let n = length c.blocks.items in
     let next = next_number starts ms i in
     let goes = crosses starts ms i in
     let count = length-map c.blocks.items start_of in
-    let each = sum_same (λ b. if holds_block b p then pending c q b else 0) (λ b. if next == b then (if holds_block b p then (if goes then 1 else 0) else 0) else 0) n
-    (λ b below. ap (λ x. if holds_block b p then x else 0) (pending_is c g t board q ms b run below) ∙ held_single (holds_block b p) goes (next == b)) in
-    let one = single_below (λ b. if holds_block b p then (if goes then 1 else 0) else 0) next n in
-    let under : (if nat_lt next n then (if holds_block next p then (if goes then 1 else 0) else 0) else 0) ≡ (if nat_lt next (length starts) then (if holds_block next p then (if goes then 1 else 0) else 0) else 0) =
-    ap (λ m. if nat_lt next m then (if holds_block next p then (if goes then 1 else 0) else 0) else 0) (sym count) in
-    let last = below_crosses (transition_at ms i).goes_on (nat_lt next (length starts)) (holds_block next p) in
+    let each = sum_same (λ b. if to b then pending c q b else 0) (λ b. if next == b then (if to b then (if goes then 1 else 0) else 0) else 0) n
+    (λ b below. ap (λ x. if to b then x else 0) (pending_is c g t board q ms b run below) ∙ held_single (to b) goes (next == b)) in
+    let one = single_below (λ b. if to b then (if goes then 1 else 0) else 0) next n in
+    let under : (if nat_lt next n then (if to next then (if goes then 1 else 0) else 0) else 0) ≡ (if nat_lt next (length starts) then (if to next then (if goes then 1 else 0) else 0) else 0) =
+    ap (λ m. if nat_lt next m then (if to next then (if goes then 1 else 0) else 0) else 0) (sym count) in
+    let last = below_crosses (transition_at ms i).goes_on (nat_lt next (length starts)) (to next) in
     each ∙ (one ∙ (under ∙ last))
 
 pub few_pending : (c : Code) (g : Graph) (t : RegionTable) (board : Board) (q : Profile) (ms : List Transition) (p : BlockRange) → IsCountedRun c g t board q ms → sum_in p (pending c q) (length c.blocks.items) ≤ 1
 few_pending c g t board q ms p run =
-    let is = pending_sum c g t board q ms p run in
+    let is = pending_sum c g t board q ms (λ b. holds_block b p) run in
     let few = into_small (crosses (starts_of c) ms (length ms - 1)) (holds_block (next_number (starts_of c) ms (length ms - 1)) p) in
     omega (arith, is, few)
 
-pending_inside_is : (c : Code) (g : Graph) (t : RegionTable) (board : Board) (q : Profile) (ms : List Transition) (p : BlockRange) → IsCountedRun c g t board q ms → pending_inside c q p ≡ stays_at (scene_of g c t board) p ms (length ms - 1)
-pending_inside_is c g t board q ms p run =
+pending_inside_is : (c : Code) (g : Graph) (t : RegionTable) (board : Board) (q : Profile) (ms : List Transition) (p : BlockRange) (to : ℕ → Bool) → IsCountedRun c g t board q ms → pending_to c q p to ≡ stays_at (scene_of g c t board) p to ms (length ms - 1)
+pending_inside_is c g t board q ms p to run =
     let w = scene_of g c t board in
     let i = length ms - 1 in
-    ap (λ b. if holds_block b p && may_stay (body_at c.blocks.items b).end then sum_in p (pending c q) (length c.blocks.items) else 0) run.block
-    ∙ ap (λ x. if is_held w p ms i && may_stay (block_in w (block_at w ms i)).end then x else 0) (pending_sum c g t board q ms p run)
+    let sum = sum_below (λ b. if to b then pending c q b else 0) (length c.blocks.items) in
+    ap (λ b. if holds_block b p && may_stay (body_at c.blocks.items b).end then sum else 0) run.block
+    ∙ ap (λ x. if is_held w p ms i && may_stay (block_in w (block_at w ms i)).end then x else 0) (pending_sum c g t board q ms to run)
 
--- ---- arrivals in a piece
+-- ---- arrivals at blocks that pass a test
 
-abbrev begun_at : Scene → BlockRange → List Transition → ℕ → ℕ
-begun_at w p ms i = if is_held w p ms i then (if begins (scene_starts w) ms i then 1 else 0) else 0
+abbrev pub begun_at : Scene → (ℕ → Bool) → List Transition → ℕ → ℕ
+begun_at w to ms i = if to (block_at w ms i) then (if begins (scene_starts w) ms i then 1 else 0) else 0
+
+abbrev pub outside_to : Scene → BlockRange → (ℕ → Bool) → List Transition → ℕ → ℕ
+outside_to w p to ms i = if to (block_at w ms i) then (if comes_in w p ms i then 1 else 0) else 0
 
 abbrev pub outside_at : Scene → BlockRange → List Transition → ℕ → ℕ
 outside_at w p ms i = if is_held w p ms i then (if comes_in w p ms i then 1 else 0) else 0
@@ -249,12 +254,12 @@ arrived_sum w ms b (suc n) =
     let here = begun_block (begins (scene_starts w) ms n) b (number_of (scene_starts w) (transition_at ms n).at) (block_at w ms n) (block_begun w ms n) in
     omega (arith, earlier, here)
 
-came_is : (c : Code) (g : Graph) (t : RegionTable) (board : Board) (q : Profile) (ms : List Transition) (p : BlockRange) → IsCountedRun c g t board q ms → sum_in p (arrivals_in q) (length c.blocks.items) ≡ sum_below (begun_at (scene_of g c t board) p ms) (length ms)
-came_is c g t board q ms p run =
+pub began_where : (c : Code) (g : Graph) (t : RegionTable) (board : Board) (q : Profile) (ms : List Transition) (to : ℕ → Bool) → IsCountedRun c g t board q ms → sum_below (λ b. if to b then arrivals_in q b else 0) (length c.blocks.items) ≡ sum_below (begun_at (scene_of g c t board) to ms) (length ms)
+began_where c g t board q ms to run =
     let w = scene_of g c t board in
-    sum_same (λ b. if holds_block b p then arrivals_in q b else 0) (λ b. if holds_block b p then sum_below (λ i. if block_at w ms i == b then (if begins (scene_starts w) ms i then 1 else 0) else 0) (length ms) else 0) (length c.blocks.items)
-    (λ b below. ap (λ x. if holds_block b p then x else 0) (run.arrivals b below ∙ arrived_sum w ms b (length ms)))
-    ∙ by_places (λ b. holds_block b p) (λ b i. if begins (scene_starts w) ms i then 1 else 0) (block_at w ms) (length c.blocks.items) (length ms) (λ i below. (run.all.each i below).inside)
+    sum_same (λ b. if to b then arrivals_in q b else 0) (λ b. if to b then sum_below (λ i. if block_at w ms i == b then (if begins (scene_starts w) ms i then 1 else 0) else 0) (length ms) else 0) (length c.blocks.items)
+    (λ b below. ap (λ x. if to b then x else 0) (run.arrivals b below ∙ arrived_sum w ms b (length ms)))
+    ∙ by_places to (λ b i. if begins (scene_starts w) ms i then 1 else 0) (block_at w ms) (length c.blocks.items) (length ms) (λ i below. (run.all.each i below).inside)
 
 -- control comes from outside, or stays with the transition before
 parts_begun : (held begun internal : Bool) → ◌≡◌ {A = ℕ} (if held then (if begun then 1 else 0) else 0) ((if held then (if begun && not internal then 1 else 0) else 0) + (if held then (if begun && internal then 1 else 0) else 0))
@@ -263,58 +268,62 @@ parts_begun held begun internal = grind arith
 held_next : (held begun internal next : Bool) → (begun ≡ true → held ≡ next) → ◌≡◌ {A = ℕ} (if held then (if begun && internal then 1 else 0) else 0) (if internal then (if begun then (if next then 1 else 0) else 0) else 0)
 held_next held begun internal next same = grind (arith, same)
 
-begun_parts : (w : Scene) (p : BlockRange) (ms : List Transition) (j : ℕ) → Follows w ms → j < length ms → sum_below (begun_at w p ms) (suc j) ≡ sum_below (outside_at w p ms) (suc j) + sum_below (stays_at w p ms) j
-begun_parts w p ms zero all below =
-    let here = parts_begun (is_held w p ms 0) (begins (scene_starts w) ms 0) false in
-    let none : ◌≡◌ {A = ℕ} (if is_held w p ms 0 then (if begins (scene_starts w) ms 0 && false then 1 else 0) else 0) 0 = no_first (is_held w p ms 0) (begins (scene_starts w) ms 0) in
+begun_parts : (w : Scene) (p : BlockRange) (to : ℕ → Bool) (ms : List Transition) (j : ℕ) → Follows w ms → j < length ms → sum_below (begun_at w to ms) (suc j) ≡ sum_below (outside_to w p to ms) (suc j) + sum_below (stays_at w p to ms) j
+begun_parts w p to ms zero all below =
+    let here = parts_begun (to (block_at w ms 0)) (begins (scene_starts w) ms 0) false in
+    let none : ◌≡◌ {A = ℕ} (if to (block_at w ms 0) then (if begins (scene_starts w) ms 0 && false then 1 else 0) else 0) 0 = no_first (to (block_at w ms 0)) (begins (scene_starts w) ms 0) in
     omega (arith, here, none)
   where
     no_first : (held begun : Bool) → ◌≡◌ {A = ℕ} (if held then (if begun && false then 1 else 0) else 0) 0
     no_first true true = refl
     no_first true false = refl
     no_first false begun = refl
-begun_parts w p ms (suc j) all below =
+begun_parts w p to ms (suc j) all below =
     let starts = scene_starts w in
-    let earlier = begun_parts w p ms j all (omega (arith, below)) in
+    let earlier = begun_parts w p to ms j all (omega (arith, below)) in
     let begun = begins starts ms (suc j) in
     let internal = is_internal w p ms (suc j) in
-    let next = holds_block (next_number starts ms j) p in
-    let here = parts_begun (is_held w p ms (suc j)) begun internal in
-    let held = held_next (is_held w p ms (suc j)) begun internal next
-    (λ is. ap (λ b. holds_block b p) (next_block w ms j is ∙ next_is w ms j all below)) in
-    let stays : (if internal then (if begun then (if next then 1 else 0) else 0) else 0) ≡ stays_at w p ms j = ap (λ (x : Bool). if internal then (if x then (if next then 1 else 0) else 0) else 0) (next_begins w ms j all below) in
+    let next = to (next_number starts ms j) in
+    let here = parts_begun (to (block_at w ms (suc j))) begun internal in
+    let held = held_next (to (block_at w ms (suc j))) begun internal next
+    (λ is. ap to (next_block w ms j is ∙ next_is w ms j all below)) in
+    let stays : (if internal then (if begun then (if next then 1 else 0) else 0) else 0) ≡ stays_at w p to ms j = ap (λ (x : Bool). if internal then (if x then (if next then 1 else 0) else 0) else 0) (next_begins w ms j all below) in
     omega (arith, earlier, here, held, stays)
 
 came_parts : (came pending stayed outside before last : ℕ) → came ≡ outside + before → pending ≡ last → stayed ≡ before + last → came + pending ≡ outside + stayed
 came_parts came pending stayed outside before last one two three = omega (arith, one, two, three)
 
 -- arrivals, and the last edge where that stays, are those from outside and the edges that stay
-came_sum : (c : Code) (g : Graph) (t : RegionTable) (board : Board) (q : Profile) (ms : List Transition) (p : BlockRange) → IsCountedRun c g t board q ms → sum_in p (arrivals_in q) (length c.blocks.items) + pending_inside c q p ≡ sum_below (outside_at (scene_of g c t board) p ms) (length ms) + stayed c q p
-came_sum c g t board q ms p run =
+came_sum : (c : Code) (g : Graph) (t : RegionTable) (board : Board) (q : Profile) (ms : List Transition) (p : BlockRange) (to : ℕ → Bool) → IsCountedRun c g t board q ms → sum_below (λ b. if to b then arrivals_in q b else 0) (length c.blocks.items) + pending_to c q p to ≡ sum_below (outside_to (scene_of g c t board) p to ms) (length ms) + stayed_to c q p to
+came_sum c g t board q ms p to run =
     let w = scene_of g c t board in
     let i = length ms - 1 in
-    let came : sum_in p (arrivals_in q) (length c.blocks.items) ≡ sum_below (outside_at w p ms) (length ms) + sum_below (stays_at w p ms) i =
-    came_is c g t board q ms p run
-    ∙ (ap (sum_below (begun_at w p ms)) run.last
-    ∙ (begun_parts w p ms i run.all (let last = run.last in omega (arith, last))
-    ∙ ap (λ n. sum_below (outside_at w p ms) n + sum_below (stays_at w p ms) i) (sym run.last))) in
-    let stays : stayed c q p ≡ sum_below (stays_at w p ms) i + stays_at w p ms i = stayed_is c g t board q ms p run ∙ ap (sum_below (stays_at w p ms)) run.last in
-    came_parts (sum_in p (arrivals_in q) (length c.blocks.items)) (pending_inside c q p) (stayed c q p) (sum_below (outside_at w p ms) (length ms)) (sum_below (stays_at w p ms) i) (stays_at w p ms i)
-    came (pending_inside_is c g t board q ms p run) stays
+    let arrivals = sum_below (λ b. if to b then arrivals_in q b else 0) (length c.blocks.items) in
+    let came : arrivals ≡ sum_below (outside_to w p to ms) (length ms) + sum_below (stays_at w p to ms) i =
+    began_where c g t board q ms to run
+    ∙ (ap (sum_below (begun_at w to ms)) run.last
+    ∙ (begun_parts w p to ms i run.all (let last = run.last in omega (arith, last))
+    ∙ ap (λ n. sum_below (outside_to w p to ms) n + sum_below (stays_at w p to ms) i) (sym run.last))) in
+    let stays : stayed_to c q p to ≡ sum_below (stays_at w p to ms) i + stays_at w p to ms i = stayed_is c g t board q ms p to run ∙ ap (sum_below (stays_at w p to ms)) run.last in
+    came_parts arrivals (pending_to c q p to) (stayed_to c q p to) (sum_below (outside_to w p to ms) (length ms)) (sum_below (stays_at w p to ms) i) (stays_at w p to ms i)
+    came (pending_inside_is c g t board q ms p to run) stays
+
+pub came_to_counted : (c : Code) (g : Graph) (t : RegionTable) (board : Board) (q : Profile) (ms : List Transition) (p : BlockRange) (to : ℕ → Bool) → IsCountedRun c g t board q ms → came_to c q p to ≡ sum_below (outside_to (scene_of g c t board) p to ms) (length ms)
+came_to_counted c g t board q ms p to run =
+    let sum = came_sum c g t board q ms p to run in
+    omega (arith, sum)
 
 pub came_counted : (c : Code) (g : Graph) (t : RegionTable) (board : Board) (q : Profile) (ms : List Transition) (p : BlockRange) → IsCountedRun c g t board q ms → came_in c q p ≡ sum_below (outside_at (scene_of g c t board) p ms) (length ms)
-came_counted c g t board q ms p run =
-    let sum = came_sum c g t board q ms p run in
-    omega (arith, sum)
+came_counted c g t board q ms p run = came_to_counted c g t board q ms p (λ b. holds_block b p) run
 
 pub stays_few : (c : Code) (g : Graph) (t : RegionTable) (board : Board) (q : Profile) (ms : List Transition) (p : BlockRange) → IsCountedRun c g t board q ms → stayed c q p ≤ sum_in p (arrivals_in q) (length c.blocks.items) + pending_inside c q p
 stays_few c g t board q ms p run =
-    let sum = came_sum c g t board q ms p run in
+    let sum = came_sum c g t board q ms p (λ b. holds_block b p) run in
     omega (arith, sum)
 
 pub arrivals_few : (c : Code) (g : Graph) (t : RegionTable) (board : Board) (q : Profile) (ms : List Transition) (p : BlockRange) → IsCountedRun c g t board q ms → sum_in p (arrivals_in q) (length c.blocks.items) ≤ length ms
 arrivals_few c g t board q ms p run =
     let w = scene_of g c t board in
-    let is = came_is c g t board q ms p run in
-    let few = sum_small (begun_at w p ms) 1 (length ms) (λ i below. into_small (is_held w p ms i) (begins (scene_starts w) ms i)) in
+    let is = began_where c g t board q ms (λ b. holds_block b p) run in
+    let few = sum_small (begun_at w (λ b. holds_block b p) ms) 1 (length ms) (λ i below. into_small (is_held w p ms i) (begins (scene_starts w) ms i)) in
     omega (arith, is, few)

@@ -25,7 +25,7 @@ use Rattle.energy_model.proofs.SceneLemmas.{Follows, unit_of_transition}
 use Rattle.energy_model.proofs.SumLemmas.{sum_two, arrived}
 use Rattle.energy_model.proofs.PlaceLemmas.{by_places}
 use Rattle.energy_model.proofs.WordLemmas.{IsCountedRun}
-use Rattle.energy_model.proofs.ArrivalLemmas.{arrived_sum}
+use Rattle.energy_model.proofs.ArrivalLemmas.{arrived_sum, began_where}
 use Rattle.energy_model.proofs.EnergyLemmas.{current_fits}
 use Rattle.energy_model.proofs.CountsLemmas.{counted_run, sum_times}
 use Rattle.energy_model.proofs.ChangeLemmas.{changes_counted}
@@ -165,12 +165,7 @@ value_if : (test : Bool) (x y : ℕ) → x ≡ y → (if test then x else 0) ≡
 value_if test x y is = ap (λ n. if test then n else 0) is
 
 pub checks_counted : (c : Code) (g : Graph) (t : RegionTable) (board : Board) (q : Profile) (ms : List Transition) → IsCountedRun c g t board q ms → checks_in q t.border.items (length c.blocks.items) ≡ sum_below (checked_at (scene_of g c t board) ms) (length ms)
-checks_counted c g t board q ms run =
-    let w = scene_of g c t board in
-    let begun = λ (i : ℕ). if begins (starts_of w) ms i then 1 else 0 in
-    sum_same (λ b. if is_border t b then arrivals_in q b else 0) (λ b. if is_border t b then sum_below (λ i. if block_at w ms i == b then begun i else 0) (length ms) else 0) (length c.blocks.items)
-    (λ b below. value_if (is_border t b) (arrivals_in q b) (sum_below (λ i. if block_at w ms i == b then begun i else 0) (length ms)) (run.arrivals b below ∙ arrived_sum w ms b (length ms)))
-    ∙ by_places (is_border t) (λ b i. begun i) (block_at w ms) (length c.blocks.items) (length ms) (λ i below. (run.all.each i below).inside)
+checks_counted c g t board q ms run = began_where c g t board q ms (is_border t) run
 
 -- ---- first units
 

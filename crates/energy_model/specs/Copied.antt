@@ -128,6 +128,23 @@ abbrev pub came_in : Code → Profile → BlockRange → ℕ
 came_in c q range =
     sum_in range (arrivals_in q) (length c.blocks.items) + pending_inside c q range - stayed c q range
 
+-- the same of the blocks alone that pass a test
+abbrev pub stayed_to : Code → Profile → BlockRange → (ℕ → Bool) → ℕ
+stayed_to c q range to =
+    sum_in range
+    (λ a. if may_stay (body_at c.blocks.items a).end then leaving q.edges.items a (λ b. if to b then 1 else 0) else 0)
+    (length c.blocks.items)
+
+abbrev pub pending_to : Code → Profile → BlockRange → (ℕ → Bool) → ℕ
+pending_to c q range to =
+    if holds_block q.last.0 range && may_stay (body_at c.blocks.items q.last.0).end
+    then sum_below (λ b. if to b then pending c q b else 0) (length c.blocks.items)
+    else 0
+
+abbrev pub came_to : Code → Profile → BlockRange → (ℕ → Bool) → ℕ
+came_to c q range to =
+    sum_below (λ b. if to b then arrivals_in q b else 0) (length c.blocks.items) + pending_to c q range to - stayed_to c q range to
+
 -- ---- lists of counts, and where edges stand
 
 -- the values of the first places
