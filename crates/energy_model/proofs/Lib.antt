@@ -18,3 +18,4 @@ pub mod ChangeLemmas
 pub mod OverlayLemmas
 pub mod TogetherLemmas
 pub mod ObjectLemmas
+pub mod OverlaidCode

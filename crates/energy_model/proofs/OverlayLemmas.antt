@@ -36,15 +36,15 @@ cases_bool false = inr refl
 
 -- ---- a step
 
-abbrev at_border : Scene → List Transition → ℕ → Bool
+abbrev pub at_border : Scene → List Transition → ℕ → Bool
 at_border w ms i = slice_index_or w.borders (block_at w ms i) false
 
 -- the first unit of a block ran there, and the machine went on
-abbrev ran_first : Scene → List Transition → ℕ → Bool
+abbrev pub ran_first : Scene → List Transition → ℕ → Bool
 ran_first w ms i = begins (starts_of w) ms i && (transition_at ms i).goes_on
 
 -- the first unit of a block runs just where the block begins
-first_begins : (w : Scene) (ms : List Transition) (i : ℕ) → Follows w ms → i < length ms → (unit_number w ms i == 0) ≡ begins (starts_of w) ms i
+pub first_begins : (w : Scene) (ms : List Transition) (i : ℕ) → Follows w ms → i < length ms → (unit_number w ms i == 0) ≡ begins (starts_of w) ms i
 first_begins w ms zero all below =
     let begun = all.first below in
     let test : (unit_number w ms 0 == 0) ≡ true = grind (arith, nat_tests) in
@@ -63,7 +63,7 @@ first_begins w ms (suc i) all below =
     ]
 
 -- the words of a unit that is displaced where it is checked and first
-form_parts : (goes border first begun : Bool) (displaced words fetch : ℕ) → first ≡ begun → (if goes then (if border && first then displaced else words) else 1) * fetch + (if border then (if begun && goes then words else 0) else 0) * fetch ≡ (if goes then words else 1) * fetch + (if border then (if begun && goes then displaced else 0) else 0) * fetch
+pub form_parts : (goes border first begun : Bool) (displaced words fetch : ℕ) → first ≡ begun → (if goes then (if border && first then displaced else words) else 1) * fetch + (if border then (if begun && goes then words else 0) else 0) * fetch ≡ (if goes then words else 1) * fetch + (if border then (if begun && goes then displaced else 0) else 0) * fetch
 form_parts true true true true displaced words fetch is = omega arith
 form_parts true true false false displaced words fetch is = omega arith
 form_parts true false true true displaced words fetch is = omega arith
@@ -75,7 +75,7 @@ form_parts false false false false displaced words fetch is = omega arith
 form_parts goes border true false displaced words fetch is = cc
 form_parts goes border false true displaced words fetch is = cc
 
-way_parts : (begun border : Bool) (fetch read : ℕ) → (if begun && true then (if border then 5 else 0) * fetch + (if border then read else 0) else 0) ≡ (if border then (if begun then 1 else 0) else 0) * (5 * fetch + read)
+pub way_parts : (begun border : Bool) (fetch read : ℕ) → (if begun && true then (if border then 5 else 0) * fetch + (if border then read else 0) else 0) ≡ (if border then (if begun then 1 else 0) else 0) * (5 * fetch + read)
 way_parts true true fetch read = omega arith
 way_parts true false fetch read = omega arith
 way_parts false true fetch read = omega arith
@@ -100,11 +100,11 @@ abbrev changed_at : Scene → List Transition → ℕ → ℕ
 changed_at w ms i =
     if not (region_before w ms i == region_with w ms i) then switch_price w [] (region_before w ms i) (region_with w ms i) else 0
 
-same_first : (b : Bool) (f : ℕ → ℕ) (k : ℕ) → (b ≡ true → k ≡ 0) → (if b then f k else 0) ≡ (if b then f 0 else 0)
+pub same_first : (b : Bool) (f : ℕ → ℕ) (k : ℕ) → (b ≡ true → k ≡ 0) → (if b then f k else 0) ≡ (if b then f 0 else 0)
 same_first true f k zero_is = ap f (zero_is refl)
 same_first false f k zero_is = refl
 
-ran_is_first : (begun goes : Bool) (k : ℕ) → (k == 0) ≡ begun → begun && goes ≡ true → k ≡ 0
+pub ran_is_first : (begun goes : Bool) (k : ℕ) → (k == 0) ≡ begun → begun && goes ≡ true → k ≡ 0
 ran_is_first begun goes k is ran = eqb-true k 0 (is ∙ (both begun goes ran).0)
 
 step_overlay : (w : Scene) (ms : List Transition) (i : ℕ) → Follows w ms → i < length ms → step_energy w (taken true []) ms i + first_words_at w ms i * w.board.prices.main_fetch ≡ step_energy w nothing_taken ms i + checked_at w ms i * arrival_price w.board.prices false true + displaced_at w ms i * w.board.prices.main_fetch + changed_at w ms i
@@ -242,16 +242,19 @@ times_first true true v = omega arith
 times_first true false v = omega arith
 times_first false ran v = omega arith
 
-values_counted : (c : Code) (g : Graph) (t : RegionTable) (board : Board) (q : Profile) (ms : List Transition) (v : ℕ → ℕ) → IsCountedRun c g t board q ms → at_borders t.border.items (λ b. first_runs q b * v b) (length c.blocks.items) ≡ sum_below (λ i. if at_border (scene_of g c t board) ms i then (if ran_first (scene_of g c t board) ms i then v (block_at (scene_of g c t board) ms i) else 0) else 0) (length ms)
-values_counted c g t board q ms v run =
+pub values_to : (c : Code) (g : Graph) (t : RegionTable) (board : Board) (q : Profile) (ms : List Transition) (to : ℕ → Bool) (v : ℕ → ℕ) → IsCountedRun c g t board q ms → sum_below (λ b. if to b then first_runs q b * v b else 0) (length c.blocks.items) ≡ sum_below (λ i. if to (block_at (scene_of g c t board) ms i) then (if ran_first (scene_of g c t board) ms i then v (block_at (scene_of g c t board) ms i) else 0) else 0) (length ms)
+values_to c g t board q ms to v run =
     let w = scene_of g c t board in
     let n = length ms in
-    sum_same (λ b. if is_border t b then first_runs q b * v b else 0) (λ b. if is_border t b then sum_below (λ i. if block_at w ms i == b then (if ran_first w ms i then v b else 0) else 0) n else 0) (length c.blocks.items)
-    (λ b below. value_if (is_border t b) (first_runs q b * v b) (sum_below (λ i. if block_at w ms i == b then (if ran_first w ms i then v b else 0) else 0) n)
+    sum_same (λ b. if to b then first_runs q b * v b else 0) (λ b. if to b then sum_below (λ i. if block_at w ms i == b then (if ran_first w ms i then v b else 0) else 0) n else 0) (length c.blocks.items)
+    (λ b below. value_if (to b) (first_runs q b * v b) (sum_below (λ i. if block_at w ms i == b then (if ran_first w ms i then v b else 0) else 0) n)
     (ap (λ x. x * v b) (first_counted c g t board q ms b run below)
     ∙ (sym (sum_times (first_of w ms b) (v b) n)
     ∙ sum_same (λ i. first_of w ms b i * v b) (λ i. if block_at w ms i == b then (if ran_first w ms i then v b else 0) else 0) n (λ i under. times_first (block_at w ms i == b) (ran_first w ms i) (v b)))))
-    ∙ by_places (is_border t) (λ b i. if ran_first w ms i then v b else 0) (block_at w ms) (length c.blocks.items) n (λ i below. (run.all.each i below).inside)
+    ∙ by_places to (λ b i. if ran_first w ms i then v b else 0) (block_at w ms) (length c.blocks.items) n (λ i below. (run.all.each i below).inside)
+
+values_counted : (c : Code) (g : Graph) (t : RegionTable) (board : Board) (q : Profile) (ms : List Transition) (v : ℕ → ℕ) → IsCountedRun c g t board q ms → at_borders t.border.items (λ b. first_runs q b * v b) (length c.blocks.items) ≡ sum_below (λ i. if at_border (scene_of g c t board) ms i then (if ran_first (scene_of g c t board) ms i then v (block_at (scene_of g c t board) ms i) else 0) else 0) (length ms)
+values_counted c g t board q ms v run = values_to c g t board q ms (is_border t) v run
 
 -- ---- changes of the current region
 

@@ -11,11 +11,14 @@ use Rattle.region_former.specs.declared.table.RegionTable.{RegionTable}
 use Rattle.profile_runner.specs.Transition.{Transition, is_going}
 use Rattle.profile_runner.specs.Counts.{plain_rows, entry}
 use Rattle.profile_runner.specs.declared.counts.Profile.{Profile}
-use Rattle.placement_programme.specs.declared.variables.VarName.TheVariants.{OverlayData}
-use Rattle.block_splitter.specs.Forms.{body_at, unit_in, is_site, kind_of, displaced_words}
-use Rattle.energy_model.specs.Energy.{Scene, nothing_taken, read_price, write_price, arrival_price, enter_job, leave_job, switch_price, steps_energy, side_energy}
-use Rattle.energy_model.specs.Copied.{arrivals_in}
+use Rattle.placement_programme.specs.declared.variables.VarName.{VarName}
+use Rattle.placement_programme.specs.declared.variables.VarName.TheVariants.{StaticCode, OverlayData, OverlayCode}
+use Rattle.block_splitter.specs.declared.block_range.BlockRange.{BlockRange}
+use Rattle.block_splitter.specs.Forms.{holds_block, body_at, unit_in, is_site, kind_of, displaced_words}
+use Rattle.energy_model.specs.Energy.{Scene, nothing_taken, read_price, write_price, arrival_price, start_job, enter_job, leave_job, switch_price, steps_energy, side_energy}
+use Rattle.energy_model.specs.Copied.{arrivals_in, home_words, copy_words_run, came_in, came_to}
 use Rattle.energy_model.specs.Scenes.{scene_of, AreOfSameFile}
+use Rattle.energy_model.specs.Priced.{range}
 use Rattle.energy_model.specs.Together.{taken}
 
 -- a value of the blocks by which control enters a region, of the first `n`
@@ -97,3 +100,46 @@ ObjectIsCounted =
     ≡ side_energy (scene_of g c t board) (taken true []) transitions
     + accesses_price board.prices true (reads_in q o r) (writes_in q o r)
     + object_copies (scene_of g c t board) q r o
+
+-- ---- a piece of code, throughout or while region `r` is current
+
+-- control enters a region by block `b` of a piece
+abbrev pub is_entered : List Bool → BlockRange → ℕ → Bool
+is_entered borders piece b = slice_index_or borders b false && holds_block b piece
+
+-- what checks and displaced units of a piece cost without it, and the words that these would run at home
+abbrev pub entering_price : Code → Graph → Prices → Profile → List Bool → BlockRange → ℕ
+entering_price c g prices q borders piece =
+    sum_below (λ b. if is_entered borders piece b then arrivals_in q b else 0) (length c.blocks.items) * arrival_price prices false true
+    + sum_below (λ b. if is_entered borders piece b then first_runs q b * displaced_words (kind_of (is_site g) (body_at c.blocks.items b) 0) else 0) (length c.blocks.items)
+    * prices.main_fetch
+
+abbrev pub entered_words : Code → Profile → List Bool → BlockRange → ℕ
+entered_words c q borders piece =
+    sum_below (λ b. if is_entered borders piece b then first_runs q b * (unit_in (body_at c.blocks.items b) 0).words else 0) (length c.blocks.items)
+
+-- its words in a copy, and a stub each time that control comes from outside: four more fetches and a read where it is checked
+abbrev pub copied_price : Code → Graph → Prices → Profile → List Bool → BlockRange → ℕ
+copied_price c g prices q borders piece =
+    copy_words_run c g q piece * prices.spm_fetch
+    + came_in c q piece * (3 * prices.main_fetch)
+    + came_to c q piece (is_entered borders piece) * (4 * prices.main_fetch + prices.main_read)
+
+-- what a name costs that copies a piece, by its copies
+abbrev pub PieceCosts : ElfView → Board → Graph → Code → RegionTable → Profile → List Transition → BlockRange → VarName → ℕ → Type 0
+PieceCosts view board g c t q transitions piece name copies =
+    side_energy (scene_of g c t board) (taken true (name ∷ [])) transitions
+    + home_words c g q piece * board.prices.main_fetch
+    + entering_price c g board.prices q t.border.items piece
+    ≡ side_energy (scene_of g c t board) (taken true []) transitions
+    + entered_words c q t.border.items piece * board.prices.main_fetch
+    + copied_price c g board.prices q t.border.items piece
+    + copies
+
+abbrev pub PieceIsCounted : Type 0
+PieceIsCounted =
+    (view : ElfView) (board : Board) (g : Graph) (c : Code) (t : RegionTable) (q : Profile) (transitions : List Transition) (first last r : ℕ)
+    → AreOfSameFile view board g c t q transitions → r ≤ t.count
+    → PieceCosts view board g c t q transitions (range first last) (StaticCode first last) (start_job (scene_of g c t board) (StaticCode first last))
+    × PieceCosts view board g c t q transitions (range first last) (OverlayCode r first last)
+    (slice_index_or q.enters.items r 0 * enter_job (scene_of g c t board) r (OverlayCode r first last))
