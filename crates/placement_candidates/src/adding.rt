@@ -1,5 +1,6 @@
 // Laws of the definitions: functions that do nothing, whose contracts are what is proved.
 ghost use Rattle.placement_candidates.specs.Adding.{EnergyAddsUp, EnergyIsOfTheRun, GainsAreWithinTheBase};
+ghost use Rattle.placement_candidates.specs.Overlaid.{OffSideStays};
 
 /// The energy with different objects and disjoint pieces taken is the base and the fixed cost, less what each saves
 /// alone.
@@ -22,3 +23,8 @@ pub fn gains_are_within_the_base()
 {
     rv_decode::one_instruction();
 }
+
+/// The programme with overlay says of the side without it what the programme of static items says.
+pub fn off_side_stays()
+    ensures { OffSideStays }
+{}
