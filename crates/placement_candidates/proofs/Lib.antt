@@ -6,3 +6,4 @@ pub mod RankLemmas
 pub mod AddingLemmas
 pub mod ChoiceLemmas
 pub mod PieceLemmas
+pub mod WholeLemmas

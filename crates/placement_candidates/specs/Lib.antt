@@ -6,4 +6,5 @@ pub mod Overlaid
 pub mod Counted
 pub mod Selected
 pub mod Adding
+pub mod Whole
 pub mod Ranking

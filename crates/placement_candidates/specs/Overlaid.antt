@@ -18,8 +18,9 @@ use Rattle.block_splitter.specs.declared.piece.Piece.{Piece}
 use Rattle.block_splitter.specs.Forms.{holds_block}
 use Rattle.block_splitter.specs.Pieces.{range_of}
 use Rattle.cell_values.specs.Objects.{datum_of}
-use Rattle.energy_model.specs.Energy.{nothing_taken, Scene, Taken, steps_energy, side_energy}
+use Rattle.energy_model.specs.Energy.{nothing_taken, Scene, steps_energy, side_energy}
 use Rattle.energy_model.specs.Scenes.{scene_of, layout_of}
+use Rattle.energy_model.specs.Together.{taken}
 use Rattle.placement_candidates.specs.Stated.{is_border, displaced_at, part_of, off_side}
 
 -- ---- what may be taken
@@ -101,13 +102,10 @@ overlay_candidates w objects pieces =
 
 -- ---- the side on which there is overlay
 
-abbrev pub overlaid : List VarName → Taken
-overlaid names = record { on = true; names = names }
-
 -- what an item saves there: the energy of that side with nothing taken, less that with this item alone
 abbrev pub overlay_gain : Scene → List Transition → VarName → ℤ
 overlay_gain w transitions name =
-    pos (side_energy w (overlaid []) transitions) -ℤ pos (side_energy w (overlaid (name ∷ [])) transitions)
+    pos (side_energy w (taken true []) transitions) -ℤ pos (side_energy w (taken true (name ∷ [])) transitions)
 
 abbrev pub overlay_var : Scene → Layout → List Transition → Candidate → PlainFullVar
 overlay_var w l transitions candidate =
@@ -133,7 +131,7 @@ overlay_layout g c t board =
 
 -- what it costs: the start stub, and all that overlay costs where nothing is taken
 abbrev pub overlay_fixed : Scene → List Transition → ℕ
-overlay_fixed w transitions = side_energy w (overlaid []) transitions - steps_energy w nothing_taken transitions
+overlay_fixed w transitions = side_energy w (taken true []) transitions - steps_energy w nothing_taken transitions
 
 abbrev pub on_side : Scene → Layout → List ℕ → List Piece → List Transition → PlainFullSide
 on_side w l objects pieces transitions =

@@ -1,6 +1,7 @@
 // Laws of the definitions: functions that do nothing, whose contracts are what is proved.
 ghost use Rattle.placement_candidates.specs.Adding.{EnergyAddsUp, EnergyIsOfTheRun, GainsAreWithinTheBase};
 ghost use Rattle.placement_candidates.specs.Overlaid.{OffSideStays};
+ghost use Rattle.placement_candidates.specs.Whole.{OverlayAddsUp};
 
 /// The energy with different objects and disjoint pieces taken is the base and the fixed cost, less what each saves
 /// alone.
@@ -28,3 +29,10 @@ pub fn gains_are_within_the_base()
 pub fn off_side_stays()
     ensures { OffSideStays }
 {}
+
+/// With overlay, what items save together that have nothing in common is what each saves alone.
+pub fn overlay_adds_up()
+    ensures { OverlayAddsUp }
+{
+    rv_decode::one_instruction();
+}

@@ -9,7 +9,7 @@ mod ranking;
 mod selecting;
 mod stating;
 
-pub use adding::{energy_adds_up, off_side_stays};
+pub use adding::{energy_adds_up, off_side_stays, overlay_adds_up};
 pub use counting::full;
 pub use selecting::select;
 pub use stating::programme;
