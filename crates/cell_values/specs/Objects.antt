@@ -1,9 +1,10 @@
 -- What the operations on values ask of the objects that may move.
-use Rattle.std.specs.Prelude.{◌≡◌, ◌⊎◌, ℕ, ◌%◌, ◌<◌, Bool, false, length, slice_index_or, Option, Some, None}
+use Rattle.std.specs.Prelude.{◌≡◌, ◌⊎◌, ℕ, ◌%◌, ◌<◌, Bool, false, List, [], length, slice_index_or, Option, Some, None}
 use Rattle.word_bits.specs.Words.{plus}
+use Rattle.board_config.specs.declared.board.Board.{Board}
 use Rattle.object_graph.specs.declared.parts.Object.{Object}
 use Rattle.object_graph.specs.declared.parts.Graph.{Graph}
-use Rattle.placement_programme.specs.Rows.{Datum}
+use Rattle.placement_programme.specs.Rows.{Datum, Layout}
 use Rattle.cell_values.specs.declared.values.Val.{Val}
 use Rattle.cell_values.specs.declared.values.Val.TheVariants.{Int, Addr, Hi, Low, Piece, Unknown}
 
@@ -34,6 +35,21 @@ datum_of g o =
       home = (object_of g o).home;
       size = (object_of g o).size;
       writable = (object_of g o).writable;
+    }
+
+-- what the rows of a placement depend on, for a program of so many blocks of code and so many regions
+abbrev pub layout_with : Board → Graph → ℕ → ℕ → Layout
+layout_with board g blocks regions =
+    record {
+      scratchpad = board.spm.size;
+      patch = board.patch.size;
+      fence_i = board.fence_i;
+      twins = board.twins;
+      blocks = blocks;
+      objects = length g.objects.items;
+      regions = regions;
+      displaced = [];
+      grain = board.grain;
     }
 
 -- the objects of a graph

@@ -14,6 +14,7 @@ use Rattle.object_machine.specs.declared.events.Outcome.TheVariants.{GoesOn}
 use Rattle.object_machine.specs.Program.{program_of}
 use Rattle.object_machine.specs.State.{SourceState}
 use Rattle.region_former.specs.declared.table.RegionTable.{RegionTable}
+use Rattle.cell_values.specs.Objects.{layout_with}
 use Rattle.profile_runner.specs.Transition.{Transition}
 use Rattle.profile_runner.specs.Transitions.{Transitions}
 use Rattle.profile_runner.specs.Counts.{IsProfile}
@@ -33,22 +34,9 @@ scene_of g c t board =
       board = board;
     }
 
--- what rows and weights depend on where a programme has this many regions
-abbrev pub layout_with : Board → Graph → Code → ℕ → Layout
-layout_with board g c regions =
-    record {
-      scratchpad = board.spm.size;
-      patch = board.patch.size;
-      fence_i = board.fence_i;
-      blocks = length c.blocks.items;
-      objects = length g.objects.items;
-      regions = regions;
-      displaced = [];
-      grain = board.grain;
-    }
-
+-- what rows and weights depend on
 abbrev pub layout_of : Graph → Code → RegionTable → Board → Layout
-layout_of g c t board = layout_with board g c t.count
+layout_of g c t board = layout_with board g (length c.blocks.items) t.count
 
 -- the transitions are of a run of the program of a file on a board, for the board's steps or until it ends, and the profile
 -- tells of them. The run begins where execution of the file does, which is where a block of the code begins

@@ -18,8 +18,7 @@ use Rattle.placement_programme.specs.Plain.{PlainVar, PlainSide, PlainProgramme,
 use Rattle.placement_programme.specs.Programme.{IsFeasible}
 use Rattle.placement_programme.specs.Rows.{Layout, Part, static_data, static_code, off_capacities, off_weights}
 use Rattle.relocator.specs.Slots.{name_at}
-use Rattle.cell_values.specs.Objects.{datum_of}
-use Rattle.energy_model.specs.Scenes.{layout_with}
+use Rattle.cell_values.specs.Objects.{datum_of, layout_with}
 use Rattle.result_setups.specs.Absolute.{IsAbsolute}
 use Rattle.result_setups.specs.ResultLaws.{KeepsRuns}
 use Rattle.relink_core.specs.declared.analysis.Analysis.{Analysis}
@@ -46,7 +45,7 @@ pub record IsAnalysisOf (file : List ℕ) (board : Board) (a : Analysis) : Type 
 
 -- what the rows and weights of a programme without overlay depend on
 abbrev pub static_layout : Board → Graph → Code → Layout
-static_layout board g c = layout_with board g c 0
+static_layout board g c = layout_with board g (length c.blocks.items) 0
 
 -- a part tells the blocks, the copied bytes and how many entries a piece has; these may be of either kind
 pub record IsPartOf (piece : Piece) (part : Part) : Type 0 where
