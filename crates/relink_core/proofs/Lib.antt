@@ -6,7 +6,6 @@ pub mod MoveLemmas
 pub mod WritableLemmas
 pub mod LoadableLemmas
 pub mod RealiseLemmas
-pub mod StatedLemmas
 pub mod StaticNames
 pub mod PatchMade
 pub mod StaticChoices

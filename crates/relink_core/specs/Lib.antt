@@ -9,4 +9,3 @@ pub mod Placed
 pub mod Segments
 pub mod Standing
 pub mod TakenItems
-pub mod Statements

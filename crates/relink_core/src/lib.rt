@@ -14,5 +14,5 @@ mod symbol_moves;
 
 pub use analysis::{Analysis, analyse, points_of};
 pub use fault::AnalyseFault;
-pub use laws::{absolute_keeps_runs, stated_is_realisable, unmoved_file_keeps};
+pub use laws::{absolute_keeps_runs, unmoved_file_keeps};
 pub use realising::{Realised, realise};

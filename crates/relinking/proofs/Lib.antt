@@ -1,3 +1,4 @@
+pub mod StatedLemmas
 pub mod Analysed
 pub mod Counting
 pub mod Energies

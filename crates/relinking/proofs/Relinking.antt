@@ -20,7 +20,7 @@ use Rattle.relocator.specs.Placing.{placed, ArePlaces}
 use Rattle.relink_core.specs.Making.{AreOfGraph}
 use Rattle.relink_core.specs.declared.fault.AnalyseFault.{AnalyseFault}
 use Rattle.relink_core.specs.declared.fault.AnalyseFault.TheVariants as analyse
-use Rattle.relink_core.proofs.StatedLemmas.{stated_choice}
+use Rattle.relinking.proofs.StatedLemmas.{stated_choice}
 use Rattle.profile_runner.specs.Counts.{plain_rows}
 use Rattle.profile_runner.proofs.RunLemmas.{transitions_steps}
 use Rattle.result_setups.specs.HomeLaws.{program_in, source_start}

@@ -5,3 +5,4 @@ pub mod FoundChoice
 pub mod Relink
 pub mod Copied
 pub mod Report
+pub mod Statements

@@ -4,12 +4,14 @@
 
 mod copied;
 mod finding;
+mod laws;
 mod making;
 mod measuring;
 mod reporting;
 mod stating;
 
 pub use finding::{Solution, find_choice};
+pub use laws::stated_is_realisable;
 pub use making::{RelinkFault, Relinked, relink, relink_analysed};
 pub use measuring::{MeasuredEnd, MeasuredRun, measured_run};
 pub use reporting::relink_report;

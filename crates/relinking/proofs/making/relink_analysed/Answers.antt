@@ -6,7 +6,7 @@ use Rattle.placement_programme.specs.Views.{plain_programme, plain_choice}
 use Rattle.relinking.specs.MeasuredRuns.{EndsSo}
 use Rattle.relinking.specs.ProgrammeOfRun.{StatesProgramme}
 use Rattle.relinking.proofs.Counting.{no_memory}
-use Rattle.relink_core.proofs.StatedLemmas.{some_of_all}
+use Rattle.relinking.proofs.StatedLemmas.{some_of_all}
 use Rattle.relinking.proofs.Relinking.{states_choice}
 use Rattle.relinking.proofs.making.relink_analysed.Goals as goal
 

@@ -10,7 +10,7 @@ use Rattle.profile_runner.specs.Counts.{plain_rows}
 use Rattle.copied_result.specs.declared.placed_copy.PlacedCopy.{PlacedCopy}
 use Rattle.relink_core.specs.Making.{AreOfGraph}
 use Rattle.relink_core.specs.Static.{objects_named, ranges_named, names_taken}
-use Rattle.relink_core.proofs.StatedLemmas.{some_of_all}
+use Rattle.relinking.proofs.StatedLemmas.{some_of_all}
 use Rattle.relink_core.proofs.StaticChoices.{choice_takes, split}
 use Rattle.printed_lines.specs.ReportText.{IsReport}
 use Rattle.printed_lines.specs.MovedLines.{moved_lines, start_in, code_lines}

@@ -5,7 +5,7 @@ use Rattle.block_splitter.specs.declared.piece.Piece.{Piece}
 use Rattle.energy_model.specs.Scenes.{scene_of, layout_of}
 use Rattle.placement_candidates.specs.Stated.{AreSomePieces}
 use Rattle.placement_candidates.specs.Selected.{stated}
-use Rattle.relink_core.proofs.StatedLemmas.{some_of_all}
+use Rattle.relinking.proofs.StatedLemmas.{some_of_all}
 use Rattle.relinking.proofs.Energies.{of_one_file, energies_of}
 use Rattle.relinking.proofs.Analysed.{may_state}
 use Rattle.relinking.proofs.stating.programme_of_run.Goals as goal

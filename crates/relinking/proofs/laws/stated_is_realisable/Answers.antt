@@ -1,5 +1,5 @@
-use Rattle.relink_core.proofs.StatedLemmas.{stated_choice}
-use Rattle.relink_core.proofs.laws.stated_is_realisable.Goals as goal
+use Rattle.relinking.proofs.StatedLemmas.{stated_choice}
+use Rattle.relinking.proofs.laws.stated_is_realisable.Goals as goal
 
 pub returns : goal.returns
 returns c = λ board g code t pieces moves choice are feasible. stated_choice board g code t pieces moves are choice feasible
