@@ -6,8 +6,8 @@ use Rattle.shelf_io.specs.Sink.{SinkView}
 use Rattle.elf_reader.specs.File.{entry_of, load_segments}
 use Rattle.hex_image.specs.Runs.{file_map}
 use Rattle.hex_image.specs.Reading as hex
-use Rattle.command_line.specs.Command.{PlainCommand, IsCommand, Named, reads}
-use Rattle.command_line.specs.FaultLine.{Parts, status_of, fault_line, parts_of}
+use Rattle.command_words.specs.Command.{PlainCommand, IsCommand, Named, reads}
+use Rattle.command_faults.specs.FaultLine.{Parts, status_of, fault_line, parts_of}
 use Rattle.command_line.specs.Delivery.{LosesOne}
 use Rattle.command_line.specs.Diagnostic.{PutsLine, rejected_status, rejected_line}
 use Rattle.command_line.specs.Reading.{HoldsAll}
@@ -19,8 +19,8 @@ use Rattle.command_line.specs.CheckFile.{of_certificate}
 use Rattle.command_line.specs.Meaning.{Compares, IsFirst, run_first, relink_first, profile_first, compare_first, check_first, gen_first, hex_first, check_difference, Yields, runs, relinks, profiles, compares, checks, generates, writes_hex, agrees, show_first, shows}
 use Rattle.command_line.specs.Answers.{IsDone, Cause, HasCause, EndsRejected, InputFails, AnswersInputs, AnswersUsage, AnswersCommand, ReportsAll}
 use Rattle.command_line.specs.declared.diagnostic.Diagnostic.{Diagnostic}
-use Rattle.command_line.specs.declared.faults.CommandFault.{CommandFault}
-use Rattle.command_line.specs.declared.faults.CommandFault.TheVariants as command_fault
+use Rattle.command_faults.specs.declared.faults.CommandFault.{CommandFault}
+use Rattle.command_faults.specs.declared.faults.CommandFault.TheVariants as command_fault
 use Rattle.command_line.proofs.OneCommand.{one_command, one_reading}
 use Rattle.command_line.proofs.Statuses.{status_positive}
 use Rattle.command_line.proofs.Profiling.{profile_runs}

@@ -1,4 +1,3 @@
-pub mod WordLists
 pub mod Endings
 pub mod Statuses
 pub mod Causes
@@ -13,5 +12,4 @@ pub mod Certificates
 pub mod CommandFaults
 pub mod Readings
 pub mod Writings
-pub mod Numbers
 pub mod Comparing

@@ -1,7 +1,7 @@
 -- Words spell one command, and a shelf tells one text for each name.
 use Rattle.std.proofs.Common.{◌≡◌, ℕ, List, [], ◌∷◌, codes, Option, Some, None, IfSome, if◌then◌else◌, bytes_eq, refl, sym, ◌∙◌}
 use Rattle.shelf_io.specs.Shelf.{ShelfView}
-use Rattle.command_line.specs.Command.{PlainCommand, run_command, relink_command, profile_command, compare_command, check_command, gen_command, hex_command, hex_check_command, Spells, IsCommand, Named, value_of, show_command}
+use Rattle.command_words.specs.Command.{PlainCommand, run_command, relink_command, profile_command, compare_command, check_command, gen_command, hex_command, hex_check_command, Spells, IsCommand, Named, value_of, show_command}
 use Rattle.command_line.specs.Reading.{HoldsAll}
 use Rattle.command_line.specs.Answers.{ReportsAll}
 

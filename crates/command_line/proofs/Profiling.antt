@@ -15,7 +15,7 @@ use Rattle.profile_runner.specs.declared.fault.ProfileFault.{ProfileFault}
 use Rattle.profile_runner.specs.declared.fault.ProfileFault.TheVariants.{AddressFault as FaultAt, Memory}
 use Rattle.relinking.proofs.Analysed.{findings}
 use Rattle.relinking.proofs.Counting.{faulted, unfaulted}
-use Rattle.command_line.specs.FaultLine.{profile_command_fault}
+use Rattle.command_faults.specs.FaultLine.{profile_command_fault}
 use Rattle.command_line.specs.Analysed.{IsOpened}
 use Rattle.command_line.specs.declared.opening.Opened.{Opened}
 use Rattle.command_line.proofs.Analysing.{opened_view}

@@ -20,8 +20,8 @@ use Rattle.placement_programme.specs.Plain.{PlainProgramme}
 use Rattle.hex_image.specs.Reading.{hex_fault}
 use Rattle.hex_image.specs.declared.fault.HexFault.{HexFault}
 use Rattle.hex_image.specs.declared.fault.HexFault.TheVariants as hex
-use Rattle.command_line.specs.Command.{PlainCommand}
-use Rattle.command_line.specs.FaultLine.{Parts, board_parts, elf_parts, graph_parts, code_parts, analyse_parts, address_parts, source_parts, cert_parts, choice_parts, tree_parts, hex_parts, differs_parts, status_of, region_parts}
+use Rattle.command_words.specs.Command.{PlainCommand}
+use Rattle.command_faults.specs.FaultLine.{Parts, board_parts, elf_parts, graph_parts, code_parts, analyse_parts, address_parts, source_parts, cert_parts, choice_parts, tree_parts, hex_parts, differs_parts, status_of, region_parts}
 use Rattle.compare_runner.specs.declared.comparing.Comparison.TheVariants.{Same, Differs, SourceFault}
 use Rattle.command_line.specs.Analysed.{ReportsAnalysed, of_board, of_analysis}
 use Rattle.command_line.specs.ProgramRun.{ReportsProfiled, of_run, of_none}
@@ -33,8 +33,8 @@ use Rattle.command_line.specs.CheckFile as checked
 use Rattle.command_line.specs.Meaning.{IsFirst, run_first, relink_first, profile_first, compare_first, check_first, gen_first, hex_first, check_fault, check_difference, show_first}
 use Rattle.command_line.specs.ShowFile.{ReportsShown}
 use Rattle.command_line.specs.ShowFile as show
-use Rattle.command_line.specs.declared.faults.CommandFault.{CommandFault}
-use Rattle.command_line.specs.declared.faults.CommandFault.TheVariants as command_fault
+use Rattle.command_faults.specs.declared.faults.CommandFault.{CommandFault}
+use Rattle.command_faults.specs.declared.faults.CommandFault.TheVariants as command_fault
 
 -- none of them is that of the words or of the outside
 abbrev pub IsOfInputs : Parts → Type 0

@@ -2,8 +2,8 @@
 use Rattle.std.specs.Prelude.{◌≡◌, ◌⊎◌, ℕ, List, [], ◌∷◌, Option, Some, None}
 use Rattle.std.specs.List.{Contains}
 use Rattle.shelf_io.specs.Counts.{Rose}
-use Rattle.command_line.specs.Command.{PlainCommand, IsCommand, Named, reads, writes}
-use Rattle.command_line.specs.FaultLine.{Parts, fault_line, status_of, parts_of}
+use Rattle.command_words.specs.Command.{PlainCommand, IsCommand, Named, reads, writes}
+use Rattle.command_faults.specs.FaultLine.{Parts, fault_line, status_of, parts_of}
 use Rattle.shelf_io.specs.Shelf.{ShelfView, LogsFailed}
 use Rattle.relinking.specs.declared.measuring.MeasuredEnd.{MeasuredEnd}
 use Rattle.shelf_io.specs.Sink.{SinkView, PutAll, PutSome}
@@ -14,8 +14,8 @@ use Rattle.command_line.specs.Performing.{YieldsOf, TellsEndOf}
 use Rattle.command_line.specs.Reading.{HoldsAll}
 use Rattle.command_line.specs.Diagnostic.{IsDiagnosticOf, PutsLine}
 use Rattle.command_line.specs.declared.diagnostic.Diagnostic.{Diagnostic}
-use Rattle.command_line.specs.declared.faults.CommandFault.{CommandFault}
-use Rattle.command_line.specs.declared.faults.CommandFault.TheVariants as command_fault
+use Rattle.command_faults.specs.declared.faults.CommandFault.{CommandFault}
+use Rattle.command_faults.specs.declared.faults.CommandFault.TheVariants as command_fault
 
 -- a command of these words yields outputs and a text of what the shelf holds
 pub record Produces (words : List (List ℕ)) (outputs : List (List ℕ)) (text : List ℕ) (shelf : ShelfView) : Type 0 where

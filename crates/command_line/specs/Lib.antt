@@ -1,5 +1,3 @@
-pub mod Command
-pub mod FaultLine
 pub mod Diagnostic
 pub mod Reading
 pub mod Delivery

@@ -10,8 +10,8 @@ use Rattle.hex_image.specs.Runs.{ByteMap, file_map}
 use Rattle.hex_image.specs.Text.{hex_text, hex_records}
 use Rattle.hex_image.specs.Reading as hex
 use Rattle.hex_image.specs.Difference.{IsDifference}
-use Rattle.command_line.specs.Command.{PlainCommand, run_command, relink_command, profile_command, compare_command, check_command, gen_command, hex_command, hex_check_command, show_command}
-use Rattle.command_line.specs.FaultLine.{Parts, elf_parts, hex_parts, differs_parts, parts_of}
+use Rattle.command_words.specs.Command.{PlainCommand, run_command, relink_command, profile_command, compare_command, check_command, gen_command, hex_command, hex_check_command, show_command}
+use Rattle.command_faults.specs.FaultLine.{Parts, elf_parts, hex_parts, differs_parts, parts_of}
 use Rattle.command_line.specs.RunFile.{RunsTo, first_command_fault}
 use Rattle.command_line.specs.ProgramRun.{ReportsProfiled}
 use Rattle.command_line.specs.RelinkFile.{RelinksTo}
@@ -19,8 +19,8 @@ use Rattle.command_line.specs.ProfileFile.{ProfilesTo}
 use Rattle.command_line.specs.CompareFiles.{ComparesTo, ReportsCompared}
 use Rattle.command_line.specs.CheckFile.{ChecksTo, ReportsChecked}
 use Rattle.command_line.specs.ShowFile.{ShowsTo, ReportsShown}
-use Rattle.command_line.specs.declared.faults.CommandFault.{CommandFault}
-use Rattle.command_line.specs.declared.faults.CommandFault.TheVariants as command_fault
+use Rattle.command_faults.specs.declared.faults.CommandFault.{CommandFault}
+use Rattle.command_faults.specs.declared.faults.CommandFault.TheVariants as command_fault
 
 -- `kernels K`, and `records N`
 abbrev pub kernels_text : ℕ → List ℕ

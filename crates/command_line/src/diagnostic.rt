@@ -1,4 +1,4 @@
-use crate::faults::CommandFault;
+use command_faults::CommandFault;
 use crate::printing::put_piece;
 use shelf_io::Sink;
 use std::alloc::{AllocError, Global};

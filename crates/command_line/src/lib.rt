@@ -3,11 +3,9 @@
 #![tactic(auto)]
 
 mod check_file;
-mod commands;
 mod compare_files;
 mod delivery;
 mod diagnostic;
-mod faults;
 mod hex_files;
 mod measured_text;
 mod opening;

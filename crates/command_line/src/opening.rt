@@ -1,7 +1,7 @@
 ghost use Rattle.std.specs.Prelude.{IfOk, IfErr};
 ghost use Rattle.command_line.specs.Analysed.{IsOpened, RejectsAnalysed};
 
-use crate::faults::CommandFault;
+use command_faults::CommandFault;
 use board_config::{Board, read_board};
 use relink_core::{Analysis, analyse};
 use std::alloc::Global;

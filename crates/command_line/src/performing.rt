@@ -1,11 +1,11 @@
 ghost use Rattle.std.specs.Prelude.{◌≡◌, OnOk, IfOk, IfErr};
-ghost use Rattle.command_line.specs.Command.{HasNumbers, plain_command};
+ghost use Rattle.command_words.specs.Command.{HasNumbers, plain_command};
 ghost use Rattle.command_line.specs.Performing.{IsPrepared, RejectsPreparing, Performs, TellsEndOf, IsRejectedBy};
 
-use crate::commands::Command;
+use command_words::Command;
 use crate::delivery::{PreparedResult, deliver};
 use crate::diagnostic::Diagnostic;
-use crate::faults::CommandFault;
+use command_faults::CommandFault;
 use crate::reading::read_all;
 use crate::results::prepare_result;
 use relinking::MeasuredEnd;

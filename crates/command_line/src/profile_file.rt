@@ -3,7 +3,7 @@ ghost use Rattle.command_line.specs.ProgramRun.{RejectsProfiled};
 ghost use Rattle.command_line.specs.ProfileFile.{ProfilesTo};
 ghost use Rattle.command_line.specs.Measured.{MeasuresTo};
 
-use crate::faults::CommandFault;
+use command_faults::CommandFault;
 use crate::measured_text::MeasuredText;
 use crate::opening::open;
 use printed_lines::profile_lines;

@@ -1,10 +1,10 @@
 ghost use Rattle.std.specs.Prelude.{◌≡◌, List, ◌++◌, ◌∷◌, [], map, IfOk, IfErr, OnOk};
 ghost use Rattle.shelf_io.specs.Shelf.{Holds};
-ghost use Rattle.command_line.specs.Command.{Named, plain_named};
+ghost use Rattle.command_words.specs.Command.{Named, plain_named};
 ghost use Rattle.command_line.specs.Reading.{contents, HoldsAll, RejectsRead, RejectsReads};
 
-use crate::commands::NamedWord;
-use crate::faults::CommandFault;
+use command_words::NamedWord;
+use command_faults::CommandFault;
 use shelf_io::{Shelf, ShelfFault};
 use std::alloc::Global;
 

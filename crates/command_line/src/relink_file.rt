@@ -3,7 +3,7 @@ ghost use Rattle.command_line.specs.ProgramRun.{RejectsProfiled};
 ghost use Rattle.command_line.specs.RelinkFile.{RelinksTo};
 ghost use Rattle.command_line.specs.Measured.{MeasuresTo};
 
-use crate::faults::CommandFault;
+use command_faults::CommandFault;
 use crate::opening::open;
 use relinking::{MeasuredEnd, relink_analysed, relink_report};
 use std::alloc::Global;

@@ -1,14 +1,14 @@
 ghost use Rattle.std.specs.Prelude.{◌≡◌, ◌∷◌, [], ◌≤◌, ℕ, List, IfOk, IfErr, length, string_bytes};
-ghost use Rattle.command_line.specs.Command.{HasNumbers, plain_command, reads, run_command, relink_command, profile_command, compare_command, check_command, gen_command, hex_command, hex_check_command, show_command};
+ghost use Rattle.command_words.specs.Command.{HasNumbers, plain_command, reads, run_command, relink_command, profile_command, compare_command, check_command, gen_command, hex_command, hex_check_command, show_command};
 ghost use Rattle.command_line.specs.Reading.{contents};
 ghost use Rattle.command_line.specs.Meaning.{RejectsInputs, kernels_text};
 ghost use Rattle.command_line.specs.Performing.{IsPreparedFor};
 
 use crate::check_file::check_file;
-use crate::commands::Command;
+use command_words::Command;
 use crate::compare_files::compare_files;
 use crate::delivery::{Output, PreparedResult};
-use crate::faults::CommandFault;
+use command_faults::CommandFault;
 use crate::hex_files::{check_hex, hex_file};
 use crate::profile_file::profile_file;
 use crate::relink_file::relink_file;

@@ -1,10 +1,10 @@
 ghost use Rattle.std.specs.Prelude.{◌≡◌, ◌≢◌, None, OnOk, IfOk, IfErr};
-ghost use Rattle.command_line.specs.Command.{texts};
+ghost use Rattle.command_words.specs.Command.{texts};
 ghost use Rattle.command_line.specs.Answers.{IsDone, TellsRun, HasCause, EndsRejected, Answers};
 
-use crate::commands::parse;
+use command_words::parse;
 use crate::diagnostic::Diagnostic;
-use crate::faults::CommandFault;
+use command_faults::CommandFault;
 use crate::performing::perform_command;
 use relinking::MeasuredEnd;
 use shelf_io::{Shelf, Sink};

@@ -20,6 +20,6 @@ pub use objects::{
     Label, PinnedSection, Rule, is_anchor, say_load_address, say_more_sections, say_nothing_moved,
     say_pinned, say_prices, say_short_run,
 };
-pub use refusals::{explain_elf, explain_refusal};
+pub use refusals::{explain_elf, explain_layout, explain_no_code};
 pub use runs::{Involved, explain_fault, say_still_running, say_trapped};
 pub use usage::{Command, command_of, explain_words};

@@ -4,7 +4,6 @@ use crate::relocations::say_unsupported;
 use board_config::{Board, Range};
 use elf_reader::ElfFault;
 use object_graph::GraphFault;
-use relink_core::AnalyseFault;
 use std::alloc::AllocError;
 use unchecked_file::{RawSegment, UncheckedFile};
 
@@ -64,21 +63,6 @@ const NO_CODE: Cure = Cure {
     first: "keep the section headers (link without -s, strip by strip -g alone), and give the start symbol, as -Wl,-e,_start",
 };
 
-/// Why a file is not analysed for a board. It fails only where no memory was left.
-pub fn explain_refusal(
-    notes: &mut Notes,
-    file: &UncheckedFile,
-    board: &Board,
-    fault: &AnalyseFault,
-) -> Result<(), AllocError> {
-    match fault {
-        AnalyseFault::Elf(fault) => explain_elf(notes, file, fault),
-        AnalyseFault::Graph(fault) => explain_layout(notes, file, board, fault),
-        AnalyseFault::Code(_) => NO_CODE.say(notes),
-        _ => Ok(()),
-    }
-}
-
 /// Why a file is not read. It fails only where no memory was left.
 pub fn explain_elf(
     notes: &mut Notes,
@@ -128,8 +112,13 @@ fn say_section<'a>(
     ])
 }
 
-/// Why a program does not fit a board.
-fn explain_layout(
+/// Why a file has no code. It fails only where no memory was left.
+pub fn explain_no_code(notes: &mut Notes) -> Result<(), AllocError> {
+    NO_CODE.say(notes)
+}
+
+/// Why a program does not fit a board. It fails only where no memory was left.
+pub fn explain_layout(
     notes: &mut Notes,
     file: &UncheckedFile,
     board: &Board,

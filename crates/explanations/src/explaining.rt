@@ -8,7 +8,8 @@ use crate::pinned::explain_pinned;
 use crate::runs::{explain_end, explain_run};
 use board_config::{Board, read_board};
 use explanation_texts::{
-    Command, Notes, command_of, explain_board, explain_elf, explain_refusal, explain_words,
+    Command, Notes, command_of, explain_board, explain_elf, explain_layout, explain_no_code,
+    explain_words,
 };
 use relink_core::{AnalyseFault, Analysis, analyse};
 use relinking::MeasuredEnd;
@@ -123,6 +124,21 @@ fn explain_for(notes: &mut Notes, inputs: &Inputs, board: &Board) -> Result<(), 
     match explain_sound(notes, &inputs.file, inputs, board) {
         Ok(()) => Ok(()),
         Err(fault) => explain_refusal(notes, &inputs.unchecked(), board, &fault),
+    }
+}
+
+/// Why a file is not analysed for a board. It fails only where no memory was left.
+fn explain_refusal(
+    notes: &mut Notes,
+    file: &UncheckedFile,
+    board: &Board,
+    fault: &AnalyseFault,
+) -> Result<(), AllocError> {
+    match fault {
+        AnalyseFault::Elf(fault) => explain_elf(notes, file, fault),
+        AnalyseFault::Graph(fault) => explain_layout(notes, file, board, fault),
+        AnalyseFault::Code(_) => explain_no_code(notes),
+        _ => Ok(()),
     }
 }
 

@@ -1,5 +1,5 @@
 use Rattle.std.proofs.Common.{List, ap, inl, inr, map, subst, ◌∙◌}
-use Rattle.command_line.specs.Command.{Named, plain_named}
+use Rattle.command_words.specs.Command.{Named, plain_named}
 use Rattle.command_line.specs.Reading.{contents, HoldsAll, RejectsReads}
 use Rattle.command_line.proofs.performing.prepare.Goals as goal
 

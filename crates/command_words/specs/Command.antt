@@ -1,9 +1,9 @@
 -- The command language: which lists of words are commands, and which names each reads and writes.
 use Rattle.std.specs.Prelude.{◌≡◌, ◌≢◌, ℕ, ◌+◌, ◌-◌, ◌*◌, ◌≤◌, List, [], ◌∷◌, All, codes, length, map, string_bytes, String}
 use Rattle.std.specs.Global.{Global}
-use Rattle.command_line.specs.declared.commands.Command.{Command}
-use Rattle.command_line.specs.declared.commands.Command.TheVariants as code
-use Rattle.command_line.specs.declared.commands.NamedWord.{NamedWord}
+use Rattle.command_words.specs.declared.commands.Command.{Command}
+use Rattle.command_words.specs.declared.commands.Command.TheVariants as code
+use Rattle.command_words.specs.declared.commands.NamedWord.{NamedWord}
 
 -- the bytes of each word
 abbrev pub texts : List (String Global) → List (List ℕ)

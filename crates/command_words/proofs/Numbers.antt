@@ -1,6 +1,6 @@
 -- The number that digits spell, digit by digit.
 use Rattle.std.proofs.Common.{◌≡◌, ℕ, ◌+◌, ◌-◌, ◌*◌, List, [], ◌∷◌, ◌++◌, refl}
-use Rattle.command_line.specs.Command.{value_from}
+use Rattle.command_words.specs.Command.{value_from}
 
 -- one more digit
 pub value_more : (before : ℕ) (digits : List ℕ) (digit : ℕ)

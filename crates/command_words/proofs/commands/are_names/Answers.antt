@@ -1,8 +1,8 @@
 use Rattle.std.proofs.Common.{string_bytes}
 use Rattle.std.proofs.lemmas.List.Elements.{All-map}
-use Rattle.command_line.specs.Command.{IsName}
-use Rattle.command_line.proofs.WordLists.{name_words}
-use Rattle.command_line.proofs.commands.are_names.Goals as goal
+use Rattle.command_words.specs.Command.{IsName}
+use Rattle.command_words.proofs.WordLists.{name_words}
+use Rattle.command_words.proofs.commands.are_names.Goals as goal
 
 pub returns : goal.returns
 returns c =

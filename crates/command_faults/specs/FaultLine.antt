@@ -19,9 +19,9 @@ use Rattle.relink_core.specs.declared.fault.AnalyseFault.{AnalyseFault}
 use Rattle.relink_core.specs.declared.fault.AnalyseFault.TheVariants as analyse
 use Rattle.certificate_checker.specs.declared.fault.CertFault.{CertFault}
 use Rattle.certificate_checker.specs.declared.fault.CertFault.TheVariants as cert
-use Rattle.command_line.specs.declared.faults.CommandFault.{CommandFault}
-use Rattle.command_line.specs.declared.faults.CommandFault.TheVariants as command_fault
-use Rattle.command_line.specs.declared.faults.LineParts.{LineParts}
+use Rattle.command_faults.specs.declared.faults.CommandFault.{CommandFault}
+use Rattle.command_faults.specs.declared.faults.CommandFault.TheVariants as command_fault
+use Rattle.command_faults.specs.declared.faults.LineParts.{LineParts}
 
 -- the parts of a fault line, of which the name is there only for some faults
 pub record Parts : Type 0 where

@@ -47,7 +47,7 @@ pub enum CommandFault {
 
 impl CommandFault {
     ghost use Rattle.std.specs.Prelude.{◌≡◌, ◌++◌, IfOk, string_bytes};
-    ghost use Rattle.command_line.specs.FaultLine.{plain_parts, parts_of, status_of, fault_line};
+    ghost use Rattle.command_faults.specs.FaultLine.{plain_parts, parts_of, status_of, fault_line};
 
     /// The exit status.
     pub fn status(&self) -> u8
@@ -88,7 +88,7 @@ impl CommandFault {
 
 impl From<AllocError> for CommandFault {
     ghost use Rattle.std.specs.Prelude.{◌≡◌};
-    ghost use Rattle.command_line.specs.declared.faults.CommandFault.TheVariants as command_fault;
+    ghost use Rattle.command_faults.specs.declared.faults.CommandFault.TheVariants as command_fault;
 
     ghost from_gives = { λ _ fault. fault ≡ command_fault.Memory };
 
@@ -99,7 +99,7 @@ impl From<AllocError> for CommandFault {
 
 impl<T: Drop> From<AllocFailed<T>> for CommandFault {
     ghost use Rattle.std.specs.Prelude.{◌≡◌};
-    ghost use Rattle.command_line.specs.declared.faults.CommandFault.TheVariants as command_fault;
+    ghost use Rattle.command_faults.specs.declared.faults.CommandFault.TheVariants as command_fault;
 
     ghost from_gives = { λ _ fault. fault ≡ command_fault.Memory };
 
@@ -110,7 +110,7 @@ impl<T: Drop> From<AllocFailed<T>> for CommandFault {
 
 impl From<BoardFault> for CommandFault {
     ghost use Rattle.std.specs.Prelude.{◌≡◌};
-    ghost use Rattle.command_line.specs.FaultLine.{board_command_fault};
+    ghost use Rattle.command_faults.specs.FaultLine.{board_command_fault};
 
     ghost from_gives = { λ fault command_fault. command_fault ≡ board_command_fault fault };
 
@@ -124,7 +124,7 @@ impl From<BoardFault> for CommandFault {
 
 impl From<ElfFault> for CommandFault {
     ghost use Rattle.std.specs.Prelude.{◌≡◌};
-    ghost use Rattle.command_line.specs.FaultLine.{elf_command_fault};
+    ghost use Rattle.command_faults.specs.FaultLine.{elf_command_fault};
 
     ghost from_gives = { λ fault command_fault. command_fault ≡ elf_command_fault fault };
 
@@ -138,7 +138,7 @@ impl From<ElfFault> for CommandFault {
 
 impl From<AnalyseFault> for CommandFault {
     ghost use Rattle.std.specs.Prelude.{◌≡◌};
-    ghost use Rattle.command_line.specs.FaultLine.{analyse_command_fault};
+    ghost use Rattle.command_faults.specs.FaultLine.{analyse_command_fault};
 
     ghost from_gives = { λ fault command_fault. command_fault ≡ analyse_command_fault fault };
 
@@ -152,7 +152,7 @@ impl From<AnalyseFault> for CommandFault {
 
 impl From<ProfileFault> for CommandFault {
     ghost use Rattle.std.specs.Prelude.{◌≡◌};
-    ghost use Rattle.command_line.specs.FaultLine.{profile_command_fault};
+    ghost use Rattle.command_faults.specs.FaultLine.{profile_command_fault};
 
     ghost from_gives = { λ fault command_fault. command_fault ≡ profile_command_fault fault };
 
@@ -166,7 +166,7 @@ impl From<ProfileFault> for CommandFault {
 
 impl From<CertFault> for CommandFault {
     ghost use Rattle.std.specs.Prelude.{◌≡◌};
-    ghost use Rattle.command_line.specs.FaultLine.{cert_command_fault};
+    ghost use Rattle.command_faults.specs.FaultLine.{cert_command_fault};
 
     ghost from_gives = { λ fault command_fault. command_fault ≡ cert_command_fault fault };
 
@@ -180,7 +180,7 @@ impl From<CertFault> for CommandFault {
 
 impl From<HexFault> for CommandFault {
     ghost use Rattle.std.specs.Prelude.{◌≡◌};
-    ghost use Rattle.command_line.specs.FaultLine.{hex_command_fault};
+    ghost use Rattle.command_faults.specs.FaultLine.{hex_command_fault};
 
     ghost from_gives = { λ fault command_fault. command_fault ≡ hex_command_fault fault };
 
@@ -205,7 +205,7 @@ struct LineParts<'a> {
 impl<'a> LineParts<'a> {
     ghost use Rattle.std.specs.Prelude.{◌≡◌};
     ghost use Rattle.board_config.specs.Faults.{plain_fault};
-    ghost use Rattle.command_line.specs.FaultLine.{parts, named_parts, plain_parts, board_parts, elf_parts, graph_parts, code_parts, analyse_parts, cert_parts, hex_parts, differs_parts, region_parts};
+    ghost use Rattle.command_faults.specs.FaultLine.{parts, named_parts, plain_parts, board_parts, elf_parts, graph_parts, code_parts, analyse_parts, cert_parts, hex_parts, differs_parts, region_parts};
     ghost use Rattle.region_former.specs.Faults as region;
 
     fn new(status: u8, word: &'static str, first: u32, second: u32) -> LineParts<'a>
@@ -378,7 +378,7 @@ impl<'a> LineParts<'a> {
 
 impl fmt::Display for LineParts<'_> {
     ghost use Rattle.std.specs.Prelude.{Some};
-    ghost use Rattle.command_line.specs.FaultLine.{plain_parts, parts_text};
+    ghost use Rattle.command_faults.specs.FaultLine.{plain_parts, parts_text};
 
     ghost output = { λ p. Some (parts_text (plain_parts p)) };
 

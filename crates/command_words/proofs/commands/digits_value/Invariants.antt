@@ -1,6 +1,6 @@
 use Rattle.std.proofs.Common.{◌≡◌, ◌<◌, ◌^◌, take}
-use Rattle.command_line.specs.Command.{value_of}
-use Rattle.command_line.proofs.commands.digits_value.Given as goal
+use Rattle.command_words.specs.Command.{value_of}
+use Rattle.command_words.proofs.commands.digits_value.Given as goal
 
 abbrev pub invariant-loop-digit : goal.invariant-loop-digit
 invariant-loop-digit l = record {

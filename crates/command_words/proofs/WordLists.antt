@@ -1,7 +1,7 @@
 -- Lemmas on the lists of words of a command line.
 use Rattle.std.proofs.Common.{List, All, string_bytes, String, Global}
 use Rattle.std.proofs.lemmas.List.{get_or-map, length-map}
-use Rattle.command_line.specs.Command.{texts, IsNameWord, AreNames}
+use Rattle.command_words.specs.Command.{texts, IsNameWord, AreNames}
 
 -- words that may be names, from their bytes
 pub name_words : (words : List (String Global)) → AreNames (texts words) → All IsNameWord words

@@ -2,9 +2,9 @@ use Rattle.std.proofs.Common.{◌≡◌, ◌≤◌, ◌+◌, ◌-◌, ◌^◌, �
 use Rattle.std.proofs.Math.Nat.{pow-succ', pow-le-pow_right}
 use Rattle.std.proofs.lemmas.List.{take_more}
 use Rattle.std.proofs.Common.{add-one}
-use Rattle.command_line.specs.Command.{value_of}
-use Rattle.command_line.proofs.Numbers.{value_more}
-use Rattle.command_line.proofs.commands.digits_value.Goals as goal
+use Rattle.command_words.specs.Command.{value_of}
+use Rattle.command_words.proofs.Numbers.{value_more}
+use Rattle.command_words.proofs.commands.digits_value.Goals as goal
 
 pub overflow_mul-value : goal.overflow_mul-value
 overflow_mul-value c =

@@ -1,5 +1,5 @@
 ghost use Rattle.std.specs.Prelude.{◌≡◌, ◌≢◌, ◌≤◌, ◌↔◌, ℕ, List, IsTrue, IfOk, IfSome, IsSome, MatchOption, All, codes, length, ◌∷◌, [], map};
-ghost use Rattle.command_line.specs.Command.{texts, IsName, IsNameWord, AreNames, IsDigit, value_of, IsNumber, PlainCommand, Spells, SpellsGen, SpellsNoRun, SpellsNoOther, IsDisjoint, IsCommand, plain_command, plain_named, named, reads};
+ghost use Rattle.command_words.specs.Command.{texts, IsName, IsNameWord, AreNames, IsDigit, value_of, IsNumber, PlainCommand, Spells, SpellsGen, SpellsNoRun, SpellsNoOther, IsDisjoint, IsCommand, plain_command, plain_named, named, reads};
 
 use std::alloc::{AllocError, Global};
 
@@ -64,7 +64,7 @@ pub struct NamedWord<'a> {
 
 impl<'a> NamedWord<'a> {
     ghost use Rattle.std.specs.Prelude.{◌≡◌};
-    ghost use Rattle.command_line.specs.Command.{plain_named, named};
+    ghost use Rattle.command_words.specs.Command.{plain_named, named};
 
     fn new(place: u32, name: &'a str) -> NamedWord<'a>
         ensures { plain_named result ≡ named place name.now }
@@ -75,7 +75,7 @@ impl<'a> NamedWord<'a> {
 
 impl<'a> Command<'a> {
     ghost use Rattle.std.specs.Prelude.{◌≡◌, IfOk, map};
-    ghost use Rattle.command_line.specs.Command.{plain_command, plain_named, reads};
+    ghost use Rattle.command_words.specs.Command.{plain_command, plain_named, reads};
 
     /// The names that the command reads, in the order of the reads.
     pub fn reads(&self, alloc: Global) -> Result<Vec<NamedWord<'a>>, AllocError>
