@@ -40,6 +40,7 @@ layout_with board g c regions =
       scratchpad = board.spm.size;
       patch = board.patch.size;
       fence_i = board.fence_i;
+      twins = board.twins;
       blocks = length c.blocks.items;
       objects = length g.objects.items;
       regions = regions;
