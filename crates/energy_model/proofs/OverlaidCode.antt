@@ -181,8 +181,8 @@ enters_counted view board g c t q ms first last r given region =
     let size = suc t.count in
     let count = switches_of (starts_of w) w.regions ms in
     let enters = ap (λ n. n * enter_job w r name) (given.run.profile.enters.each r (omega (arith, region))) in
-    let sums = from_and_to count (λ s. leave_job w s name) (λ k. enter_job w k name) r size (omega (arith, region))
-    (λ s other. refl) (λ s other. no_value (s == r) _ other) in
+    let sums = from_and_to count (λ s k. jobs w s k name) (λ s. leave_job w s name) (λ k. enter_job w k name) r size (omega (arith, region))
+    (λ s k. omega arith) (λ s other. refl) (λ s other. no_value (s == r) _ other) in
     let run = changes_counted (λ s k. not (s == k)) (λ s k. jobs w s k name) (region_before w ms) (region_with w ms) size size (length ms)
     (λ i below. let fits = current_fits (starts_of w) w.regions ms t.count i t.within in omega (arith, fits))
     (λ i below. let fits = current_fits (starts_of w) w.regions ms t.count (suc i) t.within in omega (arith, fits)) in
