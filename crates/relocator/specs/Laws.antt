@@ -10,11 +10,12 @@ use Rattle.object_graph.specs.Graphs.{IsGraph}
 use Rattle.object_graph.specs.declared.parts.Graph.{Graph}
 use Rattle.cell_values.specs.Objects.{IsGrain, object_of, objects_of}
 use Rattle.cell_values.specs.Stands.{Fit}
-use Rattle.placement_programme.specs.declared.variables.VarName.TheVariants.{StaticData}
+use Rattle.placement_programme.specs.declared.variables.VarName.{VarName}
+use Rattle.placement_programme.specs.declared.variables.VarName.TheVariants.{StaticData, StaticCode, OverlayData, OverlayCode, KeptData}
 use Rattle.placement_programme.specs.Plain.{PlainVar, PlainSide, PlainProgramme, PlainChoice}
 use Rattle.placement_programme.specs.Programme.{side_for, IsFeasible}
 use Rattle.relocator.specs.declared.slots.Slot.{Slot}
-use Rattle.relocator.specs.Slots.{region_of, is_code}
+use Rattle.relocator.specs.Slots.{pair_of, is_code}
 use Rattle.relocator.specs.Placing.{puts, chosen_slots, place_of}
 use Rattle.placement_programme.specs.Rows.{Layout, Candidate, name_of, capacities, weights, IsOfSide}
 use Rattle.relocator.specs.Space.{IsOfGraph, IsLayoutOf, IsSpaceOf}
@@ -43,16 +44,20 @@ SlotsInside =
     (g : Graph) (regions : ℕ) (board : Board) (p : PlainProgramme) (c : PlainChoice) → IsGrain g.grain → CanLayOut g regions board p c
     → All (LiesWithin board.spm) (chosen_slots board p c)
 
--- what has the slot is in the scratchpad while the region is current
-abbrev pub IsPresent : ℕ → Slot → Type 0
-IsPresent region s = (region_of s.name ≡ 0) ⊎ (region_of s.name ≡ region)
+-- a variable is in the scratchpad while the region is current
+abbrev pub IsPresent : ℕ → VarName → Type 0
+IsPresent region (StaticData object) = Unit {0}
+IsPresent region (StaticCode first last) = Unit {0}
+IsPresent region (OverlayData own object) = own ≡ region
+IsPresent region (OverlayCode own first last) = own ≡ region
+IsPresent region (KeptData pair object) = pair_of region ≡ pair
 
 -- two slots share no byte
 abbrev pub AreDisjoint : Slot → Slot → Type 0
 AreDisjoint s t = (s.at + s.span ≤ t.at) ⊎ (t.at + t.span ≤ s.at)
 
 abbrev pub AreDisjointIn : ℕ → Slot → Slot → Type 0
-AreDisjointIn region s t = IsPresent region s → IsPresent region t → AreDisjoint s t
+AreDisjointIn region s t = IsPresent region s.name → IsPresent region t.name → AreDisjoint s t
 
 -- those of what is present together don't
 abbrev pub SlotsDisjoint : Type 0
@@ -110,7 +115,7 @@ abbrev pub ObjectsOffCodeSlots : Type 0
 ObjectsOffCodeSlots =
     (v : PlainView) (g : Graph) (regions : ℕ) (board : Board) (p : PlainProgramme) (c : PlainChoice) (region : ℕ)
     → IsLaidOut v board g → CanLayOut g regions board p c
-    → All (λ s. is_code s.name ≡ true → IsPresent region s → AreObjectsOff g (place_of g board p c region) s.at s.span) (chosen_slots board p c)
+    → All (λ s. is_code s.name ≡ true → IsPresent region s.name → AreObjectsOff g (place_of g board p c region) s.at s.span) (chosen_slots board p c)
 
 -- ---- whole layouts
 
