@@ -26,7 +26,7 @@ pub record IsItem (g : Graph) (on : Bool) (regions : ℕ) (vars : List PlainVar)
   pub present : on ≡ true → (row : ℕ) → row ≤ regions → IsPresent row (name_at vars k) → (item_at vars k).span ≡ weight_at vars row k
   pub off : on ≡ false → lane_of (name_at vars k) ≡ 0
 
-weighs : (vars : List PlainVar) (k row : ℕ) → weight_at vars row k ≡ weight_in (get_or vars k no_var).weights row
+pub weighs : (vars : List PlainVar) (k row : ℕ) → weight_at vars row k ≡ weight_in (get_or vars k no_var).weights row
 weighs vars k row = ap (λ (ws : List (ℕ × ℕ)). weight_in ws row) (weights_same vars k)
 
 pub is_item : (g : Graph) (on : Bool) (regions : ℕ) (vars : List PlainVar) (k : ℕ) → IsWeighed g on regions (get_or vars k no_var) → IsItem g on regions vars k

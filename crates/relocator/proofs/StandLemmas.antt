@@ -60,7 +60,7 @@ Stands g slots region o =
     ((k : ℕ) × StandsIn g slots region o (placed g slots region o) k) ⊎ StandsAtHome g slots region o (placed g slots region o)
 
 -- the first slot decides, or those behind it
-first_place : (g : Graph) (s : Slot) (ss : List Slot) (region o : ℕ) (b : Bool) → puts s.name region o ≡ b → placed g (s ∷ ss) region o ≡ (if b then s.at + (object_of g o).home % g.grain else placed g ss region o)
+pub first_place : (g : Graph) (s : Slot) (ss : List Slot) (region o : ℕ) (b : Bool) → puts s.name region o ≡ b → placed g (s ∷ ss) region o ≡ (if b then s.at + (object_of g o).home % g.grain else placed g ss region o)
 first_place g s ss region o b is = ap (λ (x : Bool). if x then s.at + (object_of g o).home % g.grain else placed g ss region o) is
 
 pub stands : (g : Graph) (regions : ℕ) (slots : List Slot) (region o : ℕ) → AllSized g regions slots → Stands g slots region o

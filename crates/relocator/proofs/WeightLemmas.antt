@@ -71,6 +71,13 @@ data_room g l d grain count is =
       room = subst (λ (x : Datum). (object_of g d.number).home % g.grain + (object_of g d.number).size ≤ data_span g.grain x) (sym is.1) room;
     }
 
+pub candidate_among : (g : Graph) (l : Layout) (c : Candidate) → IsOfGraph g l c → IsAmong l.regions (name_of c)
+candidate_among g l (static_data d) is = tt
+candidate_among g l (static_code c) is = tt
+candidate_among g l (overlay_data r d) is = is.0
+candidate_among g l (overlay_code r c) is = is
+candidate_among g l (kept_data pair d) is = (is.0.0, pair_inside l.twins l.regions pair is.0.1)
+
 pub candidate_sized : (g : Graph) (l : Layout) (c : Candidate) → IsGrain g.grain → l.objects ≡ length g.objects.items → IsOfGraph g l c → IsSized g l.regions (name_of c) (span_of g.grain c)
 candidate_sized g l (static_data d) grain count is =
     record { among = tt; times = (d.home % g.grain + d.size + (g.grain - 1)) / g.grain; whole = refl; room = data_room g l d grain count is }
@@ -82,7 +89,7 @@ candidate_sized g l (overlay_code r c) grain count is =
     record { among = is; times = (c.copied + (g.grain - 1)) / g.grain; whole = refl; room = tt }
 candidate_sized g l (kept_data pair d) grain count is =
     record {
-      among = (is.0.0, pair_inside l.twins l.regions pair is.0.1);
+      among = candidate_among g l (kept_data pair d) is;
       times = (d.home % g.grain + d.size + (g.grain - 1)) / g.grain;
       whole = refl;
       room = data_room g l d grain count is.1;
@@ -165,7 +172,7 @@ present_rows l (overlay_data r d) row here below = sym here
 present_rows l (overlay_code r c) row here below = sym here
 present_rows l (kept_data pair d) row here below = here
 
-off_static : (c : Candidate) → IsOfSide false c → lane_of (name_of c) ≡ 0
+pub off_static : (c : Candidate) → IsOfSide false c → lane_of (name_of c) ≡ 0
 off_static (static_data d) side = refl
 off_static (static_code c) side = refl
 off_static (overlay_data r d) side = absurd side
