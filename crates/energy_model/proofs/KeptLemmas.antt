@@ -1,5 +1,5 @@
 -- What an object costs that is kept for a pair of regions is what the tables of a profile count.
-use Rattle.std.proofs.Common.{◌≡◌, ◌∙◌, inl, inr, ℕ, suc, ◌+◌, ◌-◌, ◌*◌, ◌<◌, ◌≤◌, ◌==◌, Bool, true, false, not, ◌&&◌, ◌||◌, List, [], ◌∷◌, length, slice_index_or, Option, Some, None, refl, sym, ap, arith, if◌then◌else◌}
+use Rattle.std.proofs.Common.{◌≡◌, ◌∙◌, inl, inr, ℕ, suc, ◌+◌, ◌-◌, ◌*◌, ◌<◌, ◌≤◌, ◌==◌, Bool, true, false, not, ◌&&◌, ◌||◌, List, [], ◌∷◌, length, slice_index_or, Option, Some, None, refl, ap, arith, if◌then◌else◌}
 use Rattle.std.proofs.lemmas.Bool.{cases_eq, eq-eqb}
 use Rattle.std.proofs.lemmas.Bool.Decides.{nat_tests}
 use Rattle.std.proofs.lemmas.List.Sums.{sum_by-cons}
@@ -23,7 +23,7 @@ use Rattle.energy_model.specs.Energy.{Scene, starts_of, region_before, region_wi
 use Rattle.energy_model.specs.Scenes.{scene_of, AreOfSameFile}
 use Rattle.energy_model.specs.Priced.{direction_price}
 use Rattle.energy_model.specs.Together.{taken}
-use Rattle.energy_model.specs.Overlay.{reads_in, writes_in, accesses_price, of_both, twin_switches, outer_enters, outer_leaves, kept_copies, KeptIsCounted}
+use Rattle.energy_model.specs.Overlay.{reads_in, writes_in, accesses_price, of_both, kept_copies, KeptIsCounted}
 use Rattle.energy_model.proofs.SceneLemmas.{Follows, follows}
 use Rattle.energy_model.proofs.SumLemmas.{sum_two}
 use Rattle.energy_model.proofs.EnergyLemmas.{current_fits}

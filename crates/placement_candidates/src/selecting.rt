@@ -148,7 +148,8 @@ fn is_overlay(name: VarName) -> bool
 {
     match name {
         VarName::StaticData { .. } | VarName::StaticCode { .. } => false,
-        VarName::OverlayData { .. } | VarName::OverlayCode { .. } | VarName::KeptData { .. } => true,
+        VarName::OverlayData { .. } | VarName::OverlayCode { .. } | VarName::KeptData { .. } =>
+            true,
     }
 }
 
