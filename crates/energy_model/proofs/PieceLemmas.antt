@@ -20,7 +20,7 @@ use Rattle.block_splitter.specs.Pieces.{IsRange}
 use Rattle.energy_model.specs.declared.block_counts.BlockCounts.{BlockCounts}
 use Rattle.energy_model.specs.declared.block_counts.PieceSums.{PieceSums}
 use Rattle.energy_model.specs.Energy.{may_stay}
-use Rattle.energy_model.specs.Copied.{exit_words, leaving_words, arrivals_in, block_words, value_from, edge_in, leaving, sum_in, edge_words, stays_in, copied_words_of, stays_of, stayed, pending, values, edges_before}
+use Rattle.energy_model.specs.Copied.{exit_words, leaving_words, arrivals_in, block_words, value_from, edge_in, leaving, sum_in, edge_words, stays_in, copied_words_of, stays_of, stayed, pending, came_in, values, edges_before}
 use Rattle.energy_model.specs.Counts.{most_run, CountsCode, AreBlockCounts, AreEdgeStarts, AreListed, AreSums, AreTerms, AreAdded, AreFew}
 use Rattle.energy_model.proofs.CopyLemmas.{straight_stays}
 use Rattle.energy_model.proofs.EdgeLemmas.{values_length, values_at}
@@ -92,6 +92,13 @@ few_stays c g q range counts =
     let stopped = counts.few_pending range in
     let inside = if_small (holds_block q.last.0 range && may_stay (body_at c.blocks.items q.last.0).end) (sum_in range (pending c q) (length c.blocks.items)) in
     omega (arith, stays, arrived, stopped, inside)
+
+pub came_small : (c : Code) (g : Graph) (q : Profile) (range : BlockRange) → CountsCode c g q → came_in c q range ≤ 2 * most_run
+came_small c g q range counts =
+    let arrived = counts.arrived range in
+    let stopped = counts.few_pending range in
+    let inside = if_small (holds_block q.last.0 range && may_stay (body_at c.blocks.items q.last.0).end) (sum_in range (pending c q) (length c.blocks.items)) in
+    omega (arith, arrived, stopped, inside)
 
 pub few_stay : (c : Code) (g : Graph) (q : Profile) (range : BlockRange) (b : ℕ) → CountsCode c g q → holds_block b range ≡ true → b < length c.blocks.items → may_stay (body_at c.blocks.items b).end ≡ true → leaving q.edges.items b (stays_in range) ≤ 2 * most_run
 few_stay c g q range b counts held below may =
@@ -173,7 +180,7 @@ open_are c g q counts range b words stays sums blocks below may is left stay =
 
 -- ---- steps of the loop over the blocks of a range
 
-one_block : (range : BlockRange) (f : ℕ → ℕ) (b old more new : ℕ) → holds_block b range ≡ true → old ≡ sum_in range f b → more ≡ f b → new ≡ old + more → new ≡ sum_in range f (b + 1)
+pub one_block : (range : BlockRange) (f : ℕ → ℕ) (b old more new : ℕ) → holds_block b range ≡ true → old ≡ sum_in range f b → more ≡ f b → new ≡ old + more → new ≡ sum_in range f (b + 1)
 one_block range f b old more new held before here is =
     let next : sum_in range f (b + 1) ≡ sum_in range f (suc b) = ap (sum_in range f) (one_more b) in
     let sum = one_held range f b held in
@@ -202,7 +209,7 @@ sums_more c g q range b old more new held before here is =
       pending = one_block range (pending c q) b old.pending more.pending new.pending held before.pending here.pending is.pending;
     }
 
-part_few : (range : BlockRange) (f : ℕ → ℕ) (b n old more most : ℕ) → b < n → holds_block b range ≡ true → old ≡ sum_in range f b → more ≡ f b → sum_in range f n ≤ most → old + more ≤ most
+pub part_few : (range : BlockRange) (f : ℕ → ℕ) (b n old more most : ℕ) → b < n → holds_block b range ≡ true → old ≡ sum_in range f b → more ≡ f b → sum_in range f n ≤ most → old + more ≤ most
 part_few range f b n old more most below held before here few =
     let part = part_in range f b n below held in
     omega (arith, part, before, here, few)
@@ -218,7 +225,7 @@ few_sums c g q range b old more counts held below before here =
       pending = part_few range (pending c q) b n old.pending more.pending most_run below held before.pending here.pending (counts.few_pending range);
     }
 
-all_blocks : (range : BlockRange) (f : ℕ → ℕ) (n b sum : ℕ) → range.last < n → b ≡ range.last + 1 → sum ≡ sum_in range f b → sum ≡ sum_in range f n
+pub all_blocks : (range : BlockRange) (f : ℕ → ℕ) (n b sum : ℕ) → range.last < n → b ≡ range.last + 1 → sum ≡ sum_in range f b → sum ≡ sum_in range f n
 all_blocks range f n b sum below last is =
     is ∙ (ap (sum_in range f) (next b range.last last) ∙ sym (none_behind range f n below))
   where
