@@ -20,9 +20,3 @@ pub mod TogetherLemmas
 pub mod ObjectLemmas
 pub mod KeptLemmas
 pub mod OverlaidCode
-pub mod DisplacedLemmas
-pub mod OverlayCostLemmas
-pub mod SwitchLemmas
-pub mod GainLemmas
-pub mod GainBounds
-pub mod EnteringLemmas

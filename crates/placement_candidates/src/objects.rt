@@ -6,6 +6,7 @@ ghost use Rattle.energy_model.specs.Energy.{into_price, object_rounds};
 ghost use Rattle.placement_candidates.specs.Counted.{total, reads_of, writes_of, home_price, moved_price, counted_var, counted_vars, CountsAccesses};
 
 use board_config::{Board, Prices};
+use energy_model::{into_price, object_rounds};
 use object_graph::{Graph, Object};
 use placement_programme::{FullVar, VarName};
 use profile_runner::Profile;
@@ -26,29 +27,6 @@ fn total(row: &[u64]) -> u128
     total
 }
 
-/// How many rounds the loop has that copies an object: by words, where its home and size allow that.
-fn rounds(object: &Object) -> u32
-    ensures { result ≡ object_rounds object.now }
-{
-    if object.home % 4 == 0 && object.size % 4 == 0 {
-        object.size / 4
-    } else {
-        object.size
-    }
-}
-
-/// What a copy loop of so many rounds costs that copies into the scratchpad.
-pub(crate) fn job_price(rounds: u32, prices: &Prices) -> u128
-    ensures sum { result ≡ into_price prices.now rounds }
-    ensures small { result < 2 ^ 70 }
-{
-    let rounds = u128::from(rounds);
-    let fetches = (6 + 5 * rounds) * u128::from(prices.main_fetch);
-    let reads = rounds * u128::from(prices.main_read);
-    let writes = rounds * u128::from(prices.spm_write);
-    fetches + reads + writes
-}
-
 /// What so many reads and writes cost, at these prices.
 fn accesses_price(reads: u128, writes: u128, read: u32, write: u32) -> u128
     requires reads { reads ≤ 1000000000 }
@@ -67,7 +45,7 @@ fn gain(reads: u128, writes: u128, object: &Object, prices: &Prices) -> i128
 {
     let home = accesses_price(reads, writes, prices.main_read, prices.main_write);
     let moved = accesses_price(reads, writes, prices.spm_read, prices.spm_write);
-    home as i128 - (moved + job_price(rounds(object), prices)) as i128
+    home as i128 - (moved + into_price(object_rounds(object), prices)) as i128
 }
 
 /// The bytes of the scratchpad that an object takes, with those before it in its first chunk.

@@ -1,0 +1,6 @@
+pub mod DisplacedLemmas
+pub mod OverlayCostLemmas
+pub mod SwitchLemmas
+pub mod GainLemmas
+pub mod GainBounds
+pub mod EnteringLemmas

@@ -1,0 +1,3 @@
+pub mod OverlayCost
+pub mod Entering
+pub mod Gains
