@@ -21,7 +21,7 @@ use Rattle.code_blocks.specs.declared.parts.Function.{Function}
 use Rattle.code_blocks.specs.declared.parts.Code.{Code}
 use Rattle.object_machine.specs.declared.events.Outcome.{Outcome}
 use Rattle.object_machine.specs.declared.events.Outcome.TheVariants.{GoesOn, Exited, Trapped, AddressFault}
-use Rattle.object_machine.specs.Program.{Program, program_of, falls_from}
+use Rattle.object_machine.specs.Program.{program_of, falls_from}
 use Rattle.object_machine.specs.State.{SourceState}
 use Rattle.object_machine.specs.Step.{Reads, next_state}
 use Rattle.object_machine.proofs.RangeLemmas.{read_ranges}
@@ -29,7 +29,7 @@ use Rattle.object_machine.proofs.BlockLemmas.{nth_unit, unit_count, some_units}
 use Rattle.object_machine.proofs.FollowLemmas.{goes_further, straight_on, goes_inside, falls_out, leads_next, leads_block, is_true_false, cases_bool}
 use Rattle.profile_runner.specs.Transition.{Transition, is_going, transition_at}
 use Rattle.profile_runner.specs.Standing.{number_of, block_of, units_run}
-use Rattle.object_machine.proofs.LeadLemmas.{Leads, leads_read, straight, next_leads, not_ended}
+use Rattle.object_machine.proofs.LeadLemmas.{straight, next_leads}
 use Rattle.block_splitter.specs.Forms.{Body, body_of, no_body, body_at}
 use Rattle.energy_model.proofs.StepLemmas.{StepAt}
 

@@ -18,4 +18,5 @@ pub mod ChangeLemmas
 pub mod OverlayLemmas
 pub mod TogetherLemmas
 pub mod ObjectLemmas
+pub mod KeptLemmas
 pub mod OverlaidCode

@@ -47,10 +47,10 @@ touch_is prices fast now r o (Some a) = in_direction prices fast (a.object == o)
 abbrev accessed : Scene → List Transition → Bool → ℕ → ℕ → ℕ → ℕ
 accessed w ms write o r n = count_below (λ i. is_access_to write o (transition_at ms i).access && (region_with w ms i == r)) n
 
-abbrev touch_at : Scene → List Transition → Bool → ℕ → ℕ → ℕ → ℕ
+abbrev pub touch_at : Scene → List Transition → Bool → ℕ → ℕ → ℕ → ℕ
 touch_at w ms fast r o i = touch w.board.prices fast (region_with w ms i) (OverlayData r o) (transition_at ms i).access
 
-add_times : (c d x : ℕ) → (c + d) * x ≡ c * x + d * x
+pub add_times : (c d x : ℕ) → (c + d) * x ≡ c * x + d * x
 add_times c d x = grind arith
 
 touches_below : (w : Scene) (ms : List Transition) (fast : Bool) (r o n : ℕ) → sum_below (touch_at w ms fast r o) n ≡ accessed w ms false o r n * read_price fast w.board.prices + accessed w ms true o r n * write_price fast w.board.prices
@@ -64,7 +64,7 @@ touches_below w ms fast r o (suc n) =
     let writes = add_times (accessed w ms true o r n) (if is_access_to true o access && (now == r) then 1 else 0) (write_price fast w.board.prices) in
     omega (arith, earlier, here, reads, writes)
 
-accesses_counted : (view : ElfView) (board : Board) (g : Graph) (c : Code) (t : RegionTable) (q : Profile) (ms : List Transition) (fast : Bool) (r o : ℕ) → AreOfSameFile view board g c t q ms → r ≤ t.count → o < length g.objects.items → accesses_price board.prices fast (reads_in q o r) (writes_in q o r) ≡ sum_below (touch_at (scene_of g c t board) ms fast r o) (length ms)
+pub accesses_counted : (view : ElfView) (board : Board) (g : Graph) (c : Code) (t : RegionTable) (q : Profile) (ms : List Transition) (fast : Bool) (r o : ℕ) → AreOfSameFile view board g c t q ms → r ≤ t.count → o < length g.objects.items → accesses_price board.prices fast (reads_in q o r) (writes_in q o r) ≡ sum_below (touch_at (scene_of g c t board) ms fast r o) (length ms)
 accesses_counted view board g c t q ms fast r o given region object =
     let w = scene_of g c t board in
     let tables = given.run.profile in
@@ -78,7 +78,7 @@ accesses_counted view board g c t q ms fast r o given region object =
 -- ---- copies
 
 -- a value that is 0 elsewhere
-only_at : (f : ℕ → ℕ) (r m : ℕ) → r < m → ((s : ℕ) → (s == r) ≡ false → f s ≡ 0) → sum_below f m ≡ f r
+pub only_at : (f : ℕ → ℕ) (r m : ℕ) → r < m → ((s : ℕ) → (s == r) ≡ false → f s ≡ 0) → sum_below f m ≡ f r
 only_at f r m below none =
     sum_same f (λ s. if r == s then f s else 0) m (λ s inside.
     elim (cases_eq s r) [
@@ -90,17 +90,17 @@ only_at f r m below none =
     ])
     ∙ single f r m below
 
-times_none : (n x : ℕ) → x ≡ 0 → n * x ≡ 0
+pub times_none : (n x : ℕ) → x ≡ 0 → n * x ≡ 0
 times_none n x is = ap (λ y. n * y) is ∙ omega arith
 
 times_sum : (n x y : ℕ) → n * (x + y) ≡ n * x + n * y
 times_sum n x y = grind arith
 
 -- so many changes, of which those from and those to one place have a value
-pub from_and_to : (n : ℕ → ℕ → ℕ) (leave enter : ℕ → ℕ) (r m : ℕ) → r < m → ((s : ℕ) → (s == r) ≡ false → leave s ≡ 0) → ((s : ℕ) → (s == r) ≡ false → enter s ≡ 0) → sum_below (λ s. sum_below (λ k. n s k * (leave s + enter k)) m) m ≡ sum_below (n r) m * leave r + sum_below (λ s. n s r) m * enter r
-from_and_to n leave enter r m below no_leave no_enter =
-    let each = sum_same (λ s. sum_below (λ k. n s k * (leave s + enter k)) m) (λ s. sum_below (n s) m * leave s + n s r * enter r) m (λ s inside.
-    let split = sum_same (λ k. n s k * (leave s + enter k)) (λ k. n s k * leave s + n s k * enter k) m (λ k there. times_sum (n s k) (leave s) (enter k)) in
+pub from_and_to : (n value : ℕ → ℕ → ℕ) (leave enter : ℕ → ℕ) (r m : ℕ) → r < m → ((s k : ℕ) → value s k ≡ leave s + enter k) → ((s : ℕ) → (s == r) ≡ false → leave s ≡ 0) → ((s : ℕ) → (s == r) ≡ false → enter s ≡ 0) → sum_below (λ s. sum_below (λ k. n s k * value s k) m) m ≡ sum_below (n r) m * leave r + sum_below (λ s. n s r) m * enter r
+from_and_to n value leave enter r m below is no_leave no_enter =
+    let each = sum_same (λ s. sum_below (λ k. n s k * value s k) m) (λ s. sum_below (n s) m * leave s + n s r * enter r) m (λ s inside.
+    let split = sum_same (λ k. n s k * value s k) (λ k. n s k * leave s + n s k * enter k) m (λ k there. ap (λ x. n s k * x) (is s k) ∙ times_sum (n s k) (leave s) (enter k)) in
     let two = sum_two (λ k. n s k * leave s) (λ k. n s k * enter k) m in
     let left = sum_times (n s) (leave s) m in
     let right = only_at (λ k. n s k * enter k) r m below (λ k other. times_none (n s k) (enter k) (no_enter k other)) in
@@ -114,10 +114,10 @@ abbrev copies_at : Scene → List Transition → ℕ → ℕ → ℕ → ℕ
 copies_at w ms r o i =
     if not (region_before w ms i == region_with w ms i) then jobs w (region_before w ms i) (region_with w ms i) (OverlayData r o) else 0
 
-no_if : (a b : Bool) (x : ℕ) → a ≡ false → (if a && b then x else 0) ≡ 0
+pub no_if : (a b : Bool) (x : ℕ) → a ≡ false → (if a && b then x else 0) ≡ 0
 no_if a b x is = rw is refl
 
-no_value : (a : Bool) (x : ℕ) → a ≡ false → (if a then x else 0) ≡ 0
+pub no_value : (a : Bool) (x : ℕ) → a ≡ false → (if a then x else 0) ≡ 0
 no_value a x is = rw is refl
 
 copies_counted : (view : ElfView) (board : Board) (g : Graph) (c : Code) (t : RegionTable) (q : Profile) (ms : List Transition) (r o : ℕ) → AreOfSameFile view board g c t q ms → r ≤ t.count → object_copies (scene_of g c t board) q r o ≡ sum_below (copies_at (scene_of g c t board) ms r o) (length ms)
@@ -129,8 +129,8 @@ copies_counted view board g c t q ms r o given region =
     let count = switches_of (starts_of w) w.regions ms in
     let enters = ap (λ n. n * enter_job w r name) (tables.enters.each r (omega (arith, region))) in
     let leaves = ap (λ n. n * leave_job w r name) (tables.leaves.each r (omega (arith, region))) in
-    let sums = from_and_to count (λ s. leave_job w s name) (λ k. enter_job w k name) r size (omega (arith, region))
-    (λ s other. no_if (s == r) _ _ other) (λ s other. no_value (s == r) _ other) in
+    let sums = from_and_to count (λ s k. jobs w s k name) (λ s. leave_job w s name) (λ k. enter_job w k name) r size (omega (arith, region))
+    (λ s k. omega arith) (λ s other. no_if (s == r) _ _ other) (λ s other. no_value (s == r) _ other) in
     let run = changes_counted (λ s k. not (s == k)) (λ s k. jobs w s k name) (region_before w ms) (region_with w ms) size size (length ms)
     (λ i below. let fits = current_fits (starts_of w) w.regions ms t.count i t.within in omega (arith, fits))
     (λ i below. let fits = current_fits (starts_of w) w.regions ms t.count (suc i) t.within in omega (arith, fits)) in

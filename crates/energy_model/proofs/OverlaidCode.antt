@@ -22,9 +22,9 @@ use Rattle.block_splitter.specs.Forms.{unit_in, body_at, is_site, kind_of, displ
 use Rattle.energy_model.specs.Energy.{Scene, starts_of, block_in, block_at, unit_number, region_before, region_with, is_internal, arrival_price, start_job, enter_job, leave_job, step_energy, steps_energy}
 use Rattle.energy_model.specs.Scenes.{scene_of, AreOfSameFile}
 use Rattle.energy_model.specs.Priced.{range}
-use Rattle.energy_model.specs.Copied.{home_words, copy_words_run, came_in, came_to}
+use Rattle.energy_model.specs.Copied.{home_words}
 use Rattle.energy_model.specs.Together.{taken}
-use Rattle.energy_model.specs.Overlay.{is_entered, entering_price, entered_words, copied_price, PieceCosts, PieceIsCounted}
+use Rattle.energy_model.specs.Overlay.{is_entered, entering_price, entered_words, copied_price, PieceIsCounted}
 use Rattle.energy_model.proofs.SceneLemmas.{Follows, follows}
 use Rattle.energy_model.proofs.SumLemmas.{sum_two}
 use Rattle.energy_model.proofs.EnergyLemmas.{current_fits}
@@ -33,7 +33,7 @@ use Rattle.energy_model.proofs.CopyLemmas.{home_counted, copy_counted}
 use Rattle.energy_model.proofs.ArrivalLemmas.{outside_at, outside_to, begun_at, began_where, came_counted, came_to_counted}
 use Rattle.energy_model.proofs.CountsLemmas.{counted_run, sum_times}
 use Rattle.energy_model.proofs.ChangeLemmas.{changes_counted}
-use Rattle.energy_model.proofs.TakenLemmas.{fetched_at_home, fetched_in_copy, comes_in, is_held}
+use Rattle.energy_model.proofs.TakenLemmas.{fetched_at_home, fetched_in_copy, is_held}
 use Rattle.energy_model.proofs.TogetherLemmas.{by_piece, touch, jobs, slow_price, fast_price, step_more}
 use Rattle.energy_model.proofs.OverlayLemmas.{at_border, ran_first, first_begins, form_parts, way_parts, same_first, ran_is_first, values_to}
 use Rattle.energy_model.proofs.ObjectLemmas.{from_and_to}
@@ -181,8 +181,8 @@ enters_counted view board g c t q ms first last r given region =
     let size = suc t.count in
     let count = switches_of (starts_of w) w.regions ms in
     let enters = ap (λ n. n * enter_job w r name) (given.run.profile.enters.each r (omega (arith, region))) in
-    let sums = from_and_to count (λ s. leave_job w s name) (λ k. enter_job w k name) r size (omega (arith, region))
-    (λ s other. refl) (λ s other. no_value (s == r) _ other) in
+    let sums = from_and_to count (λ s k. jobs w s k name) (λ s. leave_job w s name) (λ k. enter_job w k name) r size (omega (arith, region))
+    (λ s k. omega arith) (λ s other. refl) (λ s other. no_value (s == r) _ other) in
     let run = changes_counted (λ s k. not (s == k)) (λ s k. jobs w s k name) (region_before w ms) (region_with w ms) size size (length ms)
     (λ i below. let fits = current_fits (starts_of w) w.regions ms t.count i t.within in omega (arith, fits))
     (λ i below. let fits = current_fits (starts_of w) w.regions ms t.count (suc i) t.within in omega (arith, fits)) in

@@ -1,5 +1,6 @@
 -- What overlay costs with nothing taken is what the tables of a profile count.
 use Rattle.std.proofs.Common.{◌≡◌, ◌∙◌, ◌⊎◌, inl, inr, ℕ, zero, suc, ◌+◌, ◌-◌, ◌*◌, ◌<◌, ◌≤◌, ◌==◌, Bool, true, false, not, ◌&&◌, List, [], length, slice_index_or, refl, sym, ap, arith, if◌then◌else◌}
+use Rattle.std.proofs.Math.Nat.{mul-le-mul_right}
 use Rattle.std.proofs.lemmas.Bool.{cases_eq, eqb-true}
 use Rattle.std.proofs.lemmas.Bool.Decides.{nat_tests}
 use Rattle.list_checks.specs.Sorted.{sum_below}
@@ -12,17 +13,17 @@ use Rattle.object_graph.specs.declared.parts.Graph.{Graph}
 use Rattle.code_blocks.specs.declared.parts.Code.{Code}
 use Rattle.region_former.specs.declared.table.RegionTable.{RegionTable}
 use Rattle.profile_runner.specs.declared.counts.Profile.{Profile}
-use Rattle.profile_runner.specs.Transition.{Transition, is_going, transition_at}
+use Rattle.profile_runner.specs.Transition.{Transition, transition_at}
 use Rattle.profile_runner.specs.Standing.{begins, units_run}
 use Rattle.profile_runner.specs.Counts.{plain_rows, entry, switches_of}
 use Rattle.block_splitter.specs.Forms.{body_at, unit_in, is_site, kind_of, displaced_words}
-use Rattle.energy_model.specs.Energy.{Scene, starts_of, block_in, block_at, unit_number, region_before, region_with, arrival_price, access_price, switch_price, step_energy, steps_energy, nothing_taken}
+use Rattle.energy_model.specs.Energy.{Scene, starts_of, block_in, block_at, unit_number, region_before, region_with, arrival_price, access_price, switch_price, step_energy, steps_energy, side_energy, nothing_taken}
 use Rattle.energy_model.specs.Scenes.{scene_of, AreOfSameFile}
 use Rattle.energy_model.specs.Copied.{arrivals_in}
 use Rattle.energy_model.specs.Together.{taken}
-use Rattle.energy_model.specs.Overlay.{at_borders, checks_in, ends_first, first_runs, displaced_run, first_words, changes_price, checks_price, OverlayIsCounted}
-use Rattle.energy_model.proofs.SceneLemmas.{Follows, unit_of_transition}
-use Rattle.energy_model.proofs.SumLemmas.{sum_two, arrived}
+use Rattle.energy_model.specs.Overlay.{at_borders, checks_in, ends_first, first_runs, changes_price, OverlayIsCounted}
+use Rattle.energy_model.proofs.SceneLemmas.{Follows}
+use Rattle.energy_model.proofs.SumLemmas.{sum_two}
 use Rattle.energy_model.proofs.PlaceLemmas.{by_places}
 use Rattle.energy_model.proofs.WordLemmas.{IsCountedRun}
 use Rattle.energy_model.proofs.ArrivalLemmas.{arrived_sum, began_where}
@@ -155,6 +156,34 @@ steps_overlay w ms all =
     let check_sum = sum_times (checked_at w ms) check n in
     let displaced_sum = sum_times (displaced_at w ms) fetch n in
     omega (arith, same, left, right, middle, inner, first_sum, check_sum, displaced_sum)
+
+-- ---- overlay costs nothing less: a check runs more words than a unit has
+
+check_more : (border begun goes : Bool) (words fetch read : ℕ) → words ≤ 2 → (if border then (if begun && goes then words else 0) else 0) * fetch ≤ (if border then (if begun then 1 else 0) else 0) * (5 * fetch + read)
+check_more true true true words fetch read few = let most = mul-le-mul_right fetch few in omega (arith, most)
+check_more true true false words fetch read few = omega arith
+check_more true false goes words fetch read few = omega arith
+check_more false begun goes words fetch read few = omega arith
+
+step_costs : (w : Scene) (ms : List Transition) (i : ℕ) → Follows w ms → i < length ms → step_energy w nothing_taken ms i ≤ step_energy w (taken true []) ms i
+step_costs w ms i all below =
+    let at = all.each i below in
+    let words = at.each_words 0 (let some = at.below in omega (arith, some)) in
+    let step = step_overlay w ms i all below in
+    let check = check_more (at_border w ms i) (begins (starts_of w) ms i) (transition_at ms i).goes_on (unit_in (block_in w (block_at w ms i)) 0).words w.board.prices.main_fetch w.board.prices.main_read words in
+    omega (arith, step, check)
+
+sum_more : (f g : ℕ → ℕ) (n : ℕ) → ((k : ℕ) → k < n → f k ≤ g k) → sum_below f n ≤ sum_below g n
+sum_more f g zero each = omega arith
+sum_more f g (suc n) each =
+    let earlier = sum_more f g n (λ k below. each k (omega (arith, below))) in
+    let last = each n (omega arith) in
+    omega (arith, earlier, last)
+
+pub overlay_costs : (w : Scene) (ms : List Transition) → Follows w ms → steps_energy w nothing_taken ms ≤ side_energy w (taken true []) ms
+overlay_costs w ms all =
+    let steps = sum_more (step_energy w nothing_taken ms) (step_energy w (taken true []) ms) (length ms) (λ i below. step_costs w ms i all below) in
+    omega (arith, steps)
 
 -- ---- checks
 

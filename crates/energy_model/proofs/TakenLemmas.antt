@@ -6,7 +6,7 @@ use Rattle.rv_decode.specs.declared.instructions.Instr.{Instr}
 use Rattle.board_config.specs.declared.board.Prices.{Prices}
 use Rattle.object_machine.specs.declared.events.Access.{Access}
 use Rattle.placement_programme.specs.declared.variables.VarName.{VarName}
-use Rattle.placement_programme.specs.declared.variables.VarName.TheVariants.{StaticData, StaticCode, OverlayData, OverlayCode}
+use Rattle.placement_programme.specs.declared.variables.VarName.TheVariants.{StaticData, StaticCode, OverlayData, OverlayCode, KeptData}
 use Rattle.profile_runner.specs.Transition.{Transition, transition_at}
 use Rattle.profile_runner.specs.Standing.{begins}
 use Rattle.list_checks.specs.Sorted.{sum_below}
@@ -55,6 +55,7 @@ price_in fast w ms (StaticCode first last) i =
     if is_held w (range first last) ms i then (if fast then copy_fetches w (range first last) ms i else home_fetches w (range first last) ms i) else 0
 price_in fast w ms (OverlayData r o) i = 0
 price_in fast w ms (OverlayCode r first last) i = 0
+price_in fast w ms (KeptData pair o) i = 0
 
 abbrev pub slow_price : Scene → List Transition → VarName → ℕ → ℕ
 slow_price = price_in false
@@ -69,6 +70,7 @@ IsFresh (StaticData o) names = (r : ℕ) → is_fast names o r ≡ false
 IsFresh (StaticCode first last) names = (b : ℕ) → holds_block b (range first last) ≡ true → piece_of names b ≡ None
 IsFresh (OverlayData r o) names = ⊥
 IsFresh (OverlayCode r first last) names = ⊥
+IsFresh (KeptData pair o) names = ⊥
 
 either_false : (a b : Bool) → a ≡ false → b ≡ false → a || b ≡ false
 either_false a b first second = rw (first, second) refl
@@ -81,12 +83,14 @@ static_data o (StaticData other) names r static apart rest = either_false (o == 
 static_data o (StaticCode first last) names r static apart rest = rest
 static_data o (OverlayData s other) names r static apart rest = absurd static
 static_data o (OverlayCode s first last) names r static apart rest = absurd static
+static_data o (KeptData pair other) names r static apart rest = absurd static
 
 static_code : (first last : ℕ) (name : VarName) (names : List VarName) (b : ℕ) → IsStatic name → IsApart (StaticCode first last) name → holds_block b (range first last) ≡ true → piece_of names b ≡ None → piece_of (name ∷ names) b ≡ None
 static_code first last (StaticData other) names b static apart held rest = rest
 static_code first last (StaticCode other other_last) names b static apart held rest = not_covered b (range other other_last) (piece_of names b) (apart b held) rest
 static_code first last (OverlayData s other) names b static apart held rest = absurd static
 static_code first last (OverlayCode s other other_last) names b static apart held rest = absurd static
+static_code first last (KeptData pair other) names b static apart held rest = absurd static
 
 abbrev AreStatic : List VarName → Type 0
 AreStatic [] = Prim.Unit {0}
@@ -115,6 +119,7 @@ fresh (StaticData o) names static own apart = data_fresh o names static apart
 fresh (StaticCode first last) names static own apart = code_fresh first last names static apart
 fresh (OverlayData r o) names static own apart = absurd own
 fresh (OverlayCode r first last) names static own apart = absurd own
+fresh (KeptData pair o) names static own apart = absurd own
 
 -- ---- a step
 
@@ -200,6 +205,7 @@ step_more w (StaticCode first last) names ms i all below free =
     omega (arith, with_it, without, piece, access)
 step_more w (OverlayData r o) names ms i all below free = absurd free
 step_more w (OverlayCode r first last) names ms i all below free = absurd free
+step_more w (KeptData pair o) names ms i all below free = absurd free
 
 -- ---- a run
 

@@ -1,7 +1,6 @@
 -- The energy of a run with one item more in the scratchpad, with or without overlay.
 use Rattle.std.proofs.Common.{◌≡◌, ◌∙◌, ◌⊎◌, inl, inr, ℕ, ◌+◌, ◌*◌, ◌<◌, ◌==◌, Bool, true, false, not, ◌&&◌, ◌||◌, List, [], ◌∷◌, length, is_some, Option, Some, None, refl, ap, arith, if◌then◌else◌}
 use Rattle.std.proofs.lemmas.List.Sums.{sum_by-cons}
-use Rattle.list_checks.specs.Sorted.{sum_below}
 use Rattle.list_checks.proofs.SumLemmas.{sum_same}
 use Rattle.rv_decode.specs.Table.{OneInstruction}
 use Rattle.rv_decode.specs.declared.instructions.Instr.{Instr}
@@ -12,7 +11,7 @@ use Rattle.profile_runner.specs.Transition.{Transition, transition_at}
 use Rattle.profile_runner.specs.Standing.{begins}
 use Rattle.block_splitter.specs.declared.block_range.BlockRange.{BlockRange}
 use Rattle.block_splitter.specs.Forms.{holds_block}
-use Rattle.energy_model.specs.Energy.{Scene, piece_in, covering, piece_of, brings, is_fast, starts_of, is_checked, block_in, block_at, unit_number, region_before, region_with, form_words, fetch_price, is_fast_access, data_price, access_price, comes_from_outside, arrival_price, start_job, enter_job, leave_job, switch_price, change_price, step_energy, steps_energy, stub_energy, side_energy}
+use Rattle.energy_model.specs.Energy.{Scene, piece_in, covering, piece_of, brings, is_fast, starts_of, is_checked, block_in, block_at, unit_number, region_before, region_with, form_words, fetch_price, is_fast_access, data_price, access_price, comes_from_outside, arrival_price, start_job, enter_job, leave_job, kept_enter_job, kept_leave_job, switch_price, change_price, step_energy, steps_energy, side_energy}
 use Rattle.energy_model.specs.Scenes.{scene_of}
 use Rattle.energy_model.specs.Priced.{direction_price}
 use Rattle.energy_model.specs.Together.{taken, is_of_piece, copies, IsApartFromAll, SavesAsAlone}
@@ -83,7 +82,7 @@ one_piece f b (Some p) rest free = held_piece f p (holds_block b p) rest free
 -- ---- the copies of a change
 
 abbrev pub jobs : Scene → ℕ → ℕ → VarName → ℕ
-jobs w s r name = leave_job w s name + enter_job w r name
+jobs w s r name = leave_job w s name + enter_job w r name + kept_leave_job w s r name + kept_enter_job w s r name
 
 abbrev pub changes : Scene → Bool → List Transition → ℕ → Bool
 changes w on ms i = on && not (region_before w ms i == region_with w ms i)
@@ -92,7 +91,9 @@ one_switch : (w : Scene) (name : VarName) (names : List VarName) (s r : ℕ) →
 one_switch w name names s r =
     let leave = sum_by-cons (leave_job w s) name names in
     let enter = sum_by-cons (enter_job w r) name names in
-    omega (arith, leave, enter)
+    let kept_leave = sum_by-cons (kept_leave_job w s r) name names in
+    let kept_enter = sum_by-cons (kept_enter_job w s r) name names in
+    omega (arith, leave, enter, kept_leave, kept_enter)
 
 if_more : (test : Bool) (x y z : ℕ) → x ≡ y + z → (if test then x else 0) ≡ (if test then y else 0) + (if test then z else 0)
 if_more true x y z is = is

@@ -11,7 +11,7 @@ use Rattle.profile_runner.specs.declared.counts.Edge.{Edge}
 use Rattle.profile_runner.specs.declared.counts.Profile.{Profile}
 use Rattle.block_splitter.specs.declared.block_range.BlockRange.{BlockRange}
 use Rattle.block_splitter.specs.declared.unit_kind.UnitKind.{UnitKind}
-use Rattle.block_splitter.specs.declared.unit_kind.UnitKind.TheVariants.{Plain, Upper, Branch, Jump, Call, Tail, Indirect, Linking, Halt}
+use Rattle.block_splitter.specs.declared.unit_kind.UnitKind.TheVariants.{Branch, Jump}
 use Rattle.block_splitter.specs.Forms.{Body, body_at, unit_in, is_site, kind_of, holds_block, begins_in, copy_size, fall_out_words}
 use Rattle.energy_model.specs.Energy.{may_stay}
 

@@ -1,5 +1,5 @@
 -- The energy of a run under a choice of what stands in the scratchpad: the sum of its steps, in price units.
-use Rattle.std.specs.Prelude.{ℕ, zero, suc, ◌+◌, ◌-◌, ◌*◌, ◌/◌, ◌%◌, ◌==◌, nat_lt, nat_le, Bool, true, false, not, ◌&&◌, List, [], ◌∷◌, map, length, slice_index_or, Option, Some, None, is_some, if◌then◌else◌}
+use Rattle.std.specs.Prelude.{ℕ, zero, suc, ◌+◌, ◌-◌, ◌*◌, ◌/◌, ◌%◌, ◌==◌, nat_lt, nat_le, Bool, true, false, not, ◌&&◌, ◌||◌, List, [], ◌∷◌, map, length, slice_index_or, Option, Some, None, is_some, if◌then◌else◌}
 use Rattle.std.specs.List.{list_any, sum_by}
 use Rattle.rv_decode.specs.declared.instructions.Instr.{Instr}
 use Rattle.rv_decode.specs.declared.instructions.Instr.TheVariants.{Load, Store}
@@ -14,7 +14,8 @@ use Rattle.code_blocks.specs.declared.ends.End.{End}
 use Rattle.code_blocks.specs.declared.ends.End.TheVariants as end
 use Rattle.object_machine.specs.declared.events.Access.{Access}
 use Rattle.placement_programme.specs.declared.variables.VarName.{VarName}
-use Rattle.placement_programme.specs.declared.variables.VarName.TheVariants.{StaticData, StaticCode, OverlayData, OverlayCode}
+use Rattle.placement_programme.specs.declared.variables.VarName.TheVariants.{StaticData, StaticCode, OverlayData, OverlayCode, KeptData}
+use Rattle.placement_programme.specs.Rows.{first_twin, second_twin}
 use Rattle.profile_runner.specs.Transition.{Transition, transition_at}
 use Rattle.profile_runner.specs.Standing.{begins, block_of, units_run, current}
 use Rattle.list_checks.specs.Sorted.{sum_below}
@@ -49,6 +50,7 @@ piece_in (StaticData o) = None
 piece_in (StaticCode first last) = Some (record { first = first; last = last })
 piece_in (OverlayData r o) = None
 piece_in (OverlayCode r first last) = Some (record { first = first; last = last })
+piece_in (KeptData pair o) = None
 
 abbrev pub covering : ℕ → Option BlockRange → Option BlockRange → Option BlockRange
 covering b None other = other
@@ -59,12 +61,17 @@ abbrev pub piece_of : List VarName → ℕ → Option BlockRange
 piece_of [] b = None
 piece_of (name ∷ names) b = covering b (piece_in name) (piece_of names b)
 
+-- a region is one of the twins of a pair
+abbrev pub is_of_pair : ℕ → ℕ → Bool
+is_of_pair pair r = (r == first_twin pair) || (r == second_twin pair)
+
 -- a variable brings object `o` into the scratchpad while region `r` is current
 abbrev pub brings : ℕ → ℕ → VarName → Bool
 brings o r (StaticData object) = o == object
 brings o r (StaticCode first last) = false
 brings o r (OverlayData region object) = (o == object) && (r == region)
 brings o r (OverlayCode region first last) = false
+brings o r (KeptData pair object) = (o == object) && is_of_pair pair r
 
 abbrev pub is_fast : List VarName → ℕ → ℕ → Bool
 is_fast names o r = list_any (brings o r) names
@@ -225,6 +232,24 @@ leave_job w s (OverlayData region o) =
     else 0
 leave_job w s other = 0
 
+-- region `to` is of a pair, and `from` isn't
+abbrev pub comes_to_pair : ℕ → ℕ → ℕ → Bool
+comes_to_pair pair from to = is_of_pair pair to && not (is_of_pair pair from)
+
+-- what a variable copies that is kept for a pair where the current region changes from `s` to `r`: in where that comes to
+-- the pair from outside, back where it leaves the pair, and nothing between its twins
+abbrev pub kept_enter_job : Scene → ℕ → ℕ → VarName → ℕ
+kept_enter_job w s r (KeptData pair o) =
+    if comes_to_pair pair s r then into_price w.board.prices (object_rounds (object_of w.graph o)) else 0
+kept_enter_job w s r other = 0
+
+abbrev pub kept_leave_job : Scene → ℕ → ℕ → VarName → ℕ
+kept_leave_job w s r (KeptData pair o) =
+    if comes_to_pair pair r s && (object_of w.graph o).writable
+    then back_price w.board.prices (object_rounds (object_of w.graph o))
+    else 0
+kept_leave_job w s r other = 0
+
 -- ---- changes of the current region
 
 abbrev pub fence_words : Board → ℕ
@@ -261,6 +286,8 @@ switch_price w names s r =
     + 8 * w.board.prices.main_write
     + sum_by (leave_job w s) names
     + sum_by (enter_job w r) names
+    + sum_by (kept_leave_job w s r) names
+    + sum_by (kept_enter_job w s r) names
 
 abbrev pub change_price : Scene → Taken → List Transition → ℕ → ℕ
 change_price w c transitions i =

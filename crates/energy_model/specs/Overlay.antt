@@ -8,14 +8,16 @@ use Rattle.board_config.specs.declared.board.Prices.{Prices}
 use Rattle.object_graph.specs.declared.parts.Graph.{Graph}
 use Rattle.code_blocks.specs.declared.parts.Code.{Code}
 use Rattle.region_former.specs.declared.table.RegionTable.{RegionTable}
+use Rattle.cell_values.specs.Objects.{object_of}
 use Rattle.profile_runner.specs.Transition.{Transition, is_going}
 use Rattle.profile_runner.specs.Counts.{plain_rows, entry}
 use Rattle.profile_runner.specs.declared.counts.Profile.{Profile}
 use Rattle.placement_programme.specs.declared.variables.VarName.{VarName}
-use Rattle.placement_programme.specs.declared.variables.VarName.TheVariants.{StaticCode, OverlayData, OverlayCode}
+use Rattle.placement_programme.specs.declared.variables.VarName.TheVariants.{StaticCode, OverlayData, OverlayCode, KeptData}
+use Rattle.placement_programme.specs.Rows.{first_twin, second_twin}
 use Rattle.block_splitter.specs.declared.block_range.BlockRange.{BlockRange}
 use Rattle.block_splitter.specs.Forms.{holds_block, body_at, unit_in, is_site, kind_of, displaced_words}
-use Rattle.energy_model.specs.Energy.{Scene, nothing_taken, read_price, write_price, arrival_price, start_job, enter_job, leave_job, switch_price, steps_energy, side_energy}
+use Rattle.energy_model.specs.Energy.{Scene, nothing_taken, read_price, write_price, arrival_price, object_rounds, into_price, back_price, start_job, enter_job, leave_job, switch_price, steps_energy, side_energy}
 use Rattle.energy_model.specs.Copied.{arrivals_in, home_words, copy_words_run, came_in, came_to}
 use Rattle.energy_model.specs.Scenes.{scene_of, AreOfSameFile}
 use Rattle.energy_model.specs.Priced.{range}
@@ -100,6 +102,41 @@ ObjectIsCounted =
     ≡ side_energy (scene_of g c t board) (taken true []) transitions
     + accesses_price board.prices true (reads_in q o r) (writes_in q o r)
     + object_copies (scene_of g c t board) q r o
+
+-- ---- an object that is kept for a pair of regions
+
+-- a count of either region, summed, and how often the current region changed from one twin to the other
+abbrev pub of_both : (ℕ → ℕ) → ℕ → ℕ
+of_both count pair = count (first_twin pair) + count (second_twin pair)
+
+abbrev pub twin_switches : Profile → ℕ → ℕ
+twin_switches q pair =
+    entry (plain_rows q.switches.items) (first_twin pair) (second_twin pair)
+    + entry (plain_rows q.switches.items) (second_twin pair) (first_twin pair)
+
+-- how often the current region came to the pair from outside, and left it
+abbrev pub outer_enters : Profile → ℕ → ℕ
+outer_enters q pair = of_both (λ r. slice_index_or q.enters.items r 0) pair - twin_switches q pair
+
+abbrev pub outer_leaves : Profile → ℕ → ℕ
+outer_leaves q pair = of_both (λ r. slice_index_or q.leaves.items r 0) pair - twin_switches q pair
+
+-- its copies: one each time that the pair is entered from outside, and where it is writable one back when it is left
+abbrev pub kept_copies : Scene → Profile → ℕ → ℕ → ℕ
+kept_copies w q pair o =
+    outer_enters q pair * into_price w.board.prices (object_rounds (object_of w.graph o))
+    + outer_leaves q pair * (if (object_of w.graph o).writable then back_price w.board.prices (object_rounds (object_of w.graph o)) else 0)
+
+-- what it costs, and its accesses at home in both regions, are the energy without it, these in the scratchpad, and its copies
+abbrev pub KeptIsCounted : Type 0
+KeptIsCounted =
+    (view : ElfView) (board : Board) (g : Graph) (c : Code) (t : RegionTable) (q : Profile) (transitions : List Transition) (pair o : ℕ)
+    → AreOfSameFile view board g c t q transitions → 1 ≤ pair → 2 * pair ≤ t.count → o < length g.objects.items
+    → side_energy (scene_of g c t board) (taken true (KeptData pair o ∷ [])) transitions
+    + accesses_price board.prices false (of_both (reads_in q o) pair) (of_both (writes_in q o) pair)
+    ≡ side_energy (scene_of g c t board) (taken true []) transitions
+    + accesses_price board.prices true (of_both (reads_in q o) pair) (of_both (writes_in q o) pair)
+    + kept_copies (scene_of g c t board) q pair o
 
 -- ---- a piece of code, throughout or while region `r` is current
 

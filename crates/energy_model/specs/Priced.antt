@@ -4,7 +4,7 @@ use Rattle.board_config.specs.declared.board.Prices.{Prices}
 use Rattle.code_blocks.specs.declared.parts.Unit.{Unit}
 use Rattle.object_machine.specs.declared.events.Access.{Access}
 use Rattle.placement_programme.specs.declared.variables.VarName.{VarName}
-use Rattle.placement_programme.specs.declared.variables.VarName.TheVariants.{StaticData, StaticCode, OverlayData, OverlayCode}
+use Rattle.placement_programme.specs.declared.variables.VarName.TheVariants.{StaticData, StaticCode, OverlayData, OverlayCode, KeptData}
 use Rattle.profile_runner.specs.Transition.{Transition, transition_at}
 use Rattle.list_checks.specs.Sorted.{sum_below}
 use Rattle.block_splitter.specs.declared.block_range.BlockRange.{BlockRange}
@@ -52,6 +52,7 @@ IsStatic (StaticData o) = Prim.Unit {0}
 IsStatic (StaticCode first last) = Prim.Unit {0}
 IsStatic (OverlayData r o) = ⊥
 IsStatic (OverlayCode r first last) = ⊥
+IsStatic (KeptData pair o) = ⊥
 
 -- two have nothing in common: different objects, or pieces that share no block
 abbrev pub IsApart : VarName → VarName → Type 0

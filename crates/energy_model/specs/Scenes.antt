@@ -1,5 +1,5 @@
 -- What the energy of a run is about: a file and its parts, a board, and the profile of the run.
-use Rattle.std.specs.Prelude.{◌≡◌, ℕ, ◌≤◌, true, List, [], map, length, None}
+use Rattle.std.specs.Prelude.{◌≡◌, ◌≤◌, true, List, map, length, None}
 use Rattle.elf_reader.specs.File.{plain_view}
 use Rattle.elf_reader.specs.declared.view.ElfView.{ElfView}
 use Rattle.board_config.specs.Board.{IsLawful}

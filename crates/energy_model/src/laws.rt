@@ -1,5 +1,5 @@
 // Laws of the definitions: functions that do nothing, whose contracts are what is proved.
-ghost use Rattle.energy_model.specs.Overlay.{OverlayIsCounted, ObjectIsCounted, PieceIsCounted};
+ghost use Rattle.energy_model.specs.Overlay.{OverlayIsCounted, ObjectIsCounted, KeptIsCounted, PieceIsCounted};
 ghost use Rattle.energy_model.specs.Together.{SavesAsAlone};
 
 /// What overlay costs with nothing taken is what the tables of a profile count.
@@ -12,6 +12,13 @@ pub fn overlay_is_counted()
 /// What an object costs that is overlaid in a region is what the tables of a profile count.
 pub fn object_is_counted()
     ensures { ObjectIsCounted }
+{
+    rv_decode::one_instruction();
+}
+
+/// What an object costs that is kept for a pair of regions is what the tables of a profile count.
+pub fn kept_is_counted()
+    ensures { KeptIsCounted }
 {
     rv_decode::one_instruction();
 }

@@ -15,5 +15,7 @@ pub use base::base_of;
 pub use block_counts::{BlockCounts, PieceCounts};
 pub use blocks::count_blocks;
 pub use checks::count_checks;
-pub use laws::{object_is_counted, overlay_is_counted, piece_is_counted, saves_as_alone};
+pub use laws::{
+    kept_is_counted, object_is_counted, overlay_is_counted, piece_is_counted, saves_as_alone,
+};
 pub use pieces::count_piece;

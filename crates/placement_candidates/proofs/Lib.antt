@@ -4,6 +4,10 @@ pub mod StatedLemmas
 pub mod SelectLemmas
 pub mod RankLemmas
 pub mod AddingLemmas
+pub mod SideLemmas
+pub mod ApartLemmas
 pub mod ChoiceLemmas
 pub mod PieceLemmas
 pub mod WholeLemmas
+pub mod CandidateLemmas
+pub mod WholeChoices

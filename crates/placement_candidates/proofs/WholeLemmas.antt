@@ -9,7 +9,6 @@ use Rattle.energy_model.specs.Scenes.{scene_of}
 use Rattle.energy_model.specs.Together.{taken}
 use Rattle.energy_model.proofs.SceneLemmas.{Follows, follows}
 use Rattle.energy_model.proofs.TogetherLemmas.{saves_side}
-use Rattle.placement_candidates.specs.Overlaid.{overlay_gain}
 use Rattle.placement_candidates.specs.Whole.{AreApartAll, overlay_gains, OverlayAddsUp}
 
 one_more : (all rest alone none : ℕ) (gains : ℤ) → all + none ≡ rest + alone → pos rest ≡ pos none -ℤ gains → pos all ≡ pos none -ℤ ((pos none -ℤ pos alone) +ℤ gains)

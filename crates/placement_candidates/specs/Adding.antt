@@ -22,10 +22,14 @@ use Rattle.placement_candidates.specs.Selected.{stated}
 abbrev pub items_taken : List VarName → Taken
 items_taken names = record { on = false; names = names }
 
--- what each saves alone, summed
+-- what each saves, summed
+abbrev pub gains_by : (VarName → ℤ) → List VarName → ℤ
+gains_by saved [] = pos 0
+gains_by saved (name ∷ names) = saved name +ℤ gains_by saved names
+
+-- what each saves alone
 abbrev pub gains_of : Scene → List Transition → List VarName → ℤ
-gains_of w transitions [] = pos 0
-gains_of w transitions (name ∷ names) = gain_alone w transitions name +ℤ gains_of w transitions names
+gains_of w transitions names = gains_by (gain_alone w transitions) names
 
 -- for different objects, and pieces of which no two share a block, the energy is the base and the fixed cost, less these
 -- gains

@@ -1,7 +1,7 @@
--- The programme with overlay that a run states: what may be taken for a region, with all that it gains, also where that is
--- nothing.
-use Rattle.std.specs.Prelude.{◌≡◌, ℕ, zero, suc, ◌+◌, ◌-◌, ◌*◌, ◌<◌, ◌≤◌, ◌==◌, nat_lt, nat_le, ℤ, pos, ◌-ℤ◌, Bool, true, false, not, ◌&&◌, ◌||◌, if◌then◌else◌, List, [], ◌∷◌, ◌++◌, map, length, slice_index_or, Option, Some, None}
-use Rattle.std.specs.List.{Contains, filter, list_any}
+-- The programme with overlay that a run states: what may be taken for a region or for a pair of them, with all that it gains,
+-- also where that is nothing.
+use Rattle.std.specs.Prelude.{◌≡◌, ℕ, zero, suc, ◌-◌, ◌<◌, ◌≤◌, ◌==◌, nat_lt, nat_le, ℤ, pos, ◌-ℤ◌, Bool, true, not, ◌&&◌, if◌then◌else◌, List, [], ◌∷◌, ◌++◌, map, length, Some, None}
+use Rattle.std.specs.List.{Contains, filter}
 use Rattle.board_config.specs.declared.board.Board.{Board}
 use Rattle.object_graph.specs.declared.parts.Graph.{Graph}
 use Rattle.code_blocks.specs.declared.parts.Code.{Code}
@@ -11,9 +11,9 @@ use Rattle.region_former.specs.declared.table.RegionTable.{RegionTable}
 use Rattle.list_checks.specs.Tests.{any_below}
 use Rattle.profile_runner.specs.Transition.{Transition}
 use Rattle.placement_programme.specs.declared.variables.VarName.{VarName}
-use Rattle.placement_programme.specs.declared.variables.VarName.TheVariants.{StaticData, StaticCode, OverlayData, OverlayCode}
+use Rattle.placement_programme.specs.declared.variables.VarName.TheVariants.{StaticData, StaticCode, OverlayData, OverlayCode, KeptData}
 use Rattle.placement_programme.specs.Plain.{PlainFullVar, PlainFullSide, PlainFull}
-use Rattle.placement_programme.specs.Rows.{Layout, Candidate, static_data, static_code, overlay_data, overlay_code, name_of, fixed_bytes, on_capacities, on_weights}
+use Rattle.placement_programme.specs.Rows.{Layout, Candidate, static_data, static_code, overlay_data, overlay_code, kept_data, name_of, pairs_of, fixed_bytes, on_capacities, on_weights}
 use Rattle.block_splitter.specs.declared.piece.Piece.{Piece}
 use Rattle.block_splitter.specs.Forms.{holds_block}
 use Rattle.block_splitter.specs.Pieces.{range_of}
@@ -45,27 +45,19 @@ is_of_region regions r p =
 abbrev pub IsRegion : RegionTable → ℕ → Type 0
 IsRegion t r = (1 ≤ r) × (r ≤ t.count)
 
--- What may be taken of a program: an object or a piece throughout, and while a region is current an object that may be
--- overlaid, or a piece whose blocks all have that region
-pub data MayBeTaken (c : Code) (g : Graph) (t : RegionTable) (pieces : List Piece) : VarName → Type 0 where
-  data_throughout : (o : ℕ) → o < length g.objects.items → MayBeTaken c g t pieces (StaticData o)
-  code_throughout : (p : Piece) → Contains pieces p → MayBeTaken c g t pieces (StaticCode p.first p.last)
-  data_of_region : (r o : ℕ) → IsRegion t r → IsOverlaidObject c g t o → MayBeTaken c g t pieces (OverlayData r o)
-  code_of_region : (r : ℕ) (p : Piece) → IsRegion t r → Contains pieces p → is_of_region t.of_block.items r p ≡ true → MayBeTaken c g t pieces (OverlayCode r p.first p.last)
+-- so are pairs of regions, where the board has twins
+abbrev pub IsPair : Board → RegionTable → ℕ → Type 0
+IsPair board t pair = (1 ≤ pair) × (pair ≤ pairs_of board.twins t.count)
 
--- ---- pairs of regions, where the board has twins: regions 2k - 1 and 2k are pair k, and each is the other's twin
-
-abbrev pub IsPair : RegionTable → ℕ → Type 0
-IsPair t k = (1 ≤ k) × (2 * k ≤ t.count)
-
-abbrev pub is_of_pair : ℕ → ℕ → Bool
-is_of_pair k r = (r == 2 * k - 1) || (r == 2 * k)
-
--- object `o` may be kept for pair `k`: it stands in one place in both regions, and is not copied between them
-pub record MayBeKept (c : Code) (g : Graph) (t : RegionTable) (board : Board) (k o : ℕ) : Type 0 where
-  pub twins : board.twins ≡ true
-  pub pair : IsPair t k
-  pub object : IsOverlaidObject c g t o
+-- What may be taken of a program: an object or a piece throughout; while a region is current an object that may be
+-- overlaid, or a piece whose blocks all have that region; and such an object also while either region of a pair is current,
+-- in one place and not copied between them
+pub data MayBeTaken (c : Code) (g : Graph) (t : RegionTable) (board : Board) (pieces : List Piece) : VarName → Type 0 where
+  data_throughout : (o : ℕ) → o < length g.objects.items → MayBeTaken c g t board pieces (StaticData o)
+  code_throughout : (p : Piece) → Contains pieces p → MayBeTaken c g t board pieces (StaticCode p.first p.last)
+  data_of_region : (r o : ℕ) → IsRegion t r → IsOverlaidObject c g t o → MayBeTaken c g t board pieces (OverlayData r o)
+  code_of_region : (r : ℕ) (p : Piece) → IsRegion t r → Contains pieces p → is_of_region t.of_block.items r p ≡ true → MayBeTaken c g t board pieces (OverlayCode r p.first p.last)
+  data_of_pair : (pair o : ℕ) → IsPair board t pair → IsOverlaidObject c g t o → MayBeTaken c g t board pieces (KeptData pair o)
 
 -- ---- variables, in their order
 
@@ -77,14 +69,17 @@ static_objects g (suc n) = static_objects g n ++ static_data (datum_of g n) ∷ 
 abbrev pub static_pieces : Scene → List Piece → List Candidate
 static_pieces w pieces = map (λ p. static_code (part_of w p)) pieces
 
--- objects in region `r`, and pieces
+-- objects in region `r`, and pieces; and objects for a pair
 abbrev pub objects_in : Scene → List ℕ → ℕ → List Candidate
 objects_in w objects r = map (λ o. overlay_data r (datum_of w.graph o)) objects
 
 abbrev pub pieces_in : Scene → List Piece → ℕ → List Candidate
 pieces_in w pieces r = map (λ p. overlay_code r (part_of w p)) (filter (is_of_region w.regions r) pieces)
 
--- those of the first regions, from 1 on
+abbrev pub objects_of_pair : Scene → List ℕ → ℕ → List Candidate
+objects_of_pair w objects pair = map (λ o. kept_data pair (datum_of w.graph o)) objects
+
+-- those of the first regions, and of the first pairs, from 1 on
 abbrev pub overlaid_objects : Scene → List ℕ → ℕ → List Candidate
 overlaid_objects w objects zero = []
 overlaid_objects w objects (suc n) = overlaid_objects w objects n ++ objects_in w objects (suc n)
@@ -93,12 +88,17 @@ abbrev pub overlaid_pieces : Scene → List Piece → ℕ → List Candidate
 overlaid_pieces w pieces zero = []
 overlaid_pieces w pieces (suc n) = overlaid_pieces w pieces n ++ pieces_in w pieces (suc n)
 
+abbrev pub kept_objects : Scene → List ℕ → ℕ → List Candidate
+kept_objects w objects zero = []
+kept_objects w objects (suc n) = kept_objects w objects n ++ objects_of_pair w objects (suc n)
+
 abbrev pub static_candidates : Scene → List Piece → List Candidate
 static_candidates w pieces = static_objects w.graph (length w.graph.objects.items) ++ static_pieces w pieces
 
 abbrev pub overlay_candidates : Scene → List ℕ → List Piece → List Candidate
 overlay_candidates w objects pieces =
     overlaid_objects w objects w.region_count ++ overlaid_pieces w pieces w.region_count
+    ++ kept_objects w objects (pairs_of w.board.twins w.region_count)
 
 -- ---- the side on which there is overlay
 

@@ -9,7 +9,7 @@ mod ranking;
 mod selecting;
 mod stating;
 
-pub use adding::{energy_adds_up, off_side_stays, overlay_adds_up};
+pub use adding::{energy_adds_up, off_side_stays, overlay_adds_up, whole_energy_is_of_the_run};
 pub use counting::full;
 pub use selecting::select;
 pub use stating::programme;

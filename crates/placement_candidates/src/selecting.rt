@@ -148,11 +148,12 @@ fn is_overlay(name: VarName) -> bool
 {
     match name {
         VarName::StaticData { .. } | VarName::StaticCode { .. } => false,
-        VarName::OverlayData { .. } | VarName::OverlayCode { .. } => true,
+        VarName::OverlayData { .. } | VarName::OverlayCode { .. } | VarName::KeptData { .. } =>
+            true,
     }
 }
 
-/// Whether a variable is overlaid and saves something.
+/// Whether a variable is overlaid or kept and saves something.
 fn saves_by_overlay(var: &FullVar) -> bool
     ensures { result ≡ saves_by_overlay (plain_full_var var.now) }
 {

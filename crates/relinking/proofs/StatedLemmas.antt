@@ -17,10 +17,11 @@ use Rattle.placement_programme.specs.Programme.{Fits, side_for, IsFeasible}
 use Rattle.placement_programme.specs.Rows.{Layout}
 use Rattle.energy_model.specs.Energy.{Scene}
 use Rattle.energy_model.specs.Scenes.{scene_of, layout_of}
-use Rattle.placement_candidates.specs.Stated.{part_of, code_var, AreSomePieces}
+use Rattle.placement_candidates.specs.Stated.{part_of, code_var, AreSomePieces, static_vars}
 use Rattle.placement_candidates.specs.Selected.{var_in, plain_kept, stated}
 use Rattle.placement_candidates.proofs.PieceLemmas.{part_entries}
-use Rattle.placement_candidates.proofs.ChoiceLemmas.{number_at, some_piece, vars_count, object_at, piece_at, vs, kept, ns, kept_at_place, number_below, number_order}
+use Rattle.placement_candidates.proofs.ChoiceLemmas.{some_piece, vars_count, object_at, piece_at}
+use Rattle.placement_candidates.proofs.SideLemmas.{number_at, kept, ns, kept_at_place, number_below, number_order}
 use Rattle.relink_core.specs.Choices.{IsStaticVar, ComesBefore, IsStaticSide, IsStaticChoice}
 
 -- all pieces are some pieces
@@ -35,7 +36,7 @@ module _ (board : Board) (g : Graph) (c : Code) (t : RegionTable) (pieces : List
   l = layout_of g c t board
 
   abbrev all : List PlainFullVar
-  all = vs board g c t pieces moves are
+  all = static_vars w l pieces moves
 
   abbrev objects : ℕ
   objects = length g.objects.items
@@ -86,12 +87,12 @@ module _ (board : Board) (g : Graph) (c : Code) (t : RegionTable) (pieces : List
   stated_side =
       record {
         rows = refl;
-        vars = λ i d below. subst (IsStaticVar board g c pieces) (sym (kept_at_place board g c t pieces moves are i d below))
-            (static_var (number_at (ns board g c t pieces moves are) i) (number_below board g c t pieces moves are i below));
+        vars = λ i d below. subst (IsStaticVar board g c pieces) (sym (kept_at_place all i d below))
+            (static_var (number_at (ns all) i) (number_below all i below));
         ordered = λ i j d before below.
-            subst (λ (v : PlainVar). ComesBefore v.name (slice_index_or (kept board g c t pieces moves are) j d).name) (sym (kept_at_place board g c t pieces moves are i d (omega (arith, before, below))))
-            (subst (λ (v : PlainVar). ComesBefore (plain_kept (var_in all (number_at (ns board g c t pieces moves are) i))).name v.name) (sym (kept_at_place board g c t pieces moves are j d below))
-            (in_order (number_at (ns board g c t pieces moves are) i) (number_at (ns board g c t pieces moves are) j) (number_order board g c t pieces moves are i j before below) (number_below board g c t pieces moves are j below)));
+            subst (λ (v : PlainVar). ComesBefore v.name (slice_index_or (kept all) j d).name) (sym (kept_at_place all i d (omega (arith, before, below))))
+            (subst (λ (v : PlainVar). ComesBefore (plain_kept (var_in all (number_at (ns all) i))).name v.name) (sym (kept_at_place all j d below))
+            (in_order (number_at (ns all) i) (number_at (ns all) j) (number_order all i j before below) (number_below all j below)));
       }
 
   -- ---- its choices
