@@ -11,3 +11,5 @@ pub mod PieceLemmas
 pub mod WholeLemmas
 pub mod CandidateLemmas
 pub mod WholeChoices
+pub mod SitedLemmas
+pub mod FoundLemmas

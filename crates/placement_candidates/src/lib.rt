@@ -2,14 +2,18 @@
 #![tactic(auto)]
 
 mod adding;
+mod border_registers;
 mod counting;
+mod finding;
 mod objects;
 mod pieces;
 mod ranking;
+mod region_sites;
 mod selecting;
 mod stating;
 
 pub use adding::{energy_adds_up, off_side_stays, overlay_adds_up, whole_energy_is_of_the_run};
 pub use counting::full;
+pub use finding::overlaid_objects;
 pub use selecting::select;
 pub use stating::programme;
