@@ -24,7 +24,7 @@ use Rattle.energy_model.proofs.PieceLemmas.{none_before, one_block, part_in, par
 
 -- ---- bounds
 
-if_at_most : (b : Bool) (x most : ℕ) → x ≤ most → (if b then x else 0) ≤ most
+pub if_at_most : (b : Bool) (x most : ℕ) → x ≤ most → (if b then x else 0) ≤ most
 if_at_most true x most few = few
 if_at_most false x most few = omega arith
 

@@ -1,5 +1,5 @@
 -- What items save where there is overlay is small.
-use Rattle.std.proofs.Common.{ℕ, ◌+◌, ◌*◌, ◌≤◌, Bool, true, false, pos, ◌-ℤ◌, length, arith, if◌then◌else◌}
+use Rattle.std.proofs.Common.{ℕ, ◌+◌, ◌*◌, ◌≤◌, true, false, pos, ◌-ℤ◌, length, arith, if◌then◌else◌}
 use Rattle.std.specs.Prelude.{unsigned_abs}
 use Rattle.std.proofs.lemmas.Int.{ints}
 use Rattle.std.proofs.lemmas.Nat.{mul-le}
@@ -20,7 +20,7 @@ use Rattle.overlay_counts.specs.OverlayCost.{CountsOverlay}
 use Rattle.overlay_counts.specs.Entering.{displaced_of, first_of}
 use Rattle.overlay_counts.specs.Gains.{object_copied, object_saves, AreSmallCounts, piece_saves}
 use Rattle.overlay_counts.specs.declared.object_counts.ObjectCounts.{ObjectCounts}
-use Rattle.overlay_counts.proofs.EnteringLemmas.{entered_sum, few_came, small_entering}
+use Rattle.overlay_counts.proofs.EnteringLemmas.{if_at_most, entered_sum, few_came, small_entering}
 use Rattle.energy_model.proofs.PieceLemmas.{came_small}
 
 difference_small : (a b most : ℕ) → a ≤ most → b ≤ most → unsigned_abs (pos a -ℤ pos b) ≤ most
@@ -39,10 +39,6 @@ job_small prices read write n most lawful read_small write_small few =
     let writes = mul-le n write most 10000 few write_small in
     omega (arith, fetches, reads, writes)
 
-if_small : (b : Bool) (x most : ℕ) → x ≤ most → (if b then x else 0) ≤ most
-if_small true x most few = few
-if_small false x most few = omega arith
-
 accesses_small : (reads writes read write : ℕ) → reads ≤ 2000000000 → writes ≤ 2000000000 → read ≤ 10000 → write ≤ 10000 → reads * read + writes * write ≤ 40000000000000
 accesses_small reads writes read write few_reads few_writes read_small write_small =
     let first = mul-le reads read 2000000000 10000 few_reads read_small in
@@ -55,7 +51,7 @@ object_saves_small prices o counts rounds lawful small few =
     let home = accesses_small counts.reads counts.writes prices.main_read prices.main_write small.reads small.writes lawful.main_read lawful.main_write in
     let moved = accesses_small counts.reads counts.writes prices.spm_read prices.spm_write small.reads small.writes lawful.spm_read lawful.spm_write in
     let into = job_small prices prices.main_read prices.spm_write (object_rounds o) rounds lawful lawful.main_read lawful.spm_write few in
-    let back = if_small o.writable (back_price prices (object_rounds o)) (most_job rounds) (job_small prices prices.spm_read prices.main_write (object_rounds o) rounds lawful lawful.spm_read lawful.main_write few) in
+    let back = if_at_most o.writable (back_price prices (object_rounds o)) (most_job rounds) (job_small prices prices.spm_read prices.main_write (object_rounds o) rounds lawful lawful.spm_read lawful.main_write few) in
     let enters = mul-le counts.enters (into_price prices (object_rounds o)) 18000000000 (most_job rounds) small.enters into in
     let leaves = mul-le counts.leaves (if o.writable then back_price prices (object_rounds o) else 0) 18000000000 (most_job rounds) small.leaves back in
     difference_small (accesses_price prices false counts.reads counts.writes)
