@@ -6,10 +6,10 @@ ghost use Rattle.certificate_checker.specs.Views.{plain_verdict};
 ghost use Rattle.command_line.specs.Measured.{MeasuresTo};
 ghost use Rattle.command_line.specs.CheckFile.{ChecksTo, RejectsChecked, ReportsText, RejectsText, MayReport, ReportsAnswer, RejectsAnswer};
 
-use command_faults::CommandFault;
 use crate::measured_text::MeasuredText;
 use crate::opening::open;
 use certificate_checker::{Room, Verdict, check_text};
+use command_faults::CommandFault;
 use placement_programme::{Choice, Programme};
 use printed_lines::choice_report;
 use relinking::programme_of_run;

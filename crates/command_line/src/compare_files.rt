@@ -2,8 +2,8 @@ ghost use Rattle.std.specs.Prelude.{◌≡◌, IfOk, IfErr};
 ghost use Rattle.printed_lines.specs.Endings.{IsAddressFault};
 ghost use Rattle.command_line.specs.CompareFiles.{ComparesTo, RejectsCompared, HasEnding, AnswersComparison, RejectsComparison, same_text};
 
-use command_faults::CommandFault;
 use crate::opening::open;
+use command_faults::CommandFault;
 use compare_runner::{Comparison, compare};
 use object_machine::Outcome;
 use printed_lines::ending_line;

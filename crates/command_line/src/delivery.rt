@@ -6,8 +6,8 @@ ghost use Rattle.command_faults.specs.declared.faults.CommandFault.TheVariants a
 ghost use Rattle.shelf_io.specs.Shelf.{SetsName};
 
 use crate::diagnostic::Diagnostic;
-use command_faults::CommandFault;
 use crate::printing::put_piece;
+use command_faults::CommandFault;
 use relinking::MeasuredEnd;
 use shelf_io::{Shelf, ShelfFault, Sink};
 use std::alloc::{AllocError, Global};

@@ -1,5 +1,5 @@
-use command_faults::CommandFault;
 use crate::printing::put_piece;
+use command_faults::CommandFault;
 use shelf_io::Sink;
 use std::alloc::{AllocError, Global};
 

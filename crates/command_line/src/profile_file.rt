@@ -3,9 +3,9 @@ ghost use Rattle.command_line.specs.ProgramRun.{RejectsProfiled};
 ghost use Rattle.command_line.specs.ProfileFile.{ProfilesTo};
 ghost use Rattle.command_line.specs.Measured.{MeasuresTo};
 
-use command_faults::CommandFault;
 use crate::measured_text::MeasuredText;
 use crate::opening::open;
+use command_faults::CommandFault;
 use printed_lines::profile_lines;
 use relinking::measured_run;
 use std::alloc::Global;

@@ -3,8 +3,8 @@ ghost use Rattle.shelf_io.specs.Shelf.{Holds};
 ghost use Rattle.command_words.specs.Command.{Named, plain_named};
 ghost use Rattle.command_line.specs.Reading.{contents, HoldsAll, RejectsRead, RejectsReads};
 
-use command_words::NamedWord;
 use command_faults::CommandFault;
+use command_words::NamedWord;
 use shelf_io::{Shelf, ShelfFault};
 use std::alloc::Global;
 

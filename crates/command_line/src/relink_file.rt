@@ -3,8 +3,8 @@ ghost use Rattle.command_line.specs.ProgramRun.{RejectsProfiled};
 ghost use Rattle.command_line.specs.RelinkFile.{RelinksTo};
 ghost use Rattle.command_line.specs.Measured.{MeasuresTo};
 
-use command_faults::CommandFault;
 use crate::opening::open;
+use command_faults::CommandFault;
 use relinking::{MeasuredEnd, relink_analysed, relink_report};
 use std::alloc::Global;
 

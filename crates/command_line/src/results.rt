@@ -5,15 +5,15 @@ ghost use Rattle.command_line.specs.Meaning.{RejectsInputs, kernels_text};
 ghost use Rattle.command_line.specs.Performing.{IsPreparedFor};
 
 use crate::check_file::check_file;
-use command_words::Command;
 use crate::compare_files::compare_files;
 use crate::delivery::{Output, PreparedResult};
-use command_faults::CommandFault;
 use crate::hex_files::{check_hex, hex_file};
 use crate::profile_file::profile_file;
 use crate::relink_file::relink_file;
 use crate::run_file::run_file;
 use crate::show_file::show_file;
+use command_faults::CommandFault;
+use command_words::Command;
 use std::alloc::{AllocError, Global};
 use workload_gen::workload;
 

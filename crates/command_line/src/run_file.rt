@@ -5,9 +5,9 @@ ghost use Rattle.board_config.specs.Board.{mapped_ranges};
 ghost use Rattle.flat_machine.specs.Start.{start_of};
 ghost use Rattle.command_line.specs.RunFile.{RunsFrom, RunsTo, IsFirstCommandFault};
 
-use command_faults::CommandFault;
 use crate::outcomes::outcome_line;
 use board_config::{Board, read_board};
+use command_faults::CommandFault;
 use elf_reader::ElfView;
 use flat_machine::Flat;
 use paged_store::PageStore;

@@ -2,8 +2,8 @@ ghost use Rattle.std.specs.Prelude.{IfOk, IfErr};
 ghost use Rattle.command_line.specs.Analysed.{RejectsAnalysed};
 ghost use Rattle.command_line.specs.ShowFile.{ShowsTo};
 
-use command_faults::CommandFault;
 use crate::opening::open;
+use command_faults::CommandFault;
 use printed_lines::show_lines;
 use std::alloc::Global;
 

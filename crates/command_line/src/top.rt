@@ -2,10 +2,10 @@ ghost use Rattle.std.specs.Prelude.{◌≡◌, ◌≢◌, None, OnOk, IfOk, IfEr
 ghost use Rattle.command_words.specs.Command.{texts};
 ghost use Rattle.command_line.specs.Answers.{IsDone, TellsRun, HasCause, EndsRejected, Answers};
 
-use command_words::parse;
 use crate::diagnostic::Diagnostic;
-use command_faults::CommandFault;
 use crate::performing::perform_command;
+use command_faults::CommandFault;
+use command_words::parse;
 use relinking::MeasuredEnd;
 use shelf_io::{Shelf, Sink};
 use std::alloc::Global;
