@@ -327,3 +327,8 @@ arrivals_few c g t board q ms p run =
     let is = began_where c g t board q ms (λ b. holds_block b p) run in
     let few = sum_small (begun_at w (λ b. holds_block b p) ms) 1 (length ms) (λ i below. into_small (is_held w p ms i) (begins (scene_starts w) ms i)) in
     omega (arith, is, few)
+
+pub few_stay_to : (c : Code) (g : Graph) (t : RegionTable) (board : Board) (q : Profile) (ms : List Transition) (p : BlockRange) (to : ℕ → Bool) → IsCountedRun c g t board q ms → stayed_to c q p to ≤ sum_below (λ b. if to b then arrivals_in q b else 0) (length c.blocks.items) + pending_to c q p to
+few_stay_to c g t board q ms p to run =
+    let sum = came_sum c g t board q ms p to run in
+    omega (arith, sum)

@@ -173,7 +173,7 @@ open_are c g q counts range b words stays sums blocks below may is left stay =
 
 -- ---- steps of the loop over the blocks of a range
 
-one_block : (range : BlockRange) (f : ℕ → ℕ) (b old more new : ℕ) → holds_block b range ≡ true → old ≡ sum_in range f b → more ≡ f b → new ≡ old + more → new ≡ sum_in range f (b + 1)
+pub one_block : (range : BlockRange) (f : ℕ → ℕ) (b old more new : ℕ) → holds_block b range ≡ true → old ≡ sum_in range f b → more ≡ f b → new ≡ old + more → new ≡ sum_in range f (b + 1)
 one_block range f b old more new held before here is =
     let next : sum_in range f (b + 1) ≡ sum_in range f (suc b) = ap (sum_in range f) (one_more b) in
     let sum = one_held range f b held in
@@ -202,7 +202,7 @@ sums_more c g q range b old more new held before here is =
       pending = one_block range (pending c q) b old.pending more.pending new.pending held before.pending here.pending is.pending;
     }
 
-part_few : (range : BlockRange) (f : ℕ → ℕ) (b n old more most : ℕ) → b < n → holds_block b range ≡ true → old ≡ sum_in range f b → more ≡ f b → sum_in range f n ≤ most → old + more ≤ most
+pub part_few : (range : BlockRange) (f : ℕ → ℕ) (b n old more most : ℕ) → b < n → holds_block b range ≡ true → old ≡ sum_in range f b → more ≡ f b → sum_in range f n ≤ most → old + more ≤ most
 part_few range f b n old more most below held before here few =
     let part = part_in range f b n below held in
     omega (arith, part, before, here, few)
@@ -218,7 +218,7 @@ few_sums c g q range b old more counts held below before here =
       pending = part_few range (pending c q) b n old.pending more.pending most_run below held before.pending here.pending (counts.few_pending range);
     }
 
-all_blocks : (range : BlockRange) (f : ℕ → ℕ) (n b sum : ℕ) → range.last < n → b ≡ range.last + 1 → sum ≡ sum_in range f b → sum ≡ sum_in range f n
+pub all_blocks : (range : BlockRange) (f : ℕ → ℕ) (n b sum : ℕ) → range.last < n → b ≡ range.last + 1 → sum ≡ sum_in range f b → sum ≡ sum_in range f n
 all_blocks range f n b sum below last is =
     is ∙ (ap (sum_in range f) (next b range.last last) ∙ sym (none_behind range f n below))
   where

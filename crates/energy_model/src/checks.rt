@@ -6,7 +6,7 @@ ghost use Rattle.energy_model.specs.Overlay.{checks_in};
 use profile_runner::Profile;
 
 /// How often control entered a region by block `b`.
-fn checks_at(profile: &Profile, borders: &[bool], b: usize) -> u128
+pub(crate) fn checks_at(profile: &Profile, borders: &[bool], b: usize) -> u128
     requires inside { b < length borders.now }
     requires same { length profile.now.arrivals.items ≡ length borders.now }
     ensures { result ≡ (if slice_index_or borders.now b false then arrivals_in profile.now b else 0) }

@@ -6,8 +6,16 @@ mod block_counts;
 mod blocks;
 mod checks;
 mod edges;
+mod entering;
+mod entering_counts;
+mod first_units;
 mod laws;
+mod object_counts;
+mod objects;
+mod overlaying;
+mod piece_gains;
 mod pieces;
+mod switches;
 mod units;
 mod words;
 
@@ -15,7 +23,13 @@ pub use base::base_of;
 pub use block_counts::{BlockCounts, PieceCounts};
 pub use blocks::count_blocks;
 pub use checks::count_checks;
+pub use entering::{RunTables, count_entering};
+pub use entering_counts::EnteringCounts;
 pub use laws::{
     kept_is_counted, object_is_counted, overlay_is_counted, piece_is_counted, saves_as_alone,
 };
+pub use object_counts::ObjectCounts;
+pub use objects::{into_price, kept_counts, object_gain, object_rounds, overlaid_counts};
+pub use overlaying::overlay_cost;
+pub use piece_gains::piece_gain;
 pub use pieces::count_piece;

@@ -128,7 +128,7 @@ fn may_stay(end: &End) -> bool
     }
 }
 
-fn holds(range: &BlockRange, b: u32) -> bool
+pub(crate) fn holds(range: &BlockRange, b: u32) -> bool
     ensures { result ≡ holds_block b range.now }
 {
     range.first <= b && b <= range.last
@@ -141,7 +141,7 @@ fn product(count: u64, words: u32) -> u128
 }
 
 /// Where the edges from block `a` begin.
-fn edge_start(counts: &BlockCounts, a: usize) -> usize
+pub(crate) fn edge_start(counts: &BlockCounts, a: usize) -> usize
     requires { a < length counts.now.edges.items }
     ensures { result ≡ slice_index_or counts.now.edges.items a 0 }
 {
@@ -196,7 +196,7 @@ fn staying(profile: &Profile, counts: &BlockCounts, range: &BlockRange, a: usize
 }
 
 /// Whether a block may lead to another one of its copy.
-fn block_may_stay(code: &Code, b: usize) -> bool
+pub(crate) fn block_may_stay(code: &Code, b: usize) -> bool
     requires { b < length code.now.blocks.items }
     ensures { result ≡ may_stay (body_at code.now.blocks.items b).end }
 {

@@ -1,0 +1,92 @@
+-- What is counted of an item is what it saves in the run.
+use Rattle.std.proofs.Common.{◌≡◌, ℕ, ◌+◌, ◌*◌, ◌<◌, ◌≤◌, ◌==◌, Bool, true, ◌&&◌, pos, ◌-ℤ◌, List, [], ◌∷◌, length, slice_index_or, refl, ap, arith, if◌then◌else◌}
+use Rattle.std.proofs.lemmas.Bool.Decides.{nat_tests}
+use Rattle.std.proofs.lemmas.List.{length-map}
+use Rattle.std.proofs.lemmas.Int.{ints}
+use Rattle.rv_decode.specs.Table.{OneInstruction}
+use Rattle.elf_reader.specs.declared.view.ElfView.{ElfView}
+use Rattle.board_config.specs.declared.board.Board.{Board}
+use Rattle.object_graph.specs.declared.parts.Graph.{Graph}
+use Rattle.cell_values.specs.Objects.{object_of}
+use Rattle.code_blocks.specs.declared.parts.Code.{Code}
+use Rattle.region_former.specs.declared.table.RegionTable.{RegionTable}
+use Rattle.placement_programme.specs.declared.variables.VarName.TheVariants.{StaticCode, OverlayData, OverlayCode}
+use Rattle.profile_runner.specs.declared.counts.Profile.{Profile}
+use Rattle.profile_runner.specs.Transition.{Transition}
+use Rattle.energy_model.specs.Energy.{object_rounds, into_price, back_price, piece_rounds, side_energy}
+use Rattle.energy_model.specs.Scenes.{scene_of, AreOfSameFile}
+use Rattle.energy_model.specs.Priced.{range}
+use Rattle.energy_model.specs.Together.{taken}
+use Rattle.energy_model.specs.Overlay.{object_copies}
+use Rattle.energy_model.specs.OverlayCost.{CountsOverlay}
+use Rattle.energy_model.specs.Gains.{HasPlace, HasSwitches, overlaid_counts, object_copied, object_saves, piece_saves}
+use Rattle.energy_model.proofs.ObjectLemmas.{object_counted}
+use Rattle.energy_model.proofs.SwitchLemmas.{switches_there}
+use Rattle.energy_model.proofs.OverlaidCode.{piece_counted}
+
+abbrev Given : ElfView → Board → Graph → Code → RegionTable → Profile → List Transition → Type 0
+Given view board g c t q ms = AreOfSameFile view board g c t q ms
+
+-- ---- places of the tables
+
+-- the tables have a place for each object and region
+pub has_place : (c : Code) (t : RegionTable) (g : Graph) (q : Profile) (o r : ℕ) → CountsOverlay c t g q → o < length g.objects.items → r ≤ t.count → HasPlace q o r
+has_place c t g q o r counts object region =
+    let reads = length-map q.reads.items (λ row. row.items) in
+    let writes = length-map q.writes.items (λ row. row.items) in
+    let read_height = counts.reads.height_is in
+    let write_height = counts.writes.height_is in
+    let read_width = counts.reads.widths o object in
+    let write_width = counts.writes.widths o object in
+    let enters = counts.enters.size_is in
+    let leaves = counts.leaves.size_is in
+    record {
+      read_row = omega (arith, reads, read_height, object);
+      read_column = omega (arith, read_width, region);
+      write_row = omega (arith, writes, write_height, object);
+      write_column = omega (arith, write_width, region);
+      enter = omega (arith, enters, region);
+      leave = omega (arith, leaves, region);
+      reads = counts.reads.small o r object (omega (arith, region));
+      writes = counts.writes.small o r object (omega (arith, region));
+      enters = counts.enters.small r (omega (arith, region));
+      leaves = counts.leaves.small r (omega (arith, region));
+    }
+
+pub has_switches : (c : Code) (t : RegionTable) (g : Graph) (q : Profile) (s r : ℕ) → CountsOverlay c t g q → s ≤ t.count → r ≤ t.count → HasSwitches q s r
+has_switches c t g q s r counts from to = switches_there q t.count s r counts.switches from to
+
+-- ---- objects
+
+where_same : (r : ℕ) (x : ℕ) → (if r == r then x else 0) ≡ x
+where_same r x = let same : (r == r) ≡ true = grind (arith, nat_tests) in rw same refl
+
+where_same_both : (r : ℕ) (writable : Bool) (x : ℕ) → (if (r == r) && writable then x else 0) ≡ (if writable then x else 0)
+where_same_both r writable x = let same : (r == r) ≡ true = grind (arith, nat_tests) in rw same refl
+
+copies_are : (g : Graph) (c : Code) (t : RegionTable) (board : Board) (q : Profile) (r o : ℕ) → object_copies (scene_of g c t board) q r o ≡ object_copied board.prices (object_of g o) (slice_index_or q.enters.items r 0) (slice_index_or q.leaves.items r 0)
+copies_are g c t board q r o =
+    let object = object_of g o in
+    let into = where_same r (into_price board.prices (object_rounds object)) in
+    let back = where_same_both r object.writable (back_price board.prices (object_rounds object)) in
+    λ i. slice_index_or q.enters.items r 0 * into i + slice_index_or q.leaves.items r 0 * back i
+
+pub overlaid_gain_is : OneInstruction → (view : ElfView) (board : Board) (g : Graph) (c : Code) (t : RegionTable) (q : Profile) (ms : List Transition) (r o : ℕ) → Given view board g c t q ms → r ≤ t.count → o < length g.objects.items → object_saves board.prices (object_of g o) (overlaid_counts q o r) ≡ pos (side_energy (scene_of g c t board) (taken true []) ms) -ℤ pos (side_energy (scene_of g c t board) (taken true (OverlayData r o ∷ [])) ms)
+overlaid_gain_is one view board g c t q ms r o given region object =
+    let law = object_counted one view board g c t q ms r o given region object in
+    let copies = copies_are g c t board q r o in
+    omega (arith, ints, law, copies)
+
+-- ---- pieces
+
+pub static_piece_gain_is : OneInstruction → (view : ElfView) (board : Board) (g : Graph) (c : Code) (t : RegionTable) (q : Profile) (ms : List Transition) (first last : ℕ) → Given view board g c t q ms → piece_saves c g board.prices q t.border.items (range first last) (into_price board.prices (piece_rounds (scene_of g c t board) (range first last))) ≡ pos (side_energy (scene_of g c t board) (taken true []) ms) -ℤ pos (side_energy (scene_of g c t board) (taken true (StaticCode first last ∷ [])) ms)
+static_piece_gain_is one view board g c t q ms first last given =
+    let law = (piece_counted one view board g c t q ms first last 0 given (omega arith)).0 in
+    omega (arith, ints, law)
+
+pub region_piece_gain_is : OneInstruction → (view : ElfView) (board : Board) (g : Graph) (c : Code) (t : RegionTable) (q : Profile) (ms : List Transition) (first last r : ℕ) → Given view board g c t q ms → r ≤ t.count → piece_saves c g board.prices q t.border.items (range first last) (slice_index_or q.enters.items r 0 * into_price board.prices (piece_rounds (scene_of g c t board) (range first last))) ≡ pos (side_energy (scene_of g c t board) (taken true []) ms) -ℤ pos (side_energy (scene_of g c t board) (taken true (OverlayCode r first last ∷ [])) ms)
+region_piece_gain_is one view board g c t q ms first last r given region =
+    let law = (piece_counted one view board g c t q ms first last r given region).1 in
+    let into = where_same r (into_price board.prices (piece_rounds (scene_of g c t board) (range first last))) in
+    let copies = ap (λ x. slice_index_or q.enters.items r 0 * x) into in
+    omega (arith, ints, law, copies)
