@@ -11,3 +11,6 @@ pub mod PieceLemmas
 pub mod WholeLemmas
 pub mod CandidateLemmas
 pub mod WholeChoices
+pub mod OverlayRowLemmas
+pub mod PieceRegionLemmas
+pub mod OverlayVarLemmas

@@ -3,7 +3,13 @@
 
 mod adding;
 mod counting;
+mod measured;
 mod objects;
+mod overlaid_vars;
+mod overlay_gains;
+mod overlay_parts;
+mod overlay_rows;
+mod piece_regions;
 mod pieces;
 mod ranking;
 mod selecting;
@@ -11,5 +17,6 @@ mod stating;
 
 pub use adding::{energy_adds_up, off_side_stays, overlay_adds_up, whole_energy_is_of_the_run};
 pub use counting::full;
+pub use measured::Measured;
 pub use selecting::select;
 pub use stating::programme;

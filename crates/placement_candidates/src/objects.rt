@@ -2,10 +2,10 @@ ghost use Rattle.std.specs.Prelude.{◌≡◌, ◌+◌, ◌-◌, ◌*◌, ◌/�
 ghost use Rattle.cell_values.specs.Objects.{object_of};
 ghost use Rattle.placement_programme.specs.Plain.{plain_full_var};
 ghost use Rattle.placement_programme.specs.Rows.{rounded_up};
-ghost use Rattle.energy_model.specs.Energy.{into_price, object_rounds};
-ghost use Rattle.placement_candidates.specs.Counted.{total, reads_of, writes_of, home_price, moved_price, counted_var, counted_vars, CountsAccesses};
+ghost use Rattle.placement_candidates.specs.Counted.{total, reads_of, writes_of, home_price, moved_price, counted_gain, counted_var, counted_vars, CountsAccesses};
 
 use board_config::{Board, Prices};
+use energy_model::{into_price, object_rounds};
 use object_graph::{Graph, Object};
 use placement_programme::{FullVar, VarName};
 use profile_runner::Profile;
@@ -26,29 +26,6 @@ fn total(row: &[u64]) -> u128
     total
 }
 
-/// How many rounds the loop has that copies an object: by words, where its home and size allow that.
-fn rounds(object: &Object) -> u32
-    ensures { result ≡ object_rounds object.now }
-{
-    if object.home % 4 == 0 && object.size % 4 == 0 {
-        object.size / 4
-    } else {
-        object.size
-    }
-}
-
-/// What a copy loop of so many rounds costs that copies into the scratchpad.
-pub(crate) fn job_price(rounds: u32, prices: &Prices) -> u128
-    ensures sum { result ≡ into_price prices.now rounds }
-    ensures small { result < 2 ^ 70 }
-{
-    let rounds = u128::from(rounds);
-    let fetches = (6 + 5 * rounds) * u128::from(prices.main_fetch);
-    let reads = rounds * u128::from(prices.main_read);
-    let writes = rounds * u128::from(prices.spm_write);
-    fetches + reads + writes
-}
-
 /// What so many reads and writes cost, at these prices.
 fn accesses_price(reads: u128, writes: u128, read: u32, write: u32) -> u128
     requires reads { reads ≤ 1000000000 }
@@ -67,11 +44,11 @@ fn gain(reads: u128, writes: u128, object: &Object, prices: &Prices) -> i128
 {
     let home = accesses_price(reads, writes, prices.main_read, prices.main_write);
     let moved = accesses_price(reads, writes, prices.spm_read, prices.spm_write);
-    home as i128 - (moved + job_price(rounds(object), prices)) as i128
+    home as i128 - (moved + into_price(object_rounds(object), prices)) as i128
 }
 
 /// The bytes of the scratchpad that an object takes, with those before it in its first chunk.
-fn span(object: &Object, grain: u32) -> u64
+pub(crate) fn span(object: &Object, grain: u32) -> u64
     requires { 0 < grain }
     ensures { result ≡ rounded_up grain (object.now.home % grain + object.now.size) }
 {
@@ -96,11 +73,23 @@ fn writes_of(profile: &Profile, k: usize) -> u128
     total(&profile.writes[k])
 }
 
-fn object_at(graph: &Graph, k: usize) -> Object
+pub(crate) fn object_at(graph: &Graph, k: usize) -> Object
     requires { k < length graph.now.objects.items }
     ensures { result ≡ object_of graph.now k }
 {
     graph.objects[k]
+}
+
+/// What object `k` saves throughout.
+pub(crate) fn data_gain(profile: &Profile, graph: &Graph, k: usize, prices: &Prices) -> i128
+    requires inside { k < length graph.now.objects.items }
+    requires accesses { CountsAccesses graph.now profile.now }
+    ensures { result ≡ counted_gain prices.now profile.now graph.now k }
+{
+    let object = object_at(graph, k);
+    let reads = reads_of(profile, k);
+    let writes = writes_of(profile, k);
+    gain(reads, writes, &object, prices)
 }
 
 /// The variable of object `k`.
@@ -117,14 +106,11 @@ fn var_of(
     ensures { IfOk result (λ v. plain_full_var v ≡ counted_var board.now.prices profile.now graph.now board.now.grain k) }
 {
     let object = object_at(graph, k);
-    let reads = reads_of(profile, k);
-    let writes = writes_of(profile, k);
-    let gain = gain(reads, writes, &object, &board.prices);
     let weights = vec![in alloc; (0, span(&object, board.grain)), (1, JOB_BYTES)]?;
     let name = VarName::StaticData { object: k as u32 };
     Ok(FullVar {
         name,
-        gain,
+        gain: data_gain(profile, graph, k, &board.prices),
         weights,
     })
 }

@@ -5,11 +5,10 @@ ghost use Rattle.placement_programme.specs.Rows.{rounded_up, in_rows};
 ghost use Rattle.energy_model.specs.Counts.{most_run};
 ghost use Rattle.placement_candidates.specs.Counted.{copied_price, piece_weights, counted_code_gain, counted_code_var, CanCountPiece, AreTables};
 
-use crate::objects::job_price;
 use block_splitter::{BlockRange, Piece};
 use board_config::{Board, Prices};
 use code_blocks::Code;
-use energy_model::{BlockCounts, PieceCounts, count_piece};
+use energy_model::{BlockCounts, PieceCounts, count_piece, into_price};
 use object_graph::Graph;
 use placement_programme::{FullVar, VarName};
 use profile_runner::Profile;
@@ -39,7 +38,7 @@ fn copied_price(counts: &PieceCounts, rounds: u32, prices: &Prices) -> u128
 {
     let fetches = counts.copied * u128::from(prices.spm_fetch);
     let pads = counts.came * (3 * u128::from(prices.main_fetch));
-    fetches + pads + job_price(rounds, prices)
+    fetches + pads + into_price(rounds, prices)
 }
 
 /// What a piece saves.
@@ -54,7 +53,7 @@ fn gain(counts: &PieceCounts, rounds: u32, prices: &Prices) -> i128
 }
 
 /// The bytes of the scratchpad that a copy takes.
-fn span(bytes: u32, grain: u32) -> u64
+pub(crate) fn span(bytes: u32, grain: u32) -> u64
     requires { 0 < grain }
     ensures { result ≡ rounded_up grain bytes }
 {
