@@ -14,3 +14,7 @@ pub mod WholeChoices
 pub mod OverlayRowLemmas
 pub mod PieceRegionLemmas
 pub mod OverlayVarLemmas
+pub mod OverlayGainLemmas
+pub mod EachLemmas
+pub mod OverlayBoundLemmas
+pub mod OverlaySideLemmas

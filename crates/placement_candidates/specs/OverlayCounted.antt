@@ -1,10 +1,11 @@
 -- The side with overlay, as it is counted from the tables of a profile.
-use Rattle.std.specs.Prelude.{◌≡◌, ℕ, ◌*◌, ◌/◌, ◌<◌, ◌≤◌, ℤ, if◌then◌else◌, List, ◌++◌, map, length, slice_index_or}
+use Rattle.std.specs.Prelude.{◌≡◌, ℕ, ◌+◌, ◌*◌, ◌/◌, ◌^◌, ◌<◌, ◌≤◌, ℤ, if◌then◌else◌, Option, Some, None, List, ◌++◌, map, length, slice_index_or}
 use Rattle.std.specs.List.{All}
 use Rattle.object_graph.specs.Lookups.{IsSomeGraph}
 use Rattle.points_to.specs.Overlaid.{region_in}
-use Rattle.placement_programme.specs.Rows.{Layout, Candidate, static_data, static_code, overlay_data, overlay_code, kept_data, name_of, on_weights}
-use Rattle.placement_programme.specs.Plain.{PlainFullVar}
+use Rattle.placement_programme.specs.Rows.{Layout, Candidate, static_data, static_code, overlay_data, overlay_code, kept_data, name_of, on_capacities, on_weights}
+use Rattle.placement_programme.specs.Plain.{PlainFullVar, PlainFullSide}
+use Rattle.placement_programme.specs.Bounds.{IsWithinFullBounds}
 use Rattle.block_splitter.specs.declared.piece.Piece.{Piece}
 use Rattle.block_splitter.specs.Forms.{body_at}
 use Rattle.placement_candidates.specs.declared.measured.Measured.{Measured}
@@ -13,11 +14,11 @@ use Rattle.cell_values.specs.Objects.{object_of}
 use Rattle.energy_model.specs.Energy.{Scene, into_price}
 use Rattle.energy_model.specs.Priced.{range}
 use Rattle.energy_model.specs.Counts.{CountsCode}
-use Rattle.energy_model.specs.OverlayCost.{CountsOverlay}
+use Rattle.energy_model.specs.OverlayCost.{CountsOverlay, overlay_cost}
 use Rattle.energy_model.specs.Gains.{overlaid_counts, kept_counts, object_saves, piece_saves}
-use Rattle.placement_candidates.specs.Counted.{counted_gain, CountsAccesses, CanCountPiece}
+use Rattle.placement_candidates.specs.Counted.{counted_gain, CountsAccesses, CanCountPiece, stub_price}
 use Rattle.energy_model.specs.Scenes.{scene_of}
-use Rattle.placement_candidates.specs.Overlaid.{overlay_layout, is_of_region, static_candidates, overlay_candidates}
+use Rattle.placement_candidates.specs.Overlaid.{overlay_layout, is_of_region, static_candidates, overlay_candidates, has_on_side}
 
 -- ---- the parts of what was measured
 
@@ -85,3 +86,26 @@ on_var m candidate =
 abbrev pub on_vars : Measured → List ℕ → List PlainFullVar
 on_vars m objects =
     map (on_var m) (static_candidates (scene_in m) m.pieces.now ++ overlay_candidates (scene_in m) objects m.pieces.now)
+
+-- ---- the side
+
+abbrev pub counted_on_side : Measured → List ℕ → PlainFullSide
+counted_on_side m objects =
+    record {
+      fixed = stub_price m.board.now + overlay_cost m.code.now m.graph.now m.regions.now m.board.now m.profile.now;
+      rows = on_capacities (layout_in m);
+      vars = on_vars m objects;
+    }
+
+-- where there is that side
+abbrev pub counted_on : Measured → List ℕ → Option PlainFullSide
+counted_on m objects =
+    if has_on_side (scene_in m) (layout_in m) objects m.pieces.now then Some (counted_on_side m objects) else None
+
+pub record CanCountOverlay (m : Measured) (objects : List ℕ) : Type 0 where
+  pub weigh : CanWeigh m
+  pub gain : CanGain m
+  pub pieces : All (CanWeighPiece m) m.pieces.now
+  pub numbers : All (λ o. o < length m.graph.now.objects.items) objects
+  pub patch : m.board.now.patch.size < 2 ^ 32
+  pub side : IsWithinFullBounds (record { fixed = 0; rows = on_capacities (layout_in m); vars = on_vars m objects })

@@ -14,9 +14,11 @@ mod pieces;
 mod ranking;
 mod selecting;
 mod stating;
+mod whole_side;
 
 pub use adding::{energy_adds_up, off_side_stays, overlay_adds_up, whole_energy_is_of_the_run};
 pub use counting::full;
 pub use measured::Measured;
 pub use selecting::select;
 pub use stating::programme;
+pub use whole_side::{whole_full, whole_programme};
