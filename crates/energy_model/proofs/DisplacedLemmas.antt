@@ -36,14 +36,15 @@ pub first_checked : (c : Code) (g : Graph) (t : RegionTable) (board : Board) (q 
 first_checked c g t board q ms run =
     let w = scene_of g c t board in
     let n = length ms in
-    let words = λ (i : ℕ). if at_border w ms i then (if ran_first w ms i then (unit_in (block_in w (block_at w ms i)) 0).words else 0) else 0 in
-    let checks = λ (i : ℕ). if at_border w ms i then (if begins (starts_of w) ms i then 1 else 0) else 0 in
+    let words : ℕ → ℕ = λ i. if at_border w ms i then (if ran_first w ms i then (unit_in (block_in w (block_at w ms i)) 0).words else 0) else 0 in
+    let checks : ℕ → ℕ = λ i. if at_border w ms i then (if begins (starts_of w) ms i then 1 else 0) else 0 in
     let first_is = values_to c g t board q ms (λ b. slice_index_or t.border.items b false) (λ b. (unit_in (body_at c.blocks.items b) 0).words) run in
     let checks_are = checks_counted c g t board q ms run in
     let less = sum_less words (λ i. checks i * 2) n (λ i below.
     let transition = run.all.each i below in
-    let some = transition.below in
-    two_a_check (at_border w ms i) (begins (starts_of w) ms i) (transition_at ms i).goes_on (unit_in (block_in w (block_at w ms i)) 0).words (transition.each_words 0 (omega (arith, some)))) in
+    let runs = transition.below in
+    let some : 0 < length (block_in w (block_at w ms i)).units = omega (arith, runs) in
+    two_a_check (at_border w ms i) (begins (starts_of w) ms i) (transition_at ms i).goes_on (unit_in (block_in w (block_at w ms i)) 0).words (transition.each_words 0 some)) in
     let twice = sum_times checks 2 n in
     omega (arith, first_is, checks_are, less, twice)
 

@@ -12,7 +12,7 @@ use Rattle.block_splitter.specs.declared.unit_kind.UnitKind.{UnitKind}
 use Rattle.block_splitter.specs.declared.unit_kind.UnitKind.TheVariants.{Plain, Upper, Branch, Jump, Call, Tail, Indirect, Linking, Halt}
 use Rattle.block_splitter.specs.Forms.{body_at, is_site, kind_of, holds_block, displaced_words}
 use Rattle.energy_model.specs.Energy.{may_stay}
-use Rattle.energy_model.specs.Copied.{arrivals_in, leaving, sum_in, pending, pending_to}
+use Rattle.energy_model.specs.Copied.{arrivals_in, leaving, sum_in, pending, pending_to, came_to}
 use Rattle.energy_model.specs.Counts.{most_run, CountsCode}
 use Rattle.energy_model.specs.Overlay.{checks_in, first_runs, displaced_run, first_words, is_entered}
 use Rattle.energy_model.specs.OverlayCost.{CountsOverlay}
@@ -24,7 +24,7 @@ use Rattle.energy_model.proofs.PieceLemmas.{none_before, one_block, part_in, par
 
 -- ---- bounds
 
-if_at_most : (b : Bool) (x most : ℕ) → x ≤ most → (if b then x else 0) ≤ most
+pub if_at_most : (b : Bool) (x most : ℕ) → x ≤ most → (if b then x else 0) ≤ most
 if_at_most true x most few = few
 if_at_most false x most few = omega arith
 
@@ -221,6 +221,13 @@ few_stopped c t g q range code =
     let inside = if_at_most (holds_block q.last.0 range && may_stay (body_at c.blocks.items q.last.0).end) (sum_below (λ b. if is_entered borders range b then pending c q b else 0) n)
     (sum_below (λ b. if is_entered borders range b then pending c q b else 0) n) (omega arith) in
     omega (arith, stopped, less, few, inside)
+
+pub few_came : (c : Code) (t : RegionTable) (g : Graph) (q : Profile) (range : BlockRange) → CountsCode c g q → CountsOverlay c t g q → came_to c q range (is_entered t.border.items range) ≤ 2000000000000
+few_came c t g q range code counts =
+    let few = few_stopped c t g q range code in
+    let checks = (small_entering c t g q range code counts).checks in
+    let arrived = entered_sum t.border.items range (arrivals_in q) (length c.blocks.items) in
+    omega (arith, few, checks, arrived)
 
 pub came_fits : (c : Code) (t : RegionTable) (g : Graph) (q : Profile) (range : BlockRange) (sums : EnteringSums) (stopped : ℕ) → CountsCode c g q → CountsOverlay c t g q → AreEntering c g q t.border.items range (length c.blocks.items) sums → stopped ≡ pending_to c q range (is_entered t.border.items range) → sums.checks + stopped ≤ 2000000000000
 came_fits c t g q range sums stopped code counts are is =

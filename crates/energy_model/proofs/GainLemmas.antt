@@ -1,8 +1,10 @@
 -- What is counted of an item is what it saves in the run.
-use Rattle.std.proofs.Common.{◌≡◌, ℕ, ◌+◌, ◌*◌, ◌<◌, ◌≤◌, ◌==◌, Bool, true, ◌&&◌, pos, ◌-ℤ◌, List, [], ◌∷◌, length, slice_index_or, refl, ap, arith, if◌then◌else◌}
+use Rattle.std.proofs.Common.{◌≡◌, ℕ, ◌+◌, ◌*◌, ◌<◌, ◌≤◌, ◌==◌, Bool, true, false, ◌&&◌, pos, ◌-ℤ◌, List, [], ◌∷◌, length, slice_index_or, refl, ap, arith, if◌then◌else◌}
 use Rattle.std.proofs.lemmas.Bool.Decides.{nat_tests}
 use Rattle.std.proofs.lemmas.List.{length-map}
 use Rattle.std.proofs.lemmas.Int.{ints}
+use Rattle.list_checks.specs.Sorted.{sum_below}
+use Rattle.list_checks.proofs.SumLemmas.{sum_same}
 use Rattle.rv_decode.specs.Table.{OneInstruction}
 use Rattle.elf_reader.specs.declared.view.ElfView.{ElfView}
 use Rattle.board_config.specs.declared.board.Board.{Board}
@@ -10,17 +12,21 @@ use Rattle.object_graph.specs.declared.parts.Graph.{Graph}
 use Rattle.cell_values.specs.Objects.{object_of}
 use Rattle.code_blocks.specs.declared.parts.Code.{Code}
 use Rattle.region_former.specs.declared.table.RegionTable.{RegionTable}
-use Rattle.placement_programme.specs.declared.variables.VarName.TheVariants.{StaticCode, OverlayData, OverlayCode}
+use Rattle.placement_programme.specs.declared.variables.VarName.TheVariants.{StaticData, StaticCode, OverlayData, OverlayCode, KeptData}
 use Rattle.profile_runner.specs.declared.counts.Profile.{Profile}
-use Rattle.profile_runner.specs.Transition.{Transition}
-use Rattle.energy_model.specs.Energy.{object_rounds, into_price, back_price, piece_rounds, side_energy}
+use Rattle.profile_runner.specs.Transition.{Transition, transition_at}
+use Rattle.energy_model.specs.Energy.{Scene, region_with, object_rounds, into_price, back_price, piece_rounds, step_energy, steps_energy, side_energy}
 use Rattle.energy_model.specs.Scenes.{scene_of, AreOfSameFile}
 use Rattle.energy_model.specs.Priced.{range}
 use Rattle.energy_model.specs.Together.{taken}
 use Rattle.energy_model.specs.Overlay.{object_copies}
 use Rattle.energy_model.specs.OverlayCost.{CountsOverlay}
-use Rattle.energy_model.specs.Gains.{HasPlace, HasSwitches, overlaid_counts, object_copied, object_saves, piece_saves}
+use Rattle.energy_model.specs.Gains.{HasPlace, HasSwitches, overlaid_counts, kept_counts, object_copied, object_saves, piece_saves}
+use Rattle.energy_model.proofs.SceneLemmas.{Follows, follows}
+use Rattle.energy_model.proofs.SumLemmas.{sum_two}
+use Rattle.energy_model.proofs.TogetherLemmas.{touch, changes, slow_price, fast_price, step_more}
 use Rattle.energy_model.proofs.ObjectLemmas.{object_counted}
+use Rattle.energy_model.proofs.KeptLemmas.{kept_counted}
 use Rattle.energy_model.proofs.SwitchLemmas.{switches_there}
 use Rattle.energy_model.proofs.OverlaidCode.{piece_counted}
 
@@ -76,6 +82,45 @@ overlaid_gain_is one view board g c t q ms r o given region object =
     let law = object_counted one view board g c t q ms r o given region object in
     let copies = copies_are g c t board q r o in
     omega (arith, ints, law, copies)
+
+pub kept_gain_is : OneInstruction → (view : ElfView) (board : Board) (g : Graph) (c : Code) (t : RegionTable) (q : Profile) (ms : List Transition) (pair o : ℕ) → Given view board g c t q ms → 1 ≤ pair → 2 * pair ≤ t.count → o < length g.objects.items → object_saves board.prices (object_of g o) (kept_counts q o pair) ≡ pos (side_energy (scene_of g c t board) (taken true []) ms) -ℤ pos (side_energy (scene_of g c t board) (taken true (KeptData pair o ∷ [])) ms)
+kept_gain_is one view board g c t q ms pair o given some within object =
+    let law = kept_counted one view board g c t q ms pair o given some within object in
+    omega (arith, ints, law)
+
+-- an object that is in the scratchpad throughout saves with overlay what it saves without
+
+abbrev touch_at : Scene → List Transition → Bool → ℕ → ℕ → ℕ
+touch_at w ms fast o i = touch w.board.prices fast (region_with w ms i) (StaticData o) (transition_at ms i).access
+
+no_jobs : (test : Bool) → ◌≡◌ {A = ℕ} (if test then 0 else 0) 0
+no_jobs true = refl
+no_jobs false = refl
+
+steps_static : (w : Scene) (ms : List Transition) (on : Bool) (o : ℕ) → Follows w ms → steps_energy w (taken on (StaticData o ∷ [])) ms + sum_below (touch_at w ms false o) (length ms) ≡ steps_energy w (taken on []) ms + sum_below (touch_at w ms true o) (length ms)
+steps_static w ms on o all =
+    let n = length ms in
+    let f = step_energy w (taken on (StaticData o ∷ [])) ms in
+    let g = step_energy w (taken on []) ms in
+    let slow = touch_at w ms false o in
+    let fast = touch_at w ms true o in
+    let same = sum_same (λ i. f i + slow i) (λ i. g i + fast i) n (λ i below.
+    let step = step_more w on (StaticData o) [] ms i all below tt in
+    let slow_is : slow_price w on ms (StaticData o) i ≡ slow i + 0 = refl in
+    let fast_is : fast_price w on ms (StaticData o) i ≡ fast i + 0 + (if changes w on ms i then 0 else 0) = refl in
+    let none = no_jobs (changes w on ms i) in
+    omega (arith, step, slow_is, fast_is, none)) in
+    let left = sum_two f slow n in
+    let right = sum_two g fast n in
+    omega (arith, same, left, right)
+
+pub static_object_same : OneInstruction → (view : ElfView) (board : Board) (g : Graph) (c : Code) (t : RegionTable) (q : Profile) (ms : List Transition) (o : ℕ) → Given view board g c t q ms → pos (side_energy (scene_of g c t board) (taken true []) ms) -ℤ pos (side_energy (scene_of g c t board) (taken true (StaticData o ∷ [])) ms) ≡ pos (side_energy (scene_of g c t board) (taken false []) ms) -ℤ pos (side_energy (scene_of g c t board) (taken false (StaticData o ∷ [])) ms)
+static_object_same one view board g c t q ms o given =
+    let w = scene_of g c t board in
+    let all = follows one view board g c t q ms given in
+    let on = steps_static w ms true o all in
+    let off = steps_static w ms false o all in
+    omega (arith, ints, on, off)
 
 -- ---- pieces
 

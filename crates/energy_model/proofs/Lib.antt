@@ -24,4 +24,5 @@ pub mod DisplacedLemmas
 pub mod OverlayCostLemmas
 pub mod SwitchLemmas
 pub mod GainLemmas
+pub mod GainBounds
 pub mod EnteringLemmas

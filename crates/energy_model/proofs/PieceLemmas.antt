@@ -20,7 +20,7 @@ use Rattle.block_splitter.specs.Pieces.{IsRange}
 use Rattle.energy_model.specs.declared.block_counts.BlockCounts.{BlockCounts}
 use Rattle.energy_model.specs.declared.block_counts.PieceSums.{PieceSums}
 use Rattle.energy_model.specs.Energy.{may_stay}
-use Rattle.energy_model.specs.Copied.{exit_words, leaving_words, arrivals_in, block_words, value_from, edge_in, leaving, sum_in, edge_words, stays_in, copied_words_of, stays_of, stayed, pending, values, edges_before}
+use Rattle.energy_model.specs.Copied.{exit_words, leaving_words, arrivals_in, block_words, value_from, edge_in, leaving, sum_in, edge_words, stays_in, copied_words_of, stays_of, stayed, pending, came_in, values, edges_before}
 use Rattle.energy_model.specs.Counts.{most_run, CountsCode, AreBlockCounts, AreEdgeStarts, AreListed, AreSums, AreTerms, AreAdded, AreFew}
 use Rattle.energy_model.proofs.CopyLemmas.{straight_stays}
 use Rattle.energy_model.proofs.EdgeLemmas.{values_length, values_at}
@@ -92,6 +92,13 @@ few_stays c g q range counts =
     let stopped = counts.few_pending range in
     let inside = if_small (holds_block q.last.0 range && may_stay (body_at c.blocks.items q.last.0).end) (sum_in range (pending c q) (length c.blocks.items)) in
     omega (arith, stays, arrived, stopped, inside)
+
+pub came_small : (c : Code) (g : Graph) (q : Profile) (range : BlockRange) → CountsCode c g q → came_in c q range ≤ 2 * most_run
+came_small c g q range counts =
+    let arrived = counts.arrived range in
+    let stopped = counts.few_pending range in
+    let inside = if_small (holds_block q.last.0 range && may_stay (body_at c.blocks.items q.last.0).end) (sum_in range (pending c q) (length c.blocks.items)) in
+    omega (arith, arrived, stopped, inside)
 
 pub few_stay : (c : Code) (g : Graph) (q : Profile) (range : BlockRange) (b : ℕ) → CountsCode c g q → holds_block b range ≡ true → b < length c.blocks.items → may_stay (body_at c.blocks.items b).end ≡ true → leaving q.edges.items b (stays_in range) ≤ 2 * most_run
 few_stay c g q range b counts held below may =

@@ -1,3 +1,4 @@
 pub mod AllowedLemmas
 pub mod Examples
 pub mod RegionExample
+pub mod SwitchPlans

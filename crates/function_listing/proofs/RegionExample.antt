@@ -1,13 +1,12 @@
 -- A plan with a region meets the conditions of its code: a stub by x5 that jumps to the copy of its entry, and a job that
 -- brings the copy's two words in.
-use Rattle.std.proofs.Common.{◌≡◌, inl, inr, ℕ, zero, suc, ◌+◌, ◌<◌, ◌≤◌, true, false, List, [], ◌∷◌, length, slice_index_or, refl, arith}
-use Rattle.std.specs.Prelude.{All}
+use Rattle.std.proofs.Common.{◌≡◌, inl, inr, ℕ, zero, suc, ◌<◌, false, List, [], ◌∷◌, length, slice_index_or, refl, arith}
 use Rattle.std.proofs.lemmas.List.{length-append}
 use Rattle.std.proofs.lemmas.List.Elements.{All-nil, All-cons}
 use Rattle.copy_jobs.specs.declared.job.CopyJob.{CopyJob}
 use Rattle.copy_jobs.specs.Jobs.{copying, IsJob}
 use Rattle.switch_routine.specs.Switching.{routine}
-use Rattle.overlay_stubs.specs.Start.{StartPlan, CanStart, Spares}
+use Rattle.overlay_stubs.specs.Start.{CanStart, Spares}
 use Rattle.overlay_stubs.specs.Serving.{ServingStub, jumps_to}
 use Rattle.overlay_stubs.specs.Overlay.{OverlayPlan, CanServe, CanMove, CanChange, CanHold, SparesWords}
 

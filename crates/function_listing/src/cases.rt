@@ -106,6 +106,12 @@ impl Case {
         self.spec.sections.last_mut().context("no section")
     }
 
+    /// Takes words of the last section.
+    pub(crate) fn take_words(&mut self, words: &[u32]) -> Result<()> {
+        push_words(&mut self.last_section()?.bytes, words)?;
+        Ok(())
+    }
+
     /// Takes a line of a file: its `entry`, a `section`, `words`, relocations (`reloc`) and the size in memory of the last section
     /// where it is `empty`, a `symbol`, a byte `behind` all of the file, or the `input` of its runs.
     pub(crate) fn take_line(&mut self, alloc: Global, key: &str, rest: &str) -> Result<()> {
@@ -117,7 +123,7 @@ impl Case {
             "behind" => self.behind.push((number(rest)? % 256) as u8)?,
             "words" => {
                 let words = numbers(alloc, rest)?;
-                push_words(&mut self.last_section()?.bytes, &words)?;
+                self.take_words(&words)?;
             }
             "empty" => self.last_section()?.empty = number(rest)?,
             "reloc" => {

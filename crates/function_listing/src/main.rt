@@ -1,11 +1,13 @@
 //! Lists what functions give for lines of text: functions on words, instructions, values and sorted numbers; the machines
-//! and the writer, of files that are built of text; the code of stubs.
+//! and the writer, of files that are built of text; the code of stubs; switches between regions.
 #![tactic(auto)]
 
 mod cases;
 mod machines;
 mod numbers;
 mod stub_plans;
+mod switch_plans;
+mod switch_runs;
 mod values;
 mod words;
 mod writing;
@@ -44,6 +46,8 @@ fn tell_case(
 ) -> Result<()> {
     match key {
         "built" => case.tell_built(rt, rest),
+        "code" => case.take_words(&switch_plans::code_words(rt, rest)?),
+        "switches" => switch_runs::tell_switches(rt, case, rest),
         "flat" => machines::tell_flat(rt, case, rest),
         "object" => machines::tell_object(rt, case, rest),
         "write" => writing::tell_written(rt, case, rest),

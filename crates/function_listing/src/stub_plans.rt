@@ -186,10 +186,21 @@ fn plan_of_region(alloc: Global) -> Result<StubPlan, AllocError>
     })
 }
 
-/// Tells the words of the patch range, and where the parts stand.
-fn tell_code(rt: &impl Print, text: &str, code: &StubCode, sizes: StubSizes) -> Result<()> {
+/// Tells where the parts of the patch range stand, and how many bytes they take.
+pub(crate) fn tell_places(
+    rt: &impl Print,
+    text: &str,
+    code: &StubCode,
+    sizes: StubSizes,
+) -> Result<()> {
     println!(rt; "stub of {text} at {:#x}, {:?}", code.start, sizes)?;
     println!(rt; "  stubs {:?}, images {:?}", code.stub_at, code.image_at)?;
+    Ok(())
+}
+
+/// Tells that, and the words.
+fn tell_code(rt: &impl Print, text: &str, code: &StubCode, sizes: StubSizes) -> Result<()> {
+    tell_places(rt, text, code, sizes)?;
     for word in &code.words {
         println!(rt; "  {word:#010x}")?;
     }

@@ -11,6 +11,8 @@ pub mod PieceLemmas
 pub mod WholeLemmas
 pub mod CandidateLemmas
 pub mod WholeChoices
+pub mod SitedLemmas
+pub mod FoundLemmas
 pub mod OverlayRowLemmas
 pub mod PieceRegionLemmas
 pub mod OverlayVarLemmas

@@ -22,7 +22,7 @@ numbers test n = collected test (λ k. k) n
 abbrev pub number_at : List ℕ → ℕ → ℕ
 number_at ns k = slice_index_or ns k 0
 
-record AreNumbers (test : ℕ → Bool) (bound : ℕ) (ns : List ℕ) : Type 0 where
+pub record AreNumbers (test : ℕ → Bool) (bound : ℕ) (ns : List ℕ) : Type 0 where
   pub below : (k : ℕ) → k < length ns → number_at ns k < bound
   pub passes : (k : ℕ) → k < length ns → test (number_at ns k) ≡ true
   pub ordered : (j k : ℕ) → j < k → k < length ns → number_at ns j < number_at ns k
@@ -73,7 +73,7 @@ pub cases_bool : (b : Bool) → (b ≡ true) ⊎ (b ≡ false)
 cases_bool true = inl refl
 cases_bool false = inr refl
 
-are_numbers : (test : ℕ → Bool) (n : ℕ) → AreNumbers test n (numbers test n)
+pub are_numbers : (test : ℕ → Bool) (n : ℕ) → AreNumbers test n (numbers test n)
 are_numbers test zero =
     record {
       below = λ k below. absurd (omega (arith, below));

@@ -3,6 +3,7 @@ pub use Rattle.placement_programme.specs.Views
 pub use Rattle.energy_model.specs.Scenes
 pub mod Stated
 pub mod Overlaid
+pub mod Found
 pub mod Counted
 pub mod Selected
 pub mod Adding

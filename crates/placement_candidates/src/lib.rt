@@ -2,7 +2,9 @@
 #![tactic(auto)]
 
 mod adding;
+mod border_registers;
 mod counting;
+mod finding;
 mod measured;
 mod objects;
 mod overlaid_vars;
@@ -12,12 +14,14 @@ mod overlay_rows;
 mod piece_regions;
 mod pieces;
 mod ranking;
+mod region_sites;
 mod selecting;
 mod stating;
 mod whole_side;
 
 pub use adding::{energy_adds_up, off_side_stays, overlay_adds_up, whole_energy_is_of_the_run};
 pub use counting::full;
+pub use finding::overlaid_objects;
 pub use measured::Measured;
 pub use selecting::select;
 pub use stating::programme;

@@ -15,8 +15,10 @@ use Rattle.object_graph.specs.declared.parts.DataWord.{DataWord}
 use Rattle.object_graph.specs.declared.parts.Graph.{Graph}
 use Rattle.object_graph.specs.Graphs.{same_part, same_site, is_site_of_list, gives_site}
 use Rattle.object_graph.specs.Lookups.{IsSomeGraph}
+use Rattle.code_blocks.specs.Leads.{IsBlockOf}
 use Rattle.code_blocks.specs.declared.parts.Code.{Code}
 use Rattle.points_to.specs.Points.{site_at, unit_of, instr_of, site_of, Makes, Fact, Held, Escaped, Derives}
+use Rattle.points_to.proofs.CompleteLemmas.{unit_in_block}
 use Rattle.points_to.proofs.SiteLemmas.{true_and, word_inside}
 
 same_part_itself : (kind : SiteKind) → same_part kind kind ≡ true
@@ -89,3 +91,19 @@ of_register c g o _ (Derives.word d there means) = tt
 of_register c g o _ (Derives.keep b k x inside kept before) = of_register c g o (Held b k x) before
 of_register c g o _ (Derives.next b d x on before) = of_register c g o (Held b _ x) before
 of_register c g o _ (Derives.anywhere b d x on before) = of_register c g o (Held b _ x) before
+
+-- nor of blocks that there aren't
+abbrev IsOfBlock : Code → Fact → Type 0
+IsOfBlock c (Held b k x) = IsBlockOf c b
+IsOfBlock c Escaped = Unit
+
+pub of_block : (c : Code) (g : Graph) (o : ℕ) (fact : Fact) → Derives c g o fact → IsOfBlock c fact
+of_block c g o _ (Derives.site b k x inside holder makes) = unit_in_block c b k inside
+of_block c g o _ (Derives.move b k x z inside holder moves before) = unit_in_block c b k inside
+of_block c g o _ (Derives.sum b k x z inside holder sums before) = unit_in_block c b k inside
+of_block c g o _ (Derives.store b k x inside stores before) = tt
+of_block c g o _ (Derives.load b k z inside holder loads escaped) = unit_in_block c b k inside
+of_block c g o _ (Derives.word d there means) = tt
+of_block c g o _ (Derives.keep b k x inside kept before) = unit_in_block c b k inside
+of_block c g o _ (Derives.next b d x on before) = on.to
+of_block c g o _ (Derives.anywhere b d x on before) = on.to

@@ -153,9 +153,10 @@ begun_more first k w marks inside one begins =
       ];
     }
 
-pub one_bit : (m k : ℕ) → m < 64 → HasMark (1 * 2 ^ m % 2 ^ 64) k ↔ (k ≡ m)
-one_bit m k low =
-    let e : 1 * 2 ^ m % 2 ^ 64 ≡ 2 ^ m = one_shl m 64 low in (
+-- a word of one mark, in any width
+pub one_bit : (width m k : ℕ) → m < width → HasMark (1 * 2 ^ m % 2 ^ width) k ↔ (k ≡ m)
+one_bit width m k low =
+    let e : 1 * 2 ^ m % 2 ^ width ≡ 2 ^ m = one_shl m width low in (
       λ has. elim (cases_eq k m) [
         | inl same ↦ same
         | inr other ↦

@@ -12,3 +12,4 @@ pub mod FactLemmas
 pub mod QueryLemmas
 pub mod SweepLemmas
 pub mod OverlaidLemmas
+pub mod AskedLemmas

@@ -1,10 +1,10 @@
 -- An object that does not escape has no word of data.
-use Rattle.std.proofs.Common.{◌≡◌, inl, inr, ℕ, ◌==◌, true, false, List, [], ◌∷◌, refl, arith}
+use Rattle.std.proofs.Common.{◌≡◌, inl, inr, ℕ, ◌==◌, false, List, [], ◌∷◌, refl, arith}
 use Rattle.std.specs.List.{Contains, list_any}
 use Rattle.std.proofs.lemmas.Bool.{cases_eq}
 use Rattle.std.proofs.lemmas.Bool.Decides.{nat_tests}
 use Rattle.object_graph.specs.declared.parts.DataWord.{DataWord}
-use Rattle.points_to.specs.Points.{Derives, word}
+use Rattle.points_to.specs.Points.{word}
 use Rattle.points_to.specs.Overlaid.{word_means, WordsEscape}
 use Rattle.points_to.proofs.BlockLemmas.{in_rest, in_first}
 

@@ -9,3 +9,4 @@ pub mod Flows
 pub mod Nodes
 pub mod Sweeps
 pub mod Tables
+pub mod Asked

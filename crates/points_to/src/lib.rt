@@ -2,6 +2,7 @@
 //! stand in memory.
 #![tactic(auto)]
 
+mod asked;
 mod blocks;
 mod edges;
 mod flows;

@@ -1,4 +1,4 @@
-ghost use Rattle.std.specs.Prelude.{◌≡◌, ◌+◌, ◌<◌, ◌↔◌, ℕ, List, OnOk, IsTrue};
+ghost use Rattle.std.specs.Prelude.{◌≡◌, ◌⊎◌, ◌+◌, ◌<◌, ◌↔◌, ℕ, List, OnOk, IsTrue};
 ghost use Rattle.reach_graph.specs.Reaching.{HasMark, word_at};
 ghost use Rattle.points_to.specs.Tables.{AreKept};
 
@@ -35,4 +35,11 @@ pub(crate) fn one_mark(mark: u32) -> u64
     ensures { (k : ℕ) → HasMark result k ↔ (k ≡ mark) }
 {
     1 << mark
+}
+
+/// The marks of both words.
+pub(crate) fn joined(first: u64, second: u64) -> u64
+    ensures { (k : ℕ) → HasMark result k ↔ (HasMark first k ⊎ HasMark second k) }
+{
+    first | second
 }

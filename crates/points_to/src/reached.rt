@@ -1,8 +1,10 @@
 ghost use Rattle.std.specs.Prelude.{◌≡◌, length};
 ghost use Rattle.std.specs.List.Sorted.{IsStrictlyIncreasing};
 
+use crate::asked::with_asked;
 use crate::marks::{has_mark, keep};
 use crate::nodes::Nodes;
+use rv_decode::RegSet;
 use std::alloc::{AllocError, Global};
 
 /// Which marks reached the registers at the beginning of blocks, and memory.
@@ -19,10 +21,11 @@ pub struct Reached {
 }
 
 impl Reached {
-    ghost use Rattle.std.specs.Prelude.{◌≡◌, ◌<◌, ◌↔◌, length, IfOk, IsTrue};
+    ghost use Rattle.std.specs.Prelude.{◌≡◌, ◌<◌, ◌↔◌, ℕ, length, IfOk, IsTrue};
     ghost use Rattle.reach_graph.specs.Reaching.{HasMark};
     ghost use Rattle.points_to.specs.Nodes.{node_count};
     ghost use Rattle.points_to.specs.Tables.{plain, kept_word, Keeps};
+    ghost use Rattle.points_to.specs.Asked.{ReachedAsked};
 
     /// What is kept of the marks of all nodes.
     pub(crate) fn of(alloc: Global, nodes: Nodes, marks: &[u64]) -> Result<Reached, AllocError>
@@ -59,5 +62,16 @@ impl Reached {
         ensures { IsTrue result ↔ HasMark self.now.memory mark }
     {
         has_mark(self.memory, mark)
+    }
+
+    /// The marks that reached a register that is asked of its block.
+    pub(crate) fn marks_of(&self, asked: &[RegSet]) -> u64
+        ensures { (k : ℕ) → HasMark result k ↔ ReachedAsked asked.now (plain self.now) k }
+    {
+        let mut marks = 0;
+        for place in 0..self.nodes.len() {
+            marks = with_asked(marks, asked, self.nodes[place], self.words[place]);
+        }
+        marks
     }
 }

@@ -7,7 +7,6 @@ use Rattle.std.proofs.lemmas.List.Elements.{All-weaker}
 use Rattle.std.proofs.lemmas.List.Folds.{list_any_at}
 use Rattle.list_checks.specs.Sorted.{collected}
 use Rattle.list_checks.proofs.TestLemmas.{any_at}
-use Rattle.code_leaders.specs.Early.{has}
 use Rattle.code_blocks.specs.Numbers.{start_at}
 use Rattle.code_blocks.specs.declared.parts.Code.{Code}
 use Rattle.object_graph.specs.declared.parts.Graph.{Graph}

@@ -15,7 +15,7 @@ use Rattle.block_splitter.specs.Pieces.{IsCopied, IsPiece, ArePieces, range_of}
 use Rattle.block_splitter.proofs.CopySizeLemmas.{range_is, held}
 use Rattle.cell_values.specs.Objects.{objects_of, datum_of}
 use Rattle.placement_programme.specs.declared.variables.VarName.{VarName}
-use Rattle.placement_programme.specs.declared.variables.VarName.TheVariants.{StaticData, StaticCode, OverlayData, OverlayCode}
+use Rattle.placement_programme.specs.declared.variables.VarName.TheVariants.{StaticData, StaticCode, OverlayData, OverlayCode, KeptData}
 use Rattle.placement_programme.specs.Plain.{PlainVar, PlainProgramme, PlainChoice}
 use Rattle.placement_programme.specs.Bounds.{AscendWithin}
 use Rattle.placement_programme.specs.Programme.{weight_in, weight_at, load_in, Fits, side_for, IsFeasible}
@@ -23,11 +23,12 @@ use Rattle.placement_programme.specs.Rows.{Part, static_data, static_code, in_ro
 use Rattle.relocator.specs.declared.items.Item.{Item}
 use Rattle.relocator.specs.Slots.{region_of, no_var, name_at, item_at, items_in, vars_for, items_of}
 use Rattle.relocator.proofs.WeightLemmas.{weights_same}
+use Rattle.relocator.proofs.OwnLemmas.{two_summed}
 use Rattle.result_setups.specs.Placing.{spans, AreTwo}
 use Rattle.relink_core.specs.Faults.{least_patch}
 use Rattle.relink_core.specs.Choices.{static_layout, IsPartOf, IsStaticVar, of_object, of_piece, ComesBefore, IsStaticChoice}
 use Rattle.relink_core.specs.Static.{objects_named, ranges_named, names_taken, object_name, range_name, IsStaticName, range_bytes, range_span, entries_in, range_patch, name_span, name_patch, range_holds, name_holds, named_item, static_items}
-use Rattle.relink_core.proofs.StaticNames.{all_left, all_right, pairs_left, pairs_right, all_of_map, pairs_of_map, sum_map, map_twice, two_summed, split_names}
+use Rattle.relink_core.proofs.StaticNames.{all_left, all_right, pairs_left, pairs_right, all_of_map, pairs_of_map, sum_map, map_twice, split_names}
 
 -- ---- weights
 
@@ -147,6 +148,7 @@ static_region g c (StaticData o) good = refl
 static_region g c (StaticCode first last) good = refl
 static_region g c (OverlayData region o) good = absurd good
 static_region g c (OverlayCode region first last) good = absurd good
+static_region g c (KeptData pair o) good = absurd good
 
 item_is : (g : Graph) (c : Code) (vars : List PlainVar) (k : ℕ) → IsNamed g c vars k → item_at vars k ≡ named_item g c (name_at vars k)
 item_is g c vars k is =

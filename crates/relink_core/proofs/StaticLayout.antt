@@ -9,7 +9,7 @@ use Rattle.block_splitter.specs.declared.block_range.BlockRange.{BlockRange}
 use Rattle.cell_values.specs.Objects.{objects_of, datum_of}
 use Rattle.cell_values.specs.Stands.{Fit}
 use Rattle.placement_programme.specs.declared.variables.VarName.{VarName}
-use Rattle.placement_programme.specs.declared.variables.VarName.TheVariants.{StaticData, StaticCode, OverlayData, OverlayCode}
+use Rattle.placement_programme.specs.declared.variables.VarName.TheVariants.{StaticData, StaticCode, OverlayData, OverlayCode, KeptData}
 use Rattle.placement_programme.specs.Plain.{PlainVar, PlainSide, PlainProgramme, PlainChoice}
 use Rattle.placement_programme.specs.Programme.{weight_in, side_for}
 use Rattle.placement_programme.specs.Rows.{Layout, Candidate, static_data, static_code, off_capacities}
@@ -60,6 +60,7 @@ before_none (StaticCode first last) before = elim before [
 ]
 before_none (OverlayData region o) before = elim before [ ]
 before_none (OverlayCode region first last) before = elim before [ ]
+before_none (KeptData pair o) before = elim before [ ]
 
 not_before : (one other : VarName) → ComesBefore one other → one ≡ other → ⊥
 not_before one other before same =

@@ -1,5 +1,5 @@
 -- Names of static items stand for objects, and behind them for pieces of code.
-use Rattle.std.proofs.Common.{◌≡◌, ◌∙◌, ℕ, zero, suc, ◌+◌, ◌<◌, ◌≤◌, List, [], ◌∷◌, ◌++◌, map, length, get_or, refl, sym, ap, subst, arith}
+use Rattle.std.proofs.Common.{◌≡◌, ◌∙◌, ℕ, suc, ◌+◌, List, [], ◌∷◌, ◌++◌, map, length, get_or, refl, sym, ap, subst, arith}
 use Rattle.std.specs.List.{All, AllPairs, sum_by}
 use Rattle.std.proofs.lemmas.List.{length-append, length-map, get_or-map, get_or_append_left, get_or-append-add}
 use Rattle.std.proofs.lemmas.List.Elements.{All-head, All-tail}
@@ -7,7 +7,7 @@ use Rattle.std.proofs.lemmas.List.Sums.{sum_by-cons}
 use Rattle.object_graph.specs.declared.parts.Graph.{Graph}
 use Rattle.code_blocks.specs.declared.parts.Code.{Code}
 use Rattle.placement_programme.specs.declared.variables.VarName.{VarName}
-use Rattle.placement_programme.specs.declared.variables.VarName.TheVariants.{StaticData, StaticCode, OverlayData, OverlayCode}
+use Rattle.placement_programme.specs.declared.variables.VarName.TheVariants.{StaticData, StaticCode, OverlayData, OverlayCode, KeptData}
 use Rattle.relink_core.specs.Choices.{ComesBefore}
 use Rattle.relink_core.specs.Static.{objects_named, ranges_named, object_name, range_name, IsStaticName}
 
@@ -61,27 +61,6 @@ sum_same {X} f h [] same = refl
 sum_same {X} f h (x ∷ xs) same =
     sum_by-cons f x xs ∙ (λ i. same x i + sum_same f h xs same i) ∙ sym (sum_by-cons h x xs)
 
--- two elements of a list are summed
-pub two_summed : {X : Type 0} (f : X → ℕ) (xs : List X) (i j : ℕ) (d : X) → i < j → j < length xs → f (get_or xs i d) + f (get_or xs j d) ≤ sum_by f xs
-two_summed {X} f [] i j d before below = absurd (omega (arith, below))
-two_summed {X} f (x ∷ xs) i zero d before below = absurd (omega (arith, before))
-two_summed {X} f (x ∷ xs) zero (suc j) d before below =
-    let whole = sum_by-cons f x xs in
-    let one = one_summed f xs j d (omega (arith, below)) in
-    omega (arith, whole, one)
-  where
-    one_summed : {X : Type 0} (f : X → ℕ) (xs : List X) (j : ℕ) (d : X) → j < length xs → f (get_or xs j d) ≤ sum_by f xs
-    one_summed {X} f [] j d below = absurd (omega (arith, below))
-    one_summed {X} f (x ∷ xs) zero d below = let whole = sum_by-cons f x xs in omega (arith, whole)
-    one_summed {X} f (x ∷ xs) (suc j) d below =
-        let whole = sum_by-cons f x xs in
-        let rest = one_summed f xs j d (omega (arith, below)) in
-        omega (arith, whole, rest)
-two_summed {X} f (x ∷ xs) (suc i) (suc j) d before below =
-    let whole = sum_by-cons f x xs in
-    let rest = two_summed f xs i j d (omega (arith, before)) (omega (arith, below)) in
-    omega (arith, whole, rest)
-
 -- ---- names
 
 -- behind a piece no object is named
@@ -90,12 +69,14 @@ IsOfCode (StaticData object) = ⊥
 IsOfCode (StaticCode first last) = Unit {0}
 IsOfCode (OverlayData region object) = ⊥
 IsOfCode (OverlayCode region first last) = ⊥
+IsOfCode (KeptData pair object) = ⊥
 
 behind_code : (first last : ℕ) (n : VarName) → ComesBefore (StaticCode first last) n → IsOfCode n
 behind_code first last (StaticData object) before = before
 behind_code first last (StaticCode other_first other_last) before = tt
 behind_code first last (OverlayData region object) before = before
 behind_code first last (OverlayCode region other_first other_last) before = before
+behind_code first last (KeptData pair object) before = before
 
 none_named : (names : List VarName) → All IsOfCode names → objects_named names ≡ []
 none_named [] all = refl
@@ -103,6 +84,7 @@ none_named (StaticData object ∷ ns) all = absurd (All-head IsOfCode (StaticDat
 none_named (StaticCode first last ∷ ns) all = none_named ns (All-tail IsOfCode (StaticCode first last) ns all)
 none_named (OverlayData region object ∷ ns) all = absurd (All-head IsOfCode (OverlayData region object) ns all)
 none_named (OverlayCode region first last ∷ ns) all = absurd (All-head IsOfCode (OverlayCode region first last) ns all)
+none_named (KeptData pair object ∷ ns) all = absurd (All-head IsOfCode (KeptData pair object) ns all)
 
 pub later_pairs : {X : Type 0} (R : X → X → Type 0) (x : X) (xs : List X) → AllPairs R (x ∷ xs) → AllPairs R xs
 later_pairs {X} R x xs pairs = λ i j d before below. pairs (suc i) (suc j) d (omega (arith, before)) (omega (arith, below))
@@ -125,3 +107,4 @@ split_names g c (StaticCode first last ∷ ns) good ordered =
     ∙ ap (λ (os : List ℕ). map object_name os ++ StaticCode first last ∷ map range_name (ranges_named ns)) (sym none)
 split_names g c (OverlayData region object ∷ ns) good ordered = absurd (All-head (IsStaticName g c) (OverlayData region object) ns good)
 split_names g c (OverlayCode region first last ∷ ns) good ordered = absurd (All-head (IsStaticName g c) (OverlayCode region first last) ns good)
+split_names g c (KeptData pair object ∷ ns) good ordered = absurd (All-head (IsStaticName g c) (KeptData pair object) ns good)

@@ -9,7 +9,7 @@ use Rattle.block_splitter.specs.Forms.{is_site, holds_block, copy_words}
 use Rattle.block_splitter.specs.Pieces.{is_entry, IsCopied}
 use Rattle.cell_values.specs.Objects.{datum_of}
 use Rattle.placement_programme.specs.declared.variables.VarName.{VarName}
-use Rattle.placement_programme.specs.declared.variables.VarName.TheVariants.{StaticData, StaticCode, OverlayData, OverlayCode}
+use Rattle.placement_programme.specs.declared.variables.VarName.TheVariants.{StaticData, StaticCode, OverlayData, OverlayCode, KeptData}
 use Rattle.placement_programme.specs.Rows.{rounded_up, data_span, job_bytes}
 use Rattle.board_config.specs.declared.board.Board.{Board}
 use Rattle.block_splitter.specs.Copies.{Patch}
@@ -27,12 +27,14 @@ object_in (StaticData object) = Some object
 object_in (StaticCode first last) = None
 object_in (OverlayData region object) = None
 object_in (OverlayCode region first last) = None
+object_in (KeptData pair object) = None
 
 abbrev pub range_in : VarName → Option BlockRange
 range_in (StaticData object) = None
 range_in (StaticCode first last) = Some (record { first = first; last = last })
 range_in (OverlayData region object) = None
 range_in (OverlayCode region first last) = None
+range_in (KeptData pair object) = None
 
 -- the objects and the ranges of blocks that are named, in order
 abbrev pub objects_named : List VarName → List ℕ
@@ -58,6 +60,7 @@ IsStaticName g c (StaticData object) = object < length g.objects.items
 IsStaticName g c (StaticCode first last) = IsCopied c g (record { first = first; last = last })
 IsStaticName g c (OverlayData region object) = ⊥
 IsStaticName g c (OverlayCode region first last) = ⊥
+IsStaticName g c (KeptData pair object) = ⊥
 
 -- ---- sizes
 
@@ -82,12 +85,14 @@ name_span g c (StaticData object) = data_span g.grain (datum_of g object)
 name_span g c (StaticCode first last) = range_span g c (record { first = first; last = last })
 name_span g c (OverlayData region object) = 0
 name_span g c (OverlayCode region first last) = 0
+name_span g c (KeptData pair object) = 0
 
 abbrev pub name_patch : Graph → Code → VarName → ℕ
 name_patch g c (StaticData object) = job_bytes
 name_patch g c (StaticCode first last) = range_patch g c (record { first = first; last = last })
 name_patch g c (OverlayData region object) = 0
 name_patch g c (OverlayCode region first last) = 0
+name_patch g c (KeptData pair object) = 0
 
 -- how often a name's item copies block `b`
 abbrev pub range_holds : ℕ → BlockRange → ℕ
@@ -98,6 +103,7 @@ name_holds b (StaticData object) = 0
 name_holds b (StaticCode first last) = range_holds b (record { first = first; last = last })
 name_holds b (OverlayData region object) = 0
 name_holds b (OverlayCode region first last) = 0
+name_holds b (KeptData pair object) = 0
 
 -- ---- items
 

@@ -16,8 +16,10 @@ fn object_in(name: VarName) -> Option<u32>
 {
     match name {
         VarName::StaticData { object } => Some(object),
-        VarName::StaticCode { .. } | VarName::OverlayData { .. } | VarName::OverlayCode { .. } =>
-            None,
+        VarName::StaticCode { .. }
+        | VarName::OverlayData { .. }
+        | VarName::OverlayCode { .. }
+        | VarName::KeptData { .. } => None,
     }
 }
 
@@ -27,8 +29,10 @@ fn range_in(name: VarName) -> Option<BlockRange>
 {
     match name {
         VarName::StaticCode { first, last } => Some(BlockRange { first, last }),
-        VarName::StaticData { .. } | VarName::OverlayData { .. } | VarName::OverlayCode { .. } =>
-            None,
+        VarName::StaticData { .. }
+        | VarName::OverlayData { .. }
+        | VarName::OverlayCode { .. }
+        | VarName::KeptData { .. } => None,
     }
 }
 

@@ -19,6 +19,7 @@ table_layout g board = record {
   scratchpad = board.spm.size;
   patch = 65536;
   fence_i = false;
+  twins = false;
   blocks = 0;
   objects = length g.objects.items;
   regions = 0;

@@ -49,7 +49,7 @@ are_laid v g regions board p c region laid can =
     }
 
 -- two slots of what is present
-two_disjoint : (region : ℕ) (slots : List Slot) (k l : ℕ) → AllPairs (AreDisjointIn region) slots → k ≢ l → k < length slots → l < length slots → IsPresent region (slot_at slots k) → IsPresent region (slot_at slots l) → AreDisjoint (slot_at slots k) (slot_at slots l)
+two_disjoint : (region : ℕ) (slots : List Slot) (k l : ℕ) → AllPairs (AreDisjointIn region) slots → k ≢ l → k < length slots → l < length slots → IsPresent region (slot_at slots k).name → IsPresent region (slot_at slots l).name → AreDisjoint (slot_at slots k) (slot_at slots l)
 two_disjoint region slots k l disjoint other below below_too here there =
     elim (cases_lt k l) [
       | inl before ↦ disjoint k l no_slot before below_too here there
@@ -167,7 +167,7 @@ module _ (v : PlainView) (g : Graph) (regions : ℕ) (board : Board) (region : �
   pub fits : Fit (objects_of g) place
   fits = record { grain = are.grain; congruent = congruent; positive = positive; below = below; disjoint = disjoint }
 
-  pub off_code : (k o i j : ℕ) → k < length slots → is_code (slot_at slots k).name ≡ true → IsPresent region (slot_at slots k) → i < (object_of g o).size → j < (slot_at slots k).span → place o + i ≡ (slot_at slots k).at + j → ⊥
+  pub off_code : (k o i j : ℕ) → k < length slots → is_code (slot_at slots k).name ≡ true → IsPresent region (slot_at slots k).name → i < (object_of g o).size → j < (slot_at slots k).span → place o + i ≡ (slot_at slots k).at + j → ⊥
   off_code k o i j inside_list code present inside inside_span same = elim (where_is o) [
     | inl moved ↦
         let m : ℕ = moved.0 in
@@ -198,4 +198,4 @@ objects_off_code_slots v g regions board p c region laid can k d below code pres
     let off = off_code v g regions board region slots laid (are_laid v g regions board p c region laid can) k in
     subst (λ (s : Slot). AreObjectsOff g (place_of g board p c region) s.at s.span) same
     (λ o i j inside inside_span equal.
-    off o i j below (subst (λ (s : Slot). is_code s.name ≡ true) (sym same) code) (subst (λ (s : Slot). IsPresent region s) (sym same) present) inside inside_span equal)
+    off o i j below (subst (λ (s : Slot). is_code s.name ≡ true) (sym same) code) (subst (λ (s : Slot). IsPresent region s.name) (sym same) present) inside inside_span equal)

@@ -1,13 +1,13 @@
 -- Slots begin at multiples of the grain.
-use Rattle.std.proofs.Common.{◌≡◌, ◌∙◌, inl, inr, ℕ, zero, suc, ◌+◌, ◌*◌, ◌/◌, ◌%◌, ◌==◌, if◌then◌else◌, true, false, List, [], ◌∷◌, ap, arith}
+use Rattle.std.proofs.Common.{◌≡◌, ◌∙◌, inl, inr, ℕ, ◌+◌, ◌*◌, ◌/◌, ◌%◌, ◌==◌, if◌then◌else◌, true, false, List, [], ◌∷◌, ap, arith}
 use Rattle.std.specs.List.{All}
 use Rattle.std.proofs.Math.Nat.{add-mul, mul-add-mod_self_right, mod-mod, mod-add-div'}
-use Rattle.std.proofs.lemmas.Bool.{cases_eq}
+use Rattle.std.proofs.lemmas.Bool.{cases_eq, cond_both}
 use Rattle.std.proofs.lemmas.Bool.Decides.{nat_tests}
 use Rattle.std.proofs.lemmas.List.Elements.{All-nil, All-cons, All-head, All-tail}
 use Rattle.relocator.specs.declared.items.Item.{Item}
 use Rattle.relocator.specs.declared.slots.Slot.{Slot}
-use Rattle.relocator.specs.Slots.{region_of, bytes_in, moved_on, slots_from, first_slots, slots_of}
+use Rattle.relocator.specs.Slots.{pair_lane, lane_of, pair_of, bytes_in, moved_on, slots_from, first_slots, slots_of}
 
 -- so many multiples of the grain
 abbrev pub IsTimes : ℕ → ℕ → Type 0
@@ -36,37 +36,41 @@ same_low grain at home times =
 abbrev AllTimes : ℕ → List Item → Type 0
 AllTimes grain items = All (λ i. IsTimes grain i.span) items
 
-span_if : (grain : ℕ) (i : Item) (r : ℕ) → IsTimes grain i.span → IsTimes grain (if region_of i.name == r then i.span else 0)
-span_if grain i r times = elim (cases_eq (region_of i.name) r) [
-  | inl same ↦ let is : (region_of i.name == r) ≡ true = grind (arith, nat_tests, same) in rw is times
-  | inr other ↦ let is : (region_of i.name == r) ≡ false = grind (arith, nat_tests, other) in rw is (none_times grain)
+span_if : (grain : ℕ) (i : Item) (r : ℕ) → IsTimes grain i.span → IsTimes grain (if lane_of i.name == r then i.span else 0)
+span_if grain i r times = elim (cases_eq (lane_of i.name) r) [
+  | inl same ↦ let is : (lane_of i.name == r) ≡ true = grind (arith, nat_tests, same) in rw is times
+  | inr other ↦ let is : (lane_of i.name == r) ≡ false = grind (arith, nat_tests, other) in rw is (none_times grain)
 ]
 
 bytes_times : (grain r : ℕ) (items : List Item) → AllTimes grain items → IsTimes grain (bytes_in r items)
 bytes_times grain r [] all = none_times grain
 bytes_times grain r (i ∷ is) all =
-    sum_times grain (if region_of i.name == r then i.span else 0) (bytes_in r is)
+    sum_times grain (if lane_of i.name == r then i.span else 0) (bytes_in r is)
     (span_if grain i r (All-head (λ (j : Item). IsTimes grain j.span) i is all))
     (bytes_times grain r is (All-tail (λ (j : Item). IsTimes grain j.span) i is all))
 
 moved_times : (grain : ℕ) (next : ℕ → ℕ) (i : Item) → ((r : ℕ) → IsTimes grain (next r)) → IsTimes grain i.span → (r : ℕ) → IsTimes grain (moved_on next i r)
 unfolding moved_on
-moved_times grain next i all times r = elim (cases_eq (region_of i.name) r) [
-  | inl same ↦ let is : (region_of i.name == r) ≡ true = grind (arith, nat_tests, same) in rw is (sum_times grain (next r) i.span (all r) times)
-  | inr other ↦ let is : (region_of i.name == r) ≡ false = grind (arith, nat_tests, other) in rw is (all r)
+moved_times grain next i all times r = elim (cases_eq (lane_of i.name) r) [
+  | inl same ↦ let is : (lane_of i.name == r) ≡ true = grind (arith, nat_tests, same) in rw is (sum_times grain (next r) i.span (all r) times)
+  | inr other ↦ let is : (lane_of i.name == r) ≡ false = grind (arith, nat_tests, other) in rw is (all r)
 ]
 
 slots_times_from : (grain : ℕ) (next : ℕ → ℕ) (items : List Item) → ((r : ℕ) → IsTimes grain (next r)) → AllTimes grain items → All (λ s. IsTimes grain s.at) (slots_from next items)
 slots_times_from grain next [] first all = All-nil (λ (s : Slot). IsTimes grain s.at)
 slots_times_from grain next (i ∷ is) first all =
-    All-cons (λ (s : Slot). IsTimes grain s.at) (record { name = i.name; at = next (region_of i.name); span = i.span }) (slots_from (moved_on next i) is)
-    (first (region_of i.name))
+    All-cons (λ (s : Slot). IsTimes grain s.at) (record { name = i.name; at = next (lane_of i.name); span = i.span }) (slots_from (moved_on next i) is)
+    (first (lane_of i.name))
     (slots_times_from grain (moved_on next i) is (moved_times grain next i first (All-head (λ (j : Item). IsTimes grain j.span) i is all)) (All-tail (λ (j : Item). IsTimes grain j.span) i is all))
 
-first_times : (grain base : ℕ) (items : List Item) → IsTimes grain base → AllTimes grain items → (r : ℕ) → IsTimes grain (first_slots base items r)
+first_times : (grain base : ℕ) (items : List Item) → IsTimes grain base → AllTimes grain items → (lane : ℕ) → IsTimes grain (first_slots base items lane)
 unfolding first_slots
-first_times grain base items times all zero = times
-first_times grain base items times all (suc r) = sum_times grain base (bytes_in 0 items) times (bytes_times grain 0 items all)
+first_times grain base items times all lane =
+    let behind = sum_times grain base (bytes_in 0 items) times (bytes_times grain 0 items all) in
+    let kept = pair_lane (pair_of (lane / 2)) in
+    cond_both _ _ _ (λ n. IsTimes grain n) (λ start. times) (λ rest.
+    sum_times grain (base + bytes_in 0 items) (if lane % 2 == 0 then bytes_in kept items else 0) behind
+    (cond_both _ _ _ (λ n. IsTimes grain n) (λ even. bytes_times grain kept items all) (λ odd. none_times grain)))
 
 pub slots_times : (grain base : ℕ) (items : List Item) → IsTimes grain base → AllTimes grain items → All (λ s. IsTimes grain s.at) (slots_of base items)
 slots_times grain base items times all = slots_times_from grain (first_slots base items) items (first_times grain base items times all) all

@@ -1,13 +1,14 @@
 -- The items of variables.
-use Rattle.std.proofs.Common.{◌≡◌, ◌∙◌, ℕ, ◌+◌, ◌<◌, List, ◌∷◌, [], ◌++◌, map, take, length, get_or, sym, ap}
+use Rattle.std.proofs.Common.{◌≡◌, ◌∙◌, ℕ, ◌+◌, ◌<◌, List, ◌∷◌, [], ◌++◌, map, take, length, get_or, sym, ap, subst}
 use Rattle.std.proofs.lemmas.List.{get_or-map, map-append, take_more}
 use Rattle.placement_programme.specs.declared.variables.VarName.{VarName}
 use Rattle.placement_programme.specs.declared.variables.Var.{Var}
 use Rattle.placement_programme.specs.Plain.{PlainVar, plain_var}
 use Rattle.placement_programme.specs.Programme.{weights_at, weight_in}
-use Rattle.placement_programme.proofs.WeightLemmas.{at_place}
+use Rattle.placement_programme.proofs.WeightLemmas.{at_place, all_mapped}
 use Rattle.relocator.specs.declared.items.Item.{Item}
 use Rattle.relocator.specs.Slots.{region_of, no_var, name_at, item_at, items_in}
+use Rattle.relocator.specs.Laying.{HaveRegions}
 
 pub item_is : (vars : List Var) (k : ℕ) (var : Var) (item : Item) → k < length vars → var ≡ get_or vars k var → item.name ≡ var.name → item.span ≡ weight_in var.weights.items (region_of var.name) → item ≡ item_at (map plain_var vars) k
 item_is vars k var item below is name span =
@@ -30,3 +31,8 @@ item_more vars numbers items more item i d below grown so_far is =
     ∙ ap (λ (x : Item). items_in vars (take i numbers) ++ x ∷ []) is
     ∙ sym (map-append (item_at vars) (take i numbers) (get_or numbers i d ∷ []))
     ∙ ap (λ (ns : List ℕ). items_in vars ns) (sym (take_more numbers i d below))
+
+-- the region of a variable is a word where those of all are
+pub region_small : (vars : List Var) (k : ℕ) (var : Var) → k < length vars → var ≡ get_or vars k var → HaveRegions (map plain_var vars) → region_of var.name < 4294967296
+region_small vars k var below is small =
+    subst (λ (v : Var). region_of v.name < 4294967296) (sym is) (all_mapped (λ (v : PlainVar). region_of v.name < 4294967296) plain_var vars small k var below)

@@ -8,6 +8,7 @@ pub mod WordLemmas
 pub mod ListLemmas
 pub mod PlaceLemmas
 pub mod StandLemmas
+pub mod OwnLemmas
 pub mod ObjectLemmas
 pub mod GrainLemmas
 pub mod FitLemmas

@@ -7,11 +7,11 @@ use Rattle.list_checks.proofs.TestLemmas.{both}
 use Rattle.object_graph.specs.declared.parts.Graph.{Graph}
 use Rattle.cell_values.specs.Objects.{object_of}
 use Rattle.placement_programme.specs.declared.variables.VarName.{VarName}
-use Rattle.placement_programme.specs.declared.variables.VarName.TheVariants.{StaticData, StaticCode, OverlayData, OverlayCode}
+use Rattle.placement_programme.specs.declared.variables.VarName.TheVariants.{StaticData, StaticCode, OverlayData, OverlayCode, KeptData}
 use Rattle.relocator.specs.declared.slots.Slot.{Slot}
-use Rattle.relocator.specs.Slots.{region_of, is_code}
+use Rattle.relocator.specs.Slots.{pair_of, is_code}
 use Rattle.relocator.specs.Placing.{puts, placed}
-use Rattle.relocator.specs.Laws.{StandsIn, StandsAtHome}
+use Rattle.relocator.specs.Laws.{IsPresent, StandsIn, StandsAtHome}
 use Rattle.relocator.proofs.WeightLemmas.{HasRoomFor, HasRoom, IsSized}
 
 -- ---- what a variable puts into its slot
@@ -23,13 +23,16 @@ puts_one (StaticCode a b) region o p first second = absurd (cc)
 puts_one (OverlayData own object) region o p first second =
     sym (eqb-true object o (both (object == o) (own == region) first).0) ∙ eqb-true object p (both (object == p) (own == region) second).0
 puts_one (OverlayCode own a b) region o p first second = absurd (cc)
+puts_one (KeptData pair object) region o p first second =
+    sym (eqb-true object o (both (object == o) (pair_of region == pair) first).0) ∙ eqb-true object p (both (object == p) (pair_of region == pair) second).0
 
 -- it is present
-pub puts_present : (name : VarName) (region o : ℕ) → puts name region o ≡ true → (region_of name ≡ 0) ⊎ (region_of name ≡ region)
-puts_present (StaticData object) region o is = inl refl
-puts_present (StaticCode a b) region o is = inl refl
-puts_present (OverlayData own object) region o is = inr (eqb-true own region (both (object == o) (own == region) is).1)
+pub puts_present : (name : VarName) (region o : ℕ) → puts name region o ≡ true → IsPresent region name
+puts_present (StaticData object) region o is = tt
+puts_present (StaticCode a b) region o is = tt
+puts_present (OverlayData own object) region o is = eqb-true own region (both (object == o) (own == region) is).1
 puts_present (OverlayCode own a b) region o is = absurd (cc)
+puts_present (KeptData pair object) region o is = eqb-true (pair_of region) pair (both (object == o) (pair_of region == pair) is).1
 
 -- and no code
 pub puts_data : (name : VarName) (region o : ℕ) → puts name region o ≡ true → is_code name ≡ false
@@ -37,6 +40,7 @@ puts_data (StaticData object) region o is = refl
 puts_data (StaticCode a b) region o is = absurd (cc)
 puts_data (OverlayData own object) region o is = refl
 puts_data (OverlayCode own a b) region o is = absurd (cc)
+puts_data (KeptData pair object) region o is = refl
 
 -- and the object has room in its span
 pub puts_room : (g : Graph) (span : ℕ) (name : VarName) (region o : ℕ) → puts name region o ≡ true → HasRoom g span name → HasRoomFor g span o
@@ -44,6 +48,7 @@ puts_room g span (StaticData object) region o is room = subst (λ (n : ℕ). Has
 puts_room g span (StaticCode a b) region o is room = absurd (cc)
 puts_room g span (OverlayData own object) region o is room = subst (λ (n : ℕ). HasRoomFor g span n) (eqb-true object o (both (object == o) (own == region) is).0) room
 puts_room g span (OverlayCode own a b) region o is room = absurd (cc)
+puts_room g span (KeptData pair object) region o is room = subst (λ (n : ℕ). HasRoomFor g span n) (eqb-true object o (both (object == o) (pair_of region == pair) is).0) room
 
 -- ---- the place
 
@@ -55,7 +60,7 @@ Stands g slots region o =
     ((k : ℕ) × StandsIn g slots region o (placed g slots region o) k) ⊎ StandsAtHome g slots region o (placed g slots region o)
 
 -- the first slot decides, or those behind it
-first_place : (g : Graph) (s : Slot) (ss : List Slot) (region o : ℕ) (b : Bool) → puts s.name region o ≡ b → placed g (s ∷ ss) region o ≡ (if b then s.at + (object_of g o).home % g.grain else placed g ss region o)
+pub first_place : (g : Graph) (s : Slot) (ss : List Slot) (region o : ℕ) (b : Bool) → puts s.name region o ≡ b → placed g (s ∷ ss) region o ≡ (if b then s.at + (object_of g o).home % g.grain else placed g ss region o)
 first_place g s ss region o b is = ap (λ (x : Bool). if x then s.at + (object_of g o).home % g.grain else placed g ss region o) is
 
 pub stands : (g : Graph) (regions : ℕ) (slots : List Slot) (region o : ℕ) → AllSized g regions slots → Stands g slots region o

@@ -37,10 +37,10 @@ home_more regions objects rows more row i d below grown so_far is =
 row_at : (rows : List (Vec ℕ Global)) (o : ℕ) (old : Vec ℕ Global) → o < length rows → old ≡ get_or rows o old → get_or (rows_of rows) o [] ≡ old.items
 row_at rows o old below is = get_or-map (λ (r : Vec ℕ Global). r.items) rows o old [] below ∙ ap (λ (r : Vec ℕ Global). r.items) (sym is)
 
-pub set_in_row : (rows : List (Vec ℕ Global)) (o region place : ℕ) (old new : Vec ℕ Global) → o < length rows → old ≡ get_or rows o old → new.items ≡ set old.items region place → rows_of (set rows o new) ≡ set (rows_of rows) o (set (get_or (rows_of rows) o []) region place)
-set_in_row rows o region place old new below is put =
+pub changed_row : (change : List ℕ → List ℕ) (rows : List (Vec ℕ Global)) (o : ℕ) (old new : Vec ℕ Global) → o < length rows → old ≡ get_or rows o old → new.items ≡ change old.items → rows_of (set rows o new) ≡ set (rows_of rows) o (change (get_or (rows_of rows) o []))
+changed_row change rows o old new below is put =
     map-set (λ (r : Vec ℕ Global). r.items) rows o new
-    ∙ ap (λ (row : List ℕ). set (rows_of rows) o row) (put ∙ ap (λ (row : List ℕ). set row region place) (sym (row_at rows o old below is)))
+    ∙ ap (λ (row : List ℕ). set (rows_of rows) o row) (put ∙ ap change (sym (row_at rows o old below is)))
 
 pub fill_row : (rows : List (Vec ℕ Global)) (o place width : ℕ) (old new : Vec ℕ Global) → o < length rows → old ≡ get_or rows o old → new.items ≡ replicate (length old.items) place → length (get_or (rows_of rows) o []) ≡ width → rows_of (set rows o new) ≡ set (rows_of rows) o (replicate width place)
 fill_row rows o place width old new below is put long =

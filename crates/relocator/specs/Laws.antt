@@ -1,5 +1,5 @@
 -- What holds of slots and places.
-use Rattle.std.specs.Prelude.{◌≡◌, ◌≢◌, ◌⊎◌, ℕ, ◌+◌, ◌%◌, ◌<◌, ◌≤◌, Bool, true, false, IsSomeAnd, List, length, slice_index_or, None}
+use Rattle.std.specs.Prelude.{◌≡◌, ◌≢◌, ◌⊎◌, ◌↔◌, ℕ, ◌+◌, ◌%◌, ◌<◌, ◌≤◌, Bool, true, false, IsSomeAnd, List, length, slice_index_or, None}
 use Rattle.std.specs.List.{All, AllPairs}
 use Rattle.elf_reader.specs.File.{PlainView}
 use Rattle.board_config.specs.Board.{IsLawful}
@@ -10,13 +10,14 @@ use Rattle.object_graph.specs.Graphs.{IsGraph}
 use Rattle.object_graph.specs.declared.parts.Graph.{Graph}
 use Rattle.cell_values.specs.Objects.{IsGrain, object_of, objects_of}
 use Rattle.cell_values.specs.Stands.{Fit}
-use Rattle.placement_programme.specs.declared.variables.VarName.TheVariants.{StaticData}
+use Rattle.placement_programme.specs.declared.variables.VarName.{VarName}
+use Rattle.placement_programme.specs.declared.variables.VarName.TheVariants.{StaticData, StaticCode, OverlayData, OverlayCode, KeptData}
 use Rattle.placement_programme.specs.Plain.{PlainVar, PlainSide, PlainProgramme, PlainChoice}
 use Rattle.placement_programme.specs.Programme.{side_for, IsFeasible}
 use Rattle.relocator.specs.declared.slots.Slot.{Slot}
-use Rattle.relocator.specs.Slots.{region_of, is_code}
+use Rattle.relocator.specs.Slots.{pair_of, is_code}
 use Rattle.relocator.specs.Placing.{puts, chosen_slots, place_of}
-use Rattle.placement_programme.specs.Rows.{Layout, Candidate, name_of, capacities, weights, IsOfSide}
+use Rattle.placement_programme.specs.Rows.{Layout, Candidate, name_of, first_twin, second_twin, capacities, weights, IsOfSide}
 use Rattle.relocator.specs.Space.{IsOfGraph, IsLayoutOf, IsSpaceOf}
 
 -- a feasible choice of a programme that is made for a graph, a board and a number of regions
@@ -29,6 +30,13 @@ pub record IsLaidOut (v : PlainView) (board : Board) (g : Graph) : Type 0 where
   pub lawful : IsLawful board
   pub layout : layout_fault v board ≡ None
   pub graph : IsGraph v board g
+
+-- ---- pairs
+
+-- the regions of a pair are its twins
+abbrev pub TwinsOfPairs : Type 0
+TwinsOfPairs =
+    (region pair : ℕ) → 1 ≤ pair → (pair_of region ≡ pair) ↔ ((region ≡ first_twin pair) ⊎ (region ≡ second_twin pair))
 
 -- ---- slots
 
@@ -43,16 +51,20 @@ SlotsInside =
     (g : Graph) (regions : ℕ) (board : Board) (p : PlainProgramme) (c : PlainChoice) → IsGrain g.grain → CanLayOut g regions board p c
     → All (LiesWithin board.spm) (chosen_slots board p c)
 
--- what has the slot is in the scratchpad while the region is current
-abbrev pub IsPresent : ℕ → Slot → Type 0
-IsPresent region s = (region_of s.name ≡ 0) ⊎ (region_of s.name ≡ region)
+-- a variable is in the scratchpad while the region is current
+abbrev pub IsPresent : ℕ → VarName → Type 0
+IsPresent region (StaticData object) = Unit {0}
+IsPresent region (StaticCode first last) = Unit {0}
+IsPresent region (OverlayData own object) = own ≡ region
+IsPresent region (OverlayCode own first last) = own ≡ region
+IsPresent region (KeptData pair object) = pair_of region ≡ pair
 
 -- two slots share no byte
 abbrev pub AreDisjoint : Slot → Slot → Type 0
 AreDisjoint s t = (s.at + s.span ≤ t.at) ⊎ (t.at + t.span ≤ s.at)
 
 abbrev pub AreDisjointIn : ℕ → Slot → Slot → Type 0
-AreDisjointIn region s t = IsPresent region s → IsPresent region t → AreDisjoint s t
+AreDisjointIn region s t = IsPresent region s.name → IsPresent region t.name → AreDisjoint s t
 
 -- those of what is present together don't
 abbrev pub SlotsDisjoint : Type 0
@@ -78,6 +90,21 @@ pub record StandsIn (g : Graph) (slots : List Slot) (region o place k : ℕ) : T
 pub record StandsAtHome (g : Graph) (slots : List Slot) (region o place : ℕ) : Type 0 where
   pub none : All (λ s. puts s.name region o ≡ false) slots
   pub there : place ≡ (object_of g o).home
+
+-- no two slots are one object's while a region is current
+abbrev pub ArePutApart : ℕ → VarName → VarName → Type 0
+ArePutApart region one other = (o : ℕ) → puts one region o ≡ true → puts other region o ≡ true → ⊥
+
+abbrev pub SlotsApart : Type 0
+SlotsApart =
+    (g : Graph) (regions : ℕ) (board : Board) (p : PlainProgramme) (c : PlainChoice) (region : ℕ) → region ≤ regions → CanLayOut g regions board p c
+    → AllPairs (λ s t. ArePutApart region s.name t.name) (chosen_slots board p c)
+
+-- so each slot that is an object's tells where it stands
+abbrev pub ObjectsInSlots : Type 0
+ObjectsInSlots =
+    (g : Graph) (regions : ℕ) (board : Board) (p : PlainProgramme) (c : PlainChoice) (region o : ℕ) → region ≤ regions → CanLayOut g regions board p c
+    → All (λ s. puts s.name region o ≡ true → place_of g board p c region o ≡ s.at + (object_of g o).home % g.grain) (chosen_slots board p c)
 
 abbrev pub ObjectsStand : Type 0
 ObjectsStand =
@@ -110,7 +137,7 @@ abbrev pub ObjectsOffCodeSlots : Type 0
 ObjectsOffCodeSlots =
     (v : PlainView) (g : Graph) (regions : ℕ) (board : Board) (p : PlainProgramme) (c : PlainChoice) (region : ℕ)
     → IsLaidOut v board g → CanLayOut g regions board p c
-    → All (λ s. is_code s.name ≡ true → IsPresent region s → AreObjectsOff g (place_of g board p c region) s.at s.span) (chosen_slots board p c)
+    → All (λ s. is_code s.name ≡ true → IsPresent region s.name → AreObjectsOff g (place_of g board p c region) s.at s.span) (chosen_slots board p c)
 
 -- ---- whole layouts
 

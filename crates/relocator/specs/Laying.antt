@@ -1,29 +1,39 @@
 -- What the steps by which slots and tables are made rely on.
-use Rattle.std.specs.Prelude.{◌≡◌, ℕ, ◌+◌, ◌%◌, ◌<◌, ◌≤◌, List, length, slice_index_or}
+use Rattle.std.specs.Prelude.{◌≡◌, ℕ, ◌+◌, ◌*◌, ◌%◌, ◌<◌, ◌≤◌, List, length, set, slice_index_or}
 use Rattle.std.specs.List.{All}
 use Rattle.object_graph.specs.declared.parts.Graph.{Graph}
 use Rattle.cell_values.specs.Objects.{object_of}
 use Rattle.placement_programme.specs.declared.variables.VarName.{VarName}
-use Rattle.placement_programme.specs.declared.variables.VarName.TheVariants.{StaticData, StaticCode, OverlayData, OverlayCode}
+use Rattle.placement_programme.specs.declared.variables.VarName.TheVariants.{StaticData, StaticCode, OverlayData, OverlayCode, KeptData}
+use Rattle.placement_programme.specs.Plain.{PlainVar}
+use Rattle.placement_programme.specs.Rows.{first_twin, second_twin}
 use Rattle.relocator.specs.declared.items.Item.{Item}
 use Rattle.relocator.specs.declared.slots.Slot.{Slot}
-use Rattle.relocator.specs.Slots.{region_of, bytes_in, slots_of}
+use Rattle.relocator.specs.Slots.{region_of, lane_of, lane_count, first_slots, slots_of}
 
--- each slot of the items ends below 2 ^ 32, and so does what stands throughout
-pub record AreRoomy (base : ℕ) (items : List Item) : Type 0 where
-  pub static : base + bytes_in 0 items < 4294967296
+-- the first slot of each lane begins below 2 ^ 32, and each slot of the items ends there
+pub record AreRoomy (base regions : ℕ) (items : List Item) : Type 0 where
+  pub first : (lane : ℕ) → lane < lane_count regions → first_slots base items lane < 4294967296
   pub slots : All (λ s. s.at + s.span < 4294967296) (slots_of base items)
 
--- the items are of the regions up to `regions`
-abbrev pub AreOfRegions : ℕ → List Item → Type 0
-AreOfRegions regions items = All (λ i. region_of i.name ≤ regions) items
+-- the region of each variable is a word
+abbrev pub HaveRegions : List PlainVar → Type 0
+HaveRegions vars = All (λ v. region_of v.name < 4294967296) vars
 
--- a list as a function of the place, and functions that agree up to a place
+-- the items are of so many lanes
+abbrev pub AreInLanes : ℕ → List Item → Type 0
+AreInLanes count items = All (λ i. lane_of i.name < count) items
+
+-- a list as a function of the place, and functions that agree below a place
 abbrev pub next_in : List ℕ → ℕ → ℕ
-next_in next region = slice_index_or next region 0
+next_in next lane = slice_index_or next lane 0
 
-abbrev pub AgreeTo : ℕ → (ℕ → ℕ) → (ℕ → ℕ) → Type 0
-AgreeTo last f h = (region : ℕ) → region ≤ last → f region ≡ h region
+abbrev pub AgreeBelow : ℕ → (ℕ → ℕ) → (ℕ → ℕ) → Type 0
+AgreeBelow count f h = (lane : ℕ) → lane < count → f lane ≡ h lane
+
+-- a row with one number in both regions of a pair
+abbrev pub with_pair : List ℕ → ℕ → ℕ → List ℕ
+with_pair row pair place = set (set row (first_twin pair) place) (second_twin pair) place
 
 -- an object of the graph can stand in a slot that begins at `at`: its place is a word
 abbrev pub CanStandAt : Graph → ℕ → ℕ → Type 0
@@ -35,6 +45,7 @@ CanPut g regions at (StaticData object) = CanStandAt g at object
 CanPut g regions at (StaticCode first last) = Unit {0}
 CanPut g regions at (OverlayData region object) = (region ≤ regions) × CanStandAt g at object
 CanPut g regions at (OverlayCode region first last) = Unit {0}
+CanPut g regions at (KeptData pair object) = (1 ≤ pair) × (2 * pair ≤ regions) × CanStandAt g at object
 
 abbrev pub CanPutAll : Graph → ℕ → List Slot → Type 0
 CanPutAll g regions slots = All (λ s. CanPut g regions s.at s.name) slots

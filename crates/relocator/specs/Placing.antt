@@ -7,11 +7,11 @@ use Rattle.board_config.specs.declared.board.Board.{Board}
 use Rattle.object_graph.specs.declared.parts.Graph.{Graph}
 use Rattle.cell_values.specs.Objects.{object_of}
 use Rattle.placement_programme.specs.declared.variables.VarName.{VarName}
-use Rattle.placement_programme.specs.declared.variables.VarName.TheVariants.{StaticData, StaticCode, OverlayData, OverlayCode}
+use Rattle.placement_programme.specs.declared.variables.VarName.TheVariants.{StaticData, StaticCode, OverlayData, OverlayCode, KeptData}
 use Rattle.placement_programme.specs.Plain.{PlainProgramme, PlainChoice}
 use Rattle.relocator.specs.declared.slots.Slot.{Slot}
 use Rattle.relocator.specs.declared.places.Places.{Places}
-use Rattle.relocator.specs.Slots.{items_of, slots_of, code_slots}
+use Rattle.relocator.specs.Slots.{pair_of, items_of, slots_of, code_slots}
 
 -- the variable puts the object into the scratchpad while the region is current
 abbrev pub puts : VarName → ℕ → ℕ → Bool
@@ -19,6 +19,7 @@ puts (StaticData object) region o = object == o
 puts (StaticCode first last) region o = false
 puts (OverlayData own object) region o = (object == o) && (own == region)
 puts (OverlayCode own first last) region o = false
+puts (KeptData pair object) region o = (object == o) && (pair_of region == pair)
 
 -- an object stands in its slot as many bytes behind a multiple of the grain as at home; without a slot it is at home
 abbrev pub place_in : ℕ → ℕ → List Slot → ℕ → ℕ → ℕ

@@ -6,7 +6,7 @@ use Rattle.object_graph.specs.declared.parts.Graph.{Graph}
 use Rattle.cell_values.specs.Objects.{datum_of}
 use Rattle.placement_programme.specs.Plain.{PlainVar, PlainSide}
 use Rattle.placement_programme.specs.Programme.{weight_in}
-use Rattle.placement_programme.specs.Rows.{Layout, Datum, Candidate, static_data, static_code, overlay_data, overlay_code, name_of, space_row, off_space_row, object_row, weights, IsOfSide, IsRegionOf}
+use Rattle.placement_programme.specs.Rows.{Layout, Datum, Candidate, static_data, static_code, overlay_data, overlay_code, kept_data, name_of, space_row, off_space_row, object_row, weights, IsOfSide, IsRegionOf, IsPairOf}
 
 -- ---- the rows of places
 
@@ -24,13 +24,14 @@ IsObjectRow true l row = (o : ℕ) × ((r : ℕ) × ((o < l.objects) × IsRegion
 abbrev pub IsDatumOf : Graph → Layout → Datum → Type 0
 IsDatumOf g l d = (d.number < l.objects) × (d ≡ datum_of g d.number)
 
--- a candidate is of the graph: its object is one of the graph's, and its region one of the layout's. A piece of code
--- may be any, of any number of bytes
+-- a candidate is of the graph: its object is one of the graph's, and its region or pair one of the layout's. A piece
+-- of code may be any, of any number of bytes
 abbrev pub IsOfGraph : Graph → Layout → Candidate → Type 0
 IsOfGraph g l (static_data d) = IsDatumOf g l d
 IsOfGraph g l (static_code part) = Unit {0}
 IsOfGraph g l (overlay_data r d) = IsRegionOf l r × IsDatumOf g l d
 IsOfGraph g l (overlay_code r part) = IsRegionOf l r
+IsOfGraph g l (kept_data pair d) = IsPairOf l pair × IsDatumOf g l d
 
 -- a variable is that of a candidate of the side, and weighs as much in the rows of places
 pub record IsVariableOf (g : Graph) (on : Bool) (l : Layout) (candidate : Candidate) (v : PlainVar) : Type 0 where
@@ -46,7 +47,7 @@ IsVariable g on l v = (candidate : Candidate) × IsVariableOf g on l candidate v
 -- ---- the side
 
 -- what its rows and weights depend on is of this graph, this board, and this number of regions. How many blocks there
--- are, and what the patch range has, may be any
+-- are, what the patch range has, and whether objects may be kept for pairs, may be any
 pub record IsLayoutOf (g : Graph) (regions : ℕ) (board : Board) (l : Layout) : Type 0 where
   pub scratchpad : l.scratchpad ≡ board.spm.size
   pub objects : l.objects ≡ length g.objects.items

@@ -3,8 +3,10 @@ ghost use Rattle.std.specs.List.{All};
 ghost use Rattle.placement_programme.specs.Plain.{plain_var};
 ghost use Rattle.placement_programme.specs.Bounds.{AscendWithin, AreWeights};
 ghost use Rattle.placement_programme.specs.Views.{plain_programme, plain_choice};
-ghost use Rattle.placement_programme.specs.Programme.{IsFeasible};
-ghost use Rattle.relocator.specs.Slots.{region_of, item_at, items_in, items_of};
+ghost use Rattle.placement_programme.specs.Programme.{side_for, IsFeasible};
+ghost use Rattle.placement_programme.specs.Rows.{first_twin};
+ghost use Rattle.relocator.specs.Slots.{region_of, vars_for, item_at, items_in, items_of};
+ghost use Rattle.relocator.specs.Laying.{HaveRegions};
 
 use placement_programme::{Choice, Programme, Var, VarName, weight_of};
 use std::alloc::{AllocError, Global};
@@ -18,8 +20,10 @@ pub struct Item {
     pub span: u32,
 }
 
-/// The region in which a variable stands in the scratchpad, and 0 where it stands there throughout.
-pub(crate) fn region_of(name: VarName) -> u32
+/// The region in which a variable stands in the scratchpad, the first of two where it is kept for a pair, and 0 where
+/// it stands there throughout.
+fn region_of(name: VarName) -> u32
+    requires { region_of name < 4294967296 }
     ensures { result ≡ region_of name }
 {
     match name {
@@ -31,13 +35,23 @@ pub(crate) fn region_of(name: VarName) -> u32
             first: _,
             last: _,
         } => region,
+        VarName::KeptData { pair, object: _ } => first_twin(pair),
     }
+}
+
+/// The first region of a pair.
+fn first_twin(pair: u32) -> u32
+    requires { first_twin pair < 4294967296 }
+    ensures { result ≡ first_twin pair }
+{
+    (2 * u64::from(pair)).saturating_sub(1) as u32
 }
 
 /// A variable as an item: it takes its weight in the row of the scratchpad.
 fn item_of(vars: &[Var], number: u32) -> Item
     requires below { number < length vars.now }
     requires weights { (count : ℕ) × All (λ v. AreWeights count v.weights) (map plain_var vars.now) }
+    requires regions { HaveRegions (map plain_var vars.now) }
     ensures { result ≡ item_at (map plain_var vars.now) number }
 {
     let var = &vars[number as usize];
@@ -51,6 +65,7 @@ fn item_of(vars: &[Var], number: u32) -> Item
 fn items_in(alloc: Global, vars: &[Var], take: &[u32]) -> Result<Vec<Item>, AllocError>
     requires numbers { AscendWithin 0 (length vars.now) take.now }
     requires weights { (count : ℕ) × All (λ v. AreWeights count v.weights) (map plain_var vars.now) }
+    requires regions { HaveRegions (map plain_var vars.now) }
     ensures { IfOk result (λ items. items.items ≡ items_in (map plain_var vars.now) take.now) }
 {
     let mut items = Vec::new(alloc);
@@ -62,7 +77,8 @@ fn items_in(alloc: Global, vars: &[Var], take: &[u32]) -> Result<Vec<Item>, Allo
 
 /// The items of a choice, in the order in which it takes them. It fails only where no memory was left.
 pub(crate) fn items(alloc: Global, p: &Programme, c: &Choice) -> Result<Vec<Item>, AllocError>
-    requires { IsFeasible (plain_programme p.now) (plain_choice c.now) }
+    requires feasible { IsFeasible (plain_programme p.now) (plain_choice c.now) }
+    requires regions { HaveRegions (vars_for (side_for (plain_programme p.now) c.now.on)) }
     ensures { IfOk result (λ items. items.items ≡ items_of (plain_programme p.now) (plain_choice c.now)) }
 {
     if !c.on {

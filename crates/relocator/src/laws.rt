@@ -1,6 +1,11 @@
 // Laws of the definitions: functions that do nothing, whose contracts are what is proved.
-ghost use Rattle.relocator.specs.Laws.{SlotsInside, SlotsDisjoint, ObjectsStand, PlacesFit, HomesOffScratchpad, ObjectsOffCodeSlots, WholeSideHasSpace};
+ghost use Rattle.relocator.specs.Laws.{TwinsOfPairs, SlotsInside, SlotsDisjoint, SlotsApart, ObjectsInSlots, ObjectsStand, PlacesFit, HomesOffScratchpad, ObjectsOffCodeSlots, WholeSideHasSpace};
 ghost use Rattle.relocator.specs.Examples.{TableHasSpace};
+
+/// The regions of a pair are its twins.
+pub fn twins_of_pairs()
+    ensures { TwinsOfPairs }
+{}
 
 /// The slots of a feasible choice lie in the scratchpad.
 pub fn slots_inside()
@@ -10,6 +15,17 @@ pub fn slots_inside()
 /// Slots of what is in the scratchpad at one time share no byte.
 pub fn slots_disjoint()
     ensures { SlotsDisjoint }
+{}
+
+/// An object has one slot at most while a region is current.
+pub fn slots_apart()
+    ensures { SlotsApart }
+{}
+
+/// An object stands in each slot that is its own while a region is current, as many bytes behind a multiple of the
+/// grain as at home.
+pub fn objects_in_slots()
+    ensures { ObjectsInSlots }
 {}
 
 /// Each object stands wholly in a slot that is its own, or at home.

@@ -12,8 +12,9 @@ mod words;
 
 pub use items::Item;
 pub use laws::{
-    homes_off_scratchpad, objects_off_code_slots, objects_stand, places_fit, slots_disjoint,
-    slots_inside, table_has_space, whole_side_has_space,
+    homes_off_scratchpad, objects_in_slots, objects_off_code_slots, objects_stand, places_fit,
+    slots_apart, slots_disjoint, slots_inside, table_has_space, twins_of_pairs,
+    whole_side_has_space,
 };
 pub use places::{Places, layout};
 pub use slots::Slot;

@@ -26,8 +26,10 @@ pub struct Places {
 /// The places of all objects in regions 0 to `regions`, and the slots of code, for a choice.
 ///
 /// Static variables are put from the scratchpad's base on, in their order, each taking what it weighs there; then for
-/// each region those that are overlaid in it, behind the static ones. An object stands in its slot as many bytes behind
-/// a multiple of the grain as at home, and one without a slot is at home. It fails only where no memory was left.
+/// each pair of regions those that are kept for it, behind the static ones; then for each region those that are
+/// overlaid in it, behind those of its pair. An object stands in its slot as many bytes behind a multiple of the grain
+/// as at home, one that is kept for a pair in one place in both its regions, and one without a slot is at home. It
+/// fails only where no memory was left.
 ///
 /// The time grows with the number of taken variables and objects times the number of regions.
 pub fn layout(

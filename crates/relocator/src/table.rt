@@ -1,9 +1,9 @@
-ghost use Rattle.std.specs.Prelude.{◌≡◌, ℕ, ◌+◌, ◌%◌, ◌<◌, ◌≤◌, List, [], ◌∷◌, length, replicate, set, slice_index, slice_index_or, IfOk};
+ghost use Rattle.std.specs.Prelude.{◌≡◌, ℕ, ◌+◌, ◌*◌, ◌%◌, ◌<◌, ◌≤◌, List, [], ◌∷◌, length, replicate, set, slice_index, slice_index_or, IfOk};
 ghost use Rattle.object_graph.specs.declared.parts.Graph.{Graph};
 ghost use Rattle.cell_values.specs.Objects.{object_of};
 ghost use Rattle.relocator.specs.declared.slots.Slot.{Slot};
 ghost use Rattle.relocator.specs.Placing.{rows_of, IsTable};
-ghost use Rattle.relocator.specs.Laying.{CanStandAt, CanPut, CanPutAll};
+ghost use Rattle.relocator.specs.Laying.{CanStandAt, CanPut, CanPutAll, with_pair};
 
 use crate::slots::{Slot, filled};
 use object_graph::Graph;
@@ -55,6 +55,10 @@ fn put(rows: &mut Vec<Vec<u32>>, graph: &Graph, regions: u32, slot: &Slot)
             let place = place_in(graph, slot.at, object);
             put_entry(rows, object as usize, region as usize, place);
         }
+        VarName::KeptData { pair, object } => {
+            let place = place_in(graph, slot.at, object);
+            put_pair(rows, object as usize, pair as usize, place);
+        }
         VarName::StaticCode { first: _, last: _ } => {}
         VarName::OverlayCode {
             region: _,
@@ -102,4 +106,23 @@ fn put_at(row: &mut Vec<u32>, region: usize, place: u32)
     ensures { row.new.items ≡ set row.old.items region place }
 {
     row[region] = place;
+}
+
+/// One place in both regions of a pair.
+fn put_pair(rows: &mut Vec<Vec<u32>>, object: usize, pair: usize, place: u32)
+    requires row { object < length rows.old.items }
+    requires some { 1 ≤ pair }
+    requires columns { 2 * pair < length (slice_index_or (rows_of rows.old.items) object []) }
+    ensures { rows_of rows.new.items ≡ set (rows_of rows.old.items) object (with_pair (slice_index_or (rows_of rows.old.items) object []) pair place) }
+{
+    put_twice(&mut rows[object], pair, place);
+}
+
+fn put_twice(row: &mut Vec<u32>, pair: usize, place: u32)
+    requires some { 1 ≤ pair }
+    requires columns { 2 * pair < length row.old.items }
+    ensures { row.new.items ≡ with_pair row.old.items pair place }
+{
+    row[2 * pair - 1] = place;
+    row[2 * pair] = place;
 }

@@ -1,8 +1,11 @@
 use Rattle.std.proofs.Common.{◌∙◌, ℕ, List, refl, sym, ap}
 use Rattle.placement_programme.specs.Programme.{weight_in}
 use Rattle.placement_programme.proofs.WeightLemmas.{at_place, var_weights}
-use Rattle.relocator.proofs.ItemLemmas.{item_is}
+use Rattle.relocator.proofs.ItemLemmas.{item_is, region_small}
 use Rattle.relocator.proofs.items.item_of.Goals as goal
+
+pub region_of-requires : goal.region_of-requires
+region_of-requires c = region_small c.args.vars.now c.args.number c.index-vars-number.result c.requires.below c.index-vars-number.is c.requires.regions
 
 pub weight_of-requires : goal.weight_of-requires
 weight_of-requires c =
