@@ -13,3 +13,10 @@ pub mod CandidateLemmas
 pub mod WholeChoices
 pub mod SitedLemmas
 pub mod FoundLemmas
+pub mod OverlayRowLemmas
+pub mod PieceRegionLemmas
+pub mod OverlayVarLemmas
+pub mod OverlayGainLemmas
+pub mod EachLemmas
+pub mod OverlayBoundLemmas
+pub mod OverlaySideLemmas

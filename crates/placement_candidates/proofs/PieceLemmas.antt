@@ -51,7 +51,7 @@ Given view board g c t q ms = AreOfSameFile view board g c t q ms
 gain_parts : (base with_it slow fast stub all_stub none_stub job : ℕ) → with_it + slow ≡ base + fast → all_stub ≡ job + none_stub → pos (none_stub + base) -ℤ pos (all_stub + with_it) ≡ pos slow -ℤ pos (fast + job)
 gain_parts base with_it slow fast stub all_stub none_stub job sum stubs = omega (arith, ints, sum, stubs)
 
-quarter : (bytes words : ℕ) → bytes ≡ 4 * words → bytes / 4 ≡ words
+pub quarter : (bytes words : ℕ) → bytes ≡ 4 * words → bytes / 4 ≡ words
 quarter bytes words is = omega (arith, is)
 
 pub code_gain_counted : OneInstruction → (view : ElfView) (board : Board) (g : Graph) (c : Code) (t : RegionTable) (q : Profile) (ms : List Transition) (p : Piece) → Given view board g c t q ms → IsPiece c g p → counted_code_gain board.prices q c g p ≡ gain_alone (scene_of g c t board) ms (StaticCode p.first p.last)
@@ -186,7 +186,7 @@ pieces_few c g (p ∷ pieces) blocks are =
     let small = key_small last.first last.last ordered (omega (arith, bound, blocks)) in
     omega (arith, least, small)
 
-abs_difference : (a b bound : ℕ) → a ≤ bound → b ≤ bound → unsigned_abs (pos a -ℤ pos b) ≤ bound
+pub abs_difference : (a b bound : ℕ) → a ≤ bound → b ≤ bound → unsigned_abs (pos a -ℤ pos b) ≤ bound
 abs_difference a b bound first second = omega (arith, ints, first, second)
 
 -- what a copy of so many words costs at most
@@ -197,34 +197,38 @@ job_within prices n most lawful few =
     let writes = mul-le n prices.spm_write most 10000 few lawful.spm_write in
     omega (arith, fetches, reads, writes)
 
-copy_job_small : (prices : Prices) (n : ℕ) → AreLawfulPrices prices → n ≤ 4096 → into_price prices n ≤ 400000000
+pub copy_job_small : (prices : Prices) (n : ℕ) → AreLawfulPrices prices → n ≤ 4096 → into_price prices n ≤ 400000000
 copy_job_small prices n lawful few =
     let within = job_within prices n 4096 lawful few in omega (arith, within)
+
+choice_small : (b : Bool) (x : ℕ) → (if b then x else 0) ≤ x
+choice_small true x = omega arith
+choice_small false x = omega arith
+
+pending_small : (c : Code) (g : Graph) (q : Profile) (r : BlockRange) → CountsCode c g q → pending_inside c q r ≤ 1000000000000
+pending_small c g q r counts =
+    let few = counts.few_pending r in
+    let less = choice_small (holds_block q.last.0 r && may_stay (body_at c.blocks.items q.last.0).end) (sum_in r (pending c q) (length c.blocks.items)) in
+    omega (arith, few, less)
+
+pub came_few : (c : Code) (g : Graph) (q : Profile) (r : BlockRange) → CountsCode c g q → came_in c q r ≤ 2000000000000
+came_few c g q r counts =
+    let arrived = counts.arrived r in
+    let pending = pending_small c g q r counts in
+    omega (arith, arrived, pending)
 
 pub code_gain_small : (c : Code) (g : Graph) (q : Profile) (prices : Prices) (p : Piece) → CountsCode c g q → AreLawfulPrices prices → CanCountPiece c p → unsigned_abs (counted_code_gain prices q c g p) ≤ 100000000000000000
 code_gain_small c g q prices p counts lawful can =
     let r = range_of p in
     let home = mul-le (home_words c g q r) prices.main_fetch 1000000000000 10000 (counts.home r) lawful.main_fetch in
     let copied = mul-le (copy_words_run c g q r) prices.spm_fetch 1000000000000 10000 (counts.copies r) lawful.spm_fetch in
-    let arrived = counts.arrived r in
-    let pending = pending_small c g q r counts in
-    let came : came_in c q r ≤ 2000000000000 = omega (arith, arrived, pending) in
+    let came = came_few c g q r counts in
     let fetch = lawful.main_fetch in
     let pads = mul-le (came_in c q r) (3 * prices.main_fetch) 2000000000000 30000 came (omega (arith, fetch)) in
     let bytes = can.bytes in
     let job = copy_job_small prices (p.bytes / 4) lawful (omega (arith, bytes)) in
     abs_difference (home_words c g q r * prices.main_fetch) (copied_price prices (copy_words_run c g q r) (came_in c q r) (p.bytes / 4)) 100000000000000000
     (omega (arith, home)) (omega (arith, copied, pads, job))
-  where
-    choice_small : (b : Bool) (x : ℕ) → (if b then x else 0) ≤ x
-    choice_small true x = omega arith
-    choice_small false x = omega arith
-
-    pending_small : (c : Code) (g : Graph) (q : Profile) (r : BlockRange) → CountsCode c g q → pending_inside c q r ≤ 1000000000000
-    pending_small c g q r counts =
-        let few = counts.few_pending r in
-        let less = choice_small (holds_block q.last.0 r && may_stay (body_at c.blocks.items q.last.0).end) (sum_in r (pending c q) (length c.blocks.items)) in
-        omega (arith, few, less)
 
 pub code_gains_small : (c : Code) (g : Graph) (q : Profile) (prices : Prices) (grain : ℕ) (pieces : List Piece) → CountsCode c g q → AreLawfulPrices prices → All (CanCountPiece c) pieces → sum_by (λ v. unsigned_abs v.gain) (map (counted_code_var prices q c g grain) pieces) ≤ length pieces * 100000000000000000
 code_gains_small c g q prices grain [] counts lawful can = omega arith
@@ -240,12 +244,12 @@ rows_ascend low high row zero value from to = tt
 rows_ascend low high row (suc count) value from to =
     (from, omega (arith, to), rows_ascend (suc row) high (suc row) count value (omega arith) (omega (arith, to)))
 
-ones_small : (row count : ℕ) → All (λ w. value_of w < 2 ^ 32) (in_rows row count 1)
+pub ones_small : (row count : ℕ) → All (λ w. value_of w < 2 ^ 32) (in_rows row count 1)
 ones_small row zero k d below = absurd (omega (arith, below))
 ones_small row (suc count) zero d below = omega arith
 ones_small row (suc count) (suc k) d below = ones_small (suc row) count k d (omega (arith, below))
 
-code_span_small : (grain n : ℕ) → IsGrain grain → n ≤ 4096 → rounded_up grain n < 2 ^ 32
+pub code_span_small : (grain n : ℕ) → IsGrain grain → n ≤ 4096 → rounded_up grain n < 2 ^ 32
 code_span_small grain n (inl is) small = rw is (omega (arith, small))
 code_span_small grain n (inr (inl is)) small = rw is (omega (arith, small))
 code_span_small grain n (inr (inr is)) small = rw is (omega (arith, small))

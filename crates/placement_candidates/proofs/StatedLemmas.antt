@@ -72,7 +72,7 @@ writes_are view board g c t q ms k given below =
 touched_few : (ms : List Transition) (write : Bool) (k n : ℕ) → touched ms write k n ≤ n
 touched_few ms write k n = count_few (λ i. is_access_to write k (transition_at ms i).access) n
 
-counts_accesses : (view : ElfView) (board : Board) (g : Graph) (c : Code) (t : RegionTable) (q : Profile) (ms : List Transition) → Given view board g c t q ms → CountsAccesses g q
+pub counts_accesses : (view : ElfView) (board : Board) (g : Graph) (c : Code) (t : RegionTable) (q : Profile) (ms : List Transition) → Given view board g c t q ms → CountsAccesses g q
 counts_accesses view board g c t q ms given =
     let few = objects_few (plain_view view) board g given.graph in
     let transitions = few_transitions view board g c t q ms given in
@@ -115,7 +115,7 @@ stub_alone w k =
 gain_shape : (a b c d : ℕ) → a ≡ c → b ≡ d → pos a -ℤ pos b ≡ pos c -ℤ pos d
 gain_shape a b c d first second = ap (λ n. pos n -ℤ pos b) first ∙ ap (λ n. pos c -ℤ pos n) second
 
-gain_counted : OneInstruction → (view : ElfView) (board : Board) (g : Graph) (c : Code) (t : RegionTable) (q : Profile) (ms : List Transition) (k : ℕ) → Given view board g c t q ms → k < length g.objects.items → counted_gain board.prices q g k ≡ gain_alone (scene_of g c t board) ms (StaticData k)
+pub gain_counted : OneInstruction → (view : ElfView) (board : Board) (g : Graph) (c : Code) (t : RegionTable) (q : Profile) (ms : List Transition) (k : ℕ) → Given view board g c t q ms → k < length g.objects.items → counted_gain board.prices q g k ≡ gain_alone (scene_of g c t board) ms (StaticData k)
 gain_counted one view board g c t q ms k given below =
     let w = scene_of g c t board in
     let prices = board.prices in
@@ -178,27 +178,27 @@ by_flag false = omega arith
 fence_small : (board : Board) → fence_words board ≤ 1
 fence_small board = by_flag board.fence_i
 
-stub_small : (board : Board) → IsLawful board → stub_price board ≤ 60000
+pub stub_small : (board : Board) → IsLawful board → stub_price board ≤ 60000
 stub_small board lawful =
     let words = fence_small board in
     mul-le (5 + fence_words board) board.prices.main_fetch 6 10000 (omega (arith, words)) lawful.prices.main_fetch
 
-rounds_few : (a b : Bool) (size : ℕ) → (if a && b then size / 4 else size) ≤ size
+pub rounds_few : (a b : Bool) (size : ℕ) → (if a && b then size / 4 else size) ≤ size
 rounds_few true true size = omega arith
 rounds_few true false size = omega arith
 rounds_few false b size = omega arith
 
-accesses_small : (reads writes read write : ℕ) → reads ≤ 1000000000 → writes ≤ 1000000000 → read ≤ 10000 → write ≤ 10000 → reads * read + writes * write ≤ 20000000000000
+pub accesses_small : (reads writes read write : ℕ) → reads ≤ 1000000000 → writes ≤ 1000000000 → read ≤ 10000 → write ≤ 10000 → reads * read + writes * write ≤ 20000000000000
 accesses_small reads writes read write first second third fourth =
     let left = mul-le reads read 1000000000 10000 first third in
     let right = mul-le writes write 1000000000 10000 second fourth in
     omega (arith, left, right)
 
-job_small : (prices : Prices) (n : ℕ) → AreLawfulPrices prices → n ≤ 4294967296 → into_price prices n ≤ 400000000000000
+pub job_small : (prices : Prices) (n : ℕ) → AreLawfulPrices prices → n ≤ 4294967296 → into_price prices n ≤ 400000000000000
 job_small prices n lawful few =
     let within = job_within prices n 4294967296 lawful few in omega (arith, within)
 
-gain_small : (view : ElfView) (board : Board) (g : Graph) (c : Code) (t : RegionTable) (q : Profile) (ms : List Transition) (k : ℕ) → Given view board g c t q ms → k < length g.objects.items → unsigned_abs (counted_gain board.prices q g k) ≤ 500000000000000
+pub gain_small : (view : ElfView) (board : Board) (g : Graph) (c : Code) (t : RegionTable) (q : Profile) (ms : List Transition) (k : ℕ) → Given view board g c t q ms → k < length g.objects.items → unsigned_abs (counted_gain board.prices q g k) ≤ 500000000000000
 gain_small view board g c t q ms k given below =
     let counts = counts_accesses view board g c t q ms given in
     let reads = counts.reads k below in
@@ -275,7 +275,7 @@ side_within one view board g c t q pieces ms given are =
           (code_vars_weigh c g q board.prices board.grain rows pieces given.lawful.grain (omega (arith, ones)) (can_count_piece view board g c t q ms pieces given are));
     }
 
-grain_some : (n : ℕ) → IsGrain n → 0 < n
+pub grain_some : (n : ℕ) → IsGrain n → 0 < n
 grain_some n (inl is) = omega (arith, is)
 grain_some n (inr (inl is)) = omega (arith, is)
 grain_some n (inr (inr is)) = omega (arith, is)

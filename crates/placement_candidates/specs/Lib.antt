@@ -9,3 +9,5 @@ pub mod Selected
 pub mod Adding
 pub mod Whole
 pub mod Ranking
+pub mod OverlayRows
+pub mod OverlayCounted

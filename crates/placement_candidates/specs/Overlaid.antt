@@ -1,7 +1,7 @@
 -- The programme with overlay that a run states: what may be taken for a region or for a pair of them, with all that it gains,
 -- also where that is nothing.
-use Rattle.std.specs.Prelude.{◌≡◌, ℕ, zero, suc, ◌-◌, ◌<◌, ◌≤◌, ◌==◌, nat_lt, nat_le, ℤ, pos, ◌-ℤ◌, Bool, true, not, ◌&&◌, if◌then◌else◌, List, [], ◌∷◌, ◌++◌, map, length, Some, None}
-use Rattle.std.specs.List.{Contains, filter}
+use Rattle.std.specs.Prelude.{◌≡◌, ℕ, zero, suc, ◌-◌, ◌^◌, unsigned_abs, ◌<◌, ◌≤◌, ◌==◌, nat_lt, nat_le, ℤ, pos, ◌-ℤ◌, Bool, true, not, ◌&&◌, if◌then◌else◌, List, [], ◌∷◌, ◌++◌, map, length, Some, None}
+use Rattle.std.specs.List.{Contains, filter, sum_by}
 use Rattle.board_config.specs.declared.board.Board.{Board}
 use Rattle.object_graph.specs.declared.parts.Graph.{Graph}
 use Rattle.code_blocks.specs.declared.parts.Code.{Code}
@@ -161,3 +161,10 @@ OffSideStays =
     (g : Graph) (c : Code) (t : RegionTable) (board : Board) (objects : List ℕ) (pieces : List Piece) (transitions : List Transition)
     → (whole_full (scene_of g c t board) (overlay_layout g c t board) objects pieces transitions).off
     ≡ off_side (scene_of g c t board) (layout_of g c t board) pieces transitions
+
+-- a programme is that one; and its sums are small
+pub record IsWholeFull (w : Scene) (l : Layout) (objects : List ℕ) (pieces : List Piece) (transitions : List Transition) (f : PlainFull) : Type 0 where
+  pub is : f ≡ whole_full w l objects pieces transitions
+  pub base_small : f.base < 2 ^ 90
+  pub fixed_small : f.off.fixed < 2 ^ 90
+  pub gains_small : sum_by (λ v. unsigned_abs v.gain) f.off.vars < 2 ^ 90

@@ -31,8 +31,9 @@ fn start_size(board: &Board) -> u32
 
 /// What a start stub costs that copies nothing: four words that clear registers, a jump, and a fence where the board
 /// asks for one.
-fn stub_price(board: &Board) -> u128
-    ensures { result ≡ stub_price board.now }
+pub(crate) fn stub_price(board: &Board) -> u128
+    ensures is { result ≡ stub_price board.now }
+    ensures small { result < 2 ^ 70 }
 {
     let words = if board.fence_i { 6 } else { 5 };
     words * u128::from(board.prices.main_fetch)
@@ -50,7 +51,8 @@ fn off_rows(alloc: Global, board: &Board, blocks: usize) -> Result<Vec<u64>, All
     Ok(rows)
 }
 
-fn side_of(fixed: u128, rows: Vec<u64>, vars: Vec<FullVar>) -> FullSide
+/// A side of these parts.
+pub(crate) fn side_of(fixed: u128, rows: Vec<u64>, vars: Vec<FullVar>) -> FullSide
     requires { IsWithinFullBounds record { fixed = fixed; rows = rows.items; vars = map plain_full_var vars.items } }
     ensures { plain_full_side result ≡ record { fixed = fixed; rows = rows.items; vars = map plain_full_var vars.items } }
 {

@@ -2,8 +2,7 @@ ghost use Rattle.std.specs.Prelude.{◌≡◌, ◌+◌, ◌-◌, ◌*◌, ◌/�
 ghost use Rattle.cell_values.specs.Objects.{object_of};
 ghost use Rattle.placement_programme.specs.Plain.{plain_full_var};
 ghost use Rattle.placement_programme.specs.Rows.{rounded_up};
-ghost use Rattle.energy_model.specs.Energy.{into_price, object_rounds};
-ghost use Rattle.placement_candidates.specs.Counted.{total, reads_of, writes_of, home_price, moved_price, counted_var, counted_vars, CountsAccesses};
+ghost use Rattle.placement_candidates.specs.Counted.{total, reads_of, writes_of, home_price, moved_price, counted_gain, counted_var, counted_vars, CountsAccesses};
 
 use board_config::{Board, Prices};
 use energy_model::{into_price, object_rounds};
@@ -49,7 +48,7 @@ fn gain(reads: u128, writes: u128, object: &Object, prices: &Prices) -> i128
 }
 
 /// The bytes of the scratchpad that an object takes, with those before it in its first chunk.
-fn span(object: &Object, grain: u32) -> u64
+pub(crate) fn span(object: &Object, grain: u32) -> u64
     requires { 0 < grain }
     ensures { result ≡ rounded_up grain (object.now.home % grain + object.now.size) }
 {
@@ -74,11 +73,23 @@ fn writes_of(profile: &Profile, k: usize) -> u128
     total(&profile.writes[k])
 }
 
-fn object_at(graph: &Graph, k: usize) -> Object
+pub(crate) fn object_at(graph: &Graph, k: usize) -> Object
     requires { k < length graph.now.objects.items }
     ensures { result ≡ object_of graph.now k }
 {
     graph.objects[k]
+}
+
+/// What object `k` saves throughout.
+pub(crate) fn data_gain(profile: &Profile, graph: &Graph, k: usize, prices: &Prices) -> i128
+    requires inside { k < length graph.now.objects.items }
+    requires accesses { CountsAccesses graph.now profile.now }
+    ensures { result ≡ counted_gain prices.now profile.now graph.now k }
+{
+    let object = object_at(graph, k);
+    let reads = reads_of(profile, k);
+    let writes = writes_of(profile, k);
+    gain(reads, writes, &object, prices)
 }
 
 /// The variable of object `k`.
@@ -95,14 +106,11 @@ fn var_of(
     ensures { IfOk result (λ v. plain_full_var v ≡ counted_var board.now.prices profile.now graph.now board.now.grain k) }
 {
     let object = object_at(graph, k);
-    let reads = reads_of(profile, k);
-    let writes = writes_of(profile, k);
-    let gain = gain(reads, writes, &object, &board.prices);
     let weights = vec![in alloc; (0, span(&object, board.grain)), (1, JOB_BYTES)]?;
     let name = VarName::StaticData { object: k as u32 };
     Ok(FullVar {
         name,
-        gain,
+        gain: data_gain(profile, graph, k, &board.prices),
         weights,
     })
 }

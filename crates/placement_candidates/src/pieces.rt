@@ -53,7 +53,7 @@ fn gain(counts: &PieceCounts, rounds: u32, prices: &Prices) -> i128
 }
 
 /// The bytes of the scratchpad that a copy takes.
-fn span(bytes: u32, grain: u32) -> u64
+pub(crate) fn span(bytes: u32, grain: u32) -> u64
     requires { 0 < grain }
     ensures { result ≡ rounded_up grain bytes }
 {
