@@ -75,7 +75,7 @@ energies_of view board g c t pieces q transitions p one are is =
 
 -- ---- energies
 
-at_most_base : (base : ℕ) (saved : ℤ) (n : ℕ) → pos base -ℤ saved ≡ pos n → saved ≤ℤ pos base
+pub at_most_base : (base : ℕ) (saved : ℤ) (n : ℕ) → pos base -ℤ saved ≡ pos n → saved ≤ℤ pos base
 at_most_base base saved n is = omega (arith, ints, is)
 
 -- a choice whose energy is that of a run saves no more than the base
