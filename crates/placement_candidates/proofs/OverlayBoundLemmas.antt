@@ -31,7 +31,8 @@ use Rattle.placement_programme.specs.Plain.{PlainFullVar}
 use Rattle.placement_programme.specs.Bounds.{AreWeights, value_of}
 use Rattle.placement_programme.specs.Rows.{Layout, Candidate, static_data, static_code, overlay_data, overlay_code, kept_data, in_rows, blocks_of, block_row, object_row, patch_row, data_span, code_span, on_code_bytes, overlay_data_bytes, kept_data_bytes, first_twin, fixed_bytes, on_capacities, on_weights, IsCandidateOf}
 use Rattle.placement_programme.proofs.RowLemmas.{weights_in_rows, on_length}
-use Rattle.placement_candidates.proofs.PieceLemmas.{abs_difference, job_within, came_few}
+use Rattle.placement_candidates.proofs.PieceLemmas.{abs_difference, came_few}
+use Rattle.placement_candidates.proofs.StatedLemmas.{job_small}
 
 -- ---- objects
 
@@ -46,9 +47,6 @@ accesses_few prices fast reads writes lawful first second =
     let left = mul-le reads (if fast then prices.spm_read else prices.main_read) 2000000000 10000 first read in
     let right = mul-le writes (if fast then prices.spm_write else prices.main_write) 2000000000 10000 second write in
     omega (arith, left, right)
-
-into_few : (prices : Prices) (n : ℕ) → AreLawfulPrices prices → n ≤ 4294967296 → into_price prices n ≤ 400000000000000
-into_few prices n lawful few = let within = job_within prices n 4294967296 lawful few in omega (arith, within)
 
 back_few : (prices : Prices) (n : ℕ) → AreLawfulPrices prices → n ≤ 4294967296 → back_price prices n ≤ 400000000000000
 back_few prices n lawful few =
@@ -66,7 +64,7 @@ pub object_few : (prices : Prices) (o : Object) (counts : ObjectCounts) → AreL
 object_few prices o counts lawful small few =
     let home = accesses_few prices false counts.reads counts.writes lawful small.reads small.writes in
     let fast = accesses_few prices true counts.reads counts.writes lawful small.reads small.writes in
-    let into = mul-le counts.enters (into_price prices (object_rounds o)) 18000000000 400000000000000 small.enters (into_few prices (object_rounds o) lawful few) in
+    let into = mul-le counts.enters (into_price prices (object_rounds o)) 18000000000 400000000000000 small.enters (job_small prices (object_rounds o) lawful few) in
     let back = mul-le counts.leaves (if o.writable then back_price prices (object_rounds o) else 0) 18000000000 400000000000000 small.leaves
     (if_few o.writable (back_price prices (object_rounds o)) 400000000000000 (back_few prices (object_rounds o) lawful few)) in
     abs_difference (accesses_price prices false counts.reads counts.writes) (accesses_price prices true counts.reads counts.writes + object_copied prices o counts.enters counts.leaves) 20000000000000000000000000

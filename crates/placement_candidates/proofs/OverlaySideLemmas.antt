@@ -310,7 +310,6 @@ module _ (one : OneInstruction) (view : ElfView) (m : Measured) (objects : List 
               entries = entries_below k d below;
             };
         numbers = numbers;
-        patch = omega (arith, patch);
         side = record {
           fixed = omega arith;
           gains = gains_small few;

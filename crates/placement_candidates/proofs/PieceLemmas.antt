@@ -277,24 +277,6 @@ code_vars_weigh c g q prices grain rows (p ∷ pieces) is count can zero d below
 code_vars_weigh c g q prices grain rows (p ∷ pieces) is count can (suc k) d below =
     code_vars_weigh c g q prices grain rows pieces is count (λ j e inside. can (suc j) e (omega (arith, inside))) k d (omega (arith, below))
 
--- ---- the loop over the rows of a piece
-
-row_first : (b last : ℕ) → b ≤ last → in_rows (2 + b) (last + 1 - b) 1 ≡ (2 + b, 1) ∷ in_rows (2 + (b + 1)) (last + 1 - (b + 1)) 1
-row_first b last le =
-    let count : last + 1 - b ≡ suc (last + 1 - (b + 1)) = omega (arith, le) in
-    let next : suc (2 + b) ≡ 2 + (b + 1) = omega arith in
-    ap (λ n. in_rows (2 + b) n 1) count ∙ ap (λ r. (2 + b, 1) ∷ in_rows r (last + 1 - (b + 1)) 1) next
-
-shifted : (ws : List (ℕ × ℕ)) (x : ℕ × ℕ) (rest : List (ℕ × ℕ)) → (ws ++ x ∷ []) ++ rest ≡ ws ++ x ∷ rest
-shifted [] x rest = refl
-shifted (w ∷ ws) x rest = ap (λ (us : List (ℕ × ℕ)). w ∷ us) (shifted ws x rest)
-
-pub one_row : (ws new whole : List (ℕ × ℕ)) (b last : ℕ) → b ≤ last → new ≡ ws ++ (2 + b, 1) ∷ [] → ws ++ in_rows (2 + b) (last + 1 - b) 1 ≡ whole → new ++ in_rows (2 + (b + 1)) (last + 1 - (b + 1)) 1 ≡ whole
-one_row ws new whole b last le is before =
-    ap (λ (us : List (ℕ × ℕ)). us ++ in_rows (2 + (b + 1)) (last + 1 - (b + 1)) 1) is
-    ∙ (shifted ws (2 + b, 1) (in_rows (2 + (b + 1)) (last + 1 - (b + 1)) 1)
-    ∙ (ap (λ (us : List (ℕ × ℕ)). ws ++ us) (sym (row_first b last le)) ∙ before))
-
 -- ---- the loop over pieces
 
 shifted_vars : (vs : List PlainFullVar) (us more : List PlainFullVar) → (vs ++ us) ++ more ≡ vs ++ (us ++ more)

@@ -1,5 +1,5 @@
 -- The side with overlay, as it is counted from the tables of a profile.
-use Rattle.std.specs.Prelude.{◌≡◌, ℕ, ◌+◌, ◌*◌, ◌/◌, ◌^◌, ◌<◌, ◌≤◌, ℤ, if◌then◌else◌, Option, Some, None, List, ◌++◌, map, length, slice_index_or}
+use Rattle.std.specs.Prelude.{◌≡◌, ℕ, ◌+◌, ◌*◌, ◌/◌, ◌<◌, ◌≤◌, ℤ, if◌then◌else◌, Option, Some, None, List, ◌++◌, map, length, slice_index_or}
 use Rattle.std.specs.List.{All}
 use Rattle.object_graph.specs.Lookups.{IsSomeGraph}
 use Rattle.points_to.specs.Overlaid.{region_in}
@@ -107,5 +107,4 @@ pub record CanCountOverlay (m : Measured) (objects : List ℕ) : Type 0 where
   pub gain : CanGain m
   pub pieces : All (CanWeighPiece m) m.pieces.now
   pub numbers : All (λ o. o < length m.graph.now.objects.items) objects
-  pub patch : m.board.now.patch.size < 2 ^ 32
   pub side : IsWithinFullBounds (record { fixed = 0; rows = on_capacities (layout_in m); vars = on_vars m objects })

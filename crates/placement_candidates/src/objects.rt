@@ -12,7 +12,7 @@ use profile_runner::Profile;
 use std::alloc::{AllocError, Global};
 
 /// The patch bytes of a copy job.
-const JOB_BYTES: u64 = 44;
+pub(crate) const JOB_BYTES: u64 = 44;
 
 /// The counts of a row, summed.
 fn total(row: &[u64]) -> u128

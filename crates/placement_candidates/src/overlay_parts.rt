@@ -10,18 +10,13 @@ ghost use Rattle.placement_candidates.specs.Stated.{is_border, displaced_at, par
 ghost use Rattle.placement_candidates.specs.Overlaid.{displaced_at_border, displaced_below};
 
 use crate::measured::Measured;
-use crate::objects::{object_at, span as data_span};
+use crate::objects::{JOB_BYTES, object_at, span as data_span};
 use crate::overlay_rows::{OverlayRows, RowDatum, RowPart};
-use crate::pieces::span as code_span;
+use crate::pieces::{STUB_BYTES, span as code_span};
 use block_splitter::{Piece, UnitKind, kind_of};
 use board_config::Board;
 use code_blocks::Block;
 use std::alloc::{AllocError, Global};
-
-/// The patch bytes of a copy job, and of the stub of an entry.
-const JOB_BYTES: u64 = 44;
-
-const STUB_BYTES: u64 = 8;
 
 /// How many words a unit has at most where it is displaced.
 fn displaced_size(kind: &UnitKind) -> u32

@@ -2,11 +2,9 @@ ghost use Rattle.std.specs.Prelude.{◌≡◌, ◌+◌, ◌-◌, ◌*◌, ◌%�
 ghost use Rattle.placement_programme.specs.Rows.{in_rows, block_row, object_row, static_data, static_code, overlay_data, overlay_code, kept_data};
 ghost use Rattle.placement_candidates.specs.OverlayRows.{IsSmall, IsCandidate, IsDatum, IsPart, rows_layout, weights_of};
 
+use crate::objects::JOB_BYTES;
 use placement_programme::VarName;
 use std::alloc::{AllocError, Global};
-
-/// The patch bytes of a copy job.
-const JOB_BYTES: u64 = 44;
 
 /// What the rows with overlay depend on.
 #[derive(Clone, Copy)]

@@ -5,6 +5,8 @@ ghost use Rattle.placement_programme.specs.Rows.{rounded_up, in_rows};
 ghost use Rattle.energy_model.specs.Counts.{most_run};
 ghost use Rattle.placement_candidates.specs.Counted.{copied_price, piece_weights, counted_code_gain, counted_code_var, CanCountPiece, AreTables};
 
+use crate::objects::JOB_BYTES;
+use crate::overlay_rows::push_rows;
 use block_splitter::{BlockRange, Piece};
 use board_config::{Board, Prices};
 use code_blocks::Code;
@@ -14,10 +16,8 @@ use placement_programme::{FullVar, VarName};
 use profile_runner::Profile;
 use std::alloc::{AllocError, Global};
 
-/// The patch bytes of a copy job, and of the stub of an entry.
-const JOB_BYTES: u64 = 44;
-
-const STUB_BYTES: u64 = 8;
+/// The patch bytes of the stub of an entry.
+pub(crate) const STUB_BYTES: u64 = 8;
 
 /// What the variables of pieces are made from.
 #[derive(Drop)]
@@ -69,18 +69,6 @@ fn patch_bytes(piece: &Piece) -> u64
     JOB_BYTES + u64::from(piece.bytes) + STUB_BYTES * piece.entries.len() as u64
 }
 
-/// Adds the rows of the blocks of a piece.
-fn push_rows(weights: &mut Vec<(u32, u64)>, first: u32, last: u32) -> Result<(), AllocError>
-    requires ordered { first ≤ last }
-    requires few { last < 2 ^ 31 }
-    ensures { OnOk result (weights.new.items ≡ weights.old.items ++ in_rows (2 + first) (last + 1 - first) 1) }
-{
-    for b in first..last + 1 {
-        weights.push((2 + b, 1))?;
-    }
-    Ok(())
-}
-
 /// What a piece weighs: its space, its patch bytes, and a row for each of its blocks.
 fn weights(alloc: Global, piece: &Piece, grain: u32) -> Result<Vec<(u32, u64)>, AllocError>
     requires grain { 0 < grain }
@@ -90,7 +78,8 @@ fn weights(alloc: Global, piece: &Piece, grain: u32) -> Result<Vec<(u32, u64)>, 
     ensures { IfOk result (λ v. v.items ≡ piece_weights grain piece.now) }
 {
     let mut weights = vec![in alloc; (0, span(piece.bytes, grain)), (1, patch_bytes(piece))]?;
-    push_rows(&mut weights, piece.first, piece.last)?;
+    let blocks = piece.last + 1 - piece.first;
+    push_rows(&mut weights, 2 + piece.first, blocks, 1)?;
     Ok(weights)
 }
 
