@@ -14,6 +14,7 @@ mod large;
 mod moved;
 mod piece_table;
 mod profile_table;
+mod programme_table;
 
 use crate::code_tables::{print_blocks, print_counts, print_units};
 use crate::file_tables::{
@@ -25,6 +26,7 @@ use crate::large::large_file;
 use crate::moved::print_moved;
 use crate::piece_table::print_pieces;
 use crate::profile_table::print_profile;
+use crate::programme_table::print_programme;
 use anyhow::{Context, Result, bail};
 use board_config::{Board, read_board};
 use elf_reader::{ElfView, read};
@@ -35,6 +37,9 @@ use text_lines::{named_texts, print_line, print_text};
 
 /// The name of the program that is made rather than read.
 const LARGE: &str = "large";
+
+/// What stands before the name of the input for which a programme is stated.
+const PROGRAMME: &str = "programme<";
 
 /// Whether a table is of a file whose code is not followed.
 fn is_of_file(table: &str) -> bool {
@@ -113,9 +118,9 @@ fn list_program_table(
     }
 }
 
-/// Lists tables of an analysed program. A table is `NAME`, or `NAME=N` for the first N blocks.
+/// Lists tables of an analysed program. A table is `NAME`, or `NAME=N` for the first N blocks, or `programme<INPUT`.
 fn list_tables(
-    rt: &(impl Print + AllocGlobal),
+    rt: &(impl Files + Print + AllocGlobal),
     tables: &str,
     analysis: &Analysis<'_>,
     board: &Board,
@@ -124,6 +129,12 @@ fn list_tables(
     requires analysed { (file : List ℕ) × IsAnalysisOf file board.now analysis.now }
 {
     for table in tables.split(',') {
+        if let Some(input) = table.strip_prefix(PROGRAMME) {
+            print_title(rt, table)?;
+            let input = fs::read(rt, input)?;
+            print_programme(rt, analysis, board, &input)?;
+            continue;
+        }
         let (name, most) = match table.split_once('=') {
             Some((name, most)) => (name, most.parse::<usize>().context("no number of blocks")?),
             None => (table, usize::MAX),
@@ -135,7 +146,7 @@ fn list_tables(
 
 /// Lists tables of a program that is analysed for a board, or the fault of its analysis.
 fn list_program(
-    rt: &(impl Print + AllocGlobal),
+    rt: &(impl Files + Print + AllocGlobal),
     tables: &str,
     bytes: &[u8],
     board: &Board,

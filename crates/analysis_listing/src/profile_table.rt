@@ -5,7 +5,7 @@ ghost use Rattle.relink_core.specs.Choices.{IsAnalysisOf};
 use anyhow::Result;
 use board_config::Board;
 use object_machine::Outcome;
-use profile_runner::{Edge, Profile};
+use profile_runner::{Edge, Profile, ProfileFault};
 use relink_core::Analysis;
 use relinking::measured_run;
 use text_lines::{
@@ -22,11 +22,14 @@ pub(crate) fn print_profile(
 {
     match measured_run(rt.alloc(), analysis, board, b"") {
         Ok(measured) => print_counts(rt, &measured.profile),
-        Err(fault) => {
-            println!(rt; "fault: {fault}")?;
-            Ok(())
-        }
+        Err(fault) => print_fault(rt, &fault),
     }
+}
+
+/// The address fault of a run.
+pub(crate) fn print_fault(rt: &impl Print, fault: &ProfileFault) -> Result<()> {
+    println!(rt; "fault: {fault}")?;
+    Ok(())
 }
 
 fn print_counts(rt: &impl Print, profile: &Profile) -> Result<()> {

@@ -8,15 +8,4 @@ pub mod SideLemmas
 pub mod ApartLemmas
 pub mod ChoiceLemmas
 pub mod PieceLemmas
-pub mod WholeLemmas
-pub mod CandidateLemmas
-pub mod WholeChoices
-pub mod SitedLemmas
-pub mod FoundLemmas
-pub mod OverlayRowLemmas
-pub mod PieceRegionLemmas
-pub mod OverlayVarLemmas
-pub mod OverlayGainLemmas
-pub mod EachLemmas
-pub mod OverlayBoundLemmas
-pub mod OverlaySideLemmas
+pub mod RowLemmas

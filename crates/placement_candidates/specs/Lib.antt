@@ -2,12 +2,7 @@ pub use Rattle.placement_programme.specs.Rows
 pub use Rattle.placement_programme.specs.Views
 pub use Rattle.energy_model.specs.Scenes
 pub mod Stated
-pub mod Overlaid
-pub mod Found
 pub mod Counted
 pub mod Selected
 pub mod Adding
-pub mod Whole
 pub mod Ranking
-pub mod OverlayRows
-pub mod OverlayCounted

@@ -31,7 +31,7 @@ fn start_size(board: &Board) -> u32
 
 /// What a start stub costs that copies nothing: four words that clear registers, a jump, and a fence where the board
 /// asks for one.
-pub(crate) fn stub_price(board: &Board) -> u128
+pub fn stub_price(board: &Board) -> u128
     ensures is { result ≡ stub_price board.now }
     ensures small { result < 2 ^ 70 }
 {
@@ -52,7 +52,8 @@ fn off_rows(alloc: Global, board: &Board, blocks: usize) -> Result<Vec<u64>, All
 }
 
 /// A side of these parts.
-pub(crate) fn side_of(fixed: u128, rows: Vec<u64>, vars: Vec<FullVar>) -> FullSide
+/// A side of these parts.
+pub fn side_of(fixed: u128, rows: Vec<u64>, vars: Vec<FullVar>) -> FullSide
     requires { IsWithinFullBounds record { fixed = fixed; rows = rows.items; vars = map plain_full_var vars.items } }
     ensures { plain_full_side result ≡ record { fixed = fixed; rows = rows.items; vars = map plain_full_var vars.items } }
 {

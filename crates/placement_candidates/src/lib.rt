@@ -2,27 +2,18 @@
 #![tactic(auto)]
 
 mod adding;
-mod border_registers;
 mod counting;
-mod finding;
-mod measured;
 mod objects;
-mod overlaid_vars;
-mod overlay_gains;
-mod overlay_parts;
-mod overlay_rows;
-mod piece_regions;
 mod pieces;
 mod ranking;
-mod region_sites;
 mod selecting;
 mod stating;
-mod whole_side;
+mod weight_rows;
 
-pub use adding::{energy_adds_up, off_side_stays, overlay_adds_up, whole_energy_is_of_the_run};
-pub use counting::full;
-pub use finding::overlaid_objects;
-pub use measured::Measured;
+pub use adding::energy_adds_up;
+pub use counting::{full, side_of, stub_price};
+pub use objects::{data_gain, data_span, object_at};
+pub use pieces::code_span;
 pub use selecting::select;
 pub use stating::programme;
-pub use whole_side::{whole_full, whole_programme};
+pub use weight_rows::{JOB_BYTES, STUB_BYTES, push_rows};

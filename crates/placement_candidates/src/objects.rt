@@ -4,15 +4,13 @@ ghost use Rattle.placement_programme.specs.Plain.{plain_full_var};
 ghost use Rattle.placement_programme.specs.Rows.{rounded_up};
 ghost use Rattle.placement_candidates.specs.Counted.{total, reads_of, writes_of, home_price, moved_price, counted_gain, counted_var, counted_vars, CountsAccesses};
 
+use crate::weight_rows::JOB_BYTES;
 use board_config::{Board, Prices};
 use energy_model::{into_price, object_rounds};
 use object_graph::{Graph, Object};
 use placement_programme::{FullVar, VarName};
 use profile_runner::Profile;
 use std::alloc::{AllocError, Global};
-
-/// The patch bytes of a copy job.
-pub(crate) const JOB_BYTES: u64 = 44;
 
 /// The counts of a row, summed.
 fn total(row: &[u64]) -> u128
@@ -48,7 +46,7 @@ fn gain(reads: u128, writes: u128, object: &Object, prices: &Prices) -> i128
 }
 
 /// The bytes of the scratchpad that an object takes, with those before it in its first chunk.
-pub(crate) fn span(object: &Object, grain: u32) -> u64
+pub fn data_span(object: &Object, grain: u32) -> u64
     requires { 0 < grain }
     ensures { result ≡ rounded_up grain (object.now.home % grain + object.now.size) }
 {
@@ -73,7 +71,8 @@ fn writes_of(profile: &Profile, k: usize) -> u128
     total(&profile.writes[k])
 }
 
-pub(crate) fn object_at(graph: &Graph, k: usize) -> Object
+/// Object `k` of a graph.
+pub fn object_at(graph: &Graph, k: usize) -> Object
     requires { k < length graph.now.objects.items }
     ensures { result ≡ object_of graph.now k }
 {
@@ -81,7 +80,7 @@ pub(crate) fn object_at(graph: &Graph, k: usize) -> Object
 }
 
 /// What object `k` saves throughout.
-pub(crate) fn data_gain(profile: &Profile, graph: &Graph, k: usize, prices: &Prices) -> i128
+pub fn data_gain(profile: &Profile, graph: &Graph, k: usize, prices: &Prices) -> i128
     requires inside { k < length graph.now.objects.items }
     requires accesses { CountsAccesses graph.now profile.now }
     ensures { result ≡ counted_gain prices.now profile.now graph.now k }
@@ -106,7 +105,7 @@ fn var_of(
     ensures { IfOk result (λ v. plain_full_var v ≡ counted_var board.now.prices profile.now graph.now board.now.grain k) }
 {
     let object = object_at(graph, k);
-    let weights = vec![in alloc; (0, span(&object, board.grain)), (1, JOB_BYTES)]?;
+    let weights = vec![in alloc; (0, data_span(&object, board.grain)), (1, JOB_BYTES)]?;
     let name = VarName::StaticData { object: k as u32 };
     Ok(FullVar {
         name,

@@ -5,8 +5,7 @@ ghost use Rattle.placement_programme.specs.Rows.{rounded_up, in_rows};
 ghost use Rattle.energy_model.specs.Counts.{most_run};
 ghost use Rattle.placement_candidates.specs.Counted.{copied_price, piece_weights, counted_code_gain, counted_code_var, CanCountPiece, AreTables};
 
-use crate::objects::JOB_BYTES;
-use crate::overlay_rows::push_rows;
+use crate::weight_rows::{JOB_BYTES, STUB_BYTES, push_rows};
 use block_splitter::{BlockRange, Piece};
 use board_config::{Board, Prices};
 use code_blocks::Code;
@@ -15,9 +14,6 @@ use object_graph::Graph;
 use placement_programme::{FullVar, VarName};
 use profile_runner::Profile;
 use std::alloc::{AllocError, Global};
-
-/// The patch bytes of the stub of an entry.
-pub(crate) const STUB_BYTES: u64 = 8;
 
 /// What the variables of pieces are made from.
 #[derive(Drop)]
@@ -53,7 +49,7 @@ fn gain(counts: &PieceCounts, rounds: u32, prices: &Prices) -> i128
 }
 
 /// The bytes of the scratchpad that a copy takes.
-pub(crate) fn span(bytes: u32, grain: u32) -> u64
+pub fn code_span(bytes: u32, grain: u32) -> u64
     requires { 0 < grain }
     ensures { result ≡ rounded_up grain bytes }
 {
@@ -77,7 +73,7 @@ fn weights(alloc: Global, piece: &Piece, grain: u32) -> Result<Vec<(u32, u64)>, 
     requires entries { length piece.now.entries.items ≤ 2 ^ 32 }
     ensures { IfOk result (λ v. v.items ≡ piece_weights grain piece.now) }
 {
-    let mut weights = vec![in alloc; (0, span(piece.bytes, grain)), (1, patch_bytes(piece))]?;
+    let mut weights = vec![in alloc; (0, code_span(piece.bytes, grain)), (1, patch_bytes(piece))]?;
     let blocks = piece.last + 1 - piece.first;
     push_rows(&mut weights, 2 + piece.first, blocks, 1)?;
     Ok(weights)

@@ -1,0 +1,11 @@
+pub mod CandidateLemmas
+pub mod EachLemmas
+pub mod FoundLemmas
+pub mod OverlayBoundLemmas
+pub mod OverlayGainLemmas
+pub mod OverlaySideLemmas
+pub mod OverlayVarLemmas
+pub mod PieceRegionLemmas
+pub mod SitedLemmas
+pub mod WholeChoices
+pub mod WholeLemmas

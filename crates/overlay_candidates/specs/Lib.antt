@@ -1,0 +1,5 @@
+pub mod Found
+pub mod Overlaid
+pub mod OverlayCounted
+pub mod OverlayRows
+pub mod Whole

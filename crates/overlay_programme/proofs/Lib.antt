@@ -1,0 +1,2 @@
+pub mod FewObjects
+pub mod BothEnergies

@@ -1,0 +1,38 @@
+-- The programme of a placement with overlay that the run of a program states, by a table of regions.
+use Rattle.std.specs.Prelude.{◌≡◌, ℕ, pos, List}
+use Rattle.elf_reader.specs.File.{PlainView}
+use Rattle.board_config.specs.declared.board.Board.{Board}
+use Rattle.object_graph.specs.declared.parts.Graph.{Graph}
+use Rattle.code_blocks.specs.declared.parts.Code.{Code}
+use Rattle.block_splitter.specs.declared.piece.Piece.{Piece}
+use Rattle.object_machine.specs.Program.{program_of}
+use Rattle.object_machine.specs.State.{SourceState}
+use Rattle.object_machine.specs.Start.{start_of}
+use Rattle.region_former.specs.declared.table.RegionTable.{RegionTable}
+use Rattle.placement_programme.specs.Plain.{PlainProgramme, PlainChoice}
+use Rattle.placement_programme.specs.Programme.{IsFeasible, energy as programme_energy}
+use Rattle.profile_runner.specs.Transition.{Transition}
+use Rattle.profile_runner.specs.Transitions.{Transitions}
+use Rattle.energy_model.specs.Energy.{Scene, energy}
+use Rattle.energy_model.specs.Scenes.{scene_of}
+use Rattle.overlay_candidates.specs.Overlaid.{AreOverlaidObjects, overlay_layout}
+use Rattle.overlay_candidates.specs.Whole.{whole_stated, taken_of}
+use Rattle.printed_lines.specs.Endings.{IsAddressFault}
+
+-- the energy of each feasible choice of either side is that of the transitions with what it takes
+abbrev pub BothEnergiesAreOf : Scene → List Transition → PlainProgramme → Type 0
+BothEnergiesAreOf w transitions p =
+    (choice : PlainChoice) → IsFeasible p choice → programme_energy p choice ≡ pos (energy w (taken_of p choice) transitions)
+
+-- The program, started on the input, takes the board's steps, or fewer where it ends. These are its transitions, which
+-- meet no address fault, and they state this programme for the objects that may move, of which these may be overlaid, and
+-- for these pieces of code.
+pub record StatesBothSides (v : PlainView) (board : Board) (g : Graph) (c : Code) (t : RegionTable) (pieces : List Piece) (input : List ℕ) (p : PlainProgramme) : Type 0 where
+  pub transitions : List Transition
+  pub last : SourceState
+  pub run : Transitions (program_of v board g) board.steps (start_of v (program_of v board g) g input) transitions last
+  pub no_address_fault : IsAddressFault last.outcome → ⊥
+  pub overlaid : List ℕ
+  pub are_overlaid : AreOverlaidObjects c g t overlaid
+  pub programme_is : p ≡ whole_stated (scene_of g c t board) (overlay_layout g c t board) overlaid pieces transitions
+  pub energies : BothEnergiesAreOf (scene_of g c t board) transitions p

@@ -1,0 +1,61 @@
+ghost use Rattle.std.specs.Prelude.{ℕ, List, Err, IfOk, IfErr};
+ghost use Rattle.elf_reader.specs.File.{plain_view};
+ghost use Rattle.board_config.specs.declared.board.Board.{Board};
+ghost use Rattle.placement_programme.specs.Views.{plain_programme};
+ghost use Rattle.relink_core.specs.Choices.{IsAnalysisOf};
+ghost use Rattle.relinking.specs.Runs.{ReportsCounts};
+ghost use Rattle.overlay_candidates.specs.Overlaid.{AreOverlaidObjects};
+ghost use Rattle.overlay_programme.specs.BothSides.{StatesBothSides};
+
+use board_config::Board;
+use overlay_candidates::{Measured, overlaid_objects, whole_programme};
+use placement_programme::Programme;
+use profile_runner::ProfileFault;
+use relink_core::{Analysis, points_of};
+use relinking::measured_run;
+use std::alloc::{AllocError, Global};
+
+/// The objects of an analysed program that may be overlaid, by number. It fails only where no memory was left.
+fn objects_of(alloc: Global, analysis: &Analysis<'_>) -> Result<Vec<u32>, AllocError>
+    requires { (file : List ℕ) × ((board : Board) × IsAnalysisOf file board analysis.now) }
+    ensures { IfOk result (λ objects. AreOverlaidObjects analysis.now.code analysis.now.graph analysis.now.regions objects.items) }
+{
+    let points = points_of(alloc, analysis)?;
+    overlaid_objects(
+        alloc,
+        &analysis.code,
+        &analysis.graph,
+        &analysis.live,
+        &points,
+        &analysis.regions,
+    )
+}
+
+/// The programme of both sides that the run of an analysed program states, for the board's steps.
+///
+/// The error is the address fault of the run. `Memory` comes only where no memory was left.
+pub fn both_sides_of_run(
+    alloc: Global,
+    analysis: &Analysis<'_>,
+    board: &Board,
+    input: &[u8],
+) -> Result<Programme, ProfileFault>
+    requires { (file : List ℕ) × IsAnalysisOf file board.now analysis.now }
+    ensures ok { IfOk result (λ p. StatesBothSides (plain_view analysis.now.view) board.now analysis.now.graph analysis.now.code analysis.now.regions analysis.now.pieces.items input.now (plain_programme p)) }
+    ensures err { IfErr result (λ fault. ReportsCounts (plain_view analysis.now.view) board.now analysis.now.graph analysis.now.code analysis.now.regions input.now (Err fault)) }
+{
+    let measured = measured_run(alloc, analysis, board, input)?;
+    let objects = objects_of(alloc, analysis)?;
+    let tables = Measured {
+        profile: &measured.profile,
+        graph: &analysis.graph,
+        code: &analysis.code,
+        regions: &analysis.regions,
+        pieces: &analysis.pieces,
+        board,
+    };
+    match whole_programme(alloc, &tables, &objects) {
+        Ok(programme) => Ok(programme),
+        Err(error) => Err(ProfileFault::from(error)),
+    }
+}
