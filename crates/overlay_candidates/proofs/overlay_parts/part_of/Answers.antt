@@ -8,4 +8,4 @@ pub returns-clause-is : goal.returns-clause-is
 returns-clause-is c =
     let entries = part_entries (scene_in c.args.m.now) c.args.piece.now in
     let bytes = c.patch_bytes.ensures in
-    record { first = refl; last = refl; span = sym c.span.ensures; patch = omega (arith, entries, bytes) }
+    record { first = refl; last = refl; span = sym c.code_span.ensures; patch = omega (arith, entries, bytes) }
