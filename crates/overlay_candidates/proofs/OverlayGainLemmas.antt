@@ -1,9 +1,7 @@
 -- What a candidate saves with overlay is counted.
-use Rattle.std.proofs.Common.{◌≡◌, ◌∙◌, ℕ, zero, suc, ◌+◌, ◌*◌, ◌/◌, ◌<◌, ◌≤◌, ◌==◌, not, ◌&&◌, Bool, true, false, pos, ◌-ℤ◌, List, [], ◌∷◌, ◌++◌, length, map, slice_index_or, Option, Some, None, refl, sym, ap, arith, if◌then◌else◌}
-use Rattle.std.specs.List.{All, filter, sum_by}
+use Rattle.std.proofs.Common.{◌≡◌, ◌∙◌, ℕ, ◌+◌, ◌*◌, ◌/◌, ◌<◌, ◌≤◌, ◌==◌, not, Bool, true, false, pos, ◌-ℤ◌, List, [], ◌∷◌, length, slice_index_or, Option, Some, None, refl, sym, ap, arith, if◌then◌else◌}
 use Rattle.std.proofs.lemmas.Int.{ints}
 use Rattle.std.proofs.lemmas.List.Sums.{sum_by-cons}
-use Rattle.list_checks.specs.Sorted.{sum_below}
 use Rattle.list_checks.proofs.SumLemmas.{sum_same}
 use Rattle.rv_decode.specs.Table.{OneInstruction}
 use Rattle.elf_reader.specs.declared.view.ElfView.{ElfView}
@@ -18,7 +16,7 @@ use Rattle.profile_runner.specs.Transition.{Transition, transition_at}
 use Rattle.placement_programme.specs.declared.variables.VarName.TheVariants.{StaticData, KeptData}
 use Rattle.block_splitter.specs.declared.piece.Piece.{Piece}
 use Rattle.cell_values.specs.Objects.{object_of, datum_of}
-use Rattle.energy_model.specs.Energy.{Scene, steps_energy, side_energy, start_job, step_energy, region_before, region_with, object_rounds, into_price, nothing_taken, stub_energy, piece_rounds}
+use Rattle.energy_model.specs.Energy.{Scene, steps_energy, start_job, step_energy, region_before, region_with, into_price, nothing_taken, stub_energy, piece_rounds}
 use Rattle.energy_model.specs.Scenes.{scene_of, AreOfSameFile}
 use Rattle.energy_model.specs.Priced.{touches_price, touch_price, range}
 use Rattle.energy_model.specs.Together.{taken}

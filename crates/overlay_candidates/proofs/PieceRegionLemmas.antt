@@ -1,10 +1,10 @@
 -- The region of a piece.
-use Rattle.std.proofs.Common.{◌≡◌, ◌∙◌, inl, inr, ℕ, ◌+◌, ◌<◌, ◌≤◌, ◌==◌, ◌≢◌, nat_le, Bool, true, false, not, ◌&&◌, List, length, slice_index_or, refl, sym, ap, arith, if◌then◌else◌}
+use Rattle.std.proofs.Common.{◌≡◌, ◌∙◌, inl, inr, ℕ, ◌<◌, ◌≤◌, ◌==◌, ◌≢◌, nat_le, Bool, true, false, not, ◌&&◌, List, length, slice_index_or, refl, sym, ap, arith}
 use Rattle.std.proofs.lemmas.Bool.{cases_eq}
 use Rattle.std.proofs.lemmas.Bool.Decides.{nat_tests}
 use Rattle.std.proofs.lemmas.List.{get_or_default}
 use Rattle.list_checks.specs.Tests.{any_below}
-use Rattle.list_checks.proofs.TestLemmas.{any_at, any_found, both, not_true, not_not}
+use Rattle.list_checks.proofs.TestLemmas.{any_at, any_found, both, not_true}
 use Rattle.block_splitter.specs.declared.piece.Piece.{Piece}
 use Rattle.block_splitter.specs.Forms.{holds_block}
 use Rattle.block_splitter.specs.Pieces.{range_of}

@@ -30,7 +30,7 @@ fn has_room(m: &Measured<'_>) -> bool
     m.regions.count > 0 && fixed_bytes(m) <= u64::from(m.board.patch.size)
 }
 
-/// What the patch range can hold behind these bytes.
+/// What the patch range can hold behind the bytes that no variable changes.
 fn patch_left(m: &Measured<'_>) -> u64
     requires { CanWeigh m.now }
     ensures { result ≡ m.now.board.now.patch.size - fixed_bytes (layout_in m.now) }
@@ -103,8 +103,9 @@ fn on_side(alloc: Global, m: &Measured<'_>, objects: &[u32]) -> Result<Option<Fu
 /// The programme of both sides that a run states, with all that may be taken, also what saves nothing.
 ///
 /// The side without overlay is that of `full`, whose conditions are asked of the run. `objects` are those that may be
-/// overlaid, by number. There is a side with overlay where there is a region, something may be overlaid, and the
-/// patch range has room for the bytes that no variable changes.
+/// overlaid, by number. There are at most 4,096 objects, as in each file without layout faults. There is a side with
+/// overlay where there is a region, something may be overlaid, and the patch range has room for the bytes that no
+/// variable changes.
 ///
 /// It fails only where no memory was left.
 pub fn whole_full(alloc: Global, m: &Measured<'_>, objects: &[u32]) -> Result<Full, AllocError>

@@ -1,4 +1,4 @@
-use Rattle.std.proofs.Common.{◌+◌, ◌∷◌, [], map, slice_index_or, take, refl, add-one}
+use Rattle.std.proofs.Common.{◌+◌, ◌∷◌, [], map, slice_index_or, take}
 use Rattle.placement_programme.specs.Plain.{plain_full_var}
 use Rattle.std.specs.Prelude.{ℕ}
 use Rattle.placement_programme.specs.Rows.{overlay_data}

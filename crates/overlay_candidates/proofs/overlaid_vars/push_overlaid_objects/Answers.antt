@@ -1,4 +1,4 @@
-use Rattle.std.proofs.Common.{◌+◌, ◌∷◌, [], map, take, refl, add-one}
+use Rattle.std.proofs.Common.{◌+◌, map, refl, add-one}
 use Rattle.placement_programme.specs.Plain.{plain_full_var}
 use Rattle.overlay_candidates.specs.OverlayCounted.{scene_in, on_var}
 use Rattle.overlay_candidates.specs.Overlaid.{overlaid_objects, objects_in}

@@ -1,4 +1,4 @@
-use Rattle.std.proofs.Common.{◌+◌, ◌∷◌, [], map, take, refl, add-one}
+use Rattle.std.proofs.Common.{◌+◌, ◌∷◌, [], map, refl, add-one}
 use Rattle.placement_programme.specs.Plain.{plain_full_var}
 use Rattle.placement_programme.specs.Rows.{static_data}
 use Rattle.cell_values.specs.Objects.{datum_of}

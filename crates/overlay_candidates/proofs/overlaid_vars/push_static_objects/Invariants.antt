@@ -1,4 +1,4 @@
-use Rattle.std.proofs.Common.{◌≡◌, ◌++◌, map, take}
+use Rattle.std.proofs.Common.{◌≡◌, ◌++◌, map}
 use Rattle.placement_programme.specs.Plain.{plain_full_var}
 use Rattle.overlay_candidates.specs.OverlayCounted.{on_var}
 use Rattle.overlay_candidates.specs.Overlaid.{static_objects}
