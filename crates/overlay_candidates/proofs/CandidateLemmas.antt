@@ -1,18 +1,16 @@
 -- The candidates of both sides are of the layout.
-use Rattle.std.proofs.Common.{ℕ, zero, suc, ◌<◌, ◌≤◌, List, [], ◌∷◌, ◌++◌, arith}
-use Rattle.std.specs.List.{All, filter}
-use Rattle.std.proofs.lemmas.List.Elements.{All-nil, All-cons, All-append, All-map, All-filter}
+use Rattle.std.proofs.Common.{ℕ, ◌<◌, List, ◌++◌}
+use Rattle.std.specs.List.{All}
 use Rattle.board_config.specs.declared.board.Board.{Board}
 use Rattle.object_graph.specs.declared.parts.Graph.{Graph}
 use Rattle.code_blocks.specs.declared.parts.Code.{Code}
 use Rattle.region_former.specs.declared.table.RegionTable.{RegionTable}
-use Rattle.placement_programme.specs.Rows.{Layout, Candidate, static_data, static_code, overlay_data, overlay_code, kept_data, pairs_of, IsPartOf, IsCandidateOf}
+use Rattle.placement_programme.specs.Rows.{Layout, IsPartOf, IsCandidateOf}
 use Rattle.block_splitter.specs.declared.piece.Piece.{Piece}
-use Rattle.cell_values.specs.Objects.{datum_of}
 use Rattle.energy_model.specs.Energy.{Scene}
 use Rattle.energy_model.specs.Scenes.{scene_of}
 use Rattle.placement_candidates.specs.Stated.{part_of, AreSomePieces}
-use Rattle.overlay_candidates.specs.Overlaid.{AreOverlaidObjects, is_of_region, static_objects, static_pieces, objects_in, pieces_in, objects_of_pair, overlaid_objects, overlaid_pieces, kept_objects, static_candidates, overlay_candidates, overlay_layout}
+use Rattle.overlay_candidates.specs.Overlaid.{AreOverlaidObjects, static_candidates, overlay_candidates, overlay_layout}
 use Rattle.placement_candidates.proofs.ChoiceLemmas.{piece_range}
 use Rattle.overlay_candidates.proofs.EachLemmas.{each_candidate}
 

@@ -1,15 +1,14 @@
 -- What candidates save and weigh with overlay is within the bounds of a side.
-use Rattle.std.proofs.Common.{◌≡◌, ◌∙◌, inl, inr, ℕ, zero, suc, ◌+◌, ◌-◌, ◌*◌, ◌/◌, ◌^◌, ◌<◌, ◌≤◌, ◌==◌, ◌&&◌, Bool, true, false, ℤ, pos, ◌-ℤ◌, List, [], ◌∷◌, ◌++◌, length, map, replicate, slice_index_or, refl, sym, ap, arith, if◌then◌else◌}
+use Rattle.std.proofs.Common.{inl, inr, ℕ, zero, suc, ◌+◌, ◌-◌, ◌*◌, ◌^◌, ◌<◌, ◌≤◌, Bool, true, false, List, [], ◌∷◌, ◌++◌, length, map, replicate, slice_index_or, refl, arith, if◌then◌else◌}
 use Rattle.std.specs.List.{All, sum_by}
 use Rattle.std.specs.List.Sorted.{IsStrictlyIncreasing}
 use Rattle.std.specs.Prelude.{unsigned_abs}
 use Rattle.std.proofs.lemmas.Bool.{cases_lt}
 use Rattle.std.proofs.lemmas.List.Kept.{AllPairs-from_increasing}
-use Rattle.std.proofs.lemmas.List.Elements.{All-nil, All-cons, All-append, All-map, All-replicate}
+use Rattle.std.proofs.lemmas.List.Elements.{All-nil, All-cons, All-append, All-replicate}
 use Rattle.std.proofs.lemmas.List.Sums.{sum_by-cons}
 use Rattle.std.proofs.lemmas.Nat.{mul-le}
-use Rattle.board_config.specs.Board.{AreLawfulPrices, IsLawful}
-use Rattle.board_config.specs.declared.board.Board.{Board}
+use Rattle.board_config.specs.Board.{AreLawfulPrices}
 use Rattle.board_config.specs.declared.board.Prices.{Prices}
 use Rattle.object_graph.specs.declared.parts.Graph.{Graph}
 use Rattle.object_graph.specs.declared.parts.Object.{Object}
@@ -21,7 +20,7 @@ use Rattle.block_splitter.specs.declared.block_range.BlockRange.{BlockRange}
 use Rattle.energy_model.specs.Energy.{into_price, back_price, object_rounds}
 use Rattle.energy_model.specs.Overlay.{accesses_price, is_entered, entering_price, entered_words, copied_price}
 use Rattle.energy_model.specs.Copied.{arrivals_in, home_words, copy_words_run, came_in, came_to, pending_to, sum_in, pending}
-use Rattle.energy_model.specs.Counts.{CountsCode, most_run}
+use Rattle.energy_model.specs.Counts.{CountsCode}
 use Rattle.overlay_counts.specs.OverlayCost.{CountsOverlay}
 use Rattle.overlay_counts.specs.Entering.{IsEnteringCount, if_border, displaced_of, first_of, stays_entered}
 use Rattle.overlay_counts.specs.Gains.{AreSmallCounts, object_saves, object_copied, piece_saves}

@@ -1,7 +1,7 @@
 -- The side with overlay that is counted is the one that the run states, within the bounds.
-use Rattle.std.proofs.Common.{◌≡◌, ◌∙◌, ℕ, zero, suc, ◌+◌, ◌-◌, ◌*◌, ◌/◌, ◌^◌, ◌<◌, ◌≤◌, ◌==◌, ◌%◌, nat_lt, nat_le, Bool, true, false, ◌&&◌, ℤ, pos, ◌-ℤ◌, List, [], ◌∷◌, ◌++◌, length, map, slice_index_or, Option, Some, None, refl, sym, ap, subst, arith, if◌then◌else◌, length-append}
-use Rattle.std.specs.Prelude.{unsigned_abs, option_map}
-use Rattle.std.specs.List.{All, filter, sum_by}
+use Rattle.std.proofs.Common.{◌≡◌, ◌∙◌, ℕ, zero, suc, ◌+◌, ◌*◌, ◌/◌, ◌^◌, ◌<◌, ◌≤◌, ◌==◌, ◌%◌, nat_lt, Bool, true, false, ◌&&◌, ℤ, List, [], ◌∷◌, ◌++◌, length, map, slice_index_or, Option, Some, None, refl, sym, ap, subst, arith, if◌then◌else◌, length-append}
+use Rattle.std.specs.Prelude.{unsigned_abs}
+use Rattle.std.specs.List.{All, sum_by}
 use Rattle.std.proofs.lemmas.Bool.Decides.{nat_tests}
 use Rattle.std.proofs.lemmas.List.{length-map}
 use Rattle.std.proofs.lemmas.List.Elements.{All-nil, All-cons, All-append, All-map}
@@ -18,30 +18,29 @@ use Rattle.cell_values.specs.Objects.{object_of, datum_of}
 use Rattle.object_machine.proofs.GraphLemmas.{ends_below}
 use Rattle.placement_programme.specs.declared.variables.FullVar.{FullVar}
 use Rattle.placement_programme.specs.Plain.{PlainFullVar, PlainFullSide, PlainFull, plain_full_var}
-use Rattle.placement_programme.specs.Bounds.{AreWeights, IsWithinFullBounds}
-use Rattle.placement_programme.specs.Views.{plain_full_side, plain_full}
-use Rattle.placement_programme.specs.Rows.{Candidate, static_data, static_code, overlay_data, overlay_code, kept_data, name_of, pairs_of, first_twin, second_twin, fixed_bytes, on_capacities, on_weights, IsCandidateOf}
-use Rattle.energy_model.specs.Energy.{Scene, steps_energy, side_energy, stub_energy, nothing_taken, object_rounds, into_price}
+use Rattle.placement_programme.specs.Bounds.{AreWeights}
+use Rattle.placement_programme.specs.Rows.{Candidate, static_data, static_code, overlay_data, overlay_code, kept_data, name_of, pairs_of, first_twin, second_twin, on_capacities, on_weights}
+use Rattle.energy_model.specs.Energy.{Scene, stub_energy, nothing_taken, object_rounds, into_price}
 use Rattle.energy_model.specs.Together.{taken}
-use Rattle.energy_model.specs.Scenes.{scene_of, layout_of, AreOfSameFile}
+use Rattle.energy_model.specs.Scenes.{layout_of, AreOfSameFile}
 use Rattle.energy_model.specs.Priced.{range}
 use Rattle.overlay_counts.specs.OverlayCost.{CountsOverlay, overlay_cost}
 use Rattle.energy_model.specs.Counts.{CountsCode}
 use Rattle.overlay_counts.proofs.GainLemmas.{has_place}
-use Rattle.overlay_counts.specs.Gains.{overlaid_counts, kept_counts, AreSmallCounts}
+use Rattle.overlay_counts.specs.Gains.{overlaid_counts, kept_counts}
 use Rattle.energy_model.proofs.CountsLemmas.{counts_code}
 use Rattle.overlay_counts.proofs.OverlayCostLemmas.{counts_overlay, overlay_cost_is}
 use Rattle.overlay_candidates.specs.declared.measured.Measured.{Measured}
-use Rattle.placement_candidates.specs.Stated.{part_of, AreSomePieces, off_side, IsStaticFull}
+use Rattle.placement_candidates.specs.Stated.{part_of, AreSomePieces, IsStaticFull}
 use Rattle.placement_candidates.specs.Counted.{stub_price, CanCountPiece}
-use Rattle.overlay_candidates.specs.Overlaid.{AreOverlaidObjects, static_objects, static_pieces, static_candidates, overlay_candidates, overlay_gain, overlay_var, overlay_fixed, on_side, has_on_side, whole_full, IsWholeFull}
-use Rattle.overlay_candidates.specs.OverlayCounted.{scene_in, layout_in, gain_in, on_var, on_vars, counted_on_side, counted_on, CanWeigh, CanWeighPiece, CanGain, CanCountOverlay}
+use Rattle.overlay_candidates.specs.Overlaid.{AreOverlaidObjects, static_objects, static_pieces, static_candidates, overlay_candidates, overlay_gain, overlay_var, overlay_fixed, on_side, has_on_side, IsWholeFull}
+use Rattle.overlay_candidates.specs.OverlayCounted.{scene_in, layout_in, gain_in, on_var, on_vars, counted_on_side, counted_on, CanCountOverlay}
 use Rattle.placement_candidates.proofs.LimitLemmas.{blocks_few}
 use Rattle.placement_candidates.proofs.SpanLemmas.{spans_small}
 use Rattle.placement_candidates.proofs.PieceLemmas.{can_count_piece, pieces_few, part_entries, code_span_small, copy_job_small}
 use Rattle.placement_candidates.proofs.StatedLemmas.{counts_accesses, gain_small, rounds_few, stub_empty, grain_some}
 use Rattle.overlay_candidates.proofs.CandidateLemmas.{are_of_layout}
-use Rattle.overlay_candidates.proofs.EachLemmas.{OfEachKind, each_candidate, by_kind, all_most}
+use Rattle.overlay_candidates.proofs.EachLemmas.{each_candidate, by_kind, all_most}
 use Rattle.overlay_candidates.proofs.OverlayGainLemmas.{data_gain, code_gain, region_data_gain, region_code_gain, pair_data_gain}
 use Rattle.overlay_candidates.proofs.OverlayBoundLemmas.{object_few, code_few, sum_few, few_numbers, IsLight, are_weights, rows_count, capacities_few}
 

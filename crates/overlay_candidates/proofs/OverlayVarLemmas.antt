@@ -1,12 +1,12 @@
 -- The variable of an item is that of its candidate.
-use Rattle.std.proofs.Common.{◌≡◌, ◌∙◌, ℕ, ℤ, List, [], ◌∷◌, ◌++◌, map, refl, sym, ap, subst, take, length, slice_index_or, ◌+◌, ◌<◌, add-one, arith, if◌then◌else◌, Bool, true, false, ◌≤◌, ◌==◌}
+use Rattle.std.proofs.Common.{◌≡◌, ◌∙◌, ℕ, ℤ, List, [], ◌∷◌, ◌++◌, map, refl, sym, ap, subst, take, length, slice_index_or, ◌+◌, ◌<◌, arith, if◌then◌else◌, Bool, true, false, ◌≤◌, ◌==◌}
 use Rattle.std.specs.List.{All, filter}
 use Rattle.std.proofs.lemmas.List.Elements.{filter-append}
 use Rattle.std.proofs.lemmas.List.{map-append, append_assoc, append-nil, take_more, get_or-map}
 use Rattle.placement_programme.specs.Plain.{PlainFullVar, plain_full_var}
 use Rattle.placement_programme.specs.declared.variables.FullVar.{FullVar}
 use Rattle.placement_programme.specs.declared.variables.VarName.{VarName}
-use Rattle.placement_programme.specs.Rows.{Candidate, static_data, static_code, overlay_data, overlay_code, kept_data, name_of, on_weights}
+use Rattle.placement_programme.specs.Rows.{Candidate, static_data, static_code, overlay_data, overlay_code, kept_data, on_weights}
 use Rattle.overlay_candidates.specs.declared.measured.Measured.{Measured}
 use Rattle.overlay_candidates.specs.declared.overlay_rows.RowItem.{RowItem}
 use Rattle.overlay_candidates.specs.declared.overlay_rows.OverlayRows.{OverlayRows}

@@ -1,5 +1,4 @@
-use Rattle.std.proofs.Common.{◌∙◌, refl, sym, ap, arith}
-use Rattle.placement_programme.specs.Rows.{rounded_up}
+use Rattle.std.proofs.Common.{refl, sym, arith}
 use Rattle.overlay_candidates.specs.OverlayCounted.{scene_in}
 use Rattle.placement_candidates.proofs.PieceLemmas.{part_entries}
 use Rattle.overlay_candidates.proofs.overlay_parts.part_of.Goals as goal

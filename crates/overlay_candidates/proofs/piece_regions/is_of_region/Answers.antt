@@ -1,4 +1,4 @@
-use Rattle.std.proofs.Common.{◌≡◌, ◌<◌, ◌≤◌, sym, arith}
+use Rattle.std.proofs.Common.{sym, arith}
 use Rattle.overlay_candidates.proofs.PieceRegionLemmas.{other_here, same_region}
 use Rattle.overlay_candidates.proofs.piece_regions.is_of_region.Goals as goal
 
