@@ -32,7 +32,7 @@ use Rattle.result_setups.specs.LiveUnits.{StandsThere}
 use Rattle.result_setups.proofs.CodeUnits.{block_of, first}
 use Rattle.result_setups.proofs.LiveUnits.{steps_lead_on}
 use Rattle.held_addresses.specs.Holds.{ValueIsHeld, CellIsHeld, AreHeld, NamesNone, CellNamesNone}
-use Rattle.held_addresses.specs.Entries.{TellsBorders, RunsIn, EntersAtBorders, StartsAtBorder, BordersAreFree}
+use Rattle.held_addresses.specs.Entries.{TellsBorders, RegionsTellBorders, RunsIn, EntersAtBorders, StartsAtBorder, BordersAreFree}
 use Rattle.held_addresses.proofs.Held.{one_unit}
 
 -- ---- edges
@@ -104,6 +104,9 @@ entry_indirect v leads =
     named_code (is_code_word v v.entry) (v.entry == v.entry) (any_below (is_function_at v v.entry) (length v.symbols))
     (any_below (makes_address v v.entry) (length v.relocs)) (any_code_word v (link_comes_back v v.entry))
     (any_code_word v (pair_comes_back v v.entry)) (leader_is_code v v.entry leads) same
+
+pub regions_tell_borders : RegionsTellBorders
+regions_tell_borders v c board has_dead t formed = formed.border
 
 pub enters_at_borders : EntersAtBorders
 enters_at_borders file board g c regions borders s read b k current accepted code tells there runs reads goes =

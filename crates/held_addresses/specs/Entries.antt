@@ -1,6 +1,6 @@
 -- By which blocks control comes to another region of the code, and what holds there.
 use Rattle.std.specs.Prelude.{◌≡◌, ◌⊎◌, ℕ, Bool, true, List, Option}
-use Rattle.elf_reader.specs.File.{view_in}
+use Rattle.elf_reader.specs.File.{PlainView, view_in}
 use Rattle.board_config.specs.declared.board.Board.{Board}
 use Rattle.rv_decode.specs.declared.instructions.Instr.{Instr}
 use Rattle.object_graph.specs.declared.parts.Graph.{Graph}
@@ -10,12 +10,14 @@ use Rattle.code_blocks.specs.declared.parts.Code.{Code}
 use Rattle.liveness.specs.Live.{LiveAt}
 use Rattle.points_to.specs.Overlaid.{region_in, is_border, MayBeOverlaid}
 use Rattle.region_former.specs.Borders as regions_of
+use Rattle.region_former.specs.Regions.{IsFormed}
+use Rattle.region_former.specs.declared.table.RegionTable.{RegionTable}
 use Rattle.object_machine.specs.declared.events.Outcome.TheVariants.{GoesOn}
 use Rattle.object_machine.specs.State.{SourceState}
 use Rattle.object_machine.specs.Step.{Reads, next_state}
 use Rattle.result_setups.specs.HomeLaws.{IsAccepted, unnamed_in}
 use Rattle.result_setups.specs.LiveUnits.{StandsThere, live_at}
-use Rattle.held_addresses.specs.Holds.{AreUnnamed}
+use Rattle.held_addresses.specs.Holds.{StateNamesNone}
 use Rattle.held_addresses.specs.Held.{IsHeld}
 
 -- ---- control
@@ -24,6 +26,12 @@ use Rattle.held_addresses.specs.Held.{IsHeld}
 abbrev pub TellsBorders : Code → List ℕ → List Bool → Type 0
 TellsBorders c regions borders =
     (b : ℕ) → IsBlockOf c b → is_border borders b ≡ regions_of.is_border c regions b
+
+-- so do those of a program's regions
+abbrev pub RegionsTellBorders : Type 0
+RegionsTellBorders =
+    (v : PlainView) (c : Code) (board : Board) (has_dead : List Bool) (t : RegionTable)
+    → IsFormed v c board has_dead t → TellsBorders c t.of_block.items t.border.items
 
 -- block `b` may run while a region is current: it is of this region, or of none
 abbrev pub RunsIn : List ℕ → ℕ → ℕ → Type 0
@@ -64,4 +72,4 @@ BordersAreFree =
     → IsAccepted file board g → IsCode (view_in file) c → IsHeld c g s
     → StandsThere c s.pc b 0 → is_border borders b ≡ true
     → ((o : ℕ) → these o ≡ true → MayBeOverlaid (λ d x. LiveAt c x d 0) c g regions borders o)
-    → AreUnnamed these (live_at c s.pc) s
+    → StateNamesNone these (live_at c s.pc) s

@@ -42,7 +42,7 @@ CellNamesNone these (Part hi o d k) = these o ≡ false
 CellNamesNone these c = Unit {0}
 
 -- no register of some kind and no cell of memory names one of these objects
-pub record AreUnnamed (these : ℕ → Bool) (live : ℕ → Type 0) (s : SourceState) : Type 0 where
+pub record StateNamesNone (these : ℕ → Bool) (live : ℕ → Type 0) (s : SourceState) : Type 0 where
   pub regs : (k : ℕ) → live k → NamesNone these (value s.regs k)
   pub fixed : (a : ℕ) → CellNamesNone these (s.fixed a)
   pub cells : (o i : ℕ) → CellNamesNone these (s.cells o i)

@@ -1,5 +1,10 @@
 // Laws of the definitions: functions that do nothing, whose contracts are what is proved.
-ghost use Rattle.held_addresses.specs.Entries.{EntersAtBorders, StartsAtBorder, BordersAreFree};
+ghost use Rattle.held_addresses.specs.Entries.{RegionsTellBorders, EntersAtBorders, StartsAtBorder, BordersAreFree};
+
+/// The table of a program's regions tells where control enters them.
+pub fn regions_tell_borders()
+    ensures { RegionsTellBorders }
+{}
 
 /// Control comes to a block of another region than the current one only where it enters that region, at the block's first
 /// unit.
