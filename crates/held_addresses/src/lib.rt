@@ -5,5 +5,7 @@
 mod border_laws;
 mod laws;
 
-pub use border_laws::{borders_are_free, enters_at_borders, regions_tell_borders, starts_at_border};
+pub use border_laws::{
+    borders_are_free, enters_at_borders, regions_tell_borders, starts_at_border,
+};
 pub use laws::{held_at_start, held_in_runs, held_stays, one_unit};
