@@ -88,7 +88,8 @@ fn print_best(rt: &(impl Print + AllocGlobal), programme: &Programme, nodes: u64
     requires { 1 ≤ nodes }
 {
     let solution = find_choice(rt.alloc(), programme, nodes)?;
-    let choice = solution.found.choice;
+    let found = solution.found;
+    let choice = found.choice;
     let gain = gain_of(programme, &choice);
     print_value_line(rt, "optimum ", &(programme.base as i128 - gain))?;
     Ok(choice)
