@@ -1,0 +1,4 @@
+pub mod Stays
+pub mod Unwritten
+pub mod Homes
+pub mod Switches
