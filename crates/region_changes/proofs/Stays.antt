@@ -1,6 +1,7 @@
 -- What both machines have in common stays so where objects move that nothing names.
-use Rattle.std.proofs.Common.{◌≡◌, ◌∙◌, inl, inr, ℕ, ◌+◌, ◌%◌, ◌<◌, Bool, true, false, Some, sym, ap, subst}
-use Rattle.word_bits.specs.Words.{plus}
+use Rattle.std.proofs.Common.{◌≡◌, ◌∙◌, inl, inr, ℕ, ◌+◌, ◌*◌, ◌%◌, ◌<◌, ◌==◌, not, Bool, true, false, Some, sym, ap, subst, arith}
+use Rattle.std.proofs.lemmas.Bool.Decides.{nat_tests}
+use Rattle.word_bits.specs.Words.{plus, upper_half}
 use Rattle.rv_decode.specs.Acts.{register}
 use Rattle.flat_machine.specs.Sizes.{HasWords}
 use Rattle.flat_machine.specs.State.{State}
@@ -10,7 +11,7 @@ use Rattle.cell_values.specs.declared.values.Cell.{Cell}
 use Rattle.cell_values.specs.declared.values.Cell.TheVariants.{Byte, Part, Mist}
 use Rattle.cell_values.specs.Objects.{Objects}
 use Rattle.cell_values.specs.Origins.{Origin}
-use Rattle.cell_values.specs.Stands.{Places, Uppers, Is, IsByte, whole, Stands, CellStands}
+use Rattle.cell_values.specs.Stands.{upper_word, Places, Uppers, Is, IsByte, whole, Stands, CellStands}
 use Rattle.object_machine.specs.Program.{Program}
 use Rattle.object_machine.specs.State.{SourceState, value}
 use Rattle.object_machine.specs.Paired.{Origins}
@@ -18,7 +19,23 @@ use Rattle.simulation.specs.Setups.{Setup}
 use Rattle.simulation.specs.Relation.{Alike}
 use Rattle.region_changes.specs.Names.{NamesNone, CellNamesNone, StateNamesNone}
 use Rattle.region_changes.specs.Changes.{OthersStay, IsByteOf, ChangesRegion, AreAtHomeToo}
-use Rattle.region_changes.specs.Laws.{matters, RegionsChange}
+use Rattle.region_changes.specs.Laws.{matters, PlacesDecide, RegionsChange}
+
+-- ---- objects that move
+
+unmoved : (a b : ℕ) → not (a == b) ≡ false → a ≡ b
+unmoved a b stays = grind (arith, nat_tests, stays)
+
+pub places_decide : PlacesDecide
+places_decide l from to first last =
+    record {
+      place = λ o stays. unmoved (l.place to o) (l.place from o) stays;
+      upper = λ origin o d stays.
+          let same = unmoved (l.place to o) (l.place from o) stays in
+          let place : Some (upper_word (l.place to) o d) ≡ Some (upper_word (l.place from) o d) =
+          ap (λ a. Some (upper_half (plus a d) * 4096)) same in
+          last origin o d ∙ place ∙ sym (first origin o d);
+    }
 
 -- ---- values and cells
 

@@ -1,10 +1,10 @@
 -- What the flat machine does where another region becomes current.
-use Rattle.std.specs.Prelude.{◌≡◌, ◌⊎◌, ℕ, ◌+◌, ◌<◌, Bool, true, false}
+use Rattle.std.specs.Prelude.{◌≡◌, ◌⊎◌, ℕ, ◌+◌, ◌<◌, ◌==◌, Bool, true, false, not, Some}
 use Rattle.word_bits.specs.Memory.{Memory}
 use Rattle.rv_decode.specs.Acts.{register}
 use Rattle.flat_machine.specs.State.{State}
 use Rattle.cell_values.specs.Origins.{Origin}
-use Rattle.cell_values.specs.Stands.{CellStands}
+use Rattle.cell_values.specs.Stands.{upper_word, CellStands}
 use Rattle.object_machine.specs.Program.{Program}
 use Rattle.object_machine.specs.State.{SourceState}
 use Rattle.object_machine.specs.Paired.{Origins}
@@ -14,6 +14,14 @@ use Rattle.simulation.specs.Setups.{Setup}
 pub record OthersStay (l : Setup) (moving : ℕ → Bool) (from to : ℕ) : Type 0 where
   pub place : (o : ℕ) → moving o ≡ false → l.place to o ≡ l.place from o
   pub upper : (origin : Origin) (o d : ℕ) → moving o ≡ false → l.upper to origin o d ≡ l.upper from origin o d
+
+-- those whose places are two
+abbrev pub moves : Setup → ℕ → ℕ → ℕ → Bool
+moves l from to o = not (l.place to o == l.place from o)
+
+-- all upper parts are as a LUI makes them of the places
+abbrev pub AllByLui : Setup → ℕ → Type 0
+AllByLui l r = (origin : Origin) (o d : ℕ) → l.upper r origin o d ≡ Some (upper_word (l.place r) o d)
 
 -- a byte is the object's at its place, or where nothing writes the object, the one at its home
 abbrev pub IsByteOf : Program → Setup → ℕ → Memory → ℕ → ℕ → ℕ → Type 0

@@ -11,7 +11,7 @@ use Rattle.object_machine.specs.Paired.{Origins, origins_after}
 use Rattle.simulation.specs.Setups.{Setup}
 use Rattle.simulation.specs.Relation.{Alike}
 use Rattle.region_changes.specs.Names.{StateNamesNone}
-use Rattle.region_changes.specs.Changes.{OthersStay, ChangesRegion, AreAtHomeToo}
+use Rattle.region_changes.specs.Changes.{moves, AllByLui, OthersStay, ChangesRegion, AreAtHomeToo}
 use Rattle.region_changes.specs.Unwritten.{AreUnwritten, IsOneByte, HomesStandStill}
 
 -- a table says which registers matter at an address
@@ -26,6 +26,11 @@ RegionsChange =
     → Alike p l (matters live) from u s m t → AreAtHomeToo p l from s m t → OthersStay l moving from to
     → StateNamesNone moving (matters live u) s → ChangesRegion p l (matters live) from to u t t' → HasWords t'
     → Alike p l (matters live) to u s m t'
+
+-- where a LUI makes each upper part, the objects that move are those whose places differ
+abbrev pub PlacesDecide : Type 0
+PlacesDecide =
+    (l : Setup) (from to : ℕ) → AllByLui l from → AllByLui l to → OthersStay l (moves l from to) from to
 
 -- ---- objects that nothing writes
 

@@ -1,5 +1,5 @@
 -- Steps of the flat machine that lead from one region to another.
-use Rattle.std.specs.Prelude.{ℕ, ◌≤◌, List, length, Bool}
+use Rattle.std.specs.Prelude.{◌⊎◌, ℕ, ◌≤◌, List, length, Bool}
 use Rattle.flat_machine.specs.State.{State}
 use Rattle.flat_machine.specs.Runs.{Does}
 use Rattle.flat_machine.specs.declared.events.FlatEvent.{FlatEvent}
@@ -33,6 +33,10 @@ pub record Switch (p : Program) (l : Setup) (live : ℕ → ℕ → Type 0) (for
   pub few : length events ≤ bound
   pub change : ChangesRegion p l live from to s.pc t after
   pub comes : Comes l live form most to s.pc after.hart.pc
+
+-- a way may end at a form, or where such steps begin
+abbrev pub MayLand : (ℕ → ℕ → ℕ → Type 0) → (ℕ → ℕ → ℕ → Type 0) → ℕ → ℕ → ℕ → Type 0
+MayLand form switches r u a = form r u a ⊎ switches r u a
 
 -- from each state that is alike where the flat pc is at a switch
 abbrev pub SwitchesLead : Program → Setup → (ℕ → ℕ → Type 0) → (ℕ → ℕ → ℕ → Type 0) → (ℕ → SourceState → Origins → Type 0) → (ℕ → ℕ → ℕ → Type 0) → ℕ → ℕ → Type 0

@@ -4,4 +4,4 @@
 
 mod laws;
 
-pub use laws::{homes_stayed, regions_change, unwritten_are_home, unwritten_stay};
+pub use laws::{homes_stayed, places_decide, regions_change, unwritten_are_home, unwritten_stay};
