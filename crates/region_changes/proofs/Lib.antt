@@ -1,0 +1,5 @@
+pub mod Stays
+pub mod Unwritten
+pub mod Homes
+pub mod Switches
+pub mod Example

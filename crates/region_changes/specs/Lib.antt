@@ -1,0 +1,5 @@
+pub mod Names
+pub mod Changes
+pub mod Unwritten
+pub mod Switches
+pub mod Laws
