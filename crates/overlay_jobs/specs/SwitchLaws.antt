@@ -1,0 +1,38 @@
+-- What the jobs of a choice do.
+use Rattle.std.specs.Prelude.{◌≡◌, ℕ, ◌≤◌, List}
+use Rattle.word_bits.specs.Memory.{Memory}
+use Rattle.elf_reader.specs.File.{PlainView}
+use Rattle.board_config.specs.declared.board.Board.{Board}
+use Rattle.object_graph.specs.declared.parts.Graph.{Graph}
+use Rattle.placement_programme.specs.Plain.{PlainProgramme, PlainChoice}
+use Rattle.copy_jobs.specs.declared.job.CopyJob.{CopyJob}
+use Rattle.copy_jobs.specs.Jobs.{all_copied}
+use Rattle.switch_routine.specs.Parts.{SwitchPlan}
+use Rattle.switch_routine.specs.Switching.{switch_jobs}
+use Rattle.relocator.specs.Placing.{chosen_slots}
+use Rattle.relocator.specs.Laws.{CanLayOut, IsLaidOut}
+use Rattle.overlay_jobs.specs.ChosenJobs.{Images, IsPlanOf}
+use Rattle.overlay_jobs.specs.Memories.{AreImages, IsCurrent, IsSwitched}
+
+-- a choice that is laid out, and a plan of its jobs; `s` and `r` are different regions, and `r` is one that is entered
+pub record CanSwitch (v : PlainView) (g : Graph) (regions : ℕ) (board : Board) (p : PlainProgramme) (c : PlainChoice) (images : Images) (w : SwitchPlan (List CopyJob)) (s r : ℕ) : Type 0 where
+  pub laid : IsLaidOut v board g
+  pub can : CanLayOut g regions board p c
+  pub fitting : AreImages board.spm g (chosen_slots board p c) images
+  pub plan : IsPlanOf g images (chosen_slots board p c) regions w
+  pub left : s ≤ regions
+  pub some : 1 ≤ r
+  pub entered : r ≤ regions
+  pub other : s ≡ r → ⊥
+
+-- the jobs of a switch move each object to its place in the region that is entered, and write nothing else. The region is
+-- current then
+pub record SwitchesMove : Type 0 where
+  pub switched : (v : PlainView) (g : Graph) (regions : ℕ) (board : Board) (p : PlainProgramme) (c : PlainChoice)
+      (images : Images) (code : ℕ → ℕ → ℕ) (w : SwitchPlan (List CopyJob)) (s r : ℕ) (mem : Memory) →
+      CanSwitch v g regions board p c images w s r → IsCurrent g (chosen_slots board p c) images code s mem →
+      IsSwitched g (chosen_slots board p c) w.twins s r mem (all_copied mem (switch_jobs w s r))
+  pub current : (v : PlainView) (g : Graph) (regions : ℕ) (board : Board) (p : PlainProgramme) (c : PlainChoice)
+      (images : Images) (code : ℕ → ℕ → ℕ) (w : SwitchPlan (List CopyJob)) (s r : ℕ) (mem : Memory) →
+      CanSwitch v g regions board p c images w s r → IsCurrent g (chosen_slots board p c) images code s mem →
+      IsCurrent g (chosen_slots board p c) images code r (all_copied mem (switch_jobs w s r))
