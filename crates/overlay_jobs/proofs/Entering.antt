@@ -2,6 +2,8 @@
 -- each copy those of its image.
 use Rattle.std.proofs.Common.{◌≡◌, ◌⊎◌, inl, inr, ℕ, ◌+◌, ◌%◌, ◌<◌, ◌≤◌, Bool, true, List, length, refl, sym, ◌∙◌, ap, subst, arith}
 use Rattle.std.specs.Prelude.{All}
+use Rattle.std.proofs.lemmas.List.Elements.{All-weaker}
+use Rattle.placement_programme.specs.declared.variables.VarName.{VarName}
 use Rattle.word_bits.specs.Memory.{Memory}
 use Rattle.elf_reader.specs.File.{PlainView}
 use Rattle.board_config.specs.declared.board.Board.{Board}
@@ -11,60 +13,64 @@ use Rattle.placement_programme.specs.Plain.{PlainProgramme, PlainChoice}
 use Rattle.copy_jobs.specs.declared.job.CopyJob.{CopyJob}
 use Rattle.copy_jobs.specs.Jobs.{all_copied}
 use Rattle.relocator.specs.declared.slots.Slot.{Slot}
-use Rattle.relocator.specs.Slots.{is_code}
 use Rattle.relocator.specs.Placing.{puts, placed, chosen_slots}
 use Rattle.relocator.specs.Laws.{CanLayOut, IsLaidOut, IsPresent, slot_at}
 use Rattle.overlay_jobs.specs.ChosenJobs.{Images, code_number}
-use Rattle.overlay_jobs.specs.Memories.{IsOfCode, AreImages, is_moved, IsOffSlots}
+use Rattle.overlay_jobs.specs.Memories.{IsOfCode, AreImages, IsOffSlots}
 use Rattle.overlay_jobs.proofs.Phases.{Writes, IsWritten, Brings, jobs_bring}
-use Rattle.overlay_jobs.proofs.ListLemmas.{job_at}
-use Rattle.overlay_jobs.proofs.Moved.{into_is, image_is, moved_is, entered_jobs, entered_all, entered_written}
+use Rattle.overlay_jobs.proofs.ListLemmas.{job_at, IsInto, AreInto}
+use Rattle.overlay_jobs.proofs.Moved.{IsThere, into_is, image_is}
 use Rattle.overlay_jobs.proofs.Chosen.{InScratchpad, own, slot_inside, object_inside, home_outside, same_place, off_code, same_slot}
 
 module _ (v : PlainView) (g : Graph) (regions : ℕ) (board : Board) (p : PlainProgramme) (c : PlainChoice) (laid : IsLaidOut v board g) (can : CanLayOut g regions board p c) where
   abbrev slots : List Slot
   slots = chosen_slots board p c
 
-  module _ (twins : Bool) (s r : ℕ) (within : r ≤ regions) (images : Images) (fitting : AreImages board.spm g slots images) (mem : Memory) where
+  module _ (which : VarName → Bool) (r : ℕ) (within : r ≤ regions) (there_is : (name : VarName) → which name ≡ true → IsThere r name) (images : Images) (fitting : AreImages board.spm g slots images) (jobs : List CopyJob) (into : AreInto which g images slots jobs) (mem : Memory) where
     abbrev pub place : ℕ → ℕ
     place o = placed g slots r o
 
     abbrev pub new : Memory
-    new = all_copied mem (entered_jobs twins r s g images slots)
+    new = all_copied mem jobs
 
-    -- an object's slot in `r` is entered
+    -- an object's slot in `r` is among those that are entered
     pub record Enters (o : ℕ) : Type 0 where
       pub k : ℕ
       pub below : k < length slots
       pub here : puts (slot_at slots k).name r o ≡ true
-      pub moved : is_moved twins r s (slot_at slots k).name ≡ true
+      pub moved : which (slot_at slots k).name ≡ true
 
     -- what is brought to an address
     abbrev DataAt : ℕ → ℕ → Type 0
     DataAt a w =
-        (k o i : ℕ) → k < length slots → is_moved twins r s (slot_at slots k).name ≡ true → puts (slot_at slots k).name r o ≡ true →
+        (k o i : ℕ) → k < length slots → which (slot_at slots k).name ≡ true → puts (slot_at slots k).name r o ≡ true →
         i < (object_of g o).size → place o + i ≡ a → mem ((object_of g o).home + i) ≡ w
 
     abbrev CodeAt : ℕ → ℕ → Type 0
     CodeAt a w =
-        (k i : ℕ) → IsOfCode slots k → is_moved twins r s (slot_at slots k).name ≡ true → IsPresent r (slot_at slots k).name →
+        (k i : ℕ) → IsOfCode slots k → which (slot_at slots k).name ≡ true → IsPresent r (slot_at slots k).name →
         i < images.bytes (code_number slots k) → (slot_at slots k).at + i ≡ a → mem (images.at (code_number slots k) + i) ≡ w
 
-    bring : (a w : ℕ) → DataAt a w → CodeAt a w → All (Brings (InScratchpad board) mem a w) (entered_jobs twins r s g images slots)
-    bring a w data_at code_at = entered_all twins r s g slots (Brings (InScratchpad board) mem a w) images (λ k below moved. each k below moved (moved_is twins r s g (slot_at slots k).name moved))
+    bring : (a w : ℕ) → DataAt a w → CodeAt a w → All (Brings (InScratchpad board) mem a w) jobs
+    bring a w data_at code_at =
+        All-weaker (IsInto which g images slots) (Brings (InScratchpad board) mem a w)
+        (λ job is.
+        subst (λ (j : CopyJob). Brings (InScratchpad board) mem a w j) (sym is.is)
+        (each is.k is.below is.passes (there_is (slot_at slots is.k).name is.passes)))
+        jobs into.are
       where
-        each : (k : ℕ) → k < length slots → is_moved twins r s (slot_at slots k).name ≡ true → ((o : ℕ) × (puts (slot_at slots k).name r o ≡ true)) ⊎ ((is_code (slot_at slots k).name ≡ true) × IsPresent r (slot_at slots k).name) → Brings (InScratchpad board) mem a w (job_at g images (code_number slots k) slots k)
+        each : (k : ℕ) → k < length slots → which (slot_at slots k).name ≡ true → IsThere r (slot_at slots k).name → Brings (InScratchpad board) mem a w (job_at g images (code_number slots k) slots k)
         each k below moved (inl put) =
             let o : ℕ = put.0 in
             let st = own v g regions board p c laid can r o k within below put.1 in
-            subst (λ (job : CopyJob). Brings (InScratchpad board) mem a w job) (sym (into_is twins r s g images (code_number slots k) (slot_at slots k).at (slot_at slots k).name o put.1))
+            subst (λ (job : CopyJob). Brings (InScratchpad board) mem a w job) (sym (into_is g images (code_number slots k) (slot_at slots k).at r (slot_at slots k).name o put.1))
             (record {
               target = λ i inside. subst (λ (n : ℕ). InScratchpad board (n + i)) st.there (object_inside v g regions board p c laid can r o k i st inside);
               source = λ i inside spm. home_outside v g regions board p c laid can ((object_of g o).home + i) (o, (i, (inside, refl))) spm;
               value = λ i inside same. data_at k o i below moved put.1 inside (ap (λ (n : ℕ). n + i) st.there ∙ same);
             })
         each k below moved (inr code) =
-            subst (λ (job : CopyJob). Brings (InScratchpad board) mem a w job) (sym (image_is twins r s g images (code_number slots k) (slot_at slots k).at (slot_at slots k).name code.0))
+            subst (λ (job : CopyJob). Brings (InScratchpad board) mem a w job) (sym (image_is g images (code_number slots k) (slot_at slots k).at (slot_at slots k).name code.0))
             (record {
               target = λ i inside. slot_inside v g regions board p c laid can k i below (fitting.fit k i (below, code.0) inside);
               source = λ i inside spm. fitting.off_scratchpad k i spm.0 (below, code.0) inside spm.1.0 spm.1.1;
@@ -72,9 +78,9 @@ module _ (v : PlainView) (g : Graph) (regions : ℕ) (board : Board) (p : PlainP
             })
 
     -- no other byte changes
-    pub entered_elsewhere : (a : ℕ) → IsOffSlots slots twins s r a → new a ≡ mem a
+    pub entered_elsewhere : (a : ℕ) → IsOffSlots slots which a → new a ≡ mem a
     entered_elsewhere a off =
-        jobs_bring (InScratchpad board) a (mem a) mem (entered_jobs twins r s g images slots)
+        jobs_bring (InScratchpad board) a (mem a) mem jobs
         (bring a (mem a)
         (λ k o i below moved is inside same.
         let st = own v g regions board p c laid can r o k within below is in
@@ -92,7 +98,7 @@ module _ (v : PlainView) (g : Graph) (regions : ℕ) (board : Board) (p : PlainP
     -- an object has at its place what it had at home, where it is moved, or had the same there
     pub arrived : (o i : ℕ) → i < (object_of g o).size → Enters o ⊎ (mem (place o + i) ≡ mem ((object_of g o).home + i)) → new (place o + i) ≡ mem ((object_of g o).home + i)
     arrived o i inside known =
-        jobs_bring (InScratchpad board) (place o + i) (mem ((object_of g o).home + i)) mem (entered_jobs twins r s g images slots)
+        jobs_bring (InScratchpad board) (place o + i) (mem ((object_of g o).home + i)) mem jobs
         (bring (place o + i) (mem ((object_of g o).home + i)) data_at
         (λ k j code moved present inside_too same.
         absurd (off_code v g regions board p c laid can r o k i j code.0 code.1 present inside (fitting.fit k j code inside_too) (sym same))))
@@ -105,19 +111,19 @@ module _ (v : PlainView) (g : Graph) (regions : ℕ) (board : Board) (p : PlainP
             let equal : j ≡ i = omega (arith, there) in
             ap (λ (n : ℕ). mem ((object_of g n).home + j)) one ∙ ap (λ (n : ℕ). mem ((object_of g o).home + n)) equal
 
-        before : Enters o ⊎ (mem (place o + i) ≡ mem ((object_of g o).home + i)) → (mem (place o + i) ≡ mem ((object_of g o).home + i)) ⊎ IsWritten (place o + i) (entered_jobs twins r s g images slots)
+        before : Enters o ⊎ (mem (place o + i) ≡ mem ((object_of g o).home + i)) → (mem (place o + i) ≡ mem ((object_of g o).home + i)) ⊎ IsWritten (place o + i) jobs
         before (inr same) = inl same
         before (inl enters) =
             let st = own v g regions board p c laid can r o enters.k within enters.below enters.here in
             let there = st.there in
-            inr (entered_written twins r s g slots (place o + i) images enters.k enters.below enters.moved
-            (subst (λ (job : CopyJob). Writes (place o + i) job) (sym (into_is twins r s g images (code_number slots enters.k) (slot_at slots enters.k).at (slot_at slots enters.k).name o enters.here))
+            inr (into.written (place o + i) enters.k enters.below enters.moved
+            (subst (λ (job : CopyJob). Writes (place o + i) job) (sym (into_is g images (code_number slots enters.k) (slot_at slots enters.k).at r (slot_at slots enters.k).name o enters.here))
             (record { from = omega (arith, there); to = omega (arith, there, inside) })))
 
     -- what is moved in no slot of its own keeps its bytes
     pub rested : (o i : ℕ) → i < (object_of g o).size → (Enters o → ⊥) → new (place o + i) ≡ mem (place o + i)
     rested o i inside not_so =
-        jobs_bring (InScratchpad board) (place o + i) (mem (place o + i)) mem (entered_jobs twins r s g images slots)
+        jobs_bring (InScratchpad board) (place o + i) (mem (place o + i)) mem jobs
         (bring (place o + i) (mem (place o + i))
         (λ k q j below moved is inside_too same.
         let one = same_place v g regions board p c laid can r q o j i inside_too inside same in
@@ -127,9 +133,9 @@ module _ (v : PlainView) (g : Graph) (regions : ℕ) (board : Board) (p : PlainP
         (inl refl)
 
     -- a copy is its image, where it is moved, or was so before
-    pub copied_code : (k i : ℕ) → IsOfCode slots k → IsPresent r (slot_at slots k).name → i < images.bytes (code_number slots k) → (is_moved twins r s (slot_at slots k).name ≡ true) ⊎ (mem ((slot_at slots k).at + i) ≡ mem (images.at (code_number slots k) + i)) → new ((slot_at slots k).at + i) ≡ mem (images.at (code_number slots k) + i)
+    pub copied_code : (k i : ℕ) → IsOfCode slots k → IsPresent r (slot_at slots k).name → i < images.bytes (code_number slots k) → (which (slot_at slots k).name ≡ true) ⊎ (mem ((slot_at slots k).at + i) ≡ mem (images.at (code_number slots k) + i)) → new ((slot_at slots k).at + i) ≡ mem (images.at (code_number slots k) + i)
     copied_code k i code present inside known =
-        jobs_bring (InScratchpad board) ((slot_at slots k).at + i) (mem (images.at (code_number slots k) + i)) mem (entered_jobs twins r s g images slots)
+        jobs_bring (InScratchpad board) ((slot_at slots k).at + i) (mem (images.at (code_number slots k) + i)) mem jobs
         (bring ((slot_at slots k).at + i) (mem (images.at (code_number slots k) + i))
         (λ m o j below moved is inside_too same.
         absurd (off_code v g regions board p c laid can r o k j i code.0 code.1 present inside_too (fitting.fit k i code inside) same))
@@ -143,9 +149,9 @@ module _ (v : PlainView) (g : Graph) (regions : ℕ) (board : Board) (p : PlainP
             let equal : j ≡ i = omega (arith, there) in
             ap (λ (n : ℕ). mem (images.at (code_number slots n) + j)) one ∙ ap (λ (n : ℕ). mem (images.at (code_number slots k) + n)) equal
 
-        before : (is_moved twins r s (slot_at slots k).name ≡ true) ⊎ (mem ((slot_at slots k).at + i) ≡ mem (images.at (code_number slots k) + i)) → (mem ((slot_at slots k).at + i) ≡ mem (images.at (code_number slots k) + i)) ⊎ IsWritten ((slot_at slots k).at + i) (entered_jobs twins r s g images slots)
+        before : (which (slot_at slots k).name ≡ true) ⊎ (mem ((slot_at slots k).at + i) ≡ mem (images.at (code_number slots k) + i)) → (mem ((slot_at slots k).at + i) ≡ mem (images.at (code_number slots k) + i)) ⊎ IsWritten ((slot_at slots k).at + i) jobs
         before (inr same) = inl same
         before (inl moved) =
-            inr (entered_written twins r s g slots ((slot_at slots k).at + i) images k code.0 moved
-            (subst (λ (job : CopyJob). Writes ((slot_at slots k).at + i) job) (sym (image_is twins r s g images (code_number slots k) (slot_at slots k).at (slot_at slots k).name code.1))
+            inr (into.written ((slot_at slots k).at + i) k code.0 moved
+            (subst (λ (job : CopyJob). Writes ((slot_at slots k).at + i) job) (sym (image_is g images (code_number slots k) (slot_at slots k).at (slot_at slots k).name code.1))
             (record { from = omega arith; to = omega (arith, inside) })))

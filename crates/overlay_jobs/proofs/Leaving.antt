@@ -80,7 +80,7 @@ module _ (v : PlainView) (g : Graph) (regions : ℕ) (board : Board) (p : PlainP
             (λ o is writable. job_brings k o below moved is writable)
 
     -- no other byte changes
-    pub left_elsewhere : (a : ℕ) → IsOffHomes g slots twins s r a → all_copied mem jobs a ≡ mem a
+    pub left_elsewhere : (a : ℕ) → IsOffHomes g slots (is_moved twins s r) s a → all_copied mem jobs a ≡ mem a
     left_elsewhere a off =
         jobs_bring (AtHome g) a (mem a) mem jobs
         (bring a (mem a) (λ k o i below moved is writable inside same. absurd (off k o i below moved is writable inside same)))

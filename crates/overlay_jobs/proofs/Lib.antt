@@ -6,3 +6,4 @@ pub mod Leaving
 pub mod Entering
 pub mod Plans
 pub mod Switched
+pub mod Started

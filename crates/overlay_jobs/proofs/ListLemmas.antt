@@ -19,6 +19,18 @@ job_at g images n slots k = job_into g images n (slot_at slots k).at (slot_at sl
 abbrev pub homes_at : Graph → List Slot → ℕ → List CopyJob
 homes_at g slots k = jobs_home g (slot_at slots k).at (slot_at slots k).name
 
+-- a job is that into a slot that passes a test
+pub record IsInto (which : VarName → Bool) (g : Graph) (images : Images) (slots : List Slot) (job : CopyJob) : Type 0 where
+  pub k : ℕ
+  pub below : k < length slots
+  pub passes : which (slot_at slots k).name ≡ true
+  pub is : job ≡ job_at g images (code_number slots k) slots k
+
+-- jobs are those into just such slots
+pub record AreInto (which : VarName → Bool) (g : Graph) (images : Images) (slots : List Slot) (jobs : List CopyJob) : Type 0 where
+  pub are : All (IsInto which g images slots) jobs
+  pub written : (a k : ℕ) → k < length slots → which (slot_at slots k).name ≡ true → Writes a (job_at g images (code_number slots k) slots k) → IsWritten a jobs
+
 next_plus : (name : VarName) (n m : ℕ) → next_code name n + m ≡ n + next_code name m
 next_plus name n m = by (is_code name)
   where
@@ -62,3 +74,21 @@ module _ (which : VarName → Bool) (g : Graph) where
   leaving_written a (s ∷ ss) (suc k) below passes written =
       written_right a (if which s.name then jobs_home g s.at s.name else []) (leaving which g ss)
       (leaving_written a ss k (omega (arith, below)) passes written)
+
+-- from the first slot on
+from_0 : (P : CopyJob → Type 0) (g : Graph) (images : Images) (slots : List Slot) (k : ℕ) → P (job_at g images (code_number slots k) slots k) → P (job_at g images (0 + code_number slots k) slots k)
+from_0 P g images slots k is = subst (λ (n : ℕ). P (job_at g images n slots k)) (omega arith) is
+
+pub all_into : (which : VarName → Bool) (g : Graph) (images : Images) (slots : List Slot) (P : CopyJob → Type 0) → ((k : ℕ) → k < length slots → which (slot_at slots k).name ≡ true → P (job_at g images (code_number slots k) slots k)) → All P (entering which g images 0 slots)
+all_into which g images slots P each =
+    entering_all which g P images 0 slots (λ k below passes. from_0 P g images slots k (each k below passes))
+
+pub written_into : (which : VarName → Bool) (g : Graph) (images : Images) (slots : List Slot) (a k : ℕ) → k < length slots → which (slot_at slots k).name ≡ true → Writes a (job_at g images (code_number slots k) slots k) → IsWritten a (entering which g images 0 slots)
+written_into which g images slots a k below passes writes =
+    entering_written which g a images 0 slots k below passes (from_0 (λ job. Writes a job) g images slots k writes)
+
+pub are_into : (which : VarName → Bool) (g : Graph) (images : Images) (slots : List Slot) → AreInto which g images slots (entering which g images 0 slots)
+are_into which g images slots = record {
+  are = all_into which g images slots (IsInto which g images slots) (λ k below passes. record { k = k; below = below; passes = passes; is = refl });
+  written = written_into which g images slots;
+}

@@ -1,5 +1,5 @@
 -- What a switch moves, by name: the jobs of what it moves, and what stays in both regions.
-use Rattle.std.proofs.Common.{◌≡◌, ◌⊎◌, inl, inr, ℕ, ◌+◌, ◌<◌, ◌==◌, Bool, true, false, not, ◌&&◌, ◌||◌, if◌then◌else◌, List, [], ◌∷◌, ◌++◌, length, refl, sym, ◌∙◌, ap, subst, arith}
+use Rattle.std.proofs.Common.{◌≡◌, ◌⊎◌, inl, inr, ℕ, ◌<◌, ◌==◌, Bool, true, false, not, ◌&&◌, ◌||◌, if◌then◌else◌, List, [], ◌∷◌, ◌++◌, length, refl, sym, ◌∙◌, ap, subst, arith}
 use Rattle.std.specs.Prelude.{All}
 use Rattle.std.proofs.lemmas.Bool.{cond_both, cases_Bool, eqb-true}
 use Rattle.std.proofs.lemmas.Bool.Decides.{nat_tests}
@@ -15,10 +15,10 @@ use Rattle.relocator.specs.Slots.{pair_of, is_code}
 use Rattle.relocator.specs.Placing.{puts}
 use Rattle.relocator.specs.Laws.{IsPresent, slot_at}
 use Rattle.relocator.proofs.WeightLemmas.{IsAmong}
-use Rattle.overlay_jobs.specs.ChosenJobs.{Images, is_overlaid, is_kept, into_slot, back_home, from_image, home_jobs, job_into, jobs_home, entering, leaving, code_number}
+use Rattle.overlay_jobs.specs.ChosenJobs.{Images, is_static, is_overlaid, is_kept, into_slot, back_home, from_image, home_jobs, job_into, jobs_home, entering, leaving}
 use Rattle.overlay_jobs.specs.Memories.{stays, is_moved}
 use Rattle.overlay_jobs.proofs.Phases.{Writes, IsWritten, written_left, written_right}
-use Rattle.overlay_jobs.proofs.ListLemmas.{job_at, homes_at, entering_all, entering_written, leaving_all, leaving_written}
+use Rattle.overlay_jobs.proofs.ListLemmas.{homes_at, leaving_all, leaving_written, IsInto, AreInto, all_into, written_into}
 
 -- ---- truth values
 
@@ -44,6 +44,51 @@ stays_too : (twins : Bool) (x y : ℕ) → stays twins x y ≡ stays twins y x
 stays_too twins x y = grind (arith, nat_tests)
 
 -- ---- jobs by name
+
+-- a name is of an object that it puts into a region, or of code that is present there
+abbrev pub IsThere : ℕ → VarName → Type 0
+IsThere region name = ((o : ℕ) × (puts name region o ≡ true)) ⊎ ((is_code name ≡ true) × IsPresent region name)
+
+pub static_is : (name : VarName) → is_static name ≡ true → IsThere 0 name
+static_is (StaticData object) static = inl (object, same_is object)
+static_is (StaticCode first last) static = inr (refl, tt)
+static_is (OverlayData own object) static = absurd (cc)
+static_is (OverlayCode own first last) static = absurd (cc)
+static_is (KeptData pair object) static = absurd (cc)
+
+-- in region 0 there is nothing else
+pub static_data_is : (regions : ℕ) (name : VarName) (o : ℕ) → IsAmong regions name → puts name 0 o ≡ true → is_static name ≡ true
+static_data_is regions (StaticData object) o among is = refl
+static_data_is regions (StaticCode first last) o among is = refl
+static_data_is regions (OverlayData own object) o among is =
+    let same = eqb-true own 0 (both (object == o) (own == 0) is).1 in
+    absurd (omega (arith, same, among.0))
+static_data_is regions (OverlayCode own first last) o among is = absurd (cc)
+static_data_is regions (KeptData pair object) o among is =
+    let same = eqb-true (pair_of 0) pair (both (object == o) (pair_of 0 == pair) is).1 in
+    absurd (omega (arith, same, among.0))
+
+pub static_code_is : (regions : ℕ) (name : VarName) → IsAmong regions name → is_code name ≡ true → IsPresent 0 name → is_static name ≡ true
+static_code_is regions (StaticData object) among code present = refl
+static_code_is regions (StaticCode first last) among code present = refl
+static_code_is regions (OverlayData own object) among code present = absurd (cc)
+static_code_is regions (OverlayCode own first last) among code present = absurd (omega (arith, among.0, present))
+static_code_is regions (KeptData pair object) among code present = absurd (cc)
+
+module _ (g : Graph) where
+  pub into_is : (images : Images) (n at region : ℕ) (name : VarName) (o : ℕ) → puts name region o ≡ true → job_into g images n at name ≡ into_slot g at o
+  into_is images n at region (StaticData object) o is = ap (λ (k : ℕ). into_slot g at k) (eqb-true object o is)
+  into_is images n at region (StaticCode first last) o is = absurd (cc)
+  into_is images n at region (OverlayData own object) o is = ap (λ (k : ℕ). into_slot g at k) (eqb-true object o (both (object == o) (own == region) is).0)
+  into_is images n at region (OverlayCode own first last) o is = absurd (cc)
+  into_is images n at region (KeptData pair object) o is = ap (λ (k : ℕ). into_slot g at k) (eqb-true object o (both (object == o) (pair_of region == pair) is).0)
+
+  pub image_is : (images : Images) (n at : ℕ) (name : VarName) → is_code name ≡ true → job_into g images n at name ≡ from_image images n at
+  image_is images n at (StaticData object) is = absurd (cc)
+  image_is images n at (StaticCode first last) is = refl
+  image_is images n at (OverlayData own object) is = absurd (cc)
+  image_is images n at (OverlayCode own first last) is = refl
+  image_is images n at (KeptData pair object) is = absurd (cc)
 
 module _ (twins : Bool) (x y : ℕ) (g : Graph) where
   pub homes_all : (P : CopyJob → Type 0) (at : ℕ) (name : VarName) → is_moved twins x y name ≡ true → ((o : ℕ) → puts name x o ≡ true → (object_of g o).writable ≡ true → P (back_home g at o)) → All P (jobs_home g at name)
@@ -77,22 +122,8 @@ module _ (twins : Bool) (x y : ℕ) (g : Graph) where
   homes_written a at (OverlayCode own first last) o is writable writes = absurd (cc)
   homes_written a at (KeptData pair object) o is writable writes = home_written a at object o (eqb-true object o (both (object == o) (pair_of x == pair) is).0) writable writes
 
-  pub into_is : (images : Images) (n at : ℕ) (name : VarName) (o : ℕ) → puts name x o ≡ true → job_into g images n at name ≡ into_slot g at o
-  into_is images n at (StaticData object) o is = ap (λ (k : ℕ). into_slot g at k) (eqb-true object o is)
-  into_is images n at (StaticCode first last) o is = absurd (cc)
-  into_is images n at (OverlayData own object) o is = ap (λ (k : ℕ). into_slot g at k) (eqb-true object o (both (object == o) (own == x) is).0)
-  into_is images n at (OverlayCode own first last) o is = absurd (cc)
-  into_is images n at (KeptData pair object) o is = ap (λ (k : ℕ). into_slot g at k) (eqb-true object o (both (object == o) (pair_of x == pair) is).0)
-
-  pub image_is : (images : Images) (n at : ℕ) (name : VarName) → is_code name ≡ true → job_into g images n at name ≡ from_image images n at
-  image_is images n at (StaticData object) is = absurd (cc)
-  image_is images n at (StaticCode first last) is = refl
-  image_is images n at (OverlayData own object) is = absurd (cc)
-  image_is images n at (OverlayCode own first last) is = refl
-  image_is images n at (KeptData pair object) is = absurd (cc)
-
-  -- what is moved is present, and is an object or code
-  pub moved_is : (name : VarName) → is_moved twins x y name ≡ true → ((o : ℕ) × (puts name x o ≡ true)) ⊎ ((is_code name ≡ true) × IsPresent x name)
+  -- what is moved is present
+  pub moved_is : (name : VarName) → is_moved twins x y name ≡ true → IsThere x name
   moved_is (StaticData object) moved = absurd (cc)
   moved_is (StaticCode first last) moved = absurd (cc)
   moved_is (OverlayData own object) moved = elim (either_or (own == x) false (stays twins x y) moved) [
@@ -199,26 +230,25 @@ module _ (twins : Bool) (x y : ℕ) (g : Graph) (slots : List Slot) where
             (leaving_written (is_kept x) g a slots k below kept.0 written))
       ]
 
-  from_0 : (P : CopyJob → Type 0) (images : Images) (k : ℕ) → P (job_at g images (code_number slots k) slots k) → P (job_at g images (0 + code_number slots k) slots k)
-  from_0 P images k is = subst (λ (n : ℕ). P (job_at g images n slots k)) (omega arith) is
-
-  pub entered_all : (P : CopyJob → Type 0) (images : Images) → ((k : ℕ) → k < length slots → is_moved twins x y (slot_at slots k).name ≡ true → P (job_at g images (code_number slots k) slots k)) → All P (entered_jobs twins x y g images slots)
-  entered_all P images each =
-      All-append P (entering (is_overlaid x) g images 0 slots) (if stays twins x y then [] else entering (is_kept x) g images 0 slots)
-      (entering_all (is_overlaid x) g P images 0 slots
-      (λ k below is. from_0 P images k (each k below (first_or (is_overlaid x (slot_at slots k).name) (is_kept x (slot_at slots k).name) (stays twins x y) is))))
-      (cond_both (stays twins x y) [] (entering (is_kept x) g images 0 slots) (λ jobs. All P jobs) (λ stay. All-nil P)
-      (λ goes. entering_all (is_kept x) g P images 0 slots
-      (λ k below is. from_0 P images k (each k below (second_or (is_overlaid x (slot_at slots k).name) (is_kept x (slot_at slots k).name) (stays twins x y) is goes)))))
-
-  pub entered_written : (a : ℕ) (images : Images) (k : ℕ) → k < length slots → is_moved twins x y (slot_at slots k).name ≡ true → Writes a (job_at g images (code_number slots k) slots k) → IsWritten a (entered_jobs twins x y g images slots)
-  entered_written a images k below moved writes =
-      elim (either_or (is_overlaid x (slot_at slots k).name) (is_kept x (slot_at slots k).name) (stays twins x y) moved) [
-        | inl overlaid ↦
-            written_left a (entering (is_overlaid x) g images 0 slots) (if stays twins x y then [] else entering (is_kept x) g images 0 slots)
-            (entering_written (is_overlaid x) g a images 0 slots k below overlaid (from_0 (λ job. Writes a job) images k writes))
-        | inr kept ↦
-            written_right a (entering (is_overlaid x) g images 0 slots) (if stays twins x y then [] else entering (is_kept x) g images 0 slots)
-            (subst (λ (b : Bool). IsWritten a (if b then [] else entering (is_kept x) g images 0 slots)) (sym kept.1)
-            (entering_written (is_kept x) g a images 0 slots k below kept.0 (from_0 (λ job. Writes a job) images k writes)))
-      ]
+  pub entered_into : (images : Images) → AreInto (is_moved twins x y) g images slots (entered_jobs twins x y g images slots)
+  entered_into images = record {
+    are =
+        All-append Into (entering (is_overlaid x) g images 0 slots) (if stays twins x y then [] else entering (is_kept x) g images 0 slots)
+        (all_into (is_overlaid x) g images slots Into
+        (λ k below is. record { k = k; below = below; passes = first_or (is_overlaid x (slot_at slots k).name) (is_kept x (slot_at slots k).name) (stays twins x y) is; is = refl }))
+        (cond_both (stays twins x y) [] (entering (is_kept x) g images 0 slots) (λ jobs. All Into jobs) (λ stay. All-nil Into)
+        (λ goes. all_into (is_kept x) g images slots Into
+        (λ k below is. record { k = k; below = below; passes = second_or (is_overlaid x (slot_at slots k).name) (is_kept x (slot_at slots k).name) (stays twins x y) is goes; is = refl })));
+    written = λ a k below moved writes. elim (either_or (is_overlaid x (slot_at slots k).name) (is_kept x (slot_at slots k).name) (stays twins x y) moved) [
+      | inl overlaid ↦
+          written_left a (entering (is_overlaid x) g images 0 slots) (if stays twins x y then [] else entering (is_kept x) g images 0 slots)
+          (written_into (is_overlaid x) g images slots a k below overlaid writes)
+      | inr kept ↦
+          written_right a (entering (is_overlaid x) g images 0 slots) (if stays twins x y then [] else entering (is_kept x) g images 0 slots)
+          (subst (λ (b : Bool). IsWritten a (if b then [] else entering (is_kept x) g images 0 slots)) (sym kept.1)
+          (written_into (is_kept x) g images slots a k below kept.0 writes))
+    ];
+  }
+    where
+      Into : CopyJob → Type 0
+      Into = λ job. IsInto (is_moved twins x y) g images slots job

@@ -19,7 +19,7 @@ use Rattle.relocator.proofs.StandLemmas.{puts_present}
 use Rattle.overlay_jobs.specs.ChosenJobs.{Images, code_number}
 use Rattle.overlay_jobs.specs.Memories.{IsOfCode, AreImages, IsCurrent, is_moved, IsSwitched}
 use Rattle.overlay_jobs.specs.SwitchLaws.{CanSwitch, SwitchesMove}
-use Rattle.overlay_jobs.proofs.Moved.{Rests, turned, moved_or_rests, code_moved, entered_jobs}
+use Rattle.overlay_jobs.proofs.Moved.{moved_is, entered_into, Rests, turned, moved_or_rests, code_moved, entered_jobs}
 use Rattle.overlay_jobs.proofs.Chosen.{own, among, where_is, slot_inside, object_inside, home_outside, same_slot}
 use Rattle.overlay_jobs.proofs.Leaving.{IsLeft, Leaves, left_elsewhere, left_off, homed}
 use Rattle.overlay_jobs.proofs.Entering.{Enters, entered_elsewhere, entered_off, arrived, rested, copied_code}
@@ -40,7 +40,7 @@ module _ (v : PlainView) (g : Graph) (regions : ℕ) (board : Board) (p : PlainP
     LeavesHere o = Leaves v g regions board p c laid can twins s r within_s mem jobs left o
 
     abbrev EntersHere : ℕ → Type 0
-    EntersHere o = Enters v g regions board p c laid can twins s r within_r images fitting between o
+    EntersHere o = Enters v g regions board p c laid can (is_moved twins r s) r within_r (moved_is twins r s g) images fitting (entered_jobs twins r s g images slots) (entered_into twins r s g slots images) between o
 
     -- ---- ways of an object
 
@@ -82,7 +82,7 @@ module _ (v : PlainView) (g : Graph) (regions : ℕ) (board : Board) (p : PlainP
         let first = own v g regions board p c laid can s o stay.k within_s stay.below stay.rests.here in
         let second = own v g regions board p c laid can r o stay.k within_r stay.below stay.rests.there in
         let spm = object_inside v g regions board p c laid can r o stay.k i second inside in
-        rested v g regions board p c laid can twins s r within_r images fitting between o i inside (no_entry second)
+        rested v g regions board p c laid can (is_moved twins r s) r within_r (moved_is twins r s g) images fitting (entered_jobs twins r s g images slots) (entered_into twins r s g slots images) between o i inside (no_entry second)
         ∙ left_off v g regions board p c laid can twins s r within_s mem jobs left (placed g slots r o + i) (λ home. home_outside v g regions board p c laid can (placed g slots r o + i) home spm)
         ∙ ap (λ (n : ℕ). mem (n + i)) (second.there ∙ sym first.there)
       where
@@ -109,7 +109,7 @@ module _ (v : PlainView) (g : Graph) (regions : ℕ) (board : Board) (p : PlainP
 
     goes_there : (o i : ℕ) → i < (object_of g o).size → GoesHome o → behind (placed g slots r o + i) ≡ mem (placed g slots s o + i)
     goes_there o i inside goes =
-        arrived v g regions board p c laid can twins s r within_r images fitting between o i inside (by goes.to)
+        arrived v g regions board p c laid can (is_moved twins r s) r within_r (moved_is twins r s g) images fitting (entered_jobs twins r s g images slots) (entered_into twins r s g slots images) between o i inside (by goes.to)
         ∙ home_bytes o i inside goes.from
       where
         by : EntersHere o ⊎ (placed g slots r o ≡ (object_of g o).home) → EntersHere o ⊎ (between (placed g slots r o + i) ≡ between ((object_of g o).home + i))
@@ -123,7 +123,7 @@ module _ (v : PlainView) (g : Graph) (regions : ℕ) (board : Board) (p : PlainP
     switched = record {
       moved = moved;
       elsewhere = λ a off_slots off_homes.
-          entered_elsewhere v g regions board p c laid can twins s r within_r images fitting between a off_slots
+          entered_elsewhere v g regions board p c laid can (is_moved twins r s) r within_r (moved_is twins r s g) images fitting (entered_jobs twins r s g images slots) (entered_into twins r s g slots images) between a off_slots
           ∙ left_elsewhere v g regions board p c laid can twins s r within_s mem jobs left a off_homes;
     }
 
@@ -132,7 +132,7 @@ module _ (v : PlainView) (g : Graph) (regions : ℕ) (board : Board) (p : PlainP
     still : (o i : ℕ) → (object_of g o).writable ≡ false → i < (object_of g o).size → behind ((object_of g o).home + i) ≡ behind (placed g slots r o + i)
     still o i not_so inside =
         let same = current.still o i not_so inside in
-        entered_off v g regions board p c laid can twins s r within_r images fitting between ((object_of g o).home + i)
+        entered_off v g regions board p c laid can (is_moved twins r s) r within_r (moved_is twins r s g) images fitting (entered_jobs twins r s g images slots) (entered_into twins r s g slots images) between ((object_of g o).home + i)
         (λ spm. home_outside v g regions board p c laid can ((object_of g o).home + i) (o, (i, (inside, refl))) spm)
         ∙ homed v g regions board p c laid can twins s r within_s mem jobs left o i inside (inr same) (λ _. same)
         ∙ sym (moved o i inside)
@@ -147,11 +147,11 @@ module _ (v : PlainView) (g : Graph) (regions : ℕ) (board : Board) (p : PlainP
     is_current = record {
       still = still;
       images_stand = λ k i of inside.
-          entered_off v g regions board p c laid can twins s r within_r images fitting between (images.at (code_number slots k) + i)
+          entered_off v g regions board p c laid can (is_moved twins r s) r within_r (moved_is twins r s g) images fitting (entered_jobs twins r s g images slots) (entered_into twins r s g slots images) between (images.at (code_number slots k) + i)
           (λ spm. fitting.off_scratchpad k i spm.0 of inside spm.1.0 spm.1.1)
           ∙ image_kept k i of inside;
       copies = λ k i of present inside.
-          copied_code v g regions board p c laid can twins s r within_r images fitting between k i of present inside (known k i of present inside)
+          copied_code v g regions board p c laid can (is_moved twins r s) r within_r (moved_is twins r s g) images fitting (entered_jobs twins r s g images slots) (entered_into twins r s g slots images) between k i of present inside (known k i of present inside)
           ∙ image_kept k i of inside;
     }
       where
@@ -175,22 +175,22 @@ module _ (v : PlainView) (g : Graph) (regions : ℕ) (board : Board) (p : PlainP
   out = side_jobs w w.leave w.kept_leave s r
 
   is_left : IsLeft w.twins s r g all_slots out
-  is_left = left_is g all_slots images regions w can.plan (among v g regions board p c can.laid can.can) s r can.other can.left
+  is_left = left_is g all_slots images regions w can.plan (among v g regions board p c can.start.laid can.start.can) s r can.other can.left
 
   in_two : all_copied mem (switch_jobs w s r) ≡ all_copied (all_copied mem out) (entered_jobs w.twins r s g images all_slots)
   in_two =
-      ap (λ (jobs : List CopyJob). all_copied mem jobs) (jobs_are g all_slots images regions w can.plan (among v g regions board p c can.laid can.can) s r can.other can.some can.entered)
+      ap (λ (jobs : List CopyJob). all_copied mem jobs) (jobs_are g all_slots images regions w can.plan (among v g regions board p c can.start.laid can.start.can) s r can.other can.some can.entered)
       ∙ in_order mem out (entered_jobs w.twins r s g images all_slots)
 
   pub law_switched : IsSwitched g all_slots w.twins s r mem (all_copied mem (switch_jobs w s r))
   law_switched =
       subst (λ (m : Memory). IsSwitched g all_slots w.twins s r mem m) (sym in_two)
-      (switched v g regions board p c can.laid can.can w.twins s r can.left can.entered images can.fitting code mem out is_left current)
+      (switched v g regions board p c can.start.laid can.start.can w.twins s r can.left can.entered images can.start.fitting code mem out is_left current)
 
   pub law_current : IsCurrent g all_slots images code r (all_copied mem (switch_jobs w s r))
   law_current =
       subst (λ (m : Memory). IsCurrent g all_slots images code r m) (sym in_two)
-      (is_current v g regions board p c can.laid can.can w.twins s r can.left can.entered images can.fitting code mem out is_left current)
+      (is_current v g regions board p c can.start.laid can.start.can w.twins s r can.left can.entered images can.start.fitting code mem out is_left current)
 
 pub switches_move_so : SwitchesMove
 switches_move_so = record { switched = law_switched; current = law_current }

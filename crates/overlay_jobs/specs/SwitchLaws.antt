@@ -11,19 +11,34 @@ use Rattle.switch_routine.specs.Parts.{SwitchPlan}
 use Rattle.switch_routine.specs.Switching.{switch_jobs}
 use Rattle.relocator.specs.Placing.{chosen_slots}
 use Rattle.relocator.specs.Laws.{CanLayOut, IsLaidOut}
-use Rattle.overlay_jobs.specs.ChosenJobs.{Images, IsPlanOf}
-use Rattle.overlay_jobs.specs.Memories.{AreImages, IsCurrent, IsSwitched}
+use Rattle.overlay_jobs.specs.ChosenJobs.{Images, start_jobs, IsPlanOf}
+use Rattle.overlay_jobs.specs.Memories.{AreImages, ImagesStand, IsCurrent, IsSwitched, IsStarted}
 
--- a choice that is laid out, and a plan of its jobs; `s` and `r` are different regions, and `r` is one that is entered
-pub record CanSwitch (v : PlainView) (g : Graph) (regions : ℕ) (board : Board) (p : PlainProgramme) (c : PlainChoice) (images : Images) (w : SwitchPlan (List CopyJob)) (s r : ℕ) : Type 0 where
+-- a choice that is laid out, with images
+pub record CanStart (v : PlainView) (g : Graph) (regions : ℕ) (board : Board) (p : PlainProgramme) (c : PlainChoice) (images : Images) : Type 0 where
   pub laid : IsLaidOut v board g
   pub can : CanLayOut g regions board p c
   pub fitting : AreImages board.spm g (chosen_slots board p c) images
+
+-- and a plan of its jobs. `s` and `r` are different regions, and `r` is one that is entered
+pub record CanSwitch (v : PlainView) (g : Graph) (regions : ℕ) (board : Board) (p : PlainProgramme) (c : PlainChoice) (images : Images) (w : SwitchPlan (List CopyJob)) (s r : ℕ) : Type 0 where
+  pub start : CanStart v g regions board p c images
   pub plan : IsPlanOf g images (chosen_slots board p c) regions w
   pub left : s ≤ regions
   pub some : 1 ≤ r
   pub entered : r ≤ regions
   pub other : s ≡ r → ⊥
+
+-- from a memory in which all objects are at home and images stand, the jobs of the start move each object to its first
+-- place, and write nothing else. Region 0 is current then
+pub record StartMoves : Type 0 where
+  pub started : (v : PlainView) (g : Graph) (regions : ℕ) (board : Board) (p : PlainProgramme) (c : PlainChoice)
+      (images : Images) (mem : Memory) → CanStart v g regions board p c images →
+      IsStarted g (chosen_slots board p c) mem (all_copied mem (start_jobs g images (chosen_slots board p c)))
+  pub current : (v : PlainView) (g : Graph) (regions : ℕ) (board : Board) (p : PlainProgramme) (c : PlainChoice)
+      (images : Images) (code : ℕ → ℕ → ℕ) (mem : Memory) → CanStart v g regions board p c images →
+      ImagesStand (chosen_slots board p c) images code mem →
+      IsCurrent g (chosen_slots board p c) images code 0 (all_copied mem (start_jobs g images (chosen_slots board p c)))
 
 -- the jobs of a switch move each object to its place in the region that is entered, and write nothing else. The region is
 -- current then

@@ -1,5 +1,11 @@
 // Laws of the definitions: functions that do nothing, whose contracts are what is proved.
-ghost use Rattle.overlay_jobs.specs.SwitchLaws.{SwitchesMove};
+ghost use Rattle.overlay_jobs.specs.SwitchLaws.{StartMoves, SwitchesMove};
+
+/// The jobs of the start leave each object's bytes at its first place as they were at home, and the copies of the code that
+/// stands in the scratchpad throughout. They write nothing but slots of these.
+pub fn start_moves()
+    ensures { StartMoves }
+{}
 
 /// The jobs of a switch between regions leave each object's bytes at its place in the region that is entered, and the
 /// copies of the code that is present there. They write nothing but slots and homes of what they move.

@@ -3,4 +3,4 @@
 
 mod laws;
 
-pub use laws::switches_move;
+pub use laws::{start_moves, switches_move};
