@@ -5,15 +5,18 @@ use Rattle.std.proofs.lemmas.Bool.{cases_eq, cases_lt}
 use Rattle.elf_reader.specs.File.{PlainView}
 use Rattle.board_config.specs.declared.board.Board.{Board}
 use Rattle.object_graph.specs.declared.parts.Graph.{Graph}
-use Rattle.cell_values.specs.Objects.{object_of}
+use Rattle.object_graph.proofs.LookupLemmas.{laid_out}
+use Rattle.cell_values.specs.Objects.{IsGrain, absent_object, object_of}
 use Rattle.cell_values.proofs.GraphObjects.{objects_differ}
 use Rattle.placement_programme.specs.Plain.{PlainProgramme, PlainChoice}
 use Rattle.relocator.specs.declared.slots.Slot.{Slot}
-use Rattle.relocator.specs.Slots.{is_code}
+use Rattle.relocator.specs.Slots.{region_lane, pair_lane, pair_of, is_code, bytes_in, items_of}
 use Rattle.relocator.specs.Placing.{puts, placed, chosen_slots}
-use Rattle.relocator.specs.Laws.{CanLayOut, IsLaidOut, IsPresent, AreDisjoint, AreDisjointIn, no_slot, slot_at, StandsIn, StandsAtHome}
-use Rattle.relocator.proofs.WeightLemmas.{IsAmong}
+use Rattle.relocator.specs.Laws.{CanLayOut, IsLaidOut, LiesWithin, IsPresent, AreDisjoint, AreDisjointIn, no_slot, slot_at, StandsIn, StandsAtHome}
+use Rattle.relocator.proofs.WeightLemmas.{HasRoomFor, IsAmong}
 use Rattle.relocator.proofs.StandLemmas.{puts_room, stands}
+use Rattle.relocator.proofs.GrainLemmas.{IsTimes}
+use Rattle.relocator.proofs.PlaceLemmas.{choice_fits}
 use Rattle.relocator.proofs.OwnLemmas.{objects_in_slots}
 use Rattle.relocator.proofs.FitLemmas.{are_laid, places_fit, objects_off_code_slots}
 use Rattle.relocator.proofs.ObjectLemmas.{home_off_scratchpad}
@@ -24,6 +27,9 @@ InScratchpad board a = (n : ℕ) × ((n < board.spm.size) × (a ≡ board.spm.ba
 
 abbrev pub AtHome : Graph → ℕ → Type 0
 AtHome g a = (o : ℕ) × ((i : ℕ) × ((i < (object_of g o).size) × (a ≡ (object_of g o).home + i)))
+
+pub grain_is : (v : PlainView) (g : Graph) (board : Board) → IsLaidOut v board g → IsGrain g.grain
+grain_is v g board laid = subst IsGrain (sym laid.graph.grain) laid.lawful.grain
 
 module _ (v : PlainView) (g : Graph) (regions : ℕ) (board : Board) (p : PlainProgramme) (c : PlainChoice) (laid : IsLaidOut v board g) (can : CanLayOut g regions board p c) where
   abbrev slots : List Slot
@@ -46,11 +52,35 @@ module _ (v : PlainView) (g : Graph) (regions : ℕ) (board : Board) (p : PlainP
   pub among : (k : ℕ) → k < length slots → IsAmong regions (slot_at slots k).name
   among k below = ((are_laid v g regions board p c 0 laid can).sized k no_slot below).among
 
+  pub room_for : (k region o : ℕ) → k < length slots → puts (slot_at slots k).name region o ≡ true → HasRoomFor g (slot_at slots k).span o
+  room_for k region o below is =
+      puts_room g (slot_at slots k).span (slot_at slots k).name region o is ((are_laid v g regions board p c region laid can).sized k no_slot below).room
+
+  -- its object is one of the graph, and has bytes
+  pub known : (k region o : ℕ) → k < length slots → puts (slot_at slots k).name region o ≡ true → o < length g.objects.items
+  known k region o below is = (room_for k region o below is).below
+
+  pub filled : (k region o : ℕ) → k < length slots → puts (slot_at slots k).name region o ≡ true → 1 ≤ (object_of g o).size
+  filled k region o below is = (laid_out v board g.objects.items laid.graph.objects).filled o absent_object (known k region o below is)
+
+  -- ---- room
+
+  pub whole_slot : (k : ℕ) → k < length slots → IsTimes g.grain (slot_at slots k).span
+  whole_slot k below = let sized = (are_laid v g regions board p c 0 laid can).sized k no_slot below in (sized.times, sized.whole)
+
+  pub region_room : (region : ℕ) → 1 ≤ region → region ≤ regions → bytes_in (pair_lane (pair_of region)) (items_of p c) + bytes_in (region_lane region) (items_of p c) ≤ board.spm.size
+  region_room region some within =
+      let fits = (choice_fits g regions board p c (grain_is v g board laid) can).in_regions region some within in
+      omega (arith, fits)
+
   -- ---- the scratchpad and homes
+
+  pub slot_ends : (k : ℕ) → k < length slots → LiesWithin board.spm (slot_at slots k)
+  slot_ends k below = (are_laid v g regions board p c 0 laid can).within k no_slot below
 
   pub slot_inside : (k i : ℕ) → k < length slots → i < (slot_at slots k).span → InScratchpad board ((slot_at slots k).at + i)
   slot_inside k i below inside =
-      let within = (are_laid v g regions board p c 0 laid can).within k no_slot below in
+      let within = slot_ends k below in
       let from = within.from in
       let to = within.to in
       ((slot_at slots k).at - board.spm.base + i, (omega (arith, from, to, inside), omega (arith, from)))

@@ -7,3 +7,6 @@ pub mod Entering
 pub mod Plans
 pub mod Switched
 pub mod Started
+pub mod Fitting
+pub mod Room
+pub mod JobsFit

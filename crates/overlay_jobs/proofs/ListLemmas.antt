@@ -31,7 +31,7 @@ pub record AreInto (which : VarName → Bool) (g : Graph) (images : Images) (slo
   pub are : All (IsInto which g images slots) jobs
   pub written : (a k : ℕ) → k < length slots → which (slot_at slots k).name ≡ true → Writes a (job_at g images (code_number slots k) slots k) → IsWritten a jobs
 
-next_plus : (name : VarName) (n m : ℕ) → next_code name n + m ≡ n + next_code name m
+pub next_plus : (name : VarName) (n m : ℕ) → next_code name n + m ≡ n + next_code name m
 next_plus name n m = by (is_code name)
   where
     by : (b : Bool) → (if b then suc n else n) + m ≡ n + (if b then suc m else m)

@@ -1,15 +1,17 @@
 -- What a switch moves, by name: the jobs of what it moves, and what stays in both regions.
-use Rattle.std.proofs.Common.{◌≡◌, ◌⊎◌, inl, inr, ℕ, ◌<◌, ◌==◌, Bool, true, false, not, ◌&&◌, ◌||◌, if◌then◌else◌, List, [], ◌∷◌, ◌++◌, length, refl, sym, ◌∙◌, ap, subst, arith}
+use Rattle.std.proofs.Common.{◌≡◌, ◌⊎◌, inl, inr, ℕ, ◌<◌, ◌≤◌, ◌==◌, Bool, true, false, not, ◌&&◌, ◌||◌, if◌then◌else◌, List, [], ◌∷◌, ◌++◌, length, refl, sym, ◌∙◌, ap, subst, arith}
 use Rattle.std.specs.Prelude.{All}
 use Rattle.std.proofs.lemmas.Bool.{cond_both, cases_Bool, eqb-true}
 use Rattle.std.proofs.lemmas.Bool.Decides.{nat_tests}
 use Rattle.std.proofs.lemmas.List.Elements.{All-nil, All-cons, All-append}
+use Rattle.std.proofs.lemmas.List.Sums.{sum_by-cons}
 use Rattle.list_checks.proofs.TestLemmas.{both}
 use Rattle.object_graph.specs.declared.parts.Graph.{Graph}
 use Rattle.cell_values.specs.Objects.{object_of}
 use Rattle.placement_programme.specs.declared.variables.VarName.{VarName}
 use Rattle.placement_programme.specs.declared.variables.VarName.TheVariants.{StaticData, StaticCode, OverlayData, OverlayCode, KeptData}
 use Rattle.copy_jobs.specs.declared.job.CopyJob.{CopyJob}
+use Rattle.switch_routine.specs.Counts.{span, spans}
 use Rattle.relocator.specs.declared.slots.Slot.{Slot}
 use Rattle.relocator.specs.Slots.{pair_of, is_code}
 use Rattle.relocator.specs.Placing.{puts}
@@ -22,10 +24,10 @@ use Rattle.overlay_jobs.proofs.ListLemmas.{homes_at, leaving_all, leaving_writte
 
 -- ---- truth values
 
-first_or : (a b c : Bool) → a ≡ true → a || (b && not c) ≡ true
+pub first_or : (a b c : Bool) → a ≡ true → a || (b && not c) ≡ true
 first_or a b c is = grind (arith, is)
 
-second_or : (a b c : Bool) → b ≡ true → c ≡ false → a || (b && not c) ≡ true
+pub second_or : (a b c : Bool) → b ≡ true → c ≡ false → a || (b && not c) ≡ true
 second_or a b c is not_so = grind (arith, is, not_so)
 
 either_or : (a b c : Bool) → a || (b && not c) ≡ true → (a ≡ true) ⊎ ((b ≡ true) × (c ≡ false))
@@ -55,6 +57,24 @@ static_is (StaticCode first last) static = inr (refl, tt)
 static_is (OverlayData own object) static = absurd (cc)
 static_is (OverlayCode own first last) static = absurd (cc)
 static_is (KeptData pair object) static = absurd (cc)
+
+-- the jobs home of what is there take as much as one of its object, or nothing
+home_span : (g : Graph) (at room o : ℕ) (b : Bool) → span (back_home g at o) ≤ room → spans (if b then back_home g at o ∷ [] else []) ≤ room
+home_span g at room o true least = let alone = sum_by-cons span (back_home g at o) [] in omega (arith, alone, least)
+home_span g at room o false least = omega arith
+
+pub homes_span : (region : ℕ) (g : Graph) (at room : ℕ) (name : VarName) → IsThere region name → ((o : ℕ) → puts name region o ≡ true → span (back_home g at o) ≤ room) → spans (jobs_home g at name) ≤ room
+homes_span region g at room (StaticData object) there least = home_span g at room object (object_of g object).writable (least object (same_is object))
+homes_span region g at room (StaticCode first last) there least = omega arith
+homes_span region g at room (OverlayData own object) (inl put) least =
+    home_span g at room object (object_of g object).writable
+    (least object (both_are (object == object) (own == region) (same_is object) (both (object == put.0) (own == region) put.1).1))
+homes_span region g at room (OverlayData own object) (inr code) least = absurd (cc (code.0))
+homes_span region g at room (OverlayCode own first last) there least = omega arith
+homes_span region g at room (KeptData pair object) (inl put) least =
+    home_span g at room object (object_of g object).writable
+    (least object (both_are (object == object) (pair_of region == pair) (same_is object) (both (object == put.0) (pair_of region == pair) put.1).1))
+homes_span region g at room (KeptData pair object) (inr code) least = absurd (cc (code.0))
 
 -- in region 0 there is nothing else
 pub static_data_is : (regions : ℕ) (name : VarName) (o : ℕ) → IsAmong regions name → puts name 0 o ≡ true → is_static name ≡ true

@@ -97,7 +97,7 @@ module _ (v : PlainView) (g : Graph) (regions : ℕ) (board : Board) (p : PlainP
             let one = same_slot v g regions board p c laid can r enters.k stay.k (low + i) (low + i) enters.below stay.below
             (puts_present (slot_at slots enters.k).name r o enters.here) (puts_present (slot_at slots stay.k).name r o stay.rests.there)
             (omega (arith, room_too, inside)) (omega (arith, room, inside)) (omega (arith, there, there_too)) in
-            absurd (cc (enters.moved, ap (λ (n : ℕ). is_moved twins r s (slot_at slots n).name) one, stay.rests.kept_there))
+            absurd (cc (enters.moved, one, stay.rests.kept_there))
 
     home_bytes : (o i : ℕ) → i < (object_of g o).size → LeavesHere o ⊎ (placed g slots s o ≡ (object_of g o).home) → between ((object_of g o).home + i) ≡ mem (placed g slots s o + i)
     home_bytes o i inside from =

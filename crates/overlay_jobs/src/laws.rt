@@ -1,4 +1,5 @@
 // Laws of the definitions: functions that do nothing, whose contracts are what is proved.
+ghost use Rattle.overlay_jobs.specs.JobLaws.{JobsFit};
 ghost use Rattle.overlay_jobs.specs.SwitchLaws.{StartMoves, SwitchesMove};
 
 /// The jobs of the start leave each object's bytes at its first place as they were at home, and the copies of the code that
@@ -11,4 +12,10 @@ pub fn start_moves()
 /// copies of the code that is present there. They write nothing but slots and homes of what they move.
 pub fn switches_move()
     ensures { SwitchesMove }
+{}
+
+/// Each job of a choice copies some bytes between the scratchpad and an object at home, or from an image to the scratchpad.
+/// The jobs of each region take at most the scratchpad's room.
+pub fn jobs_fit()
+    ensures { JobsFit }
 {}
