@@ -7,6 +7,7 @@ use Rattle.placement_programme.specs.declared.variables.VarName.{VarName}
 use Rattle.word_bits.specs.Memory.{Memory}
 use Rattle.elf_reader.specs.File.{PlainView}
 use Rattle.board_config.specs.declared.board.Board.{Board}
+use Rattle.board_config.specs.declared.board.Range.{Range}
 use Rattle.object_graph.specs.declared.parts.Graph.{Graph}
 use Rattle.cell_values.specs.Objects.{object_of}
 use Rattle.placement_programme.specs.Plain.{PlainProgramme, PlainChoice}
@@ -21,6 +22,10 @@ use Rattle.overlay_jobs.proofs.Phases.{Writes, IsWritten, Brings, jobs_bring}
 use Rattle.overlay_jobs.proofs.ListLemmas.{job_at, IsInto, AreInto}
 use Rattle.overlay_jobs.proofs.Moved.{IsThere, into_is, image_is}
 use Rattle.overlay_jobs.proofs.Chosen.{InScratchpad, own, slot_inside, object_inside, home_outside, same_place, off_code, same_slot}
+
+-- a byte of a copy is one of its slot
+pub inside_slot : (spm : Range) (g : Graph) (slots : List Slot) (images : Images) → AreImages spm g slots images → (k i : ℕ) → IsOfCode slots k → i < images.bytes (code_number slots k) → i < (slot_at slots k).span
+inside_slot spm g slots images fitting k i of inside = let most = fitting.fit k of in omega (arith, most, inside)
 
 module _ (v : PlainView) (g : Graph) (regions : ℕ) (board : Board) (p : PlainProgramme) (c : PlainChoice) (laid : IsLaidOut v board g) (can : CanLayOut g regions board p c) where
   abbrev slots : List Slot
@@ -72,7 +77,7 @@ module _ (v : PlainView) (g : Graph) (regions : ℕ) (board : Board) (p : PlainP
         each k below moved (inr code) =
             subst (λ (job : CopyJob). Brings (InScratchpad board) mem a w job) (sym (image_is g images (code_number slots k) (slot_at slots k).at (slot_at slots k).name code.0))
             (record {
-              target = λ i inside. slot_inside v g regions board p c laid can k i below (fitting.fit k i (below, code.0) inside);
+              target = λ i inside. slot_inside v g regions board p c laid can k i below (inside_slot board.spm g slots images fitting k i (below, code.0) inside);
               source = λ i inside spm. fitting.off_scratchpad k i spm.0 (below, code.0) inside spm.1.0 spm.1.1;
               value = λ i inside same. code_at k i (below, code.0) moved code.1 inside same;
             })
@@ -88,7 +93,7 @@ module _ (v : PlainView) (g : Graph) (regions : ℕ) (board : Board) (p : PlainP
         let room = st.room in
         let low : ℕ = (object_of g o).home % g.grain in
         absurd (off k (low + i) below moved (omega (arith, room, inside)) (omega (arith, there, same))))
-        (λ k i code moved present inside same. absurd (off k i code.0 moved (fitting.fit k i code inside) same)))
+        (λ k i code moved present inside same. absurd (off k i code.0 moved (inside_slot board.spm g slots images fitting k i code inside) same)))
         (inl refl)
 
     pub entered_off : (a : ℕ) → (InScratchpad board a → ⊥) → new a ≡ mem a
@@ -101,7 +106,7 @@ module _ (v : PlainView) (g : Graph) (regions : ℕ) (board : Board) (p : PlainP
         jobs_bring (InScratchpad board) (place o + i) (mem ((object_of g o).home + i)) mem jobs
         (bring (place o + i) (mem ((object_of g o).home + i)) data_at
         (λ k j code moved present inside_too same.
-        absurd (off_code v g regions board p c laid can r o k i j code.0 code.1 present inside (fitting.fit k j code inside_too) (sym same))))
+        absurd (off_code v g regions board p c laid can r o k i j code.0 code.1 present inside (inside_slot board.spm g slots images fitting k j code inside_too) (sym same))))
         (before known)
       where
         data_at : DataAt (place o + i) (mem ((object_of g o).home + i))
@@ -129,7 +134,7 @@ module _ (v : PlainView) (g : Graph) (regions : ℕ) (board : Board) (p : PlainP
         let one = same_place v g regions board p c laid can r q o j i inside_too inside same in
         absurd (not_so (record { k = k; below = below; here = subst (λ (n : ℕ). puts (slot_at slots k).name r n ≡ true) one is; moved = moved })))
         (λ k j code moved present inside_too same.
-        absurd (off_code v g regions board p c laid can r o k i j code.0 code.1 present inside (fitting.fit k j code inside_too) (sym same))))
+        absurd (off_code v g regions board p c laid can r o k i j code.0 code.1 present inside (inside_slot board.spm g slots images fitting k j code inside_too) (sym same))))
         (inl refl)
 
     -- a copy is its image, where it is moved, or was so before
@@ -138,13 +143,13 @@ module _ (v : PlainView) (g : Graph) (regions : ℕ) (board : Board) (p : PlainP
         jobs_bring (InScratchpad board) ((slot_at slots k).at + i) (mem (images.at (code_number slots k) + i)) mem jobs
         (bring ((slot_at slots k).at + i) (mem (images.at (code_number slots k) + i))
         (λ m o j below moved is inside_too same.
-        absurd (off_code v g regions board p c laid can r o k j i code.0 code.1 present inside_too (fitting.fit k i code inside) same))
+        absurd (off_code v g regions board p c laid can r o k j i code.0 code.1 present inside_too (inside_slot board.spm g slots images fitting k i code inside) same))
         code_at)
         (before known)
       where
         code_at : CodeAt ((slot_at slots k).at + i) (mem (images.at (code_number slots k) + i))
         code_at m j other moved present_too inside_too same =
-            let one = same_slot v g regions board p c laid can r m k j i other.0 code.0 present_too present (fitting.fit m j other inside_too) (fitting.fit k i code inside) same in
+            let one = same_slot v g regions board p c laid can r m k j i other.0 code.0 present_too present (inside_slot board.spm g slots images fitting m j other inside_too) (inside_slot board.spm g slots images fitting k i code inside) same in
             let there : (slot_at slots k).at + j ≡ (slot_at slots k).at + i = subst (λ (n : ℕ). (slot_at slots n).at + j ≡ (slot_at slots k).at + i) one same in
             let equal : j ≡ i = omega (arith, there) in
             ap (λ (n : ℕ). mem (images.at (code_number slots n) + j)) one ∙ ap (λ (n : ℕ). mem (images.at (code_number slots k) + n)) equal

@@ -129,9 +129,8 @@ module _ (v : PlainView) (g : Graph) (regions : ℕ) (board : Board) (p : PlainP
       inside : (slot_at slots k).at + n ≤ board.spm.base + board.spm.size
       inside =
           let to = (slot_ends v g regions board p c can.laid can.can k of.0).to in
-          let one = some in
-          let last = can.fitting.fit k (n - 1) of (omega (arith, one)) in
-          omega (arith, to, last, one)
+          let most = can.fitting.fit k of in
+          omega (arith, to, most)
 
   -- ---- those of all slots that pass a test
 

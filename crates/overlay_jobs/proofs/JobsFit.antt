@@ -1,7 +1,6 @@
 -- All jobs of a plan fit, and those of each region take at most the scratchpad's room.
 use Rattle.std.proofs.Common.{◌≡◌, inl, inr, ℕ, ◌+◌, ◌<◌, ◌≤◌, Bool, true, false, List, ◌++◌, length, sym, subst, arith}
 use Rattle.std.specs.Prelude.{All}
-use Rattle.std.proofs.lemmas.Bool.{cases_lt}
 use Rattle.std.proofs.lemmas.List.Elements.{All-append, All-weaker}
 use Rattle.std.proofs.lemmas.List.Sums.{sum_by-append}
 use Rattle.elf_reader.specs.File.{PlainView}
@@ -49,13 +48,7 @@ module _ (v : PlainView) (g : Graph) (regions : ℕ) (board : Board) (p : PlainP
           subst (λ (job : CopyJob). span job ≤ (slot_at slots k).span)
           (sym (image_is g images (code_number slots k) (slot_at slots k).at (slot_at slots k).name code.0))
           (span_least g.grain (images.bytes (code_number slots k)) (slot_at slots k).span (grain_is v g board can.laid) (whole_slot v g regions board p c can.laid can.can k below)
-          (fits_whole (images.bytes (code_number slots k)) (slot_at slots k).span (λ i inside. can.fitting.fit k i (below, code.0) inside)))
-        where
-          fits_whole : (n m : ℕ) → ((i : ℕ) → i < n → i < m) → n ≤ m
-          fits_whole n m each = elim (cases_lt m n) [
-            | inl less ↦ let last = each m less in omega (arith, last)
-            | inr most ↦ most
-          ]
+          (can.fitting.fit k (below, code.0)))
 
   home_span : (which : VarName → Bool) (region : ℕ) → ((name : VarName) → which name ≡ true → IsThere region name) → (k : ℕ) → k < length slots → which (slot_at slots k).name ≡ true → spans (homes_at g slots k) ≤ (slot_at slots k).span
   home_span which region there k below passes =

@@ -10,3 +10,4 @@ pub mod Started
 pub mod Fitting
 pub mod Room
 pub mod JobsFit
+pub mod CopyWords

@@ -22,7 +22,7 @@ use Rattle.overlay_jobs.specs.SwitchLaws.{CanSwitch, SwitchesMove}
 use Rattle.overlay_jobs.proofs.Moved.{moved_is, entered_into, Rests, turned, moved_or_rests, code_moved, entered_jobs}
 use Rattle.overlay_jobs.proofs.Chosen.{own, among, where_is, slot_inside, object_inside, home_outside, same_slot}
 use Rattle.overlay_jobs.proofs.Leaving.{IsLeft, Leaves, left_elsewhere, left_off, homed}
-use Rattle.overlay_jobs.proofs.Entering.{Enters, entered_elsewhere, entered_off, arrived, rested, copied_code}
+use Rattle.overlay_jobs.proofs.Entering.{inside_slot, Enters, entered_elsewhere, entered_off, arrived, rested, copied_code}
 use Rattle.overlay_jobs.proofs.Plans.{left_is, jobs_are}
 
 module _ (v : PlainView) (g : Graph) (regions : ℕ) (board : Board) (p : PlainProgramme) (c : PlainChoice) (laid : IsLaidOut v board g) (can : CanLayOut g regions board p c) where
@@ -159,7 +159,7 @@ module _ (v : PlainView) (g : Graph) (regions : ℕ) (board : Board) (p : PlainP
         known k i of present inside = elim (code_moved twins r s g (slot_at slots k).name of.1 present) [
           | inl moves ↦ inl moves
           | inr before ↦
-              let spm = slot_inside v g regions board p c laid can k i of.0 (fitting.fit k i of inside) in
+              let spm = slot_inside v g regions board p c laid can k i of.0 (inside_slot board.spm g slots images fitting k i of inside) in
               inr (left_off v g regions board p c laid can twins s r within_s mem jobs left ((slot_at slots k).at + i) (λ home. home_outside v g regions board p c laid can ((slot_at slots k).at + i) home spm)
               ∙ current.copies k i of before inside
               ∙ sym (image_kept k i of inside))

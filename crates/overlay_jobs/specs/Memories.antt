@@ -1,5 +1,5 @@
 -- Memory while a region is current, and what a switch does to it.
-use Rattle.std.specs.Prelude.{◌≡◌, ℕ, ◌+◌, ◌<◌, ◌==◌, Bool, true, false, not, ◌&&◌, ◌||◌, List, length}
+use Rattle.std.specs.Prelude.{◌≡◌, ℕ, ◌+◌, ◌<◌, ◌≤◌, ◌==◌, Bool, true, false, not, ◌&&◌, ◌||◌, List, length}
 use Rattle.word_bits.specs.Memory.{Memory}
 use Rattle.board_config.specs.declared.board.Range.{Range}
 use Rattle.object_graph.specs.declared.parts.Graph.{Graph}
@@ -19,7 +19,7 @@ IsOfCode slots k = (k < length slots) × (is_code (slot_at slots k).name ≡ tru
 
 -- copies fit their slots, and no image meets the scratchpad or an object at home
 pub record AreImages (spm : Range) (g : Graph) (slots : List Slot) (images : Images) : Type 0 where
-  pub fit : (k i : ℕ) → IsOfCode slots k → i < images.bytes (code_number slots k) → i < (slot_at slots k).span
+  pub fit : (k : ℕ) → IsOfCode slots k → images.bytes (code_number slots k) ≤ (slot_at slots k).span
   pub off_scratchpad : (k i j : ℕ) → IsOfCode slots k → i < images.bytes (code_number slots k) → j < spm.size →
       images.at (code_number slots k) + i ≡ spm.base + j → ⊥
   pub off_homes : (k i o j : ℕ) → IsOfCode slots k → i < images.bytes (code_number slots k) → j < (object_of g o).size →

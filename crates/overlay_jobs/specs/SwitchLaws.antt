@@ -1,18 +1,19 @@
 -- What the jobs of a choice do.
-use Rattle.std.specs.Prelude.{◌≡◌, ℕ, ◌≤◌, List}
+use Rattle.std.specs.Prelude.{◌≡◌, ℕ, ◌+◌, ◌*◌, ◌<◌, ◌≤◌, List, length}
 use Rattle.word_bits.specs.Memory.{Memory}
 use Rattle.elf_reader.specs.File.{PlainView}
 use Rattle.board_config.specs.declared.board.Board.{Board}
 use Rattle.object_graph.specs.declared.parts.Graph.{Graph}
 use Rattle.placement_programme.specs.Plain.{PlainProgramme, PlainChoice}
+use Rattle.flat_machine.specs.Lines.{HoldsAt}
 use Rattle.copy_jobs.specs.declared.job.CopyJob.{CopyJob}
 use Rattle.copy_jobs.specs.Jobs.{all_copied}
 use Rattle.switch_routine.specs.Parts.{SwitchPlan}
 use Rattle.switch_routine.specs.Switching.{switch_jobs}
 use Rattle.relocator.specs.Placing.{chosen_slots}
-use Rattle.relocator.specs.Laws.{CanLayOut, IsLaidOut}
-use Rattle.overlay_jobs.specs.ChosenJobs.{Images, start_jobs, IsPlanOf}
-use Rattle.overlay_jobs.specs.Memories.{AreImages, ImagesStand, IsCurrent, IsSwitched, IsStarted}
+use Rattle.relocator.specs.Laws.{CanLayOut, IsLaidOut, IsPresent, slot_at}
+use Rattle.overlay_jobs.specs.ChosenJobs.{Images, code_number, start_jobs, IsPlanOf}
+use Rattle.overlay_jobs.specs.Memories.{IsOfCode, AreImages, ImagesStand, IsCurrent, IsSwitched, IsStarted}
 
 -- a choice that is laid out, with images
 pub record CanStart (v : PlainView) (g : Graph) (regions : ℕ) (board : Board) (p : PlainProgramme) (c : PlainChoice) (images : Images) : Type 0 where
@@ -51,3 +52,15 @@ pub record SwitchesMove : Type 0 where
       (images : Images) (code : ℕ → ℕ → ℕ) (w : SwitchPlan (List CopyJob)) (s r : ℕ) (mem : Memory) →
       CanSwitch v g regions board p c images w s r → IsCurrent g (chosen_slots board p c) images code s mem →
       IsCurrent g (chosen_slots board p c) images code r (all_copied mem (switch_jobs w s r))
+
+-- while a region is current, the words of an image stand where its copy does, if that is present
+abbrev pub CopiesHold : Type 0
+CopiesHold =
+    (v : PlainView) (g : Graph) (regions : ℕ) (board : Board) (p : PlainProgramme) (c : PlainChoice) (images : Images)
+    (code : ℕ → ℕ → ℕ) (r : ℕ) (mem : Memory) (k : ℕ) (words : List ℕ) → CanStart v g regions board p c images →
+    IsCurrent g (chosen_slots board p c) images code r mem → IsOfCode (chosen_slots board p c) k →
+    IsPresent r (slot_at (chosen_slots board p c) k).name →
+    4 * length words ≡ images.bytes (code_number (chosen_slots board p c) k) →
+    images.at (code_number (chosen_slots board p c) k) + 4 * length words < 4294967296 →
+    HoldsAt mem (images.at (code_number (chosen_slots board p c) k)) words →
+    HoldsAt mem (slot_at (chosen_slots board p c) k).at words

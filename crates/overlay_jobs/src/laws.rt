@@ -1,6 +1,6 @@
 // Laws of the definitions: functions that do nothing, whose contracts are what is proved.
 ghost use Rattle.overlay_jobs.specs.JobLaws.{JobsFit};
-ghost use Rattle.overlay_jobs.specs.SwitchLaws.{StartMoves, SwitchesMove};
+ghost use Rattle.overlay_jobs.specs.SwitchLaws.{StartMoves, SwitchesMove, CopiesHold};
 
 /// The jobs of the start leave each object's bytes at its first place as they were at home, and the copies of the code that
 /// stands in the scratchpad throughout. They write nothing but slots of these.
@@ -18,4 +18,9 @@ pub fn switches_move()
 /// The jobs of each region take at most the scratchpad's room.
 pub fn jobs_fit()
     ensures { JobsFit }
+{}
+
+/// While a region is current, the words of the image of a piece that is present stand in the piece's slot.
+pub fn copies_hold()
+    ensures { CopiesHold }
 {}
