@@ -26,7 +26,7 @@ use crate::large::large_file;
 use crate::moved::print_moved;
 use crate::piece_table::print_pieces;
 use crate::profile_table::print_profile;
-use crate::programme_table::print_programme;
+use crate::programme_table::{print_choice, print_programme};
 use anyhow::{Context, Result, bail};
 use board_config::{Board, read_board};
 use elf_reader::{ElfView, read};
@@ -37,9 +37,6 @@ use text_lines::{named_texts, print_line, print_text};
 
 /// The name of the program that is made rather than read.
 const LARGE: &str = "large";
-
-/// What stands before the name of the input for which a programme is stated.
-const PROGRAMME: &str = "programme<";
 
 /// Whether a table is of a file whose code is not followed.
 fn is_of_file(table: &str) -> bool {
@@ -118,7 +115,28 @@ fn list_program_table(
     }
 }
 
-/// Lists tables of an analysed program. A table is `NAME`, or `NAME=N` for the first N blocks, or `programme<INPUT`.
+/// Lists a table of an analysed program's run with the bytes of a file as its input.
+fn list_run_table(
+    rt: &(impl Files + Print + AllocGlobal),
+    table: &str,
+    input: &str,
+    analysis: &Analysis<'_>,
+    board: &Board,
+) -> Result<()>
+    requires lawful { IsLawful board.now }
+    requires analysed { (file : List ℕ) × IsAnalysisOf file board.now analysis.now }
+{
+    print_title(rt, table)?;
+    let input = fs::read(rt, input)?;
+    match table {
+        "programme" => print_programme(rt, analysis, board, &input),
+        "choice" => print_choice(rt, analysis, board, &input),
+        _ => bail!("a table has no known name"),
+    }
+}
+
+/// Lists tables of an analysed program. A table is `NAME`, or `NAME=N` for the first N blocks, or `NAME<INPUT` where it
+/// is of a run.
 fn list_tables(
     rt: &(impl Files + Print + AllocGlobal),
     tables: &str,
@@ -129,10 +147,8 @@ fn list_tables(
     requires analysed { (file : List ℕ) × IsAnalysisOf file board.now analysis.now }
 {
     for table in tables.split(',') {
-        if let Some(input) = table.strip_prefix(PROGRAMME) {
-            print_title(rt, table)?;
-            let input = fs::read(rt, input)?;
-            print_programme(rt, analysis, board, &input)?;
+        if let Some((name, input)) = table.split_once('<') {
+            list_run_table(rt, name, input, analysis, board)?;
             continue;
         }
         let (name, most) = match table.split_once('=') {

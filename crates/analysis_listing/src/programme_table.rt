@@ -1,5 +1,5 @@
 //! The programme of a placement that a run states, and the best choice of it.
-ghost use Rattle.std.specs.Prelude.{List, ℕ};
+ghost use Rattle.std.specs.Prelude.{◌≤◌, List, ℕ};
 ghost use Rattle.board_config.specs.Board.{IsLawful};
 ghost use Rattle.relink_core.specs.Choices.{IsAnalysisOf};
 
@@ -7,7 +7,7 @@ use crate::profile_table::print_fault;
 use anyhow::Result;
 use board_config::Board;
 use overlay_programme::both_sides_of_run;
-use placement_programme::{Choice, Programme, Side, Var, VarName, energy};
+use placement_programme::{Choice, Programme, Side, Var, VarName, gain_of};
 use relink_core::Analysis;
 use relinking::find_choice;
 use text_lines::{
@@ -27,7 +27,27 @@ pub(crate) fn print_programme(
     match both_sides_of_run(rt.alloc(), analysis, board, input) {
         Ok(programme) => {
             print_sides(rt, &programme)?;
-            print_best(rt, &programme, board.nodes)
+            print_best(rt, &programme, board.nodes)?;
+            Ok(())
+        }
+        Err(fault) => print_fault(rt, &fault),
+    }
+}
+
+/// The least energy of that programme, and what the choice takes.
+pub(crate) fn print_choice(
+    rt: &(impl Print + AllocGlobal),
+    analysis: &Analysis<'_>,
+    board: &Board,
+    input: &[u8],
+) -> Result<()>
+    requires lawful { IsLawful board.now }
+    requires analysed { (file : List ℕ) × IsAnalysisOf file board.now analysis.now }
+{
+    match both_sides_of_run(rt.alloc(), analysis, board, input) {
+        Ok(programme) => {
+            let choice = print_best(rt, &programme, board.nodes)?;
+            print_taken(rt, &programme, &choice)
         }
         Err(fault) => print_fault(rt, &fault),
     }
@@ -63,14 +83,19 @@ fn print_var(rt: &impl Print, var: &Var) -> Result<()> {
     end_line(rt)
 }
 
-/// The least energy, and a line for each variable that the choice takes.
-fn print_best(rt: &(impl Print + AllocGlobal), programme: &Programme, nodes: u64) -> Result<()> {
-    let solution = find_choice(rt.alloc(), programme, nodes.max(1))?;
-    let choice = &solution.found.choice;
-    print_value_line(rt, "optimum ", &energy(programme, choice))?;
-    print_taken(rt, programme, choice)
+/// The least energy that is found of a programme, and its choice.
+fn print_best(rt: &(impl Print + AllocGlobal), programme: &Programme, nodes: u64) -> Result<Choice>
+    requires { 1 ≤ nodes }
+{
+    let solution = find_choice(rt.alloc(), programme, nodes)?;
+    let found = solution.found;
+    let choice = found.choice;
+    let gain = gain_of(programme, &choice);
+    print_value_line(rt, "optimum ", &(programme.base as i128 - gain))?;
+    Ok(choice)
 }
 
+/// A line for each variable that a choice takes.
 fn print_taken(rt: &impl Print, programme: &Programme, choice: &Choice) -> Result<()> {
     let vars = match &programme.on {
         Some(side) if choice.on => &side.vars,

@@ -11,6 +11,7 @@ use Rattle.profile_runner.specs.declared.counts.Profile.{Profile}
 use Rattle.rv_decode.proofs.Meaning.{same_instruction}
 use Rattle.placement_programme.specs.Plain.{PlainProgramme, PlainChoice}
 use Rattle.placement_programme.specs.Programme.{IsFeasible, gain}
+use Rattle.placement_programme.specs.Rows.{Layout}
 use Rattle.energy_model.specs.Energy.{Scene, energy}
 use Rattle.energy_model.specs.Scenes.{scene_of, AreOfSameFile}
 use Rattle.placement_candidates.specs.Stated.{AreSomePieces}
@@ -35,3 +36,10 @@ both_energies view board g c t pieces objects q transitions p one are overlaid i
 pub within_base : (w : Scene) (transitions : List Transition) (p : PlainProgramme) → BothEnergiesAreOf w transitions p
     → (c : PlainChoice) → IsFeasible p c → gain p c ≤ℤ pos p.base
 within_base w transitions p energies c feasible = at_most_base p.base (gain p c) (energy w (taken_of p c) transitions) (energies c feasible)
+
+-- the same programme, of lists that are equal
+pub of_lists : {os os' : List ℕ} {ps ps' : List Piece} (p : PlainProgramme) (w : Scene) (l : Layout) (transitions : List Transition)
+    → os ≡ os' → ps ≡ ps' → p ≡ whole_stated w l os ps transitions → p ≡ whole_stated w l os' ps' transitions
+of_lists {os} {os'} {ps} {ps'} p w l transitions first second is =
+    subst (λ (xs : List Piece). p ≡ whole_stated w l os' xs transitions) second
+    (subst (λ (xs : List ℕ). p ≡ whole_stated w l xs ps transitions) first is)

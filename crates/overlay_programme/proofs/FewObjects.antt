@@ -1,5 +1,5 @@
 -- A program whose layout passes all checks has few objects that may move.
-use Rattle.std.proofs.Common.{◌≡◌, ◌∙◌, ℕ, ◌+◌, ◌<◌, ◌≤◌, nat_le, List, length, map, get_or, None, sym, subst, refl, arith}
+use Rattle.std.proofs.Common.{◌≡◌, ◌∙◌, ◌+◌, ◌<◌, ◌≤◌, nat_le, List, [], ◌∷◌, length, map, get_or, None, sym, subst, arith}
 use Rattle.std.specs.List.{All, AllPairs}
 use Rattle.std.proofs.lemmas.List.{length-map, get_or-map}
 use Rattle.std.proofs.lemmas.Bool.Decides.{nat_tests}
@@ -37,7 +37,7 @@ filled_ranges (o ∷ os) all k d below =
     let here = get_or-map range_of (o ∷ os) k o d (omega (arith, below, long)) in
     subst (λ (e : ByteRange). 0 < e.size) (sym here) (all k o (omega (arith, below, long)))
 
-movable_ranges : (v : PlainView) (board : Board) (objects : List Object) → IsObjects v board objects → AreMovable v (map range_of objects)
+abbrev movable_ranges : (v : PlainView) (board : Board) (objects : List Object) → IsObjects v board objects → AreMovable v (map range_of objects)
 movable_ranges v board objects is =
     let laid = laid_out v board objects is in
     record {
@@ -54,4 +54,6 @@ few_objects v board g is none =
     let long = length-map objects range_of in
     let below = objects_below v board (length v.symbols) in
     let fits = holds (nat_le below 4096) (TooManyObjects (capped below)) (both_none (places_fault v board) (too_many_fault v board) none).1 in
-    grind (arith, nat_tests, fits, counted, long)
+    let few : below ≤ 4096 = grind (arith, nat_tests, fits) in
+    let same : below ≡ length (map range_of objects) = counted in
+    omega (arith, few, same, long)

@@ -1,19 +1,16 @@
-use Rattle.std.proofs.Common.{◌≡◌, ◌≤◌, List, length, sym, subst}
-use Rattle.elf_reader.specs.File.{PlainView, plain_view}
+use Rattle.std.proofs.Common.{List, sym, subst}
 use Rattle.placement_programme.specs.Views.{plain_programme}
 use Rattle.block_splitter.specs.declared.piece.Piece.{Piece}
-use Rattle.loaded_file.proofs.WordLemmas.{same_view}
 use Rattle.energy_model.specs.Scenes.{scene_of}
 use Rattle.placement_candidates.specs.Stated.{AreSomePieces}
 use Rattle.overlay_candidates.specs.Overlaid.{overlay_layout}
-use Rattle.overlay_candidates.specs.Whole.{whole_stated}
 use Rattle.relink_core.proofs.KeepsLemmas.{passes}
 use Rattle.relinking.proofs.Counting.{unfaulted}
 use Rattle.relinking.proofs.StatedLemmas.{some_of_all}
 use Rattle.relinking.proofs.Energies.{of_one_file}
 use Rattle.relinking.proofs.Analysed.{may_state}
 use Rattle.overlay_programme.proofs.FewObjects.{few_objects}
-use Rattle.overlay_programme.proofs.BothEnergies.{both_energies}
+use Rattle.overlay_programme.proofs.BothEnergies.{both_energies, of_lists}
 use Rattle.overlay_programme.proofs.stating.both_sides_of_run.Goals as goal
 
 pub objects_of-requires : goal.objects_of-requires
@@ -50,8 +47,9 @@ returns-in-Ok-clause-ok c =
     let (last, made) = c.in_ok-measured.ensures.ok in
     let one = of_one_file analysis.view c.args.board.now analysis.graph analysis.code analysis.regions c.args.input.now c.in_ok-measured.measured.profile last
     may.read c.requires.1.lawful may.graph may.code may.no_fault may.room may.entry c.requires.1.regions.is_formed.one_each made in
-    let is = subst (λ (ps : List Piece). plain_programme c.in-Ok.programme ≡ whole_stated (scene_of analysis.graph analysis.code analysis.regions c.args.board.now) (overlay_layout analysis.graph analysis.code analysis.regions c.args.board.now) c.in_ok-objects.objects.items ps made.transitions)
-    c.deref.ensures.value (c.in-Ok.ensures analysis.view made.transitions one) in
+    let w = scene_of analysis.graph analysis.code analysis.regions c.args.board.now in
+    let l = overlay_layout analysis.graph analysis.code analysis.regions c.args.board.now in
+    let is = of_lists (plain_programme c.in-Ok.programme) w l made.transitions c.deref-2.ensures.value c.deref.ensures.value (c.in-Ok.ensures analysis.view made.transitions one) in
     record {
       transitions = made.transitions;
       last = last;
