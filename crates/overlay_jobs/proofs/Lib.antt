@@ -11,3 +11,4 @@ pub mod Fitting
 pub mod Room
 pub mod JobsFit
 pub mod CopyWords
+pub mod Numbers

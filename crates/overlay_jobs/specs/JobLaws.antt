@@ -1,5 +1,5 @@
 -- What the jobs of a choice copy where, and how much room they take.
-use Rattle.std.specs.Prelude.{◌≡◌, ◌⊎◌, ℕ, ◌+◌, ◌<◌, ◌≤◌, true, List, length, All}
+use Rattle.std.specs.Prelude.{◌≡◌, ◌⊎◌, ℕ, ◌+◌, ◌<◌, ◌≤◌, true, List, length, slice_index_or, All}
 use Rattle.elf_reader.specs.File.{PlainView}
 use Rattle.board_config.specs.declared.board.Board.{Board}
 use Rattle.board_config.specs.declared.board.Range.{Range}
@@ -11,7 +11,9 @@ use Rattle.copy_jobs.specs.Jobs.{IsJob}
 use Rattle.switch_routine.specs.Parts.{SwitchPlan}
 use Rattle.switch_routine.specs.Counts.{FitsRoom}
 use Rattle.relocator.specs.declared.slots.Slot.{Slot}
+use Rattle.relocator.specs.Slots.{code_slots}
 use Rattle.relocator.specs.Placing.{chosen_slots}
+use Rattle.relocator.specs.Laws.{slot_at}
 use Rattle.overlay_jobs.specs.ChosenJobs.{Images, code_number, start_jobs, IsPlanOf}
 use Rattle.overlay_jobs.specs.Memories.{IsOfCode}
 use Rattle.overlay_jobs.specs.SwitchLaws.{CanStart}
@@ -74,3 +76,12 @@ pub record JobsFit : Type 0 where
       (w : SwitchPlan (List CopyJob)) (i : ℕ) → CanStart v g regions board p c images →
       HaveBytes (chosen_slots board p c) images → IsPlanOf g images (chosen_slots board p c) regions w → i < regions →
       FitsRoom w board.spm.size i
+
+-- ---- numbers
+
+-- the items of code have the slots of code in order
+abbrev pub CodeNumbers : Type 0
+CodeNumbers =
+    (slots : List Slot) (k : ℕ) → IsOfCode slots k →
+    (code_number slots k < length (code_slots slots))
+    × (slice_index_or (code_slots slots) (code_number slots k) 0 ≡ (slot_at slots k).at)

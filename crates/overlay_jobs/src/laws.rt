@@ -1,5 +1,5 @@
 // Laws of the definitions: functions that do nothing, whose contracts are what is proved.
-ghost use Rattle.overlay_jobs.specs.JobLaws.{JobsFit};
+ghost use Rattle.overlay_jobs.specs.JobLaws.{JobsFit, CodeNumbers};
 ghost use Rattle.overlay_jobs.specs.SwitchLaws.{StartMoves, SwitchesMove, CopiesHold};
 
 /// The jobs of the start leave each object's bytes at its first place as they were at home, and the copies of the code that
@@ -23,4 +23,9 @@ pub fn jobs_fit()
 /// While a region is current, the words of the image of a piece that is present stand in the piece's slot.
 pub fn copies_hold()
     ensures { CopiesHold }
+{}
+
+/// The items of code have the slots of code in order.
+pub fn code_numbers()
+    ensures { CodeNumbers }
 {}
