@@ -1,0 +1,14 @@
+pub mod Phases
+pub mod ListLemmas
+pub mod Moved
+pub mod Chosen
+pub mod Leaving
+pub mod Entering
+pub mod Plans
+pub mod Switched
+pub mod Started
+pub mod Fitting
+pub mod Room
+pub mod JobsFit
+pub mod CopyWords
+pub mod Numbers

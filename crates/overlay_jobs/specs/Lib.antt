@@ -1,0 +1,15 @@
+pub use Rattle.word_bits.specs.Memory
+pub use Rattle.object_graph.specs.Graphs
+pub use Rattle.cell_values.specs.Objects
+pub use Rattle.placement_programme.specs.Programme
+pub use Rattle.copy_jobs.specs.Jobs
+pub use Rattle.switch_routine.specs.Parts
+pub use Rattle.switch_routine.specs.Switching
+pub use Rattle.switch_routine.specs.Counts
+pub use Rattle.relocator.specs.Slots
+pub use Rattle.relocator.specs.Placing
+pub use Rattle.relocator.specs.Laws
+pub mod ChosenJobs
+pub mod Memories
+pub mod SwitchLaws
+pub mod JobLaws

@@ -1,0 +1,6 @@
+//! The jobs of a choice with overlay, and what they leave in memory: laws of definitions.
+#![tactic(auto)]
+
+mod laws;
+
+pub use laws::{code_numbers, copies_hold, jobs_fit, start_moves, switches_move};
