@@ -31,7 +31,8 @@ use Rattle.object_machine.specs.State.{value}
 use Rattle.result_setups.specs.LiveUnits.{StandsThere}
 use Rattle.result_setups.proofs.CodeUnits.{block_of, first}
 use Rattle.result_setups.proofs.LiveUnits.{steps_lead_on}
-use Rattle.held_addresses.specs.Holds.{ValueIsHeld, CellIsHeld, AreHeld, NamesNone, CellNamesNone}
+use Rattle.held_addresses.specs.Holds.{ValueIsHeld, CellIsHeld, AreHeld}
+use Rattle.region_changes.specs.Names.{NamesNone, CellNamesNone}
 use Rattle.held_addresses.specs.Entries.{TellsBorders, RegionsTellBorders, RunsIn, EntersAtBorders, StartsAtBorder, BordersAreFree}
 use Rattle.held_addresses.proofs.Held.{one_unit}
 

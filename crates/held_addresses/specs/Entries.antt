@@ -17,7 +17,7 @@ use Rattle.object_machine.specs.State.{SourceState}
 use Rattle.object_machine.specs.Step.{Reads, next_state}
 use Rattle.result_setups.specs.HomeLaws.{IsAccepted, unnamed_in}
 use Rattle.result_setups.specs.LiveUnits.{StandsThere, live_at}
-use Rattle.held_addresses.specs.Holds.{StateNamesNone}
+use Rattle.region_changes.specs.Names.{StateNamesNone}
 use Rattle.held_addresses.specs.Held.{IsHeld}
 
 -- ---- control
