@@ -8,13 +8,15 @@ use Rattle.std.proofs.lemmas.List.Elements.{All-nil, All-cons}
 use Rattle.std.proofs.lemmas.List.Kept.{AllPairs-cons}
 use Rattle.word_bits.specs.Words.{byte_of}
 use Rattle.copy_jobs.specs.declared.job.CopyJob.{CopyJob}
-use Rattle.copy_jobs.specs.Jobs.{IsOutside}
+use Rattle.copy_jobs.specs.Jobs.{AreDisjoint, IsOutside}
 use Rattle.switch_routine.specs.Moves.{SparesJob, AreApart}
 use Rattle.cell_values.specs.Stands.{moved_uppers}
 use Rattle.simulation.specs.Setups.{Setup}
 use Rattle.region_changes.proofs.Example.{objects, program, places}
 use Rattle.region_arrivals.specs.Carried.{ComesToPlace, ComesStill, Number, Home, JobsServe}
+use Rattle.region_arrivals.specs.Served.{SpareRange, IsObjectServed, Leaves, Enters, RestsUnwritten, EntersUnwritten}
 use Rattle.region_arrivals.proofs.Carried.{jobs_carry}
+use Rattle.region_arrivals.proofs.Served.{objects_are_served}
 
 -- ---- the setup: the control words are from 12288 on, and the first tells the region. The home of object 1 stands still
 -- where the object is elsewhere
@@ -78,27 +80,49 @@ two_objects o i below =
 small : (o i : ℕ) → i < objects.size o → i < 16
 small o i below = grind (arith, nat_tests)
 
-enters : (o i : ℕ) → i < objects.size o → ComesToPlace program setup 0 1 enter o i
-enters o i below =
-    elim (two_objects o i below) [
-      | inl is ↦
-          subst (λ q. ComesToPlace program setup 0 1 enter q i) (sym is)
-          (inl (jobs_carry.moved enter first_in i enter_apart (0, omega arith, refl) (small o i below)))
-      | inr is ↦
-          subst (λ q. ComesToPlace program setup 0 1 enter q i) (sym is)
-          (inl (jobs_carry.moved enter second_in i enter_apart (1, omega arith, refl) (small o i below)))
-    ]
+none : AreApart []
+none i j d before below = absurd (omega (arith, before, below))
 
-leaves : (o i : ℕ) → i < objects.size o → ComesToPlace program setup 1 0 leave o i
-leaves o i below =
-    elim (two_objects o i below) [
-      | inl is ↦
-          subst (λ q. ComesToPlace program setup 1 0 leave q i) (sym is)
-          (inl (jobs_carry.moved leave first_out i (alone first_out) (0, omega arith, refl) (small o i below)))
-      | inr is ↦
-          subst (λ q. ComesToPlace program setup 1 0 leave q i) (sym is)
-          (inr (refl, jobs_carry.outside leave (4112 + i) (spares_home (4112 + i) (inr (omega arith)))))
-    ]
+nothing_left : (at n : ℕ) → SpareRange [] at n
+nothing_left at n = All-nil (λ (job : CopyJob). AreDisjoint job.to job.bytes at n)
+
+serves_first : IsObjectServed program setup 0 1 [] enter 0
+serves_first = Enters (0, omega arith, refl) (nothing_left 4096 16)
+
+serves_second : IsObjectServed program setup 0 1 [] enter 1
+serves_second = EntersUnwritten refl (1, omega arith, refl) (nothing_left 4112 16)
+
+leaves_first : IsObjectServed program setup 1 0 leave [] 0
+leaves_first = Leaves (0, omega arith, refl) (nothing_left 4096 16)
+
+leaves_second : IsObjectServed program setup 1 0 leave [] 1
+leaves_second =
+    RestsUnwritten refl refl
+    (All-cons (λ (job : CopyJob). AreDisjoint job.to job.bytes 4112 16) first_out [] (inl (omega arith)) (nothing_left 4112 16))
+    (nothing_left 4112 16)
+
+module _ (o i : ℕ) (below : i < objects.size o) where
+  enters : ComesToPlace program setup 0 1 enter o i
+  enters =
+      elim (two_objects o i below) [
+        | inl is ↦
+            subst (λ q. ComesToPlace program setup 0 1 enter q i) (sym is)
+            (objects_are_served program setup 0 1 [] enter 0 i none enter_apart serves_first (small o i below))
+        | inr is ↦
+            subst (λ q. ComesToPlace program setup 0 1 enter q i) (sym is)
+            (objects_are_served program setup 0 1 [] enter 1 i none enter_apart serves_second (small o i below))
+      ]
+
+  leaves : ComesToPlace program setup 1 0 leave o i
+  leaves =
+      elim (two_objects o i below) [
+        | inl is ↦
+            subst (λ q. ComesToPlace program setup 1 0 leave q i) (sym is)
+            (objects_are_served program setup 1 0 leave [] 0 i (alone first_out) none leaves_first (small o i below))
+        | inr is ↦
+            subst (λ q. ComesToPlace program setup 1 0 leave q i) (sym is)
+            (objects_are_served program setup 1 0 leave [] 1 i (alone first_out) none leaves_second (small o i below))
+      ]
 
 -- ---- what stands still
 number_comes : (from to a : ℕ) (jobs : List CopyJob) → 12288 ≤ a → a < 12292 → ComesStill program setup 12288 from to jobs a
