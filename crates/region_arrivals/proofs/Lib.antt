@@ -1,2 +1,4 @@
 pub mod Carried
+pub mod Served
 pub mod Pads
+pub mod Example

@@ -4,4 +4,4 @@
 
 mod laws;
 
-pub use laws::{jobs_carry, switches_change};
+pub use laws::{jobs_carry, lists_do, objects_are_served, switches_change};

@@ -30,7 +30,7 @@ use Rattle.region_changes.proofs.Stays.{switched, places_decide}
 use Rattle.region_changes.proofs.Homes.{home_too}
 
 -- ---- the program: object 0 has its home at 4096, and object 1, which isn't writable, at 4112
-abbrev objects : Objects
+abbrev pub objects : Objects
 objects =
     record {
       grain = 16;
@@ -39,7 +39,7 @@ objects =
       writable = λ o. o == 0;
     }
 
-abbrev program : Program
+abbrev pub program : Program
 program =
     record {
       objects = objects;
@@ -56,7 +56,7 @@ program =
     }
 
 -- ---- the setup: in region 0 both are at home, and in any other at 8192 and 8208. There the home of object 1 stands still
-abbrev places : ℕ → Places
+abbrev pub places : ℕ → Places
 places r = λ o. if r == 0 then objects.home o else (if o == 0 then 8192 else (if o == 1 then 8208 else 64))
 
 abbrev setup : Setup
