@@ -12,3 +12,4 @@ pub mod Room
 pub mod JobsFit
 pub mod CopyWords
 pub mod Numbers
+pub mod PatchJobs

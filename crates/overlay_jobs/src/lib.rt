@@ -3,4 +3,4 @@
 
 mod laws;
 
-pub use laws::{code_numbers, copies_hold, jobs_fit, start_moves, switches_move};
+pub use laws::{code_numbers, copies_hold, jobs_fit, jobs_spare, start_moves, switches_move};
