@@ -13,3 +13,4 @@ pub mod JobsFit
 pub mod CopyWords
 pub mod Numbers
 pub mod PatchJobs
+pub mod PatchHomes

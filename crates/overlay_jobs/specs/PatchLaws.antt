@@ -11,9 +11,9 @@ use Rattle.overlay_stubs.specs.Start.{Spares}
 use Rattle.overlay_stubs.specs.Overlay.{OverlayPlan, switching, serving_at, rest_bytes, SparesWords, CanChange}
 use Rattle.relocator.specs.declared.slots.Slot.{Slot}
 use Rattle.relocator.specs.Placing.{chosen_slots}
-use Rattle.relocator.specs.Laws.{AreObjectsOff}
+use Rattle.relocator.specs.Laws.{IsLaidOut, AreObjectsOff, slot_at}
 use Rattle.overlay_jobs.specs.ChosenJobs.{Images, code_number, start_jobs, IsPlanOf}
-use Rattle.overlay_jobs.specs.Memories.{IsOfCode}
+use Rattle.overlay_jobs.specs.Memories.{IsOfCode, AreImages}
 use Rattle.overlay_jobs.specs.SwitchLaws.{CanStart}
 use Rattle.overlay_jobs.specs.JobLaws.{HaveBytes}
 
@@ -22,6 +22,20 @@ pub record IsOffPatch (spm patch : Range) (g : Graph) (slots : List Slot) (image
   pub scratchpad : (i j : ℕ) → i < spm.size → j < patch.size → spm.base + i ≡ patch.base + j → ⊥
   pub homes : AreObjectsOff g (λ o. (object_of g o).home) patch.base patch.size
   pub images_behind : (k : ℕ) → IsOfCode slots k → patch.base + 64 ≤ images.at (code_number slots k)
+
+-- images lie in the patch range behind the control words, have bytes, and fit the slots of their copies
+pub record LieInPatch (patch : Range) (slots : List Slot) (images : Images) : Type 0 where
+  pub some : (k : ℕ) → IsOfCode slots k → 1 ≤ images.bytes (code_number slots k)
+  pub fit : (k : ℕ) → IsOfCode slots k → images.bytes (code_number slots k) ≤ (slot_at slots k).span
+  pub from : (k : ℕ) → IsOfCode slots k → patch.base + 64 ≤ images.at (code_number slots k)
+  pub to : (k : ℕ) → IsOfCode slots k → images.at (code_number slots k) + images.bytes (code_number slots k) ≤ patch.base + patch.size
+
+-- such images are where the laws of jobs ask for them
+abbrev pub ImagesLie : Type 0
+ImagesLie =
+    (v : PlainView) (board : Board) (g : Graph) (slots : List Slot) (images : Images) → IsLaidOut v board g →
+    LieInPatch board.patch slots images →
+    AreImages board.spm g slots images × HaveBytes slots images × IsOffPatch board.spm board.patch g slots images
 
 -- all that a plan asks for lies in the patch range
 pub record LiesInPatch (patch : Range) (p : OverlayPlan) : Type 0 where

@@ -1,6 +1,6 @@
 // Laws of the definitions: functions that do nothing, whose contracts are what is proved.
 ghost use Rattle.overlay_jobs.specs.JobLaws.{JobsFit, CodeNumbers};
-ghost use Rattle.overlay_jobs.specs.PatchLaws.{JobsSpare};
+ghost use Rattle.overlay_jobs.specs.PatchLaws.{JobsSpare, ImagesLie};
 ghost use Rattle.overlay_jobs.specs.SwitchLaws.{StartMoves, SwitchesMove, CopiesHold};
 
 /// The jobs of the start leave each object's bytes at its first place as they were at home, and the copies of the code that
@@ -34,4 +34,9 @@ pub fn code_numbers()
 /// In a plan of the patch range that has the jobs of a choice, all of them can be done. They write none of the plan's words.
 pub fn jobs_spare()
     ensures { JobsSpare }
+{}
+
+/// Images that lie in the patch range meet neither the scratchpad nor an object at home.
+pub fn images_lie()
+    ensures { ImagesLie }
 {}

@@ -3,4 +3,6 @@
 
 mod laws;
 
-pub use laws::{code_numbers, copies_hold, jobs_fit, jobs_spare, start_moves, switches_move};
+pub use laws::{
+    code_numbers, copies_hold, images_lie, jobs_fit, jobs_spare, start_moves, switches_move,
+};
