@@ -14,3 +14,4 @@ pub mod CopyWords
 pub mod Numbers
 pub mod PatchJobs
 pub mod PatchHomes
+pub mod Behind

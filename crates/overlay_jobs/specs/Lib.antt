@@ -6,6 +6,7 @@ pub use Rattle.copy_jobs.specs.Jobs
 pub use Rattle.switch_routine.specs.Parts
 pub use Rattle.switch_routine.specs.Switching
 pub use Rattle.switch_routine.specs.Counts
+pub use Rattle.switch_routine.specs.Switches
 pub use Rattle.overlay_stubs.specs.Overlay
 pub use Rattle.relocator.specs.Slots
 pub use Rattle.relocator.specs.Placing

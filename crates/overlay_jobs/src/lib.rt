@@ -4,5 +4,6 @@
 mod laws;
 
 pub use laws::{
-    code_numbers, copies_hold, images_lie, jobs_fit, jobs_spare, start_moves, switches_move,
+    code_numbers, copies_hold, images_lie, jobs_fit, jobs_spare, routine_switches, start_moves,
+    switches_move,
 };
