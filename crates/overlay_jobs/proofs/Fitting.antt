@@ -24,7 +24,7 @@ use Rattle.overlay_jobs.proofs.Moved.{IsThere, into_is, image_is, moved_is, home
 use Rattle.overlay_jobs.proofs.Chosen.{own, known, filled, slot_ends, home_outside}
 
 -- ranges with bytes, of which none is in both
-disjoint_of : (a n b m : ℕ) → 1 ≤ n → 1 ≤ m → ((i j : ℕ) → i < n → j < m → a + i ≡ b + j → ⊥) → AreDisjoint a n b m
+pub disjoint_of : (a n b m : ℕ) → 1 ≤ n → 1 ≤ m → ((i j : ℕ) → i < n → j < m → a + i ≡ b + j → ⊥) → AreDisjoint a n b m
 disjoint_of a n b m some some_too apart = elim (cases_lt a b) [
   | inl before ↦ elim (cases_lt b (a + n)) [
     | inl within ↦ absurd (apart (b - a) 0 (omega (arith, before, within)) (omega (arith, some_too)) (omega (arith, before)))

@@ -12,3 +12,6 @@ pub mod Room
 pub mod JobsFit
 pub mod CopyWords
 pub mod Numbers
+pub mod PatchJobs
+pub mod PatchHomes
+pub mod Behind

@@ -103,6 +103,25 @@ module _ (g : Graph) (slots : List Slot) (images : Images) (regions : ℕ) (w : 
       ∙ ap (λ (js : List CopyJob). xs ++ kept_unless (twin_in w a) b js) second
       ∙ ap (λ (js : List CopyJob). xs ++ js) (kept_is w.twins w.regions a b ys other some none)
 
+  -- a region without a twin has nothing kept
+  twinless : (twins : Bool) (count a : ℕ) → (if twins then twin_of count a else None) ≡ None → HasNoTwin twins count a
+  twinless false count a none = inl refl
+  twinless true count a none =
+      elim (cases_eq (a % 2) 0) [
+        | inl even ↦ let twin : twin_of count a ≡ Some (a - 1) = grind (arith, nat_tests, even) in absurd (cc (none, twin))
+        | inr odd ↦ elim (cases_lt a count) [
+          | inl below ↦ let twin : twin_of count a ≡ Some (a + 1) = grind (arith, nat_tests, odd, below) in absurd (cc (none, twin))
+          | inr last ↦ inr (odd, last)
+        ]
+      ]
+
+  pub kept_none : (i : ℕ) → i < regions → twin_in w (i + 1) ≡ None → (w.kept_leave i ≡ []) × (w.kept_enter i ≡ [])
+  kept_none i below none =
+      let alone = twinless w.twins w.regions (i + 1) none in (
+        plan.kept_leave i below ∙ leaving_none (is_kept (i + 1)) g slots (unkept (i + 1) alone),
+        plan.kept_enter i below ∙ entering_none (is_kept (i + 1)) g images 0 slots (unkept (i + 1) alone),
+      )
+
   pub left_is : (s r : ℕ) → (s ≡ r → ⊥) → s ≤ regions → IsLeft w.twins s r g slots (side_jobs w w.leave w.kept_leave s r)
   left_is s r other within = elim (cases_eq s 0) [
     | inl start ↦

@@ -6,6 +6,8 @@ pub use Rattle.copy_jobs.specs.Jobs
 pub use Rattle.switch_routine.specs.Parts
 pub use Rattle.switch_routine.specs.Switching
 pub use Rattle.switch_routine.specs.Counts
+pub use Rattle.switch_routine.specs.Switches
+pub use Rattle.overlay_stubs.specs.Overlay
 pub use Rattle.relocator.specs.Slots
 pub use Rattle.relocator.specs.Placing
 pub use Rattle.relocator.specs.Laws
@@ -13,3 +15,4 @@ pub mod ChosenJobs
 pub mod Memories
 pub mod SwitchLaws
 pub mod JobLaws
+pub mod PatchLaws

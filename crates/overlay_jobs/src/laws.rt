@@ -1,5 +1,6 @@
 // Laws of the definitions: functions that do nothing, whose contracts are what is proved.
 ghost use Rattle.overlay_jobs.specs.JobLaws.{JobsFit, CodeNumbers};
+ghost use Rattle.overlay_jobs.specs.PatchLaws.{JobsSpare, ImagesLie, RoutineSwitches};
 ghost use Rattle.overlay_jobs.specs.SwitchLaws.{StartMoves, SwitchesMove, CopiesHold};
 
 /// The jobs of the start leave each object's bytes at its first place as they were at home, and the copies of the code that
@@ -28,4 +29,20 @@ pub fn copies_hold()
 /// The items of code have the slots of code in order.
 pub fn code_numbers()
     ensures { CodeNumbers }
+{}
+
+/// In a plan of the patch range that has the jobs of a choice, all of them can be done. They write none of the plan's words.
+pub fn jobs_spare()
+    ensures { JobsSpare }
+{}
+
+/// Images that lie in the patch range meet neither the scratchpad nor an object at home.
+pub fn images_lie()
+    ensures { ImagesLie }
+{}
+
+/// Where the switch routine has run the jobs of a choice, each object's bytes are at its place in the region that is
+/// entered. Nothing else has changed but control words, slots and homes of what was moved.
+pub fn routine_switches()
+    ensures { RoutineSwitches }
 {}

@@ -3,4 +3,7 @@
 
 mod laws;
 
-pub use laws::{code_numbers, copies_hold, jobs_fit, start_moves, switches_move};
+pub use laws::{
+    code_numbers, copies_hold, images_lie, jobs_fit, jobs_spare, routine_switches, start_moves,
+    switches_move,
+};
