@@ -1,170 +1,187 @@
--- What is asked of jobs is met: those of a region of two objects, of which nothing writes the second. The program is that of
--- region_changes' example.
-use Rattle.std.proofs.Common.{◌≡◌, ◌⊎◌, inl, inr, ℕ, ◌+◌, ◌-◌, ◌<◌, ◌≤◌, ◌==◌, ◌&&◌, ◌||◌, if◌then◌else◌, true, false, nat_le, nat_lt, List, [], ◌∷◌, refl, sym, subst, arith}
-use Rattle.std.specs.Prelude.{All}
+-- What is asked of a setup is met: two objects and a piece of code enter region 1, and nothing writes the second object. The
+-- program is that of region_changes' example, with the objects of a graph that has these two.
+use Rattle.std.proofs.Common.{◌≡◌, ◌∙◌, inl, inr, ℕ, zero, suc, ◌+◌, ◌-◌, ◌<◌, ◌≤◌, ◌==◌, ◌&&◌, ◌||◌, if◌then◌else◌, true, false, nat_le, nat_lt, List, [], ◌∷◌, slice_index_or, refl, sym, ap, subst, arith}
 use Rattle.std.proofs.lemmas.Bool.{cases_eq, cases_lt}
 use Rattle.std.proofs.lemmas.Bool.Decides.{nat_tests}
-use Rattle.std.proofs.lemmas.List.Elements.{All-nil, All-cons}
-use Rattle.std.proofs.lemmas.List.Kept.{AllPairs-cons}
 use Rattle.word_bits.specs.Words.{byte_of}
-use Rattle.copy_jobs.specs.declared.job.CopyJob.{CopyJob}
-use Rattle.copy_jobs.specs.Jobs.{AreDisjoint, IsOutside}
-use Rattle.switch_routine.specs.Moves.{SparesJob, AreApart}
+use Rattle.board_config.specs.declared.board.Range.{Range}
+use Rattle.object_graph.specs.declared.parts.Graph.{Graph}
+use Rattle.object_graph.specs.declared.parts.Object.{Object}
+use Rattle.cell_values.specs.Objects.{absent_object, object_of, objects_of}
 use Rattle.cell_values.specs.Stands.{moved_uppers}
+use Rattle.placement_programme.specs.declared.variables.VarName.TheVariants.{OverlayData, OverlayCode}
+use Rattle.relocator.specs.declared.slots.Slot.{Slot}
+use Rattle.relocator.specs.Placing.{placed}
+use Rattle.relocator.specs.Laws.{IsPresent, slot_at}
+use Rattle.overlay_jobs.specs.ChosenJobs.{Images}
+use Rattle.overlay_jobs.specs.Memories.{IsOfCode}
+use Rattle.object_machine.specs.Program.{Program}
 use Rattle.simulation.specs.Setups.{Setup}
-use Rattle.region_changes.proofs.Example.{objects, program, places}
-use Rattle.region_arrivals.specs.Carried.{ComesToPlace, ComesStill, Number, Home, JobsServe}
-use Rattle.region_arrivals.specs.Served.{SpareRange, IsObjectServed, Leaves, Enters, RestsUnwritten, EntersUnwritten}
-use Rattle.region_arrivals.proofs.Carried.{jobs_carry}
-use Rattle.region_arrivals.proofs.Served.{objects_are_served}
+use Rattle.region_changes.proofs.Example.{program}
+use Rattle.region_arrivals.specs.Chosen.{IsUntouched, StandsAs, StandsByChoice, OfNumber, Throughout, OfCopy, AtHome, IsSetupOf}
 
--- ---- the setup: the control words are from 12288 on, and the first tells the region. The home of object 1 stands still
--- where the object is elsewhere
-abbrev setup : Setup
-setup =
-    record {
-      map = record { base = 1024; size = 16384 } ∷ [];
-      place = places;
-      upper = λ r. moved_uppers (places r);
-      is_still = λ r a.
-          nat_le 12288 a && nat_lt a 12292 || (if r == 0 then false else nat_le 4112 a && nat_lt a 4128);
-      still = λ r a. if nat_le 12288 a then byte_of r (a - 12288) else 7;
-    }
+abbrev two : List Object
+two =
+    record { name = 0; home = 4096; size = 16; writable = true }
+    ∷ record { name = 1; home = 4112; size = 16; writable = false } ∷ []
 
--- ---- the jobs: both objects are copied in, and the first is copied back
-abbrev first_in : CopyJob
-first_in = record { from = 4096; to = 8192; bytes = 16 }
+abbrev slots : List Slot
+slots =
+    record { name = OverlayData 1 0; at = 8192; span = 16 } ∷ record { name = OverlayData 1 1; at = 8208; span = 16 }
+    ∷ record { name = OverlayCode 1 1024 1040; at = 8224; span = 16 } ∷ []
 
-abbrev second_in : CopyJob
-second_in = record { from = 4112; to = 8208; bytes = 16 }
+-- the image stands behind the control words
+abbrev images : Images
+images = record { at = λ n. 12352; bytes = λ n. 16 }
 
-abbrev first_out : CopyJob
-first_out = record { from = 8192; to = 4096; bytes = 16 }
+abbrev code : ℕ → ℕ → ℕ
+code n i = 7
 
-abbrev enter : List CopyJob
-enter = first_in ∷ second_in ∷ []
+abbrev spm : Range
+spm = record { base = 8192; size = 64 }
 
-abbrev leave : List CopyJob
-leave = first_out ∷ []
+abbrev patch : Range
+patch = record { base = 12288; size = 128 }
 
-alone : (job : CopyJob) → AreApart (job ∷ [])
-alone job i j d before below = absurd (omega (arith, before, below))
+inside_two : (o i : ℕ) → i < (slice_index_or two o absent_object).size → (4096 ≤ (slice_index_or two o absent_object).home + i) × ((slice_index_or two o absent_object).home + i < 4128)
+inside_two zero i below = (omega arith, omega (arith, below))
+inside_two (suc zero) i below = (omega arith, omega (arith, below))
+inside_two (suc (suc o)) i below = absurd (omega (arith, below))
 
-enter_apart : AreApart enter
-enter_apart =
-    AllPairs-cons (λ (a b : CopyJob). SparesJob a b × SparesJob b a) first_in (second_in ∷ [])
-    (All-cons (λ (b : CopyJob). SparesJob first_in b × SparesJob b first_in) second_in [] (
-      record { source = inr (omega arith); target = inl (omega arith) },
-      record { source = inr (omega arith); target = inr (omega arith) },
-    )
-    (All-nil (λ (b : CopyJob). SparesJob first_in b × SparesJob b first_in)))
-    (alone second_in)
+module _ (g : Graph) (items : g.objects.items ≡ two) where
+  abbrev chosen : Program
+  chosen = record program { objects = objects_of g }
 
--- an address outside 8192 to 8224 keeps its byte, and one outside 4096 to 4112 on the way back
-spares_slots : (a : ℕ) → ((a < 8192) ⊎ (8224 ≤ a)) → All (IsOutside a) enter
-spares_slots a (inl low) =
-    All-cons (IsOutside a) first_in (second_in ∷ []) (inl low)
-    (All-cons (IsOutside a) second_in [] (inl (omega (arith, low))) (All-nil (IsOutside a)))
-spares_slots a (inr high) =
-    All-cons (IsOutside a) first_in (second_in ∷ []) (inr (omega (arith, high)))
-    (All-cons (IsOutside a) second_in [] (inr (omega (arith, high))) (All-nil (IsOutside a)))
+  -- in region 1 the home of object 1 stands still, and the copy
+  abbrev setup : Setup
+  setup =
+      record {
+        map = record { base = 1024; size = 16384 } ∷ [];
+        place = λ r. placed g slots r;
+        upper = λ r. moved_uppers (placed g slots r);
+        is_still = λ r a.
+            (nat_le 12288 a && nat_lt a 12292) || (nat_le 12352 a && nat_lt a 12368)
+            || (if r == 0 then false else (nat_le 4112 a && nat_lt a 4128) || (nat_le 8224 a && nat_lt a 8240));
+        still = λ r a. if nat_le 12288 a && nat_lt a 12292 then byte_of r (a - 12288) else 7;
+      }
 
-spares_home : (a : ℕ) → ((a < 4096) ⊎ (4112 ≤ a)) → All (IsOutside a) leave
-spares_home a off = All-cons (IsOutside a) first_out [] off (All-nil (IsOutside a))
+  second : object_of g 1 ≡ slice_index_or two 1 absent_object
+  second = ap (λ (xs : List Object). slice_index_or xs 1 absent_object) items
 
--- ---- objects
-two_objects : (o i : ℕ) → i < objects.size o → (o ≡ 0) ⊎ (o ≡ 1)
-two_objects o i below =
-    elim (cases_eq o 0) [ inl is ↦ inl is | inr other ↦ inr (grind (arith, nat_tests)) ]
+  inside : (o i : ℕ) → i < (object_of g o).size → (4096 ≤ (object_of g o).home + i) × ((object_of g o).home + i < 4128)
+  inside o i =
+      subst
+      (λ (xs : List Object). i < (slice_index_or xs o absent_object).size
+      → (4096 ≤ (slice_index_or xs o absent_object).home + i) × ((slice_index_or xs o absent_object).home + i < 4128))
+      (sym items) (inside_two o i)
 
-small : (o i : ℕ) → i < objects.size o → i < 16
-small o i below = grind (arith, nat_tests)
+  low_untouched : (a : ℕ) → a < 4096 → IsUntouched spm patch g a
+  low_untouched a low =
+      record {
+        control = inl (omega (arith, low));
+        scratchpad = λ i below same. omega (arith, low, same);
+        homes = λ o i writable below same. let from = (inside o i below).0 in omega (arith, low, from, same);
+      }
 
-none : AreApart []
-none i j d before below = absurd (omega (arith, before, below))
+  high_untouched : (a : ℕ) → 12352 ≤ a → IsUntouched spm patch g a
+  high_untouched a high =
+      record {
+        control = inr (omega (arith, high));
+        scratchpad = λ i below same. omega (arith, high, below, same);
+        homes = λ o i writable below same. let to = (inside o i below).1 in omega (arith, high, to, same);
+      }
 
-nothing_left : (at n : ℕ) → SpareRange [] at n
-nothing_left at n = All-nil (λ (job : CopyJob). AreDisjoint job.to job.bytes at n)
+  image_stands : (r a : ℕ) → 12352 ≤ a → a < 12368 → StandsAs setup r a 7
+  image_stands r a low high = (grind (arith, nat_tests, low, high), grind (arith, nat_tests, low, high))
 
-serves_first : IsObjectServed program setup 0 1 [] enter 0
-serves_first = Enters (0, omega arith, refl) (nothing_left 4096 16)
+  copy_stands : (a : ℕ) → 8224 ≤ a → a < 8240 → StandsAs setup 1 a 7
+  copy_stands a low high = (grind (arith, nat_tests, low, high), grind (arith, nat_tests, low, high))
 
-serves_second : IsObjectServed program setup 0 1 [] enter 1
-serves_second = EntersUnwritten refl (1, omega arith, refl) (nothing_left 4112 16)
+  images_stand : (r k i : ℕ) → IsOfCode slots k → i < 16 → StandsAs setup r (12352 + i) 7
+  images_stand r k i of below = image_stands r (12352 + i) (omega arith) (omega (arith, below))
 
-leaves_first : IsObjectServed program setup 1 0 leave [] 0
-leaves_first = Leaves (0, omega arith, refl) (nothing_left 4096 16)
+  copies : (r k i : ℕ) → IsOfCode slots k → IsPresent r (slot_at slots k).name → i < 16 → StandsAs setup r ((slot_at slots k).at + i) 7
+  copies r zero i of present below = absurd (cc (of.1))
+  copies r (suc zero) i of present below = absurd (cc (of.1))
+  copies r (suc (suc zero)) i of present below =
+      subst (λ q. StandsAs setup q (8224 + i) 7) present (copy_stands (8224 + i) (omega arith) (omega (arith, below)))
+  copies r (suc (suc (suc k))) i of present below = let few = of.0 in absurd (omega (arith, few))
 
-leaves_second : IsObjectServed program setup 1 0 leave [] 1
-leaves_second =
-    RestsUnwritten refl refl
-    (All-cons (λ (job : CopyJob). AreDisjoint job.to job.bytes 4112 16) first_out [] (inl (omega arith)) (nothing_left 4112 16))
-    (nothing_left 4112 16)
+  -- ---- what stands still
 
-module _ (o i : ℕ) (below : i < objects.size o) where
-  enters : ComesToPlace program setup 0 1 enter o i
-  enters =
-      elim (two_objects o i below) [
-        | inl is ↦
-            subst (λ q. ComesToPlace program setup 0 1 enter q i) (sym is)
-            (objects_are_served program setup 0 1 [] enter 0 i none enter_apart serves_first (small o i below))
-        | inr is ↦
-            subst (λ q. ComesToPlace program setup 0 1 enter q i) (sym is)
-            (objects_are_served program setup 0 1 [] enter 1 i none enter_apart serves_second (small o i below))
+  abbrev Stands : ℕ → ℕ → Type 0
+  Stands = StandsByChoice setup spm patch g slots images 1
+
+  at_home : (a : ℕ) → 4112 ≤ a → a < 4128 → Stands 1 a
+  at_home a low high =
+      let home : (object_of g 1).home ≡ 4112 = ap (λ (x : Object). x.home) second in
+      let size : (object_of g 1).size ≡ 16 = ap (λ (x : Object). x.size) second in
+      let at : (object_of g 1).home + (a - 4112) ≡ a = omega (arith, home, low) in
+      subst (λ x. Stands 1 x) at
+      (AtHome 1 (a - 4112) (ap (λ (x : Object). x.writable) second) (omega (arith, size, high, low))
+      (λ same. omega (arith, same, home)))
+
+  of_copy : (a : ℕ) → 8224 ≤ a → a < 8240 → Stands 1 a
+  of_copy a low high =
+      let at : 8224 + (a - 8224) ≡ a = omega (arith, low) in
+      subst (λ x. Stands 1 x) at (OfCopy 2 (a - 8224) (omega arith, refl) refl (omega (arith, low, high)))
+
+  of_number : (r a : ℕ) → 12288 ≤ a → a < 12292 → Stands r a
+  of_number r a low high =
+      OfNumber a
+      (record {
+        k = a - 12288;
+        below = omega (arith, low, high);
+        at = omega (arith, low);
+        byte = grind (arith, nat_tests, low, high);
+      })
+
+  of_image : (r a : ℕ) → 12352 ≤ a → a < 12368 → Stands r a
+  of_image r a low high =
+      Throughout a (high_untouched a low)
+      (λ s within. (
+        (image_stands s a low high).0,
+        (image_stands s a low high).1 ∙ sym (image_stands r a low high).1,
+      ))
+
+  first_region : (r a : ℕ) → a < 12288 → setup.is_still r a ≡ true → r ≡ 0 → ⊥
+  first_region r a low is first = grind (arith, nat_tests, low, is, first)
+
+  stands_low : (a : ℕ) → a < 12288 → setup.is_still 1 a ≡ true → Stands 1 a
+  stands_low a low is =
+      elim (cases_lt a 4128) [
+        | inl below ↦ at_home a (grind (arith, nat_tests)) below
+        | inr from ↦ of_copy a (grind (arith, nat_tests)) (grind (arith, nat_tests))
       ]
 
-  leaves : ComesToPlace program setup 1 0 leave o i
-  leaves =
-      elim (two_objects o i below) [
-        | inl is ↦
-            subst (λ q. ComesToPlace program setup 1 0 leave q i) (sym is)
-            (objects_are_served program setup 1 0 leave [] 0 i (alone first_out) none leaves_first (small o i below))
-        | inr is ↦
-            subst (λ q. ComesToPlace program setup 1 0 leave q i) (sym is)
-            (objects_are_served program setup 1 0 leave [] 1 i (alone first_out) none leaves_second (small o i below))
+  stands_high : (r a : ℕ) → 12288 ≤ a → setup.is_still r a ≡ true → Stands r a
+  stands_high r a high is =
+      elim (cases_lt a 12292) [
+        | inl below ↦ of_number r a high below
+        | inr from ↦ of_image r a (grind (arith, nat_tests)) (grind (arith, nat_tests))
       ]
 
--- ---- what stands still
-number_comes : (from to a : ℕ) (jobs : List CopyJob) → 12288 ≤ a → a < 12292 → ComesStill program setup 12288 from to jobs a
-number_comes from to a jobs low high =
-    let at : 12288 + (a - 12288) ≡ a = omega (arith, low) in
-    subst (λ x. ComesStill program setup 12288 from to jobs x) at
-    (Number (a - 12288) (omega (arith, high)) (grind (arith, nat_tests, low, high)))
+  stands : (r a : ℕ) → r ≤ 1 → setup.is_still r a ≡ true → Stands r a
+  stands r a within is =
+      elim (cases_lt a 12288) [
+        | inl low ↦
+            let other = first_region r a low is in
+            elim (cases_eq r 0) [
+              | inl first ↦ absurd (other first)
+              | inr later ↦
+                  let one : 1 ≡ r = grind (arith, within, later) in
+                  subst (λ q. Stands q a) one (stands_low a low (subst (λ q. setup.is_still q a ≡ true) (sym one) is))
+            ]
+        | inr high ↦ stands_high r a high is
+      ]
 
-home_comes : (a : ℕ) → 4112 ≤ a → a < 4128 → ComesStill program setup 12288 0 1 enter a
-home_comes a low high =
-    let at : 4112 + (a - 4112) ≡ a = omega (arith, low) in
-    subst (λ x. ComesStill program setup 12288 0 1 enter x) at
-    (Home 1 (a - 4112) (inl (omega (arith, low, high)))
-    (jobs_carry.outside enter (4112 + (a - 4112)) (spares_slots (4112 + (a - 4112)) (inl (omega (arith, low, high)))))
-    refl (omega (arith, low, high)) (λ same. omega (arith, same)))
-
-still_enters : (a : ℕ) → setup.is_still 1 a ≡ true → ComesStill program setup 12288 0 1 enter a
-still_enters a is =
-    elim (cases_lt a 12288) [
-      | inl below ↦ home_comes a (grind (arith, nat_tests)) (grind (arith, nat_tests))
-      | inr from ↦ number_comes 0 1 a enter from (grind (arith, nat_tests))
-    ]
-
-still_leaves : (a : ℕ) → setup.is_still 0 a ≡ true → ComesStill program setup 12288 1 0 leave a
-still_leaves a is = number_comes 1 0 a leave (grind (arith, nat_tests)) (grind (arith, nat_tests))
-
-jobs_enter : JobsServe program setup 12288 0 1 enter
-jobs_enter =
-    record {
-      off_objects = λ o i below. inl (grind (arith, nat_tests));
-      objects = enters;
-      off_fixed = λ a is. inl (grind (arith, nat_tests));
-      fixed = λ a is. jobs_carry.outside enter a (spares_slots a (inl (grind (arith, nat_tests))));
-      still = still_enters;
-    }
-
-jobs_leave : JobsServe program setup 12288 1 0 leave
-jobs_leave =
-    record {
-      off_objects = λ o i below. inl (grind (arith, nat_tests));
-      objects = leaves;
-      off_fixed = λ a is. inl (grind (arith, nat_tests));
-      fixed = λ a is. jobs_carry.outside leave a (spares_home a (inl (grind (arith, nat_tests))));
-      still = still_leaves;
-    }
+  is_setup : IsSetupOf chosen setup spm patch g slots images code 1
+  is_setup =
+      record {
+        objects = refl;
+        place = λ r o within. refl;
+        fixed = λ a fixed. low_untouched a (grind (arith, nat_tests));
+        images_stand = λ r k i within of below. images_stand r k i of below;
+        copies = λ r k i within of present below. copies r k i of present below;
+        still = stands;
+      }

@@ -1,4 +1,4 @@
-pub mod Carried
-pub mod Served
+pub mod Changed
+pub mod Chosen
 pub mod Pads
 pub mod Example

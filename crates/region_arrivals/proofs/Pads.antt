@@ -41,11 +41,11 @@ use Rattle.region_changes.specs.Names.{NamesNone, CellNamesNone}
 use Rattle.region_changes.specs.Changes.{AreAtHomeToo}
 use Rattle.region_changes.specs.Unwritten.{AreUnwritten}
 use Rattle.region_changes.specs.Switches.{MayChange, MayLand, Switch, SwitchesLead}
-use Rattle.region_changes.proofs.Homes.{home_too, home_stayed}
+use Rattle.region_changes.proofs.Homes.{home_too, home_as_placed, home_stayed}
 use Rattle.region_changes.proofs.Switches.{ways_and_switches_arrive}
-use Rattle.region_arrivals.specs.Carried.{HomesHave}
+use Rattle.region_arrivals.specs.Serves.{IsOfRegion}
 use Rattle.region_arrivals.specs.Pads.{PlanStands, PadStands, CanSwitch, IsServed}
-use Rattle.region_arrivals.proofs.Carried.{other_register, region_changed}
+use Rattle.region_arrivals.proofs.Changed.{other_register, region_changed}
 
 -- ---- words that stand still
 
@@ -224,10 +224,17 @@ module _ (p : Program) (l : Setup) (live : ℕ → ℕ → Type 0) (form : ℕ �
       change_may : MayChange p l live holds r at.stub.region s m
       change_may = may r t.hart.pc s m held at other
 
-      next_homes : HomesHave p l at.stub.region t
-      next_homes o i unwritable below away =
-          home_stayed p l (live s.pc) change_may.moving r at.stub.region first s made m t o i home_bytes (unwritten r s m held)
-          can.homes change_may.others change_may.free (can.known o i unwritable below) unwritable below away
+      of_region : IsOfRegion p l r at.stub.region t.hart.mem
+      of_region =
+          record {
+            still = alike.still;
+            homes = λ o i unwritable below.
+                home_as_placed p l live r s.pc first s made m t o i alike home_bytes (unwritten r s m held)
+                (can.known o i unwritable below) unwritable below;
+            next_homes = λ o i unwritable below away.
+                home_stayed p l (live s.pc) change_may.moving r at.stub.region first s made m t o i home_bytes (unwritten r s m held)
+                can.homes change_may.others change_may.free (can.known o i unwritable below) unwritable below away;
+          }
 
       switches : Switch p l live form holds bound most r s m t
       switches =
@@ -256,7 +263,7 @@ module _ (p : Program) (l : Setup) (live : ℕ → ℕ → Type 0) (form : ℕ �
             few = omega (arith, count, few);
             change =
                 region_changed p l live plan.start.base lo size r at.stub.region s.pc (body_at plan at.stub) at.stub.temp jobs t t'
-                (control_ends plan words l r at.plan_stands) switched came.came new_words at.dead can.serve next_homes alike.still;
+                (control_ends plan words l r at.plan_stands) switched came.came new_words at.dead can.serve of_region;
             comes = subst (λ a. Comes l live form most at.stub.region s.pc a) (sym came.came.pc) at.comes;
           }
 

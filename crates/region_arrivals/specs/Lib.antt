@@ -1,4 +1,4 @@
-pub mod Carried
-pub mod Served
+pub mod Serves
+pub mod Chosen
 pub mod Pads
 pub mod Laws

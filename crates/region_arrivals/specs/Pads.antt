@@ -17,7 +17,7 @@ use Rattle.simulation.specs.Setups.{Setup}
 use Rattle.simulation.specs.Units.{StandsAt}
 use Rattle.simulation.specs.Ways.{Comes}
 use Rattle.region_changes.specs.Unwritten.{IsOneByte, HomesStandStill}
-use Rattle.region_arrivals.specs.Carried.{JobsServe}
+use Rattle.region_arrivals.specs.Serves.{JobsServe}
 
 -- the code of a plan stands still in mapped memory while a region is current, of which the first control word has the
 -- number; and both ranges of each job of a region are mapped

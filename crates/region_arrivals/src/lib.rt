@@ -4,4 +4,4 @@
 
 mod laws;
 
-pub use laws::{jobs_carry, lists_do, objects_are_served, switches_change};
+pub use laws::{choices_serve, switches_change};

@@ -53,6 +53,16 @@ one_byte place up origin (Part true o d k) a b is one other = known_byte (up ori
 one_byte place up origin (Part false o d k) a b is one other = one ∙ sym other
 one_byte place up origin Mist a b is one other = absurd is
 
+-- where cells can be one byte alone, the bytes at home are those at the object's place
+pub home_as_placed : (p : Program) (l : Setup) (live : ℕ → ℕ → Type 0) (r u : ℕ) (first s : SourceState) (made m : Origins) (t : State) (o i : ℕ) → Alike p l live r u s m t → AreAtHomeToo p l r s m t → AreUnwritten p first made s m → IsOneByte (l.upper r) (made.cells o i) (first.cells o i) → p.objects.writable o ≡ false → i < p.objects.size o → t.hart.mem (p.objects.home o + i) ≡ t.hart.mem (l.place r o + i)
+home_as_placed p l live r u first s made m t o i alike homes kept one is below =
+    let cell : IsOneByte (l.upper r) (made.cells o i) (s.cells o i) =
+    subst (λ c. IsOneByte (l.upper r) (made.cells o i) c) (sym (kept.cells o i is)) one in
+    let now : IsOneByte (l.upper r) (m.cells o i) (s.cells o i) =
+    subst (λ y. IsOneByte (l.upper r) y (s.cells o i)) (sym (kept.origins o i is)) cell in
+    one_byte (l.place r) (l.upper r) (m.cells o i) (s.cells o i) (t.hart.mem (p.objects.home o + i)) (t.hart.mem (l.place r o + i)) now
+    (homes o i is below) (alike.cells o i below)
+
 pub home_stayed : (p : Program) (l : Setup) (lives : ℕ → Type 0) (moving : ℕ → Bool) (from to : ℕ) (first s : SourceState) (made m : Origins) (t : State) (o i : ℕ) → AreAtHomeToo p l from s m t → AreUnwritten p first made s m → HomesStandStill p l to first made → OthersStay l moving from to → StateNamesNone moving lives s → IsOneByte (l.upper from) (made.cells o i) (first.cells o i) → p.objects.writable o ≡ false → i < p.objects.size o → (l.place to o ≡ p.objects.home o → ⊥) → t.hart.mem (p.objects.home o + i) ≡ l.still to (p.objects.home o + i)
 home_stayed p l lives moving from to first s made m t o i homes kept still others free one is below away =
     let a : ℕ = p.objects.home o + i in

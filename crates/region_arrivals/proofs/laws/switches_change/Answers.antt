@@ -1,4 +1,4 @@
-use Rattle.region_arrivals.proofs.Carried.{switches_change}
+use Rattle.region_arrivals.proofs.Changed.{switches_change}
 use Rattle.region_arrivals.proofs.laws.switches_change.Goals as goal
 
 pub returns : goal.returns
