@@ -1,0 +1,5 @@
+pub mod Copies
+pub mod Parts
+pub mod OfChoice
+pub mod SoundChoice
+pub mod Serving

@@ -1,0 +1,2 @@
+pub mod OverlaySetup
+pub mod Laws

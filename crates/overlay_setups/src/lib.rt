@@ -1,0 +1,7 @@
+//! Where objects and code stand in each region for a choice with overlay: a setup as `simulation` asks for one, in which the
+//! jobs of the choice serve. Definitions and laws alone.
+#![tactic(auto)]
+
+mod laws;
+
+pub use laws::{choice_is_sound, jobs_of_choice_serve, setup_of_choice};
