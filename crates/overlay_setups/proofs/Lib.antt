@@ -3,3 +3,4 @@ pub mod Parts
 pub mod OfChoice
 pub mod SoundChoice
 pub mod Serving
+pub mod Homes
