@@ -4,3 +4,5 @@ pub mod OfChoice
 pub mod SoundChoice
 pub mod Serving
 pub mod Homes
+pub mod PlanStanding
+pub mod Switching

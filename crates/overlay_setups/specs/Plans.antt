@@ -48,3 +48,23 @@ HomesOfChoice =
     → HoldsHomes (view_in file) (view_in out) g (placed g (chosen_slots board q c) r) mem
     → HomesStandStill (unnamed_in file board g) (overlay_setup (view_in file) board g (chosen_slots board q c) images mem) r
     (source_start file board g input) at_start
+
+-- the code of the plan stands in each region of the choice
+abbrev pub PlanOfChoice : Type 0
+PlanOfChoice =
+    (file : List ℕ) (board : Board) (g : Graph) (regions : ℕ) (q : PlainProgramme) (c : PlainChoice) (images : Images)
+    (mem : Memory) (plan : OverlayPlan) (words : List ℕ) (r : ℕ) → IsOverlay file board g regions q c images
+    → HoldsPlan board g (chosen_slots board q c) images regions plan words mem → r ≤ regions
+    → PlanStands plan words (overlay_setup (view_in file) board g (chosen_slots board q c) images mem) r
+
+-- A switch to a region that is entered can be made. At most twelve words run for each byte of the scratchpad, and 83
+abbrev pub ChoiceCanSwitch : Type 0
+ChoiceCanSwitch =
+    (file out : List ℕ) (board : Board) (g : Graph) (regions : ℕ) (q : PlainProgramme) (c : PlainChoice) (images : Images)
+    (mem : Memory) (input : List ℕ) (plan : OverlayPlan) (words : List ℕ) (s r : ℕ)
+    → IsOverlay file board g regions q c images
+    → HoldsPlan board g (chosen_slots board q c) images regions plan words mem
+    → HoldsHomes (view_in file) (view_in out) g (placed g (chosen_slots board q c) r) mem
+    → s ≤ regions → 1 ≤ r → r ≤ regions → (s ≡ r → ⊥)
+    → CanSwitch (unnamed_in file board g) (overlay_setup (view_in file) board g (chosen_slots board q c) images mem) plan
+    (source_start file board g input) at_start (12 * board.spm.size + 83) s r
