@@ -64,7 +64,7 @@ module _ (file : List ℕ) (board : Board) (g : Graph) (regions : ℕ) (q : Plai
       let to = is.lie.to k of in
       grind (arith, nat_tests, from, to, below)
 
-  stub_stands : (r a : ℕ) → is_stub_byte board a ≡ true → StandsAs l r a (mem a)
+  pub stub_stands : (r a : ℕ) → is_stub_byte board a ≡ true → StandsAs l r a (mem a)
   stub_stands r a stub = (
     right_passes (is_code_byte v a) _ (left_passes (is_stub_byte board a) _ stub),
     memory_byte file board g regions q c images mem is r a (inr (stub_behind file board g regions q c images mem is a stub))

@@ -1,2 +1,3 @@
 pub mod OverlaySetup
 pub mod Laws
+pub mod Plans

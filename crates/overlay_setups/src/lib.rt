@@ -4,4 +4,7 @@
 
 mod laws;
 
-pub use laws::{choice_is_sound, jobs_of_choice_serve, setup_of_choice};
+pub use laws::{
+    choice_can_switch, choice_is_sound, homes_of_choice, jobs_of_choice_serve, plan_of_choice,
+    setup_of_choice,
+};
