@@ -1,17 +1,16 @@
 -- The programme with overlay that a run states: what may be taken for a region or for a pair of them, with all that it gains,
 -- also where that is nothing.
 use Rattle.std.specs.Prelude.{◌≡◌, ℕ, zero, suc, ◌-◌, ◌^◌, unsigned_abs, ◌<◌, ◌≤◌, ◌==◌, nat_lt, nat_le, ℤ, pos, ◌-ℤ◌, Bool, true, not, ◌&&◌, if◌then◌else◌, List, [], ◌∷◌, ◌++◌, map, length, Some, None}
-use Rattle.std.specs.List.{Contains, filter, sum_by}
+use Rattle.std.specs.List.{filter, sum_by}
 use Rattle.board_config.specs.declared.board.Board.{Board}
 use Rattle.object_graph.specs.declared.parts.Graph.{Graph}
 use Rattle.code_blocks.specs.declared.parts.Code.{Code}
 use Rattle.liveness.specs.Live.{LiveAt}
-use Rattle.points_to.specs.Overlaid.{region_in, MayBeOverlaid, AreOverlaid}
+use Rattle.points_to.specs.Overlaid.{region_in, AreOverlaid}
 use Rattle.region_former.specs.declared.table.RegionTable.{RegionTable}
 use Rattle.list_checks.specs.Tests.{any_below}
 use Rattle.profile_runner.specs.Transition.{Transition}
 use Rattle.placement_programme.specs.declared.variables.VarName.{VarName}
-use Rattle.placement_programme.specs.declared.variables.VarName.TheVariants.{StaticData, StaticCode, OverlayData, OverlayCode, KeptData}
 use Rattle.placement_programme.specs.Plain.{PlainFullVar, PlainFullSide, PlainFull}
 use Rattle.placement_programme.specs.Rows.{Layout, Candidate, static_data, static_code, overlay_data, overlay_code, kept_data, name_of, pairs_of, fixed_bytes, on_capacities, on_weights}
 use Rattle.block_splitter.specs.declared.piece.Piece.{Piece}
@@ -29,10 +28,7 @@ use Rattle.placement_candidates.specs.Stated.{is_border, displaced_at, part_of, 
 abbrev pub Lives : Code → ℕ → ℕ → Type 0
 Lives c b x = LiveAt c x b 0
 
--- object `o` may be overlaid, and these may, by number
-abbrev pub IsOverlaidObject : Code → Graph → RegionTable → ℕ → Type 0
-IsOverlaidObject c g t o = MayBeOverlaid (Lives c) c g t.of_block.items t.border.items o
-
+-- these objects may be overlaid, by number
 abbrev pub AreOverlaidObjects : Code → Graph → RegionTable → List ℕ → Type 0
 AreOverlaidObjects c g t objects = AreOverlaid (Lives c) c g t.of_block.items t.border.items objects
 
@@ -40,24 +36,6 @@ AreOverlaidObjects c g t objects = AreOverlaid (Lives c) c g t.of_block.items t.
 abbrev pub is_of_region : List ℕ → ℕ → Piece → Bool
 is_of_region regions r p =
     not (any_below (λ b. holds_block b (range_of p) && not (region_in regions b == r)) (length regions))
-
--- regions are numbered from 1; one that became none keeps its number
-abbrev pub IsRegion : RegionTable → ℕ → Type 0
-IsRegion t r = (1 ≤ r) × (r ≤ t.count)
-
--- so are pairs of regions, where the board has twins
-abbrev pub IsPair : Board → RegionTable → ℕ → Type 0
-IsPair board t pair = (1 ≤ pair) × (pair ≤ pairs_of board.twins t.count)
-
--- What may be taken of a program: an object or a piece throughout; while a region is current an object that may be
--- overlaid, or a piece whose blocks all have that region; and such an object also while either region of a pair is current,
--- in one place and not copied between them
-pub data MayBeTaken (c : Code) (g : Graph) (t : RegionTable) (board : Board) (pieces : List Piece) : VarName → Type 0 where
-  data_throughout : (o : ℕ) → o < length g.objects.items → MayBeTaken c g t board pieces (StaticData o)
-  code_throughout : (p : Piece) → Contains pieces p → MayBeTaken c g t board pieces (StaticCode p.first p.last)
-  data_of_region : (r o : ℕ) → IsRegion t r → IsOverlaidObject c g t o → MayBeTaken c g t board pieces (OverlayData r o)
-  code_of_region : (r : ℕ) (p : Piece) → IsRegion t r → Contains pieces p → is_of_region t.of_block.items r p ≡ true → MayBeTaken c g t board pieces (OverlayCode r p.first p.last)
-  data_of_pair : (pair o : ℕ) → IsPair board t pair → IsOverlaidObject c g t o → MayBeTaken c g t board pieces (KeptData pair o)
 
 -- ---- variables, in their order
 
