@@ -1,5 +1,5 @@
 -- The start stub as a whole.
-use Rattle.std.proofs.Common.{◌≡◌, inl, inr, ℕ, zero, suc, ◌+◌, ◌*◌, ◌<◌, Bool, true, false, List, [], ◌∷◌, ◌++◌, length, slice_index, slice_index_or, refl, sym, ◌∙◌, ap, subst, arith}
+use Rattle.std.proofs.Common.{◌≡◌, inl, inr, ℕ, zero, suc, ◌+◌, ◌*◌, ◌<◌, Bool, true, false, List, [], ◌∷◌, ◌++◌, length, slice_index, slice_index_or, refl, ◌∙◌, ap, subst, arith, append-nil, pos}
 use Rattle.std.specs.Prelude.{All, replicate}
 use Rattle.std.specs.List.{flat_map}
 use Rattle.std.proofs.lemmas.Grind.{common_steps}
@@ -14,14 +14,15 @@ use Rattle.rv_decode.specs.Sequences.{distance}
 use Rattle.rv_decode.proofs.SequenceLemmas.{arrives, mean_count}
 use Rattle.flat_machine.specs.Mapping.{can_access}
 use Rattle.flat_machine.specs.State.{State}
-use Rattle.flat_machine.specs.Runs.{Steps}
-use Rattle.flat_machine.proofs.Runs.{steps_joined, steps_of_events}
-use Rattle.flat_machine.specs.Lines.{with_hart, acted, Line, CodeAt, HoldsAt}
-use Rattle.flat_machine.proofs.Lines.{line_runs, ArePlain, plain_line, plain_pc, plain_mem}
-use Rattle.flat_machine.proofs.LineWords.{code_kept, code_front, code_behind, words_fetched, accessed}
+use Rattle.flat_machine.specs.declared.events.FlatAccess.{FlatAccess}
+use Rattle.flat_machine.specs.Lines.{with_hart, acted, CodeAt, HoldsAt}
+use Rattle.flat_machine.proofs.Lines.{ArePlain, plain_mem}
+use Rattle.flat_machine.proofs.LineWords.{code_front, code_behind, words_fetched, accessed}
 use Rattle.copy_jobs.specs.declared.job.CopyJob.{CopyJob}
 use Rattle.copy_jobs.specs.Jobs.{copying, fences, jobs_run, all_copied, AreDisjoint}
 use Rattle.overlay_stubs.specs.Start.{StartPlan, CanStart, Spares, AreStartWords, clears, start_at, jump_at, start_stub, start_bytes, start_run, cleared}
+use Rattle.copy_jobs.specs.Told.{Way, jobs_accesses}
+use Rattle.copy_jobs.proofs.Ways.{join, recount, Straight, line_accesses, fence_follows, addi_follows, straight, step_way}
 use Rattle.copy_jobs.proofs.JobWays.{CanRun, jobs_way}
 use Rattle.overlay_stubs.specs.Laws.{IsAtStart, started, StartRuns}
 use Rattle.overlay_stubs.proofs.Held.{held_front}
@@ -103,7 +104,37 @@ module _ (p : StartPlan) (words : List ℕ) (s : State) (can : CanStart p) (are 
         spares = spares (slice_index_or p.jobs k d) (can.spared k d below);
       }
 
-  pub runs : Steps (start_run p) s (started p s)
+  -- the words behind the jobs
+  ends_follow : (lo size : ℕ) (inside : lo + size < 4294967296) (fence : Bool) (h : Hart) → Straight s here.going lo size inside s.hart.mem (fences fence ++ clears) h
+  ends_follow lo size inside true h = (
+    fence_follows s here.going lo size inside s.hart.mem _ h,
+    (
+      addi_follows s here.going lo size inside s.hart.mem 5 0 (pos 0) _,
+      (
+        addi_follows s here.going lo size inside s.hart.mem 7 0 (pos 0) _,
+        (
+          addi_follows s here.going lo size inside s.hart.mem 28 0 (pos 0) _,
+          (addi_follows s here.going lo size inside s.hart.mem 31 0 (pos 0) _, tt),
+        ),
+      ),
+    ),
+  )
+  ends_follow lo size inside false h = (
+    addi_follows s here.going lo size inside s.hart.mem 5 0 (pos 0) _,
+    (
+      addi_follows s here.going lo size inside s.hart.mem 7 0 (pos 0) _,
+      (
+        addi_follows s here.going lo size inside s.hart.mem 28 0 (pos 0) _,
+        (addi_follows s here.going lo size inside s.hart.mem 31 0 (pos 0) _, tt),
+      ),
+    ),
+  )
+
+  ends_silent : (lo size : ℕ) (inside : lo + size < 4294967296) (fence : Bool) (h : Hart) → line_accesses s here.going lo size inside s.hart.mem (fences fence ++ clears) h ≡ []
+  ends_silent lo size inside true h = refl
+  ends_silent lo size inside false h = refl
+
+  pub runs : Way (start_at p) (start_bytes p) (start_run p) (jobs_accesses p.jobs) s (started p s)
   runs =
       let order = in_order in
       let size = ap (λ (is : List Instr). length is) order in
@@ -118,13 +149,9 @@ module _ (p : StartPlan) (words : List ℕ) (s : State) (can : CanStart p) (are 
       (λ x low high. refl) here.pc (code_front (flat_map copying p.jobs) tail s.map s.hart.mem (start_at p) whole) (omega arith) (omega (arith, size, length_all)) in
       let h1 : Hart = jobs.0 in
       let done = jobs.1 in
-      let jobs_run_so : Steps (jobs_run p.jobs) (with_hart s s.hart) (with_hart s h1) =
-      subst (λ n. Steps n s (with_hart s h1)) done.passed.way.count (steps_of_events done.passed.way.events s (with_hart s h1) done.passed.way.does) in
       let a1 : ℕ = start_at p + 4 * length (flat_map copying p.jobs) in
-      let behind : CodeAt s.map h1.mem a1 tail =
-      code_kept tail s.map s.hart.mem h1.mem a1 (omega (arith, size, length_all, ends_at))
-      (λ x low high. done.passed.still x (omega (arith, low)) (omega (arith, high, size, length_all)))
-      (code_behind (flat_map copying p.jobs) tail s.map s.hart.mem (start_at p) whole) in
+      let behind : CodeAt s.map s.hart.mem a1 tail =
+      code_behind (flat_map copying p.jobs) tail s.map s.hart.mem (start_at p) whole in
       let length_tail = length-append (fences p.fence_i ++ clears) (Jal 0 (distance (jump_at p) p.entry) ∷ []) in
       let length_before = length-append (flat_map copying p.jobs) (fences p.fence_i ++ clears) in
       let count_ends = ends_count p.fence_i in
@@ -132,21 +159,18 @@ module _ (p : StartPlan) (words : List ℕ) (s : State) (can : CanStart p) (are 
       let plain = ends_plain p.fence_i in
       let h2 : Hart = acted (fences p.fence_i ++ clears) h1 in
       let line =
-      plain_line (fences p.fence_i ++ clears) s h1 a1 plain done.passed.pc fits
-      (code_front (fences p.fence_i ++ clears) (Jal 0 (distance (jump_at p) p.entry) ∷ []) s.map h1.mem a1 behind) in
-      let cleared_run = line_runs (fences p.fence_i ++ clears) s h1 here.going line in
-      let pc_2 : h2.pc ≡ jump_at p = plain_pc (fences p.fence_i ++ clears) s h1 a1 plain done.passed.pc fits ∙ omega arith in
+      straight s here.going lo room ends_at s.hart.mem (fences p.fence_i ++ clears) h1 a1 (ends_follow lo room ends_at p.fence_i h1) done.passed.still
+      (code_front (fences p.fence_i ++ clears) (Jal 0 (distance (jump_at p) p.entry) ∷ []) s.map s.hart.mem a1 behind) done.passed.pc (omega arith)
+      (omega (arith, size, length_all, length_tail)) in
+      let at_jump : a1 + 4 * length (fences p.fence_i ++ clears) ≡ jump_at p = omega arith in
+      let pc_2 : h2.pc ≡ jump_at p = line.pc ∙ at_jump in
       let mem_2 = plain_mem (fences p.fence_i ++ clears) s h1 plain in
-      let jump_code : CodeAt s.map h1.mem (jump_at p) (Jal 0 (distance (jump_at p) p.entry) ∷ []) =
-      let place : a1 + 4 * length (fences p.fence_i ++ clears) ≡ jump_at p = omega arith in
-      subst (λ x. CodeAt s.map h1.mem x (Jal 0 (distance (jump_at p) p.entry) ∷ [])) place
-      (code_behind (fences p.fence_i ++ clears) (Jal 0 (distance (jump_at p) p.entry) ∷ []) s.map h1.mem a1 behind) in
-      let jump_line : Line s (Jal 0 (distance (jump_at p) p.entry) ∷ []) h2 =
-      let moved : CodeAt s.map h2.mem h2.pc (Jal 0 (distance (jump_at p) p.entry) ∷ []) =
-      subst (λ m. CodeAt s.map m h2.pc (Jal 0 (distance (jump_at p) p.entry) ∷ [])) (sym mem_2)
-      (subst (λ x. CodeAt s.map h1.mem x (Jal 0 (distance (jump_at p) p.entry) ∷ [])) (sym pc_2) jump_code) in
-      (moved.0, (tt, (refl, tt))) in
-      let jump_run = line_runs (Jal 0 (distance (jump_at p) p.entry) ∷ []) s h2 here.going jump_line in
+      let jump_code : CodeAt s.map s.hart.mem (jump_at p) (Jal 0 (distance (jump_at p) p.entry) ∷ []) =
+      subst (λ x. CodeAt s.map s.hart.mem x (Jal 0 (distance (jump_at p) p.entry) ∷ [])) at_jump
+      (code_behind (fences p.fence_i ++ clears) (Jal 0 (distance (jump_at p) p.entry) ∷ []) s.map s.hart.mem a1 behind) in
+      let jump =
+      step_way s here.going lo room ends_at s.hart.mem (Jal 0 (distance (jump_at p) p.entry)) h2 (jump_at p) tt refl line.still jump_code.0 pc_2 (omega arith)
+      (omega (arith, size, length_all, length_tail)) in
       let h3 : Hart = acts (Jal 0 (distance (jump_at p) p.entry)) h2 in
       let pc_3 : h3.pc ≡ p.entry =
       ap (λ x. offset x (distance (jump_at p) p.entry)) pc_2 ∙ arrives (jump_at p) p.entry (omega arith) can.entry in
@@ -156,16 +180,20 @@ module _ (p : StartPlan) (words : List ℕ) (s : State) (can : CanStart p) (are 
       let last : h3 ≡ record { pc = p.entry; regs = cleared s.hart.regs; mem = all_copied s.hart.mem p.jobs } =
       λ t. record { pc = pc_3 t; regs = regs_3 t; mem = mem_3 t } in
       let ended =
-      steps_joined (length (fences p.fence_i ++ clears)) 1 (with_hart s h1) (with_hart s h2) (with_hart s h3) cleared_run jump_run in
+      join lo room (length (fences p.fence_i ++ clears)) 1 (line_accesses s here.going lo room ends_at s.hart.mem (fences p.fence_i ++ clears) h1) []
+      (with_hart s h1) (with_hart s h2) (with_hart s h3) line.way jump in
+      let silent : line_accesses s here.going lo room ends_at s.hart.mem (fences p.fence_i ++ clears) h1 ++ [] ≡ [] =
+      ap (λ (told : List FlatAccess). told ++ []) (ends_silent lo room ends_at p.fence_i h1) in
       let all =
-      steps_joined (jobs_run p.jobs) (length (fences p.fence_i ++ clears) + 1) (with_hart s s.hart) (with_hart s h1) (with_hart s h3)
-      jobs_run_so ended in
+      join lo room (jobs_run p.jobs) (length (fences p.fence_i ++ clears) + 1) (jobs_accesses p.jobs) _ s (with_hart s h1) (with_hart s h3)
+      done.passed.way ended in
       let count : jobs_run p.jobs + (length (fences p.fence_i ++ clears) + 1) ≡ start_run p = omega arith in
-      subst (λ n. Steps n s (started p s)) count
-      (subst (λ h. Steps (jobs_run p.jobs + (length (fences p.fence_i ++ clears) + 1)) s (with_hart s h)) last all)
+      subst (λ h. Way lo room (start_run p) (jobs_accesses p.jobs) s (with_hart s h)) last
+      (recount lo room (jobs_run p.jobs + (length (fences p.fence_i ++ clears) + 1)) (start_run p) _ (jobs_accesses p.jobs) s (with_hart s h3) count
+      (ap (λ (told : List FlatAccess). jobs_accesses p.jobs ++ told) silent ∙ append-nil (jobs_accesses p.jobs)) all)
 
 -- words that are those of a start stub alone
-pub start_alone_runs : (p : StartPlan) (words : List ℕ) (s : State) → CanStart p → AreStartWords p words → IsAtStart p words s → Steps (start_run p) s (started p s)
+pub start_alone_runs : (p : StartPlan) (words : List ℕ) (s : State) → CanStart p → AreStartWords p words → IsAtStart p words s → Way (start_at p) (start_bytes p) (start_run p) (jobs_accesses p.jobs) s (started p s)
 start_alone_runs p words s can are here = runs p words s can are here
 
 pub start_runs_so : StartRuns

@@ -1,5 +1,5 @@
 -- Where the parts of a whole plan's code stand.
-use Rattle.std.proofs.Common.{◌≡◌, ℕ, zero, suc, ◌+◌, ◌*◌, ◌%◌, ◌<◌, List, [], ◌++◌, length, slice_index, slice_index_or, refl, ◌∙◌, ap, subst, arith}
+use Rattle.std.proofs.Common.{◌≡◌, ℕ, zero, suc, ◌+◌, ◌*◌, ◌%◌, List, ◌++◌, length, slice_index, slice_index_or, refl, ◌∙◌, ap, subst, arith}
 use Rattle.std.specs.Prelude.{All, replicate}
 use Rattle.std.specs.List.{concat}
 use Rattle.std.proofs.lemmas.List.{append_assoc, length-append, get_or_default, get_or-append-add}
@@ -10,7 +10,6 @@ use Rattle.flat_machine.specs.Lines.{HoldsAt}
 use Rattle.overlay_stubs.specs.Start.{start_at, start_bytes, start_stub}
 use Rattle.overlay_stubs.specs.Homes.{bytes_if_before}
 use Rattle.overlay_stubs.specs.Serving.{ServingStub, serving_home, serving_size, serving_bytes, served_before}
-use Rattle.overlay_stubs.specs.Layout.{image_places}
 use Rattle.overlay_stubs.specs.Overlay.{OverlayPlan, switch_code, switch_bytes, switch_at, serving_at, overlay_images_at, rest_bytes, AreOverlayWords}
 use Rattle.overlay_stubs.specs.Laws.{ImagesStand}
 use Rattle.overlay_stubs.specs.Served.{HoldsCode, ServingStands, IsServedInside, OverlayStands}

@@ -5,10 +5,10 @@ use Rattle.rv_decode.specs.Acts.{Registers}
 use Rattle.rv_decode.specs.Sequences.{MeanAll}
 use Rattle.flat_machine.specs.declared.events.FlatOutcome.TheVariants.{GoesOn}
 use Rattle.flat_machine.specs.State.{State}
-use Rattle.flat_machine.specs.Runs.{Steps}
 use Rattle.flat_machine.specs.Lines.{AreMapped, HoldsAt, IsAtWords, Ran, words_from}
 use Rattle.overlay_stubs.specs.Start.{StartPlan, CanStart, BeginWithStart, start_at, start_bytes, start_run, cleared}
 use Rattle.copy_jobs.specs.Jobs.{all_copied, CanCopy}
+use Rattle.copy_jobs.specs.Told.{Way, jobs_accesses}
 use Rattle.overlay_stubs.specs.PlainStubs.{PlainStub, stub_code, stub_bytes}
 use Rattle.overlay_stubs.specs.Layout.{CodePlan, AreCodeWords, stub_place, stubs_at, images_at, image_places, bytes_behind}
 
@@ -33,11 +33,11 @@ started p s =
       };
     }
 
--- the start stub does so, in just so many steps; any words may stand behind it
+-- the start stub does so, in just so many steps of its words, with the accesses of its jobs; any words may stand behind it
 abbrev pub StartRuns : Type 0
 StartRuns =
     (p : StartPlan) (words : List ℕ) (s : State) → CanStart p → BeginWithStart p words →
-    IsAtStart p words s → Steps (start_run p) s (started p s)
+    IsAtStart p words s → Way (start_at p) (start_bytes p) (start_run p) (jobs_accesses p.jobs) s (started p s)
 
 -- ---- plain stubs
 

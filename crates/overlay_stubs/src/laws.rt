@@ -3,7 +3,8 @@ ghost use Rattle.overlay_stubs.specs.Laws.{StartRuns, PlainStubRuns, PartsStand}
 ghost use Rattle.overlay_stubs.specs.Served.{OverlayStands, PadsLead};
 
 /// Where the words of a start stub stand, with any words behind them, the flat machine copies each job's bytes in order, clears
-/// x5, x7, x28 and x31 and is at the entry after just `start_run` steps. All else is as it was.
+/// x5, x7, x28 and x31 and is at the entry after just `start_run` steps, which fetch the stub's words and make the accesses of
+/// the jobs. All else is as it was.
 pub fn start_runs()
     ensures { StartRuns }
 {}

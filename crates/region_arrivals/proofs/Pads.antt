@@ -7,6 +7,7 @@ use Rattle.word_bits.specs.Memory.{Memory, word_at}
 use Rattle.rv_decode.specs.Sequences.{distance}
 use Rattle.rv_decode.specs.declared.instructions.Instr.{Instr}
 use Rattle.rv_decode.specs.declared.instructions.Instr.TheVariants.{Jal}
+use Rattle.flat_machine.specs.declared.events.FlatAccess.{FlatAccess}
 use Rattle.flat_machine.specs.declared.events.FlatEvent.{FlatEvent}
 use Rattle.flat_machine.specs.Lines.{AreMapped, fetch_of, went}
 use Rattle.flat_machine.specs.Runs.{Does}
@@ -15,8 +16,9 @@ use Rattle.flat_machine.specs.State.{State}
 use Rattle.flat_machine.proofs.Runs.{does_joined}
 use Rattle.copy_jobs.specs.declared.job.CopyJob.{CopyJob}
 use Rattle.copy_jobs.specs.Jobs.{CanCopy}
+use Rattle.copy_jobs.specs.Told.{IsFrom, accesses, read_at}
 use Rattle.switch_routine.specs.Switching.{routine_run, switch_jobs}
-use Rattle.switch_routine.specs.Switches.{Switched}
+use Rattle.switch_routine.specs.Switches.{Switched, switch_accesses}
 use Rattle.overlay_stubs.specs.Start.{start_at, start_bytes}
 use Rattle.overlay_stubs.specs.Serving.{ServingStub}
 use Rattle.overlay_stubs.specs.Overlay.{OverlayPlan, switching, serving_place, rest_bytes}
@@ -96,7 +98,7 @@ module _ (plan : OverlayPlan) (words : List ℕ) (l : Setup) (r : ℕ) (stands :
         (here.still (base + (4 * k + i)) (stands.still (4 * k + i) (omega (arith, from)) (omega (arith, below, small)))))
         ∙ stands.code k from below
 
-    region_number : word_at t.hart.mem plan.start.base ≡ r
+    pub region_number : word_at t.hart.mem plan.start.base ≡ r
     region_number =
         let ends = control_ends in
         number_word t.hart.mem plan.start.base r (omega (arith, ends)) stands.small
@@ -181,41 +183,61 @@ module _ (p : Program) (l : Setup) (live : ℕ → ℕ → Type 0) (form : ℕ �
     abbrev pad_events : List FlatEvent → List FlatEvent
     pad_events events = map (fetch_of t.hart.mem) (at.stub.home ∷ []) ++ events
 
-    passes : r ≡ at.stub.region → Switch p l live form holds bound most r s m t
+    -- what is told of a switch: behind the pad's jump so many words of the plan run with these accesses, up to the stub's body
+    pub record Passed (n : ℕ) (made_there : List FlatAccess) (switch : Switch p l live form holds bound most r s m t) : Type 0 where
+      pub to : switch.to ≡ at.stub.region
+      pub rest : List FlatEvent
+      pub events : switch.events ≡ fetch_of t.hart.mem at.stub.home ∷ rest
+      pub count : length rest ≡ n
+      pub all : accesses rest ≡ made_there
+      pub fetched : All (IsFrom (start_at plan.start) (start_bytes plan.start + rest_bytes plan)) rest
+      pub after : switch.after.hart.pc ≡ body_at plan at.stub
+
+    pub passes : r ≡ at.stub.region → (switch : Switch p l live form holds bound most r s m t) × Passed 4 (read_at plan.start.base ∷ []) switch
     passes same =
         let run = pads_lead_so.passes plan words at.stub t has pad (number ∙ same) in
         let t' : State = run.0 in
         let came = run.1.0 in
         let memory = run.1.1 in
         let count = came.way.count in
-        let five = at.five in
-        record {
-          to = r;
-          may = may_stay p l live holds r s m sound held;
-          homes = home_bytes;
-          events = pad_events came.way.events;
-          after = t';
-          does =
-              does_joined (map (fetch_of t.hart.mem) (at.stub.home ∷ [])) came.way.events t
-              (went t t.hart.regs (serving_place plan at.stub)) t' came.pad came.way.does;
-          few = omega (arith, count, five);
-          change =
-              record {
-                regs = λ k lives.
-                    other_register t'.hart.regs t.hart.regs k at.stub.temp came.came.registers
-                    (λ is. at.dead (subst (live s.pc) is lives));
-                fixed = λ a is. ap (λ (mem : Memory). mem a) memory;
-                objects = λ o i below. inl (ap (λ (mem : Memory). mem (l.place r o + i)) memory);
-                still = λ a is. ap (λ (mem : Memory). mem a) memory ∙ alike.still a is;
-                map = ap (λ (n : State). n.map) came.came.rest;
-                outcome = ap (λ (n : State). n.outcome) came.came.rest;
-                input = ap (λ (n : State). n.input) came.came.rest;
-                output = ap (λ (n : State). n.output) came.came.rest;
-              };
-          comes =
-              subst (λ a. Comes l live form most r s.pc a) (sym came.came.pc)
-              (subst (λ q. Comes l live form most q s.pc (body_at plan at.stub)) (sym same) at.comes);
-        }
+        let five = at.five in (
+          record {
+            to = r;
+            may = may_stay p l live holds r s m sound held;
+            homes = home_bytes;
+            events = pad_events came.way.events;
+            after = t';
+            does =
+                does_joined (map (fetch_of t.hart.mem) (at.stub.home ∷ [])) came.way.events t
+                (went t t.hart.regs (serving_place plan at.stub)) t' came.pad came.way.does;
+            few = omega (arith, count, five);
+            change =
+                record {
+                  regs = λ k lives.
+                      other_register t'.hart.regs t.hart.regs k at.stub.temp came.came.registers
+                      (λ is. at.dead (subst (live s.pc) is lives));
+                  fixed = λ a is. ap (λ (mem : Memory). mem a) memory;
+                  objects = λ o i below. inl (ap (λ (mem : Memory). mem (l.place r o + i)) memory);
+                  still = λ a is. ap (λ (mem : Memory). mem a) memory ∙ alike.still a is;
+                  map = ap (λ (n : State). n.map) came.came.rest;
+                  outcome = ap (λ (n : State). n.outcome) came.came.rest;
+                  input = ap (λ (n : State). n.input) came.came.rest;
+                  output = ap (λ (n : State). n.output) came.came.rest;
+                };
+            comes =
+                subst (λ a. Comes l live form most r s.pc a) (sym came.came.pc)
+                (subst (λ q. Comes l live form most q s.pc (body_at plan at.stub)) (sym same) at.comes);
+          },
+          record {
+            to = same;
+            rest = came.way.events;
+            events = refl;
+            count = came.way.count;
+            all = came.way.all;
+            fetched = came.way.fetched;
+            after = came.came.pc;
+          },
+        )
 
     module _ (other : r ≡ at.stub.region → ⊥) where
       can : CanSwitch p l plan first made bound r at.stub.region
@@ -236,7 +258,7 @@ module _ (p : Program) (l : Setup) (live : ℕ → ℕ → Type 0) (form : ℕ �
                 can.homes change_may.others change_may.free (can.known o i unwritable below) unwritable below away;
           }
 
-      switches : Switch p l live form holds bound most r s m t
+      pub switches : (switch : Switch p l live form holds bound most r s m t) × Passed (22 + routine_run (switching plan) r at.stub.region) (switch_accesses (switching plan) r at.stub.region) switch
       switches =
           let run = pads_lead_so.switches plan words at.stub t has pad (λ same. other (sym number ∙ same)) in
           let t' : State = run.0 in
@@ -252,29 +274,39 @@ module _ (p : Program) (l : Setup) (live : ℕ → ℕ → Type 0) (form : ℕ �
           let does : Does (pad_events came.way.events) t t' =
           does_joined (map (fetch_of t.hart.mem) (at.stub.home ∷ [])) came.way.events t
           (went t t.hart.regs (serving_place plan at.stub)) t' came.pad came.way.does in
-          let new_words : HasWords t' = does_words (pad_events came.way.events) t t' alike.words does in
-          record {
-            to = at.stub.region;
-            may = change_may;
-            homes = home_bytes;
-            events = pad_events came.way.events;
-            after = t';
-            does = does;
-            few = omega (arith, count, few);
-            change =
-                region_changed p l live plan.start.base lo size r at.stub.region s.pc (body_at plan at.stub) at.stub.temp jobs t t'
-                (control_ends plan words l r at.plan_stands) switched came.came new_words at.dead can.serve of_region;
-            comes = subst (λ a. Comes l live form most at.stub.region s.pc a) (sym came.came.pc) at.comes;
-          }
+          let new_words : HasWords t' = does_words (pad_events came.way.events) t t' alike.words does in (
+            record {
+              to = at.stub.region;
+              may = change_may;
+              homes = home_bytes;
+              events = pad_events came.way.events;
+              after = t';
+              does = does;
+              few = omega (arith, count, few);
+              change =
+                  region_changed p l live plan.start.base lo size r at.stub.region s.pc (body_at plan at.stub) at.stub.temp jobs t t'
+                  (control_ends plan words l r at.plan_stands) switched came.came new_words at.dead can.serve of_region;
+              comes = subst (λ a. Comes l live form most at.stub.region s.pc a) (sym came.came.pc) at.comes;
+            },
+            record {
+              to = refl;
+              rest = came.way.events;
+              events = refl;
+              count = count;
+              all = subst (λ q. accesses came.way.events ≡ switch_accesses (switching plan) q at.stub.region) number came.way.all;
+              fetched = came.way.fetched;
+              after = came.came.pc;
+            },
+          )
 
   pub pads_lead : SwitchesLead p l live form holds (IsServed p l live form enters plan words first made bound most) bound most
   pads_lead r s m t sound held alike made_so at =
       elim (cases_eq r at.stub.region) [
-        | inl same ↦ passes r s m t sound held alike at same
-        | inr other ↦ switches r s m t sound held alike at other
+        | inl same ↦ (passes r s m t sound held alike at same).0
+        | inr other ↦ (switches r s m t sound held alike at other).0
       ]
 
   -- so ways that end at forms or at such pads are arrivals
-  pub pads_arrive : ((r : ℕ) (s : SourceState) (m : Origins) (read : Option Instr) → holds r s m → s.outcome ≡ GoesOn → Reads (p.word s.pc) read → is_paired_step p s m read ≡ true → (next_state p s read).outcome ≡ GoesOn → holds r (next_state p s read) (origins_after p s m read)) → Arrivals p l live (Comes l live (MayLand form (IsServed p l live form enters plan words first made bound most)) most) form holds (within (most + (bound + most)))
+  pub pads_arrive : ((r a : ℕ) (s : SourceState) (m : Origins) (read : Option Instr) → form r s.pc a → holds r s m → s.outcome ≡ GoesOn → Reads (p.word s.pc) read → is_paired_step p s m read ≡ true → (next_state p s read).outcome ≡ GoesOn → holds r (next_state p s read) (origins_after p s m read)) → Arrivals p l live (Comes l live (MayLand form (IsServed p l live form enters plan words first made bound most)) most) form holds (within (most + (bound + most)))
   pads_arrive stays =
       ways_and_switches_arrive p l live form holds bound most (IsServed p l live form enters plan words first made bound most) pads_lead stays

@@ -54,8 +54,8 @@ pub record CanSwitch (p : Program) (l : Setup) (plan : OverlayPlan) (first : Sou
   pub few : 23 + routine_run (switching plan) from to ≤ bound
 
 -- While region `r` is current, the unit at `v` is served by a stub, whose pad is at `c`. Behind the stub's test a way leads to
--- a form of the unit, and the stub's register doesn't matter there. Where the stub has another region, `enters` says that
--- control may come from `r` to this unit
+-- a form of the unit, and the stub's register doesn't matter there. `enters` says that control may enter the stub's region at
+-- this unit
 pub record IsServed (p : Program) (l : Setup) (live : ℕ → ℕ → Type 0) (form : ℕ → ℕ → ℕ → Type 0) (enters : ℕ → ℕ → Type 0) (plan : OverlayPlan) (words : List ℕ) (first : SourceState) (made : Origins) (bound most r v c : ℕ) : Type 0 where
   pub stub : ServingStub
   pub plan_stands : PlanStands plan words l r
@@ -64,6 +64,6 @@ pub record IsServed (p : Program) (l : Setup) (live : ℕ → ℕ → Type 0) (f
   pub dead : live v stub.temp → ⊥
   pub comes : Comes l live form most stub.region v (body_at plan stub)
   pub homes : HomesStandStill p l r first made
-  pub entered : (r ≡ stub.region → ⊥) → enters r v
+  pub entered : enters stub.region v
   pub can : (r ≡ stub.region → ⊥) → CanSwitch p l plan first made bound r stub.region
   pub five : 5 ≤ bound

@@ -90,7 +90,7 @@ module _ (p : Program) (l : Setup) (live : ℕ → ℕ → Type 0) (form : ℕ �
     module _ (switches : ℕ → ℕ → ℕ → Type 0) (leads : SwitchesLead p l live form holds switches bound most) where
       module _ (r : ℕ) (s : SourceState) (m : Origins) (sound : Sound p l r) (held : holds r s m) (made : AreMade p s m) where
         -- at most so many steps lead to a form
-        abbrev Arrives : ℕ → State → Type 0
+        abbrev pub Arrives : ℕ → State → Type 0
         Arrives few t =
             (fs : List FlatEvent) × ((u : State) × (Does fs t u × (within few s t fs × AtAny p l live form holds s m u)))
 
@@ -115,7 +115,7 @@ module _ (p : Program) (l : Setup) (live : ℕ → ℕ → Type 0) (form : ℕ �
               ),
             )
 
-        way_lands : (t : State) → Alike p l live r s.pc s m t → Comes l live (MayLand form switches) most r s.pc t.hart.pc → Arrives (most + (bound + most)) t
+        pub way_lands : (t : State) → Alike p l live r s.pc s m t → Comes l live (MayLand form switches) most r s.pc t.hart.pc → Arrives (most + (bound + most)) t
         way_lands t alike comes =
             let fetched : List ℕ = way_fetched l live (MayLand form switches) r s.pc comes.0 t.hart.pc comes.1.1 in
             let led = way_leads p l live r s.pc s m (MayLand form switches) comes.0 t.hart.pc comes.1.1 t refl alike in
@@ -125,6 +125,6 @@ module _ (p : Program) (l : Setup) (live : ℕ → ℕ → Type 0) (form : ℕ �
             further t (went t led.regs led.to) (map (fetch_of t.hart.mem) fetched) (omega (arith, count, steps, short)) led.ran
             (landed (went t led.regs led.to) led.alike led.at)
 
-      pub ways_and_switches_arrive : ((r : ℕ) (s : SourceState) (m : Origins) (read : Option Instr) → holds r s m → s.outcome ≡ GoesOn → Reads (p.word s.pc) read → is_paired_step p s m read ≡ true → (next_state p s read).outcome ≡ GoesOn → holds r (next_state p s read) (origins_after p s m read)) → Arrivals p l live (Comes l live (MayLand form switches) most) form holds (within (most + (bound + most)))
+      pub ways_and_switches_arrive : ((r a : ℕ) (s : SourceState) (m : Origins) (read : Option Instr) → form r s.pc a → holds r s m → s.outcome ≡ GoesOn → Reads (p.word s.pc) read → is_paired_step p s m read ≡ true → (next_state p s read).outcome ≡ GoesOn → holds r (next_state p s read) (origins_after p s m read)) → Arrivals p l live (Comes l live (MayLand form switches) most) form holds (within (most + (bound + most)))
       ways_and_switches_arrive stays =
           record { stays = stays; arrives = λ r s m t sound held alike made comes. way_lands r s m sound held made t alike comes }

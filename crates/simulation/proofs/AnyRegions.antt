@@ -81,7 +81,7 @@ module _ (p : Program) (l : Setup) (live : ℕ → ℕ → Type 0) (comes form :
         (forms r s.pc t.hart.pc here.at) (told s m t read here reads paired) read reads paired in
         any_ends r s t leads.1.0 read leads.0 leads.1.1.0 here.sound n.outcome n k refl refl leads.1.1.1.0 leads.1.1.1.1
         (next_made p s m read here.made reads)
-        (arrivals.stays r s m read here.held here.alike.source_going reads paired)
+        (arrivals.stays r t.hart.pc s m read here.at here.held here.alike.source_going reads paired)
 
     -- what is told of a run is folded from what is told of its units and arrivals
     pub runs_at_any : (run : ℕ → SourceState → SourceState → State → List FlatEvent → Type 0) → Folds p tells run → (n : ℕ) (s s' : SourceState) (m : Origins) (t : State) → AtAny p l live form holds s m t → PairedBy reset p n s m s' → KeepsTold run n s s' t
@@ -140,7 +140,7 @@ module _ (p : Program) (l : Setup) (live : ℕ → ℕ → Type 0) (comes form :
 pub ways_lead : (p : Program) (l : Setup) (live : ℕ → ℕ → Type 0) (form : ℕ → ℕ → ℕ → Type 0) (holds : ℕ → SourceState → Origins → Type 0) (most : ℕ) → ((r : ℕ) (s : SourceState) (m : Origins) (read : Option Instr) → holds r s m → s.outcome ≡ GoesOn → Reads (p.word s.pc) read → is_paired_step p s m read ≡ true → (next_state p s read).outcome ≡ GoesOn → holds r (next_state p s read) (origins_after p s m read)) → Arrivals p l live (Comes l live form most) form holds (within most)
 ways_lead p l live form holds most stays =
     record {
-      stays = stays;
+      stays = λ r a s m read at. stays r s m read;
       arrives = λ r s m t sound held alike made comes.
           let fetched : List ℕ = way_fetched l live form r s.pc comes.0 t.hart.pc comes.1.1 in
           let led = way_leads p l live r s.pc s m form comes.0 t.hart.pc comes.1.1 t refl alike in

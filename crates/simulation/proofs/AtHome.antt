@@ -118,7 +118,7 @@ module _ (p : Program) (l : Setup) where
   home_arrives : Arrivals p l all_live (home_form p l) (home_form p l) any_held (within 0)
   home_arrives =
       record {
-        stays = λ r s m read held going reads paired on. tt;
+        stays = λ r a s m read at held going reads paired on. tt;
         arrives = λ r s m t sound held alike made comes.
             ([], (t, (refl, (omega arith, record { region = r; sound = sound; held = tt; alike = alike; made = made; at = comes }))));
       }

@@ -69,9 +69,9 @@ pub record AtAny (p : Program) (l : Setup) (live : ℕ → ℕ → Type 0) (form
   pub at : form region s.pc t.hart.pc
 
 -- Where the flat machine comes to a unit, steps lead to a form of it, and `tells s t es` is told of them. The region may
--- change on the way, so what holds of the other machine must stay while it makes a step.
+-- change on the way, so what holds of the other machine must stay while it makes a step from a form.
 pub record Arrivals (p : Program) (l : Setup) (live : ℕ → ℕ → Type 0) (comes form : ℕ → ℕ → ℕ → Type 0) (holds : ℕ → SourceState → Origins → Type 0) (tells : SourceState → State → List FlatEvent → Type 0) : Type 0 where
-  pub stays : (r : ℕ) (s : SourceState) (m : Origins) (read : Option Instr) → holds r s m → s.outcome ≡ GoesOn
+  pub stays : (r a : ℕ) (s : SourceState) (m : Origins) (read : Option Instr) → form r s.pc a → holds r s m → s.outcome ≡ GoesOn
       → Reads (p.word s.pc) read → is_paired_step p s m read ≡ true → (next_state p s read).outcome ≡ GoesOn
       → holds r (next_state p s read) (origins_after p s m read)
   pub arrives : (r : ℕ) (s : SourceState) (m : Origins) (t : State) → Sound p l r → holds r s m → Alike p l live r s.pc s m t
