@@ -1,4 +1,4 @@
--- Displaced units of blocks that may be copied.
+-- Displaced units.
 use Rattle.std.proofs.Common.{◌≡◌, ℕ, ◌+◌, ◌<◌, List, [], ◌∷◌, ◌++◌, length, pos, sym, ap, subst, arith}
 use Rattle.rv_decode.specs.declared.instructions.Instr.TheVariants as instr
 use Rattle.rv_decode.specs.Sequences.{load_immediate, distance}
@@ -13,7 +13,8 @@ use Rattle.block_splitter.specs.Forms.{body_at, body_of, unit_in, Body, kind_of,
 use Rattle.block_splitter.specs.Copies.{Patch, IsDisplaced}
 use Rattle.copied_code.specs.Laws.{unit_at, IsLow, DisplacedUnitsRun}
 use Rattle.copied_code.proofs.DisplacedRuns.{displaced_runs}
-use Rattle.copied_code.proofs.Units.{block_at, unit_of_block, one_low, units_are_kinds}
+use Rattle.copied_code.proofs.FirstUnits.{first_units_are_kinds, kind_fits}
+use Rattle.copied_code.proofs.Units.{block_at, unit_of_block, one_low}
 
 displaced_count : (sites : List Patch) (at : ℕ) (u : Unit) (kind : UnitKind) (ws : List ℕ) → IsDisplaced sites at u kind ws → length ws ≡ displaced_size kind
 displaced_count sites at u Plain ws form = ap (λ (xs : List ℕ). length xs) form.words
@@ -28,11 +29,12 @@ displaced_count sites at u (Linking back link base imm) ws form = mean_count ws 
 displaced_count sites at u Halt ws form = ap (λ (xs : List ℕ). length xs) form
 
 pub displaced_units_run : DisplacedUnitsRun
-displaced_units_run v c site sites s at b k words code below copyable inside low aligned fits here form =
-    let kind : UnitKind = kind_of site (body_at c.blocks.items b) k in
-    let home = units_are_kinds v c site b k code below copyable inside low in
-    let count = displaced_count sites at (unit_at c b k) kind words form in
-    displaced_runs sites s at words (unit_at c b k) kind aligned here (single_low v c b k code below inside low) home.fits (omega (arith, fits, count)) form
+displaced_units_run v c site sites s at b words code below can some low aligned fits here form =
+    let kind : UnitKind = kind_of site (body_at c.blocks.items b) 0 in
+    let home = first_units_are_kinds v c site b code below can some low in
+    let count = displaced_count sites at (unit_at c b 0) kind words form in
+    displaced_runs sites s at words (unit_at c b 0) kind aligned here (single_low v c b 0 code below some low)
+    (kind_fits v site (unit_at c b 0).at kind home) (omega (arith, fits, count)) form
   where
     single_low : (v : PlainView) (c : Code) (b k : ℕ) → IsCode v c → b < length c.blocks.items → k < length (body_at c.blocks.items b).units → IsLow (unit_at c b k) → (unit_at c b k).at + 4 < 4294967296
     single_low v c b k code below inside low =

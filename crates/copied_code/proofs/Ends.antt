@@ -12,6 +12,7 @@ use Rattle.code_blocks.specs.Ends.{pair_end, jal_end, jalr_end, jump_end, end_or
 use Rattle.code_blocks.specs.Blocks.{goes_on, unit_addresses}
 use Rattle.code_blocks.specs.declared.ends.End.{End}
 use Rattle.code_blocks.specs.declared.ends.End.TheVariants.{Fall, Branch, Jump, Call, Tail, Indirect, Stop}
+use Rattle.block_splitter.specs.Pieces.{is_stop}
 
 -- the word at an address is no jump
 pub record NoJump (v : PlainView) (a : ℕ) : Type 0 where
@@ -52,6 +53,9 @@ tests v a on =
 
 pub goes_no_jump : (v : PlainView) (a : ℕ) → goes_on v a ≡ true → NoJump v a
 goes_no_jump v a on = let t = tests v a on in record { pair = t.pair; branch = t.branch; jal = t.jal; jalr = t.jalr; ebreak = t.ebreak }
+
+pub goes_means : (v : PlainView) (a : ℕ) → goes_on v a ≡ true → has_meaning (image_word v a) ≡ true
+goes_means v a on = (tests v a on).means
 
 -- so no block begins behind it
 pub goes_no_leader : (v : PlainView) (a : ℕ) → goes_on v a ≡ true → is_leader v (a + 4) ≡ false
@@ -115,6 +119,12 @@ nth_unit v a (suc n) (suc k) below = later_unit v a n k (goes_on v a) refl below
 
 -- ---- how a block ends, by the address of its last unit
 
+-- why a block stops: its last word means nothing, or ends the run, or no code follows it
+abbrev pub StopsSo : PlainView → ℕ → Type 0
+StopsSo v a =
+    (has_meaning (image_word v a) ≡ false)
+    ⊎ (((is_call_pair v a ≡ false) × (is_ebreak (image_word v a) ≡ true)) ⊎ NoJump v a)
+
 abbrev pub EndsSo : PlainView → ℕ → End → Type 0
 EndsSo v a (Fall next) = NoJump v a × (next ≡ a + 4)
 EndsSo v a (Branch target next) =
@@ -128,7 +138,7 @@ EndsSo v a (Tail target) =
     (is_call_pair v a ≡ true) × ((links (image_word v (a + 4)) ≡ false) × (target ≡ pair_target v a))
 EndsSo v a (Indirect None) = (is_call_pair v a ≡ false) × ((is_jalr (image_word v a) ≡ true) × (links (image_word v a) ≡ false))
 EndsSo v a (Indirect (Some back)) = (is_call_pair v a ≡ false) × ((back ≡ a + 4) × (is_jalr (image_word v a) ≡ true))
-EndsSo v a Stop = Unit {0}
+EndsSo v a Stop = StopsSo v a
 
 -- its own end, or none
 abbrev JumpsSo : PlainView → ℕ → Option End → Type 0
@@ -156,7 +166,7 @@ jump_ends v a =
     cond_both (is_branch (image_word v a)) _ _ (JumpsSo v a) (λ b. (p, (refl, (refl, b)))) (λ b.
     cond_both (is_jal (image_word v a)) _ _ (JumpsSo v a) (λ j. jal_ends v a p j) (λ j.
     cond_both (is_jalr (image_word v a)) _ _ (JumpsSo v a) (λ r. jalr_ends v a p r) (λ r.
-    cond_both (is_ebreak (image_word v a)) _ _ (JumpsSo v a) (λ e. tt) (λ e.
+    cond_both (is_ebreak (image_word v a)) _ _ (JumpsSo v a) (λ e. inr (inl (p, e))) (λ e.
     record { pair = p; branch = b; jal = j; jalr = r; ebreak = e })))))
 
 or_else_so : (v : PlainView) (a : ℕ) (o : Option End) (other : End) → JumpsSo v a o → (NoJump v a → EndsSo v a other) → EndsSo v a (end_or o other)
@@ -169,7 +179,7 @@ goes_so v a m none l = rw (m, none.pair, none.branch, none.jal, none.jalr, none.
 stops_there : (v : PlainView) (a m : ℕ) → has_meaning (image_word v a) ≡ true → NoJump v a → is_leader v (a + 4) ≡ false → (goes_on v a ≡ false) ⊎ (m ≡ 0) → EndsSo v a (end_from v (a + 4) m)
 stops_there v a m means none l (inl stops) =
     let on = goes_so v a means none l in absurd (cc (on, stops))
-stops_there v a m means none l (inr zero_left) = subst (λ n. EndsSo v a (end_from v (a + 4) n)) (sym zero_left) tt
+stops_there v a m means none l (inr zero_left) = subst (λ n. EndsSo v a (end_from v (a + 4) n)) (sym zero_left) (inr (inr none))
 
 pub ends_so : (v : PlainView) (a m : ℕ) → (goes_on v a ≡ false) ⊎ (m ≡ 0) → EndsSo v a (end_from v a (suc m))
 ends_so v a m stops =
@@ -177,4 +187,11 @@ ends_so v a m stops =
     (λ means. or_else_so v a (jump_end v a) (if is_leader v (a + 4) then Fall (a + 4) else end_from v (a + 4) m) (jump_ends v a) (λ none.
     cond_both (is_leader v (a + 4)) (Fall (a + 4)) (end_from v (a + 4) m) (EndsSo v a)
     (λ leads. (none, refl)) (λ no. stops_there v a m means none no stops)))
-    (λ no. tt)
+    (λ no. inl no)
+
+-- where it doesn't stop, its last word means something
+pub ends_mean : (v : PlainView) (a m : ℕ) → is_stop (end_from v a (suc m)) ≡ false → has_meaning (image_word v a) ≡ true
+ends_mean v a m =
+    cond_both (has_meaning (image_word v a)) (end_or (jump_end v a) (if is_leader v (a + 4) then Fall (a + 4) else end_from v (a + 4) m)) Stop
+    (λ e. is_stop e ≡ false → has_meaning (image_word v a) ≡ true)
+    (λ means goes. means) (λ no goes. absurd (cc (goes)))

@@ -26,11 +26,12 @@ use Rattle.block_splitter.specs.declared.unit_kind.UnitKind.{UnitKind}
 use Rattle.block_splitter.specs.declared.unit_kind.UnitKind.TheVariants.{Plain, Upper, Branch, Jump, Call, Tail, Indirect, Linking, Halt}
 use Rattle.block_splitter.specs.Forms.{Body, body_of, body_at, unit_in, straight_kind, branch_kind, tail_kind, indirect_kind, last_kind, kind_of}
 use Rattle.block_splitter.specs.Pieces.{is_stop, IsCopyable}
+use Rattle.copied_code.specs.Displacing.{known_targets}
 use Rattle.copied_code.specs.Laws.{unit_at, falls_to}
 use Rattle.copied_code.proofs.Alike.{IsStraight}
 use Rattle.copied_code.proofs.Ends.{NoJump, goes_no_jump, EndsSo}
 use Rattle.copied_code.proofs.Homes.{jumps_not, unlinked, jal_is, jalr_is, auipc_is, pair_words, branch_opcode}
-use Rattle.copied_code.proofs.Units.{block_at, unit_of_block, some_at, last_test, other_test}
+use Rattle.copied_code.proofs.Units.{block_at, unit_of_block, targets_begin, some_at, last_test, other_test}
 
 -- a block begins there
 abbrev pub Begins : Code → ℕ → Type 0
@@ -44,33 +45,37 @@ pub record CallsBack (v : PlainView) (a target back link : ℕ) : Type 0 where
   pub behind : back ≡ a + 8
   pub register_is : link ≡ rd_of (image_word v (a + 4))
 
--- what the unit at an address is; `F` says where control falls behind it
-abbrev pub IsKindOf : PlainView → Code → (ℕ → Bool) → ℕ → Type 0 → UnitKind → Type 0
-IsKindOf v c site a F Plain =
+-- what the unit at an address is. `F` says where control falls behind it, and `H` why a run ends there
+abbrev pub IsKindBy : PlainView → Code → (ℕ → Bool) → ℕ → Type 0 → Type 0 → UnitKind → Type 0
+IsKindBy v c site a F H Plain =
     (i : Instr) × ((is_call_pair v a ≡ false) × (Means (image_word v a) i × (((site a ≡ true) ⊎ IsStraight i) × F)))
-IsKindOf v c site a F (Upper rd value) =
+IsKindBy v c site a F H (Upper rd value) =
     (n : ℕ) × ((is_call_pair v a ≡ false) × (Means (image_word v a) (instr.Auipc rd n) × ((site a ≡ false) × F)))
-IsKindOf v c site a F (Branch kind rs1 rs2 target) =
+IsKindBy v c site a F H (Branch kind rs1 rs2 target) =
     (off : ℤ) × ((is_call_pair v a ≡ false) × (Means (image_word v a) (instr.Branch kind rs1 rs2 off) × (Begins c target × F)))
-IsKindOf v c site a F (Jump target) =
+IsKindBy v c site a F H (Jump target) =
     (off : ℤ) × ((is_call_pair v a ≡ false) × (Means (image_word v a) (instr.Jal 0 off) × Begins c target))
-IsKindOf v c site a F (Call target back link) =
+IsKindBy v c site a F H (Call target back link) =
     Begins c target
     × (CallsBack v a target back link ⊎ ((off : ℤ) × ((is_call_pair v a ≡ false) × Means (image_word v a) (instr.Jal link off))))
-IsKindOf v c site a F (Tail target register) =
+IsKindBy v c site a F H (Tail target register) =
     (is_call_pair v a ≡ true)
     × ((links (image_word v (a + 4)) ≡ false) × ((target ≡ pair_target v a) × ((register ≡ rd_of (image_word v a)) × Begins c target)))
-IsKindOf v c site a F Indirect =
+IsKindBy v c site a F H Indirect =
     (base : ℕ) × ((imm : ℤ) × ((is_call_pair v a ≡ false) × Means (image_word v a) (instr.Jalr 0 base imm)))
-IsKindOf v c site a F (Linking back link base imm) = (is_call_pair v a ≡ false) × Means (image_word v a) (instr.Jalr link base imm)
-IsKindOf v c site a F Halt = ⊥
+IsKindBy v c site a F H (Linking back link base imm) = (is_call_pair v a ≡ false) × Means (image_word v a) (instr.Jalr link base imm)
+IsKindBy v c site a F H Halt = H
 
-module _ (v : PlainView) (c : Code) (site : ℕ → Bool) (a : ℕ) (F : Type 0) where
+-- no run ends there
+abbrev pub IsKindOf : PlainView → Code → (ℕ → Bool) → ℕ → Type 0 → UnitKind → Type 0
+IsKindOf v c site a F kind = IsKindBy v c site a F ⊥ kind
+
+module _ (v : PlainView) (c : Code) (site : ℕ → Bool) (a : ℕ) (F H : Type 0) where
   abbrev w : ℕ
   w = image_word v a
 
   abbrev Is : UnitKind → Type 0
-  Is kind = IsKindOf v c site a F kind
+  Is kind = IsKindBy v c site a F H kind
 
   plain_so : (i : Instr) → NoJump v a → F → Means w i → (site a ≡ true) ⊎ IsStraight i → Is Plain
   plain_so i none falls means straight = (i, (none.pair, (means, (straight, falls))))
@@ -117,12 +122,12 @@ module _ (v : PlainView) (c : Code) (site : ℕ → Bool) (a : ℕ) (F : Type 0)
   linking_so (Some instr.Ebreak) back some jalr means single = let o = (jalr_is w jalr).0 in absurd (omega (arith, means, o))
   linking_so (Some other) back some jalr means single = let o = (jalr_is w jalr).0 in let m = means.0 in absurd (omega (arith, m, o))
 
-module _ (v : PlainView) (c : Code) (site : ℕ → Bool) (u : Unit) (F : Type 0) (is : IsUnit v u) (some : is_some u.instr ≡ true) where
+module _ (v : PlainView) (c : Code) (site : ℕ → Bool) (u : Unit) (F H : Type 0) (is : IsUnit v u) (some : is_some u.instr ≡ true) where
   means : MatchOption u.instr (MeansNothing (image_word v u.at)) (Means (image_word v u.at))
   means = subst (λ (w : ℕ). MatchOption u.instr (MeansNothing w) (Means w)) is.raw is.instr
 
   abbrev At : UnitKind → Type 0
-  At kind = IsKindOf v c site u.at F kind
+  At kind = IsKindBy v c site u.at F H kind
 
   first_begins : (target : ℕ) (rest : List ℕ) → All (λ x. has (starts_of c) x ≡ true) (target ∷ rest) → Begins c target
   first_begins target rest all = All-head (λ x. has (starts_of c) x ≡ true) target rest all
@@ -134,26 +139,29 @@ module _ (v : PlainView) (c : Code) (site : ℕ → Bool) (u : Unit) (F : Type 0
       let told = jal_is (image_word v u.at) single.1.0 in
       (begins, inr (j_immediate (image_word v u.at), (single.0, (told.0, single.1.1.1.1, refl))))
 
-  last_so : (e : End) → is_stop e ≡ false → All (λ x. has (starts_of c) x ≡ true) (successors e) → EndsSo v u.at e → (falls_to e ≡ Some (u.at + 4) → F) → At (last_kind site e u)
-  last_so (end.Fall next) goes leads so give = straight_so v c site u.at F u.instr some means so.0 (give (ap Some so.1))
+  pub straight_unit : NoJump v u.at → F → At (straight_kind site u.at u.instr)
+  straight_unit none falls = straight_so v c site u.at F H u.instr some means none falls
+
+  pub last_so : (e : End) → is_stop e ≡ false → All (λ x. has (starts_of c) x ≡ true) (known_targets e) → EndsSo v u.at e → (falls_to e ≡ Some (u.at + 4) → F) → At (last_kind site e u)
+  last_so (end.Fall next) goes leads so give = straight_unit so.0 (give (ap Some so.1))
   last_so (end.Branch target next) goes leads so give =
-      branch_so v c site u.at F u.instr target some so.1.1.1 means so.0 (first_begins target (next ∷ []) leads) (give (ap Some so.1.1.0))
+      branch_so v c site u.at F H u.instr target some so.1.1.1 means so.0 (first_begins target (next ∷ []) leads) (give (ap Some so.1.1.0))
   last_so (end.Jump target) goes leads so give =
       let told = jal_is (image_word v u.at) so.1.0 in
       (j_immediate (image_word v u.at), (so.0, ((told.0, sym (unlinked (image_word v u.at) so.1.1.0), refl), first_begins target [] leads)))
   last_so (end.Call target back link) goes leads so give = call_so target back link (first_begins target [] leads) so
   last_so (end.Tail target) goes leads so give =
-      tail_so v c site u.at F u.instr target some means so.0 so.1.0 so.1.1 (first_begins target [] leads)
+      tail_so v c site u.at F H u.instr target some means so.0 so.1.0 so.1.1 (first_begins target [] leads)
   last_so (end.Indirect None) goes leads so give =
       let w : ℕ = image_word v u.at in
       let told = jalr_is w so.1.0 in
       (rs1_of w, (i_immediate w, (so.0, (told.0, told.1, sym (unlinked w so.1.1), refl, refl))))
-  last_so (end.Indirect (Some back)) goes leads so give = linking_so v c site u.at F u.instr back some so.1.1 means so.0
+  last_so (end.Indirect (Some back)) goes leads so give = linking_so v c site u.at F H u.instr back some so.1.1 means so.0
   last_so end.Stop goes leads so give = absurd (cc (goes))
 
-  kind_by : (is_last_unit : Bool) (e : End) → is_stop e ≡ false → All (λ x. has (starts_of c) x ≡ true) (successors e) → (is_last_unit ≡ true → EndsSo v u.at e) → (is_last_unit ≡ false → NoJump v u.at) → ((is_last_unit ≡ true → falls_to e ≡ Some (u.at + 4)) → F) → At (if is_last_unit then last_kind site e u else straight_kind site u.at u.instr)
+  kind_by : (is_last_unit : Bool) (e : End) → is_stop e ≡ false → All (λ x. has (starts_of c) x ≡ true) (known_targets e) → (is_last_unit ≡ true → EndsSo v u.at e) → (is_last_unit ≡ false → NoJump v u.at) → ((is_last_unit ≡ true → falls_to e ≡ Some (u.at + 4)) → F) → At (if is_last_unit then last_kind site e u else straight_kind site u.at u.instr)
   kind_by true e goes leads so none give = last_so e goes leads (so refl) (λ falls. give (λ last. falls))
-  kind_by false e goes leads so none give = straight_so v c site u.at F u.instr some means (none refl) (give (λ last. absurd (cc (last))))
+  kind_by false e goes leads so none give = straight_unit (none refl) (give (λ last. absurd (cc (last))))
 
 -- behind the last unit of a block control falls to the next word
 abbrev pub FallsLast : Code → ℕ → ℕ → Type 0
@@ -174,10 +182,11 @@ kinds_so v c site b k code below copyable inside =
     let u : Unit = unit_in (body_of block) k in
     let test : Bool = suc k == length block.units.items in
     subst (λ (x : Body). IsKindOf v c site (unit_in x k).at (suc k ≡ length x.units → falls_to (end_at c b) ≡ Some ((unit_in x k).at + 4)) (kind_of site x k)) (sym same)
-    (kind_by v c site u (suc k ≡ length block.units.items → falls_to (end_at c b) ≡ Some (u.at + 4)) has_unit.is
+    (kind_by v c site u (suc k ≡ length block.units.items → falls_to (end_at c b) ≡ Some (u.at + 4)) ⊥ has_unit.is
     (some_at c b k block.units.items has_block.units count copyable) test block.end
     (subst (λ e. is_stop e ≡ false) has_block.ends copyable.goes_on)
-    (subst (λ e. All (λ x. has (starts_of c) x ≡ true) (successors e)) has_block.ends copyable.leads)
+    (targets_begin (λ x. has (starts_of c) x ≡ true) block.end
+    (subst (λ e. All (λ x. has (starts_of c) x ≡ true) (successors e)) has_block.ends copyable.leads))
     (λ last. subst (λ a. EndsSo v a block.end) (sym has_unit.at) (has_unit.ends (last_test k (length block.units.items) test refl last)))
     (λ more. subst (NoJump v) (sym has_unit.at) (goes_no_jump v (block.start + 4 * k) (has_unit.goes (other_test k (length block.units.items) test refl more count))))
     (λ falls last. subst (λ e. falls_to e ≡ Some (u.at + 4)) (sym has_block.ends) (falls (passes k (length block.units.items) last))))

@@ -11,8 +11,9 @@ pub mod Places
 pub mod Units
 pub mod CopiedUnits
 pub mod Falls
-pub mod DisplacedUnits
 pub mod Counts
 pub mod Sites
 pub mod SameRegisters
 pub mod KindFacts
+pub mod FirstUnits
+pub mod DisplacedUnits

@@ -1,11 +1,11 @@
--- The units of a block that may be copied.
+-- The units of a block, and what those of a block that may be copied do at home.
 use Rattle.std.proofs.Common.{◌≡◌, inl, inr, ◌∙◌, ℕ, zero, suc, ◌+◌, ◌*◌, ◌%◌, ◌<◌, Bool, true, false, ◌&&◌, if◌then◌else◌, List, [], ◌∷◌, map, length, get_or, refl, sym, ap, subst, arith}
 use Rattle.std.specs.Prelude.{Option, Some, None, MatchOption, is_some, slice_index_or, ◌==◌}
 use Rattle.std.specs.List.{All}
 use Rattle.std.proofs.lemmas.Bool.{cond_both}
 use Rattle.std.proofs.lemmas.Bool.Decides.{nat_tests}
 use Rattle.std.proofs.lemmas.List.{length-map, get_or-map}
-use Rattle.std.proofs.lemmas.List.Elements.{All-head, All-tail, All-get_or}
+use Rattle.std.proofs.lemmas.List.Elements.{All-nil, All-head, All-tail, All-get_or}
 use Rattle.rv_decode.specs.declared.instructions.Instr.{Instr}
 use Rattle.rv_decode.specs.declared.instructions.Instr.TheVariants as instr
 use Rattle.rv_decode.specs.Fields.{rd_of, rs1_of, u_immediate, i_immediate}
@@ -14,6 +14,7 @@ use Rattle.rv_decode.specs.Table.{Means, MeansNothing}
 use Rattle.elf_reader.specs.File.{PlainView}
 use Rattle.loaded_file.specs.Code.{image_word, holds_code}
 use Rattle.list_checks.specs.Tests.{any_below}
+use Rattle.code_leaders.specs.Meanings.{has_meaning}
 use Rattle.code_leaders.specs.Leaders.{is_call_pair}
 use Rattle.code_leaders.specs.Early.{has}
 use Rattle.code_leaders.proofs.LeaderLemmas.{leader_is_code}
@@ -30,9 +31,10 @@ use Rattle.code_blocks.specs.declared.ends.End.{End}
 use Rattle.code_blocks.specs.declared.ends.End.TheVariants as end
 use Rattle.block_splitter.specs.Forms.{Body, body_of, body_at, unit_in, straight_kind, last_kind, kind_of}
 use Rattle.block_splitter.specs.Pieces.{is_stop, IsCopyable}
+use Rattle.copied_code.specs.Displacing.{known_targets}
 use Rattle.copied_code.specs.Home.{home_words, IsHomeOf}
 use Rattle.copied_code.specs.Laws.{IsLow, UnitsAreKinds, UnitsMean}
-use Rattle.copied_code.proofs.Ends.{nth_unit, NoJump, goes_no_jump, EndsSo, ends_so}
+use Rattle.copied_code.proofs.Ends.{nth_unit, NoJump, goes_no_jump, EndsSo, ends_so, ends_mean}
 use Rattle.copied_code.proofs.Homes.{pair_words, auipc_is, jalr_is, straight_home, branch_home, jump_home}
 use Rattle.copied_code.proofs.HomeCalls.{jal_home, indirect_home, linking_home, call_home, tail_home}
 
@@ -64,6 +66,7 @@ pub record HasUnit (v : PlainView) (block : Block) (k : ℕ) : Type 0 where
   pub is : IsUnit v (unit_in (body_of block) k)
   pub at : (unit_in (body_of block) k).at ≡ block.start + 4 * k
   pub goes : suc k < length block.units.items → goes_on v (block.start + 4 * k) ≡ true
+  pub means : suc k ≡ length block.units.items → is_stop block.end ≡ false → has_meaning (image_word v (block.start + 4 * k)) ≡ true
   pub ends : suc k ≡ length block.units.items → EndsSo v (block.start + 4 * k) block.end
 
 pub unit_of_block : (v : PlainView) (functions : List Function) (block : Block) (k : ℕ) → IsBlock v functions block → k < length block.units.items → HasUnit v block k
@@ -77,6 +80,9 @@ unit_of_block v functions block k is below =
       at = sym (get_or-map unit_at block.units.items k no_unit 0 below)
           ∙ (ap (λ (xs : List ℕ). get_or xs k 0) is.addresses ∙ nth.at);
       goes = λ more. nth.goes (omega (arith, more, count));
+      means = λ one going.
+          let found = nth.last (one ∙ count) in
+          ends_mean v (block.start + 4 * k) found.0 (subst (λ e. is_stop e ≡ false) (is.end ∙ found.1.0) going);
       ends = λ one.
           let found = nth.last (one ∙ count) in
           subst (EndsSo v (block.start + 4 * k)) (sym (is.end ∙ found.1.0)) (ends_so v (block.start + 4 * k) found.0 found.1.1);
@@ -97,6 +103,14 @@ pub first_even : (v : PlainView) (c : Code) (a : ℕ) (rest : List ℕ) → IsCo
 first_even v c a rest code all =
     let even = started_even v c a code (All-head (λ x. has (starts_of c) x ≡ true) a rest all) in omega (arith, even)
 
+-- where its last unit goes is among where the block leads
+pub targets_begin : (P : ℕ → Type 0) (e : End) → All P (successors e) → All P (known_targets e)
+targets_begin P (end.Branch target next) all = all
+targets_begin P (end.Jump target) all = all
+targets_begin P (end.Call target back link) all = all
+targets_begin P (end.Tail target) all = all
+targets_begin P other all = All-nil P
+
 -- ---- its last unit
 
 pub one_low : (v : PlainView) (u : Unit) → IsUnit v u → IsLow u → u.at + 4 < 4294967296
@@ -112,7 +126,7 @@ module _ (v : PlainView) (c : Code) (site : ℕ → Bool) (code : IsCode v c) (u
   means : MatchOption u.instr (MeansNothing (image_word v u.at)) (Means (image_word v u.at))
   means = subst (λ (w : ℕ). MatchOption u.instr (MeansNothing w) (Means w)) is.raw is.instr
 
-  straight : NoJump v u.at → IsHomeOf v site u.at (straight_kind site u.at u.instr)
+  pub straight : NoJump v u.at → IsHomeOf v site u.at (straight_kind site u.at u.instr)
   straight none = straight_home v site u.at u.instr some means none (one_low v u is low)
 
   last_call : (target back link : ℕ) → target % 2 ≡ 0 → EndsSo v u.at (end.Call target back link) → IsHomeOf v site u.at (last_kind site (end.Call target back link) u)
@@ -121,7 +135,7 @@ module _ (v : PlainView) (c : Code) (site : ℕ → Bool) (code : IsCode v c) (u
   last_call target back link even (inr single) =
       jal_home v site u.at target back link single.0 single.1.0 (one_low v u is low) single.1.1.0 even single.1.1.1.0 single.1.1.1.1
 
-  last_home : (e : End) → is_stop e ≡ false → All (λ x. has (starts_of c) x ≡ true) (successors e) → EndsSo v u.at e → IsHomeOf v site u.at (last_kind site e u)
+  pub last_home : (e : End) → is_stop e ≡ false → All (λ x. has (starts_of c) x ≡ true) (known_targets e) → EndsSo v u.at e → IsHomeOf v site u.at (last_kind site e u)
   last_home (end.Fall next) goes leads so = straight so.0
   last_home (end.Branch target next) goes leads so =
       branch_home v site u.at u.instr target some so.1.1.1 means so.0 (one_low v u is low) so.1.0 (first_even v c target (next ∷ []) code leads)
@@ -135,7 +149,7 @@ module _ (v : PlainView) (c : Code) (site : ℕ → Bool) (code : IsCode v c) (u
       linking_home v site u.at u.instr back some so.1.1 means links_so so.0 (one_low v u is low) so.1.0
   last_home end.Stop goes leads so = absurd (cc (goes))
 
-  pub home_by : (is_last_unit : Bool) (e : End) → is_stop e ≡ false → All (λ x. has (starts_of c) x ≡ true) (successors e) → (is_last_unit ≡ true → EndsSo v u.at e) → (is_last_unit ≡ false → NoJump v u.at) → IsHomeOf v site u.at (if is_last_unit then last_kind site e u else straight_kind site u.at u.instr)
+  pub home_by : (is_last_unit : Bool) (e : End) → is_stop e ≡ false → All (λ x. has (starts_of c) x ≡ true) (known_targets e) → (is_last_unit ≡ true → EndsSo v u.at e) → (is_last_unit ≡ false → NoJump v u.at) → IsHomeOf v site u.at (if is_last_unit then last_kind site e u else straight_kind site u.at u.instr)
   home_by true e goes leads so none = last_home e goes leads (so refl)
   home_by false e goes leads so none = straight (none refl)
 
@@ -162,7 +176,8 @@ home_of v c site b k has_block code copyable below low =
     let u : Unit = unit_in (body_of block) k in
     home_by v c site code u has_unit.is low (links_at c b k block.units.items has_block.units below copyable) (some_at c b k block.units.items has_block.units below copyable) (suc k == length block.units.items) block.end
     (subst (λ e. is_stop e ≡ false) has_block.ends copyable.goes_on)
-    (subst (λ e. All (λ x. has (starts_of c) x ≡ true) (successors e)) has_block.ends copyable.leads)
+    (targets_begin (λ x. has (starts_of c) x ≡ true) block.end
+    (subst (λ e. All (λ x. has (starts_of c) x ≡ true) (successors e)) has_block.ends copyable.leads))
     (λ last. subst (λ a. EndsSo v a block.end) (sym has_unit.at) (has_unit.ends (last_test k (length block.units.items) (suc k == length block.units.items) refl last)))
     (λ more. subst (NoJump v) (sym has_unit.at) (goes_no_jump v (block.start + 4 * k) (has_unit.goes (other_test k (length block.units.items) (suc k == length block.units.items) refl more below))))
 

@@ -63,3 +63,8 @@ RunsAtHome is_site a other is = (h : Hart) → h.pc ≡ a → LeadsAtHome a othe
 pub record IsHomeOf (v : PlainView) (is_site : ℕ → Bool) (a : ℕ) (kind : UnitKind) : Type 0 where
   pub fits : IsKind kind
   pub runs : (is : List Instr) → MeanAll (home_words v a) is → RunsAtHome is_site a kind is
+
+-- of any kind but one at which a run ends
+abbrev pub IsHomeUnlessHalt : PlainView → (ℕ → Bool) → ℕ → UnitKind → Type 0
+IsHomeUnlessHalt v is_site a Halt = Unit {0}
+IsHomeUnlessHalt v is_site a other = IsHomeOf v is_site a other

@@ -22,7 +22,8 @@ use Rattle.block_splitter.specs.Copies.{Copy, Patch, address_in, word_of_unit, i
 use Rattle.flat_machine.specs.Lines.{HoldsAt, AreMapped, acted, words_from, IsAtWords}
 use Rattle.copied_code.specs.Copied.{unit_words, MayDiffer, CopyLeads, CopyRuns, FallsOut}
 use Rattle.copied_code.specs.Displaced.{displaced_fetched, DisplacedRuns}
-use Rattle.copied_code.specs.Home.{home_words, LeadsAtHome, IsHomeOf}
+use Rattle.copied_code.specs.Displacing.{CanDisplace}
+use Rattle.copied_code.specs.Home.{home_words, LeadsAtHome, IsHomeOf, IsHomeUnlessHalt}
 use Rattle.flat_machine.specs.declared.events.FlatOutcome.TheVariants.{GoesOn}
 
 -- ---- at home
@@ -41,7 +42,13 @@ UnitsAreKinds = (v : PlainView) (c : Code) (is_site : ℕ → Bool) (b k : ℕ) 
     IsCopyable c b → k < length (body_at c.blocks.items b).units → IsLow (unit_at c b k) →
     IsHomeOf v is_site (unit_at c b k).at (kind_of is_site (body_at c.blocks.items b) k)
 
--- each unit of such a block means something: its words mean instructions
+-- so do those of a first unit that can be displaced, unless a run ends there
+abbrev pub FirstUnitsAreKinds : Type 0
+FirstUnitsAreKinds = (v : PlainView) (c : Code) (is_site : ℕ → Bool) (b : ℕ) → IsCode v c → b < length c.blocks.items →
+    CanDisplace c b → 0 < length (body_at c.blocks.items b).units → IsLow (unit_at c b 0) →
+    IsHomeUnlessHalt v is_site (unit_at c b 0).at (kind_of is_site (body_at c.blocks.items b) 0)
+
+-- each unit of a block that may be copied means something: its words mean instructions
 abbrev pub UnitsMean : Type 0
 UnitsMean = (v : PlainView) (c : Code) (b k : ℕ) → IsCode v c → b < length c.blocks.items → IsCopyable c b →
     k < length (body_at c.blocks.items b).units → (is : List Instr) × MeanAll (home_words v (unit_at c b k).at) is
@@ -112,14 +119,14 @@ is_branch_kind other = false
 
 -- ---- displaced
 
--- a displaced unit of a block that may be copied runs
+-- a first unit that can be displaced runs where it is
 abbrev pub DisplacedUnitsRun : Type 0
-DisplacedUnitsRun = (v : PlainView) (c : Code) (is_site : ℕ → Bool) (sites : List Patch) (s : State) (at b k : ℕ)
-    (words : List ℕ) → IsCode v c → b < length c.blocks.items → IsCopyable c b →
-    k < length (body_at c.blocks.items b).units → IsLow (unit_at c b k) →
+DisplacedUnitsRun = (v : PlainView) (c : Code) (is_site : ℕ → Bool) (sites : List Patch) (s : State) (at b : ℕ)
+    (words : List ℕ) → IsCode v c → b < length c.blocks.items → CanDisplace c b →
+    0 < length (body_at c.blocks.items b).units → IsLow (unit_at c b 0) →
     at % 4 ≡ 0 → at + 4 * length words < 4294967296 → IsAtWords s at words →
-    IsDisplaced sites at (unit_at c b k) (kind_of is_site (body_at c.blocks.items b) k) words →
-    DisplacedRuns sites s at (unit_at c b k) (kind_of is_site (body_at c.blocks.items b) k) words
+    IsDisplaced sites at (unit_at c b 0) (kind_of is_site (body_at c.blocks.items b) 0) words →
+    DisplacedRuns sites s at (unit_at c b 0) (kind_of is_site (body_at c.blocks.items b) 0) words
 
 -- ---- how many words run
 

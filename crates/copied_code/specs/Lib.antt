@@ -4,5 +4,6 @@ pub use Rattle.block_splitter.specs.Copies
 pub mod Kinds
 pub mod Copied
 pub mod Displaced
+pub mod Displacing
 pub mod Home
 pub mod Laws

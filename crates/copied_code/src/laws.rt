@@ -1,7 +1,7 @@
 // Laws of the definitions: functions that do nothing, whose contracts are what is proved.
 ghost use Rattle.copied_code.specs.Laws.{UnitsAreKinds, UnitsMean, OthersKeepWords, CopiedUnitsRun, CopiedBlocksFall};
 ghost use Rattle.copied_code.specs.Laws.{UnitsFollow, DisplacedUnitsRun, RunsCount, TemporariesAreDead};
-ghost use Rattle.copied_code.specs.Laws.{CopiesLeaveRegisters};
+ghost use Rattle.copied_code.specs.Laws.{CopiesLeaveRegisters, FirstUnitsAreKinds};
 
 /// The instructions of each unit of a block that may be copied do what the unit's kind says: a plain one that is no
 /// site does the same at each address.
@@ -9,7 +9,12 @@ pub fn units_are_kinds()
     ensures { UnitsAreKinds }
 {}
 
-/// The words of each unit of such a block mean instructions.
+/// So do those of a first unit that can be displaced: a block of which nothing else is asked may begin with it.
+pub fn first_units_are_kinds()
+    ensures { FirstUnitsAreKinds }
+{}
+
+/// The words of each unit of a block that may be copied mean instructions.
 pub fn units_mean()
     ensures { UnitsMean }
 {}
@@ -43,7 +48,7 @@ pub fn units_follow()
     ensures { UnitsFollow }
 {}
 
-/// The words of a displaced unit run, and go where the unit at home does.
+/// The words of a first unit that is displaced run, and go where the unit at home does.
 pub fn displaced_units_run()
     ensures { DisplacedUnitsRun }
 {}

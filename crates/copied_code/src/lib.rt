@@ -6,5 +6,6 @@ mod laws;
 
 pub use laws::{
     copied_blocks_fall, copied_units_run, copies_leave_registers, displaced_units_run,
-    others_keep_words, runs_count, temporaries_are_dead, units_are_kinds, units_follow, units_mean,
+    first_units_are_kinds, others_keep_words, runs_count, temporaries_are_dead, units_are_kinds,
+    units_follow, units_mean,
 };

@@ -68,10 +68,11 @@ module _ (v : PlainView) (g : Graph) (regions : ℕ) (board : Board) (p : PlainP
   pub whole_slot : (k : ℕ) → k < length slots → IsTimes g.grain (slot_at slots k).span
   whole_slot k below = let sized = (are_laid v g regions board p c 0 laid can).sized k no_slot below in (sized.times, sized.whole)
 
-  pub region_room : (region : ℕ) → 1 ≤ region → region ≤ regions → bytes_in (pair_lane (pair_of region)) (items_of p c) + bytes_in (region_lane region) (items_of p c) ≤ board.spm.size
-  region_room region some within =
-      let fits = (choice_fits g regions board p c (grain_is v g board laid) can).in_regions region some within in
-      omega (arith, fits)
+  pub region_room : (region : ℕ) → 1 ≤ region → region ≤ regions → bytes_in 0 (items_of p c) + bytes_in (pair_lane (pair_of region)) (items_of p c) + bytes_in (region_lane region) (items_of p c) ≤ board.spm.size
+  region_room region some within = (choice_fits g regions board p c (grain_is v g board laid) can).in_regions region some within
+
+  pub static_room : bytes_in 0 (items_of p c) ≤ board.spm.size
+  static_room = (choice_fits g regions board p c (grain_is v g board laid) can).static
 
   -- ---- the scratchpad and homes
 

@@ -19,12 +19,12 @@ use Rattle.relocator.specs.Placing.{chosen_slots}
 use Rattle.relocator.specs.Laws.{slot_at}
 use Rattle.overlay_jobs.specs.ChosenJobs.{Images, is_overlaid, is_kept, is_static, start_jobs, code_number, IsPlanOf}
 use Rattle.overlay_jobs.specs.SwitchLaws.{CanStart}
-use Rattle.overlay_jobs.specs.JobLaws.{HaveBytes, GoesIn, GoesHome, AreJobsOf, JobsFit}
+use Rattle.overlay_jobs.specs.JobLaws.{HaveBytes, GoesIn, GoesHome, AreJobsOf, room_left, JobsFit}
 use Rattle.overlay_jobs.proofs.ListLemmas.{job_at, homes_at}
 use Rattle.overlay_jobs.proofs.Moved.{IsThere, into_is, image_is, moved_is, static_is, homes_span}
-use Rattle.overlay_jobs.proofs.Chosen.{grain_is, room_for, whole_slot, region_room}
+use Rattle.overlay_jobs.proofs.Chosen.{grain_is, room_for, whole_slot, static_room, region_room}
 use Rattle.overlay_jobs.proofs.Fitting.{overlaid_moved, kept_moved, all_in, all_home, overlaid_in, kept_in}
-use Rattle.overlay_jobs.proofs.Room.{span_least, entering_span, leaving_span, overlaid_lane, kept_lane}
+use Rattle.overlay_jobs.proofs.Room.{span_least, entering_span, leaving_span, static_lane, overlaid_lane, kept_lane}
 
 module _ (v : PlainView) (g : Graph) (regions : ℕ) (board : Board) (p : PlainProgramme) (c : PlainChoice) (images : Images) (can : CanStart v g regions board p c images) where
   abbrev slots : List Slot
@@ -57,6 +57,21 @@ module _ (v : PlainView) (g : Graph) (regions : ℕ) (board : Board) (p : PlainP
       let room = (room_for v g regions board p c can.laid can.can k region o below is).room in
       span_least g.grain (object_of g o).size (slot_at slots k).span (grain_is v g board can.laid) (whole_slot v g regions board p c can.laid can.can k below) (omega (arith, room)))
 
+  abbrev items : List Item
+  items = items_of p c
+
+  abbrev next : ℕ → ℕ
+  next = first_slots board.spm.base items
+
+  start_span : spans (start_jobs g images slots) ≤ bytes_in 0 items
+  start_span = entering_span is_static 0 static_lane g images next 0 items (into_span is_static 0 static_is)
+
+  pub start_takes : spans (start_jobs g images slots) ≤ board.spm.size
+  start_takes =
+      let first = start_span in
+      let room = static_room v g regions board p c can.laid can.can in
+      omega (arith, first, room)
+
   module _ (have : HaveBytes slots images) (w : SwitchPlan (List CopyJob)) (plan : IsPlanOf g images slots regions w) (i : ℕ) (below : i < regions) where
     abbrev region : ℕ
     region = i + 1
@@ -78,17 +93,12 @@ module _ (v : PlainView) (g : Graph) (regions : ℕ) (board : Board) (p : PlainP
     kept_there : (name : VarName) → is_kept region name ≡ true → IsThere region name
     kept_there name is = moved_is false region 0 g name (kept_moved v g regions board p c images can region name is)
 
-    abbrev items : List Item
-    items = items_of p c
-
-    abbrev next : ℕ → ℕ
-    next = first_slots board.spm.base items
-
-    two_spans : (xs ys : List CopyJob) → spans xs ≤ bytes_in (region_lane region) items → spans ys ≤ bytes_in (pair_lane (pair_of region)) items → spans (xs ++ ys) ≤ board.spm.size
+    two_spans : (xs ys : List CopyJob) → spans xs ≤ bytes_in (region_lane region) items → spans ys ≤ bytes_in (pair_lane (pair_of region)) items → spans (xs ++ ys) ≤ room_left board g images slots
     two_spans xs ys first second =
         let whole = sum_by-append span xs ys in
+        let start = start_span in
         let room = region_room v g regions board p c can.laid can.can region (omega arith) within in
-        omega (arith, whole, first, second, room)
+        omega (arith, whole, start, first, second, room)
 
     some_home : (jobs : List CopyJob) → All (GoesHome board.spm g) jobs → All (λ (job : CopyJob). 1 ≤ job.bytes) jobs
     some_home jobs go = All-weaker (GoesHome board.spm g) (λ (job : CopyJob). 1 ≤ job.bytes) (λ job is. is.is.some) jobs go
@@ -96,7 +106,7 @@ module _ (v : PlainView) (g : Graph) (regions : ℕ) (board : Board) (p : PlainP
     some_in : (jobs : List CopyJob) → All (GoesIn board.spm g slots images) jobs → All (λ (job : CopyJob). 1 ≤ job.bytes) jobs
     some_in jobs go = All-weaker (GoesIn board.spm g slots images) (λ (job : CopyJob). 1 ≤ job.bytes) (λ job is. is.is.some) jobs go
 
-    pub region_takes : FitsRoom w board.spm.size i
+    pub region_takes : FitsRoom w (room_left board g images slots) i
     region_takes = record {
       leave =
           two_spans (w.leave i) (w.kept_leave i)
@@ -117,6 +127,7 @@ module _ (v : PlainView) (g : Graph) (regions : ℕ) (board : Board) (p : PlainP
 pub jobs_fit_so : JobsFit
 jobs_fit_so = record {
   start = start_fit;
+  start_room = start_takes;
   regions = λ v g regions board p c images w i can have plan below. region_fits v g regions board p c images can have w plan i below;
   room = λ v g regions board p c images w i can have plan below. region_takes v g regions board p c images can have w plan i below;
 }

@@ -13,7 +13,7 @@ use Rattle.relocator.specs.declared.items.Item.{Item}
 use Rattle.relocator.specs.Slots.{lane_of, region_lane, pair_lane, pair_of, bytes_in, moved_on, slots_from}
 use Rattle.relocator.specs.Laws.{slot_at}
 use Rattle.relocator.proofs.GrainLemmas.{IsTimes}
-use Rattle.overlay_jobs.specs.ChosenJobs.{Images, is_overlaid, is_kept, job_into, jobs_home, next_code, entering, leaving, code_number}
+use Rattle.overlay_jobs.specs.ChosenJobs.{Images, is_static, is_overlaid, is_kept, job_into, jobs_home, next_code, entering, leaving, code_number}
 use Rattle.overlay_jobs.proofs.ListLemmas.{job_at, homes_at, next_plus}
 
 -- a job's share of a span of whole chunks
@@ -67,6 +67,13 @@ module _ (which : VarName → Bool) (lane : ℕ) (lanes : (name : VarName) → w
       (leaving_span (moved_on next i) is (λ k below passes. each (suc k) (omega (arith, below)) passes))
 
 -- ---- lanes
+
+pub static_lane : (name : VarName) → is_static name ≡ true → lane_of name ≡ 0
+static_lane (StaticData object) is = refl
+static_lane (StaticCode first last) is = refl
+static_lane (OverlayData own object) is = absurd (cc)
+static_lane (OverlayCode own first last) is = absurd (cc)
+static_lane (KeptData pair object) is = absurd (cc)
 
 pub overlaid_lane : (region : ℕ) (name : VarName) → is_overlaid region name ≡ true → lane_of name ≡ region_lane region
 overlaid_lane region (StaticData object) is = absurd (cc)

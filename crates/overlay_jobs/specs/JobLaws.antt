@@ -1,5 +1,5 @@
 -- What the jobs of a choice copy where, and how much room they take.
-use Rattle.std.specs.Prelude.{◌≡◌, ◌⊎◌, ℕ, ◌+◌, ◌<◌, ◌≤◌, true, List, length, slice_index_or, All}
+use Rattle.std.specs.Prelude.{◌≡◌, ◌⊎◌, ℕ, ◌+◌, ◌-◌, ◌<◌, ◌≤◌, true, List, length, slice_index_or, All}
 use Rattle.elf_reader.specs.File.{PlainView}
 use Rattle.board_config.specs.declared.board.Board.{Board}
 use Rattle.board_config.specs.declared.board.Range.{Range}
@@ -9,7 +9,7 @@ use Rattle.placement_programme.specs.Plain.{PlainProgramme, PlainChoice}
 use Rattle.copy_jobs.specs.declared.job.CopyJob.{CopyJob}
 use Rattle.copy_jobs.specs.Jobs.{IsJob}
 use Rattle.switch_routine.specs.Parts.{SwitchPlan}
-use Rattle.switch_routine.specs.Counts.{FitsRoom}
+use Rattle.switch_routine.specs.Counts.{FitsRoom, spans}
 use Rattle.relocator.specs.declared.slots.Slot.{Slot}
 use Rattle.relocator.specs.Slots.{code_slots}
 use Rattle.relocator.specs.Placing.{chosen_slots}
@@ -63,11 +63,17 @@ pub record AreJobsOf (spm : Range) (g : Graph) (slots : List Slot) (images : Ima
   pub kept_leave : All (GoesHome spm g) (w.kept_leave i)
   pub kept_enter : All (GoesIn spm g slots images) (w.kept_enter i)
 
--- all jobs of a choice are such. Those of each region take at most the scratchpad's room
+-- the bytes of the scratchpad that the jobs of the start leave
+abbrev pub room_left : Board → Graph → Images → List Slot → ℕ
+room_left board g images slots = board.spm.size - spans (start_jobs g images slots)
+
+-- all jobs of a choice are such. Those of the start take at most the scratchpad's room, and those of each region what is left
 pub record JobsFit : Type 0 where
   pub start : (v : PlainView) (g : Graph) (regions : ℕ) (board : Board) (p : PlainProgramme) (c : PlainChoice) (images : Images) →
       CanStart v g regions board p c images → HaveBytes (chosen_slots board p c) images →
       All (GoesIn board.spm g (chosen_slots board p c) images) (start_jobs g images (chosen_slots board p c))
+  pub start_room : (v : PlainView) (g : Graph) (regions : ℕ) (board : Board) (p : PlainProgramme) (c : PlainChoice) (images : Images) →
+      CanStart v g regions board p c images → spans (start_jobs g images (chosen_slots board p c)) ≤ board.spm.size
   pub regions : (v : PlainView) (g : Graph) (regions : ℕ) (board : Board) (p : PlainProgramme) (c : PlainChoice) (images : Images)
       (w : SwitchPlan (List CopyJob)) (i : ℕ) → CanStart v g regions board p c images →
       HaveBytes (chosen_slots board p c) images → IsPlanOf g images (chosen_slots board p c) regions w → i < regions →
@@ -75,7 +81,7 @@ pub record JobsFit : Type 0 where
   pub room : (v : PlainView) (g : Graph) (regions : ℕ) (board : Board) (p : PlainProgramme) (c : PlainChoice) (images : Images)
       (w : SwitchPlan (List CopyJob)) (i : ℕ) → CanStart v g regions board p c images →
       HaveBytes (chosen_slots board p c) images → IsPlanOf g images (chosen_slots board p c) regions w → i < regions →
-      FitsRoom w board.spm.size i
+      FitsRoom w (room_left board g images (chosen_slots board p c)) i
 
 -- ---- numbers
 

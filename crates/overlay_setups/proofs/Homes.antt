@@ -1,8 +1,8 @@
 -- Homes that objects have left stand still, with the bytes that the program has there at its start.
-use Rattle.std.proofs.Common.{◌≡◌, ◌∙◌, ℕ, ◌+◌, ◌-◌, ◌<◌, ◌==◌, nat_lt, Bool, true, false, not, ◌&&◌, List, [], ◌∷◌, length, sym, ap, subst, arith}
-use Rattle.std.proofs.lemmas.Bool.{cond_both, eqb-true}
+use Rattle.std.proofs.Common.{◌≡◌, ◌∙◌, ℕ, ◌+◌, ◌-◌, ◌<◌, ◌==◌, nat_lt, Bool, true, false, not, ◌&&◌, List, [], ◌∷◌, length, sym, ap, subst, arith, nat_le}
+use Rattle.std.proofs.lemmas.Bool.{cond_both, eqb-true, both_ways, leb-true, ltb-true}
 use Rattle.std.proofs.lemmas.Bool.Decides.{nat_tests}
-use Rattle.list_checks.proofs.TestLemmas.{any_at}
+use Rattle.list_checks.proofs.TestLemmas.{any_at, both}
 use Rattle.word_bits.specs.Memory.{Memory}
 use Rattle.elf_reader.specs.File.{PlainView, view_in}
 use Rattle.elf_reader.specs.Image.{image_of}
@@ -27,15 +27,37 @@ use Rattle.simulation.specs.Setups.{Setup}
 use Rattle.region_changes.specs.Unwritten.{IsOneByte, HomesStandStill}
 use Rattle.result_setups.specs.Home.{is_code_byte}
 use Rattle.result_setups.specs.HomeLaws.{source_start, unnamed_in}
-use Rattle.result_setups.specs.Result.{is_stub_byte}
+use Rattle.overlay_setups.specs.OverlaySetup.{is_stub_byte, is_copied, is_number_byte, is_left_by, is_left, overlay_setup}
 use Rattle.result_setups.proofs.Loaded.{refuted}
-use Rattle.result_setups.proofs.MovedSound.{object_kept}
-use Rattle.result_setups.proofs.StartCells.{words_stand}
-use Rattle.overlay_setups.specs.OverlaySetup.{is_copied, is_number_byte, is_left_by, is_left, overlay_setup}
+use Rattle.result_setups.proofs.Kept.{object_kept}
 use Rattle.overlay_setups.specs.Laws.{IsOverlay}
 use Rattle.overlay_setups.specs.Plans.{HoldsHomes, HomesOfChoice}
 use Rattle.overlay_setups.proofs.Copies.{inside_at}
 use Rattle.overlay_setups.proofs.Parts.{off_control, memory_byte}
+use Rattle.std.specs.Prelude.{All}
+use Rattle.std.proofs.lemmas.List.Elements.{All-nil, All-cons, All-head, All-tail}
+use Rattle.result_setups.specs.Moved.{IsMovedWord, IsOffWord}
+use Rattle.result_setups.proofs.Words.{off_or_in}
+
+-- ---- words of data
+
+-- a byte of the result's image stands for the file's, or for a part of a word of data
+pub words_stand : (v w : PlainView) (place : Places) (a : ℕ) (words : List DataWord) → All (IsMovedWord w place) words → (All (λ (d : DataWord). IsOffWord a d.at) words → image_of w.segments a ≡ image_of v.segments a) → CellStands place (moved_uppers place) ByLui (first_cell (image_of v.segments) words a) (image_of w.segments a)
+words_stand v w place a [] all rest = rest (All-nil (λ (d : DataWord). IsOffWord a d.at))
+words_stand v w place a (d ∷ words) all rest =
+    cond_both (in_word a d) (Part false d.object d.offset (a - d.at)) (first_cell (image_of v.segments) words a)
+    (λ c. CellStands place (moved_uppers place) ByLui c (image_of w.segments a))
+    (λ here.
+    let parts = both (nat_le d.at a) (nat_lt a (d.at + 4)) here in
+    let from = leb-true d.at a parts.0 in
+    let to = ltb-true a (d.at + 4) parts.1 in
+    let same : d.at + (a - d.at) ≡ a = omega (arith, from) in
+    ap (image_of w.segments) (sym same) ∙ All-head (IsMovedWord w place) d words all (a - d.at) (omega (arith, from, to)))
+    (λ other.
+    words_stand v w place a words (All-tail (IsMovedWord w place) d words all)
+    (λ off.
+    rest (All-cons (λ (e : DataWord). IsOffWord a e.at) d words
+    (off_or_in a d.at (λ from to. both_ways (in_word a d) other (grind (arith, nat_tests, from, to)))) off)))
 
 -- ---- cells at the start
 

@@ -23,15 +23,13 @@ use Rattle.simulation.specs.Setups.{Setup}
 use Rattle.region_arrivals.specs.Chosen.{IsUntouched, StandsAs, StandsByChoice, OfNumber, Throughout, OfCopy, AtHome, IsSetupOf}
 use Rattle.result_setups.specs.Home.{is_code_byte}
 use Rattle.result_setups.specs.HomeLaws.{unnamed_in}
-use Rattle.result_setups.specs.Result.{is_stub_byte}
+use Rattle.overlay_setups.specs.OverlaySetup.{is_stub_byte, holds_copy, is_copied, source_below, image_byte, is_number_byte, is_left, overlay_setup}
 use Rattle.result_setups.proofs.Loaded.{refuted}
 use Rattle.result_setups.proofs.HomeSound.{sound_home}
-use Rattle.result_setups.proofs.MovedSound.{code_byte_kept, fixed_kept}
-use Rattle.result_setups.proofs.ResultSound.{stub_in_patch}
-use Rattle.overlay_setups.specs.OverlaySetup.{holds_copy, is_copied, source_below, image_byte, is_number_byte, is_left, overlay_setup}
+use Rattle.result_setups.proofs.Kept.{code_byte_kept, fixed_kept}
+use Rattle.overlay_setups.proofs.Parts.{stub_in_patch, laid, still_cases, in_slot, copy_in_scratchpad, number_in_patch, off_scratchpad, off_control, left_home, untouched, memory_byte, code_off_homes, patch_off_homes, stub_behind}
 use Rattle.overlay_setups.specs.Laws.{IsOverlay, SetupOfChoice}
 use Rattle.overlay_setups.proofs.Copies.{same_numbers, inside_behind, copy_byte, holds_so, image_source}
-use Rattle.overlay_setups.proofs.Parts.{laid, still_cases, in_slot, copy_in_scratchpad, number_in_patch, off_scratchpad, off_control, left_home, untouched, memory_byte, code_off_homes, patch_off_homes, stub_behind}
 
 module _ (file : List ℕ) (board : Board) (g : Graph) (regions : ℕ) (q : PlainProgramme) (c : PlainChoice) (images : Images) (mem : Memory) (is : IsOverlay file board g regions q c images) where
   abbrev v : PlainView
@@ -96,7 +94,7 @@ module _ (file : List ℕ) (board : Board) (g : Graph) (regions : ℕ) (q : Plai
         (off_scratchpad file board g regions q c images mem is a (number_in_patch file board g regions q c images mem is a number))
         (copy_in_scratchpad file board g regions q c images mem is r a k of.0 holds))
 
-    copy_stands : StandsAs l r a (image_byte images mem (code_number slots k) i)
+    pub copy_stands : StandsAs l r a (image_byte images mem (code_number slots k) i)
     copy_stands =
         let offset : a - (slot_at slots k).at ≡ i = omega arith in (
           right_passes (is_code_byte v a) _

@@ -1,6 +1,6 @@
 -- What stands still in the setup of a choice, part by part.
-use Rattle.std.proofs.Common.{◌≡◌, ◌∙◌, ◌⊎◌, inl, inr, ℕ, ◌+◌, ◌-◌, ◌<◌, ◌≤◌, ◌==◌, true, false, not, ◌&&◌, ◌||◌, List, length, sym, ap, subst, arith}
-use Rattle.std.proofs.lemmas.Bool.{cases_lt, both_ways, cond-false}
+use Rattle.std.proofs.Common.{nat_le, nat_lt, ◌≡◌, ◌∙◌, ◌⊎◌, inl, inr, ℕ, ◌+◌, ◌-◌, ◌<◌, ◌≤◌, ◌==◌, true, false, not, ◌&&◌, ◌||◌, List, length, sym, ap, subst, arith}
+use Rattle.std.proofs.lemmas.Bool.{cases_lt, both_ways, cond-false, leb-true, ltb-true}
 use Rattle.std.proofs.lemmas.Bool.Decides.{nat_tests}
 use Rattle.list_checks.proofs.TestLemmas.{either, both, not_true, any_found}
 use Rattle.word_bits.specs.Words.{byte_of}
@@ -20,13 +20,19 @@ use Rattle.overlay_jobs.proofs.Chosen.{InScratchpad, slot_inside}
 use Rattle.simulation.specs.Setups.{Setup}
 use Rattle.region_arrivals.specs.Chosen.{IsUntouched}
 use Rattle.result_setups.specs.Home.{is_code_byte}
-use Rattle.result_setups.specs.Result.{is_stub_byte}
+use Rattle.overlay_setups.specs.OverlaySetup.{is_stub_byte, holds_copy, is_copied, source_below, is_number_byte, is_left_by, is_left, overlay_setup}
 use Rattle.result_setups.proofs.HomeSound.{sound_home}
-use Rattle.result_setups.proofs.MovedSound.{object_kept}
-use Rattle.result_setups.proofs.ResultSound.{patch_lawful, patch_off_spm}
-use Rattle.overlay_setups.specs.OverlaySetup.{holds_copy, is_copied, source_below, is_number_byte, is_left_by, is_left, overlay_setup}
+use Rattle.result_setups.proofs.Kept.{object_kept}
+use Rattle.result_setups.proofs.Ranges.{patch_lawful, patch_off_spm}
 use Rattle.overlay_setups.specs.Laws.{IsOverlay}
 use Rattle.overlay_setups.proofs.Copies.{IsBehind, inside_behind, inside_at, copy_byte, own_source}
+
+pub stub_in_patch : (board : Board) (a : ℕ) → is_stub_byte board a ≡ true → in_range board.patch a ≡ true
+stub_in_patch board a is =
+    let parts = both (nat_le (board.patch.base + 64) a) (nat_lt a (board.patch.base + board.patch.size)) is in
+    let from = leb-true (board.patch.base + 64) a parts.0 in
+    let to = ltb-true a (board.patch.base + board.patch.size) parts.1 in
+    grind (arith, nat_tests, from, to)
 
 module _ (file : List ℕ) (board : Board) (g : Graph) (regions : ℕ) (q : PlainProgramme) (c : PlainChoice) (images : Images) (mem : Memory) (is : IsOverlay file board g regions q c images) where
   abbrev v : PlainView
@@ -67,11 +73,6 @@ module _ (file : List ℕ) (board : Board) (g : Graph) (regions : ℕ) (q : Plai
   pub in_scratchpad : (a : ℕ) → InScratchpad board a → in_range board.spm a ≡ true
   in_scratchpad a at =
       subst (λ b. in_range board.spm b ≡ true) (sym at.1.1) (inside_at board.spm.base board.spm.size at.0 at.1.0)
-
-  pub there_in : (a : ℕ) → in_range board.spm a ≡ true → InScratchpad board a
-  there_in a found =
-      let behind = inside_behind board.spm.base board.spm.size a found in
-      (a - board.spm.base, (behind.below, sym behind.there))
 
   -- a byte of a copy is one of its slot
   pub in_slot : (r a k : ℕ) → k < length slots → holds_copy slots images r a k ≡ true → a - (slot_at slots k).at < (slot_at slots k).span

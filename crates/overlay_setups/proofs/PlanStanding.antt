@@ -32,12 +32,10 @@ use Rattle.overlay_jobs.proofs.PatchHomes.{images_lie_so}
 use Rattle.simulation.specs.Setups.{Setup}
 use Rattle.region_arrivals.specs.Pads.{PlanStands}
 use Rattle.result_setups.specs.Home.{is_code_byte}
-use Rattle.result_setups.specs.Result.{is_stub_byte}
+use Rattle.overlay_setups.specs.OverlaySetup.{is_stub_byte, source_below, is_number_byte, overlay_setup}
 use Rattle.result_setups.proofs.HomeSound.{sound_home}
-use Rattle.result_setups.proofs.MovedSound.{lies_in_range, spm_mapped, patch_mapped}
-use Rattle.result_setups.proofs.ResultSound.{patch_lawful}
-use Rattle.result_setups.proofs.ResultStill.{same_word}
-use Rattle.overlay_setups.specs.OverlaySetup.{source_below, is_number_byte, overlay_setup}
+use Rattle.result_setups.proofs.Ranges.{lies_in_range, spm_mapped, patch_mapped, patch_lawful}
+use Rattle.result_setups.proofs.Words.{same_word}
 use Rattle.overlay_setups.specs.Laws.{IsOverlay}
 use Rattle.overlay_setups.specs.Plans.{HoldsPlan, PlanOfChoice}
 use Rattle.overlay_setups.proofs.Copies.{inside_at}
@@ -89,7 +87,7 @@ module _ (file : List ℕ) (board : Board) (g : Graph) (regions : ℕ) (q : Plai
   goes_home : (job : CopyJob) → GoesHome board.spm g job → CanCopy (mapped_ranges board) job
   goes_home job x = (scratchpad_mapped job.from job.bytes x.from x.to, home_mapped job x.o job.to x.target x.bytes)
 
-  all_in : (jobs : List CopyJob) → All (GoesIn board.spm g slots images) jobs → All (CanCopy (mapped_ranges board)) jobs
+  pub all_in : (jobs : List CopyJob) → All (GoesIn board.spm g slots images) jobs → All (CanCopy (mapped_ranges board)) jobs
   all_in jobs go = All-weaker (GoesIn board.spm g slots images) (CanCopy (mapped_ranges board)) goes_in jobs go
 
   all_home : (jobs : List CopyJob) → All (GoesHome board.spm g) jobs → All (CanCopy (mapped_ranges board)) jobs

@@ -23,12 +23,12 @@ use Rattle.result_setups.specs.Home.{is_code_byte}
 use Rattle.result_setups.specs.HomeLaws.{unnamed_in}
 use Rattle.result_setups.proofs.Loaded.{refuted}
 use Rattle.result_setups.proofs.HomeSound.{sound_home}
-use Rattle.result_setups.proofs.MovedSound.{spm_mapped, fixed_kept, object_kept, code_byte_kept}
-use Rattle.result_setups.proofs.ResultSound.{stub_in_patch}
+use Rattle.result_setups.proofs.Kept.{fixed_kept, object_kept, code_byte_kept}
+use Rattle.result_setups.proofs.Ranges.{spm_mapped}
+use Rattle.overlay_setups.proofs.Parts.{stub_in_patch, laid, still_cases, in_scratchpad, in_slot, copy_in_scratchpad, number_in_patch, off_scratchpad, left_home}
 use Rattle.overlay_setups.specs.OverlaySetup.{holds_copy, is_copied, is_left, overlay_setup}
 use Rattle.overlay_setups.specs.Laws.{IsOverlay, ChoiceIsSound}
 use Rattle.overlay_setups.proofs.Copies.{same_numbers, copy_byte}
-use Rattle.overlay_setups.proofs.Parts.{laid, still_cases, in_scratchpad, in_slot, copy_in_scratchpad, number_in_patch, off_scratchpad, left_home}
 
 module _ (file : List ℕ) (board : Board) (g : Graph) (regions : ℕ) (q : PlainProgramme) (c : PlainChoice) (images : Images) (mem : Memory) (is : IsOverlay file board g regions q c images) (r : ℕ) where
   abbrev v : PlainView

@@ -5,6 +5,7 @@ use Rattle.overlay_stubs.specs.Overlay.{switching}
 use Rattle.switch_routine.proofs.Counts.{switch_is_bounded_so}
 use Rattle.cell_values.specs.Stands.{moved_uppers}
 use Rattle.relocator.specs.Placing.{placed, chosen_slots}
+use Rattle.overlay_jobs.specs.JobLaws.{room_left}
 use Rattle.overlay_jobs.proofs.JobsFit.{jobs_fit_so}
 use Rattle.overlay_jobs.proofs.PatchHomes.{images_lie_so}
 use Rattle.overlay_setups.specs.Plans.{ChoiceCanSwitch}
@@ -23,7 +24,7 @@ choice_can_switch file out board g regions q c images mem input plan words s r i
     let have = (images_lie_so v board g slots images (laid file board g regions q c images mem is) is.lie).1 in
     let can = starts file board g regions q c images mem is in
     let bound =
-    switch_is_bounded_so w board.spm.size s r few
+    switch_is_bounded_so w (room_left board g images slots) s r few
     (λ i below. jobs_fit_so.room v g regions board q c images w i can have holds.jobs (omega (arith, below, count))) in
     record {
       serve = jobs_of_choice_serve file board g regions q c images mem w s r is holds.jobs holds.lies.base left some entered other;

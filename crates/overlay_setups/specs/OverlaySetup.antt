@@ -1,5 +1,5 @@
 -- Where objects and code stand in each region, for a choice with overlay.
-use Rattle.std.specs.Prelude.{ℕ, zero, suc, ◌+◌, ◌-◌, ◌==◌, Bool, true, not, ◌&&◌, ◌||◌, if◌then◌else◌, List, length}
+use Rattle.std.specs.Prelude.{ℕ, zero, suc, ◌+◌, ◌-◌, ◌==◌, nat_le, nat_lt, Bool, true, not, ◌&&◌, ◌||◌, if◌then◌else◌, List, length}
 use Rattle.word_bits.specs.Words.{byte_of}
 use Rattle.word_bits.specs.Memory.{Memory}
 use Rattle.elf_reader.specs.File.{PlainView}
@@ -19,7 +19,6 @@ use Rattle.relocator.specs.Laws.{slot_at}
 use Rattle.overlay_jobs.specs.ChosenJobs.{Images, code_number}
 use Rattle.simulation.specs.Setups.{Setup}
 use Rattle.result_setups.specs.Home.{is_code_byte}
-use Rattle.result_setups.specs.Result.{is_stub_byte}
 
 -- ---- copies
 
@@ -52,6 +51,10 @@ abbrev pub image_byte : Images → Memory → ℕ → ℕ → ℕ
 image_byte images mem n i = mem (images.at n + i)
 
 -- ---- what else stands still
+
+-- an address is of a byte of the patch range behind the control words
+abbrev pub is_stub_byte : Board → ℕ → Bool
+is_stub_byte board a = nat_le (board.patch.base + 64) a && nat_lt a (board.patch.base + board.patch.size)
 
 -- an address is of a byte of the region's number, in the first control word
 abbrev pub is_number_byte : Board → ℕ → Bool

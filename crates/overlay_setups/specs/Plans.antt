@@ -13,6 +13,7 @@ use Rattle.overlay_stubs.specs.Served.{HoldsCode}
 use Rattle.relocator.specs.declared.slots.Slot.{Slot}
 use Rattle.relocator.specs.Placing.{placed, chosen_slots}
 use Rattle.overlay_jobs.specs.ChosenJobs.{Images, IsPlanOf}
+use Rattle.overlay_jobs.specs.JobLaws.{room_left}
 use Rattle.overlay_jobs.specs.PatchLaws.{LiesInPatch}
 use Rattle.object_machine.specs.Paired.{at_start}
 use Rattle.region_changes.specs.Unwritten.{HomesStandStill}
@@ -57,7 +58,8 @@ PlanOfChoice =
     → HoldsPlan board g (chosen_slots board q c) images regions plan words mem → r ≤ regions
     → PlanStands plan words (overlay_setup (view_in file) board g (chosen_slots board q c) images mem) r
 
--- A switch to a region that is entered can be made. At most twelve words run for each byte of the scratchpad, and 83
+-- A switch to a region that is entered can be made. At most twelve words run for each byte of the scratchpad that the jobs of
+-- the start leave, and 83
 abbrev pub ChoiceCanSwitch : Type 0
 ChoiceCanSwitch =
     (file out : List ℕ) (board : Board) (g : Graph) (regions : ℕ) (q : PlainProgramme) (c : PlainChoice) (images : Images)
@@ -67,4 +69,4 @@ ChoiceCanSwitch =
     → HoldsHomes (view_in file) (view_in out) g (placed g (chosen_slots board q c) r) mem
     → s ≤ regions → 1 ≤ r → r ≤ regions → (s ≡ r → ⊥)
     → CanSwitch (unnamed_in file board g) (overlay_setup (view_in file) board g (chosen_slots board q c) images mem) plan
-    (source_start file board g input) at_start (12 * board.spm.size + 83) s r
+    (source_start file board g input) at_start (12 * room_left board g images (chosen_slots board q c) + 83) s r
