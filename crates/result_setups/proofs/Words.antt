@@ -1,9 +1,9 @@
 -- Words of code: where they lie, and what stands there.
-use Rattle.std.proofs.Common.{◌≡◌, inl, inr, ℕ, zero, suc, ◌+◌, ◌-◌, ◌*◌, ◌/◌, ◌%◌, ◌<◌, ◌≤◌, ◌==◌, nat_lt, Bool, true, false, not, ◌&&◌, List, length, Option, Some, None, refl, sym, subst, arith}
-use Rattle.std.proofs.lemmas.Bool.{eqb-true, ltb-true}
+use Rattle.std.proofs.Common.{◌≡◌, inl, inr, ℕ, zero, suc, ◌+◌, ◌-◌, ◌*◌, ◌/◌, ◌%◌, ◌<◌, ◌≤◌, ◌==◌, nat_lt, Bool, true, false, not, ◌&&◌, List, length, Option, Some, None, refl, sym, subst, arith, ◌∙◌, ap}
+use Rattle.std.proofs.lemmas.Bool.{eqb-true, ltb-true, cases_lt}
 use Rattle.std.proofs.lemmas.Bool.Decides.{nat_tests}
 use Rattle.list_checks.specs.First.{unless, first_below}
-use Rattle.word_bits.specs.Words.{plus}
+use Rattle.word_bits.specs.Words.{plus, word_of}
 use Rattle.list_checks.specs.Tests.{any_below, lies_in}
 use Rattle.list_checks.proofs.TestLemmas.{either, both, any_found, any_at}
 use Rattle.elf_reader.specs.Sections.{bit_of}
@@ -28,6 +28,8 @@ use Rattle.simulation.specs.Laws.{IsUnit, OfBlock, ReachedBy, Behind}
 use Rattle.result_setups.specs.Home.{is_code_byte, home_setup}
 use Rattle.result_setups.proofs.Lists.{first_at}
 use Rattle.result_setups.proofs.Memory.{section_mapped, section_ends}
+use Rattle.word_bits.specs.Memory.{Memory, word_at}
+use Rattle.result_setups.specs.Moved.{IsOffWord}
 
 -- a word of code lies in a code range
 pub record InRange (v : PlainView) (u k : ℕ) : Type 0 where
@@ -143,3 +145,30 @@ unit_is_code v board g _ (Behind u unit single falls) =
       | inl leader ↦ leader_is_code v (u + 4) leader
       | inr more ↦ more_words v u code more
     ]
+
+-- an address is in an aligned word, or off it
+pub off_or_in : (a at : ℕ) → (at ≤ a → a < at + 4 → ⊥) → IsOffWord a at
+off_or_in a at never =
+    elim (cases_lt a at) [
+      | inl before ↦ inl before
+      | inr from ↦ elim (cases_lt a (at + 4)) [
+        | inl to ↦ absurd (never from to)
+        | inr behind ↦ inr behind
+      ]
+    ]
+
+-- ---- words by their bytes
+
+pub same_word : (m n : Memory) (a b : ℕ) → a + 3 < 4294967296 → b + 3 < 4294967296 → ((i : ℕ) → i < 4 → m (a + i) ≡ n (b + i)) → word_at m a ≡ word_at n b
+same_word m n a b low low_there same =
+    let zero_here : a + 0 ≡ a = omega arith in
+    let zero_there : b + 0 ≡ b = omega arith in
+    let first : m a ≡ n b = ap m (sym zero_here) ∙ (same 0 (omega arith) ∙ ap n zero_there) in
+    λ t.
+    word_of (first t) (by_byte 1 (omega arith) t) (by_byte 2 (omega arith) t) (by_byte 3 (omega arith) t)
+  where
+    by_byte : (i : ℕ) → i < 4 → m (plus a i) ≡ n (plus b i)
+    by_byte i below =
+        let here : plus a i ≡ a + i = omega (arith, low, below) in
+        let there : plus b i ≡ b + i = omega (arith, low_there, below) in
+        ap m here ∙ (same i below ∙ ap n (sym there))

@@ -3,10 +3,6 @@ pub mod Home
 pub mod HomeLaws
 pub mod Absolute
 pub use Rattle.relocator.specs.SiteWords
-pub mod Placing
 pub mod Moved
 pub mod LiveUnits
-pub mod Placement
-pub mod Result
 pub mod ResultLaws
-pub mod PlacedForms

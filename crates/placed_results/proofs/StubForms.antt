@@ -1,0 +1,211 @@
+-- The forms of first units in stubs: as many words as at home, or a row.
+use Rattle.std.proofs.Common.{◌≡◌, ◌∙◌, ◌⊎◌, inl, inr, ℕ, ◌+◌, ◌*◌, ◌<◌, true, false, List, [], ◌∷◌, length, slice_index, Option, Some, None, refl, ap, subst, arith}
+use Rattle.std.specs.Prelude.{Contains}
+use Rattle.word_bits.specs.Words.{plus}
+use Rattle.rv_decode.specs.Table.{Means, MeansNothing}
+use Rattle.rv_decode.specs.declared.instructions.Instr.{Instr}
+use Rattle.rv_decode.specs.declared.instructions.Instr.TheVariants as instr
+use Rattle.rv_decode.proofs.Meaning.{same_instruction, in_range}
+use Rattle.elf_reader.specs.File.{PlainView, view_in}
+use Rattle.board_config.specs.declared.board.Board.{Board}
+use Rattle.flat_machine.specs.State.{State}
+use Rattle.loaded_file.specs.Code.{image_word}
+use Rattle.object_graph.specs.declared.parts.Graph.{Graph}
+use Rattle.code_leaders.specs.Leaders.{is_call_pair, is_leader}
+use Rattle.code_blocks.specs.declared.parts.Unit.{Unit}
+use Rattle.code_blocks.specs.declared.parts.Code.{Code}
+use Rattle.block_splitter.specs.declared.unit_kind.UnitKind.{UnitKind}
+use Rattle.block_splitter.specs.declared.unit_kind.UnitKind.TheVariants.{Plain, Upper, Branch, Jump, Call, Tail, Indirect, Linking, Halt}
+use Rattle.block_splitter.specs.Forms.{is_site}
+use Rattle.block_splitter.specs.Copies.{word_of_unit, IsDisplaced}
+use Rattle.copied_code.specs.Kinds.{next_after, takes, RowRuns}
+use Rattle.copied_code.specs.Displaced.{displaced_fetched, DisplacedRuns}
+use Rattle.copied_code.specs.Home.{IsHomeUnlessHalt}
+use Rattle.copied_code.specs.Laws.{unit_at}
+use Rattle.copied_code.proofs.FirstUnits.{Halts}
+use Rattle.copied_code.proofs.KindFacts.{IsKindBy}
+use Rattle.object_machine.specs.Program.{Program, Target, falls_from}
+use Rattle.object_machine.specs.Step.{Reads}
+use Rattle.overlay_stubs.specs.Serving.{ServingStub}
+use Rattle.overlay_stubs.specs.Overlay.{OverlayPlan}
+use Rattle.overlay_stubs.specs.Served as served
+use Rattle.simulation.specs.Setups.{Setup}
+use Rattle.simulation.specs.Units.{StandsAt}
+use Rattle.simulation.specs.Forms.{IsAt, ActsFor, ActsAs, OneWordFor, IsFollowed}
+use Rattle.result_setups.specs.LiveUnits.{code_unit, StandsThere, live_at}
+use Rattle.result_setups.specs.HomeLaws.{unnamed_in}
+use Rattle.held_addresses.specs.Entries.{RunsIn}
+use Rattle.result_placements.specs.ChosenPlacement.{ChosenPlacement}
+use Rattle.result_placements.specs.PlacedView.{IsUncopied, Serves}
+use Rattle.placed_results.specs.Laws.{IsPlacedResult, setup_of}
+use Rattle.placed_results.specs.PlacedForms.{ArrivesHome, ArrivesAt, AtItsHome, BehindStub}
+use Rattle.placed_results.proofs.Blocks.{unit_low}
+use Rattle.placed_results.specs.Walks as walks
+use Rattle.placed_results.proofs.Fetches.{FormOver}
+use Rattle.placed_results.proofs.HomeForms as homes
+use Rattle.placed_results.proofs.StubRows as rows
+use Rattle.placed_results.proofs.StubWords as stubs
+use Rattle.placed_results.proofs.UnitForms as parts
+
+module _ (file out : List ℕ) (board : Board) (g : Graph) (c : Code) (pl : ChosenPlacement) (result : IsPlacedResult file out board g c pl) where
+  abbrev v : PlainView
+  v = view_in file
+
+  abbrev p : Program
+  p = unnamed_in file board g
+
+  abbrev l : Setup
+  l = setup_of file out board g pl
+
+  abbrev live : ℕ → ℕ → Type 0
+  live = live_at c
+
+  abbrev plan : OverlayPlan
+  plan = result.view.plan
+
+  module _ (r u b : ℕ) (stub : ServingStub) (stands : StandsThere c u b 0) (listed : Contains plan.stubs stub) (serves : Serves c g pl (served.body_at plan stub) b stub) (uncopied : IsUncopied pl b) (runs : RunsIn pl.regions b r) where
+    abbrev a : ℕ
+    a = served.body_at plan stub
+
+    abbrev arrive : ℕ → ℕ → Type 0
+    arrive x d = ArrivesAt c g pl plan r x d
+
+    abbrev unit : Unit
+    unit = unit_at c b 0
+
+    abbrev words : List ℕ
+    words = stubs.words file out board g c pl result u b stub stands listed serves uncopied
+
+    -- the words of it that run: a jump home stands behind one that doesn't jump
+    abbrev pub own_fetched : UnitKind → State → List ℕ
+    own_fetched kind t = walks.own_fetched a (takes kind t.hart.regs) kind
+
+    abbrev pub Form : UnitKind → Type 0
+    Form kind = FormOver p l live arrive r u a (own_fetched kind)
+
+    low : u + 4 < 4294967296
+    low = unit_low file out board g c pl result u b 0 stands
+
+    block_comes : (x : ℕ) → is_leader v x ≡ true → arrive x x
+    block_comes x leads = homes.block_comes file out board g c pl result r x leads
+
+    home_falls : (i : Instr) → is_call_pair v u ≡ false → Means (image_word v u) i → IsFollowed i → falls_from v u ≡ true → ArrivesHome c g pl plan r (u + 4)
+    home_falls i single means follows falls =
+        homes.next_home file out board g c pl result r u b 0 stands runs i single means follows falls
+
+    -- ---- in words
+
+    first_stands : (x : ℕ) (more : List ℕ) → words ≡ x ∷ more → StandsAt l r a x
+    first_stands x more first =
+        let count = ap (λ (xs : List ℕ). length xs) first in
+        let here : a + 4 * 0 ≡ a = omega arith in
+        subst (λ (q : ℕ). StandsAt l r q x) here
+        (subst (λ (q : ℕ). StandsAt l r (a + 4 * 0) q) (ap (λ (xs : List ℕ). slice_index xs 0) first)
+        (stubs.stub_word file out board g c pl result u b stub stands listed serves uncopied r 0 (omega (arith, count))))
+
+    -- ---- in words, by kind
+
+    abbrev FormBy : UnitKind → Type 0
+    FormBy kind =
+        IsKindBy v c (is_site g) u (Prim.Unit {0}) (Halts v u) kind → IsHomeUnlessHalt v (is_site g) u kind
+        → ((t : State) → IsAt l r a t → DisplacedRuns pl.sites t a unit kind words) → IsDisplaced pl.sites a unit kind words → Form kind
+
+    at_unit : unit.at ≡ u
+    at_unit = stubs.at_unit file out board g c pl result u b stub stands listed serves uncopied
+
+    raw_unit : unit.raw ≡ image_word v u
+    raw_unit = stubs.raw_unit file out board g c pl result u b stub stands listed serves uncopied
+
+    -- an instruction that is no site's
+    by_site : (i j : Instr) → ((o : Option Target) → ActsAs p l arrive r u a o i j) → Means (image_word v u) i → (x : ℕ) → StandsAt l r a x → Means x j → OneWordFor p l arrive r u a (Some i)
+    by_site i j acts means x there means_j = (x, (j, (there, (means_j, (in_range (image_word v u) i means, acts (p.site u))))))
+
+    indirect_form : FormBy Indirect
+    indirect_form (base, (imm, (single, means))) is runs_there displaced =
+        let i : Instr = instr.Jalr 0 base imm in
+        let x : ℕ = image_word v u in
+        let one : words ≡ x ∷ [] = displaced ∙ ap (λ (q : ℕ). q ∷ []) raw_unit in
+        let acts : ActsFor p arrive u a i i = (refl, (inl refl, λ x reached. homes.reached_comes file out board g c pl result r x reached)) in
+        parts.one_word file board g result.accepted l live arrive r u a low (own_fetched Indirect) i single (λ t. refl) means
+        (by_site i i (jumps i acts) means x (first_stands x [] one) means) (λ follows. absurd follows)
+      where
+        jumps : (i : Instr) → ActsFor p arrive u a (instr.Jalr 0 base imm) i → (o : Option Target) → ActsAs p l arrive r u a o (instr.Jalr 0 base imm) i
+        jumps i acts None = acts
+        jumps i acts (Some t) = acts
+
+    halt_form : FormBy Halt
+    halt_form (single, halts) is runs_there displaced =
+        let x : ℕ = image_word v u in
+        let there : StandsAt l r a x = first_stands x [] (displaced ∙ ap (λ (q : ℕ). q ∷ []) raw_unit) in
+        parts.by_words file board g result.accepted l live arrive r u a low (own_fetched Halt) single (λ t. refl) (by_read there halts)
+        (λ i reads follows on.
+        elim halts [
+          | inl nothing ↦ absurd (nothing i reads)
+          | inr ebreak ↦ absurd (subst IsFollowed (same_instruction x i instr.Ebreak reads ebreak) follows)
+        ])
+      where
+        ends : (o : Option Target) → ActsAs p l arrive r u a o instr.Ebreak instr.Ebreak
+        ends None = refl
+        ends (Some t) = refl
+
+        by_read : StandsAt l r a (image_word v u) → MeansNothing (image_word v u) ⊎ Means (image_word v u) instr.Ebreak → (read : Option Instr) → Reads (image_word v u) read → OneWordFor p l arrive r u a read
+        by_read there halts None none = (image_word v u, (there, none))
+        by_read there (inl nothing) (Some i) reads = absurd (nothing i reads)
+        by_read there (inr ebreak) (Some i) reads =
+            subst (λ (q : Instr). OneWordFor p l arrive r u a (Some q)) (same_instruction (image_word v u) instr.Ebreak i ebreak reads)
+            (by_site instr.Ebreak instr.Ebreak ends ebreak (image_word v u) there ebreak)
+
+    plain_form : stubs.kind file out board g c pl result u b stub stands listed serves uncopied ≡ Plain → FormBy Plain
+    plain_form plain (i, (single, (means, (straight, falls)))) is runs_there displaced =
+        let x : ℕ = word_of_unit pl.sites unit in
+        let same : word_of_unit pl.sites (code_unit c b 0) ≡ x =
+        ap (λ (q : Unit). word_of_unit pl.sites q) (stubs.same_unit file out board g c pl result u b stub stands listed serves uncopied) in
+        let count = ap (λ (xs : List ℕ). length xs) displaced.words in
+        let whole = stubs.low file out board g c pl result u b stub stands listed serves uncopied in
+        let behind : a + 4 ≡ plus a 4 = omega (arith, whole, count) in
+        parts.one_word file board g result.accepted l live arrive r u a low (own_fetched Plain) i single (λ t. refl) means
+        (parts.plain_word file out board g c pl result arrive r u a b 0 stands runs i means straight x same (first_stands x (displaced.jump ∷ []) displaced.words))
+        (λ follows on.
+        subst (λ (q : ℕ). arrive (u + 4) q) behind
+        (BehindStub u b stub stands listed serves uncopied plain refl (home_falls i single means follows on)))
+
+    -- ---- in a row
+
+    -- the words lead where the unit leads at home
+    abbrev Leads : State → UnitKind → Type 0
+    Leads t kind =
+        RowRuns t kind (λ k. ⊥) (displaced_fetched a (takes kind t.hart.regs) kind) (next_after (u + 4) kind t.hart.regs)
+
+    told_at : (kind : UnitKind) → ((t : State) → IsAt l r a t → RowRuns t kind (λ k. ⊥) (displaced_fetched a (takes kind t.hart.regs) kind) (next_after (unit.at + 4) kind t.hart.regs)) → (t : State) → IsAt l r a t → Leads t kind
+    told_at kind there t here =
+        subst (λ (q : ℕ). RowRuns t kind (λ k. ⊥) (displaced_fetched a (takes kind t.hart.regs) kind) (next_after (q + 4) kind t.hart.regs)) at_unit (there t here)
+
+    next_comes : (i : Instr) → is_call_pair v u ≡ false → Means (image_word v u) i → IsFollowed i → falls_from v u ≡ true → arrive (u + 4) (u + 4)
+    next_comes i single means follows falls = AtItsHome (home_falls i single means follows falls)
+
+    form_by : (kind : UnitKind) → stubs.kind file out board g c pl result u b stub stands listed serves uncopied ≡ kind → FormBy kind
+    form_by Plain same is home there displaced = plain_form same is home there displaced
+    form_by (Upper rd value) same is home there displaced =
+        rows.upper_form file board g c result.accepted l live arrive r u a low block_comes next_comes rd value is home (told_at (Upper rd value) there)
+    form_by (Branch kind rs1 rs2 target) same is home there displaced =
+        rows.branch_form file board g c result.accepted l live arrive r u a low block_comes next_comes kind rs1 rs2 target is home (told_at (Branch kind rs1 rs2 target) there)
+    form_by (Jump target) same is home there displaced =
+        rows.jump_form file board g c result.accepted l live arrive r u a low block_comes next_comes target is home (told_at (Jump target) there)
+    form_by (Call target back link) same (begins_there, inl calls) home there displaced =
+        rows.call_form file board g c result.accepted l live arrive r u a low block_comes next_comes target back link calls (told_at (Call target back link) there)
+    form_by (Call target back link) same (begins_there, inr (off, (single, means))) home there displaced =
+        rows.jal_form file board g c result.accepted l live arrive r u a low block_comes next_comes target back link off single means home (told_at (Call target back link) there)
+    form_by (Tail target link) same is home there displaced =
+        rows.tail_form file board g c result.accepted l live arrive r u a low block_comes next_comes target link is home (told_at (Tail target link) there)
+    form_by Indirect same is home there displaced = indirect_form is home there displaced
+    form_by (Linking back link base imm) same is home there displaced =
+        rows.linking_form file board g c result.accepted l live arrive r u a low block_comes next_comes back link base imm is home (told_at (Linking back link base imm) there)
+    form_by Halt same is home there displaced = halt_form is home there displaced
+
+    pub stub_form : Form (stubs.kind file out board g c pl result u b stub stands listed serves uncopied)
+    stub_form =
+        form_by (stubs.kind file out board g c pl result u b stub stands listed serves uncopied) refl
+        (stubs.kind_is file out board g c pl result u b stub stands listed serves uncopied)
+        (stubs.home_is file out board g c pl result u b stub stands listed serves uncopied)
+        (λ t here. stubs.stub_runs file out board g c pl result u b stub stands listed serves uncopied r t here)
+        (stubs.has_words file out board g c pl result u b stub stands listed serves uncopied).form
