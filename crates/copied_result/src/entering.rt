@@ -71,7 +71,7 @@ fn entry_stub(source: &CopySource, copy: &PlacedCopy, block: u32) -> Stub
 }
 
 /// A register that a jump to the block at an address may write.
-fn temporary(live: &LiveTable, address: u32) -> u8
+pub(crate) fn temporary(live: &LiveTable, address: u32) -> u8
     requires { (c : Code) × IsTableOf c live.now × HasTemporary c address 0 }
     ensures { (c : Code) → IsTableOf c live.now → IsTemporary c address 0 result }
 {
@@ -82,7 +82,7 @@ fn temporary(live: &LiveTable, address: u32) -> u8
 }
 
 /// Where the copy of a block begins.
-fn copied_start(source: &CopySource, copy: &PlacedCopy, block: u32) -> u32
+pub(crate) fn copied_start(source: &CopySource, copy: &PlacedCopy, block: u32) -> u32
     requires source { IsSource source.now }
     requires copy { IsPlacedCopy source.now copy.now }
     requires inside { holds_block block copy.now.range ≡ true }
