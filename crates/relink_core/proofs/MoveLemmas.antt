@@ -3,6 +3,7 @@ use Rattle.std.proofs.Common.{◌≡◌, ◌∙◌, inl, inr, ℕ, zero, suc, �
 use Rattle.std.specs.List.{All, AllPairs, list_any}
 use Rattle.std.proofs.lemmas.Bool.{cases_eq, cases_order, cases_Bool, eqb-true, eq-eqb, ltb-true}
 use Rattle.std.proofs.lemmas.Bool.Decides.{nat_tests}
+use Rattle.std.proofs.lemmas.List.{length-map}
 use Rattle.std.proofs.lemmas.List.Folds.{list_any_at, list_any-append}
 use Rattle.std.proofs.lemmas.List.Elements.{All-nil, All-cons, All-append, All-weaker}
 use Rattle.std.proofs.lemmas.List.Quantifiers.{all_pairs_push}
@@ -16,16 +17,30 @@ use Rattle.loaded_file.specs.Ranges.{has_byte_range, has_owner, has_range, is_sy
 use Rattle.object_graph.specs.Graphs.{IsGraph}
 use Rattle.object_graph.specs.declared.parts.Graph.{Graph}
 use Rattle.cell_values.specs.Objects.{object_of}
-use Rattle.result_setups.specs.Placing.{Placing}
 use Rattle.result_setups.proofs.Lists.{element_found}
 use Rattle.cell_values.proofs.GraphObjects.{objects_differ}
 use Rattle.relocator.specs.declared.places.Places.{Places}
-use Rattle.relink_core.specs.Placed.{same_move, moves_with, AreSymbolMoves}
-use Rattle.relink_core.specs.Making.{start_place, AreOfGraph, range_value, symbol_value, move_to, moves_below}
+use Rattle.relocator.specs.declared.slots.Slot.{Slot}
+use Rattle.relocator.specs.Placing.{rows_of, ArePlaces}
+use Rattle.relink_core.specs.Written.{same_move, moves_with, AreSymbolMoves}
+use Rattle.relink_core.specs.Making.{start_place, HasStarts, AreOfGraph, range_value, symbol_value, move_to, moves_below}
 
 -- objects of a graph stand where a table has them
 abbrev pub ArePlacedAs : Graph → Places → (ℕ → ℕ) → Type 0
 ArePlacedAs g places place = (o : ℕ) → o < length g.objects.items → start_place places o ≡ place o
+
+-- it tells where, for each object of the graph
+pub has_starts : (g : Graph) (regions : ℕ) (slots : List Slot) (places : Places) → ArePlaces g regions slots places → HasStarts g places
+has_starts g regions slots places are =
+    let rows = rows_of places.of.items in
+    let count = length-map places.of.items (λ row. row.items) in
+    let objects = are.table.objects in
+    record {
+      objects = omega (arith, count, objects);
+      rows = λ o below.
+          let wide : length (get_or rows o []) ≡ regions + 1 = are.table.widths o [] (omega (arith, below, objects)) in
+          omega (arith, wide);
+    }
 
 -- ---- one symbol
 
@@ -180,36 +195,36 @@ byte_range_some v s range =
     ltb-true 0 s.size (both (nat_lt 0 s.size) (nat_lt 0 s.value) two.0).0
 
 -- a symbol has the value where one of the objects has its range and stands there
-value_same : (v : PlainView) (board : Board) (g : Graph) (places : Places) (pl : Placing) (m : SymbolMove) → IsGraph v board g → AreOfGraph g pl.taken → ArePlacedAs g places pl.place → has_value v g places pl.taken m ≡ list_any (moves_with v g pl m) pl.taken
-value_same v board g places pl m is listed are =
-    same_tests (has_value v g places pl.taken m) (list_any (moves_with v g pl m) pl.taken) forth back
+value_same : (v : PlainView) (board : Board) (g : Graph) (places : Places) (place : ℕ → ℕ) (taken : List ℕ) (m : SymbolMove) → IsGraph v board g → AreOfGraph g taken → ArePlacedAs g places place → has_value v g places taken m ≡ list_any (moves_with v g place m) taken
+value_same v board g places place taken m is listed are =
+    same_tests (has_value v g places taken m) (list_any (moves_with v g place m) taken) forth back
   where
     s : PlainSymbol
     s = symbol_at v m.symbol
 
-    forth : has_value v g places pl.taken m ≡ true → list_any (moves_with v g pl m) pl.taken ≡ true
+    forth : has_value v g places taken m ≡ true → list_any (moves_with v g place m) taken ≡ true
     forth has =
         elim (cases_Bool (has_range v s)) [
           | inr none ↦
-              absurd (cc (sym (ap (λ (b : Bool). is_value (if b then range_value g places s.value s.size pl.taken else None) m.value) none) ∙ has))
+              absurd (cc (sym (ap (λ (b : Bool). is_value (if b then range_value g places s.value s.size taken else None) m.value) none) ∙ has))
           | inl range ↦
-              let given = ap (λ (b : Bool). is_value (if b then range_value g places s.value s.size pl.taken else None) m.value) (sym range) ∙ has in
-              let (k, (below, (bytes, value))) = value_of g places s.value s.size m.value pl.taken given in
-              let o = get_or pl.taken k 0 in
+              let given = ap (λ (b : Bool). is_value (if b then range_value g places s.value s.size taken else None) m.value) (sym range) ∙ has in
+              let (k, (below, (bytes, value))) = value_of g places s.value s.size m.value taken given in
+              let o = get_or taken k 0 in
               let home = bytes_home g s.value s.size o bytes in
               let size = bytes_size g s.value s.size o bytes in
               let there = are o (listed k 0 below) in
-              let passes : moves_with v g pl m o ≡ true =
-              all_true (has_range v s) (s.value == (object_of g o).home) (s.size == (object_of g o).size) (m.value == pl.place o)
-              range (eq-eqb s.value (object_of g o).home (sym home)) (eq-eqb s.size (object_of g o).size (sym size)) (eq-eqb m.value (pl.place o) (value ∙ there)) in
-              list_any_at (moves_with v g pl m) pl.taken k 0 below passes
+              let passes : moves_with v g place m o ≡ true =
+              all_true (has_range v s) (s.value == (object_of g o).home) (s.size == (object_of g o).size) (m.value == place o)
+              range (eq-eqb s.value (object_of g o).home (sym home)) (eq-eqb s.size (object_of g o).size (sym size)) (eq-eqb m.value (place o) (value ∙ there)) in
+              list_any_at (moves_with v g place m) taken k 0 below passes
         ]
 
-    back : list_any (moves_with v g pl m) pl.taken ≡ true → has_value v g places pl.taken m ≡ true
+    back : list_any (moves_with v g place m) taken ≡ true → has_value v g places taken m ≡ true
     back any =
-        let (k, (below, passes)) = element_found (moves_with v g pl m) pl.taken 0 any in
-        let o = get_or pl.taken k 0 in
-        let whole = both (is_symbol_of v (object_of g o).home (object_of g o).size m.symbol) (m.value == pl.place o) passes in
+        let (k, (below, passes)) = element_found (moves_with v g place m) taken 0 any in
+        let o = get_or taken k 0 in
+        let whole = both (is_symbol_of v (object_of g o).home (object_of g o).size m.symbol) (m.value == place o) passes in
         let two = both (has_range v s && (s.value == (object_of g o).home)) (s.size == (object_of g o).size) whole.0 in
         let one = both (has_range v s) (s.value == (object_of g o).home) two.0 in
         let home = eqb-true s.value (object_of g o).home one.1 in
@@ -217,17 +232,17 @@ value_same v board g places pl m is listed are =
         let some : 0 < s.size = byte_range_some v s one.0 in
         let bytes : has_bytes g s.value s.size o ≡ true =
         two_true ((object_of g o).home == s.value) ((object_of g o).size == s.size) (eq-eqb (object_of g o).home s.value (sym home)) (eq-eqb (object_of g o).size s.size (sym size)) in
-        let found = value_found v board g places s.value s.size pl.taken k 0 is some below bytes in
-        let value : m.value ≡ start_place places o = eqb-true m.value (pl.place o) whole.1 ∙ sym (are o (listed k 0 below)) in
-        ap (λ (b : Bool). is_value (if b then range_value g places s.value s.size pl.taken else None) m.value) one.0
+        let found = value_found v board g places s.value s.size taken k 0 is some below bytes in
+        let value : m.value ≡ start_place places o = eqb-true m.value (place o) whole.1 ∙ sym (are o (listed k 0 below)) in
+        ap (λ (b : Bool). is_value (if b then range_value g places s.value s.size taken else None) m.value) one.0
         ∙ ap (λ (x : Option ℕ). is_value x m.value) found
         ∙ eq-eqb m.value (start_place places o) value
 
-pub moves_are : (v : PlainView) (board : Board) (g : Graph) (places : Places) (pl : Placing) → IsGraph v board g → AreOfGraph g pl.taken → ArePlacedAs g places pl.place → AreSymbolMoves v g pl (moves_below v g places pl.taken (length v.symbols))
-moves_are v board g places pl is listed are =
+pub moves_are : (v : PlainView) (board : Board) (g : Graph) (places : Places) (place : ℕ → ℕ) (taken : List ℕ) → IsGraph v board g → AreOfGraph g taken → ArePlacedAs g places place → AreSymbolMoves v g place taken (moves_below v g places taken (length v.symbols))
+moves_are v board g places place taken is listed are =
     record {
-      distinct = distinct_all v g places pl.taken (length v.symbols);
+      distinct = distinct_all v g places taken (length v.symbols);
       exact = λ m.
-          listed_moves v g places pl.taken m (length v.symbols)
-          ∙ ap (λ (b : Bool). nat_lt m.symbol (length v.symbols) && b) (value_same v board g places pl m is listed are);
+          listed_moves v g places taken m (length v.symbols)
+          ∙ ap (λ (b : Bool). nat_lt m.symbol (length v.symbols) && b) (value_same v board g places place taken m is listed are);
     }

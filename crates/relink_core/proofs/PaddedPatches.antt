@@ -23,7 +23,7 @@ use Rattle.relocator.specs.SiteWords.{is_entry, AreSiteWords}
 use Rattle.result_setups.proofs.Words.{code_even}
 use Rattle.copied_result.specs.Padding.{is_unpadded, ArePadded}
 use Rattle.relink_core.specs.Making.{patch_of}
-use Rattle.relink_core.proofs.EntryOrder.{pairs_append}
+use Rattle.relink_core.proofs.BlockOrder.{pairs_append}
 use Rattle.relink_core.proofs.PatchPlaces.{HoldsWord, HoldsNoCode, code_kept, data_kept, sections_differ, patch_stands, stands_loaded, stand_apart, stand_disjoint}
 use Rattle.relink_core.proofs.WritableLemmas.{SitesAreCode, entry_itself}
 

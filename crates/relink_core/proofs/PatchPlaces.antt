@@ -37,7 +37,7 @@ use Rattle.result_setups.proofs.HomeStart.{word_itself}
 use Rattle.result_setups.proofs.Words.{code_range}
 use Rattle.relocator.specs.SiteWords.{no_word, data_word_at}
 use Rattle.relink_core.specs.Making.{place_in, patch_of}
-use Rattle.relink_core.proofs.StubLemmas.{ranges_disjoint}
+use Rattle.relink_core.proofs.RangeLemmas.{ranges_disjoint}
 
 -- ---- words of loaded sections
 
@@ -287,3 +287,12 @@ sections_differ v a b k j code data_there same =
     let off = data_there.executable in
     let moved : is_executable (section_at v k) ≡ false = subst (λ (n : ℕ). is_executable (section_at v n) ≡ false) (sym same) off in
     absurd (cc (on, moved))
+
+-- so no word of data stands where code does
+pub data_off_code : (file : List ℕ) (board : Board) (g : Graph) (k a : ℕ) → first_fault file ≡ None → IsGraph (view_in file) board g → k < length g.data_words.items → is_code_word (view_in file) a ≡ true → (data_word_at g k).at ≡ a → ⊥
+data_off_code file board g k a none is below code same =
+    let v = view_in file in
+    let one = code_kept v a code in
+    let other = data_kept v board g k is below in
+    let here : HoldsNoCode v a other.0 = subst (λ (x : ℕ). HoldsNoCode v x other.0) same other.1 in
+    sections_differ v a a one.0 other.0 one.1 here (one_section file a one.0 other.0 none one.1.word here.word)

@@ -1,10 +1,6 @@
 -- What an analysis gives, and what a choice takes.
-use Rattle.std.proofs.Common.{◌≡◌, ◌∙◌, ℕ, ◌<◌, ◌==◌, Bool, true, false, nat_le, List, [], ◌∷◌, length, option_map, refl, sym, subst, arith}
-use Rattle.std.proofs.lemmas.Bool.{eqb-true, leb-true}
-use Rattle.std.proofs.lemmas.Bool.Decides.{nat_tests}
-use Rattle.std.specs.Prelude.{Vec}
-use Rattle.std.specs.Vec.{vec_len}
-use Rattle.std.specs.declared.alloc.Global.{Global}
+use Rattle.std.proofs.Common.{◌≡◌, ◌⊎◌, inl, inr, ℕ, ◌<◌, Bool, true, false, nat_le, List, [], ◌∷◌, length, option_map, sym, ap, subst, arith}
+use Rattle.std.proofs.lemmas.Bool.{leb-true}
 use Rattle.list_checks.proofs.FirstLemmas.{both_none, holds}
 use Rattle.elf_reader.specs.Layout.{program_header_count}
 use Rattle.elf_reader.specs.File.{PlainView, plain_view, view_in}
@@ -16,7 +12,6 @@ use Rattle.object_graph.specs.LayoutFaults.{layout_fault}
 use Rattle.object_graph.specs.Graphs.{IsGraph}
 use Rattle.object_graph.specs.declared.parts.Graph.{Graph}
 use Rattle.code_blocks.specs.Blocks.{code_fault}
-use Rattle.placement_programme.specs.declared.variables.VarName.{VarName}
 use Rattle.placement_programme.specs.Plain.{PlainProgramme, PlainChoice}
 use Rattle.result_setups.specs.HomeLaws.{IsAccepted}
 use Rattle.relocator.specs.SiteWords.{site_at, data_word_at}
@@ -25,8 +20,13 @@ use Rattle.relink_core.specs.declared.analysis.Analysis.{Analysis}
 use Rattle.relink_core.specs.declared.fault.AnalyseFault.TheVariants as analyse
 use Rattle.relink_core.specs.Faults.{headers_fault, file_fault, least_patch, patch_fault, places_fault, view_fault}
 use Rattle.relink_core.specs.Keeps.{KeepsPaired}
-use Rattle.relink_core.specs.TakenItems.{IsExtendable}
-use Rattle.relink_core.specs.Choices.{IsAnalysisOf, taken_names, KeepsMeaning}
+use Rattle.relink_core.specs.Extending.{IsExtendable}
+use Rattle.relink_core.specs.Choices.{IsAnalysisOf, KeepsFor, KeepsMeaning}
+use Rattle.relink_core.specs.Placed.{taken_of}
+use Rattle.result_setups.specs.ResultLaws.{KeepsRuns}
+use Rattle.placement_programme.specs.Programme.{side_for}
+use Rattle.relocator.specs.declared.items.Item.{Item}
+use Rattle.relocator.specs.Slots.{items_in, vars_for, items_of}
 use Rattle.relink_core.proofs.KeepsLemmas.{passes, unmoved_file_keeps, absolute_keeps_runs}
 use Rattle.relink_core.proofs.WritableLemmas.{SitesAreCode}
 
@@ -78,30 +78,20 @@ graph_of file board a is = subst (λ (v : PlainView). IsGraph v board a.graph) (
 
 -- ---- the meaning
 
-no_names : (p : PlainProgramme) (c : PlainChoice) → c.take ≡ [] → taken_names p c ≡ []
-no_names p c none = rw none refl
+pub no_items : (p : PlainProgramme) (choice : PlainChoice) → choice.take ≡ [] → items_of p choice ≡ []
+no_items p choice none = ap (items_in (vars_for (side_for p choice.on))) none
 
-pub file_keeps_meaning : (file : List ℕ) (board : Board) (a : Analysis) (p : PlainProgramme) (c : PlainChoice) (out : List ℕ) → IsAnalysisOf file board a → c.take ≡ [] → out ≡ file → KeepsMeaning (taken_names p c) file out board
-file_keeps_meaning file board a p c out is none same =
-    subst (λ (names : List VarName). KeepsMeaning names file out board) (sym (no_names p c none))
+pub file_keeps_meaning : (file : List ℕ) (board : Board) (a : Analysis) (p : PlainProgramme) (choice : PlainChoice) (out : List ℕ) → IsAnalysisOf file board a → choice.on ≡ false → choice.take ≡ [] → out ≡ file → KeepsMeaning (taken_of p choice) file out board
+file_keeps_meaning file board a p choice out is off none same =
+    subst (λ (on : Bool). KeepsFor on (items_of p choice) file out board) (sym off)
+    (subst (λ (items : List Item). KeepsFor false items file out board) (sym (no_items p choice none))
     (let keeps : KeepsPaired file out board =
     subst (λ (x : List ℕ). KeepsPaired file x board) (sym same) (unmoved_file_keeps file board is.bytes is.lawful is.passes) in
-    (keeps, λ absolute. absolute_keeps_runs file out board absolute keeps))
+    (keeps, λ absolute. absolute_keeps_runs file out board absolute keeps)))
 
--- ---- what is taken
-
-no_items : (xs : List ℕ) → length xs ≡ 0 → xs ≡ []
-no_items [] none = refl
-no_items (x ∷ xs) none = absurd (omega (arith, none))
-
--- nothing is taken, or something is
-pub none_taken : (take : Vec ℕ Global) (b : Bool) → b ≡ (vec_len take == 0) → b ≡ true → take.items ≡ []
-none_taken take b is empty =
-    let len : vec_len take ≡ 0 = eqb-true (vec_len take) 0 (sym is ∙ empty) in
-    no_items take.items (sym take.ok.0 ∙ len)
-
-pub some_taken : (take : Vec ℕ Global) (b : Bool) → b ≡ (vec_len take == 0) → b ≡ false → 0 < length take.items
-some_taken take b is some =
-    let disjoint : (vec_len take == 0) ≡ false = sym is ∙ some in
-    let len : 0 < vec_len take = grind (arith, nat_tests, disjoint) in
-    omega (arith, len, take.ok.0)
+-- where something is taken or overlaid, every run is kept
+pub runs_keep_meaning : (on : Bool) (items : List Item) (file out : List ℕ) (board : Board) → (on ≡ true) ⊎ (0 < length items) → KeepsRuns file out board → KeepsFor on items file out board
+runs_keep_meaning true items file out board some keeps = keeps
+runs_keep_meaning false (i ∷ is) file out board some keeps = keeps
+runs_keep_meaning false [] file out board (inl on) keeps = absurd (cc (on))
+runs_keep_meaning false [] file out board (inr some) keeps = absurd (omega (arith, some))

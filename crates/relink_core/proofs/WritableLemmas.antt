@@ -25,7 +25,8 @@ use Rattle.result_setups.specs.HomeLaws.{IsAccepted}
 use Rattle.result_setups.proofs.Words.{code_range}
 use Rattle.relocator.specs.SiteWords.{site_at, is_entry}
 use Rattle.relink_core.specs.Faults.{headers_fault}
-use Rattle.relink_core.proofs.StubLemmas.{entry_is_code, is_laid, is_near}
+use Rattle.patch_plans.proofs.Near.{entry_is_code, is_near}
+use Rattle.relink_core.proofs.RangeLemmas.{segments_off}
 
 -- ---- the new segment
 
@@ -90,7 +91,7 @@ clear_part b m c n k off part = grind (arith, nat_tests, off, part)
 pub is_addable : (file : List ℕ) (board : Board) (g : Graph) (s : NewSegment) → IsAccepted file board g → headers_fault (program_header_count file) ≡ None → s.base ≡ board.patch.base → 0 < length s.content → length s.content ≤ board.patch.size → IsAddable (view_in file) s
 is_addable file board g s accepted headers base some inside =
     let v = view_in file in
-    let laid = is_laid v board accepted.layout in
+    let laid = segments_off v board accepted.layout in
     let ends = (is_near file board g accepted).ends in
     let few = few_headers file accepted.none in
     let full = not_full (program_header_count file) headers in
@@ -98,7 +99,7 @@ is_addable file board g s accepted headers base some inside =
       some = some;
       clear = λ k d below.
           let at = get_or_default v.segments k d no_segment below in
-          let none = none_at (patch_overlap_fault v board) (length v.segments) k below laid.patch in
+          let none = none_at (patch_overlap_fault v board) (length v.segments) k below laid in
           let off = not_true (segment_overlaps (segment_at v k) board.patch) (holds _ _ none) in
           let clear : IsClearOf s (segment_at v k) =
           subst (λ (b : ℕ). ranges_overlap (segment_at v k).vaddr (segment_at v k).memsz b (length s.content) ≡ false) (sym base)

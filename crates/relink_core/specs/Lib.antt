@@ -4,8 +4,14 @@ pub mod Regions
 pub mod Findings
 pub mod Choices
 pub mod Making
-pub mod Static
+pub mod Written
 pub mod Placed
-pub mod Segments
+pub mod Walks
 pub mod Standing
-pub mod TakenItems
+pub mod Sides
+pub mod Chosen
+pub mod ResultParts
+pub mod Names
+pub mod Extending
+pub mod UnitSets
+pub mod UnitMaps

@@ -2,17 +2,24 @@
 #![tactic(auto)]
 
 mod analysis;
+mod choosing;
+mod chosen_results;
 mod fault;
-mod item_results;
+mod form_sources;
 mod laws;
-mod naming;
-mod patch_code;
 mod patching;
 mod realising;
+mod segments;
+mod site_regions;
 mod standing;
 mod symbol_moves;
+mod unit_forms;
+mod unit_maps;
+mod writing;
 
 pub use analysis::{Analysis, analyse, points_of};
 pub use fault::AnalyseFault;
 pub use laws::{absolute_keeps_runs, unmoved_file_keeps};
 pub use realising::{Realised, realise};
+pub use unit_forms::UnitAt;
+pub use unit_maps::unit_map;

@@ -1,0 +1,295 @@
+-- The forms that are collected are those of a result.
+use Rattle.std.proofs.Common.{◌≡◌, ◌∙◌, inl, inr, ℕ, ◌+◌, ◌<◌, ◌==◌, Bool, true, false, if◌then◌else◌, List, [], map, length, get_or, slice_index_or, refl, sym, ap, subst, arith}
+use Rattle.std.specs.Prelude.{◌↔◌, Contains}
+use Rattle.std.specs.List.{All, AllPairs, list_any}
+use Rattle.std.proofs.Math.ListN.{get_or-eq_default}
+use Rattle.std.proofs.lemmas.Bool.{cases_lt}
+use Rattle.std.proofs.lemmas.Bool.Decides.{nat_tests}
+use Rattle.std.specs.List.Sorted.{IsStrictlyIncreasing}
+use Rattle.std.proofs.lemmas.List.{get_or-map, length-map}
+use Rattle.list_checks.specs.Sorted.{IsSorted}
+use Rattle.list_checks.proofs.SortedLemmas.{sorted_once}
+use Rattle.list_checks.proofs.StepLemmas.{any_place}
+use Rattle.elf_reader.specs.File.{view_in}
+use Rattle.board_config.specs.declared.board.Board.{Board}
+use Rattle.object_graph.specs.declared.parts.Graph.{Graph}
+use Rattle.code_blocks.specs.Leads.{units_at}
+use Rattle.code_blocks.specs.declared.parts.Code.{Code}
+use Rattle.code_blocks.specs.declared.parts.Block.{Block}
+use Rattle.code_blocks.specs.declared.parts.Unit.{Unit}
+use Rattle.points_to.specs.Overlaid.{region_in, is_border}
+use Rattle.region_former.specs.declared.table.RegionTable.{RegionTable}
+use Rattle.block_splitter.specs.Forms.{holds_block}
+use Rattle.block_splitter.specs.Pieces.{is_entry}
+use Rattle.placement_programme.specs.Plain.{PlainProgramme, PlainChoice}
+use Rattle.overlay_stubs.specs.Serving.{ServingStub, serving_home, test_bytes}
+use Rattle.overlay_stubs.specs.Overlay.{OverlayPlan, serving_place}
+use Rattle.overlay_stubs.specs.Plans.{serving_stub, overlay_plan}
+use Rattle.overlay_stubs.specs.Served.{IsServedInside}
+use Rattle.overlay_stubs.specs.declared.plan.Stub.{Stub}
+use Rattle.overlay_stubs.proofs.WholePlaces.{served_inside}
+use Rattle.result_setups.specs.HomeLaws.{unnamed_in}
+use Rattle.result_setups.specs.LiveUnits.{UnitsStand}
+use Rattle.result_setups.proofs.CodeUnits.{code_units_stand}
+use Rattle.result_placements.specs.ChosenPlacement.{ChosenPlacement, no_piece}
+use Rattle.result_placements.specs.PlacedView.{enters_piece, is_served, IsUncopied, ServesSome}
+use Rattle.copied_result.specs.Copies.{IsSource, IsPlacedCopy}
+use Rattle.copied_result.specs.Padding.{home_of}
+use Rattle.copied_result.specs.declared.copy_source.CopySource.{CopySource}
+use Rattle.copied_result.specs.declared.placed_copy.PlacedCopy.{PlacedCopy}
+use Rattle.list_checks.proofs.TestLemmas.{both, either}
+use Rattle.relink_core.specs.Chosen.{names_of}
+use Rattle.relink_core.specs.Placed.{taken_of}
+use Rattle.relink_core.specs.ResultParts.{ArePartsOf, ArePlanned}
+use Rattle.relink_core.specs.Written.{IsPatchSegment}
+use Rattle.relink_core.specs.UnitMaps.{regions_named, piece_region, IsAtHome, StandsBefore, AreUnitsAt, MapsUnits}
+use Rattle.relink_core.specs.UnitSets.{Gains, Upto, HomeForms, CopyForms, StubForms, runs, CollectedFrom, CollectedForms, CanCollect}
+use Rattle.relink_core.specs.declared.chosen_results.PlannedResult.{PlannedResult}
+use Rattle.relink_core.specs.declared.chosen_results.ResultParts.{ResultParts}
+use Rattle.relink_core.specs.declared.form_sources.FormSources.{FormSources}
+use Rattle.relink_core.specs.declared.segments.PatchSegment.{PatchSegment}
+use Rattle.relink_core.specs.declared.unit_forms.UnitAt.{UnitAt}
+use Rattle.relink_core.proofs.PlacedGoals.{same_homes}
+use Rattle.relink_core.proofs.SourceFacts.{source_is, borders_entered}
+use Rattle.relink_core.proofs.UnitsStanding.{runs_uncopied, forms_forth, forms_back}
+
+none_there : (empty : List UnitAt) (x : UnitAt) → empty ≡ [] → Contains empty x → ⊥
+none_there empty x is has =
+    let (k, below, at) = subst (λ (xs : List UnitAt). Contains xs x) is has in
+    omega (arith, below)
+
+-- ---- at home
+
+block_there : (c : Code) (b k : ℕ) → k < length (units_at c b) → b < length c.blocks.items
+block_there c b k inside =
+    elim (cases_lt b (length c.blocks.items)) [
+      | inl below ↦ below
+      | inr behind ↦
+          let count = length-map c.blocks.items (λ (d : Block). d.units.items) in
+          let none : units_at c b ≡ [] = get_or-eq_default (map (λ (d : Block). d.units.items) c.blocks.items) [] (omega (arith, behind, count)) in
+          let few = ap (λ (us : List Unit). length us) none in
+          omega (arith, inside, few)
+    ]
+
+home_forms : (c : Code) (x : UnitAt) → Upto (length c.blocks.items) (HomeForms c []) x ↔ IsAtHome c x
+home_forms c x = (
+  λ up.
+      let form = up.is.is in
+      let at = ap (λ (y : UnitAt). y.at) form.1 in
+      let home = ap (λ (y : UnitAt). y.home) form.1 in
+      record {
+        block = up.place;
+        unit = up.is.place;
+        there = record { is = up.is.below; at = sym home };
+        at = at ∙ sym home;
+        region = ap (λ (y : UnitAt). y.region) form.1;
+      },
+  λ is.
+      let there = is.there in
+      record {
+        place = is.block;
+        below = block_there c is.block is.unit there.is;
+        is =
+            record {
+              place = is.unit;
+              below = there.is;
+              is = (refl, λ i. record { at = (is.at ∙ sym there.at) i; region = is.region i; home = sym there.at i });
+            };
+      },
+)
+
+pub home_map : (c : Code) (empty collected units : List UnitAt) → empty ≡ [] → Gains (Upto (length c.blocks.items) (HomeForms c [])) empty collected → ((x : UnitAt) → Contains units x ↔ Contains collected x) → AllPairs StandsBefore units → AreUnitsAt (IsAtHome c) units
+home_map c empty collected units none gains same ordered =
+    record {
+      each = λ x. (
+        λ has. elim ((gains.each x).0 ((same x).0 has)) [ inl old ↦ absurd (none_there empty x none old) | inr new ↦ (home_forms c x).0 new ],
+        λ is. (same x).1 ((gains.each x).1 (inr ((home_forms c x).1 is))),
+      );
+      ordered = ordered;
+    }
+
+-- ---- all forms
+
+pub collected_units : (w : FormSources) (empty a b collected units : List UnitAt) → empty ≡ [] → Gains (Upto (length w.source.now.code.now.blocks.items) (HomeForms w.source.now.code.now w.homes.now)) empty a → Gains (Upto (length w.copies.now) (CopyForms w.source.now w.copies.now w.regions.now)) a b → Gains (Upto (length w.stubs.now) (StubForms (map serving_stub w.stubs.now) w.stub_at.now)) b collected
+    → ((x : UnitAt) → Contains units x ↔ Contains collected x) → AllPairs StandsBefore units → AreUnitsAt (CollectedForms w) units
+collected_units w empty a b collected units none first second third same ordered =
+    let last : Gains (Upto (length (map serving_stub w.stubs.now)) (StubForms (map serving_stub w.stubs.now) w.stub_at.now)) b collected =
+    subst (λ (n : ℕ). Gains (Upto n (StubForms (map serving_stub w.stubs.now) w.stub_at.now)) b collected) (sym (length-map w.stubs.now serving_stub)) third in
+    record {
+      each = λ x. (
+        λ has. elim ((last.each x).0 ((same x).0 has)) [
+          | inl before ↦ elim ((second.each x).0 before) [
+            | inl home ↦ elim ((first.each x).0 home) [ inl old ↦ absurd (none_there empty x none old) | inr new ↦ inl new ]
+            | inr copied ↦ inr (inl copied)
+          ]
+          | inr stub ↦ inr (inr stub)
+        ],
+        λ is. (same x).1 (elim is [
+          | inl home ↦ (last.each x).1 (inl ((second.each x).1 (inl ((first.each x).1 (inr home)))))
+          | inr other ↦ elim other [
+            | inl copied ↦ (last.each x).1 (inl ((second.each x).1 (inr copied)))
+            | inr stub ↦ (last.each x).1 (inr stub)
+          ]
+        ]),
+      );
+      ordered = ordered;
+    }
+
+-- ---- those of a plan
+
+border_region : (borders : List Bool) (b own region : ℕ) → region ≡ (if is_border borders b then own else 0) → is_border borders b ≡ true → region ≡ own
+border_region borders b own region is border = is ∙ ap (λ (t : Bool). if t then own else 0) border
+
+test_size : (r : ℕ) → 0 < r → test_bytes r ≡ 88
+test_size r some =
+    let other : (r == 0) ≡ false = grind (arith, nat_tests, some) in
+    ap (λ (t : Bool). if t then 0 else 88) other
+
+module _ (file : List ℕ) (t : RegionTable) (p : PlainProgramme) (choice : PlainChoice) (parts : ResultParts) (r : PlannedResult) (is : ArePartsOf file t p choice parts) (are : ArePlanned file t p choice parts r) where
+  abbrev board : Board
+  board = parts.board.now
+
+  abbrev s : CopySource
+  s = parts.source.now
+
+  abbrev g : Graph
+  g = s.graph.now
+
+  abbrev c : Code
+  c = s.code.now
+
+  abbrev pl : ChosenPlacement
+  pl = are.plan.of.pl
+
+  abbrev plan : OverlayPlan
+  plan = overlay_plan r.plan
+
+  stand : UnitsStand (view_in file) (unnamed_in file board g) c
+  stand = code_units_stand file board g c is.extendable.accepted is.code
+
+  regions_are : (regions : List ℕ) → regions ≡ regions_named parts.taken.now.names.items → (n : ℕ) → slice_index_or regions n 0 ≡ piece_region board pl n
+  regions_are regions same n =
+      ap (λ (rs : List ℕ). slice_index_or rs n 0) (same ∙ ap regions_named (is.named.names ∙ (λ i. names_of board (sym are.plan.of.programme i) (sym are.plan.of.choice_is i))))
+
+  -- ---- stubs that run words
+
+  runs_border : (b : ℕ) → is_served c pl b ≡ true → IsUncopied pl b → is_border pl.borders b ≡ true
+  runs_border b served none =
+      elim (either (is_border pl.borders b) (list_any (enters_piece c b) pl.pieces) served) [
+        | inl border ↦ border
+        | inr enters ↦
+            let (n, (below, passes)) = any_place (enters_piece c b) pl.pieces no_piece enters in
+            let holds = (both (holds_block b (get_or pl.pieces n no_piece).range) (is_entry c (get_or pl.pieces n no_piece).range b) passes).0 in
+            let out = none n below in
+            absurd (cc (holds, out))
+      ]
+
+  stub_ends : (k : ℕ) (d : ServingStub) → k < length plan.stubs → runs (get_or plan.stubs k d).body ≡ true → serving_place plan (get_or plan.stubs k d) + 88 < 4294967296
+  stub_ends k d below run =
+      let stub = get_or plan.stubs k d in
+      let some : ServesSome c g pl plan stub = are.plan.of.planned.stubs.only k d below in
+      let b = some.block in
+      let none = runs_uncopied c g pl _ b stub some.serves.body run in
+      let border = runs_border b some.served none in
+      let entered = borders_entered file board parts.view.now s parts.regions.now t p choice parts.taken.now is b some.below
+      (subst (λ (bs : List Bool). is_border bs b ≡ true) are.plan.copied.at_borders border) in
+      let own : region_in pl.regions b ≡ region_in parts.regions.now.of_block.now b = ap (λ (rs : List ℕ). region_in rs b) are.plan.copied.of_blocks in
+      let region = border_region pl.borders b (region_in pl.regions b) stub.region some.serves.region border ∙ own in
+      let positive = entered.some in
+      let tests = test_size stub.region (omega (arith, region, positive)) in
+      let aligned = are.plan.of.planned.can.start.aligned in
+      let inside : IsServedInside plan stub = served_inside plan (omega (arith, aligned)) k d below in
+      let ends = inside.ends in
+      let whole = are.plan.of.planned.can.ends in
+      omega (arith, tests, ends, whole)
+
+  -- ---- what is collected from
+
+  pub record IsMadeOf (segment : PatchSegment) (z : CopySource) (hs : List ℕ) (xs : List PlacedCopy) (rs : List ℕ) (ts : List Stub) (places : List ℕ) : Type 0 where
+    pub source : z ≡ s
+    pub homes : hs ≡ map home_of r.plan.stubs.items
+    pub copies : xs ≡ r.copies.items
+    pub regions : rs ≡ regions_named parts.taken.now.names.items
+    pub stubs : ts ≡ r.plan.stubs.items
+    pub stub_at : places ≡ segment.stub_at.items
+
+  module _ (segment : PatchSegment) (z : CopySource) (hs : List ℕ) (xs : List PlacedCopy) (rs : List ℕ) (ts : List Stub) (places : List ℕ) (patch : IsPatchSegment plan segment) (made : IsMadeOf segment z hs xs rs ts places) where
+    homes_are : hs ≡ map serving_home plan.stubs
+    homes_are = made.homes ∙ sym (same_homes r.plan.stubs.items)
+
+    stubs_are : map serving_stub ts ≡ plan.stubs
+    stubs_are = ap (λ (us : List Stub). map serving_stub us) made.stubs
+
+    places_are : places ≡ map (serving_place plan) plan.stubs
+    places_are = made.stub_at ∙ patch.stubs
+
+    stub_count : length ts ≡ length plan.stubs
+    stub_count = sym (length-map ts serving_stub) ∙ ap (λ (us : List ServingStub). length us) stubs_are
+
+    ends_are : (k : ℕ) (d : Stub) → k < length ts → runs (serving_stub (get_or ts k d)).body ≡ true → slice_index_or places k 0 + 88 < 4294967296
+    ends_are k d below run =
+        let inside : k < length plan.stubs = omega (arith, stub_count, below) in
+        let there : serving_stub (get_or ts k d) ≡ get_or plan.stubs k (serving_stub d) =
+        sym (get_or-map serving_stub ts k d (serving_stub d) below) ∙ ap (λ (us : List ServingStub). get_or us k (serving_stub d)) stubs_are in
+        let place : slice_index_or places k 0 ≡ serving_place plan (get_or plan.stubs k (serving_stub d)) =
+        ap (λ (ns : List ℕ). slice_index_or ns k 0) places_are ∙ get_or-map (serving_place plan) plan.stubs k (serving_stub d) 0 inside in
+        let ends = stub_ends k (serving_stub d) inside (ap (λ (u : ServingStub). runs u.body) (sym there) ∙ run) in
+        omega (arith, place, ends)
+
+    made_source : IsSource z
+    made_source = subst IsSource (sym made.source) (source_is file board parts.view.now s parts.regions.now t p choice parts.taken.now is)
+
+    made_copies : All (IsPlacedCopy z) xs
+    made_copies =
+        subst (λ (y : CopySource). All (IsPlacedCopy y) xs) (sym made.source)
+        (subst (λ (ys : List PlacedCopy). All (IsPlacedCopy s) ys) (sym made.copies) are.copies.each)
+
+    made_sorted : IsSorted hs
+    made_sorted = sorted_once hs (subst IsStrictlyIncreasing (sym homes_are) are.plan.of.ascending)
+
+    made_many : length places ≡ length ts
+    made_many = ap (λ (ns : List ℕ). length ns) places_are ∙ length-map plan.stubs (serving_place plan) ∙ sym stub_count
+
+    collected_same : (units : List UnitAt) → AreUnitsAt (CollectedFrom z hs xs rs (map serving_stub ts) places) units → AreUnitsAt (CollectedFrom s (map serving_home plan.stubs) r.copies.items rs plan.stubs places) units
+    collected_same units given =
+        subst (λ (y : CopySource). AreUnitsAt (CollectedFrom y (map serving_home plan.stubs) r.copies.items rs plan.stubs places) units) made.source
+        (subst (λ (ns : List ℕ). AreUnitsAt (CollectedFrom z ns r.copies.items rs plan.stubs places) units) homes_are
+        (subst (λ (ys : List PlacedCopy). AreUnitsAt (CollectedFrom z hs ys rs plan.stubs places) units) made.copies
+        (subst (λ (us : List ServingStub). AreUnitsAt (CollectedFrom z hs xs rs us places) units) stubs_are given)))
+
+    pub units_mapped : (units : List UnitAt) → AreUnitsAt (CollectedFrom z hs xs rs (map serving_stub ts) places) units → MapsUnits file board g c t (taken_of p choice) units
+    units_mapped units given =
+        let all = collected_same units given in
+        let own = regions_are rs made.regions in
+        record {
+          pl = pl;
+          placed = are.plan.of.placed;
+          placement = are.plan.of.placement;
+          plan = plan;
+          planned = are.plan.of.planned;
+          ascending = are.plan.of.ascending;
+          units_at =
+              record {
+                each = λ x. (
+                  λ has. forms_forth (view_in file) (unnamed_in file board g) board s parts.regions.now r.copies.items pl plan stand are.plan.copied are.plan.of.planned.stubs x places places_are rs own ((all.each x).0 has),
+                  λ form. (all.each x).1 (forms_back (view_in file) (unnamed_in file board g) board s parts.regions.now r.copies.items pl plan stand are.plan.copied are.plan.of.planned.stubs x places places_are rs own form),
+                );
+                ordered = all.ordered;
+              };
+        }
+
+  pub can_collect : (segment : PatchSegment) (w : FormSources) → IsPatchSegment plan segment → IsMadeOf segment w.source.now w.homes.now w.copies.now w.regions.now w.stubs.now w.stub_at.now → CanCollect w
+  can_collect segment w patch made =
+      let z = w.source.now in
+      let hs = w.homes.now in
+      let xs = w.copies.now in
+      let rs = w.regions.now in
+      let ts = w.stubs.now in
+      let places = w.stub_at.now in
+      record {
+        source = made_source segment z hs xs rs ts places patch made;
+        copies = made_copies segment z hs xs rs ts places patch made;
+        sorted = made_sorted segment z hs xs rs ts places patch made;
+        many = made_many segment z hs xs rs ts places patch made;
+        ends = ends_are segment z hs xs rs ts places patch made;
+      }
