@@ -6,10 +6,9 @@ ghost use Rattle.relink_core.specs.Choices.{IsAnalysisOf};
 use crate::profile_table::print_fault;
 use anyhow::Result;
 use board_config::Board;
-use overlay_programme::both_sides_of_run;
 use placement_programme::{Choice, Programme, Side, Var, VarName, gain_of};
 use relink_core::Analysis;
-use relinking::find_choice;
+use relinking::{find_choice, programme_of_run};
 use text_lines::{
     end_line, print_line, print_number, print_numbers, print_text, print_value, print_value_line,
 };
@@ -24,10 +23,10 @@ pub(crate) fn print_programme(
     requires lawful { IsLawful board.now }
     requires analysed { (file : List ℕ) × IsAnalysisOf file board.now analysis.now }
 {
-    match both_sides_of_run(rt.alloc(), analysis, board, input) {
-        Ok(programme) => {
-            print_sides(rt, &programme)?;
-            print_best(rt, &programme, board.nodes)?;
+    match programme_of_run(rt.alloc(), analysis, board, input) {
+        Ok(measured) => {
+            print_sides(rt, &measured.programme)?;
+            print_best(rt, &measured.programme, board.nodes)?;
             Ok(())
         }
         Err(fault) => print_fault(rt, &fault),
@@ -44,10 +43,10 @@ pub(crate) fn print_choice(
     requires lawful { IsLawful board.now }
     requires analysed { (file : List ℕ) × IsAnalysisOf file board.now analysis.now }
 {
-    match both_sides_of_run(rt.alloc(), analysis, board, input) {
-        Ok(programme) => {
-            let choice = print_best(rt, &programme, board.nodes)?;
-            print_taken(rt, &programme, &choice)
+    match programme_of_run(rt.alloc(), analysis, board, input) {
+        Ok(measured) => {
+            let choice = print_best(rt, &measured.programme, board.nodes)?;
+            print_taken(rt, &measured.programme, &choice)
         }
         Err(fault) => print_fault(rt, &fault),
     }

@@ -1,4 +1,3 @@
 pub mod Hexadecimal
 pub mod Lines
 pub mod ShowingLines
-pub mod MovedPlaces

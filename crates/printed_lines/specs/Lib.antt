@@ -1,5 +1,5 @@
 pub mod Endings
 pub mod ProfileLines
 pub mod ShowLines
-pub mod MovedLines
+pub mod TakenLines
 pub mod ReportText

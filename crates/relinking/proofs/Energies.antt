@@ -18,7 +18,6 @@ use Rattle.object_machine.specs.Start.{start_of}
 use Rattle.region_former.specs.declared.table.RegionTable.{RegionTable}
 use Rattle.std.proofs.lemmas.Int.{ints}
 use Rattle.placement_programme.specs.Programme.{IsFeasible, gain}
-use Rattle.placement_candidates.specs.Adding.{taken_by}
 use Rattle.placement_programme.specs.Plain.{PlainProgramme, PlainChoice}
 use Rattle.profile_runner.specs.Transition.{Transition}
 use Rattle.profile_runner.specs.Running.{Profiles}
@@ -26,9 +25,11 @@ use Rattle.profile_runner.specs.declared.counts.Profile.{Profile}
 use Rattle.rv_decode.proofs.Meaning.{same_instruction}
 use Rattle.energy_model.specs.Energy.{Scene, energy}
 use Rattle.placement_candidates.specs.Stated.{AreSomePieces}
-use Rattle.placement_candidates.specs.Selected.{stated}
 use Rattle.energy_model.specs.Scenes.{scene_of, layout_of, AreOfSameFile}
-use Rattle.placement_candidates.proofs.ChoiceLemmas.{is_of_the_run}
+use Rattle.overlay_candidates.specs.Overlaid.{AreOverlaidObjects, overlay_layout}
+use Rattle.overlay_candidates.specs.Whole.{whole_stated, taken_of}
+use Rattle.overlay_candidates.proofs.WholeChoices.{whole_of_the_run}
+use Rattle.placement_programme.specs.Rows.{Layout}
 use Rattle.relink_core.specs.Faults.{least_patch}
 use Rattle.relinking.specs.ProgrammeOfRun.{EnergiesAreOf}
 
@@ -64,13 +65,14 @@ of_one_file view board g c t input q last read lawful is_graph is_code no_fault 
     }
 
 -- the energies of what the run states are those of the run
-pub energies_of : (view : ElfView) (board : Board) (g : Graph) (c : Code) (t : RegionTable) (pieces : List Piece) (q : Profile) (transitions : List Transition) (p : PlainProgramme)
-    → AreOfSameFile view board g c t q transitions → AreSomePieces c g pieces → p ≡ stated (scene_of g c t board) (layout_of g c t board) pieces transitions
+pub energies_of : (view : ElfView) (board : Board) (g : Graph) (c : Code) (t : RegionTable) (pieces : List Piece) (objects : List ℕ) (q : Profile) (transitions : List Transition) (p : PlainProgramme)
+    → AreOfSameFile view board g c t q transitions → AreSomePieces c g pieces → AreOverlaidObjects c g t objects
+    → p ≡ whole_stated (scene_of g c t board) (overlay_layout g c t board) objects pieces transitions
     → EnergiesAreOf (scene_of g c t board) transitions p
-energies_of view board g c t pieces q transitions p one are is =
+energies_of view board g c t pieces objects q transitions p one are overlaid is =
     let w = scene_of g c t board in
-    let of_stated : EnergiesAreOf w transitions (stated w (layout_of g c t board) pieces transitions) =
-    λ choice feasible. is_of_the_run same_instruction view board g c t q pieces transitions choice one are feasible in
+    let of_stated : EnergiesAreOf w transitions (whole_stated w (overlay_layout g c t board) objects pieces transitions) =
+    λ choice feasible. whole_of_the_run same_instruction view board g c t q objects pieces transitions choice one are overlaid feasible in
     subst (λ (r : PlainProgramme). EnergiesAreOf w transitions r) (sym is) of_stated
 
 -- ---- energies
@@ -81,4 +83,11 @@ at_most_base base saved n is = omega (arith, ints, is)
 -- a choice whose energy is that of a run saves no more than the base
 pub within_base : (w : Scene) (transitions : List Transition) (p : PlainProgramme) → EnergiesAreOf w transitions p
     → (c : PlainChoice) → IsFeasible p c → gain p c ≤ℤ pos p.base
-within_base w transitions p energies c feasible = at_most_base p.base (gain p c) (energy w (taken_by p c) transitions) (energies c feasible)
+within_base w transitions p energies c feasible = at_most_base p.base (gain p c) (energy w (taken_of p c) transitions) (energies c feasible)
+
+-- the same programme, of lists that are equal
+pub of_lists : {os os' : List ℕ} {ps ps' : List Piece} (p : PlainProgramme) (w : Scene) (l : Layout) (transitions : List Transition)
+    → os ≡ os' → ps ≡ ps' → p ≡ whole_stated w l os ps transitions → p ≡ whole_stated w l os' ps' transitions
+of_lists {os} {os'} {ps} {ps'} p w l transitions first second is =
+    subst (λ (xs : List Piece). p ≡ whole_stated w l os' xs transitions) second
+    (subst (λ (xs : List ℕ). p ≡ whole_stated w l xs ps transitions) first is)

@@ -1,8 +1,9 @@
+pub mod StatedNames
 pub mod StatedLemmas
 pub mod Analysed
 pub mod Counting
+pub mod FewObjects
 pub mod Energies
 pub mod Solutions
-pub mod ToldCopies
+pub mod ItemsTold
 pub mod Relinking
-pub mod Reported

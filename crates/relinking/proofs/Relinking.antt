@@ -1,5 +1,5 @@
 -- A file that is analysed, relinked: what its steps ask of the analysis, and what is told of it.
-use Rattle.std.proofs.Common.{◌≡◌, ◌⊎◌, inl, inr, ℕ, List, Err, sym, subst, arith}
+use Rattle.std.proofs.Common.{◌≡◌, ◌⊎◌, inl, inr, ℕ, List, length, Err, sym, subst, arith}
 use Rattle.elf_reader.specs.File.{PlainView, view_in}
 use Rattle.board_config.specs.declared.board.Board.{Board}
 use Rattle.object_graph.specs.Graphs.{IsGraph}
@@ -12,23 +12,16 @@ use Rattle.placement_programme.specs.Plain.{PlainProgramme, PlainChoice}
 use Rattle.placement_programme.specs.Programme.{IsFeasible}
 use Rattle.profile_runner.specs.declared.fault.ProfileFault.{ProfileFault}
 use Rattle.profile_runner.specs.declared.fault.ProfileFault.TheVariants as profile
-use Rattle.relocator.specs.declared.places.Places.{Places}
-use Rattle.relink_core.specs.Choices.{IsStaticChoice}
+use Rattle.result_placements.specs.Choices.{IsChoiceFor}
 use Rattle.relink_core.specs.Faults.{IsFaultless, IsFirst}
-use Rattle.relocator.specs.declared.slots.Slot.{Slot}
-use Rattle.relocator.specs.Placing.{placed, ArePlaces}
-use Rattle.relink_core.specs.Making.{AreOfGraph}
 use Rattle.relink_core.specs.declared.fault.AnalyseFault.{AnalyseFault}
 use Rattle.relink_core.specs.declared.fault.AnalyseFault.TheVariants as analyse
 use Rattle.relinking.proofs.StatedLemmas.{stated_choice}
-use Rattle.profile_runner.specs.Counts.{plain_rows}
 use Rattle.profile_runner.proofs.RunLemmas.{transitions_steps}
 use Rattle.result_setups.specs.HomeLaws.{program_in, source_start}
 use Rattle.relinking.specs.Runs.{ReportsCounts}
 use Rattle.relinking.specs.ProgrammeOfRun.{StatesProgramme}
-use Rattle.printed_lines.specs.MovedLines.{moved_lines, start_in}
 use Rattle.relinking.specs.Relink.{ReportsRelink, analyse_relink, profile_relink}
-use Rattle.printed_lines.proofs.MovedPlaces.{moved_same}
 use Rattle.relinking.proofs.Counting.{faulted}
 
 -- ---- what is told
@@ -65,18 +58,10 @@ run_tells file board v g c t input (profile.AddressFault pc why) same no_fault i
     )
 run_tells file board v g c t input profile.Memory same no_fault is_graph told = tt
 
--- a feasible choice of the programme that a run states is one of static items
+-- a feasible choice of the programme that a run states is one that can be realised
 pub states_choice : (v : PlainView) (board : Board) (g : Graph) (c : Code) (t : RegionTable) (pieces : List Piece) (input : List ℕ) (p : PlainProgramme) (choice : PlainChoice)
-    → AreSomePieces c g pieces → StatesProgramme v board g c t pieces input p → IsFeasible p choice → IsStaticChoice board g c pieces p choice
-states_choice v board g c t pieces input p choice are states feasible =
-    subst (λ (q : PlainProgramme). IsStaticChoice board g c pieces q choice) (sym states.programme_is)
-    (stated_choice board g c t pieces states.transitions are choice (subst (λ (q : PlainProgramme). IsFeasible q choice) states.programme_is feasible))
-
--- ---- the lines
-
--- those of objects, by a table of places for these slots
-pub lines_of_places : (v : PlainView) (g : Graph) (slots : List Slot) (objects : List ℕ) (places : Places) → AreOfGraph g objects → ArePlaces g 0 slots places
-    → moved_lines v g.objects.items (start_in (plain_rows places.of.items)) objects ≡ moved_lines v g.objects.items (placed g slots 0) objects
-lines_of_places v g slots objects places listed are =
-    moved_same v g.objects.items (start_in (plain_rows places.of.items)) (placed g slots 0) objects
-    (λ k d below. are.table.exact _ 0 (listed k d below) (omega arith))
+    → AreSomePieces c g pieces → length t.of_block.items ≡ length c.blocks.items → StatesProgramme v board g c t pieces input p → IsFeasible p choice → IsChoiceFor board g c t pieces p choice
+states_choice v board g c t pieces input p choice are one_each states feasible =
+    subst (λ (q : PlainProgramme). IsChoiceFor board g c t pieces q choice) (sym states.programme_is)
+    (stated_choice board g c t pieces states.overlaid states.transitions are one_each states.are_overlaid choice
+    (subst (λ (q : PlainProgramme). IsFeasible q choice) states.programme_is feasible))

@@ -3,6 +3,6 @@ pub mod MeasuredRuns
 pub mod ProgrammeOfRun
 pub mod FoundChoice
 pub mod Relink
-pub mod Copied
+pub mod TakenItems
 pub mod Report
 pub mod Statements

@@ -14,22 +14,25 @@ use Rattle.placement_programme.specs.Programme.{IsFeasible, energy as programme_
 use Rattle.profile_runner.specs.Transition.{Transition}
 use Rattle.profile_runner.specs.Transitions.{Transitions}
 use Rattle.energy_model.specs.Energy.{Scene, energy}
-use Rattle.placement_candidates.specs.Adding.{taken_by}
-use Rattle.placement_candidates.specs.Selected.{stated}
-use Rattle.energy_model.specs.Scenes.{scene_of, layout_of}
+use Rattle.energy_model.specs.Scenes.{scene_of}
+use Rattle.overlay_candidates.specs.Overlaid.{AreOverlaidObjects, overlay_layout}
+use Rattle.overlay_candidates.specs.Whole.{whole_stated, taken_of}
 use Rattle.printed_lines.specs.Endings.{IsAddressFault}
 
--- the energy of each feasible choice is that of the moves with what it takes
+-- the energy of each feasible choice of either side is that of the transitions with what it takes
 abbrev pub EnergiesAreOf : Scene → List Transition → PlainProgramme → Type 0
 EnergiesAreOf w transitions p =
-    (choice : PlainChoice) → IsFeasible p choice → programme_energy p choice ≡ pos (energy w (taken_by p choice) transitions)
+    (choice : PlainChoice) → IsFeasible p choice → programme_energy p choice ≡ pos (energy w (taken_of p choice) transitions)
 
--- The program, started on the input, takes the board's steps, or fewer where it ends. These are its moves, which meet
--- no address fault, and they state this programme for static data and for these pieces of code.
+-- The program, started on the input, takes the board's steps, or fewer where it ends. These are its transitions, which
+-- meet no address fault, and they state this programme for the objects that may move, of which these may be overlaid, and
+-- for these pieces of code.
 pub record StatesProgramme (v : PlainView) (board : Board) (g : Graph) (c : Code) (t : RegionTable) (pieces : List Piece) (input : List ℕ) (p : PlainProgramme) : Type 0 where
   pub transitions : List Transition
   pub last : SourceState
   pub run : Transitions (program_of v board g) board.steps (start_of v (program_of v board g) g input) transitions last
   pub no_address_fault : IsAddressFault last.outcome → ⊥
-  pub programme_is : p ≡ stated (scene_of g c t board) (layout_of g c t board) pieces transitions
+  pub overlaid : List ℕ
+  pub are_overlaid : AreOverlaidObjects c g t overlaid
+  pub programme_is : p ≡ whole_stated (scene_of g c t board) (overlay_layout g c t board) overlaid pieces transitions
   pub energies : EnergiesAreOf (scene_of g c t board) transitions p

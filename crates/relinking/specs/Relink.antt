@@ -12,7 +12,7 @@ use Rattle.placement_programme.specs.Plain.{PlainProgramme, PlainChoice}
 use Rattle.placement_programme.specs.Views.{plain_programme, plain_choice}
 use Rattle.profile_runner.specs.declared.fault.ProfileFault.{ProfileFault}
 use Rattle.profile_runner.specs.declared.fault.ProfileFault.TheVariants as profile
-use Rattle.relink_core.specs.Choices.{taken_names, KeepsMeaning}
+use Rattle.relink_core.specs.Choices.{KeepsMeaning}
 use Rattle.relink_core.specs.Faults.{IsFaultless, IsFirst}
 use Rattle.relink_core.specs.Findings.{Findings}
 use Rattle.relink_core.specs.Standing.{AreStanding}
@@ -28,19 +28,19 @@ use Rattle.relinking.specs.declared.making.RelinkFault.{RelinkFault}
 use Rattle.relinking.specs.declared.making.RelinkFault.TheVariants as relink
 
 -- A choice that is found of a programme, with its certificate. The result realises the choice and keeps the file's
--- meaning, on any input; where nothing is taken it is the file, and only paired runs are spoken of.
-pub record IsResult (file : List ℕ) (board : Board) (g : Graph) (c : Code) (p : PlainProgramme) (choice : PlainChoice) (says_optimal : Bool) (certificate out : List ℕ) : Type 0 where
+-- meaning, on any input; where nothing is taken without overlay it is the file, and only paired runs are spoken of.
+pub record IsResult (file : List ℕ) (board : Board) (g : Graph) (c : Code) (t : RegionTable) (p : PlainProgramme) (choice : PlainChoice) (says_optimal : Bool) (certificate out : List ℕ) : Type 0 where
   pub found : IsFound p board.nodes choice certificate says_optimal
-  pub realises : Realises file board g c (taken_of p choice) out
-  pub keeps : KeepsMeaning (taken_names p choice) file out board
+  pub realises : Realises file board g c t (taken_of p choice) out
+  pub keeps : KeepsMeaning (taken_of p choice) file out board
 
 -- the file's run on the input states the programme, by this graph, code, table of regions and these pieces, and ended so;
 -- and the result is one for it, in which what the choice takes stands at its places
 pub record RelinksBy (file : List ℕ) (board : Board) (g : Graph) (c : Code) (t : RegionTable) (pieces : List Piece) (input : List ℕ) (r : Relinked) : Type 0 where
   pub states : StatesProgramme (view_in file) board g c t pieces input (plain_programme r.programme)
-  pub result : IsResult file board g c (plain_programme r.programme) (plain_choice r.found.choice) (is_optimal r.found.status) r.certificate.items r.result.bytes.items
+  pub result : IsResult file board g c t (plain_programme r.programme) (plain_choice r.found.choice) (is_optimal r.found.status) r.certificate.items r.result.bytes.items
   pub ended : EndsSo (view_in file) board g input r.end
-  pub stands : AreStanding board g c (plain_programme r.programme) (plain_choice r.found.choice) r.result.objects.items r.result.copies.items r.result.places
+  pub stands : AreStanding board g c t (plain_programme r.programme) (plain_choice r.found.choice) r.result.names.items r.result.copies.items r.result.places
 
 -- a file that has no fault is relinked by its own graph, code, regions and pieces
 pub record Relinks (file : List ℕ) (board : Board) (input : List ℕ) (r : Relinked) : Type 0 where

@@ -1,8 +1,8 @@
 // A law of the definitions: a function that does nothing, whose contract is what is proved.
 ghost use Rattle.relinking.specs.Statements.{StatedIsRealisable};
 
-/// A feasible choice of the programme that a run states for static data and static code can be realised: its variables
-/// are those of different objects of the graph and of different pieces of the code, in their order, with their weights.
+/// A feasible choice of the programme that a run states can be realised: its variables are those of different objects of
+/// the graph and of different pieces of the code, throughout, in a region or for a pair of regions, with their weights.
 pub fn stated_is_realisable()
     ensures { StatedIsRealisable }
 {}

@@ -2,13 +2,13 @@
 //! choice that is found of it is realised, and a report tells what that saves.
 #![tactic(auto)]
 
-mod copied;
 mod finding;
 mod laws;
 mod making;
 mod measuring;
 mod reporting;
 mod stating;
+mod taking;
 
 pub use finding::{Solution, find_choice};
 pub use laws::stated_is_realisable;

@@ -6,15 +6,15 @@ ghost use Rattle.relinking.specs.Relink.{RelinksBy};
 ghost use Rattle.relinking.specs.Report.{IsRelinkReport};
 ghost use Rattle.relink_core.specs.Choices.{IsAnalysisOf};
 
-use crate::copied::copies_told;
 use crate::making::Relinked;
+use crate::taking::taken_items;
 use board_config::Board;
 use branch_bound::Status;
-use printed_lines::{choice_report, push_code_lines, push_moved_lines};
+use printed_lines::{choice_report, push_taken_lines};
 use relink_core::Analysis;
 use std::alloc::{AllocError, Global};
 
-/// The report on a file that was relinked: how its choice was found and what the run costs, and what has moved.
+/// The report on a file that was relinked: how its choice was found and what the run costs, and what is taken.
 pub fn relink_report(
     alloc: Global,
     analysis: &Analysis<'_>,
@@ -29,16 +29,8 @@ pub fn relink_report(
     let optimal = is_optimal(relinked.found.status);
     let first = choice_report(alloc, programme, choice, optimal, board.nodes)?;
     let mut report = first.into_bytes();
-    push_moved_lines(
-        alloc,
-        &mut report,
-        &analysis.view,
-        &analysis.graph,
-        &relinked.result.places.of,
-        &relinked.result.objects,
-    )?;
-    let copies = copies_told(alloc, &analysis.code, &relinked.result.copies)?;
-    push_code_lines(alloc, &mut report, &copies)?;
+    let items = taken_items(alloc, analysis, board, relinked)?;
+    push_taken_lines(alloc, &mut report, &analysis.view, &analysis.graph, &items)?;
     Ok(report)
 }
 

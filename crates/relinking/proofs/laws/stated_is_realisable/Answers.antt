@@ -2,4 +2,5 @@ use Rattle.relinking.proofs.StatedLemmas.{stated_choice}
 use Rattle.relinking.proofs.laws.stated_is_realisable.Goals as goal
 
 pub returns : goal.returns
-returns c = λ board g code t pieces moves choice are feasible. stated_choice board g code t pieces moves are choice feasible
+returns c = λ board g code t pieces overlaid moves choice are one_each may feasible.
+    stated_choice board g code t pieces overlaid moves are one_each may choice feasible

@@ -25,7 +25,7 @@ pub realise-requires-clause-choice : goal.realise-requires-clause-choice
 realise-requires-clause-choice c =
     let a = c.args.analysis.now in
     states_choice (plain_view a.view) c.args.board.now a.graph a.code a.regions a.pieces.items c.args.input.now (plain_programme c.in_ok-measured.measured.programme)
-    (plain_choice c.in_ok-solution.solution.found.choice) (some_of_all a.code a.graph a.pieces.items c.requires.1.pieces) c.in_ok-measured.ensures.ok c.in_ok-solution.ensures.feasible
+    (plain_choice c.in_ok-solution.solution.found.choice) (some_of_all a.code a.graph a.pieces.items c.requires.1.pieces) c.requires.1.regions.is_formed.one_each c.in_ok-measured.ensures.ok c.in_ok-solution.ensures.feasible
 
 pub returns-in_err-result-clause-err : goal.returns-in_err-result-clause-err
 returns-in_err-result-clause-err c =

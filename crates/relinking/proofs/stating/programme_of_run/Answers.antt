@@ -1,17 +1,22 @@
+use Rattle.std.proofs.Common.{List, sym, subst}
 use Rattle.placement_programme.specs.Views.{plain_programme}
-use Rattle.relinking.proofs.Counting.{unfaulted}
-use Rattle.std.proofs.Common.{◌≡◌, List, sym, subst}
 use Rattle.block_splitter.specs.declared.piece.Piece.{Piece}
-use Rattle.energy_model.specs.Scenes.{scene_of, layout_of}
+use Rattle.energy_model.specs.Scenes.{scene_of}
 use Rattle.placement_candidates.specs.Stated.{AreSomePieces}
-use Rattle.placement_candidates.specs.Selected.{stated}
+use Rattle.overlay_candidates.specs.Overlaid.{overlay_layout}
+use Rattle.relink_core.proofs.KeepsLemmas.{passes}
+use Rattle.relinking.proofs.Counting.{unfaulted}
 use Rattle.relinking.proofs.StatedLemmas.{some_of_all}
-use Rattle.relinking.proofs.Energies.{of_one_file, energies_of}
+use Rattle.relinking.proofs.Energies.{of_one_file, energies_of, of_lists}
 use Rattle.relinking.proofs.Analysed.{may_state}
+use Rattle.relinking.proofs.FewObjects.{few_objects}
 use Rattle.relinking.proofs.stating.programme_of_run.Goals as goal
 
-pub programme-requires-clause-run : goal.programme-requires-clause-run
-programme-requires-clause-run c =
+pub objects_of-requires : goal.objects_of-requires
+objects_of-requires c = (c.requires.0, (c.args.board.now, c.requires.1))
+
+pub whole_programme-requires-clause-run : goal.whole_programme-requires-clause-run
+whole_programme-requires-clause-run c =
     let analysis = c.args.analysis.now in
     let may = may_state c.requires.0 c.args.board.now analysis c.requires.1 in
     let (last, made) = c.in_ok-measured.ensures.ok in (
@@ -23,8 +28,14 @@ programme-requires-clause-run c =
       ),
     )
 
-pub programme-requires-clause-pieces : goal.programme-requires-clause-pieces
-programme-requires-clause-pieces c =
+pub whole_programme-requires-clause-few : goal.whole_programme-requires-clause-few
+whole_programme-requires-clause-few c =
+    let analysis = c.args.analysis.now in
+    let found = passes c.requires.0 c.args.board.now c.requires.1.passes in
+    few_objects _ c.args.board.now analysis.graph c.requires.1.graph found.layout
+
+pub whole_programme-requires-clause-pieces : goal.whole_programme-requires-clause-pieces
+whole_programme-requires-clause-pieces c =
     let a = c.args.analysis.now in
     subst (λ (ps : List Piece). AreSomePieces a.code a.graph ps) (sym c.deref.ensures.value) (some_of_all a.code a.graph a.pieces.items c.requires.1.pieces)
 
@@ -35,14 +46,17 @@ returns-in-Ok-clause-ok c =
     let (last, made) = c.in_ok-measured.ensures.ok in
     let one = of_one_file analysis.view c.args.board.now analysis.graph analysis.code analysis.regions c.args.input.now c.in_ok-measured.measured.profile last
     may.read c.requires.1.lawful may.graph may.code may.no_fault may.room may.entry c.requires.1.regions.is_formed.one_each made in
-    let is = subst (λ (ps : List Piece). plain_programme c.in-Ok.programme ≡ stated (scene_of analysis.graph analysis.code analysis.regions c.args.board.now) (layout_of analysis.graph analysis.code analysis.regions c.args.board.now) ps made.transitions)
-    c.deref.ensures.value (c.in-Ok.ensures analysis.view made.transitions one) in
+    let w = scene_of analysis.graph analysis.code analysis.regions c.args.board.now in
+    let l = overlay_layout analysis.graph analysis.code analysis.regions c.args.board.now in
+    let is = of_lists (plain_programme c.in-Ok.programme) w l made.transitions c.deref-2.ensures.value c.deref.ensures.value (c.in-Ok.ensures analysis.view made.transitions one) in
     record {
       transitions = made.transitions;
       last = last;
       run = made.run;
       no_address_fault = unfaulted last.outcome made.no_fault;
-      energies = energies_of analysis.view c.args.board.now analysis.graph analysis.code analysis.regions analysis.pieces.items c.in_ok-measured.measured.profile made.transitions (plain_programme c.in-Ok.programme) one
-          (some_of_all analysis.code analysis.graph analysis.pieces.items c.requires.1.pieces) is;
+      overlaid = c.in_ok-objects.objects.items;
+      are_overlaid = c.in_ok-objects.ensures;
       programme_is = is;
+      energies = energies_of analysis.view c.args.board.now analysis.graph analysis.code analysis.regions analysis.pieces.items c.in_ok-objects.objects.items c.in_ok-measured.measured.profile made.transitions (plain_programme c.in-Ok.programme) one
+          (some_of_all analysis.code analysis.graph analysis.pieces.items c.requires.1.pieces) c.in_ok-objects.ensures is;
     }

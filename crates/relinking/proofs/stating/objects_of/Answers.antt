@@ -1,5 +1,5 @@
 use Rattle.elf_reader.specs.File.{view_in}
-use Rattle.overlay_programme.proofs.stating.objects_of.Goals as goal
+use Rattle.relinking.proofs.stating.objects_of.Goals as goal
 
 pub points_of-requires-clause-ascending : goal.points_of-requires-clause-ascending
 points_of-requires-clause-ascending c = let (file, (board, is)) = c.requires in is.code.ascending

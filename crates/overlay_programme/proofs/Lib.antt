@@ -1,2 +1,0 @@
-pub mod FewObjects
-pub mod BothEnergies
