@@ -34,6 +34,6 @@ module _ (board : Board) (g : Graph) (c : Code) (t : RegionTable) (objects : Lis
         object = λ k below. below;
         code = parts;
         region_data = λ r some few j d below. ((some, few), numbers j d below);
-        region_code = λ r some few j d below. ((some, few), parts j d below);
+        region_code = λ r some few j d below all. ((some, few), parts j d below);
         pair_data = λ pair some few j d below. ((some, few), numbers j d below);
       })

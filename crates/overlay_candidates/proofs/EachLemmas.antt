@@ -11,13 +11,23 @@ use Rattle.energy_model.specs.Energy.{Scene}
 use Rattle.placement_candidates.specs.Stated.{part_of}
 use Rattle.overlay_candidates.specs.Overlaid.{is_of_region, static_objects, static_pieces, objects_in, pieces_in, objects_of_pair, overlaid_objects, overlaid_pieces, kept_objects, static_candidates, overlay_candidates}
 
--- what holds of each kind
+-- what holds of each kind; a piece is overlaid in a region that all its blocks have
 pub record OfEachKind (P : Candidate → Type 0) (w : Scene) (objects : List ℕ) (pieces : List Piece) : Type 0 where
   pub object : (k : ℕ) → k < length w.graph.objects.items → P (static_data (datum_of w.graph k))
   pub code : All (λ p. P (static_code (part_of w p))) pieces
   pub region_data : (r : ℕ) → 1 ≤ r → r ≤ w.region_count → All (λ o. P (overlay_data r (datum_of w.graph o))) objects
-  pub region_code : (r : ℕ) → 1 ≤ r → r ≤ w.region_count → All (λ p. P (overlay_code r (part_of w p))) pieces
+  pub region_code : (r : ℕ) → 1 ≤ r → r ≤ w.region_count → All (λ p. is_of_region w.regions r p ≡ true → P (overlay_code r (part_of w p))) pieces
   pub pair_data : (pair : ℕ) → 1 ≤ pair → pair ≤ pairs_of w.board.twins w.region_count → All (λ o. P (kept_data pair (datum_of w.graph o))) objects
+
+-- what holds of those that pass a test
+filtered_each : (test : Piece → Bool) (P : Piece → Type 0) (ps : List Piece) → All (λ p. test p ≡ true → P p) ps → All P (filter test ps)
+filtered_each test P [] each = All-nil P
+filtered_each test P (p ∷ ps) each =
+    by_test (test p) refl (filtered_each test P ps (λ k d below. each (suc k) d (omega (arith, below))))
+  where
+    by_test : (passes : Bool) → test p ≡ passes → All P (filter test ps) → All P (filter test (p ∷ ps))
+    by_test true is rest = rw is (All-cons P p (filter test ps) (each 0 p (omega arith) is) rest)
+    by_test false is rest = rw is rest
 
 module _ (P : Candidate → Type 0) (w : Scene) (objects : List ℕ) (pieces : List Piece) (of : OfEachKind P w objects pieces) where
   data_each : (n : ℕ) → n ≤ length w.graph.objects.items → All P (static_objects w.graph n)
@@ -38,7 +48,7 @@ module _ (P : Candidate → Type 0) (w : Scene) (objects : List ℕ) (pieces : L
       let some = filter (is_of_region w.regions (suc n)) pieces in
       All-append P (overlaid_pieces w pieces n) (pieces_in w pieces (suc n)) (region_code_each n (omega (arith, few)))
       (All-map P (λ p. overlay_code (suc n) (part_of w p)) some
-      (All-filter (is_of_region w.regions (suc n)) (λ p. P (overlay_code (suc n) (part_of w p))) pieces (of.region_code (suc n) (omega arith) few)))
+      (filtered_each (is_of_region w.regions (suc n)) (λ p. P (overlay_code (suc n) (part_of w p))) pieces (of.region_code (suc n) (omega arith) few)))
 
   pair_data_each : (n : ℕ) → n ≤ pairs_of w.board.twins w.region_count → All P (kept_objects w objects n)
   pair_data_each zero few = All-nil P

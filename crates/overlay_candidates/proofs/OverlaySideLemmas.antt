@@ -142,7 +142,7 @@ module _ (one : OneInstruction) (view : ElfView) (m : Measured) (objects : List 
         object = λ k below. data_gain one view m ms given k below;
         code = λ k d below. code_gain one view m ms given (slice_index_or m.pieces.now k d) (are.each k d below);
         region_data = λ r some region k d below. region_data_gain one view m ms given r (slice_index_or objects k d) region (numbers k d below);
-        region_code = λ r some region k d below. region_code_gain one view m ms given r (slice_index_or m.pieces.now k d) region (are.each k d below);
+        region_code = λ r some region k d below all. region_code_gain one view m ms given r (slice_index_or m.pieces.now k d) region (are.each k d below);
         pair_data = λ pair some few k d below. pair_data_gain one view m ms given pair (slice_index_or objects k d) some (pair_within m.board.now.twins m.regions.now.count pair few) (numbers k d below);
       })
 
@@ -239,7 +239,7 @@ module _ (one : OneInstruction) (view : ElfView) (m : Measured) (objects : List 
         object = λ k below. let small = gain_small view m.board.now m.graph.now m.code.now m.regions.now m.profile.now ms k given below in omega (arith, small);
         code = few_code;
         region_data = λ r some region k d below. few_object r (slice_index_or objects k d) region (numbers k d below);
-        region_code = λ r some region k d below. few_region_code r k d region below;
+        region_code = λ r some region k d below all. few_region_code r k d region below;
         pair_data = λ pair some few k d below. few_kept pair (slice_index_or objects k d) some (pair_within m.board.now.twins m.regions.now.count pair few) (numbers k d below);
       })
 
@@ -251,7 +251,7 @@ module _ (one : OneInstruction) (view : ElfView) (m : Measured) (objects : List 
         object = spans;
         code = light_part;
         region_data = λ r some region k d below. spans (slice_index_or objects k d) (numbers k d below);
-        region_code = λ r some region. light_part;
+        region_code = λ r some region k d below all. light_part k d below;
         pair_data = λ pair some few k d below. spans (slice_index_or objects k d) (numbers k d below);
       })
     where
