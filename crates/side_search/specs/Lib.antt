@@ -5,3 +5,4 @@ pub use Rattle.certificate_checker.specs.Shows
 pub use Rattle.certificate_checker.specs.Spelling
 pub mod Incumbents
 pub mod Visits
+pub mod Rounds

@@ -1,23 +1,27 @@
 ghost use Rattle.std.specs.Prelude.{◌≡◌, ◌≤◌, IfOk, IfSome, OnOk, length, option_map, Some};
 ghost use Rattle.std.proofs.Common.{replicate};
+ghost use Rattle.placement_programme.specs.Plain.{PlainProgramme};
 ghost use Rattle.placement_programme.specs.Views.{plain_side, plain_programme};
 ghost use Rattle.certificate_checker.specs.Shows.{all_free, Shows};
 ghost use Rattle.certificate_checker.specs.Reading.{most_levels};
 ghost use Rattle.certificate_checker.specs.Spelling.{IsInRange};
 ghost use Rattle.certificate_checker.specs.Views.{plain_certificate};
 ghost use Rattle.side_search.specs.Incumbents.{IsSound};
+ghost use Rattle.side_search.specs.Rounds.{IsRound};
 ghost use Rattle.side_search.specs.Visits.{ShownBelow, ShownOn};
 
 use crate::bounding::DualBound;
 use crate::incumbents::Incumbent;
 use crate::searching::{Task, search};
-use crate::visiting::OnSide;
+use crate::visiting::{OnSide, Round};
 use certificate_checker::{Certificate, Fixing, Tree, free_marks};
 use placement_programme::{Choice, Programme, Side};
 use std::alloc::{AllocError, Global};
 
 /// How many levels the text of a certificate's tree may have, the root being one.
 const MOST_LEVELS: u32 = 4097;
+/// How many nodes of a side the first round may visit.
+const FIRST_NODES: u64 = 1_000;
 
 #[tactic(auto, unfolding(certificate_checker::specs::Reading::most_levels))]
 fn search_from(
@@ -79,37 +83,74 @@ fn search_on(alloc: Global, p: &Programme, best: &mut Incumbent) -> Result<OnSid
     }
 }
 
-fn first_incumbent(alloc: Global, p: &Programme, nodes: u64) -> Incumbent
-    ensures { IsSound (plain_programme p.now) result }
+fn first_incumbent(alloc: Global) -> Incumbent
+    ensures { (p : PlainProgramme) → IsSound p result }
 {
     Incumbent {
         choice: Choice::nothing(alloc),
         gain: 0,
-        left: nodes,
+        left: 0,
     }
 }
 
-/// A certificate that shows its choice to be best, if a search of at most `nodes` nodes in all comes to its end. It is within
-/// the ranges of its text.
+/// The certificate with the trees of both sides, or the incumbent where one of them is missing.
+fn finish_round(p: &Programme, off: Option<Tree>, on: OnSide, best: Incumbent) -> Round
+    requires sound { IsSound (plain_programme p.now) best }
+    requires off { ShownBelow (plain_side p.now.off) best.gain (all_free (plain_side p.now.off)) most_levels off }
+    requires on { ShownOn (option_map plain_side p.now.on) best.gain on }
+    ensures { IsRound (plain_programme p.now) result }
+{
+    let _p = p;
+    let Some(off) = off else {
+        return Round::Unfinished(best);
+    };
+    match on {
+        OnSide::Unfinished => Round::Unfinished(best),
+        OnSide::Absent => Round::Certified(Certificate {
+            choice: best.choice,
+            off: Some(off),
+            on: None,
+        }),
+        OnSide::Shown(on) => Round::Certified(Certificate {
+            choice: best.choice,
+            off: Some(off),
+            on: Some(on),
+        }),
+    }
+}
+
+/// Searches both sides with at most `nodes` nodes each.
+fn search_both(
+    alloc: Global,
+    p: &Programme,
+    nodes: u64,
+    mut best: Incumbent,
+) -> Result<Round, AllocError>
+    requires sound { IsSound (plain_programme p.now) best }
+    ensures { IfOk result (IsRound (plain_programme p.now)) }
+{
+    best.left = nodes;
+    let off = search_side(alloc, p, &p.off, false, &mut best)?;
+    best.left = nodes;
+    let on = search_on(alloc, p, &mut best)?;
+    Ok(finish_round(p, off, on, best))
+}
+
+/// A certificate that shows its choice to be best, if a search of at most `nodes` nodes on each side comes to its end. It is
+/// within the ranges of its text.
+///
+/// A first round with few nodes finds a good choice of either side, which then closes most of the other one.
 pub fn certify(alloc: Global, p: &Programme, nodes: u64) -> Result<Option<Certificate>, AllocError>
     ensures shows { IfOk result (λ found. IfSome found (λ c. Shows (plain_programme p.now) (plain_certificate c))) }
     ensures range { IfOk result (λ found. IfSome found (λ c. IsInRange (plain_certificate c))) }
 {
-    let mut best = first_incumbent(alloc, p, nodes);
-    let Some(off) = search_side(alloc, p, &p.off, false, &mut best)? else {
-        return Ok(None);
+    let best = first_incumbent(alloc);
+    let best = match search_both(alloc, p, nodes.min(FIRST_NODES), best)? {
+        Round::Certified(certificate) => return Ok(Some(certificate)),
+        Round::Unfinished(best) => best,
     };
-    match search_on(alloc, p, &mut best)? {
-        OnSide::Unfinished => Ok(None),
-        OnSide::Absent => Ok(Some(Certificate {
-            choice: best.choice,
-            off: Some(off),
-            on: None,
-        })),
-        OnSide::Shown(tree) => Ok(Some(Certificate {
-            choice: best.choice,
-            off: Some(off),
-            on: Some(tree),
-        })),
+    match search_both(alloc, p, nodes, best)? {
+        Round::Certified(certificate) => Ok(Some(certificate)),
+        Round::Unfinished(_) => Ok(None),
     }
 }

@@ -1,4 +1,5 @@
-use certificate_checker::Tree;
+use crate::incumbents::Incumbent;
+use certificate_checker::{Certificate, Tree};
 
 /// What the visit of a node finds.
 #[derive(Drop)]
@@ -19,4 +20,13 @@ pub(crate) enum OnSide {
     Shown(Tree),
     /// The nodes that are left don't suffice.
     Unfinished,
+}
+
+/// What a round of searches of both sides finds.
+#[derive(Drop)]
+pub(crate) enum Round {
+    /// A certificate that shows its choice to be best.
+    Certified(Certificate),
+    /// The nodes that are left don't suffice; the best choice so far.
+    Unfinished(Incumbent),
 }
