@@ -18,6 +18,7 @@ from dataclasses import dataclass, field
 
 PRICES = {"main_read": 10, "main_write": 10, "spm_read": 2, "spm_write": 2}
 COLOURS = ["#4878a8", "#e08a3c", "#5a9e5a", "#c05656", "#8a6bb0", "#8f6a4d", "#d183b4", "#9a9a3a", "#3fa3a8", "#b39b2e"]
+STANDING = {"static": 0, "overlay": 1, "kept": 2}  # how many regions such a line of the report has
 GREY, PALE, INK = "#b8b8b8", "#f0f0f0", "#202020"
 SHOWN = 16  # bars of objects, at most
 ROWS = 16  # rows of a scratchpad, at most
@@ -39,7 +40,11 @@ class Object:
     reads: int = 0
     writes: int = 0
     place: int | None = None
-    overlaid: bool = False
+    regions: set = field(default_factory=set)
+
+    @property
+    def overlaid(self):
+        return bool(self.regions)
 
     def before(self, prices):
         return self.reads * prices["main_read"] + self.writes * prices["main_write"]
@@ -55,8 +60,8 @@ class Object:
 
 @dataclass
 class Item:
-    """What stands in the scratchpad: an object, or a piece of code. Region 0 is the whole run."""
-    region: int
+    """What stands in the scratchpad: an object, or a piece of code. Without regions it does so for the whole run."""
+    regions: tuple
     place: int
     size: int
     name: str
@@ -121,10 +126,12 @@ def function_at(functions, address):
     return name if start == address else f"{name}+{address - start:#x}"
 
 
-def object_at(objects, grain, place, size, name):
-    """The object that a line of the report names: the next one not yet taken, since the report lists them by home."""
+def object_at(objects, grain, regions, place, size, name):
+    """The object that a line of the report names: the next one that isn't taken there yet, since the report lists them by
+    home."""
     for one in objects:
-        if (one.place, one.size, one.name) == (None, size, name) and not one.overlaid and (one.home - place) % grain == 0:
+        free = not one.regions.intersection(regions or one.regions) and (one.place is None or regions)
+        if free and (one.size, one.name) == (size, name) and (one.home - place) % grain == 0:
             return one
     sys.exit(f"draw.py: OBJECTS has no object {name} of {size} bytes for the place {place:#010x}")
 
@@ -134,23 +141,24 @@ def read_report(name, board, objects, functions, report):
         words = line.split(" ")
         if words[0] in ("before", "after"):
             setattr(report, words[0], int(words[1]))
-        elif words[0] in ("static", "overlay"):
-            region = int(words.pop(1)) if words[0] == "overlay" else 0
-            report.items.append(read_item(region, words, board, objects, functions))
+        elif words[0] in STANDING:
+            regions = tuple(int(words.pop(1)) for _ in range(STANDING[words[0]]))
+            report.items.append(read_item(regions, words, board, objects, functions))
         else:
             report.proof = line
     for number, item in enumerate(report.items):
         item.number, item.colour = number + 1, COLOURS[number % len(COLOURS)]
 
 
-def read_item(region, words, board, objects, functions):
+def read_item(regions, words, board, objects, functions):
     kind, place, size, rest = words[1], int(words[2], 16), int(words[3]), " ".join(words[4:])
     if kind == "code":
         home = int(rest, 16)
-        return Item(region, place, size, function_at(functions, home) + " (code)", home)
-    one = object_at(objects, board.grain, place, size, rest)
-    one.place, one.overlaid = place, region > 0
-    return Item(region, place, size, rest, one.home, one)
+        return Item(regions, place, size, function_at(functions, home) + " (code)", home)
+    one = object_at(objects, board.grain, regions, place, size, rest)
+    one.place = place
+    one.regions.update(regions)
+    return Item(regions, place, size, rest, one.home, one)
 
 
 def share(part, whole):
@@ -158,12 +166,12 @@ def share(part, whole):
 
 
 def regions_of(items):
-    return sorted({item.region for item in items} | {0})
+    return sorted({region for item in items for region in item.regions} | {0})
 
 
 def stands_in(item, region):
     """What stands for the whole run stands in every region."""
-    return item.region in (0, region)
+    return not item.regions or region in item.regions
 
 
 def region_title(region, board, items):
@@ -209,7 +217,7 @@ def write_text(title, board, objects, blocks, report):
     for region in regions_of(report.items):
         print(f"\nscratchpad at {board.base:#010x} {region_title(region, board, report.items)}")
         for item in sorted(report.items, key=lambda item: item.place):
-            if item.region == region:
+            if item.regions == () if region == 0 else region in item.regions:
                 begins = f", begins {blocks.get(item.home, 0)} times" if item.what is None else ""
                 print(f"  {item.place:#010x} {item.size:7}  {item.name}{begins}")
     few, else_before, else_after = energies(board, objects, report)
@@ -303,7 +311,7 @@ def draw_part(drawing, item, start, row_bytes, frame, region):
         return
     x, length = left + width * (low - start) / row_bytes, width * (high - low) / row_bytes
     hint = f"{item.name}: {item.size} bytes at {item.place:#010x}"
-    drawing.box(x, y + 1, length, height - 2, item.colour, "white" if item.region == region else INK, hint)
+    drawing.box(x, y + 1, length, height - 2, item.colour, "white" if region == 0 or item.regions else INK, hint)
     label = f"{item.number} {item.name}" if length > 8 * (len(item.name) + 3) else str(item.number)
     if length > 8 * len(label):
         drawing.text(x + length / 2, y + 16, label, 11, "middle", "white")
