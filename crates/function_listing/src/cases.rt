@@ -3,12 +3,13 @@ use elf_reader::Reloc;
 use elf_writer::push_words;
 use std::alloc::Global;
 use text_lines::{number, numbers, print_number, print_number_line, print_value_line};
-use workload_gen::{FileSpec, SectionSpec, SymbolSpec, build};
+use workload_gen::{FileSpec, SectionSpec, SymbolSpec, build, workload};
 
-/// A file to be built, the bytes behind it, and the input of its runs.
+/// A file to be built, or the generated one of a number of kernels, the bytes behind it, and the input of its runs.
 #[derive(Drop)]
 pub(crate) struct Case {
     spec: FileSpec,
+    kernels: Option<u32>,
     behind: Vec<u8>,
     pub(crate) input: Vec<u8>,
 }
@@ -70,6 +71,7 @@ impl Case {
         };
         Case {
             spec,
+            kernels: None,
             behind: Vec::new(alloc),
             input: Vec::new(alloc),
         }
@@ -77,7 +79,10 @@ impl Case {
 
     /// The file.
     pub(crate) fn built(&self, alloc: Global) -> Result<Vec<u8>> {
-        let mut file = build(alloc, &self.spec)?;
+        let mut file = match self.kernels {
+            Some(kernels) => workload(alloc, 0, kernels.clamp(1, 64))?,
+            None => build(alloc, &self.spec)?,
+        };
         file.extend_from_slice(&self.behind)?;
         Ok(file)
     }
@@ -113,10 +118,12 @@ impl Case {
     }
 
     /// Takes a line of a file: its `entry`, a `section`, `words`, relocations (`reloc`) and the size in memory of the last section
-    /// where it is `empty`, a `symbol`, a byte `behind` all of the file, or the `input` of its runs.
+    /// where it is `empty`, a `symbol`, a byte `behind` all of the file, the number of `kernels` of a generated file, or the
+    /// `input` of its runs.
     pub(crate) fn take_line(&mut self, alloc: Global, key: &str, rest: &str) -> Result<()> {
         match key {
             "entry" => self.spec.entry = number(rest)?,
+            "kernels" => self.kernels = Some(number(rest)?),
             "section" => self.spec.sections.push(section(alloc, rest)?)?,
             "symbol" => self.spec.symbols.push(symbol(alloc, rest)?)?,
             "input" => self.input = rest.as_bytes().to_vec(alloc)?,

@@ -1,3 +1,5 @@
+ghost use Rattle.std.specs.Prelude.{◌≡◌};
+ghost use Rattle.word_bits.specs.Memory.{zeros};
 ghost use Rattle.board_config.specs.Board.{IsLawful};
 
 use crate::cases::Case;
@@ -8,18 +10,34 @@ use elf_reader::read;
 use flat_machine::Flat;
 use object_graph::graph;
 use object_machine::Source;
-use paged_store::PageStore;
+use paged_store::{ByteStore, ListStore, PageStore};
 use std::alloc::Global;
 use std::fmt::Debug;
 use text_lines::{number, print_number, print_value, print_value_line};
 
-/// Runs a file on the flat machine: `step` tells the event of one step, and a number the outcome after as many steps, and
-/// the pc; then what was written is told.
+/// Runs a file on the flat machine, with its memory in pages: `step` tells the event of one step, and a number the outcome
+/// after as many steps, and the pc; then what was written is told.
 pub(crate) fn tell_flat(rt: &(impl Print + AllocGlobal), case: &Case, text: &str) -> Result<()> {
+    tell_over(rt, case, text, PageStore::new(rt.alloc()))
+}
+
+/// The same with its memory in a list.
+pub(crate) fn tell_listed(rt: &(impl Print + AllocGlobal), case: &Case, text: &str) -> Result<()> {
+    tell_over(rt, case, text, ListStore::new(rt.alloc()))
+}
+
+/// The same with its memory in a store.
+fn tell_over<S: ByteStore + Drop>(
+    rt: &(impl Print + AllocGlobal),
+    case: &Case,
+    text: &str,
+    store: S,
+) -> Result<()>
+    requires { S.byte_at store ≡ zeros }
+{
     let file = case.built(rt.alloc())?;
     let view = read(rt.alloc(), &file)?;
     let board = read_board(rt.alloc(), b"")?;
-    let store = PageStore::new(rt.alloc());
     let mut machine = Flat::new(rt.alloc(), &view, &board, &case.input, store)?;
     for word in text.split_whitespace() {
         if word == "step" {

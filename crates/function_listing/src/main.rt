@@ -49,6 +49,7 @@ fn tell_case(
         "code" => case.take_words(&switch_plans::code_words(rt, rest)?),
         "switches" => switch_runs::tell_switches(rt, case, rest),
         "flat" => machines::tell_flat(rt, case, rest),
+        "listed" => machines::tell_listed(rt, case, rest),
         "object" => machines::tell_object(rt, case, rest),
         "write" => writing::tell_written(rt, case, rest),
         _ => case.take_line(rt.alloc(), key, rest),
