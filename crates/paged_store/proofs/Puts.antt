@@ -4,7 +4,7 @@ use Rattle.std.proofs.lemmas.Grind.{common_steps}
 use Rattle.std.proofs.lemmas.List.{drop-drop, take-append-drop}
 use Rattle.std.proofs.lemmas.Bool.Decides.{nat_tests}
 use Rattle.word_bits.specs.Words.{plus}
-use Rattle.word_bits.specs.Memory.{Memory, put, put_half, put_word, put_bytes}
+use Rattle.word_bits.specs.Memory.{Memory, put, put_word, put_bytes}
 
 -- an address before or behind them keeps its byte
 pub put_bytes_before : (bytes : List ℕ) (mem : Memory) (at a : ℕ) → a < at → put_bytes mem at bytes a ≡ mem a
@@ -32,12 +32,7 @@ put_bytes-append (x ∷ xs) ys mem at =
     let end : at + 1 + length xs ≡ at + suc (length xs) = omega arith in
     rest ∙ ap (λ a. put_bytes (put_bytes (put mem at x) (at + 1) xs) a ys) end
 
--- the bytes of a halfword and of a word, which do not pass 2 ^ 32
-pub put_bytes-half : (mem : Memory) (at half b0 b1 : ℕ) → at + 1 < 4294967296 → b0 ≡ half % 256 → b1 ≡ half / 256 % 256 → put_bytes mem at (b0 ∷ b1 ∷ []) ≡ put_half mem at half
-put_bytes-half mem at half b0 b1 within e0 e1 =
-    let one : at + 1 ≡ plus at 1 = omega arith in
-    cc
-
+-- the bytes of a word, which do not pass 2 ^ 32
 pub put_bytes-word : (mem : Memory) (at word b0 b1 b2 b3 : ℕ) → at + 3 < 4294967296 → b0 ≡ word % 256 → b1 ≡ word / 256 % 256 → b2 ≡ word / 65536 % 256 → b3 ≡ word / 16777216 % 256 → put_bytes mem at (b0 ∷ b1 ∷ b2 ∷ b3 ∷ []) ≡ put_word mem at word
 put_bytes-word mem at word b0 b1 b2 b3 within e0 e1 e2 e3 =
     let one : at + 1 ≡ plus at 1 = omega arith in

@@ -80,7 +80,7 @@ fn put_piece(bytes: &mut Vec<u8>, place: usize, piece: &[u8])
 
 impl PageStore {
     ghost use Rattle.std.specs.Prelude.{◌≢◌, IsTrue};
-    ghost use Rattle.word_bits.specs.Memory.{zeros, word_at, put_bytes, put_word};
+    ghost use Rattle.word_bits.specs.Memory.{zeros, word_at, put, put_bytes, put_half, put_word};
     ghost use Rattle.paged_store.specs.Room.{HasRoom, RoomGrows};
     ghost use Rattle.paged_store.specs.Pages.{page_of, byte_place, paged_bytes, has_page, PagesStay};
 
@@ -143,21 +143,61 @@ impl PageStore {
         ])
     }
 
-    /// Puts a word at four addresses that have pages, by single bytes.
+    /// Puts a byte at any address, and makes its page where there is none.
     #[cold]
     #[inline(never)]
-    fn set_word_by_bytes(&mut self, at: u32, word: u32)
-        requires { HasRoom (has_page self.old.directory.items) at 4 }
-        ensures bytes { paged_bytes self.new.directory.items self.new.bytes.items
-            ≡ put_word (paged_bytes self.old.directory.items self.old.bytes.items) at word }
+    fn set_anew(&mut self, at: u32, byte: u8) -> Result<(), AllocError>
+        ensures ok { OnOk result (paged_bytes self.new.directory.items self.new.bytes.items
+            ≡ put (paged_bytes self.old.directory.items self.old.bytes.items) at byte) }
+        ensures err { OnErr result (paged_bytes self.new.directory.items self.new.bytes.items
+            ≡ paged_bytes self.old.directory.items self.old.bytes.items) }
+        ensures fits { IsTrue (has_page self.old.directory.items at) → IsOk result }
         ensures grows { RoomGrows (has_page self.old.directory.items)
             (has_page self.new.directory.items) }
     {
+        self.room(at, 1)?;
+        self.set_piece(at, &[byte]);
+        Ok(())
+    }
+
+    /// Puts a halfword at any address, and makes its pages where there are none.
+    #[cold]
+    #[inline(never)]
+    fn set_half_anew(&mut self, at: u32, half: u16) -> Result<(), AllocError>
+        ensures ok { OnOk result (paged_bytes self.new.directory.items self.new.bytes.items
+            ≡ put_half (paged_bytes self.old.directory.items self.old.bytes.items) at half) }
+        ensures err { OnErr result (paged_bytes self.new.directory.items self.new.bytes.items
+            ≡ paged_bytes self.old.directory.items self.old.bytes.items) }
+        ensures fits { HasRoom (has_page self.old.directory.items) at 2 → IsOk result }
+        ensures grows { RoomGrows (has_page self.old.directory.items)
+            (has_page self.new.directory.items) }
+    {
+        self.room(at, 2)?;
+        let [low, high] = half.to_le_bytes();
+        self.set(at, low).unwrap();
+        self.set(at.wrapping_add(1), high).unwrap();
+        Ok(())
+    }
+
+    /// Puts a word at any address, and makes its pages where there are none.
+    #[cold]
+    #[inline(never)]
+    fn set_word_anew(&mut self, at: u32, word: u32) -> Result<(), AllocError>
+        ensures ok { OnOk result (paged_bytes self.new.directory.items self.new.bytes.items
+            ≡ put_word (paged_bytes self.old.directory.items self.old.bytes.items) at word) }
+        ensures err { OnErr result (paged_bytes self.new.directory.items self.new.bytes.items
+            ≡ paged_bytes self.old.directory.items self.old.bytes.items) }
+        ensures fits { HasRoom (has_page self.old.directory.items) at 4 → IsOk result }
+        ensures grows { RoomGrows (has_page self.old.directory.items)
+            (has_page self.new.directory.items) }
+    {
+        self.room(at, 4)?;
         let [b0, b1, b2, b3] = word.to_le_bytes();
         self.set(at, b0).unwrap();
         self.set(at.wrapping_add(1), b1).unwrap();
         self.set(at.wrapping_add(2), b2).unwrap();
         self.set(at.wrapping_add(3), b3).unwrap();
+        Ok(())
     }
 
     /// Makes the directory and page 0, where there are none.
@@ -248,9 +288,11 @@ impl ByteStore for PageStore {
 
     #[inline(always)]
     fn set(&mut self, at: u32, byte: u8) -> Result<(), AllocError> {
-        self.room(at, 1)?;
-        self.set_piece(at, &[byte]);
-        Ok(())
+        if self.has_page(at) {
+            self.set_piece(at, &[byte]);
+            return Ok(());
+        }
+        self.set_anew(at, byte)
     }
 
     #[inline(always)]
@@ -271,27 +313,22 @@ impl ByteStore for PageStore {
 
     #[inline(always)]
     fn set_half(&mut self, at: u32, half: u16) -> Result<(), AllocError> {
-        self.room(at, 2)?;
-        let [low, high] = half.to_le_bytes();
-        if at % 2 == 0 {
+        if at % 2 == 0 && self.has_page(at) {
+            let [low, high] = half.to_le_bytes();
             self.set_piece(at, &[low, high]);
             return Ok(());
         }
-        self.set(at, low).unwrap();
-        self.set(at.wrapping_add(1), high).unwrap();
-        Ok(())
+        self.set_half_anew(at, half)
     }
 
     #[inline(always)]
     fn set_word(&mut self, at: u32, word: u32) -> Result<(), AllocError> {
-        self.room(at, 4)?;
-        if at % 4 == 0 {
+        if at % 4 == 0 && self.has_page(at) {
             let [b0, b1, b2, b3] = word.to_le_bytes();
             self.set_piece(at, &[b0, b1, b2, b3]);
             return Ok(());
         }
-        self.set_word_by_bytes(at, word);
-        Ok(())
+        self.set_word_anew(at, word)
     }
 
     fn set_bytes(&mut self, at: u32, bytes: &[u8]) -> Result<(), AllocError> {
