@@ -7,3 +7,4 @@ pub mod Words
 pub mod Lines
 pub mod LineWords
 pub mod SilentLines
+pub mod Tables

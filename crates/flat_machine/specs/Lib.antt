@@ -14,3 +14,4 @@ pub mod Lines
 pub mod Start
 pub mod Sizes
 pub mod Machine
+pub mod Known

@@ -4,6 +4,8 @@
 
 mod accesses;
 mod events;
+mod known;
+mod known_table;
 mod laws;
 mod loading;
 mod machine;

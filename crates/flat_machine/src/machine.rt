@@ -2,10 +2,13 @@ ghost use Rattle.std.specs.Prelude.{◌≡◌, ◌≤◌, length, slice_index};
 ghost use Rattle.flat_machine.specs.Mapping.{IsPart};
 
 mod calling;
+mod knowing;
+mod near;
 mod performing;
 mod registers;
 
 use crate::events::{FlatAccess, FlatEvent, FlatOutcome};
+use crate::known_table::nothing_known;
 use crate::loading::{lay_segments, mapped};
 use crate::mapping::{has_access, is_inside, range_around};
 use board_config::{Board, Range};
@@ -116,12 +119,12 @@ impl<S: ByteStore> Flat<S> {
         ensures err { OnErr result ((k : ℕ) × ((k < n)
             × Steps k (state_of S.byte_at self.old) (state_of S.byte_at self.new))) }
     {
-        for _ in 0..n {
-            if self.has_ended() {
-                break;
-            }
-            self.step()?;
+        // without a step no table is made, so that there is nothing to fail
+        if n == 0 {
+            return Ok(self.outcome);
         }
+        let mut known = nothing_known(*self.output.allocator())?;
+        self.run_knowing(n, &mut known)?;
         Ok(self.outcome)
     }
 

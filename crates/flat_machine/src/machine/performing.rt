@@ -76,7 +76,7 @@ impl<S: ByteStore> Flat<S> {
 
     /// LUI.
     #[inline(always)]
-    fn lui(&mut self, rd: u8, imm: u32)
+    pub(super) fn lui(&mut self, rd: u8, imm: u32)
         requires rd { rd < 32 }
         requires imm { imm < 1048576 }
         ensures { state_of S.byte_at self.new
@@ -87,7 +87,7 @@ impl<S: ByteStore> Flat<S> {
 
     /// AUIPC.
     #[inline(always)]
-    fn auipc(&mut self, rd: u8, imm: u32)
+    pub(super) fn auipc(&mut self, rd: u8, imm: u32)
         requires rd { rd < 32 }
         requires imm { imm < 1048576 }
         ensures { state_of S.byte_at self.new
@@ -98,7 +98,7 @@ impl<S: ByteStore> Flat<S> {
 
     /// JAL.
     #[inline(always)]
-    fn jal(&mut self, rd: u8, off: i32)
+    pub(super) fn jal(&mut self, rd: u8, off: i32)
         requires { rd < 32 }
         ensures { state_of S.byte_at self.new
             ≡ performed (state_of S.byte_at self.old) (Instr.Jal rd off) }
@@ -108,7 +108,7 @@ impl<S: ByteStore> Flat<S> {
 
     /// JALR: the target is taken before the return address is written.
     #[inline(always)]
-    fn jalr(&mut self, rd: u8, rs1: u8, imm: i32)
+    pub(super) fn jalr(&mut self, rd: u8, rs1: u8, imm: i32)
         requires rd { rd < 32 }
         requires rs1 { rs1 < 32 }
         ensures { state_of S.byte_at self.new
@@ -120,7 +120,7 @@ impl<S: ByteStore> Flat<S> {
 
     /// A conditional branch.
     #[inline(always)]
-    fn branch(&mut self, kind: BranchKind, rs1: u8, rs2: u8, off: i32)
+    pub(super) fn branch(&mut self, kind: BranchKind, rs1: u8, rs2: u8, off: i32)
         requires rs1 { rs1 < 32 }
         requires rs2 { rs2 < 32 }
         ensures { state_of S.byte_at self.new
@@ -132,7 +132,7 @@ impl<S: ByteStore> Flat<S> {
 
     /// An operation on a register and an immediate.
     #[inline(always)]
-    fn op_imm(&mut self, kind: ImmKind, rd: u8, rs1: u8, imm: i32)
+    pub(super) fn op_imm(&mut self, kind: ImmKind, rd: u8, rs1: u8, imm: i32)
         requires rd { rd < 32 }
         requires rs1 { rs1 < 32 }
         ensures { state_of S.byte_at self.new
@@ -144,7 +144,7 @@ impl<S: ByteStore> Flat<S> {
 
     /// An operation on two registers.
     #[inline(always)]
-    fn op_reg(&mut self, kind: RegKind, rd: u8, rs1: u8, rs2: u8)
+    pub(super) fn op_reg(&mut self, kind: RegKind, rd: u8, rs1: u8, rs2: u8)
         requires rd { rd < 32 }
         requires rs1 { rs1 < 32 }
         requires rs2 { rs2 < 32 }
@@ -157,7 +157,7 @@ impl<S: ByteStore> Flat<S> {
 
     /// A load. Tells of the access.
     #[inline(always)]
-    fn load(&mut self, kind: LoadKind, rd: u8, rs1: u8, imm: i32) -> Option<FlatAccess>
+    pub(super) fn load(&mut self, kind: LoadKind, rd: u8, rs1: u8, imm: i32) -> Option<FlatAccess>
         requires rd { rd < 32 }
         requires rs1 { rs1 < 32 }
         ensures state { state_of S.byte_at self.new

@@ -1,0 +1,47 @@
+-- The table of decoded instructions of a run: what words in memory mean, in slots by their addresses.
+use Rattle.std.specs.Prelude.{◌≡◌, ℕ, ◌/◌, ◌%◌, ◌<◌, List, length, slice_index_or, IsTrue}
+use Rattle.word_bits.specs.Memory.{Memory, word_at}
+use Rattle.rv_decode.specs.declared.instructions.Instr.{Instr}
+use Rattle.rv_decode.specs.declared.instructions.Instr.TheVariants.{Ebreak}
+use Rattle.rv_decode.specs.Table.{Means, IsInRange}
+use Rattle.board_config.specs.declared.board.Range.{Range}
+use Rattle.flat_machine.specs.declared.events.FlatEvent.{FlatEvent}
+use Rattle.flat_machine.specs.declared.known.Known.{Known}
+use Rattle.flat_machine.specs.Mapping.{can_access}
+use Rattle.flat_machine.specs.State.{State}
+use Rattle.flat_machine.specs.Step.{Step}
+
+-- the word at an address can be fetched, and means the instruction
+pub record IsKnown (map : List Range) (mem : Memory) (at : ℕ) (i : Instr) : Type 0 where
+  pub fetches : IsTrue (can_access map at 4)
+  pub means : Means (word_at mem at) i
+  pub in_range : IsInRange i
+
+-- the slot of an address
+abbrev pub slot_of : ℕ → ℕ
+slot_of at = at / 4 % 4096
+
+-- a slot in which nothing is kept has no address below 2 ^ 32
+abbrev pub vacant : Known
+vacant = record { at = 4294967296; instr = Ebreak }
+
+-- what slot `k` keeps is so, and belongs there
+pub record HoldsIn (map : List Range) (mem : Memory) (k : ℕ) (slot : Known) : Type 0 where
+  pub known : IsKnown map mem slot.at slot.instr
+  pub place : slot_of slot.at ≡ k
+
+abbrev pub SlotHolds : List Range → Memory → ℕ → Known → Type 0
+SlotHolds map mem k slot = slot.at < 4294967296 → HoldsIn map mem k slot
+
+-- all that is kept is so
+unfoldable pub AreKnown : List Range → Memory → List Known → Type 0
+AreKnown map mem known =
+    (k : ℕ) (d : Known) → k < length known → SlotHolds map mem k (slice_index_or known k d)
+
+-- the instruction in the slot of an address
+abbrev pub instr_at : List Known → ℕ → Instr
+instr_at known at = (slice_index_or known (slot_of at) vacant).instr
+
+-- one step leads from `s` to `t`
+abbrev pub TakesStep : State → State → Type 0
+TakesStep s t = (e : FlatEvent) × Step s e t
