@@ -1,5 +1,5 @@
 -- Spans of mapped addresses.
-use Rattle.std.proofs.Common.{◌≡◌, ℕ, ◌+◌, ◌%◌, ◌<◌, List, [], ◌∷◌, length, get_or, arith, zero, suc}
+use Rattle.std.proofs.Common.{◌≡◌, ℕ, ◌+◌, ◌-◌, ◌%◌, ◌<◌, ◌≤◌, subst, sym, List, [], ◌∷◌, length, get_or, arith, zero, suc}
 use Rattle.std.specs.Prelude.{true, false}
 use Rattle.std.proofs.lemmas.Bool.Decides.{nat_tests}
 use Rattle.board_config.specs.declared.board.Range.{Range}
@@ -42,3 +42,21 @@ part_is_mapped range map at n part h = mapped_inside_one map at n (part at n h)
 
 pub aligned_and_mapped : (map : List Range) (at width : ℕ) → at % width ≡ 0 → all_mapped map at width ≡ true → true ≡ can_access map at width
 aligned_and_mapped map at width aligned mapped = grind (arith, nat_tests)
+
+-- more addresses are mapped than fewer
+fewer_mapped : (map : List Range) (at n k : ℕ) → all_mapped map at (n + k) ≡ true → all_mapped map at n ≡ true
+fewer_mapped map at n zero all =
+    let same : n + zero ≡ n = omega arith in
+    subst (λ m. all_mapped map at m ≡ true) same all
+fewer_mapped map at n (suc k) all =
+    let more : n + suc k ≡ suc (n + k) = omega arith in
+    let here : all_mapped map at (suc (n + k)) ≡ true = subst (λ m. all_mapped map at m ≡ true) more all in
+    grind (arith, nat_tests, fewer_mapped map at n k)
+
+-- an aligned access of at most four bytes, where one range holds four
+pub near_access : (map : List Range) (at width : ℕ) → width ≤ 4 → at % width ≡ 0 → is_inside_one map at 4 ≡ true → can_access map at width ≡ true
+near_access map at width few aligned inside =
+    let all : all_mapped map at 4 ≡ true = mapped_inside_one map at 4 inside in
+    let split : 4 ≡ width + (4 - width) = omega arith in
+    let mapped : all_mapped map at width ≡ true = fewer_mapped map at width (4 - width) (subst (λ n. all_mapped map at n ≡ true) split all) in
+    sym (aligned_and_mapped map at width aligned mapped)

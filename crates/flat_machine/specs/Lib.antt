@@ -15,3 +15,4 @@ pub mod Start
 pub mod Sizes
 pub mod Machine
 pub mod Known
+pub mod Reach

@@ -10,6 +10,7 @@ mod laws;
 mod loading;
 mod machine;
 mod mapping;
+mod reach;
 
 pub use events::{FlatAccess, FlatEvent, FlatOutcome};
 pub use laws::{

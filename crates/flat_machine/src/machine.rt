@@ -1,5 +1,6 @@
 ghost use Rattle.std.specs.Prelude.{◌≡◌, ◌≤◌, length, slice_index};
 ghost use Rattle.flat_machine.specs.Mapping.{IsPart};
+ghost use Rattle.flat_machine.specs.Reach.{IsMappedReach};
 
 mod calling;
 mod knowing;
@@ -10,7 +11,8 @@ mod registers;
 use crate::events::{FlatAccess, FlatEvent, FlatOutcome};
 use crate::known_table::nothing_known;
 use crate::loading::{lay_segments, mapped};
-use crate::mapping::{has_access, is_inside, range_around};
+use crate::mapping::{has_access, is_inside, no_reach, range_around};
+use crate::reach::Reach;
 use board_config::{Board, Range};
 use elf_reader::ElfView;
 use paged_store::ByteStore;
@@ -33,7 +35,13 @@ pub struct Flat<S> {
     outcome: FlatOutcome,
     // a range of the map, which the last fetch was inside: the next one mostly is, too
     code: Range,
+    // where the last loads and stores were: the next one mostly is there, too. There are two, for a
+    // program whose data stand in two ranges.
+    near: Reach,
+    other: Reach,
     ghost code_is_part: { IsPart code map.items },
+    ghost near_is_mapped: { IsMappedReach near map.items },
+    ghost other_is_mapped: { IsMappedReach other map.items },
     ghost consumed_of_input: { consumed ≤ length input.items },
     // so that x0 is read as the others are
     ghost zero: { slice_index regs 0 ≡ 0 },
@@ -74,6 +82,8 @@ impl<S: ByteStore + Drop> Flat<S> {
             output: Vec::new(alloc),
             outcome: FlatOutcome::GoesOn,
             code: board.main,
+            near: no_reach(),
+            other: no_reach(),
         })
     }
 }

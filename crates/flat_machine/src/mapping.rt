@@ -1,7 +1,10 @@
-ghost use Rattle.std.specs.Prelude.{◌≡◌, ◌≤◌, [], ◌∷◌, IfSome};
+ghost use Rattle.std.specs.Prelude.{◌≡◌, ◌≤◌, List, [], ◌∷◌, IfSome, IsTrue};
+ghost use Rattle.board_config.specs.declared.board.Range.{Range};
 ghost use Rattle.flat_machine.specs.Mapping.{is_mapped, all_mapped, is_inside_one, IsPart};
 ghost use Rattle.flat_machine.specs.Mapping.{can_access, can_move};
+ghost use Rattle.flat_machine.specs.Reach.{IsMappedReach};
 
+use crate::reach::Reach;
 use board_config::Range;
 
 /// Whether an address lies in one of the ranges.
@@ -86,4 +89,34 @@ pub fn has_move(map: &[Range], at: u32, n: u32) -> bool
     ensures { result ≡ can_move map.now at n }
 {
     u64::from(at) + u64::from(n) <= 0x1_0000_0000 && has_span(map, at, n)
+}
+
+/// A reach without an address.
+pub fn no_reach() -> Reach
+    ensures { (map : List Range) → IsMappedReach result map }
+{
+    Reach { first: 1, last: 0 }
+}
+
+/// The addresses from each of which a range holds four bytes.
+pub fn reach_of(range: &Range) -> Reach
+    ensures { (map : List Range) → IsPart range.now map → IsMappedReach result map }
+{
+    if range.size < 4 {
+        return no_reach();
+    }
+    let last = u64::from(range.base) + u64::from(range.size) - 4;
+    Reach {
+        first: range.base,
+        last: last.min(u64::from(u32::MAX)) as u32,
+    }
+}
+
+/// Whether an address is in a reach, so that the four bytes from it on are mapped.
+#[inline(always)]
+pub fn is_near(reach: &Reach, at: u32) -> bool
+    ensures { IsTrue result → (map : List Range) → IsMappedReach reach.now map
+        → IsTrue (is_inside_one map at 4) }
+{
+    reach.first <= at && at <= reach.last
 }
