@@ -3,6 +3,7 @@ pub mod Objects
 pub mod Operations
 pub mod Comparisons
 pub mod Cells
+pub mod Marks
 pub mod Laws
 pub use Rattle.cell_values.specs.Objects
 pub use Rattle.cell_values.specs.Operations

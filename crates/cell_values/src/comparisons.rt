@@ -6,8 +6,11 @@ use crate::values::Val;
 use object_graph::Graph;
 use rv_decode::{BranchKind, takes};
 
+// Each branch of a machine asks this, so it is inlined there; the rarer comparisons stay calls.
+
 /// Whether a branch of this kind is taken on two values; `None` where that is not known
 /// (RISC-V Unprivileged ISA, "Conditional Branches").
+#[inline(always)]
 pub fn compare(kind: BranchKind, a: &Val, b: &Val, graph: &Graph) -> Option<bool>
     requires a { IsOfGraph graph.now a.now }
     requires b { IsOfGraph graph.now b.now }
@@ -34,6 +37,7 @@ pub fn compare(kind: BranchKind, a: &Val, b: &Val, graph: &Graph) -> Option<bool
 }
 
 /// How many bytes an object has.
+#[inline(always)]
 fn size_of(obj: u32, graph: &Graph) -> u32
     requires { obj < length graph.now.objects.items }
     ensures { result ≡ (object_of graph.now obj).size }
@@ -42,6 +46,7 @@ fn size_of(obj: u32, graph: &Graph) -> u32
 }
 
 /// Two addresses of one object of `size` bytes.
+#[inline(always)]
 fn same_object(size: u32, kind: BranchKind, off: u32, at: u32) -> Option<bool>
     ensures { result ≡ same_object size kind off at }
 {
@@ -55,6 +60,7 @@ fn same_object(size: u32, kind: BranchKind, off: u32, at: u32) -> Option<bool>
 }
 
 /// Two offsets are no greater than an object's size.
+#[inline(always)]
 fn is_within(size: u32, off: u32, at: u32) -> bool
     ensures { result ≡ within size off at }
 {
@@ -62,6 +68,7 @@ fn is_within(size: u32, off: u32, at: u32) -> bool
 }
 
 /// Two addresses of unequal objects, which lie inside them or not.
+#[inline(never)]
 fn other_object(inside: bool, kind: BranchKind) -> Option<bool>
     ensures { result ≡ other_object inside kind }
 {
@@ -74,6 +81,7 @@ fn other_object(inside: bool, kind: BranchKind) -> Option<bool>
 
 /// An address and a number, which is the first of the two where `zero_first` holds; `near` says that the one lies up to the end
 /// of its object and the other is 0.
+#[inline(never)]
 fn beside_zero(zero_first: bool, near: bool, kind: BranchKind) -> Option<bool>
     ensures { result ≡ beside_zero zero_first near kind }
 {
@@ -87,6 +95,7 @@ fn beside_zero(zero_first: bool, near: bool, kind: BranchKind) -> Option<bool>
 }
 
 /// An answer that is known on a condition alone.
+#[inline(always)]
 fn known_if(condition: bool, answer: bool) -> Option<bool>
     ensures { result ≡ known_if condition answer }
 {

@@ -5,6 +5,7 @@
 mod cells;
 mod comparisons;
 mod laws;
+mod marks;
 mod operations;
 mod others;
 mod places;

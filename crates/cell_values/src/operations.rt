@@ -9,8 +9,13 @@ use crate::values::Val;
 use object_graph::Graph;
 use rv_decode::{BranchKind, ImmKind, RegKind, imm_result, reg_result};
 
+// A machine does an operation in each step, so these are inlined in it, where they have several callers and would else stay
+// calls, which pass values by way of the stack. What numbers and sums of an address and a number need not is left to cold
+// functions.
+
 /// What an operation with an immediate leaves of a value
 /// (RISC-V Unprivileged ISA, "Integer Register-Immediate Instructions").
+#[inline(always)]
 pub fn op_imm(kind: ImmKind, a: &Val, imm: i32, graph: &Graph) -> Val
     requires grain { IsGrain graph.now.grain }
     requires of { IsOfGraph graph.now a.now }
@@ -24,6 +29,7 @@ pub fn op_imm(kind: ImmKind, a: &Val, imm: i32, graph: &Graph) -> Val
 }
 
 /// The operation on registers that does what one with an immediate does.
+#[inline(always)]
 fn operation_of(kind: ImmKind) -> RegKind
     ensures { result ≡ operation_of kind }
 {
@@ -42,6 +48,7 @@ fn operation_of(kind: ImmKind) -> RegKind
 
 /// What an operation on two registers leaves of their values
 /// (RISC-V Unprivileged ISA, "Integer Register-Register Operations" and the M extension).
+#[inline(always)]
 pub fn op_reg(kind: RegKind, a: &Val, b: &Val, graph: &Graph) -> Val
     requires grain { IsGrain graph.now.grain }
     requires a { IsOfGraph graph.now a.now }
@@ -61,6 +68,7 @@ pub fn op_reg(kind: RegKind, a: &Val, b: &Val, graph: &Graph) -> Val
 }
 
 /// ADD: an address and a number, in either order, give an address.
+#[inline(always)]
 fn added(a: &Val, b: &Val, graph: &Graph) -> Val
     requires grain { IsGrain graph.now.grain }
     requires a { IsOfGraph graph.now a.now }
@@ -83,6 +91,7 @@ fn added(a: &Val, b: &Val, graph: &Graph) -> Val
 }
 
 /// SUB: a number from an address gives an address, and two addresses of one object their distance.
+#[inline(always)]
 fn subtracted(a: &Val, b: &Val, graph: &Graph) -> Val
     requires grain { IsGrain graph.now.grain }
     requires a { IsOfGraph graph.now a.now }
@@ -105,6 +114,7 @@ fn subtracted(a: &Val, b: &Val, graph: &Graph) -> Val
 }
 
 /// AND: a number clears known bits of an address, or keeps known bits alone.
+#[inline(always)]
 fn masked(a: &Val, b: &Val, graph: &Graph) -> Val
     requires grain { IsGrain graph.now.grain }
     requires a { IsOfGraph graph.now a.now }
@@ -123,6 +133,8 @@ fn masked(a: &Val, b: &Val, graph: &Graph) -> Val
 }
 
 /// AND of an address with a number of which all bits from the grain on are set; with others as `masked_low`.
+#[cold]
+#[inline(never)]
 fn masked_address(obj: u32, off: u32, m: u32, graph: &Graph) -> Val
     requires grain { IsGrain graph.now.grain }
     requires object { obj < length graph.now.objects.items }
@@ -149,6 +161,8 @@ fn cleared_bits(obj: u32, off: u32, m: u32, graph: &Graph) -> u32
 }
 
 /// AND with a number below the grain, which keeps known bits alone.
+#[cold]
+#[inline(never)]
 fn masked_low(m: u32, a: &Val, graph: &Graph) -> Val
     requires grain { IsGrain graph.now.grain }
     requires of { IsOfGraph graph.now a.now }
@@ -165,6 +179,7 @@ fn masked_low(m: u32, a: &Val, graph: &Graph) -> Val
 }
 
 /// OR and XOR: a number below the grain changes known bits of an address.
+#[inline(always)]
 fn changed(kind: RegKind, a: &Val, b: &Val, graph: &Graph) -> Val
     requires grain { IsGrain graph.now.grain }
     requires a { IsOfGraph graph.now a.now }
@@ -181,6 +196,8 @@ fn changed(kind: RegKind, a: &Val, b: &Val, graph: &Graph) -> Val
 }
 
 /// OR or XOR of the address `off` bytes behind the home of object `obj` with a number.
+#[cold]
+#[inline(never)]
 fn changed_address(kind: RegKind, obj: u32, off: u32, m: u32, graph: &Graph) -> Val
     requires grain { IsGrain graph.now.grain }
     requires object { obj < length graph.now.objects.items }
@@ -199,6 +216,7 @@ fn changed_address(kind: RegKind, obj: u32, off: u32, m: u32, graph: &Graph) -> 
 }
 
 /// SLTU: 1 or 0 where it is known whether the first value is below the second.
+#[inline(always)]
 fn flagged(less: Option<bool>) -> Val
     ensures { result ≡ flagged less }
 {
@@ -209,6 +227,7 @@ fn flagged(less: Option<bool>) -> Val
 }
 
 /// The operations that know numbers alone.
+#[inline(always)]
 fn numbered(kind: RegKind, a: &Val, b: &Val) -> Val
     ensures { result ≡ numbered kind a.now b.now }
 {
@@ -219,6 +238,8 @@ fn numbered(kind: RegKind, a: &Val, b: &Val) -> Val
 }
 
 /// What an operation leaves modulo the grain, where both values are known modulo it.
+#[cold]
+#[inline(never)]
 fn by_lows(kind: RegKind, a: &Val, b: &Val, graph: &Graph) -> Val
     requires grain { IsGrain graph.now.grain }
     requires a { IsOfGraph graph.now a.now }

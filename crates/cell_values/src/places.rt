@@ -8,6 +8,7 @@ use object_graph::Graph;
 /// The address that the low part of an instruction at a low site makes of the upper part `a` in its register:
 /// `off` bytes behind the home of object `obj`, which its relocation names, if `a` is the upper part of an
 /// address of that object in the same chunk.
+#[inline(always)]
 pub fn low_site(a: &Val, obj: u32, off: u32, graph: &Graph) -> Val
     requires grain { IsGrain graph.now.grain }
     requires of { IsOfGraph graph.now a.now }
@@ -23,6 +24,7 @@ pub fn low_site(a: &Val, obj: u32, off: u32, graph: &Graph) -> Val
 }
 
 /// Two addresses of an object lie in one chunk while the object is at home.
+#[inline(always)]
 fn is_same_chunk(obj: u32, off: u32, other: u32, graph: &Graph) -> bool
     requires grain { IsGrain graph.now.grain }
     requires object { obj < length graph.now.objects.items }
@@ -32,6 +34,7 @@ fn is_same_chunk(obj: u32, off: u32, other: u32, graph: &Graph) -> bool
 }
 
 /// The address that a value of object `obj` has while the object is at home.
+#[inline(always)]
 pub(crate) fn home_address(obj: u32, off: u32, graph: &Graph) -> u32
     requires { obj < length graph.now.objects.items }
     ensures { result ≡ home_address (objects_of graph.now) obj off }

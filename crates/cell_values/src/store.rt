@@ -1,12 +1,14 @@
-ghost use Rattle.std.specs.Prelude.{◌≡◌, ◌≢◌, ℕ, ◌+◌, ◌<◌, ◌≤◌, length, slice_index_or, IsTrue, IsSome, IsOk, OnOk, OnErr};
+ghost use Rattle.std.specs.Prelude.{◌≡◌, ◌≢◌, ℕ, ◌+◌, ◌<◌, ◌≤◌, None, length, slice_index_or, take, IsTrue, IsSome, IsOk, OnOk, OnErr};
 ghost use Rattle.std.specs.BTreeMap.{get};
 ghost use Rattle.std.specs.Ordering.{nat_cmp};
 ghost use Rattle.cell_values.specs.declared.values.Cell.TheVariants.{Byte, Mist};
-ghost use Rattle.cell_values.specs.Cells.{put_at, put_cells};
+ghost use Rattle.cell_values.specs.Cells.{put_at, put_cells, join, split, bytes_of};
+ghost use Rattle.cell_values.specs.Marks.{AreWhole, AreMarked, mark_of, IsCount, half_of_cells};
 ghost use Rattle.paged_store.specs.Pages.{has_page};
 
-use crate::Cell;
+use crate::marks::{add_mark, has_no_mark, make_marks};
 use crate::others::{find, forget, keep};
+use crate::{Cell, Val, join, split};
 use paged_store::{ByteStore, PageStore};
 use std::alloc::{AllocError, Global};
 use std::collections::BTreeMap;
@@ -17,6 +19,10 @@ pub struct CellStore {
     bytes: PageStore,
     // the cells that are no bytes, and bytes for which room was made; these stand before those of the pages
     others: BTreeMap<u32, Cell>,
+    // the mark of each word that has such a cell is not 0; words far apart share a mark. Empty before the first
+    marks: Vec<u8>,
+    ghost whole: { AreWhole marks.items },
+    ghost marked: { AreMarked (get nat_cmp others) marks.items },
 }
 
 impl CellStore {
@@ -29,16 +35,169 @@ impl CellStore {
         CellStore {
             bytes: PageStore::new(alloc),
             others: BTreeMap::new(alloc),
+            marks: Vec::new(alloc),
         }
     }
 
+    // What a machine reads and writes in each step is inlined; words that have more than bytes are left to cold functions.
+
+    /// Whether the `count` cells from an address on are in one word, which has bytes alone.
+    #[inline(always)]
+    fn is_plain(&self, at: u32, count: u32) -> bool
+        ensures { IsTrue result → (k : ℕ) → k < count → get nat_cmp self.now.others (at + k) ≡ None }
+    {
+        count <= 4 - at % 4 && has_no_mark(&self.marks, at)
+    }
+
     /// The cell at an address.
+    #[inline(always)]
     pub fn get(&self, at: u32) -> Cell
+        ensures { result ≡ cells_of self.now at }
+    {
+        if self.is_plain(at, 1) {
+            return Cell::Byte(self.bytes.get(at));
+        }
+        self.found(at)
+    }
+
+    /// The cell at any address.
+    #[cold]
+    #[inline(never)]
+    fn found(&self, at: u32) -> Cell
         ensures { result ≡ cells_of self.now at }
     {
         match find(&self.others, at) {
             Some(cell) => cell,
             None => Cell::Byte(self.bytes.get(at)),
+        }
+    }
+
+    /// The halfword of the two cells from an address on, if they are plain bytes.
+    #[inline(always)]
+    pub fn half(&self, at: u32) -> Option<u16>
+        requires { at + 2 ≤ 4294967296 }
+        ensures { result ≡ half_of_cells (cells_of self.now at) (cells_of self.now (at + 1)) }
+    {
+        if self.is_plain(at, 2) {
+            return Some(self.bytes.get_half(at));
+        }
+        match (self.found(at), self.found(at + 1)) {
+            (Cell::Byte(low), Cell::Byte(high)) => Some(u16::from_le_bytes([low, high])),
+            _ => None,
+        }
+    }
+
+    /// The word of the four cells from an address on.
+    #[inline(always)]
+    pub fn word(&self, at: u32) -> Val
+        requires { at + 4 ≤ 4294967296 }
+        ensures { result ≡ join (cells_of self.now at) (cells_of self.now (at + 1)) (cells_of self.now (at + 2)) (cells_of self.now (at + 3)) }
+    {
+        if self.is_plain(at, 4) {
+            return Val::Int(self.bytes.get_word(at));
+        }
+        self.joined(at)
+    }
+
+    /// That of any cells.
+    #[cold]
+    #[inline(never)]
+    fn joined(&self, at: u32) -> Val
+        requires { at + 4 ≤ 4294967296 }
+        ensures { result ≡ join (cells_of self.now at) (cells_of self.now (at + 1)) (cells_of self.now (at + 2)) (cells_of self.now (at + 3)) }
+    {
+        let first = self.found(at);
+        let second = self.found(at + 1);
+        let third = self.found(at + 2);
+        let fourth = self.found(at + 3);
+        join([first, second, third, fourth])
+    }
+
+    /// Puts the first `count` cells of a value at the addresses from `at` on, all or none: after an `Err`, which
+    /// comes only where no memory was left, no cell has changed.
+    #[inline(always)]
+    pub fn set_value(&mut self, at: u32, value: &Val, count: u32) -> Result<(), AllocError>
+        requires within { at + count ≤ 4294967296 }
+        requires count { IsCount count }
+        ensures set { OnOk result (cells_of self.new ≡ put_cells (cells_of self.old) at (take count (split value.now))) }
+        ensures err { OnErr result (cells_of self.new ≡ cells_of self.old) }
+    {
+        match *value {
+            Val::Int(n) if self.is_plain(at, count) => self.set_number(at, n, count),
+            _ => self.set_split(at, value, count),
+        }
+    }
+
+    /// Puts the first `count` bytes of a number where there are bytes alone.
+    #[inline(always)]
+    fn set_number(&mut self, at: u32, n: u32, count: u32) -> Result<(), AllocError>
+        requires within { at + count ≤ 4294967296 }
+        requires count { IsCount count }
+        requires plain { (k : ℕ) → k < count → get nat_cmp self.old.others (at + k) ≡ None }
+        ensures set { OnOk result (cells_of self.new ≡ put_cells (cells_of self.old) at (take count (bytes_of n))) }
+        ensures err { OnErr result (cells_of self.new ≡ cells_of self.old) }
+    {
+        match count {
+            4 => self.set_plain_word(at, n),
+            2 => self.set_plain_half(at, n),
+            _ => self.set_plain_byte(at, n),
+        }
+    }
+
+    /// Puts a word where there are bytes alone.
+    #[inline(always)]
+    fn set_plain_word(&mut self, at: u32, n: u32) -> Result<(), AllocError>
+        requires within { at + 4 ≤ 4294967296 }
+        requires plain { (k : ℕ) → k < 4 → get nat_cmp self.old.others (at + k) ≡ None }
+        ensures set { OnOk result (cells_of self.new ≡ put_cells (cells_of self.old) at (bytes_of n)) }
+        ensures err { OnErr result (cells_of self.new ≡ cells_of self.old) }
+    {
+        match self.bytes.set_word(at, n) {
+            Ok(()) => Ok(()),
+            Err(error) => Err(error),
+        }
+    }
+
+    /// Puts the low halfword of a number where there are bytes alone.
+    #[inline(always)]
+    fn set_plain_half(&mut self, at: u32, n: u32) -> Result<(), AllocError>
+        requires within { at + 2 ≤ 4294967296 }
+        requires plain { (k : ℕ) → k < 2 → get nat_cmp self.old.others (at + k) ≡ None }
+        ensures set { OnOk result (cells_of self.new ≡ put_cells (cells_of self.old) at (take 2 (bytes_of n))) }
+        ensures err { OnErr result (cells_of self.new ≡ cells_of self.old) }
+    {
+        match self.bytes.set_half(at, (n % 0x1_0000) as u16) {
+            Ok(()) => Ok(()),
+            Err(error) => Err(error),
+        }
+    }
+
+    /// Puts the least byte of a number where there is a byte.
+    #[inline(always)]
+    fn set_plain_byte(&mut self, at: u32, n: u32) -> Result<(), AllocError>
+        requires plain { (k : ℕ) → k < 1 → get nat_cmp self.old.others (at + k) ≡ None }
+        ensures set { OnOk result (cells_of self.new ≡ put_cells (cells_of self.old) at (take 1 (bytes_of n))) }
+        ensures err { OnErr result (cells_of self.new ≡ cells_of self.old) }
+    {
+        match self.bytes.set(at, (n % 0x100) as u8) {
+            Ok(()) => Ok(()),
+            Err(error) => Err(error),
+        }
+    }
+
+    /// Puts the first `count` cells of any value.
+    #[cold]
+    #[inline(never)]
+    fn set_split(&mut self, at: u32, value: &Val, count: u32) -> Result<(), AllocError>
+        requires within { at + count ≤ 4294967296 }
+        requires count { IsCount count }
+        ensures set { OnOk result (cells_of self.new ≡ put_cells (cells_of self.old) at (take count (split value.now))) }
+        ensures err { OnErr result (cells_of self.new ≡ cells_of self.old) }
+    {
+        let cells = split(value);
+        match self.set_all(at, &cells[..count as usize]) {
+            Ok(()) => Ok(()),
+            Err(error) => Err(error),
         }
     }
 
@@ -63,8 +222,26 @@ impl CellStore {
         ensures fits { IsSome (get nat_cmp self.old.others at) → IsOk result }
         ensures stays { (a : ℕ) (other : Cell) → HasPlace self.old a other → HasPlace self.new a other }
     {
+        self.mark(at)?;
         match keep(&mut self.others, at, cell) {
             Ok(()) => Ok(()),
+            Err(error) => Err(error),
+        }
+    }
+
+    /// Marks the word of an address. It is `Ok` where the map has a cell there.
+    fn mark(&mut self, at: u32) -> Result<(), AllocError>
+        ensures same { cells_of self.new ≡ cells_of self.old }
+        ensures others { self.new.others ≡ self.old.others }
+        ensures bytes { self.new.bytes ≡ self.old.bytes }
+        ensures mark { OnOk result (0 < mark_of self.new.marks.items at) }
+        ensures fits { IsSome (get nat_cmp self.old.others at) → IsOk result }
+    {
+        match make_marks(&mut self.marks) {
+            Ok(()) => {
+                add_mark(&mut self.marks, at);
+                Ok(())
+            }
             Err(error) => Err(error),
         }
     }
@@ -132,7 +309,8 @@ impl CellStore {
         ensures entry { OnOk result (IsSome (get nat_cmp self.new.others at)) }
         ensures stays { (a : ℕ) (other : Cell) → HasPlace self.old a other → HasPlace self.new a other }
     {
-        let now = self.get(at);
+        let now = self.found(at);
+        self.mark(at)?;
         keep(&mut self.others, at, now)
     }
 
