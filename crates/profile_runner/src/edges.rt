@@ -6,6 +6,7 @@ use crate::counts::Edge;
 use std::alloc::AllocError;
 
 /// One more edge to `to` among the edges of block `from`, which lead to ascending blocks.
+#[inline(always)]
 pub(crate) fn add_edge(row: &mut Vec<Edge>, from: u32, to: u32) -> Result<(), AllocError>
     requires ascending { Ascend 0 row.old.items }
     requires room { All (λ e. e.count < 18446744073709551615) row.old.items }
@@ -19,6 +20,7 @@ pub(crate) fn add_edge(row: &mut Vec<Edge>, from: u32, to: u32) -> Result<(), Al
 }
 
 /// The place of the edge to `to`, or that where it belongs, by binary search.
+#[inline(always)]
 fn find_edge(row: &[Edge], to: u32) -> Result<usize, usize>
     requires { Ascend 0 row.now }
     ensures { MatchResult result (IsFoundAt row.now to) (IsGapAt row.now to) }
@@ -35,6 +37,7 @@ fn find_edge(row: &[Edge], to: u32) -> Result<usize, usize>
 }
 
 /// One more edge from block `from` to block `to`.
+#[inline(always)]
 pub(crate) fn add_edge_in(rows: &mut Vec<Vec<Edge>>, from: u32, to: u32) -> Result<(), AllocError>
     requires row { from < length rows.old.items }
     requires ascending { Ascend 0 (edge_row (plain_edges rows.old.items) from) }

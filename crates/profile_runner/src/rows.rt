@@ -4,6 +4,7 @@ ghost use Rattle.profile_runner.specs.Counts.{plain_rows, row_of, entry};
 ghost use Rattle.profile_runner.specs.Tallies.{Adds, AddsIn, is_entry};
 
 /// One more at place `k`.
+#[inline(always)]
 pub(crate) fn bump(row: &mut Vec<u64>, k: usize)
     requires within { k < length row.old.items }
     requires room { slice_index row.old.items k < 18446744073709551615 }
@@ -13,6 +14,7 @@ pub(crate) fn bump(row: &mut Vec<u64>, k: usize)
 }
 
 /// One more in row `j`, column `k`.
+#[inline(always)]
 pub(crate) fn bump_in(table: &mut Vec<Vec<u64>>, j: usize, k: usize)
     requires row { j < length table.old.items }
     requires column { k < length (row_of (plain_rows table.old.items) j) }

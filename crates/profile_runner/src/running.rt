@@ -23,7 +23,7 @@ use std::alloc::{AllocError, Global};
 /// Runs a program for `n` steps, or until it ends, and counts what happens. The machine must be at the start of
 /// a block, as it is at the start; `code`, `graph` and `regions` are those of its program.
 ///
-/// Each step takes the time of a binary search among the blocks, where it ends a block, and little else.
+/// Each step takes the time of a look-up among the edges from its block, where it ends that, and little else.
 ///
 /// It fails with `AddressFault` exactly where the run meets one within `n` steps.
 pub fn profile(
@@ -101,6 +101,7 @@ fn take_steps(
 
 /// Takes a step and counts it. It tells the block that begins behind it, if the machine goes on and one does;
 /// `coming` is the one that begins with it.
+#[inline(always)]
 fn count_step(
     tally: &mut Tally,
     source: &mut Source,
@@ -115,7 +116,7 @@ fn count_step(
 {
     let event = source.step()?;
     let near = block_now(coming, tally.block);
-    let next = next_block(code, near, &event.outcome, source.at());
+    let next = next_block(code, near, tally.known(near), &event.outcome, source.at());
     match tally.count(regions, coming, event.access, next) {
         Ok(()) => Ok(next),
         Err(error) => Err(error),
@@ -123,6 +124,7 @@ fn count_step(
 }
 
 /// The block of a unit: the one that begins with it, or else that of the unit before.
+#[inline(always)]
 fn block_now(coming: Option<u32>, block: u32) -> u32
     ensures { result ≡ block_now coming block }
 {

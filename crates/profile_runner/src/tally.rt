@@ -33,8 +33,21 @@ impl Tally {
     ghost use Rattle.profile_runner.specs.Tally.{HasRoomToBegin, HasRoomForBlock, HasRoomToAccess, HasRoomToLead, HasRoom, HasBegun, HasAccessed, HasLed, HasCounted};
     ghost use Rattle.profile_runner.specs.Tallies.{plain_edges, region_now, block_now};
 
+    /// The edges that were taken from a block, as they are known so far.
+    #[inline(always)]
+    pub(crate) fn known(&self, block: u32) -> &[Edge] {
+        if (block as usize) < self.edges.len() {
+            &self.edges[block as usize]
+        } else {
+            &[]
+        }
+    }
+
+    // Counting is inlined in the loop that takes steps.
+
     /// Counts one step: which block begins with it, if one does, its access, and to which block it leads, if the
     /// machine goes on to one.
+    #[inline(always)]
     pub(crate) fn count(
         &mut self,
         regions: &RegionTable,
@@ -55,6 +68,7 @@ impl Tally {
     }
 
     /// A unit begins, and a block with it or none.
+    #[inline(always)]
     fn begin(&mut self, regions: &RegionTable, coming: Option<u32>)
         requires { HasRoomToBegin regions.now.of_block.items coming self.old }
         ensures { HasBegun regions.now.of_block.items coming self.old self.new }
@@ -66,6 +80,7 @@ impl Tally {
     }
 
     /// A block begins.
+    #[inline(always)]
     fn begin_block(&mut self, regions: &RegionTable, block: u32)
         requires { HasRoomForBlock regions.now.of_block.items block self.old }
         ensures { HasBegun regions.now.of_block.items (Some block) self.old self.new }
@@ -79,6 +94,7 @@ impl Tally {
     }
 
     /// A load or a store on an object, if there is one.
+    #[inline(always)]
     fn access(&mut self, access: Option<Access>)
         requires { HasRoomToAccess self.old.region (plain_rows self.old.reads.items) (plain_rows self.old.writes.items) }
         ensures { HasAccessed access self.old self.new }
@@ -93,6 +109,7 @@ impl Tally {
     }
 
     /// Control goes to a block, or to none.
+    #[inline(always)]
     fn lead(&mut self, next: Option<u32>) -> Result<(), AllocError>
         requires { HasRoomToLead next self.old.block (plain_edges self.old.edges.items) }
         ensures { OnOk result (HasLed next self.old self.new) }
@@ -108,6 +125,7 @@ impl Tally {
 }
 
 /// The region that is current once a block of this region began: a block of none leaves it as it is.
+#[inline(always)]
 fn entered(current: u32, region: u32) -> u32
     ensures { result ≡ entered current region }
 {
@@ -115,6 +133,7 @@ fn entered(current: u32, region: u32) -> u32
 }
 
 /// One more in row `object`, if there is one, and column `region`.
+#[inline(always)]
 fn count_in(table: &mut Vec<Vec<u64>>, object: u32, region: u32)
     requires column { (j : ℕ) → j < length table.old.items → region < length (row_of (plain_rows table.old.items) j) }
     requires room { (j : ℕ) → j < length table.old.items → entry (plain_rows table.old.items) j region < 18446744073709551615 }
