@@ -17,4 +17,6 @@ pub mod RunLemmas
 pub mod SiteLemmas
 pub mod StartLemmas
 pub mod StoreLemmas
+pub mod LandingLemmas
+pub mod CellLemmas
 pub mod TableLemmas

@@ -13,6 +13,7 @@ pub mod Start
 pub mod Paired
 pub mod Units
 pub mod Layout
+pub mod Landings
 pub mod Reports
 pub mod OfGraph
 pub mod Spots

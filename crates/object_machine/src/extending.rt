@@ -2,12 +2,15 @@ ghost use Rattle.std.specs.Prelude.{◌≡◌};
 ghost use Rattle.object_graph.specs.declared.parts.Graph.{Graph};
 ghost use Rattle.cell_values.specs.Objects.{IsOfGraph};
 ghost use Rattle.cell_values.specs.Cells.{IsCellOfGraph, byte_value, half_value};
+ghost use Rattle.cell_values.specs.Marks.{half_of_cells};
+ghost use Rattle.cell_values.specs.declared.values.Cell.{Cell};
 ghost use Rattle.object_machine.specs.Memory.{signed_byte, signed_half, same_number};
 
 use cell_values::{Cell, Val};
 use word_bits::sext;
 
 /// The value of a byte, extended by its sign.
+#[inline(always)]
 pub(crate) fn signed_byte(cell: &Cell) -> Val
     ensures value { result ≡ byte_value signed_byte cell.now }
     ensures of { (g : Graph) → IsCellOfGraph g cell.now → IsOfGraph g result }
@@ -20,6 +23,7 @@ pub(crate) fn signed_byte(cell: &Cell) -> Val
 }
 
 /// That extended by zeros.
+#[inline(always)]
 pub(crate) fn plain_byte(cell: &Cell) -> Val
     ensures value { result ≡ byte_value same_number cell.now }
     ensures of { (g : Graph) → IsCellOfGraph g cell.now → IsOfGraph g result }
@@ -31,26 +35,26 @@ pub(crate) fn plain_byte(cell: &Cell) -> Val
     }
 }
 
-/// The value of two bytes, extended by their sign.
-pub(crate) fn signed_half(first: &Cell, second: &Cell) -> Val
-    ensures value { result ≡ half_value signed_half first.now second.now }
+/// The value of a halfword, extended by its sign, where it is one of plain bytes.
+#[inline(always)]
+pub(crate) fn signed_half_of(half: Option<u16>) -> Val
+    ensures value { (a b : Cell) → half ≡ half_of_cells a b → result ≡ half_value signed_half a b }
     ensures of { (g : Graph) → IsOfGraph g result }
 {
-    match (*first, *second) {
-        (Cell::Byte(a), Cell::Byte(b)) => {
-            Val::Int(sext(u32::from(u16::from_le_bytes([a, b])), 16))
-        }
-        _ => Val::Unknown,
+    match half {
+        Some(half) => Val::Int(sext(u32::from(half), 16)),
+        None => Val::Unknown,
     }
 }
 
 /// That extended by zeros.
-pub(crate) fn plain_half(first: &Cell, second: &Cell) -> Val
-    ensures value { result ≡ half_value same_number first.now second.now }
+#[inline(always)]
+pub(crate) fn half_of(half: Option<u16>) -> Val
+    ensures value { (a b : Cell) → half ≡ half_of_cells a b → result ≡ half_value same_number a b }
     ensures of { (g : Graph) → IsOfGraph g result }
 {
-    match (*first, *second) {
-        (Cell::Byte(a), Cell::Byte(b)) => Val::Int(u32::from(u16::from_le_bytes([a, b]))),
-        _ => Val::Unknown,
+    match half {
+        Some(half) => Val::Int(u32::from(half)),
+        None => Val::Unknown,
     }
 }

@@ -4,6 +4,7 @@
 mod events;
 mod extending;
 mod footprints;
+mod landings;
 mod laws;
 mod machine;
 mod preparing;
@@ -12,6 +13,7 @@ mod starting;
 mod tables;
 mod tabling;
 mod units;
+mod widest;
 mod widths;
 
 pub use events::{Access, Event, Outcome};

@@ -110,9 +110,13 @@ impl Source {
     ghost use Rattle.object_machine.specs.Runs.{Steps, HasEnded};
     ghost use Rattle.object_machine.specs.Machine.{state_of, seen_state, here, IsProgram, StepsFrom, Becomes, when_going};
 
+    // All that a step does is inlined in the loops that take steps, since it has several callers by now, and a call passes
+    // values and events by way of the stack; what is rare stays in cold functions.
+
     /// Takes one step. A machine that has ended stays as it is, and tells the same outcome again.
     ///
     /// On an error, which comes only where no memory was left, the step was not taken.
+    #[inline(always)]
     pub fn step(&mut self) -> Result<Event, AllocError>
         ensures step { IfOk result (λ event. (p : Program) → IsProgram p self.old → IsProgram p self.new × Step p (state_of p self.old) event (state_of p self.new)) }
         ensures err { OnErr result ((p : Program) → IsProgram p self.old → IsProgram p self.new × (state_of p self.new ≡ state_of p self.old)) }
@@ -124,6 +128,7 @@ impl Source {
     }
 
     /// Takes one step, as the tables tell it.
+    #[inline(always)]
     fn step_seen(&mut self) -> Result<Event, AllocError>
         ensures step { IfOk result (λ event. StepsFrom self.old.outcome self.old event (seen_state self.new)) }
         ensures tables { self.new.tables ≡ self.old.tables }
@@ -164,6 +169,7 @@ impl Source {
     }
 
     /// The address of the next unit (pc).
+    #[inline(always)]
     pub fn at(&self) -> u32
         ensures { (p : Program) → result ≡ (state_of p self.now).pc }
     {
@@ -186,6 +192,7 @@ impl Source {
     }
 
     /// What has become of the machine.
+    #[inline(always)]
     pub fn outcome(&self) -> Outcome
         ensures { (p : Program) → result ≡ (state_of p self.now).outcome }
     {
@@ -193,6 +200,7 @@ impl Source {
     }
 
     /// Whether the machine goes on no more.
+    #[inline(always)]
     fn has_ended(&self) -> bool
         ensures { MatchBool result (HasEnded self.now.outcome) (self.now.outcome ≡ Outcome.GoesOn) }
     {
@@ -203,6 +211,7 @@ impl Source {
     }
 
     /// What a step that began at `at` tells.
+    #[inline(always)]
     fn event(&self, at: u32, access: Option<Access>) -> Event
         ensures { result ≡ record { at = at; outcome = self.now.outcome; access = when_going self.now.outcome access } }
     {

@@ -1,8 +1,12 @@
-ghost use Rattle.std.specs.Prelude.{◌≡◌, true, length};
+ghost use Rattle.std.specs.Prelude.{◌≡◌, ℕ, true, length};
+ghost use Rattle.std.specs.List.{list_any};
+ghost use Rattle.object_graph.specs.Sites.{in_range};
+ghost use Rattle.object_machine.specs.Landings.{AreLandings};
 ghost use Rattle.std.specs.List.Sorted.{IsStrictlyIncreasing};
 ghost use Rattle.object_machine.specs.Units.{AreFit, AreJoined, AreStarts};
 ghost use Rattle.object_machine.specs.Layout.{AreAscending, EndBelow, HasDisjointObjects, LieOff, AreAmong, is_grain};
 
+use crate::landings::landing;
 use crate::units::Prepared;
 use board_config::Range;
 use list_checks::place_of;
@@ -20,8 +24,13 @@ pub(crate) struct Tables {
     pub(crate) places: Vec<usize>,
     /// The starts that a jump by a register may reach, ascending.
     pub(crate) reached: Vec<u64>,
-    /// Memory that stays as it is, ascending.
+    /// The address of the first block, and by words from there on the landings of blocks, and of reached ones.
+    pub(crate) first: u64,
+    pub(crate) landings: Vec<usize>,
+    pub(crate) reached_landings: Vec<usize>,
+    /// Memory that stays as it is, ascending, and the widest range of it, where the stack mostly is.
     pub(crate) fixed: Vec<Range>,
+    pub(crate) widest: Range,
     pub(crate) ghost grain: { is_grain graph.grain ≡ true },
     pub(crate) ghost below: { EndBelow graph },
     pub(crate) ghost disjoint: { HasDisjointObjects graph },
@@ -33,10 +42,13 @@ pub(crate) struct Tables {
     pub(crate) ghost reached_ascending: { IsStrictlyIncreasing reached.items },
     pub(crate) ghost among: { AreAmong reached.items starts.items },
     pub(crate) ghost ranges: { AreAscending fixed.items },
+    pub(crate) ghost landed: { AreLandings units.items starts.items landings.items },
+    pub(crate) ghost reached_landed: { AreLandings units.items reached.items reached_landings.items },
+    pub(crate) ghost wide: { (a : ℕ) → in_range widest a ≡ true → list_any (λ r. in_range r a) fixed.items ≡ true },
 }
 
 impl Tables {
-    ghost use Rattle.std.specs.Prelude.{false, MatchOption};
+    ghost use Rattle.std.specs.Prelude.{false, ◌+◌, ◌<◌, ◌≤◌, IsTrue, MatchOption};
     ghost use Rattle.code_leaders.specs.Early.{has};
     ghost use Rattle.object_machine.specs.Units.{IsUnitAt};
     ghost use Rattle.object_machine.specs.Layout.{is_in_some};
@@ -48,8 +60,31 @@ impl Tables {
         lies_in_some(&self.fixed, address)
     }
 
-    /// The first unit of the block that begins at an address, if one does, by binary search.
+    /// Whether the `n` bytes from an address on lie in the widest range of fixed memory.
+    #[inline(always)]
+    pub(crate) fn is_wide(&self, at: u32, n: u32) -> bool
+        requires { at + n ≤ 4294967296 }
+        ensures { IsTrue result → (i : ℕ) → i < n → is_in_some self.now.fixed.items (at + i) ≡ true }
+    {
+        let Range { base, size } = self.widest;
+        at >= base && at - base <= size && n <= size - (at - base)
+    }
+
+    /// The first unit of the block that begins at an address, if one does.
+    #[inline(always)]
     pub(crate) fn block_at(&self, address: u64) -> Option<usize>
+        ensures { MatchOption result (has self.now.starts.items address ≡ false) (λ k. (has self.now.starts.items address ≡ true) × IsUnitAt self.now.units.items k address) }
+    {
+        match landing(&self.landings, &self.units, self.first, address) {
+            Some(place) => Some(place),
+            None => self.found_block(address),
+        }
+    }
+
+    /// The same, by binary search.
+    #[cold]
+    #[inline(never)]
+    fn found_block(&self, address: u64) -> Option<usize>
         ensures { MatchOption result (has self.now.starts.items address ≡ false) (λ k. (has self.now.starts.items address ≡ true) × IsUnitAt self.now.units.items k address) }
     {
         match place_of(&self.starts, address) {
@@ -67,7 +102,20 @@ impl Tables {
     }
 
     /// The first unit of the block at an address, if a jump by a register may reach that.
+    #[inline(always)]
     pub(crate) fn reached_at(&self, address: u64) -> Option<usize>
+        ensures { MatchOption result (has self.now.reached.items address ≡ false) (λ k. (has self.now.reached.items address ≡ true) × IsUnitAt self.now.units.items k address) }
+    {
+        match landing(&self.reached_landings, &self.units, self.first, address) {
+            Some(place) => Some(place),
+            None => self.found_reached(address),
+        }
+    }
+
+    /// The same, by binary search.
+    #[cold]
+    #[inline(never)]
+    fn found_reached(&self, address: u64) -> Option<usize>
         ensures { MatchOption result (has self.now.reached.items address ≡ false) (λ k. (has self.now.reached.items address ≡ true) × IsUnitAt self.now.units.items k address) }
     {
         match place_of(&self.reached, address) {

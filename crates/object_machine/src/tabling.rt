@@ -9,8 +9,10 @@ ghost use Rattle.object_machine.specs.Program.{program_of};
 ghost use Rattle.object_machine.specs.Machine.{Agrees};
 ghost use Rattle.object_machine.specs.Preparing.{HasObjects};
 
+use crate::landings::{block_landings, first_start, reached_landings};
 use crate::preparing::{lay_blocks, objects_alone, widened};
 use crate::tables::Tables;
+use crate::widest::widest_of;
 use board_config::Board;
 use code_blocks::Code;
 use elf_reader::ElfView;
@@ -39,8 +41,14 @@ pub(crate) fn tables_of(
     let block_units = lay_blocks(alloc, &file, graph, code)?;
     let reached = widened(alloc, &code.indirect)?;
     let fixed = fixed_ranges(alloc, view, board, graph)?;
+    let landings = block_landings(alloc, &block_units)?;
+    let reached_landings = reached_landings(alloc, &block_units, &landings, &reached)?;
     Ok(Tables {
         graph: objects,
+        first: first_start(&block_units.starts),
+        widest: widest_of(&fixed),
+        landings,
+        reached_landings,
         units: block_units.units,
         starts: block_units.starts,
         places: block_units.places,

@@ -5,6 +5,7 @@ ghost use Rattle.object_machine.specs.Spots.{IsWidth};
 use rv_decode::{LoadKind, StoreKind};
 
 /// How many bytes a load takes.
+#[inline(always)]
 pub(crate) fn load_bytes(kind: LoadKind) -> u32
     ensures value { result ≡ load_width kind }
     ensures width { IsWidth result }
@@ -17,6 +18,7 @@ pub(crate) fn load_bytes(kind: LoadKind) -> u32
 }
 
 /// How many bytes a store puts.
+#[inline(always)]
 pub(crate) fn store_bytes(kind: StoreKind) -> u32
     ensures value { result ≡ store_width kind }
     ensures width { IsWidth result }

@@ -40,6 +40,8 @@ impl Source {
     ghost use Rattle.object_machine.specs.Machine.{seen, seen_state, Becomes};
 
     /// Does the call that the registers name.
+    #[cold]
+    #[inline(never)]
     pub(super) fn call(&mut self) -> Result<(), AllocError>
         ensures ok { OnOk result (Becomes self.old self.new (calls_by (seen self.old) (seen_state self.old) (a7 (seen_state self.old)))) }
         ensures err { OnErr result (Becomes self.old self.new (seen_state self.old)) }

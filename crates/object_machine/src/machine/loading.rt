@@ -1,9 +1,9 @@
 use crate::events::Access;
-use crate::extending::{plain_byte, plain_half, signed_byte, signed_half};
+use crate::extending::{half_of, plain_byte, signed_byte, signed_half_of};
 use crate::machine::Source;
 use crate::spots::Spot;
 use crate::widths::load_bytes;
-use cell_values::{Cell, Val, join};
+use cell_values::{Cell, Val};
 use rv_decode::LoadKind;
 
 impl Source {
@@ -12,14 +12,37 @@ impl Source {
     ghost use Rattle.rv_decode.specs.declared.instructions.Instr.{Instr};
     ghost use Rattle.cell_values.specs.Objects.{IsOfGraph};
     ghost use Rattle.cell_values.specs.Cells.{IsCellOfGraph};
+    ghost use Rattle.cell_values.specs.Marks.{half_of_cells};
     ghost use Rattle.object_machine.specs.Memory.{cell_at, loaded_value};
     ghost use Rattle.object_machine.specs.Places.{read_fault};
     ghost use Rattle.object_machine.specs.Step.{loads_from, acts, access_by};
     ghost use Rattle.object_machine.specs.Spots.{where_of, HasByte, Spans};
     ghost use Rattle.object_machine.specs.Machine.{seen, seen_state, Becomes};
 
+    // A kind is told apart before the access, so that its width is known where the access is inlined.
+
     /// A load. Tells of its access.
+    #[inline(always)]
     pub(super) fn load(&mut self, kind: LoadKind, rd: u8, rs1: u8, imm: i32) -> Option<Access>
+        requires rd { rd < 32 }
+        requires rs1 { rs1 < 32 }
+        ensures state { let p = seen self.old in
+            let s = seen_state self.old in
+            Becomes self.old self.new (acts p s (Instr.Load kind rd rs1 imm) (p.site s.pc)) }
+        ensures access { result ≡ access_by (seen self.old) (seen_state self.old) (Some (Instr.Load kind rd rs1 imm)) }
+    {
+        match kind {
+            LoadKind::Lb => self.load_of(LoadKind::Lb, rd, rs1, imm),
+            LoadKind::Lbu => self.load_of(LoadKind::Lbu, rd, rs1, imm),
+            LoadKind::Lh => self.load_of(LoadKind::Lh, rd, rs1, imm),
+            LoadKind::Lhu => self.load_of(LoadKind::Lhu, rd, rs1, imm),
+            LoadKind::Lw => self.load_of(LoadKind::Lw, rd, rs1, imm),
+        }
+    }
+
+    /// A load of a kind. Tells of its access.
+    #[inline(always)]
+    fn load_of(&mut self, kind: LoadKind, rd: u8, rs1: u8, imm: i32) -> Option<Access>
         requires rd { rd < 32 }
         requires rs1 { rs1 < 32 }
         ensures state { let p = seen self.old in
@@ -34,6 +57,7 @@ impl Source {
     }
 
     /// A load from a place.
+    #[inline(always)]
     fn load_from(&mut self, kind: LoadKind, rd: u8, spot: &Spot)
         requires rd { rd < 32 }
         requires spans { Spans self.old.tables (load_width kind) spot.now }
@@ -49,6 +73,7 @@ impl Source {
     }
 
     /// The value that a load takes from a place.
+    #[inline(always)]
     fn loaded(&self, kind: LoadKind, spot: &Spot) -> Val
         requires { Spans self.now.tables (load_width kind) spot.now }
         ensures value { result ≡ loaded_value kind (seen_state self.now) (where_of spot.now) }
@@ -57,26 +82,42 @@ impl Source {
         match kind {
             LoadKind::Lb => signed_byte(&self.cell_at(spot, 0)),
             LoadKind::Lbu => plain_byte(&self.cell_at(spot, 0)),
-            LoadKind::Lh => signed_half(&self.cell_at(spot, 0), &self.cell_at(spot, 1)),
-            LoadKind::Lhu => plain_half(&self.cell_at(spot, 0), &self.cell_at(spot, 1)),
+            LoadKind::Lh => signed_half_of(self.half_at(spot)),
+            LoadKind::Lhu => half_of(self.half_at(spot)),
             LoadKind::Lw => self.word_at(spot),
         }
     }
 
     /// The value of the four cells from a place.
+    #[inline(always)]
     fn word_at(&self, spot: &Spot) -> Val
         requires { Spans self.now.tables 4 spot.now }
         ensures value { result ≡ loaded_value LoadKind.Lw (seen_state self.now) (where_of spot.now) }
         ensures of { IsOfGraph self.now.tables.graph result }
     {
-        let first = self.cell_at(spot, 0);
-        let second = self.cell_at(spot, 1);
-        let third = self.cell_at(spot, 2);
-        let fourth = self.cell_at(spot, 3);
-        join([first, second, third, fourth])
+        match *spot {
+            Spot::Fixed(at) => self.memory.word(at),
+            Spot::Object { object, offset } => self.memory.word(self.home_of(object) + offset),
+            Spot::Nowhere(_) => Val::Unknown,
+        }
+    }
+
+    /// The halfword of the two cells from a place, if they are plain bytes.
+    #[inline(always)]
+    fn half_at(&self, spot: &Spot) -> Option<u16>
+        requires { Spans self.now.tables 2 spot.now }
+        ensures { let s = seen_state self.now in
+            result ≡ half_of_cells (cell_at s (where_of spot.now) 0) (cell_at s (where_of spot.now) 1) }
+    {
+        match *spot {
+            Spot::Fixed(at) => self.memory.half(at),
+            Spot::Object { object, offset } => self.memory.half(self.home_of(object) + offset),
+            Spot::Nowhere(_) => None,
+        }
     }
 
     /// The cell `i` bytes behind a place.
+    #[inline(always)]
     pub(super) fn cell_at(&self, spot: &Spot, i: u32) -> Cell
         requires { HasByte self.now.tables spot.now i }
         ensures value { result ≡ cell_at (seen_state self.now) (where_of spot.now) i }

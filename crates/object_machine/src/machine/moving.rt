@@ -18,6 +18,7 @@ impl Source {
     ghost use Rattle.object_machine.specs.Machine.{seen, seen_state, calls, Becomes};
 
     /// The place of the unit behind the present one, if it may follow that.
+    #[inline(always)]
     pub(super) fn next_place(&self) -> Option<usize>
         ensures { MatchOption result ((seen self.now).falls self.now.pc ≡ false) (λ k. ((seen self.now).falls self.now.pc ≡ true) × IsUnitAt self.now.tables.units.items k (self.now.pc + 4)) }
     {
@@ -29,6 +30,7 @@ impl Source {
     }
 
     /// Goes to a unit.
+    #[inline(always)]
     pub(super) fn enter(&mut self, place: usize)
         requires { place < length self.old.tables.units.items }
         ensures { Becomes self.old self.new (record (seen_state self.old) { pc = (unit_in self.old.tables.units.items place).at }) }
@@ -39,6 +41,8 @@ impl Source {
     }
 
     /// Ends the machine at the present unit, which can't be performed for a reason.
+    #[cold]
+    #[inline(never)]
     pub(super) fn fault(&mut self, why: u32)
         ensures { Becomes self.old self.new (faulted (seen_state self.old) why) }
     {
@@ -46,6 +50,8 @@ impl Source {
     }
 
     /// Ends the machine at the present unit, which means nothing or is EBREAK.
+    #[cold]
+    #[inline(never)]
     pub(super) fn trap(&mut self)
         ensures { Becomes self.old self.new (trapped (seen_state self.old)) }
     {
@@ -53,6 +59,7 @@ impl Source {
     }
 
     /// Goes to the next word.
+    #[inline(always)]
     pub(super) fn fall(&mut self)
         ensures { Becomes self.old self.new (falls_on (seen self.old) (seen_state self.old) (seen_state self.old)) }
     {
@@ -63,6 +70,7 @@ impl Source {
     }
 
     /// Puts a value into a register, and goes to the next word.
+    #[inline(always)]
     pub(super) fn write(&mut self, rd: u8, v: Val)
         requires rd { rd < 32 }
         requires of { IsOfGraph self.old.tables.graph v }
@@ -78,6 +86,7 @@ impl Source {
     }
 
     /// Jumps to a block.
+    #[inline(always)]
     pub(super) fn jump(&mut self, target: u32)
         ensures { Becomes self.old self.new (jumps (seen self.old) (seen_state self.old) target (seen_state self.old)) }
     {
@@ -88,6 +97,7 @@ impl Source {
     }
 
     /// Jumps to a block, and leaves a value in a register.
+    #[inline(always)]
     pub(super) fn link(&mut self, target: u32, rd: u8, back: Val)
         requires rd { rd < 32 }
         requires of { IsOfGraph self.old.tables.graph back }
@@ -104,6 +114,7 @@ impl Source {
 
     /// Jumps to where a value says, if that is a block that a register may lead to, and leaves the way back in a
     /// register.
+    #[inline(always)]
     pub(super) fn jump_by(&mut self, target: &Val, rd: u8)
         requires { rd < 32 }
         ensures { let s = seen_state self.old in
@@ -116,6 +127,7 @@ impl Source {
     }
 
     /// The same of an address.
+    #[inline(always)]
     fn jump_to(&mut self, address: u32, rd: u8)
         requires { rd < 32 }
         ensures { let s = seen_state self.old in
@@ -132,6 +144,7 @@ impl Source {
     }
 
     /// Branches, if it is known whether.
+    #[inline(always)]
     pub(super) fn branch_if(&mut self, consumed: Option<bool>, off: i32)
         ensures { Becomes self.old self.new (branches (seen self.old) (seen_state self.old) off consumed) }
     {
@@ -143,6 +156,7 @@ impl Source {
     }
 
     /// Performs a call of two words.
+    #[inline(always)]
     pub(super) fn call_pair(&mut self, pair: &Pair)
         requires register { pair.now.register < 32 }
         requires below { self.old.pc + 8 < 4294967296 }

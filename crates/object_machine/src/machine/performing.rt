@@ -14,6 +14,7 @@ impl Source {
     ghost use Rattle.object_machine.specs.Machine.{here, seen, seen_state, next_by, accesses, Becomes};
 
     /// Performs the present unit. Tells of its access.
+    #[inline(always)]
     pub(super) fn perform(&mut self, unit: &Prepared) -> Result<Option<Access>, AllocError>
         requires present { unit.now ≡ here self.old }
         requires fit { IsFit (length self.old.tables.graph.objects.items) unit.now }
@@ -31,6 +32,7 @@ impl Source {
     }
 
     /// Does what a word was read as; one that means nothing is a trap. Tells of its access.
+    #[inline(always)]
     fn perform_read(&mut self, read: Option<Instr>) -> Result<Option<Access>, AllocError>
         requires { FitsRead read }
         ensures state { OnOk result (Becomes self.old self.new (one_word (seen self.old) (seen_state self.old) read)) }
@@ -47,6 +49,7 @@ impl Source {
     }
 
     /// Performs an instruction. Tells of its access.
+    #[inline(always)]
     fn perform_one(&mut self, i: Instr) -> Result<Option<Access>, AllocError>
         requires { Fits i }
         ensures state { let p = seen self.old in
@@ -83,6 +86,7 @@ impl Source {
     }
 
     /// LUI.
+    #[inline(always)]
     fn lui(&mut self, rd: u8, imm: u32)
         requires rd { rd < 32 }
         requires imm { imm < 1048576 }
@@ -95,6 +99,7 @@ impl Source {
     }
 
     /// AUIPC.
+    #[inline(always)]
     fn auipc(&mut self, rd: u8, imm: u32)
         requires rd { rd < 32 }
         requires imm { imm < 1048576 }
@@ -107,6 +112,7 @@ impl Source {
     }
 
     /// A number, or at a site the upper part of an address.
+    #[inline(always)]
     fn upper(&self, n: u32) -> Val
         ensures value { result ≡ upper_value ((seen self.now).site self.now.pc) n }
         ensures of { IsOfGraph self.now.tables.graph result }
@@ -121,6 +127,7 @@ impl Source {
     }
 
     /// JAL.
+    #[inline(always)]
     fn jal(&mut self, rd: u8, off: i32)
         requires { rd < 32 }
         ensures { let p = seen self.old in
@@ -133,6 +140,7 @@ impl Source {
     }
 
     /// JALR: the target is taken before the way back is written.
+    #[inline(always)]
     fn jalr(&mut self, rd: u8, rs1: u8, imm: i32)
         requires rd { rd < 32 }
         requires rs1 { rs1 < 32 }
@@ -146,6 +154,7 @@ impl Source {
     }
 
     /// A conditional branch.
+    #[inline(always)]
     fn branch(&mut self, kind: BranchKind, rs1: u8, rs2: u8, off: i32)
         requires rs1 { rs1 < 32 }
         requires rs2 { rs2 < 32 }
@@ -160,6 +169,7 @@ impl Source {
     }
 
     /// An operation on a register and an immediate, or at a site the low part of an address.
+    #[inline(always)]
     fn op_imm(&mut self, kind: ImmKind, rd: u8, rs1: u8, imm: i32)
         requires rd { rd < 32 }
         requires rs1 { rs1 < 32 }
@@ -173,6 +183,7 @@ impl Source {
     }
 
     /// What that leaves of a value.
+    #[inline(always)]
     fn imm_result(&self, kind: ImmKind, base: &Val, imm: i32) -> Val
         requires { IsOfGraph self.now.tables.graph base.now }
         ensures value { result ≡ imm_result (seen self.now) kind base.now imm ((seen self.now).site self.now.pc) }
@@ -185,6 +196,7 @@ impl Source {
     }
 
     /// An operation on two registers.
+    #[inline(always)]
     fn op_reg(&mut self, kind: RegKind, rd: u8, rs1: u8, rs2: u8)
         requires rd { rd < 32 }
         requires rs1 { rs1 < 32 }

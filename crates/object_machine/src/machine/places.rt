@@ -32,6 +32,7 @@ impl Source {
     ghost use Rattle.object_machine.specs.Machine.{seen, seen_state};
 
     /// The site that the present unit is.
+    #[inline(always)]
     pub(super) fn site(&self) -> Option<Site>
         ensures site { target_of result ≡ (seen self.now).site self.now.pc }
         ensures fits { FitsSite (length self.now.tables.graph.objects.items) result }
@@ -40,6 +41,7 @@ impl Source {
     }
 
     /// Where a load or a store goes whose register has this value: at a site by the object that it names.
+    #[inline(always)]
     fn address(&self, base: &Val, imm: i32) -> Val
         requires { IsOfGraph self.now.tables.graph base.now }
         ensures value { result ≡ address_of (seen self.now) ((seen self.now).site self.now.pc) base.now imm }
@@ -52,6 +54,7 @@ impl Source {
     }
 
     /// The place of a load or a store of `width` bytes.
+    #[inline(always)]
     pub(super) fn spot_of(&self, width: u32, rs1: u8, imm: i32) -> Spot
         requires width { IsWidth width }
         requires rs1 { rs1 < 32 }
@@ -65,6 +68,7 @@ impl Source {
     }
 
     /// The place of an access of `width` bytes at a value.
+    #[inline(always)]
     fn located(&self, width: u32, address: &Val) -> Spot
         requires width { IsWidth width }
         requires of { IsOfGraph self.now.tables.graph address.now }
@@ -79,6 +83,7 @@ impl Source {
     }
 
     /// That at a number.
+    #[inline(always)]
     fn located_number(&self, width: u32, at: u32) -> Spot
         requires { IsWidth width }
         ensures place { where_of result ≡ located (seen self.now) width (Val.Int at) }
@@ -94,6 +99,7 @@ impl Source {
     }
 
     /// That behind the home of an object.
+    #[inline(always)]
     fn located_offset(&self, width: u32, object: u32, offset: u32) -> Spot
         requires width { IsWidth width }
         requires object { object < length self.now.tables.graph.objects.items }
@@ -112,8 +118,22 @@ impl Source {
     }
 
     /// Why the first of the `n` bytes from an address that is no fixed memory is none.
-    #[tactic(auto, using(list_checks::proofs::FirstLemmas::first_found))]
+    #[inline(always)]
     fn fixed_fault(&self, at: u32, n: u32) -> Option<u32>
+        requires { at + n ≤ 4294967296 }
+        ensures { result ≡ first_below (fault_from (seen self.now) at) n }
+    {
+        if self.tables.is_wide(at, n) {
+            return None;
+        }
+        self.found_fault(at, n)
+    }
+
+    /// The same, by a search for each byte.
+    #[cold]
+    #[inline(never)]
+    #[tactic(auto, using(list_checks::proofs::FirstLemmas::first_found))]
+    fn found_fault(&self, at: u32, n: u32) -> Option<u32>
         requires { at + n ≤ 4294967296 }
         ensures { result ≡ first_below (fault_from (seen self.now) at) n }
     {
@@ -192,6 +212,7 @@ impl Source {
     }
 
     /// Why a place can't be written.
+    #[inline(always)]
     pub(super) fn write_fault(&self, spot: &Spot) -> Option<u32>
         requires { HasByte self.now.tables spot.now 0 }
         ensures { result ≡ write_fault (seen self.now) (where_of spot.now) }
@@ -217,6 +238,7 @@ impl Spot {
     ghost use Rattle.object_machine.specs.Spots.{where_of};
 
     /// The access that a load or a store there is.
+    #[inline(always)]
     pub(crate) fn access(&self, write: bool) -> Option<Access>
         ensures { result ≡ access_in (where_of self.now) write }
     {

@@ -8,6 +8,7 @@ impl Source {
     ghost use Rattle.object_machine.specs.Machine.{seen_state, Becomes};
 
     /// The value in a register.
+    #[inline(always)]
     pub(super) fn register(&self, k: u8) -> Val
         requires { k < 32 }
         ensures value { result ≡ value (seen_state self.now).regs k }
@@ -21,6 +22,7 @@ impl Source {
     }
 
     /// Puts a value into a register.
+    #[inline(always)]
     pub(super) fn set_register(&mut self, rd: u8, v: Val)
         requires rd { rd < 32 }
         requires of { IsOfGraph self.old.tables.graph v }

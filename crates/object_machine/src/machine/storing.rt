@@ -3,26 +3,53 @@ use crate::machine::Source;
 use crate::machine::moving::NO_BLOCK;
 use crate::spots::Spot;
 use crate::widths::store_bytes;
-use cell_values::{Cell, Val, split};
+use cell_values::{Cell, Val};
 use rv_decode::StoreKind;
 use std::alloc::AllocError;
 
 impl Source {
-    ghost use Rattle.std.specs.Prelude.{◌≡◌, ℕ, ◌+◌, ◌<◌, length, IfOk, OnOk, OnErr};
+    ghost use Rattle.std.specs.Prelude.{◌≡◌, ℕ, ◌+◌, ◌<◌, take, length, IfOk, OnOk, OnErr};
     ghost use Rattle.std.specs.List.{All};
     ghost use Rattle.rv_decode.specs.Acts.{store_width};
     ghost use Rattle.rv_decode.specs.declared.instructions.Instr.{Instr};
     ghost use Rattle.cell_values.specs.Objects.{IsOfGraph, object_of};
-    ghost use Rattle.cell_values.specs.Cells.{IsCellOfGraph};
+    ghost use Rattle.cell_values.specs.Cells.{IsCellOfGraph, split};
     ghost use Rattle.object_machine.specs.Memory.{stored_at, stored_cells};
     ghost use Rattle.object_machine.specs.Flow.{falls_on};
     ghost use Rattle.object_machine.specs.Places.{InFixed, InObject, write_fault};
     ghost use Rattle.object_machine.specs.Step.{stores_to, acts, access_by};
-    ghost use Rattle.object_machine.specs.Spots.{where_of, HasByte, Spans};
+    ghost use Rattle.object_machine.specs.Spots.{where_of, IsWidth, HasByte, Spans};
     ghost use Rattle.object_machine.specs.Machine.{seen, seen_state, Becomes};
 
+    // A kind is told apart before the access, as by loads.
+
     /// A store. Tells of its access.
+    #[inline(always)]
     pub(super) fn store(
+        &mut self,
+        kind: StoreKind,
+        rs1: u8,
+        rs2: u8,
+        imm: i32,
+    ) -> Result<Option<Access>, AllocError>
+        requires rs1 { rs1 < 32 }
+        requires rs2 { rs2 < 32 }
+        ensures state { let p = seen self.old in
+            let s = seen_state self.old in
+            OnOk result (Becomes self.old self.new (acts p s (Instr.Store kind rs1 rs2 imm) (p.site s.pc))) }
+        ensures access { IfOk result (λ access. access ≡ access_by (seen self.old) (seen_state self.old) (Some (Instr.Store kind rs1 rs2 imm))) }
+        ensures err { OnErr result (Becomes self.old self.new (seen_state self.old)) }
+    {
+        match kind {
+            StoreKind::Sb => self.store_of(StoreKind::Sb, rs1, rs2, imm),
+            StoreKind::Sh => self.store_of(StoreKind::Sh, rs1, rs2, imm),
+            StoreKind::Sw => self.store_of(StoreKind::Sw, rs1, rs2, imm),
+        }
+    }
+
+    /// A store of a kind. Tells of its access.
+    #[inline(always)]
+    fn store_of(
         &mut self,
         kind: StoreKind,
         rs1: u8,
@@ -47,6 +74,7 @@ impl Source {
     }
 
     /// A store to a place.
+    #[inline(always)]
     fn store_to(&mut self, kind: StoreKind, value: &Val, spot: &Spot) -> Result<(), AllocError>
         requires spans { Spans self.old.tables (store_width kind) spot.now }
         requires of { IsOfGraph self.old.tables.graph value.now }
@@ -63,6 +91,7 @@ impl Source {
     }
 
     /// A store to a place that may be written.
+    #[inline(always)]
     fn store_here(&mut self, kind: StoreKind, value: &Val, spot: &Spot) -> Result<(), AllocError>
         requires spans { Spans self.old.tables (store_width kind) spot.now }
         requires of { IsOfGraph self.old.tables.graph value.now }
@@ -83,6 +112,7 @@ impl Source {
     }
 
     /// Puts the first cells of a value at a place.
+    #[inline(always)]
     fn put_value(&mut self, kind: StoreKind, value: &Val, spot: &Spot) -> Result<(), AllocError>
         requires spans { Spans self.old.tables (store_width kind) spot.now }
         requires of { IsOfGraph self.old.tables.graph value.now }
@@ -90,24 +120,51 @@ impl Source {
         ensures err { OnErr result (Becomes self.old self.new (seen_state self.old)) }
         ensures place { self.new.place ≡ self.old.place }
     {
-        let cells = split(value);
-        let width = store_bytes(kind) as usize;
-        self.put(spot, &cells[..width])
+        match *spot {
+            Spot::Fixed(at) => self.put_value_fixed(at, value, store_bytes(kind)),
+            Spot::Object { object, offset } => {
+                self.put_value_inside(object, offset, value, store_bytes(kind))
+            }
+            Spot::Nowhere(_) => Ok(()),
+        }
     }
 
-    /// Puts cells at a place, all or none.
-    fn put(&mut self, spot: &Spot, cells: &[Cell]) -> Result<(), AllocError>
-        requires some { 0 < length cells.now }
-        requires spans { Spans self.old.tables (length cells.now) spot.now }
-        requires of { All (IsCellOfGraph self.old.tables.graph) cells.now }
-        ensures state { OnOk result (Becomes self.old self.new (stored_at (seen_state self.old) (where_of spot.now) cells.now)) }
+    /// Puts the first cells of a value into fixed memory.
+    #[inline(always)]
+    fn put_value_fixed(&mut self, at: u32, value: &Val, width: u32) -> Result<(), AllocError>
+        requires width { IsWidth width }
+        requires spans { Spans self.old.tables width (Spot.Fixed at) }
+        requires of { IsOfGraph self.old.tables.graph value.now }
+        ensures state { OnOk result (Becomes self.old self.new (stored_at (seen_state self.old) (InFixed at) (take width (split value.now)))) }
         ensures err { OnErr result (Becomes self.old self.new (seen_state self.old)) }
         ensures place { self.new.place ≡ self.old.place }
     {
-        match *spot {
-            Spot::Fixed(at) => self.put_fixed(at, cells),
-            Spot::Object { object, offset } => self.put_inside(object, offset, cells),
-            Spot::Nowhere(_) => Ok(()),
+        match self.memory.set_value(at, value, width) {
+            Ok(()) => Ok(()),
+            Err(error) => Err(error),
+        }
+    }
+
+    /// Puts the first cells of a value into an object.
+    #[inline(always)]
+    fn put_value_inside(
+        &mut self,
+        object: u32,
+        offset: u32,
+        value: &Val,
+        width: u32,
+    ) -> Result<(), AllocError>
+        requires width { IsWidth width }
+        requires spans { Spans self.old.tables width (Spot.Object object offset) }
+        requires of { IsOfGraph self.old.tables.graph value.now }
+        ensures state { OnOk result (Becomes self.old self.new (stored_at (seen_state self.old) (InObject object offset) (take width (split value.now)))) }
+        ensures err { OnErr result (Becomes self.old self.new (seen_state self.old)) }
+        ensures place { self.new.place ≡ self.old.place }
+    {
+        let at = self.home_of(object) + offset;
+        match self.memory.set_value(at, value, width) {
+            Ok(()) => Ok(()),
+            Err(error) => Err(error),
         }
     }
 
@@ -152,7 +209,8 @@ impl Source {
     }
 
     /// The home of an object.
-    fn home_of(&self, object: u32) -> u32
+    #[inline(always)]
+    pub(super) fn home_of(&self, object: u32) -> u32
         requires { object < length self.now.tables.graph.objects.items }
         ensures { result ≡ (object_of self.now.tables.graph object).home }
     {

@@ -29,6 +29,9 @@ invariant_of-result c =
       reached_ascending = are.reached_ascending;
       among = are.among;
       ranges = c.in_ok-fixed.ensures.disjoint;
+      landed = c.in_ok-landings.ensures;
+      reached_landed = c.in_ok-reached_landings.ensures;
+      wide = c.widest_of.ensures;
     }
 
 pub returns-clause-program : goal.returns-clause-program

@@ -1,8 +1,26 @@
-use Rattle.object_machine.proofs.StoreLemmas.{four_of_graph}
+use Rattle.std.proofs.Common.{◌+◌, ◌∙◌, ap}
+use Rattle.cell_values.specs.Objects.{IsOfGraph}
+use Rattle.cell_values.specs.Stored.{cells_of}
+use Rattle.object_machine.proofs.CellLemmas.{fixed_word, object_word, join_of}
 use Rattle.object_machine.proofs.machine.Source.word_at.Goals as goal
 
-pub returns-clause-of : goal.returns-clause-of
-returns-clause-of c =
-    let g = c.args.self.now.tables.graph in
-    c.join.ensures.of g
-    (four_of_graph g c.cell_at-first.result c.cell_at-second.result c.cell_at-third.result c.cell_at-fourth.result c.cell_at-first.ensures.of c.cell_at-second.ensures.of c.cell_at-third.ensures.of c.cell_at-fourth.ensures.of)
+pub returns-in-Fixed-clause-value : goal.returns-in-Fixed-clause-value
+returns-in-Fixed-clause-value c =
+    let m = c.args.self.now in
+    let spans = rw c.in-Fixed.is at c.requires in
+    rw c.in-Fixed.is (c.word.ensures ∙ fixed_word m.tables (cells_of m.memory) c.in-Fixed.at spans)
+
+pub returns-in-Object-clause-value : goal.returns-in-Object-clause-value
+returns-in-Object-clause-value c =
+    let m = c.args.self.now in
+    let spans = rw c.in-Object.is at c.requires in
+    rw c.in-Object.is (c.word-in-Object.ensures ∙ object_word m.tables (cells_of m.memory) c.in-Object.object c.in-Object.offset c.home_of.result c.home_of.ensures spans)
+
+pub returns-in-Fixed-clause-of : goal.returns-in-Fixed-clause-of
+returns-in-Fixed-clause-of c =
+    let m = c.args.self.now in rw c.word.ensures (join_of m.tables.graph _ _ _ _ (m.cells c.in-Fixed.at))
+
+pub returns-in-Object-clause-of : goal.returns-in-Object-clause-of
+returns-in-Object-clause-of c =
+    let m = c.args.self.now in
+    rw c.word-in-Object.ensures (join_of m.tables.graph _ _ _ _ (m.cells (c.home_of.result + c.in-Object.offset)))
