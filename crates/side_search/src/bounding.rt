@@ -1,5 +1,6 @@
 use crate::lagrangian::{BoundStatus, LagrangianDual};
 use crate::layout::Layout;
+use crate::live::LiveVars;
 use crate::node::Node;
 use crate::numbers::{copy_of, is_set, number_at, numbered, put, zeros};
 use crate::relaxation::LagrangianRelaxation;
@@ -52,12 +53,10 @@ fn scaled_target(side: &Side, layout: &Layout, best: u128) -> u64 {
 }
 
 /// The multipliers of the packing rows: what each adds to the reach.
-fn add_steps(multipliers: &mut [u64], layout: &Layout, reach: &[u64]) {
+fn add_steps(multipliers: &mut [u64], layout: &Layout, dual_problem: &LagrangianDual) {
     for row in 0..layout.is_knapsack.len() {
         if !layout.is_knapsack[row] {
-            let step = number_at(reach, row.saturating_add(1)).saturating_sub(number_at(
-                reach, row,
-            ));
+            let step = dual_problem.relaxation.step(&dual_problem.live, row);
             put(multipliers, row, step);
         }
     }
@@ -105,7 +104,7 @@ fn dual_solution(
     dual_problem: &LagrangianDual,
 ) -> Result<DualSolution, AllocError> {
     let mut multipliers = copy_of(alloc, &dual_problem.multipliers)?;
-    add_steps(&mut multipliers, layout, &dual_problem.relaxation.reach);
+    add_steps(&mut multipliers, layout, dual_problem);
     bar_all(&mut multipliers, layout, dual_problem);
     Ok(DualSolution {
         scale: layout.scale,
@@ -175,10 +174,13 @@ impl DualBound {
             found.exceeded = node.exceeded;
             return Ok(found);
         }
+        let live = LiveVars::of(alloc, layout, &node, &self.multipliers)?;
+        let relaxation = LagrangianRelaxation::new(alloc, layout, &live)?;
         let mut dual_problem = LagrangianDual {
             node,
+            live,
             multipliers: copy_of(alloc, &self.multipliers)?,
-            relaxation: LagrangianRelaxation::new(alloc, layout)?,
+            relaxation,
             candidate: None,
         };
         let found = bound_of(alloc, layout, &mut dual_problem)?;

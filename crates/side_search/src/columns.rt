@@ -36,6 +36,24 @@ impl Column {
         }
     }
 
+    /// Its first packing row, 0 where it has none.
+    pub(crate) fn first_row(&self) -> usize {
+        match self.span() {
+            Some(span) => span.first,
+            None => 0,
+        }
+    }
+
+    /// Its weight in a knapsack row.
+    pub(crate) fn knapsack_weight(&self, row: u32) -> u64 {
+        let place = self.knapsack.partition_point(|entry| entry.0 < row);
+        if place < self.knapsack.len() && self.knapsack[place].0 == row {
+            self.knapsack[place].1
+        } else {
+            0
+        }
+    }
+
     /// What of the scaled gain is left behind the multiplied weights.
     pub(crate) fn reduced_gain(&self, multipliers: &[u64]) -> u64 {
         self.gain

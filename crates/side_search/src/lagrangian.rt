@@ -1,5 +1,6 @@
 use crate::completing::Completion;
 use crate::layout::Layout;
+use crate::live::LiveVars;
 use crate::node::Node;
 use crate::numbers::{number_at, put};
 use crate::relaxation::LagrangianRelaxation;
@@ -123,6 +124,7 @@ pub(crate) enum BoundStatus {
 #[derive(Drop)]
 pub(crate) struct LagrangianDual {
     pub node: Node,
+    pub live: LiveVars,
     /// Of each row; 0 where it isn't a knapsack row.
     pub multipliers: Vec<u64>,
     pub relaxation: LagrangianRelaxation,
@@ -143,7 +145,8 @@ impl LagrangianDual {
 
     /// Finds the bound at the multipliers, and what it shows.
     fn evaluate(&mut self, alloc: Global, layout: &Layout) -> Result<BoundStatus, AllocError> {
-        self.relaxation.relax(layout, &self.node, &self.multipliers);
+        self.relaxation
+            .relax(layout, &self.node, &self.live, &self.multipliers);
         if self.relaxation.value <= self.node.goal() {
             return Ok(BoundStatus::Fathomed);
         }
@@ -174,8 +177,10 @@ impl LagrangianDual {
         &mut self,
         alloc: Global,
         layout: &Layout,
-        row: usize,
+        number: u32,
     ) -> Result<BoundStatus, AllocError> {
+        let row = number as usize;
+        self.live.seek(layout, &self.multipliers, number);
         let mut bracket = Bracket::at(self.point(row));
         for _ in 0..TRIES {
             let Some(multiplier) = bracket.next(layout.scale) else {
@@ -197,7 +202,7 @@ impl LagrangianDual {
 
     fn minimise_rows(&mut self, alloc: Global, layout: &Layout) -> Result<BoundStatus, AllocError> {
         for row in &layout.knapsack {
-            let status = self.minimise_row(alloc, layout, *row as usize)?;
+            let status = self.minimise_row(alloc, layout, *row)?;
             if status != BoundStatus::Undecided {
                 return Ok(status);
             }

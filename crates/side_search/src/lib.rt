@@ -12,6 +12,7 @@ mod fathoming;
 mod incumbents;
 mod lagrangian;
 mod layout;
+mod live;
 mod node;
 mod numbers;
 mod relaxation;

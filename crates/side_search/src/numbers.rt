@@ -58,9 +58,5 @@ pub(crate) fn unset(alloc: Global, count: usize) -> Result<Vec<bool>, AllocError
 
 /// A copy of some numbers.
 pub(crate) fn copy_of(alloc: Global, numbers: &[u64]) -> Result<Vec<u64>, AllocError> {
-    let mut copy = Vec::new(alloc);
-    for number in numbers {
-        copy.push(*number)?;
-    }
-    Ok(copy)
+    Vec::from_slice(alloc, numbers)
 }

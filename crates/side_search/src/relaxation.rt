@@ -1,5 +1,6 @@
 use crate::columns::Column;
 use crate::layout::Layout;
+use crate::live::{LiveVar, LiveVars};
 use crate::node::Node;
 use crate::numbers::{add, is_set, number_at, put, set, unset, zeros};
 use std::alloc::{AllocError, Global};
@@ -12,10 +13,10 @@ use std::alloc::{AllocError, Global};
 pub(crate) struct LagrangianRelaxation {
     /// The bound on the scaled gains of the free variables.
     pub value: u64,
-    /// What the rows before each one hold at most.
-    pub reach: Vec<u64>,
-    /// The variable that ends at a row there.
-    pub ends: Vec<Option<u32>>,
+    /// What so many of the live variables with packing rows hold at most, the first ones by their last rows.
+    reach: Vec<u64>,
+    /// Whether the next one is taken for that.
+    ends: Vec<bool>,
     /// Which variables it takes.
     pub taken: Vec<bool>,
     /// Of each knapsack row, what they weigh.
@@ -28,55 +29,33 @@ pub(crate) struct LagrangianRelaxation {
     pub tries: u64,
 }
 
-fn no_ends(alloc: Global, count: usize) -> Result<Vec<Option<u32>>, AllocError> {
-    let mut ends = Vec::new(alloc);
-    for _ in 0..count {
-        ends.push(None)?;
-    }
-    Ok(ends)
-}
-
-fn clear(numbers: &mut [u64]) {
-    for number in numbers.iter_mut() {
-        *number = 0;
-    }
-}
-
-fn unset_all(flags: &mut [bool]) {
-    for flag in flags.iter_mut() {
-        *flag = false;
-    }
-}
-
-fn first_of(column: &Column) -> usize {
-    match column.span() {
-        Some(span) => span.first,
-        None => 0,
-    }
-}
-
 impl LagrangianRelaxation {
-    pub(crate) fn new(alloc: Global, layout: &Layout) -> Result<LagrangianRelaxation, AllocError> {
-        let rows = layout.capacities.len();
+    pub(crate) fn new(
+        alloc: Global,
+        layout: &Layout,
+        live: &LiveVars,
+    ) -> Result<LagrangianRelaxation, AllocError> {
         let vars = layout.columns.len();
         Ok(LagrangianRelaxation {
             value: u64::MAX,
-            reach: zeros(alloc, rows.saturating_add(1))?,
-            ends: no_ends(alloc, rows)?,
+            reach: zeros(alloc, live.tied.len().saturating_add(1))?,
+            ends: unset(alloc, live.tied.len())?,
             taken: unset(alloc, vars)?,
-            load: zeros(alloc, rows)?,
+            load: zeros(alloc, layout.capacities.len())?,
             gain: 0,
             times: zeros(alloc, vars)?,
             tries: 0,
         })
     }
 
-    fn start(&mut self) {
+    fn start(&mut self, layout: &Layout) {
         self.value = 0;
         self.gain = 0;
         self.tries = self.tries.saturating_add(1);
-        clear(&mut self.load);
-        unset_all(&mut self.taken);
+        self.taken.fill(false);
+        for row in &layout.knapsack {
+            put(&mut self.load, *row as usize, 0);
+        }
     }
 
     fn take(&mut self, column: &Column, number: usize) {
@@ -88,79 +67,53 @@ impl LagrangianRelaxation {
         }
     }
 
-    /// What the rows up to the end of a variable hold with it; 0 where it isn't live.
-    fn value_with(&self, layout: &Layout, node: &Node, multipliers: &[u64], number: u32) -> u64 {
-        let place = number as usize;
-        if place >= layout.columns.len() || !node.is_live(number) {
-            return 0;
-        }
-        let column = &layout.columns[place];
-        let gain = column.reduced_gain(multipliers);
-        if gain == 0 {
-            return 0;
-        }
-        number_at(&self.reach, first_of(column)).saturating_add(gain)
-    }
-
-    /// What the rows up to this one hold at most.
-    fn settle(
-        &mut self,
-        layout: &Layout,
-        node: &Node,
-        multipliers: &[u64],
-        row: usize,
-        ending: &[u32],
-    ) {
-        let mut best = number_at(&self.reach, row);
-        let mut end = None;
-        for number in ending {
-            let value = self.value_with(layout, node, multipliers, *number);
-            if value > best {
-                best = value;
-                end = Some(*number);
-            }
-        }
-        put(&mut self.reach, row.saturating_add(1), best);
-        if row < self.ends.len() {
-            self.ends[row] = end;
+    fn take_var(&mut self, layout: &Layout, var: &LiveVar) {
+        let place = var.number as usize;
+        if place < layout.columns.len() {
+            self.take(&layout.columns[place], place);
         }
     }
 
-    fn settle_all(&mut self, layout: &Layout, node: &Node, multipliers: &[u64]) {
-        for (row, ending) in layout.ending.iter().enumerate() {
-            self.settle(layout, node, multipliers, row, ending);
+    /// What the variables up to this one hold at most.
+    fn settle(&mut self, place: usize, var: &LiveVar, multiplier: u64) {
+        let gain = var.reduced_gain(multiplier);
+        let without = number_at(&self.reach, place);
+        let with = number_at(&self.reach, var.from as usize).saturating_add(gain);
+        let ends = gain > 0 && with > without;
+        let best = if ends { with } else { without };
+        put(&mut self.reach, place.saturating_add(1), best);
+        if place < self.ends.len() {
+            self.ends[place] = ends;
+        }
+    }
+
+    fn settle_all(&mut self, live: &LiveVars, multiplier: u64) {
+        for (place, var) in live.tied.iter().enumerate() {
+            self.settle(place, var, multiplier);
         }
         self.value = self
             .value
-            .saturating_add(number_at(&self.reach, layout.ending.len()));
+            .saturating_add(number_at(&self.reach, live.tied.len()));
     }
 
-    fn take_loose(&mut self, layout: &Layout, node: &Node, multipliers: &[u64]) {
-        for number in &layout.loose {
-            let place = *number as usize;
-            if place < layout.columns.len() && node.is_live(*number) {
-                let gain = layout.columns[place].reduced_gain(multipliers);
-                self.value = self.value.saturating_add(gain);
-                if gain > 0 {
-                    self.take(&layout.columns[place], place);
-                }
+    fn take_loose(&mut self, layout: &Layout, live: &LiveVars, multiplier: u64) {
+        for var in &live.loose {
+            let gain = var.reduced_gain(multiplier);
+            self.value = self.value.saturating_add(gain);
+            if gain > 0 {
+                self.take_var(layout, var);
             }
         }
     }
 
-    /// Takes the variables that end at the rows, from the last row back.
-    fn take_ends(&mut self, layout: &Layout) {
-        let mut behind = self.ends.len();
-        for row in (0..self.ends.len()).rev() {
-            if row >= behind || row >= self.ends.len() {
-                continue;
-            }
-            if let Some(number) = self.ends[row] {
-                let place = number as usize;
-                if place < layout.columns.len() {
-                    behind = first_of(&layout.columns[place]);
-                    self.take(&layout.columns[place], place);
-                }
+    /// Takes variables with packing rows, from the last one back.
+    fn take_ends(&mut self, layout: &Layout, live: &LiveVars) {
+        let mut behind = live.tied.len();
+        for place in (0..live.tied.len()).rev() {
+            if place < behind && is_set(&self.ends, place) {
+                let var = &live.tied[place];
+                behind = var.from as usize;
+                self.take_var(layout, var);
             }
         }
     }
@@ -175,12 +128,25 @@ impl LagrangianRelaxation {
     }
 
     /// Finds the bound at these multipliers.
-    pub(crate) fn relax(&mut self, layout: &Layout, node: &Node, multipliers: &[u64]) {
-        self.start();
+    pub(crate) fn relax(
+        &mut self,
+        layout: &Layout,
+        node: &Node,
+        live: &LiveVars,
+        multipliers: &[u64],
+    ) {
+        let multiplier = live.multiplier(multipliers);
+        self.start(layout);
         self.add_slack_cost(layout, node, multipliers);
-        self.take_loose(layout, node, multipliers);
-        self.settle_all(layout, node, multipliers);
-        self.take_ends(layout);
+        self.take_loose(layout, live, multiplier);
+        self.settle_all(live, multiplier);
+        self.take_ends(layout, live);
+    }
+
+    /// What a row adds to what the rows hold at most.
+    pub(crate) fn step(&self, live: &LiveVars, row: usize) -> u64 {
+        let behind = number_at(&self.reach, live.ended_before(row.saturating_add(1)));
+        behind.saturating_sub(number_at(&self.reach, live.ended_before(row)))
     }
 
     /// Whether what it takes stays within the slack of the knapsack rows.
@@ -198,9 +164,5 @@ impl LagrangianRelaxation {
     pub(crate) fn is_split(&self, number: usize) -> bool {
         let times = number_at(&self.times, number);
         times > 0 && times < self.tries
-    }
-
-    pub(crate) fn takes(&self, number: u32) -> bool {
-        is_set(&self.taken, number as usize)
     }
 }
