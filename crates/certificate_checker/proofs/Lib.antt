@@ -14,6 +14,8 @@ pub mod TreeLaws
 pub mod TextLaws
 pub mod DigitLemmas
 pub mod LoadLemmas
+pub mod EntryLemmas
+pub mod RowWiseLemmas
 pub mod StreamLemmas
 pub mod RoomLemmas
 pub mod WayLemmas

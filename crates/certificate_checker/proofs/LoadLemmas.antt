@@ -16,7 +16,7 @@ use Rattle.certificate_checker.proofs.FieldLaws.{bind_ok, done_is, ranged_take}
 use Rattle.certificate_checker.proofs.ManyLemmas.{with_front}
 
 -- the rows of entries in a row with one more
-rows_push : (low high : ℕ) (ms : List (ℕ × ℕ)) (row m : ℕ) → low ≤ high → RowsWithin low high ms → high ≤ row → RowsWithin low (row + 1) (ms ++ (row, m) ∷ [])
+pub rows_push : (low high : ℕ) (ms : List (ℕ × ℕ)) (row m : ℕ) → low ≤ high → RowsWithin low high ms → high ≤ row → RowsWithin low (row + 1) (ms ++ (row, m) ∷ [])
 rows_push low high [] row m order rows past = (omega (arith, order, past), omega arith, tt)
 rows_push low high (k ∷ ms) row m order rows past =
     let inside = rows.1 in
@@ -27,7 +27,7 @@ rows_last low high [] row m rows = rows.1
 rows_last low high (k ∷ ms) row m rows = rows_last (suc (row_of k)) high ms row m rows.2
 
 -- an entry behind others counts where they don't name its row
-weight_other : (ms : List (ℕ × ℕ)) (row m other : ℕ) → row ≢ other → weight_in (ms ++ (row, m) ∷ []) other ≡ weight_in ms other
+pub weight_other : (ms : List (ℕ × ℕ)) (row m other : ℕ) → row ≢ other → weight_in (ms ++ (row, m) ∷ []) other ≡ weight_in ms other
 weight_other [] row m other differ = grind (arith, nat_tests, differ)
 weight_other (k ∷ ms) row m other differ =
     let rest = weight_other ms row m other differ in
@@ -36,7 +36,7 @@ weight_other (k ∷ ms) row m other differ =
       | inr disjoint ↦ grind (arith, nat_tests, disjoint, rest)
     ]
 
-weight_last : (low : ℕ) (ms : List (ℕ × ℕ)) (row m : ℕ) → RowsWithin low row ms → weight_in (ms ++ (row, m) ∷ []) row ≡ m
+pub weight_last : (low : ℕ) (ms : List (ℕ × ℕ)) (row m : ℕ) → RowsWithin low row ms → weight_in (ms ++ (row, m) ∷ []) row ≡ m
 weight_last low [] row m rows = grind (arith, nat_tests)
 weight_last low (k ∷ ms) row m rows =
     let rest = weight_last (suc (row_of k)) ms row m rows.2 in

@@ -16,4 +16,5 @@ pub mod Spelling
 pub mod Loading
 pub mod Ways
 pub mod Rooms
+pub mod RowWise
 pub mod Laws

@@ -1,7 +1,8 @@
 use Rattle.std.proofs.Common.{◌+◌, length, get_or, refl, arith}
 use Rattle.placement_programme.specs.Bounds.{row_of, value_of}
 use Rattle.placement_programme.proofs.AscendLemmas.{row_below}
-use Rattle.branch_bound.proofs.LoadLemmas.{weight_before, added_more}
+use Rattle.certificate_checker.proofs.EntryLemmas.{weight_before}
+use Rattle.branch_bound.proofs.LoadLemmas.{added_more}
 use Rattle.branch_bound.proofs.loads.add_weights.Goals as goal
 
 pub bounds-loads-entry : goal.bounds-loads-entry
