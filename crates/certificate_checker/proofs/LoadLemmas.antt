@@ -1,18 +1,23 @@
--- One more row of a dual node, in a dense list.
-use Rattle.std.proofs.Common.{◌≡◌, ◌≢◌, ◌∙◌, inl, inr, ℕ, suc, ◌+◌, ◌*◌, ◌^◌, ◌<◌, ◌≤◌, List, [], ◌∷◌, ◌++◌, length, slice_index, slice_set, replicate, Result, Ok, Err, sym, subst, refl, arith, get_or-set_other, get_or-set_same}
+-- One more row of a dual node, in the prices.
+use Rattle.std.proofs.Common.{◌≡◌, ◌≢◌, ◌∙◌, inl, inr, ℕ, suc, ◌+◌, ◌*◌, ◌^◌, ◌<◌, ◌≤◌, List, [], ◌∷◌, ◌++◌, length, slice_index, replicate, Result, Ok, Err, sym, subst, ap, refl, arith}
 use Rattle.std.specs.List.{sum_by}
 use Rattle.std.proofs.lemmas.Bool.{cases_eq, cases_lt}
 use Rattle.std.proofs.lemmas.Bool.Decides.{nat_tests}
 use Rattle.std.proofs.lemmas.List.{get_or-replicate, get_or_past, length-replicate}
 use Rattle.std.proofs.lemmas.List.Sums.{sum_by-cons, sum_by-append}
+use Rattle.placement_programme.specs.Plain.{PlainSide}
 use Rattle.placement_programme.specs.Bounds.{RowsWithin, row_of, value_of}
-use Rattle.placement_programme.specs.Programme.{weight_in}
+use Rattle.placement_programme.specs.Programme.{weight_in, weight_at}
+use Rattle.placement_programme.proofs.WeightLemmas.{weight_small}
+use Rattle.certificate_checker.specs.Rules.{price}
+use Rattle.certificate_checker.specs.RowWise.{IsRowOf}
 use Rattle.certificate_checker.specs.declared.fault.CertFault.{CertFault}
 use Rattle.certificate_checker.specs.declared.fields.Part.TheVariants.{Node}
 use Rattle.certificate_checker.specs.Digits.{number_at}
 use Rattle.certificate_checker.specs.Reading.{◌>>=◌, number_in, entry_at}
 use Rattle.certificate_checker.specs.Loading.{IsLoaded}
 use Rattle.certificate_checker.proofs.FieldLaws.{bind_ok, done_is, ranged_take}
+use Rattle.certificate_checker.proofs.Limits.{product_small}
 use Rattle.certificate_checker.proofs.ManyLemmas.{with_front}
 
 -- the rows of entries in a row with one more
@@ -43,18 +48,16 @@ weight_last low (k ∷ ms) row m rows =
     let disjoint : row_of k ≢ row = omega (arith, rows.1) in
     grind (arith, nat_tests, disjoint, rest)
 
-rows_wider : (low high wide : ℕ) (ms : List (ℕ × ℕ)) → high ≤ wide → RowsWithin low high ms → RowsWithin low wide ms
-rows_wider low high wide [] order rows = tt
-rows_wider low high wide (k ∷ ms) order rows = (rows.0, omega (arith, order, rows.1), rows_wider (suc (row_of k)) high wide ms order rows.2)
-
-pub loaded_none : (rows dense : List ℕ) → ((row : ℕ) → slice_index dense row ≡ 0) → IsLoaded rows dense 0 0 []
-loaded_none rows dense zeroes = record {
+pub loaded_none : (s : PlainSide) (prices : List ℕ) → ((j : ℕ) → slice_index prices j ≡ 0) → IsLoaded s prices 0 0 []
+loaded_none s prices zeroes = record {
   ascending = tt;
   tight = λ high all. omega arith;
-  values = λ row inside. zeroes row;
+  values = λ within j inside. zeroes j;
   bound = λ within. refl;
   small = omega arith;
   most = omega arith;
+  low = λ j. let none = zeroes j in omega (arith, none);
+  lowest = λ j. let none = zeroes j in omega (arith, none);
 }
 
 pub zeroes_at : (n row : ℕ) → slice_index (replicate n 0) row ≡ 0
@@ -65,46 +68,58 @@ zeroes_at n row =
     ]
 
 -- a row that there isn't
-pub loaded_past : (rows dense : List ℕ) (row_end bound row m next : ℕ) (ms : List (ℕ × ℕ)) → IsLoaded rows dense row_end bound ms → row_end ≤ row → length rows ≤ row → next ≡ row + 1 → IsLoaded rows dense next bound (ms ++ (row, m) ∷ [])
-loaded_past rows dense row_end bound row m next ms loaded past out is =
+pub loaded_past : (s : PlainSide) (prices : List ℕ) (row_end bound row m next : ℕ) (ms : List (ℕ × ℕ)) → IsLoaded s prices row_end bound ms → row_end ≤ row → length s.rows ≤ row → next ≡ row + 1 → IsLoaded s prices next bound (ms ++ (row, m) ∷ [])
+loaded_past s prices row_end bound row m next ms loaded past out is =
     let small = loaded.small in
     let most = loaded.most in
     record {
       ascending = subst (λ n. RowsWithin 0 n (ms ++ (row, m) ∷ [])) (sym is) (rows_push 0 row_end ms row m (omega arith) loaded.ascending past);
       tight = λ high all. let last = rows_last 0 high ms row m all in omega (arith, last, is);
-      values = λ other inside. loaded.values other inside ∙ sym (weight_other ms row m other (omega (arith, inside, out)));
+      values = λ within. absurd (omega (arith, within, out, is));
       bound = λ within. absurd (omega (arith, within, out, is));
       small = omega (arith, small, past, is);
       most = most;
+      low = λ j. let here = loaded.low j in omega (arith, here, past, is);
+      lowest = loaded.lowest;
     }
 
--- a row that there is
-pub loaded_here : (rows dense : List ℕ) (row_end bound row m next more : ℕ) (ms : List (ℕ × ℕ)) → IsLoaded rows dense row_end bound ms → row_end ≤ row → row < length rows → length rows ≤ length dense → next ≡ row + 1 → more ≡ bound + m * slice_index rows row → m * slice_index rows row < 2 ^ 96 → IsLoaded rows (slice_set dense row m) next more (ms ++ (row, m) ∷ [])
-loaded_here rows dense row_end bound row m next more ms loaded past inside room is is_more fits =
+price_more : (s : PlainSide) (ms : List (ℕ × ℕ)) (row m j : ℕ) → price s (ms ++ (row, m) ∷ []) j ≡ price s ms j + m * weight_at s.vars row j
+price_more s ms row m j =
+    let added = sum_by-append (λ (k : ℕ × ℕ). value_of k * weight_at s.vars (row_of k) j) ms ((row, m) ∷ []) in
+    let one = sum_by-cons (λ (k : ℕ × ℕ). value_of k * weight_at s.vars (row_of k) j) (row, m) [] in
+    omega (arith, added, one)
+
+-- a row that there is, whose weights are added to the prices
+pub loaded_here : (s : PlainSide) (prices new : List ℕ) (entries : List (ℕ × ℕ)) (row_end bound row m next more : ℕ) (ms : List (ℕ × ℕ)) → IsLoaded s prices row_end bound ms → IsRowOf s.vars (length s.vars) row entries → ((j : ℕ) → slice_index new j ≡ slice_index prices j + m * weight_in entries j) → m < 2 ^ 64 → row_end ≤ row → row < length s.rows → next ≡ row + 1 → more ≡ bound + m * slice_index s.rows row → m * slice_index s.rows row < 2 ^ 96 → IsLoaded s new next more (ms ++ (row, m) ∷ [])
+loaded_here s prices new entries row_end bound row m next more ms loaded here added few past inside is is_more fits =
     let small = loaded.small in
-    let values : (other : ℕ) → other < length rows → slice_index (slice_set dense row m) other ≡ weight_in (ms ++ (row, m) ∷ []) other =
-    λ other within.
-    elim (cases_eq other row) [
-      | inl same ↦
-          let kept = get_or-set_same dense row m 0 (omega (arith, inside, room)) in
-          let last = weight_last 0 ms row m (rows_wider 0 row_end row ms past loaded.ascending) in
-          subst (λ k. slice_index (slice_set dense row m) k ≡ weight_in (ms ++ (row, m) ∷ []) k) (sym same) (kept ∙ sym last)
-      | inr disjoint ↦
-          get_or-set_other dense row other m 0 disjoint ∙ (loaded.values other within ∙ sym (weight_other ms row m other (λ same. disjoint (sym same))))
-    ] in
-    let summed : row_end ≤ length rows → more ≡ sum_by (λ k. value_of k * slice_index rows (row_of k)) (ms ++ (row, m) ∷ []) =
+    let each : (j : ℕ) → m * weight_in entries j ≤ 2 ^ 96 =
+    λ j.
+    let weight = weight_small (2 ^ 32) entries j (omega arith) here.weights.small in
+    let most : m * weight_in entries j ≤ 2 ^ 64 * 2 ^ 32 = product_small m (weight_in entries j) (2 ^ 64) (2 ^ 32) (omega (arith, few)) (omega (arith, weight)) in
+    omega (arith, most) in
+    let values : row_end ≤ length s.rows → (j : ℕ) → j < length s.vars → slice_index new j ≡ price s (ms ++ (row, m) ∷ []) j =
+    λ within j below.
+    let so_far = loaded.values within j below in
+    let grown = added j in
+    let last = price_more s ms row m j in
+    let weight : m * weight_in entries j ≡ m * weight_at s.vars row j = ap (λ n. m * n) (here.values j below) in
+    omega (arith, so_far, grown, last, weight) in
+    let summed : row_end ≤ length s.rows → more ≡ sum_by (λ k. value_of k * slice_index s.rows (row_of k)) (ms ++ (row, m) ∷ []) =
     λ within.
     let so_far = loaded.bound within in
-    let added = sum_by-append (λ (k : ℕ × ℕ). value_of k * slice_index rows (row_of k)) ms ((row, m) ∷ []) in
-    let one = sum_by-cons (λ (k : ℕ × ℕ). value_of k * slice_index rows (row_of k)) (row, m) [] in
-    omega (arith, so_far, added, one, is_more) in
+    let appended = sum_by-append (λ (k : ℕ × ℕ). value_of k * slice_index s.rows (row_of k)) ms ((row, m) ∷ []) in
+    let one = sum_by-cons (λ (k : ℕ × ℕ). value_of k * slice_index s.rows (row_of k)) (row, m) [] in
+    omega (arith, so_far, appended, one, is_more) in
     record {
       ascending = subst (λ n. RowsWithin 0 n (ms ++ (row, m) ∷ [])) (sym is) (rows_push 0 row_end ms row m (omega arith) loaded.ascending past);
       tight = λ high all. let last = rows_last 0 high ms row m all in omega (arith, last, is);
-      values = values;
+      values = λ within. values (omega (arith, past, inside));
       bound = λ within. summed (omega (arith, past, inside));
       small = omega (arith, small, past, is, is_more, fits);
       most = omega (arith, small, past, inside, is_more, fits);
+      low = λ j. let before = loaded.low j in let grown = added j in let most = each j in omega (arith, before, grown, most, past, is);
+      lowest = λ j. let before = loaded.low j in let grown = added j in let most = each j in omega (arith, before, grown, most, past, inside);
     }
 
 pub front_none : {A : Type 0} (read : Result (List A × List ℕ) CertFault) → with_front [] read ≡ read

@@ -6,7 +6,7 @@ use Rattle.placement_programme.specs.Plain.{PlainSide}
 use Rattle.placement_programme.specs.Bounds.{RowsWithin, IsWithinBounds, row_of, value_of}
 use Rattle.placement_programme.specs.Programme.{gain_at, weight_in, weights_at}
 use Rattle.placement_programme.proofs.TakeLemmas.{below_same}
-use Rattle.placement_programme.proofs.WeightLemmas.{weights_are}
+use Rattle.placement_programme.proofs.RowLemmas.{rows_higher}
 use Rattle.certificate_checker.specs.declared.fault.CertFault.{CertFault}
 use Rattle.certificate_checker.specs.declared.fields.Part.TheVariants.{Node}
 use Rattle.certificate_checker.specs.declared.walking.Failing.{Failing}
@@ -69,35 +69,14 @@ single_holds s best marks (over row) node depth next single rule is = (rule, is)
 single_holds s best marks (dual scale ms) node depth next single rule is = (rule, is)
 single_holds s best marks leaf node depth next single rule is = (rule, is)
 
--- the prices by a dense list
-same_price : (dense : List ℕ) (ms : List (ℕ × ℕ)) (low high : ℕ) (ws : List (ℕ × ℕ)) → ((row : ℕ) → row < high → slice_index dense row ≡ weight_in ms row) → RowsWithin low high ws → priced_by (λ row. slice_index dense row) ws ≡ priced_by (weight_in ms) ws
-same_price dense ms low high [] values rows = refl
-same_price dense ms low high (w ∷ ws) values rows =
-    let rest = same_price dense ms (suc (row_of w)) high ws values rows.2 in
-    let one = sum_by-cons (λ (k : ℕ × ℕ). slice_index dense (row_of k) * value_of k) w ws in
-    let other = sum_by-cons (λ (k : ℕ × ℕ). weight_in ms (row_of k) * value_of k) w ws in
-    let here = ap (λ n. n * value_of w) (values (row_of w) rows.1) in
-    omega (arith, rest, one, other, here)
-
--- a dual node's rule, by the dense list and the reach of its rows
-pub dense_tested : (s : PlainSide) (best : ℕ) (marks : List Fixing) (dense : List ℕ) (scale row_end total : ℕ) (ms : List (ℕ × ℕ)) (b : Bool) → IsWithinBounds s → IsLoaded s.rows dense row_end total ms → row_end ≤ length s.rows → 1 ≤ scale → scale ≤ 65536 → (IsTrue b ↔ SumsHold s best marks scale total (λ row. slice_index dense row)) → (IsTrue b ↔ DualHolds s best marks scale ms)
-dense_tested s best marks dense scale row_end total ms b bounds loaded within least most test =
-    let rows = rows_wide 0 row_end (length s.rows) ms within loaded.ascending in
-    let price : (j : ℕ) → j < length s.vars → priced_by (λ row. slice_index dense row) (weights_at s.vars j) ≡ priced_by (weight_in ms) (weights_at s.vars j) =
-    λ j inside. same_price dense ms 0 (length s.rows) (weights_at s.vars j) loaded.values (weights_are (length s.rows) s.vars j bounds.weights inside).ascending in
-    let left = below_same (kept_part s marks scale (λ row. slice_index dense row)) (kept_part s marks scale (weight_in ms)) (length s.vars) (λ j inside. ap (λ c. kept (fixing_of marks j) (scale * gain_at s.vars j) c) (price j inside)) in
-    let right = below_same (moved_part s marks (λ row. slice_index dense row)) (moved_part s marks (weight_in ms)) (length s.vars) (λ j inside. ap (λ c. moved (fixing_of marks j) c) (price j inside)) in
-    let forth : SumsHold s best marks scale total (λ row. slice_index dense row) → SumsHold s best marks scale total (weight_in ms) = λ sums. omega (arith, left, right, sums) in
-    let back : SumsHold s best marks scale total (weight_in ms) → SumsHold s best marks scale total (λ row. slice_index dense row) = λ sums. omega (arith, left, right, sums) in
-    dual_tested s best marks scale total ms b bounds rows least most (loaded.bound within) (λ found. forth (test.0 found), λ sums. test.1 (back sums))
-  where
-    rows_wide : (low high wide : ℕ) (ms : List (ℕ × ℕ)) → high ≤ wide → RowsWithin low high ms → RowsWithin low wide ms
-    rows_wide low high wide [] order rows = tt
-    rows_wide low high wide (k ∷ ms) order rows = (rows.0, omega (arith, order, rows.1), rows_wide (suc (row_of k)) high wide ms order rows.2)
+-- a dual node's rule, by the prices that its rows make and their reach
+pub listed_tested : (s : PlainSide) (best : ℕ) (marks : List Fixing) (prices : List ℕ) (scale row_end total : ℕ) (ms : List (ℕ × ℕ)) (b : Bool) → IsLoaded s prices row_end total ms → row_end ≤ length s.rows → 1 ≤ scale → scale ≤ 65536 → (IsTrue b ↔ SumsHold s best marks scale total (λ j. slice_index prices j)) → (IsTrue b ↔ DualHolds s best marks scale ms)
+listed_tested s best marks prices scale row_end total ms b loaded within least most test =
+    dual_tested s best marks scale total (λ j. slice_index prices j) ms b (rows_higher 0 row_end (length s.rows) ms within loaded.ascending) (loaded.values within) least most (loaded.bound within) test
 
 -- where rows reach past those of the side, the rule is broken
-pub reach_breaks : (s : PlainSide) (best : ℕ) (marks : List Fixing) (dense : List ℕ) (scale row_end total : ℕ) (ms : List (ℕ × ℕ)) → IsLoaded s.rows dense row_end total ms → length s.rows < row_end → DualHolds s best marks scale ms → ⊥
-reach_breaks s best marks dense scale row_end total ms loaded past holds =
+pub reach_breaks : (s : PlainSide) (best : ℕ) (marks : List Fixing) (prices : List ℕ) (scale row_end total : ℕ) (ms : List (ℕ × ℕ)) → IsLoaded s prices row_end total ms → length s.rows < row_end → DualHolds s best marks scale ms → ⊥
+reach_breaks s best marks prices scale row_end total ms loaded past holds =
     let within = loaded.tight (length s.rows) holds.rows in
     omega (arith, within, past)
 

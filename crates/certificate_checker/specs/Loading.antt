@@ -1,31 +1,33 @@
--- What reading a dual node's rows into a dense list leaves, and what a walk over the text of a tree answers.
+-- What reading a dual node's rows into prices leaves, and what a walk over the text of a tree answers.
 use Rattle.std.specs.Prelude.{◌≡◌, ℕ, ◌*◌, ◌^◌, ◌<◌, ◌≤◌, List, [], ◌∷◌, length, slice_index, Result, Ok, Err}
 use Rattle.std.specs.Borrow.{Bor}
 use Rattle.std.specs.List.{sum_by}
 use Rattle.placement_programme.specs.Plain.{PlainSide}
 use Rattle.placement_programme.specs.Bounds.{RowsWithin, row_of, value_of}
-use Rattle.placement_programme.specs.Programme.{weight_in}
 use Rattle.certificate_checker.specs.Nodes.{PlainTree, branch, over, dual, leaf}
 use Rattle.certificate_checker.specs.Reading.{cut_off}
+use Rattle.certificate_checker.specs.Rules.{price}
 use Rattle.certificate_checker.specs.Walks.{Walks}
 use Rattle.certificate_checker.specs.declared.fault.CertFault.{CertFault}
 use Rattle.certificate_checker.specs.declared.walking.Failing.{Failing}
 use Rattle.certificate_checker.specs.declared.loading.Loaded.{Loaded}
 use Rattle.certificate_checker.specs.declared.fixings.Fixing.{Fixing}
 
--- `row_end` is the least number above all rows; the dense list has the multiplier of each row that there is
-pub record IsLoaded (rows dense : List ℕ) (row_end total : ℕ) (ms : List (ℕ × ℕ)) : Type 0 where
+-- `row_end` is the least number above all rows; where the side has these rows, each variable has its price
+pub record IsLoaded (s : PlainSide) (prices : List ℕ) (row_end total : ℕ) (ms : List (ℕ × ℕ)) : Type 0 where
   pub ascending : RowsWithin 0 row_end ms
   pub tight : (high : ℕ) → RowsWithin 0 high ms → row_end ≤ high
-  pub values : (row : ℕ) → row < length rows → slice_index dense row ≡ weight_in ms row
-  pub bound : row_end ≤ length rows → total ≡ sum_by (λ m. value_of m * slice_index rows (row_of m)) ms
+  pub values : row_end ≤ length s.rows → (j : ℕ) → j < length s.vars → slice_index prices j ≡ price s ms j
+  pub bound : row_end ≤ length s.rows → total ≡ sum_by (λ m. value_of m * slice_index s.rows (row_of m)) ms
   pub small : total ≤ row_end * 2 ^ 96
-  pub most : total ≤ length rows * 2 ^ 96
+  pub most : total ≤ length s.rows * 2 ^ 96
+  pub low : (j : ℕ) → slice_index prices j ≤ row_end * 2 ^ 96
+  pub lowest : (j : ℕ) → slice_index prices j ≤ length s.rows * 2 ^ 96
 
-abbrev pub Loads : List ℕ → List ℕ → Result (Loaded × Bor (List ℕ)) CertFault → Result (List (ℕ × ℕ) × List ℕ) CertFault → Type 0
-Loads rows dense (Ok x) read =
-    (ms : List (ℕ × ℕ)) × ((read ≡ Ok (ms, x.1.now)) × IsLoaded rows dense x.0.row_end x.0.bound ms)
-Loads rows dense (Err e) read = read ≡ Err e
+abbrev pub Loads : PlainSide → List ℕ → Result (Loaded × Bor (List ℕ)) CertFault → Result (List (ℕ × ℕ) × List ℕ) CertFault → Type 0
+Loads s prices (Ok x) read =
+    (ms : List (ℕ × ℕ)) × ((read ≡ Ok (ms, x.1.now)) × IsLoaded s prices x.0.row_end x.0.bound ms)
+Loads s prices (Err e) read = read ≡ Err e
 
 -- a tree that is one node
 abbrev pub IsSingle : PlainTree → Type 0

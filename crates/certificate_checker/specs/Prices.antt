@@ -1,19 +1,23 @@
--- The multiplier of a row, and the price of some weights by it.
-use Rattle.std.specs.Prelude.{ℕ, ◌*◌, ◌≤◌, List, length, slice_index}
+-- The prices of a side's variables.
+use Rattle.std.specs.Prelude.{◌<◌, ◌≤◌, ℕ, ◌*◌, ◌^◌, List, length, slice_index}
 use Rattle.std.specs.List.{sum_by}
+use Rattle.placement_programme.specs.Plain.{PlainSide}
 use Rattle.placement_programme.specs.Bounds.{RowsWithin, row_of, value_of}
-use Rattle.placement_programme.specs.Programme.{weight_in}
-use Rattle.certificate_checker.specs.declared.multipliers.Multipliers.{Multipliers}
-use Rattle.certificate_checker.specs.declared.multipliers.Multipliers.TheVariants.{Sorted, Dense}
+use Rattle.placement_programme.specs.Programme.{weights_at, weight_in}
+use Rattle.certificate_checker.specs.declared.prices.Prices.{Prices}
+use Rattle.certificate_checker.specs.declared.prices.Prices.TheVariants.{Sorted, Listed}
 
-abbrev pub multiplier_in : Multipliers → ℕ → ℕ
-multiplier_in (Sorted ms) row = weight_in ms.now row
-multiplier_in (Dense numbers) row = slice_index numbers.now row
-
--- they are of `count` rows
-abbrev pub AreOfRows : Multipliers → ℕ → Type 0
-AreOfRows (Sorted ms) count = RowsWithin 0 count ms.now
-AreOfRows (Dense numbers) count = count ≤ length numbers.now
-
+-- the price of some weights by the multiplier of each row
 abbrev pub priced_by : (ℕ → ℕ) → List (ℕ × ℕ) → ℕ
 priced_by multiplier ws = sum_by (λ w. multiplier (row_of w) * value_of w) ws
+
+-- the price of variable `j`
+abbrev pub price_in : PlainSide → Prices → ℕ → ℕ
+price_in s (Sorted ms) j = priced_by (weight_in ms.now) (weights_at s.vars j)
+price_in s (Listed prices) j = slice_index prices.now j
+
+-- they are of a side's variables
+abbrev pub AreOfSide : PlainSide → Prices → Type 0
+AreOfSide s (Sorted ms) = RowsWithin 0 (length s.rows) ms.now
+AreOfSide s (Listed prices) =
+    (length s.vars ≤ length prices.now) × ((j : ℕ) → slice_index prices.now j < 2 ^ 113)

@@ -4,10 +4,12 @@ use Rattle.std.specs.Borrow.{Bor}
 use Rattle.placement_programme.specs.Plain.{PlainSide, PlainProgramme, PlainChoice}
 use Rattle.placement_programme.specs.Bounds.{AscendWithin}
 use Rattle.placement_programme.specs.declared.sides.Programme.{Programme}
+use Rattle.placement_programme.specs.Views.{plain_side}
 use Rattle.certificate_checker.specs.Nodes.{PlainTree, PlainCertificate}
 use Rattle.certificate_checker.specs.Shows.{IsAccepted, Answers, PlainVerdict, optimal, best_found, bad_choice, wrong}
 use Rattle.certificate_checker.specs.Views.{plain_verdict}
 use Rattle.certificate_checker.specs.Reading.{PlainTrees}
+use Rattle.certificate_checker.specs.RowWise.{rows_of, IsOfSide}
 use Rattle.certificate_checker.specs.Walks.{SideAnswers}
 use Rattle.certificate_checker.specs.declared.fault.CertFault.{CertFault}
 use Rattle.certificate_checker.specs.declared.walking.Failing.{Failing}
@@ -78,14 +80,16 @@ BodyAnswers p kept (Ok v) read =
     (c : PlainCertificate) × ((read ≡ Ok c) × Answers p c (plain_verdict v) × KeepsChoice c.choice kept (plain_verdict v))
 BodyAnswers p kept (Err e) read = read ≡ Err e
 
--- the room is large enough for a programme
+-- the room is large enough for a programme, and has its weights by rows
 pub record RoomFits (p : Programme) (r : Room) : Type 0 where
   pub path : 4097 ≤ length r.path.items
   pub off_marks : length p.off.vars.items ≤ length r.marks.items
-  pub off_rows : length p.off.rows.items ≤ length r.multipliers.items
+  pub off_prices : length p.off.vars.items ≤ length r.prices.items
+  pub off_rows : IsOfSide (plain_side p.off) (rows_of r.off_rows)
   pub off_take : length p.off.vars.items ≤ vec_capacity r.choice.take
   pub on_marks : IfSome p.on (λ s. length s.vars.items ≤ length r.marks.items)
-  pub on_rows : IfSome p.on (λ s. length s.rows.items ≤ length r.multipliers.items)
+  pub on_prices : IfSome p.on (λ s. length s.vars.items ≤ length r.prices.items)
+  pub on_rows : IfSome p.on (λ s. IsOfSide (plain_side s) (rows_of r.on_rows))
   pub on_take : IfSome p.on (λ s. length s.vars.items ≤ vec_capacity r.choice.take)
 
 -- the greater of a number and one that may be there
@@ -97,18 +101,22 @@ most_of n (Some m) = max n m
 pub record IsRoomOf (p : Programme) (r : Room) : Type 0 where
   pub path : length r.path.items ≡ 4097
   pub marks : length r.marks.items ≡ most_of (length p.off.vars.items) (option_map (λ s. length s.vars.items) p.on)
-  pub multipliers : length r.multipliers.items ≡ most_of (length p.off.rows.items) (option_map (λ s. length s.rows.items) p.on)
+  pub prices : length r.prices.items ≡ most_of (length p.off.vars.items) (option_map (λ s. length s.vars.items) p.on)
 
--- the lists of a room are as long as they were, and its choice is the same
+-- the lists of a room are as long as they were, and its choice and its weights by rows are the same
 pub record KeepsChoiceAndSizes (old new : Room) : Type 0 where
   pub path : length new.path.items ≡ length old.path.items
   pub marks : length new.marks.items ≡ length old.marks.items
-  pub multipliers : length new.multipliers.items ≡ length old.multipliers.items
+  pub prices : length new.prices.items ≡ length old.prices.items
+  pub off_rows : new.off_rows ≡ old.off_rows
+  pub on_rows : new.on_rows ≡ old.on_rows
   pub choice : new.choice ≡ old.choice
 
--- the lists of a room are as long as they were, and the choice has no less room
+-- the lists of a room are as long as they were, its weights by rows are the same, and the choice has no less room
 pub record HasSameRoom (old new : Room) : Type 0 where
   pub path : length new.path.items ≡ length old.path.items
   pub marks : length new.marks.items ≡ length old.marks.items
-  pub multipliers : length new.multipliers.items ≡ length old.multipliers.items
+  pub prices : length new.prices.items ≡ length old.prices.items
+  pub off_rows : new.off_rows ≡ old.off_rows
+  pub on_rows : new.on_rows ≡ old.on_rows
   pub take : vec_capacity old.choice.take ≤ vec_capacity new.choice.take

@@ -1,4 +1,4 @@
-ghost use Rattle.std.specs.Prelude.{◌≡◌, ◌^◌, ◌<◌, ◌≤◌, map, length};
+ghost use Rattle.std.specs.Prelude.{◌≡◌, ◌^◌, ◌<◌, ◌≤◌, map, length, slice_index};
 ghost use Rattle.placement_programme.specs.Plain.{plain_var};
 ghost use Rattle.placement_programme.specs.Bounds.{AreWeights};
 ghost use Rattle.placement_programme.specs.Programme.{gain_at, weights_at, weight_at};
@@ -19,6 +19,15 @@ pub(crate) fn row_count(side: &Side) -> usize
     ensures { result ≡ length (plain_side side.now).rows }
 {
     side.rows.len()
+}
+
+/// The capacity of a row.
+pub(crate) fn capacity_of_row(side: &Side, row: usize) -> u64
+    requires { row < length (plain_side side.now).rows }
+    ensures value { result ≡ slice_index (plain_side side.now).rows row }
+    ensures small { result < 2 ^ 32 }
+{
+    side.rows[row]
 }
 
 fn gain_in(vars: &[Var], number: usize) -> u128

@@ -1,15 +1,15 @@
 ghost use Rattle.std.specs.Prelude.{◌≡◌, ℕ, ◌+◌, ◌*◌, ◌^◌, ◌<◌, ◌≤◌, ◌↔◌, IsTrue, length};
-ghost use Rattle.placement_programme.specs.Bounds.{RowsWithin};
-ghost use Rattle.placement_programme.specs.Programme.{gain_at, weights_at};
+ghost use Rattle.placement_programme.specs.Programme.{gain_at};
 ghost use Rattle.placement_programme.specs.Sums.{sum_below};
 ghost use Rattle.placement_programme.specs.Views.{plain_side};
 ghost use Rattle.certificate_checker.specs.Rules.{kept, moved, DualHolds};
-ghost use Rattle.certificate_checker.specs.Prices.{multiplier_in, AreOfRows, priced_by};
+ghost use Rattle.certificate_checker.specs.Prices.{price_in, AreOfSide};
 ghost use Rattle.certificate_checker.specs.Parts.{kept_part, moved_part, SumsHold};
 
-use crate::columns::{gain_of_var, var_count, weights_of_var};
+use crate::columns::{gain_of_var, var_count};
 use crate::fixings::{Fixing, fixing_of};
-use crate::multipliers::{Multipliers, bounded, priced};
+use crate::multipliers::bounded;
+use crate::prices::{Prices, price_of};
 use placement_programme::{Side, rows_ascend};
 
 /// What a variable adds to the left and to the right side of a dual node's rule.
@@ -49,22 +49,22 @@ fn parts_at(
     side: &Side,
     marks: &[Fixing],
     scale: u32,
-    multipliers: &Multipliers,
+    prices: &Prices,
     number: usize,
 ) -> TwoParts
     requires number { number < length (plain_side side.now).vars }
     requires marked { number < length marks.now }
     requires scale { scale ≤ 65536 }
-    requires rows { AreOfRows multipliers.now (length (plain_side side.now).rows) }
-    ensures kept { result.kept ≡ kept_part (plain_side side.now) marks.now scale (multiplier_in multipliers.now) number }
-    ensures moved { result.moved ≡ moved_part (plain_side side.now) marks.now (multiplier_in multipliers.now) number }
+    requires prices { AreOfSide (plain_side side.now) prices.now }
+    ensures kept { result.kept ≡ kept_part (plain_side side.now) marks.now scale (price_in (plain_side side.now) prices.now) number }
+    ensures moved { result.moved ≡ moved_part marks.now (price_in (plain_side side.now) prices.now) number }
     ensures small { result.moved < 2 ^ 113 }
 {
     let fixing = fixing_of(marks, number);
     if fixing == Fixing::Zero {
         return TwoParts { kept: 0, moved: 0 };
     }
-    let price = priced(multipliers, weights_of_var(side, number));
+    let price = price_of(side, prices, number);
     parts(fixing, scaled_gain(side, scale, number), price)
 }
 
@@ -85,19 +85,19 @@ pub(crate) fn sums_hold(
     marks: &[Fixing],
     scale: u32,
     bound: u128,
-    multipliers: &Multipliers,
+    prices: &Prices,
 ) -> bool
     requires best { best ≤ 2 ^ 104 }
     requires marked { length (plain_side side.now).vars ≤ length marks.now }
     requires scale { scale ≤ 65536 }
     requires bound { bound < 2 ^ 113 }
-    requires rows { AreOfRows multipliers.now (length (plain_side side.now).rows) }
-    ensures { IsTrue result ↔ SumsHold (plain_side side.now) best marks.now scale bound (multiplier_in multipliers.now) }
+    requires prices { AreOfSide (plain_side side.now) prices.now }
+    ensures { IsTrue result ↔ SumsHold (plain_side side.now) best marks.now scale bound (price_in (plain_side side.now) prices.now) }
 {
     let mut left = bound;
     let mut right = scaled_bound(side, best, scale);
     for number in 0..var_count(side) {
-        let parts = parts_at(side, marks, scale, multipliers, number);
+        let parts = parts_at(side, marks, scale, prices, number);
         left += parts.kept;
         right += parts.moved;
     }
@@ -127,6 +127,6 @@ pub fn dual_holds(
         marks,
         scale,
         bound,
-        &Multipliers::Sorted(multipliers),
+        &Prices::Sorted(multipliers),
     )
 }

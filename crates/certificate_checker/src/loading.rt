@@ -1,12 +1,15 @@
-ghost use Rattle.std.specs.Prelude.{◌≡◌, ℕ, ◌+◌, ◌*◌, ◌^◌, ◌<◌, ◌≤◌, List, [], ◌∷◌, ◌++◌, length, IfOk};
-ghost use Rattle.std.specs.List.{All};
-ghost use Rattle.placement_programme.specs.Bounds.{row_of};
+ghost use Rattle.std.specs.Prelude.{◌≡◌, ℕ, ◌+◌, ◌*◌, ◌^◌, ◌<◌, ◌≤◌, List, [], ◌∷◌, ◌++◌, length, slice_index, IfOk, OnOk};
+ghost use Rattle.placement_programme.specs.Views.{plain_side};
 ghost use Rattle.certificate_checker.specs.Reading.{entries_at};
+ghost use Rattle.certificate_checker.specs.RowWise.{rows_of, IsOfSide};
 ghost use Rattle.certificate_checker.specs.Loading.{IsLoaded, Loads};
 
+use crate::columns::{capacity_of_row, row_count};
 use crate::fault::CertFault;
 use crate::fields::entry;
 use crate::multipliers::product;
+use crate::prices::add_priced;
+use crate::tasks::Task;
 
 /// What was read of a dual node's rows: the least number above all of them, and the multiplied capacities.
 #[derive(Drop)]
@@ -15,60 +18,67 @@ pub(crate) struct Loaded {
     pub bound: u128,
 }
 
-/// Sets the multiplier of one more row.
+/// Adds one more row, times its multiplier.
 fn load_entry(
-    rows: &[u64],
-    multipliers: &mut [u64],
+    task: &Task,
+    prices: &mut [u128],
     loaded: Loaded,
     row: u32,
     multiplier: u64,
 ) -> Loaded
-    requires few { length rows.now < 2 ^ 17 }
-    requires small { All (λ c. c < 2 ^ 32) rows.now }
-    requires room { length rows.now ≤ length multipliers.old }
-    requires bound { loaded.bound ≤ length rows.now * 2 ^ 96 }
+    requires by_row { IsOfSide (plain_side task.now.side.now) (rows_of task.now.by_row.now) }
+    requires room { length (plain_side task.now.side.now).vars ≤ length prices.old }
+    requires bound { loaded.bound ≤ length (plain_side task.now.side.now).rows * 2 ^ 96 }
+    requires low { (j : ℕ) → slice_index prices.old j ≤ length (plain_side task.now.side.now).rows * 2 ^ 96 }
     ensures row_end { result.row_end ≡ row + 1 }
-    ensures loaded { (ms : List (ℕ × ℕ)) → IsLoaded rows.now multipliers.old loaded.row_end loaded.bound ms → loaded.row_end ≤ row
-        → IsLoaded rows.now multipliers.new result.row_end result.bound (ms ++ (row, multiplier) ∷ []) }
+    ensures loaded { (ms : List (ℕ × ℕ)) → IsLoaded (plain_side task.now.side.now) prices.old loaded.row_end loaded.bound ms → loaded.row_end ≤ row
+        → IsLoaded (plain_side task.now.side.now) prices.new result.row_end result.bound (ms ++ (row, multiplier) ∷ []) }
 {
     let place = row as usize;
     let row_end = u64::from(row) + 1;
-    if place >= rows.len() {
+    if place >= row_count(task.side) {
         return Loaded {
             row_end,
             bound: loaded.bound,
         };
     }
-    multipliers[place] = multiplier;
+    add_priced(prices, task.by_row.row(place), multiplier);
+    let more = product(multiplier, capacity_of_row(task.side, place));
     Loaded {
         row_end,
-        bound: loaded.bound + product(multiplier, rows[place]),
+        bound: loaded.bound + more,
     }
 }
 
-/// Reads so many rows with their multipliers into a number for each row.
+/// Sets all prices to 0.
+fn clear(prices: &mut [u128])
+    ensures { (j : ℕ) → slice_index prices.new j ≡ 0 }
+{
+    prices.fill(0);
+}
+
+/// Reads so many rows with their multipliers into a price for each variable.
 pub(crate) fn load_entries<'a>(
-    rows: &[u64],
-    multipliers: &mut [u64],
+    task: &Task,
+    prices: &mut [u128],
     count: u32,
-    total: usize,
     bytes: &'a [u8],
 ) -> Result<(Loaded, &'a [u8]), CertFault>
-    requires few { length rows.now < 2 ^ 17 }
-    requires small { All (λ c. c < 2 ^ 32) rows.now }
-    requires room { length rows.now ≤ length multipliers.old }
-    ensures loads { Loads rows.now multipliers.new result (entries_at total count 0 bytes.now) }
+    requires by_row { IsOfSide (plain_side task.now.side.now) (rows_of task.now.by_row.now) }
+    requires room { length (plain_side task.now.side.now).vars ≤ length prices.old }
+    ensures loads { Loads (plain_side task.now.side.now) prices.new result (entries_at task.now.total count 0 bytes.now) }
     ensures small { IfOk result (λ x. x.0.bound < 2 ^ 113) }
+    ensures prices { OnOk result ((j : ℕ) → slice_index prices.new j < 2 ^ 113) }
 {
-    multipliers.fill(0);
+    clear(prices);
     let mut loaded = Loaded {
         row_end: 0,
         bound: 0,
     };
     let mut rest = bytes;
     for _ in 0..count {
-        let (found, after) = entry(loaded.row_end, total, rest)?;
-        loaded = load_entry(rows, multipliers, loaded, found.0, found.1);
+        let (found, after) = entry(loaded.row_end, task.total, rest)?;
+        loaded = load_entry(task, prices, loaded, found.0, found.1);
         rest = after;
     }
     Ok((loaded, rest))

@@ -1,7 +1,10 @@
-ghost use Rattle.std.specs.Prelude.{◌≡◌, ◌≤◌, length, option_map, IfOk};
+ghost use Rattle.std.specs.Prelude.{◌≡◌, ◌≤◌, length, option_map, IfOk, IfSome};
+ghost use Rattle.placement_programme.specs.Views.{plain_side};
+ghost use Rattle.certificate_checker.specs.RowWise.{rows_of, IsOfSide};
 ghost use Rattle.certificate_checker.specs.Rooms.{RoomFits, IsRoomOf, most_of};
 
 use crate::fixings::Fixing;
+use crate::row_wise::RowWise;
 use crate::steps::PathStep;
 use placement_programme::{Choice, Programme};
 use std::alloc::{AllocError, Global};
@@ -13,8 +16,12 @@ pub struct Room {
     pub marks: Vec<Fixing>,
     /// A step for each depth, 4,097, with which the way from the root to a node is told.
     pub path: Vec<PathStep>,
-    /// A multiplier for each row of the side with more rows.
-    pub multipliers: Vec<u64>,
+    /// A price for each variable of the longer side.
+    pub prices: Vec<u128>,
+    /// The weights of the side without overlay, by rows.
+    pub off_rows: RowWise,
+    /// Those of the side with overlay, where there is one.
+    pub on_rows: RowWise,
     /// The choice of the certificate that was read last.
     pub choice: Choice,
 }
@@ -28,27 +35,28 @@ fn most_vars(p: &Programme) -> usize
     }
 }
 
-fn most_rows(p: &Programme) -> usize
-    ensures { result ≡ most_of (length p.now.off.rows.items) (option_map (λ s. length s.rows.items) p.now.on) }
-{
-    match &p.on {
-        Some(side) => side.rows.len().max(p.off.rows.len()),
-        None => p.off.rows.len(),
-    }
-}
-
 fn fixings(alloc: Global, count: usize) -> Result<Vec<Fixing>, AllocError>
     ensures { IfOk result (λ v. length v.items ≡ count) }
 {
     vec![in alloc; Fixing::Free; count]
 }
 
-fn numbers_of(alloc: Global, count: usize) -> Result<Vec<u64>, AllocError>
+fn prices_of(alloc: Global, count: usize) -> Result<Vec<u128>, AllocError>
     ensures { IfOk result (λ v. length v.items ≡ count) }
 {
-    let mut numbers = Vec::new(alloc);
-    numbers.resize(count, 0)?;
-    Ok(numbers)
+    vec![in alloc; 0u128; count]
+}
+
+/// The weights of the side with overlay by rows, none where there is no such side.
+fn overlay_rows(alloc: Global, p: &Programme) -> Result<RowWise, AllocError>
+    ensures { IfOk result (λ w. IfSome p.now.on (λ s. IsOfSide (plain_side s) (rows_of w))) }
+{
+    match &p.on {
+        Some(side) => RowWise::of(alloc, side),
+        None => Ok(RowWise {
+            rows: Vec::new(alloc),
+        }),
+    }
 }
 
 fn steps_of(alloc: Global, count: usize) -> Result<Vec<PathStep>, AllocError>
@@ -70,13 +78,17 @@ impl Room {
         let vars = most_vars(p);
         let marks = fixings(alloc, vars)?;
         let path = steps_of(alloc, 4097)?;
-        let multipliers = numbers_of(alloc, most_rows(p))?;
+        let prices = prices_of(alloc, vars)?;
+        let off_rows = RowWise::of(alloc, &p.off)?;
+        let on_rows = overlay_rows(alloc, p)?;
         let take = Vec::with_capacity(alloc, vars)?;
         let choice = Choice { on: false, take };
         Ok(Room {
             marks,
             path,
-            multipliers,
+            prices,
+            off_rows,
+            on_rows,
             choice,
         })
     }

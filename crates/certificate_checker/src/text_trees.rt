@@ -2,6 +2,7 @@ ghost use Rattle.std.specs.Prelude.{◌≡◌, ℕ, ◌^◌, ◌<◌, ◌≤◌,
 ghost use Rattle.placement_programme.specs.Views.{plain_side, plain_programme};
 ghost use Rattle.certificate_checker.specs.Reading.{tree_at, most_levels, trees_at, trees_for};
 ghost use Rattle.certificate_checker.specs.Walks.{SideAnswers};
+ghost use Rattle.certificate_checker.specs.RowWise.{rows_of, IsOfSide};
 ghost use Rattle.certificate_checker.specs.Rooms.{SideRead, TreesRead, RoomFits, KeepsChoiceAndSizes};
 
 use crate::columns::var_count;
@@ -10,7 +11,8 @@ use crate::fields::{Part, number_in};
 use crate::fixings::Fixing;
 use crate::rooms::Room;
 use crate::steps::PathStep;
-use crate::text_walk::{Task, walk_text};
+use crate::tasks::Task;
+use crate::text_walk::walk_text;
 use crate::walking::Failing;
 use placement_programme::{Programme, Side};
 
@@ -32,28 +34,59 @@ fn walk_side<'a>(
     task: &Task,
     marks: &mut [Fixing],
     path: &mut [PathStep],
-    multipliers: &mut [u64],
+    prices: &mut [u128],
     bytes: &'a [u8],
 ) -> Result<(Result<(), Failing>, &'a [u8]), CertFault>
     requires best { task.now.best ≤ 2 ^ 104 }
+    requires by_row { IsOfSide (plain_side task.now.side.now) (rows_of task.now.by_row.now) }
     requires levels { task.now.levels < 2 ^ 31 }
     requires path { task.now.levels ≤ length path.old }
     requires marked { length (plain_side task.now.side.now).vars ≤ length marks.old }
-    requires room { length (plain_side task.now.side.now).rows ≤ length multipliers.old }
+    requires room { length (plain_side task.now.side.now).vars ≤ length prices.old }
     ensures { SideRead (Some (plain_side task.now.side.now)) task.now.best result (tree_at task.now.total task.now.levels bytes.now) }
 {
     let free = &mut marks[..var_count(task.side)];
     free.fill(Fixing::Free);
-    match walk_text(task, free, path, multipliers, bytes) {
+    match walk_text(task, free, path, prices, bytes) {
         Err(fault) => Err(fault),
         Ok((Ok(_), rest)) => Ok((Ok(()), rest)),
         Ok((Err(failing), rest)) => Ok((Err(failing), rest)),
     }
 }
 
-/// Walks over the tree of a side in a room that is large enough for it.
+/// Walks over the tree of the side without overlay.
 #[tactic(auto, unfolding(crate::specs::Reading::most_levels))]
-fn side_tree<'a>(
+fn off_tree<'a>(
+    p: &Programme,
+    best: u128,
+    room: &mut Room,
+    total: usize,
+    bytes: &'a [u8],
+) -> Result<(Result<(), Failing>, &'a [u8]), CertFault>
+    requires best { best ≤ 2 ^ 104 }
+    requires room { RoomFits p.now room.old }
+    ensures read { SideRead (Some (plain_side p.now.off)) best result (tree_at total most_levels bytes.now) }
+    ensures kept { KeepsChoiceAndSizes room.old room.new }
+{
+    let task = Task {
+        side: &p.off,
+        by_row: &room.off_rows,
+        best,
+        total,
+        levels: 4097,
+    };
+    walk_side(
+        &task,
+        &mut room.marks,
+        &mut room.path,
+        &mut room.prices,
+        bytes,
+    )
+}
+
+/// Walks over the tree of the side with overlay, which there is.
+#[tactic(auto, unfolding(crate::specs::Reading::most_levels))]
+fn overlay_tree<'a>(
     side: &Side,
     best: u128,
     room: &mut Room,
@@ -63,12 +96,14 @@ fn side_tree<'a>(
     requires best { best ≤ 2 ^ 104 }
     requires path { 4097 ≤ length room.old.path.items }
     requires marked { length (plain_side side.now).vars ≤ length room.old.marks.items }
-    requires room { length (plain_side side.now).rows ≤ length room.old.multipliers.items }
+    requires room { length (plain_side side.now).vars ≤ length room.old.prices.items }
+    requires by_row { IsOfSide (plain_side side.now) (rows_of room.old.on_rows) }
     ensures read { SideRead (Some (plain_side side.now)) best result (tree_at total most_levels bytes.now) }
     ensures kept { KeepsChoiceAndSizes room.old room.new }
 {
     let task = Task {
         side,
+        by_row: &room.on_rows,
         best,
         total,
         levels: 4097,
@@ -77,7 +112,7 @@ fn side_tree<'a>(
         &task,
         &mut room.marks,
         &mut room.path,
-        &mut room.multipliers,
+        &mut room.prices,
         bytes,
     )
 }
@@ -96,8 +131,8 @@ fn on_tree<'a>(
     ensures read { SideRead (option_map plain_side p.now.on) best result (tree_at total most_levels bytes.now) }
 {
     match &p.on {
-        Some(side) => side_tree(side, best, room, total, bytes),
-        None => match side_tree(&p.off, best, room, total, bytes) {
+        Some(side) => overlay_tree(side, best, room, total, bytes),
+        None => match off_tree(p, best, room, total, bytes) {
             Err(fault) => Err(fault),
             Ok((_, rest)) => Ok((Err(Failing { node: 0, depth: 0 }), rest)),
         },
@@ -129,7 +164,7 @@ fn claimed_trees<'a>(
     ensures read { TreesRead (plain_programme p.now) best result (trees_at total bytes.now) }
 {
     let (count, rest) = number_in(Part::Head, 1, 2, total, bytes)?;
-    let (off, rest) = side_tree(&p.off, best, room, total, rest)?;
+    let (off, rest) = off_tree(p, best, room, total, rest)?;
     if count == 1 {
         let on = no_on_tree(p);
         return Ok((Outcomes { off, on }, rest));

@@ -1,4 +1,4 @@
-ghost use Rattle.std.specs.Prelude.{◌≡◌, ℕ, suc, ◌+◌, ◌^◌, ◌<◌, ◌≤◌, ◌↔◌, IsTrue, false, List, [], ◌∷◌, length, IfOk};
+ghost use Rattle.std.specs.Prelude.{◌≡◌, ℕ, suc, ◌+◌, ◌^◌, ◌<◌, ◌≤◌, ◌↔◌, IsTrue, false, List, [], ◌∷◌, length, slice_index, IfOk};
 ghost use Rattle.placement_programme.specs.Plain.{PlainSide};
 ghost use Rattle.placement_programme.specs.Views.{plain_side};
 ghost use Rattle.certificate_checker.specs.Nodes.{PlainTree};
@@ -7,6 +7,7 @@ ghost use Rattle.certificate_checker.specs.Shows.{all_free};
 ghost use Rattle.certificate_checker.specs.Walks.{Walks};
 ghost use Rattle.certificate_checker.specs.declared.fixings.Fixing.{Fixing};
 ghost use Rattle.certificate_checker.specs.Reading.{over_at, dual_at, tree_at};
+ghost use Rattle.certificate_checker.specs.RowWise.{rows_of, IsOfSide};
 ghost use Rattle.certificate_checker.specs.Loading.{IsLoaded, IsSingle, SplitsFirst, WalksRead, behind_of, both_of};
 ghost use Rattle.certificate_checker.specs.Ways.{text_of, IsBefore, Stands, Advances, CanAdvance, left};
 
@@ -16,21 +17,12 @@ use crate::fault::CertFault;
 use crate::fields::{Part, cut_off, number_in, place, small_number};
 use crate::fixings::Fixing;
 use crate::loading::{Loaded, load_entries};
-use crate::multipliers::Multipliers;
+use crate::prices::Prices;
 use crate::reading::below_all;
 use crate::rules::{branch_holds, leaf_holds, over_holds};
 use crate::steps::{PathStep, Progress, enter, is_done, leave};
+use crate::tasks::Task;
 use crate::walking::{Failing, next_number};
-use placement_programme::Side;
-
-/// What a tree in a text is read for: its side and a choice's gain, in a text of `total` bytes, with at most `levels` levels.
-#[derive(Drop)]
-pub(crate) struct Task<'a> {
-    pub side: &'a Side,
-    pub best: u128,
-    pub total: usize,
-    pub levels: u32,
-}
 
 /// A walk's answer and the bytes behind the tree.
 type Walked<'a> = (Result<u32, Failing>, &'a [u8]);
@@ -63,21 +55,22 @@ fn walk_over<'a>(
     }
 }
 
-/// Whether a dual node keeps its rule, by its rows in a dense list.
+/// Whether a dual node keeps its rule, by the prices that its rows make.
 fn loaded_holds(
     task: &Task,
     marks: &[Fixing],
-    multipliers: &[u64],
+    prices: &[u128],
     scale: u32,
     loaded: &Loaded,
 ) -> bool
     requires best { task.now.best ≤ 2 ^ 104 }
     requires marked { length (plain_side task.now.side.now).vars ≤ length marks.now }
-    requires room { length (plain_side task.now.side.now).rows ≤ length multipliers.now }
+    requires room { length (plain_side task.now.side.now).vars ≤ length prices.now }
+    requires prices { (j : ℕ) → slice_index prices.now j < 2 ^ 113 }
     requires least { 1 ≤ scale }
     requires most { scale ≤ 65536 }
     requires bound { loaded.now.bound < 2 ^ 113 }
-    ensures { (ms : List (ℕ × ℕ)) → IsLoaded (plain_side task.now.side.now).rows multipliers.now loaded.now.row_end loaded.now.bound ms
+    ensures { (ms : List (ℕ × ℕ)) → IsLoaded (plain_side task.now.side.now) prices.now loaded.now.row_end loaded.now.bound ms
         → (IsTrue result ↔ DualHolds (plain_side task.now.side.now) task.now.best marks.now scale ms) }
 {
     if loaded.row_end > row_count(task.side) as u64 {
@@ -89,7 +82,7 @@ fn loaded_holds(
         marks,
         scale,
         loaded.bound,
-        &Multipliers::Dense(multipliers),
+        &Prices::Listed(prices),
     )
 }
 
@@ -97,20 +90,21 @@ fn loaded_holds(
 fn walk_dual<'a>(
     task: &Task,
     marks: &[Fixing],
-    multipliers: &mut [u64],
+    prices: &mut [u128],
     node: u32,
     depth: u32,
     bytes: &'a [u8],
 ) -> Result<Walked<'a>, CertFault>
     requires best { task.now.best ≤ 2 ^ 104 }
     requires marked { length (plain_side task.now.side.now).vars ≤ length marks.now }
-    requires room { length (plain_side task.now.side.now).rows ≤ length multipliers.old }
+    requires by_row { IsOfSide (plain_side task.now.side.now) (rows_of task.now.by_row.now) }
+    requires room { length (plain_side task.now.side.now).vars ≤ length prices.old }
     ensures { WalksRead (plain_side task.now.side.now) task.now.best marks.now node depth result (dual_at task.now.total bytes.now) }
 {
     let (scale, rest) = number_in(Part::Node, 1, 65536, task.total, bytes)?;
     let (count, rest) = small_number(Part::Node, 0, task.total, rest)?;
-    let (loaded, rest) = load_entries(&task.side.rows, multipliers, count, task.total, rest)?;
-    let holds = loaded_holds(task, marks, multipliers, scale as u32, &loaded);
+    let (loaded, rest) = load_entries(task, prices, count, rest)?;
+    let holds = loaded_holds(task, marks, prices, scale as u32, &loaded);
     Ok((single(holds, node, depth), rest))
 }
 
@@ -119,21 +113,22 @@ fn walk_dual<'a>(
 fn walk_single<'a>(
     task: &Task,
     marks: &[Fixing],
-    multipliers: &mut [u64],
+    prices: &mut [u128],
     node: u32,
     depth: u32,
     bytes: &'a [u8],
 ) -> Result<Walked<'a>, CertFault>
     requires best { task.now.best ≤ 2 ^ 104 }
     requires marked { length (plain_side task.now.side.now).vars ≤ length marks.now }
-    requires room { length (plain_side task.now.side.now).rows ≤ length multipliers.old }
+    requires by_row { IsOfSide (plain_side task.now.side.now) (rows_of task.now.by_row.now) }
+    requires room { length (plain_side task.now.side.now).vars ≤ length prices.old }
     requires tag { (rest : List ℕ) → bytes.now ≡ 0 ∷ rest → ⊥ }
     ensures { (levels : ℕ) → WalksRead (plain_side task.now.side.now) task.now.best marks.now node depth result (tree_at task.now.total (suc levels) bytes.now) }
 {
     match bytes {
         [] => Err(cut_off(task.total)),
         [1, rest @ ..] => walk_over(task, marks, node, depth, rest),
-        [2, rest @ ..] => walk_dual(task, marks, multipliers, node, depth, rest),
+        [2, rest @ ..] => walk_dual(task, marks, prices, node, depth, rest),
         [3, rest @ ..] => Ok((
             single(leaf_holds(task.side, task.best, marks), node, depth),
             rest,
@@ -204,13 +199,14 @@ fn read_single<'a>(
     task: &Task,
     marks: &[Fixing],
     path: &[PathStep],
-    multipliers: &mut [u64],
+    prices: &mut [u128],
     progress: Progress,
     bytes: &'a [u8],
 ) -> Result<(Progress, &'a [u8]), CertFault>
     requires best { task.now.best ≤ 2 ^ 104 }
     requires marked { length (plain_side task.now.side.now).vars ≤ length marks.now }
-    requires room { length (plain_side task.now.side.now).rows ≤ length multipliers.old }
+    requires by_row { IsOfSide (plain_side task.now.side.now) (rows_of task.now.by_row.now) }
+    requires room { length (plain_side task.now.side.now).vars ≤ length prices.old }
     requires tag { (rest : List ℕ) → bytes.now ≡ 0 ∷ rest → ⊥ }
     ensures reads { (levels : ℕ) (all : List ℕ) → progress.depth < levels
         → IsBefore (text_of (plain_side task.now.side.now) task.now.best task.now.total levels all) path.now marks.now progress.depth progress.so_far bytes.now
@@ -220,7 +216,7 @@ fn read_single<'a>(
 {
     let depth = progress.depth;
     let node = number_behind(&progress.so_far);
-    let (answer, rest) = walk_single(task, marks, multipliers, node, depth, bytes)?;
+    let (answer, rest) = walk_single(task, marks, prices, node, depth, bytes)?;
     let so_far = both(progress.so_far, answer);
     let behind = Progress {
         depth,
@@ -235,13 +231,14 @@ fn read_node<'a>(
     task: &Task,
     marks: &mut [Fixing],
     path: &mut [PathStep],
-    multipliers: &mut [u64],
+    prices: &mut [u128],
     progress: Progress,
     bytes: &'a [u8],
 ) -> Result<(Progress, &'a [u8]), CertFault>
     requires best { task.now.best ≤ 2 ^ 104 }
     requires marked { length (plain_side task.now.side.now).vars ≤ length marks.old }
-    requires room { length (plain_side task.now.side.now).rows ≤ length multipliers.old }
+    requires by_row { IsOfSide (plain_side task.now.side.now) (rows_of task.now.by_row.now) }
+    requires room { length (plain_side task.now.side.now).vars ≤ length prices.old }
     requires levels { task.now.levels < 2 ^ 31 }
     requires inside { task.now.levels ≤ length path.old }
     requires depth { progress.depth ≤ task.now.levels }
@@ -257,7 +254,7 @@ fn read_node<'a>(
     if tag == 0 {
         return read_branch(task, marks, path, progress, rest);
     }
-    read_single(task, marks, path, multipliers, progress, bytes)
+    read_single(task, marks, path, prices, progress, bytes)
 }
 
 /// One step forward: the next node is read, or the tree that was read is left.
@@ -265,13 +262,14 @@ fn advance<'a>(
     task: &Task,
     marks: &mut [Fixing],
     path: &mut [PathStep],
-    multipliers: &mut [u64],
+    prices: &mut [u128],
     progress: Progress,
     bytes: &'a [u8],
 ) -> Result<(Progress, &'a [u8]), CertFault>
     requires best { task.now.best ≤ 2 ^ 104 }
     requires marked { length (plain_side task.now.side.now).vars ≤ length marks.old }
-    requires room { length (plain_side task.now.side.now).rows ≤ length multipliers.old }
+    requires by_row { IsOfSide (plain_side task.now.side.now) (rows_of task.now.by_row.now) }
+    requires room { length (plain_side task.now.side.now).vars ≤ length prices.old }
     requires levels { task.now.levels < 2 ^ 31 }
     requires inside { task.now.levels ≤ length path.old }
     requires depth { progress.depth ≤ task.now.levels }
@@ -284,7 +282,7 @@ fn advance<'a>(
     if progress.ended {
         return Ok((leave(marks, path, progress), bytes));
     }
-    read_node(task, marks, path, multipliers, progress, bytes)
+    read_node(task, marks, path, prices, progress, bytes)
 }
 
 /// Walks over a tree as it is read, with the steps to the present node in `path`.
@@ -292,12 +290,13 @@ pub(crate) fn walk_text<'a>(
     task: &Task,
     marks: &mut [Fixing],
     path: &mut [PathStep],
-    multipliers: &mut [u64],
+    prices: &mut [u128],
     bytes: &'a [u8],
 ) -> Result<Walked<'a>, CertFault>
     requires best { task.now.best ≤ 2 ^ 104 }
     requires free { marks.old ≡ all_free (plain_side task.now.side.now) }
-    requires room { length (plain_side task.now.side.now).rows ≤ length multipliers.old }
+    requires by_row { IsOfSide (plain_side task.now.side.now) (rows_of task.now.by_row.now) }
+    requires room { length (plain_side task.now.side.now).vars ≤ length prices.old }
     requires levels { task.now.levels < 2 ^ 31 }
     requires inside { task.now.levels ≤ length path.old }
     ensures { WalksRead (plain_side task.now.side.now) task.now.best (all_free (plain_side task.now.side.now)) 0 0 result (tree_at task.now.total task.now.levels bytes.now) }
@@ -309,7 +308,7 @@ pub(crate) fn walk_text<'a>(
     };
     let mut rest = bytes;
     while !is_done(&progress) {
-        let (next, behind) = advance(task, marks, path, multipliers, progress, rest)?;
+        let (next, behind) = advance(task, marks, path, prices, progress, rest)?;
         progress = next;
         rest = behind;
     }

@@ -1,8 +1,6 @@
-use Rattle.std.proofs.Common.{subst}
 use Rattle.placement_programme.specs.Views.{plain_side}
 use Rattle.certificate_checker.specs.declared.fields.Part.TheVariants.{Node}
 use Rattle.certificate_checker.specs.Nodes.{dual}
-use Rattle.certificate_checker.specs.Loading.{IsLoaded}
 use Rattle.certificate_checker.proofs.StreamLemmas.{number_from, dual_read}
 use Rattle.certificate_checker.proofs.text_walk.walk_dual.Goals as goal
 
@@ -15,10 +13,10 @@ returns c =
     let task = c.args.task.now in
     let loads = c.in_ok-loaded.ensures.loads in
     let tree = dual c.in_ok-scale.scale loads.0 in
-    let loaded = subst (λ rows. IsLoaded rows c.load_entries.new.multipliers c.in_ok-loaded.loaded.row_end c.in_ok-loaded.loaded.bound loads.0) c.deref.ensures.value loads.1.1 in (
+    (
       tree,
       (
         dual_read task.total c.args.bytes.now c.in_ok-scale.scale c.in_ok-scale.rest.now c.in_ok-count.count c.in_ok-count.rest.now loads.0 c.in_ok-loaded.rest.now c.in_ok-scale.ensures.gives c.in_ok-count.ensures loads.1.0,
-        c.single.ensures (plain_side task.side.now) task.best c.args.marks.now tree tt (c.loaded_holds-holds.ensures loads.0 loaded),
+        c.single.ensures (plain_side task.side.now) task.best c.args.marks.now tree tt (c.loaded_holds-holds.ensures loads.0 loads.1.1),
       ),
     )
