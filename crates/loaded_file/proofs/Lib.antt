@@ -3,3 +3,4 @@ pub mod WordLemmas
 pub mod RangeLemmas
 pub mod ByteRangeLemmas
 pub mod OverlapLemmas
+pub mod ReachLemmas

@@ -7,3 +7,4 @@ pub mod Read
 pub use Rattle.loaded_file.specs.Records
 pub mod Ranges
 pub mod ByteRanges
+pub mod Reaches

@@ -5,6 +5,7 @@ ghost use Rattle.elf_reader.specs.Loaded.{is_loaded};
 ghost use Rattle.loaded_file.specs.Code.{is_code_range, holds_code, is_code_word};
 
 use crate::file::LoadedFile;
+use crate::reaches::SectionKind;
 use elf_reader::{EXECUTABLE_BIT, SHT_PROGBITS};
 
 /// Whether section `k` is a code range: it is loaded, has content, and is executable.
@@ -37,10 +38,8 @@ pub fn is_code_word(file: &LoadedFile, address: u32) -> bool
 fn is_in_code(file: &LoadedFile, address: u32) -> bool
     ensures { result ≡ any_below (holds_code (plain_view file.now.view.now) address) (length (plain_view file.now.view.now).sections) }
 {
-    for k in 0..file.view.sections.len() {
-        if holds_code(file, address, k) {
-            return true;
-        }
+    match file.section_over(SectionKind::Code, address, 4) {
+        Some(_) => true,
+        None => false,
     }
-    false
 }

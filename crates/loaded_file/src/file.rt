@@ -1,8 +1,11 @@
 ghost use Rattle.std.specs.Prelude.{◌≡◌, IfOk};
 ghost use Rattle.elf_reader.specs.File.{plain_view};
 ghost use Rattle.loaded_file.specs.Marks.{all_loaded};
+ghost use Rattle.loaded_file.specs.Reaches.{AreReaches};
+ghost use Rattle.loaded_file.specs.declared.reaches.SectionKind.TheVariants.{Code, Data};
 
 use crate::loaded::loaded_sections;
+use crate::reaches::{Reach, SectionKind, reaches, section_over};
 use elf_reader::ElfView;
 use std::alloc::{AllocError, Global};
 
@@ -14,13 +17,21 @@ pub struct LoadedFile<'a> {
     /// Whether each section is loaded, in the order of the sections: it has memory, and some segment puts its bytes,
     /// which no other section, no other segment and no table of headers shares, at its address.
     pub loaded: Vec<bool>,
+    /// How far the code ranges reach, by address.
+    code_ranges: Vec<Reach>,
+    /// The same of the loaded sections with content that hold no code.
+    data_ranges: Vec<Reach>,
     pub ghost marks: { loaded.items ≡ all_loaded (plain_view view.now) },
+    ghost code_reaches: { AreReaches Code (plain_view view.now) code_ranges.items },
+    ghost data_reaches: { AreReaches Data (plain_view view.now) data_ranges.items },
 }
 
 impl<'a> LoadedFile<'a> {
-    ghost use Rattle.std.specs.Prelude.{◌≡◌, ◌<◌, length, IfOk};
+    ghost use Rattle.std.specs.Prelude.{◌≡◌, ◌<◌, true, false, length, IfOk, MatchOption};
+    ghost use Rattle.list_checks.specs.Tests.{any_below};
     ghost use Rattle.elf_reader.specs.File.{plain_view};
     ghost use Rattle.elf_reader.specs.Loaded.{is_loaded};
+    ghost use Rattle.loaded_file.specs.Reaches.{holds_range};
 
     /// A view with the marks of its loaded sections. It fails only where no memory was left.
     ///
@@ -29,7 +40,14 @@ impl<'a> LoadedFile<'a> {
         ensures { IfOk result (λ file. file.view.now ≡ view.now) }
     {
         let loaded = loaded_sections(alloc, view)?;
-        Ok(LoadedFile { view, loaded })
+        let code_ranges = reaches(alloc, view, &loaded, SectionKind::Code)?;
+        let data_ranges = reaches(alloc, view, &loaded, SectionKind::Data)?;
+        Ok(LoadedFile {
+            view,
+            loaded,
+            code_ranges,
+            data_ranges,
+        })
     }
 
     /// Whether section `k` is loaded.
@@ -38,5 +56,17 @@ impl<'a> LoadedFile<'a> {
         ensures { result ≡ is_loaded (plain_view self.now.view.now) k }
     {
         self.loaded[k]
+    }
+
+    /// The number of a section of a kind that has the `size` bytes from `address`, if one has.
+    ///
+    /// The time grows with the logarithm of the number of sections.
+    pub fn section_over(&self, kind: SectionKind, address: u32, size: u32) -> Option<usize>
+        ensures { MatchOption result (any_below (holds_range kind (plain_view self.now.view.now) address size) (length (plain_view self.now.view.now).sections) ≡ false) (λ k. (k < length (plain_view self.now.view.now).sections) × (holds_range kind (plain_view self.now.view.now) address size k ≡ true)) }
+    {
+        match kind {
+            SectionKind::Code => section_over(&self.code_ranges, address, size),
+            SectionKind::Data => section_over(&self.data_ranges, address, size),
+        }
     }
 }

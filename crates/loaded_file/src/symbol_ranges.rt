@@ -106,7 +106,7 @@ fn has_owner(file: &LoadedFile, symbol: &Symbol) -> bool
 }
 
 /// A section holds code.
-fn is_executable(section: &Section) -> bool
+pub(crate) fn is_executable(section: &Section) -> bool
     ensures { result ≡ is_executable (plain_section section.now) }
 {
     (section.flags >> EXECUTABLE_BIT) & 1 == 1

@@ -1,4 +1,4 @@
-use Rattle.std.proofs.Common.{◌∙◌, ◌<◌, false, length, sym, arith}
+use Rattle.std.proofs.Common.{◌∙◌, false, sym}
 use Rattle.std.proofs.lemmas.List.{get_or_default}
 use Rattle.loaded_file.proofs.LoadedSections.{marks_length, mark_is}
 use Rattle.loaded_file.proofs.file.LoadedFile.is_loaded.Goals as goal
