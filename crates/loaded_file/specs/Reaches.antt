@@ -10,6 +10,7 @@ use Rattle.loaded_file.specs.Ranges.{is_executable}
 use Rattle.loaded_file.specs.declared.reaches.Reach.{Reach}
 use Rattle.loaded_file.specs.declared.reaches.SectionKind.{SectionKind}
 use Rattle.loaded_file.specs.declared.reaches.SectionKind.TheVariants.{Code, Data}
+use denote.Struct.Props.{props}
 
 -- section `k` is loaded, has content and holds no code
 abbrev pub is_data_range : PlainView → ℕ → Bool
@@ -78,3 +79,12 @@ pub record AreReaches (kind : SectionKind) (v : PlainView) (reaches : List Reach
   pub further_on : IsNonDecreasingBy (λ r. r.furthest_end) reaches
   pub true_ones : (i : ℕ) → i < length reaches → IsReach kind v (reach_at reaches i)
   pub all : (k : ℕ) → k < length v.sections → is_of_kind kind v k ≡ true → list_any (reaches_from (section_at v k).addr (section_end v k)) reaches ≡ true
+
+-- the lists of the code ranges and of the other loaded sections with content. It is opaque, so that no proof
+-- above looks into it
+unfoldable pub AreListed : PlainView → List Reach → List Reach → Type 0
+AreListed v code others = AreReaches Code v code × AreReaches Data v others
+
+pub AreListed-prop : (v : PlainView) (code others : List Reach) → IsProp (AreListed v code others)
+unfolding AreListed
+AreListed-prop v code others = hlevel props

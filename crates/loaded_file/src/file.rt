@@ -1,8 +1,7 @@
 ghost use Rattle.std.specs.Prelude.{◌≡◌, IfOk};
 ghost use Rattle.elf_reader.specs.File.{plain_view};
 ghost use Rattle.loaded_file.specs.Marks.{all_loaded};
-ghost use Rattle.loaded_file.specs.Reaches.{AreReaches};
-ghost use Rattle.loaded_file.specs.declared.reaches.SectionKind.TheVariants.{Code, Data};
+ghost use Rattle.loaded_file.specs.Reaches.{AreListed, AreListed-prop};
 
 use crate::loaded::loaded_sections;
 use crate::reaches::{Reach, SectionKind, reaches, section_over};
@@ -22,8 +21,7 @@ pub struct LoadedFile<'a> {
     /// The same of the loaded sections with content that hold no code.
     data_ranges: Vec<Reach>,
     pub ghost marks: { loaded.items ≡ all_loaded (plain_view view.now) },
-    ghost code_reaches: { AreReaches Code (plain_view view.now) code_ranges.items },
-    ghost data_reaches: { AreReaches Data (plain_view view.now) data_ranges.items },
+    ghost listed: { AreListed (plain_view view.now) code_ranges.items data_ranges.items } by { AreListed-prop (plain_view view.now) code_ranges.items data_ranges.items },
 }
 
 impl<'a> LoadedFile<'a> {
@@ -36,6 +34,7 @@ impl<'a> LoadedFile<'a> {
     /// A view with the marks of its loaded sections. It fails only where no memory was left.
     ///
     /// The time grows with the number of sections times that of sections and segments.
+    #[tactic(auto, unfolding(crate::specs::Reaches::AreListed))]
     pub fn of(alloc: Global, view: &'a ElfView<'a>) -> Result<LoadedFile<'a>, AllocError>
         ensures { IfOk result (λ file. file.view.now ≡ view.now) }
     {
@@ -61,6 +60,7 @@ impl<'a> LoadedFile<'a> {
     /// The number of a section of a kind that has the `size` bytes from `address`, if one has.
     ///
     /// The time grows with the logarithm of the number of sections.
+    #[tactic(auto, unfolding(crate::specs::Reaches::AreListed))]
     pub fn section_over(&self, kind: SectionKind, address: u32, size: u32) -> Option<usize>
         ensures { MatchOption result (any_below (holds_range kind (plain_view self.now.view.now) address size) (length (plain_view self.now.view.now).sections) ≡ false) (λ k. (k < length (plain_view self.now.view.now).sections) × (holds_range kind (plain_view self.now.view.now) address size k ≡ true)) }
     {
