@@ -6,10 +6,9 @@ ghost use Rattle.rewritable_relocations.specs.Lists.{IsListOf, AreListsOf, count
 use crate::fields::{NO_PART, form_part};
 use crate::kinds::{is_call_kind, is_hint, is_pair_low, width_of};
 use crate::lists::{Listed, RelocationLists};
-use crate::standing::code_word;
 use elf_reader::{ElfView, Reloc};
 use list_checks::arrange;
-use loaded_file::{LoadedFile, counts, has_range, symbol_value};
+use loaded_file::{LoadedFile, code_word, counts, has_range, symbol_value};
 use std::alloc::{AllocError, Global};
 
 /// How many numbers a key has for each AUIPC.

@@ -9,12 +9,11 @@ ghost use Rattle.rewritable_relocations.specs.Lists.{is_upper_pair, AreListsOf};
 use crate::fields::{AUIPC, LUI, has_upper, takes_low};
 use crate::listing::{KEYS, change_start};
 use crate::lists::RelocationLists;
-use crate::standing::code_word;
 use elf_reader::{
     ElfView, R_RISCV_HI20, R_RISCV_LO12_I, R_RISCV_LO12_S, R_RISCV_PCREL_HI20, Reloc,
 };
 use list_checks::{has, has_inside};
-use loaded_file::{LoadedFile, target};
+use loaded_file::{LoadedFile, code_word, target};
 use word_bits::hi20;
 
 /// A relocation is of a LUI of the upper part of its target.

@@ -1,8 +1,0 @@
-use Rattle.std.proofs.Common.{◌≡◌, false}
-use Rattle.list_checks.specs.Tests.{any_below}
-use Rattle.elf_reader.specs.File.{plain_view}
-use Rattle.rewritable_relocations.specs.Rewritable.{holds_data}
-use Rattle.rewritable_relocations.proofs.standing.data_word.Given as goal
-
-abbrev pub invariant-loop-k : goal.invariant-loop-k
-invariant-loop-k l = any_below (holds_data (plain_view l.file.view.now) l.address) l.k ≡ false
