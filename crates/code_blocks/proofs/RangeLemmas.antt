@@ -1,17 +1,19 @@
 -- The lowest code range that holds a word, and the words behind it.
-use Rattle.std.proofs.Common.{◌≡◌, ◌∙◌, ℕ, zero, suc, ◌+◌, ◌*◌, ◌-◌, ◌/◌, ◌%◌, ◌<◌, ◌≤◌, ◌==◌, Bool, true, false, not, length, slice_index_or, Some, None, refl, sym, ap, subst, arith}
+use Rattle.std.proofs.Common.{◌≡◌, ◌∙◌, inl, inr, ℕ, zero, suc, ◌+◌, ◌*◌, ◌-◌, ◌/◌, ◌%◌, ◌<◌, ◌≤◌, ◌==◌, Bool, true, false, not, length, slice_index_or, Some, None, refl, sym, ap, subst, arith}
+use Rattle.std.proofs.lemmas.Bool.{cases_Bool}
 use Rattle.std.proofs.lemmas.Bool.Decides.{nat_tests}
 use Rattle.std.proofs.lemmas.List.{get_or-map}
 use Rattle.list_checks.specs.First.{unless, first_below}
 use Rattle.list_checks.proofs.FirstLemmas.{both_none, first_found}
 use Rattle.list_checks.specs.Tests.{any_below, lies_in}
-use Rattle.list_checks.proofs.TestLemmas.{both, any_found}
+use Rattle.list_checks.proofs.TestLemmas.{both, neither, any_found}
 use Rattle.elf_reader.specs.File.{PlainSection, PlainView, plain_section, plain_view}
 use Rattle.elf_reader.specs.Loaded.{no_section, section_at}
 use Rattle.elf_reader.specs.declared.view.ElfView.{ElfView}
 use Rattle.elf_reader.specs.declared.view.Section.{Section}
 use Rattle.loaded_file.specs.Code.{is_code_range, holds_code, is_code_word}
 use Rattle.loaded_file.specs.Read.{IsRead}
+use Rattle.loaded_file.proofs.DisjointSections.{one_range}
 use Rattle.loaded_file.proofs.WordLemmas.{word_fits, range_below, range_ends, lies_from, lies_to}
 use Rattle.code_leaders.proofs.LeaderLemmas.{both_pass}
 use Rattle.code_blocks.specs.Ends.{range_at}
@@ -29,10 +31,6 @@ pub range_found : (v : PlainView) (a n k : ℕ) → k < n → first_below (range
 range_found v a n k below none holds =
     first_found (range_at v a) n k k below none (at_range (holds_code v a k) k holds)
 
--- one more range that does not hold it
-pub range_passed : (v : PlainView) (a k : ℕ) → first_below (range_at v a) k ≡ None → holds_code v a k ≡ false → first_below (range_at v a) (suc k) ≡ None
-range_passed v a k none fails = rw (none, not_range (holds_code v a k) k fails) refl
-
 none_holds : (test : Bool) (k : ℕ) → unless (not test) k ≡ None → test ≡ false
 none_holds true k none = cc
 none_holds false k none = refl
@@ -43,6 +41,31 @@ no_range v a zero none = refl
 no_range v a (suc n) none =
     let parts = both_none (first_below (range_at v a) n) (range_at v a n) none in
     rw (no_range v a n parts.0) (none_holds (holds_code v a n) n parts.1)
+
+-- and back
+pub none_found : (v : PlainView) (a n : ℕ) → any_below (holds_code v a) n ≡ false → first_below (range_at v a) n ≡ None
+none_found v a zero none = refl
+none_found v a (suc n) none =
+    let parts = neither (any_below (holds_code v a) n) (holds_code v a n) none in
+    rw (none_found v a n parts.0, not_range (holds_code v a n) n parts.1) refl
+
+-- below a range that holds it, none does
+none_lower : (view : ElfView) (a k n : ℕ) → IsRead view → k < length (plain_view view).sections → holds_code (plain_view view) a k ≡ true → n ≤ k → any_below (holds_code (plain_view view) a) n ≡ false
+none_lower view a k n read below holds lower =
+    let v = plain_view view in
+    elim (cases_Bool (any_below (holds_code v a) n)) [
+      | inl found ↦
+          let (j, earlier, other) = any_found (holds_code v a) n found in
+          let same = one_range view k j a read below holds other in
+          absurd (omega (arith, earlier, lower, same))
+      | inr none ↦ none
+    ]
+
+-- so a range that holds it is the lowest
+pub is_lowest : (view : ElfView) (a k : ℕ) → IsRead view → k < length (plain_view view).sections → holds_code (plain_view view) a k ≡ true → first_below (range_at (plain_view view) a) (length (plain_view view).sections) ≡ Some k
+is_lowest view a k read below holds =
+    let v = plain_view view in
+    range_found v a (length v.sections) k below (none_found v a k (none_lower view a k k read below holds (omega arith))) holds
 
 -- some range holds a word of code
 pub code_held : (v : PlainView) (a : ℕ) → is_code_word v a ≡ true → any_below (holds_code v a) (length v.sections) ≡ true

@@ -25,8 +25,7 @@ const MOST_BLOCKS: usize = 65_536;
 /// The blocks of a program's code, its functions, and the leaders that a jump to an address in a register may
 /// reach. A word that means no instruction refuses nothing: its block ends there.
 ///
-/// The time grows with n log n, where n is the number of words of code, symbols and relocations, times the
-/// number of sections.
+/// The time grows with n log n, where n is the number of words of code, sections, symbols and relocations.
 pub fn blocks(alloc: Global, view: &ElfView) -> Result<Code, CodeFault>
     requires { IsRead view.now }
     ensures fault { ReportsUnless CodeFault.Memory result (code_fault (plain_view view.now)) }

@@ -8,7 +8,7 @@ ghost use Rattle.code_blocks.specs.Functions.{lies_in_range, is_function};
 ghost use Rattle.code_blocks.specs.Kept.{key_at, key_of, passes_key, AreKeys};
 
 use elf_reader::STT_FUNC;
-use loaded_file::{LoadedFile, is_code_range};
+use loaded_file::{LoadedFile, SectionKind};
 use std::alloc::{AllocError, Global};
 
 /// How many numbers a word has.
@@ -16,7 +16,7 @@ const WORDS: u128 = 0x1_0000_0000;
 
 /// The keys of all functions, ascending: by start, then from the largest down, then by symbol.
 ///
-/// The time grows with n log n for n symbols, and with the number of symbols times that of sections.
+/// The time grows with n log n, where n is the number of symbols and sections.
 pub(crate) fn function_keys(alloc: Global, file: &LoadedFile) -> Result<Vec<u128>, AllocError>
     requires read { IsRead file.now.view.now }
     ensures { IfOk result (λ keys. AreKeys (plain_view file.now.view.now) keys.items) }
@@ -83,22 +83,9 @@ fn lies_in_code(file: &LoadedFile, k: usize) -> bool
     requires below { k < length file.now.view.now.symbols.items }
     ensures { result ≡ any_below (lies_in_range (plain_view file.now.view.now) k) (length (plain_view file.now.view.now).sections) }
 {
-    for j in 0..file.view.sections.len() {
-        if lies_in_range(file, k, j) {
-            return true;
-        }
+    let symbol = &file.view.symbols[k];
+    match file.section_over(SectionKind::Code, symbol.value, symbol.size) {
+        Some(_) => true,
+        None => false,
     }
-    false
-}
-
-/// It lies in code range `j`.
-fn lies_in_range(file: &LoadedFile, k: usize, j: usize) -> bool
-    requires symbol { k < length file.now.view.now.symbols.items }
-    requires section { j < length file.now.view.now.sections.items }
-    ensures { result ≡ lies_in_range (plain_view file.now.view.now) k j }
-{
-    let (symbol, section) = (&file.view.symbols[k], &file.view.sections[j]);
-    let section_end = u64::from(section.addr) + u64::from(section.size);
-    let symbol_end = u64::from(symbol.value) + u64::from(symbol.size);
-    is_code_range(file, j) && section.addr <= symbol.value && symbol_end <= section_end
 }

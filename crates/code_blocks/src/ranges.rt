@@ -3,24 +3,23 @@ ghost use Rattle.list_checks.specs.Tests.{any_below};
 ghost use Rattle.list_checks.specs.First.{first_below};
 ghost use Rattle.elf_reader.specs.File.{plain_view};
 ghost use Rattle.elf_reader.specs.Loaded.{section_at};
-ghost use Rattle.loaded_file.specs.Code.{holds_code, is_code_word, image_word};
+ghost use Rattle.loaded_file.specs.Code.{holds_code};
 ghost use Rattle.loaded_file.specs.Read.{IsRead};
 ghost use Rattle.code_blocks.specs.Ends.{range_at};
 
 use elf_reader::ElfView;
-use loaded_file::{LoadedFile, holds_code, word_in};
+use loaded_file::{LoadedFile, SectionKind};
 
-/// The lowest code range that holds the word at `address`.
+/// The lowest code range that holds the word at `address`: the only one, for they share no byte.
 pub(crate) fn lowest_range(file: &LoadedFile, address: u32) -> Option<usize>
+    requires read { IsRead file.now.view.now }
     ensures first { result ≡ first_below (range_at (plain_view file.now.view.now) address) (length (plain_view file.now.view.now).sections) }
     ensures holds { MatchOption result (any_below (holds_code (plain_view file.now.view.now) address) (length (plain_view file.now.view.now).sections) ≡ false) (λ k. holds_code (plain_view file.now.view.now) address k ≡ true) }
 {
-    for k in 0..file.view.sections.len() {
-        if holds_code(file, address, k) {
-            return Some(k);
-        }
+    match file.section_over(SectionKind::Code, address, 4) {
+        Some(k) => Some(k),
+        None => None,
     }
-    None
 }
 
 /// How many words code range `k` has from `address` on, where it holds one.
@@ -31,16 +30,4 @@ pub(crate) fn words_from(view: &ElfView, k: usize, address: u32) -> u32
 {
     let section = &view.sections[k];
     (section.addr + section.size - address) / 4
-}
-
-/// The word of code at `address`.
-pub(crate) fn code_word(file: &LoadedFile, address: u32) -> u32
-    requires read { IsRead file.now.view.now }
-    requires code { is_code_word (plain_view file.now.view.now) address ≡ true }
-    ensures { result ≡ image_word (plain_view file.now.view.now) address }
-{
-    match lowest_range(file, address) {
-        Some(k) => word_in(file.view, k, address),
-        None => 0,
-    }
 }

@@ -15,12 +15,11 @@ ghost use Rattle.code_blocks.specs.Steps.{end_behind};
 
 use crate::ends::End;
 use crate::parts::Unit;
-use crate::ranges::code_word;
 use code_leaders::{
     Leaders, branch_target, has_meaning, is_branch, is_ebreak, is_jal, is_jalr, jal_target, links,
     pair_target,
 };
-use loaded_file::LoadedFile;
+use loaded_file::{LoadedFile, word_of_code};
 use rv_decode::{decode, rd};
 
 /// The unit that `word` begins, which stands at `address`.
@@ -110,7 +109,7 @@ fn pair_end(file: &LoadedFile, address: u32, word: u32) -> End
     requires word { word ≡ image_word (plain_view file.now.view.now) address }
     ensures { result ≡ pair_end (plain_view file.now.view.now) address }
 {
-    let second = code_word(file, address + 4);
+    let second = word_of_code(file, address + 4);
     let target = pair_target(address, word, second);
     call_or(second, target, address + 8, End::Tail { target })
 }

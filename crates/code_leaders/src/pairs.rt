@@ -14,7 +14,7 @@ use crate::meanings::{is_auipc, is_jalr, links};
 use crate::search::{arrange, has_address};
 use crate::targets::pair_target;
 use elf_reader::Reloc;
-use loaded_file::{LoadedFile, counts, holds_code, is_code_word, target, word_in};
+use loaded_file::{LoadedFile, code_word, counts, is_code_word, target};
 use rv_decode::{rd, rs1};
 use std::alloc::{AllocError, Global};
 
@@ -148,31 +148,7 @@ pub(crate) fn pair_words(file: &LoadedFile, at: u32) -> Option<(u32, u32)>
     requires read { IsRead file.now.view.now }
     ensures words { MatchOption result (are_code_words (plain_view file.now.view.now) at ≡ false) (λ words. (are_code_words (plain_view file.now.view.now) at ≡ true) × (words.0 ≡ image_word (plain_view file.now.view.now) at) × (words.1 ≡ image_word (plain_view file.now.view.now) (at + 4)) × (at + 8 < 2 ^ 32)) }
 {
-    let first = code_word_at(file, at)?;
-    let second = code_word_at(file, at + 4)?;
+    let first = code_word(file, at)?;
+    let second = code_word(file, at + 4)?;
     Some((first, second))
-}
-
-/// The word at `address`, where it is code.
-fn code_word_at(file: &LoadedFile, address: u32) -> Option<u32>
-    requires read { IsRead file.now.view.now }
-    ensures { MatchOption result (is_code_word (plain_view file.now.view.now) address ≡ false) (λ word. (is_code_word (plain_view file.now.view.now) address ≡ true) × (word ≡ image_word (plain_view file.now.view.now) address) × (address + 4 < 2 ^ 32)) }
-{
-    if address % 4 != 0 {
-        return None;
-    }
-    word_in_code(file, address)
-}
-
-/// The four bytes from `address`, where a code range holds them.
-fn word_in_code(file: &LoadedFile, address: u32) -> Option<u32>
-    requires read { IsRead file.now.view.now }
-    ensures { MatchOption result (any_below (holds_code (plain_view file.now.view.now) address) (length (plain_view file.now.view.now).sections) ≡ false) (λ word. (any_below (holds_code (plain_view file.now.view.now) address) (length (plain_view file.now.view.now).sections) ≡ true) × (word ≡ image_word (plain_view file.now.view.now) address) × (address + 4 < 2 ^ 32)) }
-{
-    for k in 0..file.view.sections.len() {
-        if holds_code(file, address, k) {
-            return Some(word_in(file.view, k, address));
-        }
-    }
-    None
 }

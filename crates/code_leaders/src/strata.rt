@@ -22,8 +22,7 @@ use std::alloc::{AllocError, Global};
 /// Where the blocks of a program's code begin, and which words are calls of two instructions.
 /// It fails only where no memory was left.
 ///
-/// The time grows with n log n, where n is the number of words of code, symbols and relocations, times the
-/// number of sections.
+/// The time grows with n log n, where n is the number of words of code, sections, symbols and relocations.
 pub fn leaders(alloc: Global, file: &LoadedFile) -> Result<Leaders, AllocError>
     requires read { IsRead file.now.view.now }
     ensures { IfOk result (IsLeaders (plain_view file.now.view.now)) }

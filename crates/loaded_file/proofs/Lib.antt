@@ -4,3 +4,4 @@ pub mod RangeLemmas
 pub mod ByteRangeLemmas
 pub mod OverlapLemmas
 pub mod ReachLemmas
+pub mod DisjointSections

@@ -9,8 +9,8 @@ overflow_add-address c =
     let fits = code_fits c.args.file.now.view.now c.args.address c.requires.read (pair_is_code (plain_view c.args.file.now.view.now) c.args.address c.requires.pair).0 in
     omega (arith, fits)
 
-pub code_word-second-requires-clause-code : goal.code_word-second-requires-clause-code
-code_word-second-requires-clause-code c = (pair_is_code (plain_view c.args.file.now.view.now) c.args.address c.requires.pair).1
+pub word_of_code-second-requires-clause-code : goal.word_of_code-second-requires-clause-code
+word_of_code-second-requires-clause-code c = (pair_is_code (plain_view c.args.file.now.view.now) c.args.address c.requires.pair).1
 
 pub overflow_add-address-2 : goal.overflow_add-address-2
 overflow_add-address-2 c =
