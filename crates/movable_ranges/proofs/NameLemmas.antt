@@ -1,27 +1,38 @@
--- Whether a name stands in a list of texts.
-use Rattle.std.proofs.Common.{◌≡◌, ◌∙◌, ℕ, ◌+◌, ◌<◌, Bool, true, false, ◌||◌, List, map, take, length, slice_index_or, sym, ap, subst, String, Global, bytes_eq}
+-- A set of the names of a list of texts, as one more text goes into it.
+use Rattle.std.proofs.Common.{◌≡◌, ◌∙◌, ℕ, ◌+◌, ◌<◌, Bool, true, false, cond, ◌||◌, List, map, take, length, slice_index_or, sym, ap, subst, refl, String, Global, bytes_eq}
+use Rattle.std.specs.Borrow.{Bor}
+use Rattle.std.specs.BTreeSet.{BTreeSet, Updates}
+use Rattle.std.specs.Cmp.Lexicographic.{slice_cmp}
+use Rattle.std.specs.Ordering.{nat_cmp}
 use Rattle.std.specs.String.{string_bytes}
 use Rattle.std.specs.List.{list_any}
 use Rattle.std.proofs.lemmas.List.{get_or-map, length-map}
-use Rattle.std.proofs.lemmas.List.Folds.{list_any_at, list_any_more}
+use Rattle.std.proofs.lemmas.List.Folds.{list_any_more}
+use Rattle.std.proofs.lemmas.Map.Text.{is_eq-slice_cmp}
+use Rattle.movable_ranges.specs.Names.{has_name}
 
 abbrev is_name : List ℕ → List ℕ → Bool
 is_name name listed = bytes_eq listed name
 
-pub listed_here : (name : List ℕ) (xs ys : List (String Global)) (i : ℕ) (s : String Global) (text : List ℕ) (b : Bool) → ys ≡ xs → i < length ys → s ≡ slice_index_or ys i s → text ≡ string_bytes s → b ≡ bytes_eq text name → b ≡ true → true ≡ list_any (is_name name) (map string_bytes xs)
-listed_here name xs ys i s text b same below item is tested found =
-    let here : string_bytes (slice_index_or xs i s) ≡ text = ap (λ (zs : List (String Global)). string_bytes (slice_index_or zs i s)) (sym same) ∙ ap string_bytes (sym item) ∙ sym is in
-    let inside : i < length xs = subst (λ (zs : List (String Global)). i < length zs) same below in
-    let passes : bytes_eq (slice_index_or (map string_bytes xs) i text) name ≡ true = ap (is_name name) (get_or-map string_bytes xs i s text inside ∙ here) ∙ sym tested ∙ found in
-    sym (list_any_at (is_name name) (map string_bytes xs) i text (rw (length-map xs string_bytes) inside) passes)
+-- what a set has once a name went into it
+put_in : (name : List ℕ) (put : Bor (List ℕ)) (old new : BTreeSet (Bor (List ℕ))) → Updates (λ x y. slice_cmp nat_cmp x.now y.now) old new put true → has_name new name ≡ cond (bytes_eq put.now name) true (has_name old name)
+put_in name put old new updates =
+    updates.0 (record { ref_ptr = (0, 0); now = name })
+    ∙ ap (λ (b : Bool). cond b true (has_name old name)) (is_eq-slice_cmp put.now name)
 
-or_none : (a b : Bool) → a ≡ false → b ≡ false → (a || b) ≡ false
-or_none true b first second = first
-or_none false b first second = second
+either : (a b : Bool) → cond b true a ≡ (a || b)
+either true true = refl
+either true false = refl
+either false true = refl
+either false false = refl
 
-pub not_listed_more : (name : List ℕ) (xs ys : List (String Global)) (i : ℕ) (s : String Global) (text : List ℕ) (b : Bool) → ys ≡ xs → i < length ys → s ≡ slice_index_or ys i s → text ≡ string_bytes s → b ≡ bytes_eq text name → b ≡ false → list_any (is_name name) (take i (map string_bytes xs)) ≡ false → list_any (is_name name) (take (i + 1) (map string_bytes xs)) ≡ false
-not_listed_more name xs ys i s text b same below item is tested fails earlier =
-    let here : string_bytes (slice_index_or xs i s) ≡ text = ap (λ (zs : List (String Global)). string_bytes (slice_index_or zs i s)) (sym same) ∙ ap string_bytes (sym item) ∙ sym is in
+pub names_more : (name : List ℕ) (xs ys : List (String Global)) (i : ℕ) (s : String Global) (put : Bor (List ℕ)) (old new : BTreeSet (Bor (List ℕ))) → ys ≡ xs → i < length ys → s ≡ slice_index_or ys i s → put.now ≡ string_bytes s → Updates (λ x y. slice_cmp nat_cmp x.now y.now) old new put true → has_name old name ≡ list_any (is_name name) (take i (map string_bytes xs)) → has_name new name ≡ list_any (is_name name) (take (i + 1) (map string_bytes xs))
+names_more name xs ys i s put old new same below item is updates earlier =
+    let here : string_bytes (slice_index_or xs i s) ≡ put.now = ap (λ (zs : List (String Global)). string_bytes (slice_index_or zs i s)) (sym same) ∙ ap string_bytes (sym item) ∙ sym is in
     let inside : i < length xs = subst (λ (zs : List (String Global)). i < length zs) same below in
-    let fails' : bytes_eq (slice_index_or (map string_bytes xs) i text) name ≡ false = ap (is_name name) (get_or-map string_bytes xs i s text inside ∙ here) ∙ sym tested ∙ fails in
-    list_any_more (is_name name) (map string_bytes xs) i text (rw (length-map xs string_bytes) inside) ∙ or_none _ _ earlier fails'
+    let this : is_name name (slice_index_or (map string_bytes xs) i put.now) ≡ bytes_eq put.now name = ap (is_name name) (get_or-map string_bytes xs i s put.now inside ∙ here) in
+    put_in name put old new updates
+    ∙ either (has_name old name) (bytes_eq put.now name)
+    ∙ ap (λ (b : Bool). b || bytes_eq put.now name) earlier
+    ∙ ap (λ (b : Bool). list_any (is_name name) (take i (map string_bytes xs)) || b) (sym this)
+    ∙ sym (list_any_more (is_name name) (map string_bytes xs) i put.now (rw (length-map xs string_bytes) inside))

@@ -5,6 +5,7 @@ pub use Rattle.loaded_file.specs.ByteRanges
 pub use Rattle.rewritable_relocations.specs.Rewritable
 pub use Rattle.rewritable_relocations.specs.Marks
 pub mod Fixed
+pub mod Names
 pub mod Disjoint
 pub mod Meant
 pub mod Aliases

@@ -1,15 +1,18 @@
-ghost use Rattle.std.specs.Prelude.{◌≡◌, ℕ, ◌<◌, ◌==◌, ◌||◌, length};
+ghost use Rattle.std.specs.Prelude.{◌≡◌, ℕ, ◌<◌, ◌==◌, ◌||◌, length, IfOk};
 ghost use Rattle.list_checks.specs.Tests.{any_below};
 ghost use Rattle.elf_reader.specs.File.{plain_symbol, plain_view};
 ghost use Rattle.loaded_file.specs.Ranges.{owner_of};
-ghost use Rattle.movable_ranges.specs.Fixed.{is_listed_name, stands_in_zeros, has_listed_name, is_in_zeros, is_listed};
+ghost use Rattle.movable_ranges.specs.Fixed.{stands_in_zeros, is_in_zeros};
 ghost use Rattle.movable_ranges.specs.Disjoint.{AreApart, IsBelow, Finds, AddsRule};
+ghost use Rattle.movable_ranges.specs.Names.{has_name, is_named, is_named_by, AreListedNames};
 
 use crate::marks::mark;
 use crate::meaning::place_of_symbol;
 use board_config::Board;
 use elf_reader::{ElfView, SHT_NOBITS, Symbol};
 use loaded_file::{ByteRange, LoadedFile};
+use std::alloc::{AllocError, Global};
+use std::collections::BTreeSet;
 
 /// Marks the ranges in sections without content, if the board doesn't let these move.
 pub(crate) fn mark_zeros(marks: &mut [bool], file: &LoadedFile, board: &Board, ranges: &[ByteRange])
@@ -60,43 +63,48 @@ fn owner_has_no_content(view: &ElfView, symbol: &Symbol) -> bool
     }
 }
 
-/// Marks the ranges of which a name stands in the board's list, or that of their section.
-pub(crate) fn mark_listed(
+/// Marks the ranges of which a name is one of these, or that of their section.
+pub(crate) fn mark_named(
     marks: &mut [bool],
     file: &LoadedFile,
-    board: &Board,
+    names: &BTreeSet<&[u8]>,
     ranges: &[ByteRange],
 )
     requires ranges { AreApart ranges.now }
     requires len { length marks.old ≡ length ranges.now }
-    ensures adds { AddsRule (is_listed (plain_view file.now.view.now) board.now) ranges.now marks.old marks.new }
+    ensures adds { AddsRule (is_named (plain_view file.now.view.now) (has_name names.now)) ranges.now marks.old marks.new }
     ensures len { length marks.new ≡ length marks.old }
 {
     for k in 0..file.view.symbols.len() {
-        mark(marks, listed_place(file, board, ranges, k));
+        mark(marks, named_place(file, names, ranges, k));
     }
 }
 
-/// The range of symbol `k`, if its name or that of its section stands in the board's list.
-fn listed_place(file: &LoadedFile, board: &Board, ranges: &[ByteRange], k: usize) -> Option<usize>
+/// The range of symbol `k`, if its name or that of its section is one of these.
+fn named_place(
+    file: &LoadedFile,
+    names: &BTreeSet<&[u8]>,
+    ranges: &[ByteRange],
+    k: usize,
+) -> Option<usize>
     requires ranges { AreApart ranges.now }
     requires below { k < length file.now.view.now.symbols.items }
-    ensures found { Finds (λ home n. has_listed_name (plain_view file.now.view.now) board.now home n k) ranges.now result }
+    ensures found { Finds (λ home n. is_named_by (plain_view file.now.view.now) (has_name names.now) home n k) ranges.now result }
     ensures below { IsBelow (length ranges.now) result }
 {
     let symbol = &file.view.symbols[k];
-    if has_listed_name(file.view, board, symbol) {
+    if has_name_among(file.view, names, symbol) {
         place_of_symbol(file, ranges, symbol)
     } else {
         None
     }
 }
 
-/// The name of a symbol stands in the board's list, or that of its section.
-fn has_listed_name(view: &ElfView, board: &Board, symbol: &Symbol) -> bool
-    ensures { result ≡ (is_listed_name board.now symbol.now.name.now || is_listed_name board.now (owner_of (plain_view view.now) (plain_symbol symbol.now)).name) }
+/// The name of a symbol is one of these, or that of its section.
+fn has_name_among(view: &ElfView, names: &BTreeSet<&[u8]>, symbol: &Symbol) -> bool
+    ensures { result ≡ (has_name names.now symbol.now.name.now || has_name names.now (owner_of (plain_view view.now) (plain_symbol symbol.now)).name) }
 {
-    is_listed_name(board, symbol.name) || is_listed_name(board, owner_name(view, symbol))
+    is_one_of(names, symbol.name) || is_one_of(names, owner_name(view, symbol))
 }
 
 /// The name of the section of a symbol; empty where it has none.
@@ -109,14 +117,23 @@ fn owner_name<'a>(view: &ElfView<'a>, symbol: &Symbol) -> &'a [u8]
     }
 }
 
-/// A name stands in the board's list.
-fn is_listed_name(board: &Board, name: &[u8]) -> bool
-    ensures { result ≡ is_listed_name board.now name.now }
+/// The names in the board's list.
+pub(crate) fn listed_names<'a>(
+    alloc: Global,
+    board: &'a Board,
+) -> Result<BTreeSet<&'a [u8]>, AllocError>
+    ensures { IfOk result (λ names. AreListedNames board.now names) }
 {
+    let mut names = BTreeSet::new(alloc);
     for listed in &board.fix {
-        if listed.as_bytes() == name {
-            return true;
-        }
+        names.insert(listed.as_bytes())?;
     }
-    false
+    Ok(names)
+}
+
+/// A name is one of these. The time grows with the logarithm of their number.
+fn is_one_of(names: &BTreeSet<&[u8]>, name: &[u8]) -> bool
+    ensures { result ≡ has_name names.now name.now }
+{
+    names.contains(name)
 }

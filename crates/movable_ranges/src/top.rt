@@ -7,22 +7,33 @@ ghost use Rattle.rewritable_relocations.specs.Marks.{all_rewritable};
 ghost use Rattle.movable_ranges.specs.Fixed.{aliases_into, is_movable};
 ghost use Rattle.movable_ranges.specs.Disjoint.{AreApart, IsDisjoint, mark_at, AddsRule, AreMarks};
 ghost use Rattle.movable_ranges.specs.Shares.{is_immovable, AreSharedWords};
+ghost use Rattle.movable_ranges.specs.Names.{AreListedNames};
 
 use crate::aliasing::{aliased_sections, mark_aliased};
 use crate::marks::{no_marks, unmarked};
-use crate::naming::{mark_listed, mark_zeros};
+use crate::naming::{listed_names, mark_named, mark_zeros};
 use crate::sharing::mark_shared;
 use crate::soundness::mark_unrewritable;
 use crate::words::{SharedWords, shared_words};
 use board_config::Board;
 use loaded_file::{ByteRange, LoadedFile, object_ranges, overlapped};
 use std::alloc::{AllocError, Global};
+use std::collections::BTreeSet;
+
+/// What is known of a program and a board, by which ranges are marked.
+#[derive(Drop)]
+struct Tables<'a> {
+    /// Into which sections a relocation aliases.
+    aliased: Vec<bool>,
+    words: SharedWords,
+    /// The names in the board's list.
+    names: BTreeSet<&'a [u8]>,
+}
 
 /// The ranges of the objects that may move, ascending. `rewritable` are the marks
 /// of the relocations of a rewritable kind. It fails only where no memory was left.
 ///
-/// The time grows with n log n, where n is the number of symbols and relocations, and with the number of
-/// symbols times that of names in the board's list.
+/// The time grows with n log n, where n is the number of symbols, of relocations and of names in the board's list.
 pub fn movable_ranges(
     alloc: Global,
     file: &LoadedFile,
@@ -64,35 +75,39 @@ fn immovable_marks(
 {
     let aliased = aliased_sections(alloc, file)?;
     let words = shared_words(alloc, file, rewritable)?;
+    let names = listed_names(alloc, board)?;
+    let tables = Tables {
+        aliased,
+        words,
+        names,
+    };
     let mut marks = no_marks(alloc, ranges.len())?;
-    mark_immovable(
-        &mut marks, file, board, rewritable, &aliased, &words, ranges,
-    );
+    mark_immovable(&mut marks, file, board, rewritable, &tables, ranges);
     Ok(marks)
 }
 
-/// Marks them, by what is known of sections and words: in a section without content, by a name, beside an object into
+/// Marks them, by what is known of sections, words and names: in a section without content, by a name, beside an object into
 /// which a relocation aliases, by a relocation that isn't rewritable, or by sites that share a word.
 fn mark_immovable(
     marks: &mut [bool],
     file: &LoadedFile,
     board: &Board,
     rewritable: &[bool],
-    aliased: &[bool],
-    words: &SharedWords,
+    tables: &Tables,
     ranges: &[ByteRange],
 )
     requires rewritable { rewritable.now ≡ all_rewritable (plain_view file.now.view.now) }
-    requires aliased { (s : ℕ) → mark_at aliased.now s ≡ any_below (aliases_into (plain_view file.now.view.now) s) (length (plain_view file.now.view.now).relocs) }
-    requires words { AreSharedWords (plain_view file.now.view.now) words.now }
+    requires aliased { (s : ℕ) → mark_at tables.now.aliased.items s ≡ any_below (aliases_into (plain_view file.now.view.now) s) (length (plain_view file.now.view.now).relocs) }
+    requires words { AreSharedWords (plain_view file.now.view.now) tables.now.words }
+    requires names { AreListedNames board.now tables.now.names }
     requires ranges { AreApart ranges.now }
     requires len { length marks.old ≡ length ranges.now }
     ensures adds { AddsRule (is_immovable (plain_view file.now.view.now) board.now) ranges.now marks.old marks.new }
     ensures len { length marks.new ≡ length marks.old }
 {
     mark_zeros(marks, file, board, ranges);
-    mark_listed(marks, file, board, ranges);
-    mark_aliased(marks, file, aliased, ranges);
+    mark_named(marks, file, &tables.names, ranges);
+    mark_aliased(marks, file, &tables.aliased, ranges);
     mark_unrewritable(marks, file, rewritable, ranges);
-    mark_shared(marks, file, rewritable, words, ranges);
+    mark_shared(marks, file, rewritable, &tables.words, ranges);
 }

@@ -1,12 +1,12 @@
 use Rattle.std.proofs.Common.{◌≡◌, length}
 use Rattle.list_checks.specs.Tests.{any_below}
 use Rattle.elf_reader.specs.File.{plain_view}
-use Rattle.movable_ranges.specs.Fixed.{has_listed_name}
+use Rattle.movable_ranges.specs.Names.{has_name, is_named_by}
 use Rattle.movable_ranges.specs.Disjoint.{AddsRule}
-use Rattle.movable_ranges.proofs.naming.mark_listed.Given as goal
+use Rattle.movable_ranges.proofs.naming.mark_named.Given as goal
 
 abbrev pub invariant-loop-k : goal.invariant-loop-k
 invariant-loop-k l = record {
-  adds : AddsRule (λ home n. any_below (has_listed_name (plain_view l.file.view.now) l.board home n) l.k) l.ranges l.initial.marks l.marks;
+  adds : AddsRule (λ home n. any_below (is_named_by (plain_view l.file.view.now) (has_name l.names) home n) l.k) l.ranges l.initial.marks l.marks;
   len : length l.marks ≡ length l.initial.marks;
 }
