@@ -1,5 +1,6 @@
 pub mod FunctionLemmas
 pub mod BlockLemmas
+pub mod NameLemmas
 pub mod ListingLemmas
 pub mod PropagationLemmas
 pub mod MarkLemmas

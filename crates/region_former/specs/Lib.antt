@@ -2,6 +2,7 @@ pub use Rattle.code_blocks.specs.Blocks
 pub use Rattle.code_blocks.specs.Numbers
 pub use Rattle.board_config.specs.Board
 pub mod Naming
+pub mod Named
 pub mod Listing
 pub mod Flow
 pub mod Reaching

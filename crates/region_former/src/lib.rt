@@ -6,6 +6,7 @@ mod fault;
 mod flow;
 mod forming;
 mod listing;
+mod names;
 mod naming;
 mod propagation;
 mod reaching;

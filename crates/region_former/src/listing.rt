@@ -2,12 +2,13 @@ ghost use Rattle.std.specs.Prelude.{◌≡◌, ℕ, ◌+◌, ◌<◌, ◌≤◌,
 ghost use Rattle.elf_reader.specs.File.{plain_view};
 ghost use Rattle.board_config.specs.Board.{plain_texts};
 ghost use Rattle.region_former.specs.Naming.{AreOrdered};
+ghost use Rattle.region_former.specs.Named.{AreNames};
 ghost use Rattle.region_former.specs.Listing.{list_at, listed_region, name_fault, list_fault, listing_fault};
 ghost use Rattle.region_former.specs.Listed.{AreListed, plain_lists};
 ghost use Rattle.region_former.specs.Faults.{ReportsFirst};
 
 use crate::fault::RegionFault;
-use crate::naming::function_named;
+use crate::names::{FunctionNames, function_names};
 use code_blocks::Code;
 use elf_reader::ElfView;
 use std::alloc::{AllocError, Global};
@@ -25,8 +26,9 @@ pub(crate) fn listed_regions(
     ensures one_each { IfOk result (λ regions. length regions.items ≡ length code.now.functions.items) }
     ensures regions { IfOk result (λ regions. (f : ℕ) → f < length code.now.functions.items → slice_index_or regions.items f 0 ≡ listed_region (plain_view view.now) code.now.functions.items (plain_lists lists.now) f (length lists.now)) }
 {
+    let names = function_names(alloc, view, code)?;
     let mut regions = vec![in alloc; 0; code.functions.len()]?;
-    match take_lists(alloc, &mut regions, view, code, lists) {
+    match take_lists(alloc, &mut regions, &names, lists) {
         Ok(()) => Ok(regions),
         Err(fault) => Err(fault),
     }
@@ -36,19 +38,19 @@ pub(crate) fn listed_regions(
 fn take_lists(
     alloc: Global,
     regions: &mut [u32],
-    view: &ElfView,
-    code: &Code,
+    names: &FunctionNames,
     lists: &[Vec<String>],
 ) -> Result<(), RegionFault>
-    requires ordered { AreOrdered code.now.functions.items }
+    requires ordered { AreOrdered names.now.code.now.functions.items }
+    requires named { AreNames names.now }
     requires few { length lists.now ≤ 8 }
-    requires none { AreListed (plain_view view.now) code.now.functions.items (plain_lists lists.now) 0 0 regions.old }
-    ensures fault { ReportsFirst result (listing_fault (plain_view view.now) code.now.functions.items (plain_lists lists.now)) }
-    ensures one_each { OnOk result (length regions.new ≡ length code.now.functions.items) }
-    ensures regions { OnOk result ((f : ℕ) → f < length code.now.functions.items → slice_index_or regions.new f 0 ≡ listed_region (plain_view view.now) code.now.functions.items (plain_lists lists.now) f (length lists.now)) }
+    requires none { AreListed (plain_view names.now.view.now) names.now.code.now.functions.items (plain_lists lists.now) 0 0 regions.old }
+    ensures fault { ReportsFirst result (listing_fault (plain_view names.now.view.now) names.now.code.now.functions.items (plain_lists lists.now)) }
+    ensures one_each { OnOk result (length regions.new ≡ length names.now.code.now.functions.items) }
+    ensures regions { OnOk result ((f : ℕ) → f < length names.now.code.now.functions.items → slice_index_or regions.new f 0 ≡ listed_region (plain_view names.now.view.now) names.now.code.now.functions.items (plain_lists lists.now) f (length lists.now)) }
 {
     for i in 0..lists.len() {
-        match take_list(alloc, regions, view, code, lists, i) {
+        match take_list(alloc, regions, names, lists, i) {
             Ok(()) => {}
             Err(fault) => return Err(fault),
         }
@@ -60,20 +62,20 @@ fn take_lists(
 fn take_list(
     alloc: Global,
     regions: &mut [u32],
-    view: &ElfView,
-    code: &Code,
+    names: &FunctionNames,
     lists: &[Vec<String>],
     i: usize,
 ) -> Result<(), RegionFault>
-    requires ordered { AreOrdered code.now.functions.items }
+    requires ordered { AreOrdered names.now.code.now.functions.items }
+    requires named { AreNames names.now }
     requires list { i < length lists.now }
     requires few { length lists.now ≤ 8 }
-    requires listed { AreListed (plain_view view.now) code.now.functions.items (plain_lists lists.now) i 0 regions.old }
-    ensures fault { ReportsFirst result (list_fault (plain_view view.now) code.now.functions.items (plain_lists lists.now) i) }
-    ensures listed { OnOk result (AreListed (plain_view view.now) code.now.functions.items (plain_lists lists.now) (i + 1) 0 regions.new) }
+    requires listed { AreListed (plain_view names.now.view.now) names.now.code.now.functions.items (plain_lists lists.now) i 0 regions.old }
+    ensures fault { ReportsFirst result (list_fault (plain_view names.now.view.now) names.now.code.now.functions.items (plain_lists lists.now) i) }
+    ensures listed { OnOk result (AreListed (plain_view names.now.view.now) names.now.code.now.functions.items (plain_lists lists.now) (i + 1) 0 regions.new) }
 {
     for j in 0..names_in(lists, i) {
-        match take_name(alloc, regions, view, code, lists, i, j) {
+        match take_name(alloc, regions, names, lists, i, j) {
             Ok(()) => {}
             Err(fault) => return Err(fault),
         }
@@ -93,22 +95,22 @@ fn names_in(lists: &[Vec<String>], i: usize) -> usize
 fn take_name(
     alloc: Global,
     regions: &mut [u32],
-    view: &ElfView,
-    code: &Code,
+    names: &FunctionNames,
     lists: &[Vec<String>],
     i: usize,
     j: usize,
 ) -> Result<(), RegionFault>
-    requires ordered { AreOrdered code.now.functions.items }
+    requires ordered { AreOrdered names.now.code.now.functions.items }
+    requires named { AreNames names.now }
     requires list { i < length lists.now }
     requires name { j < length (list_at (plain_lists lists.now) i) }
     requires few { length lists.now ≤ 8 }
-    requires listed { AreListed (plain_view view.now) code.now.functions.items (plain_lists lists.now) i j regions.old }
-    ensures fault { ReportsFirst result (name_fault (plain_view view.now) code.now.functions.items (plain_lists lists.now) i j) }
-    ensures listed { OnOk result (AreListed (plain_view view.now) code.now.functions.items (plain_lists lists.now) i (j + 1) regions.new) }
+    requires listed { AreListed (plain_view names.now.view.now) names.now.code.now.functions.items (plain_lists lists.now) i j regions.old }
+    ensures fault { ReportsFirst result (name_fault (plain_view names.now.view.now) names.now.code.now.functions.items (plain_lists lists.now) i j) }
+    ensures listed { OnOk result (AreListed (plain_view names.now.view.now) names.now.code.now.functions.items (plain_lists lists.now) i (j + 1) regions.new) }
 {
     let name = &lists[i][j];
-    let Some(place) = function_named(view, code, name.as_bytes()) else {
+    let Some(place) = names.find(name.as_bytes()) else {
         return Err(RegionFault::UnknownFunction {
             name: name.clone()?,
         });

@@ -2,6 +2,7 @@ ghost use Rattle.std.specs.Prelude.{◌≡◌, ◌<◌, length, IfSome};
 ghost use Rattle.elf_reader.specs.File.{plain_view};
 ghost use Rattle.code_blocks.specs.Blocks.{IsFunctionOf};
 ghost use Rattle.region_former.specs.Naming.{function_at, is_named, named_by, function_named, AreOrdered};
+ghost use Rattle.region_former.specs.Named.{function_of_symbol};
 
 use code_blocks::Code;
 use elf_reader::ElfView;
@@ -48,6 +49,21 @@ pub(crate) fn function_named(view: &ElfView, code: &Code, name: &[u8]) -> Option
         }
     }
     None
+}
+
+/// The function that starts at the value of symbol `k`, if that is of a function.
+pub(crate) fn function_of_symbol(view: &ElfView, code: &Code, k: usize) -> Option<usize>
+    requires ordered { AreOrdered code.now.functions.items }
+    requires symbol { k < length view.now.symbols.items }
+    ensures place { result ≡ function_of_symbol (plain_view view.now) code.now.functions.items k }
+    ensures below { IfSome result (λ f. f < length code.now.functions.items) }
+{
+    let symbol = &view.symbols[k];
+    if symbol.kind == STT_FUNC {
+        function_at(code, symbol.value)
+    } else {
+        None
+    }
 }
 
 /// The function that starts at the value of symbol `k`, if that has the name.

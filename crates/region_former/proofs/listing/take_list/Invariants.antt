@@ -7,6 +7,6 @@ use Rattle.region_former.proofs.listing.take_list.Given as goal
 
 abbrev pub invariant-loop-j : goal.invariant-loop-j
 invariant-loop-j l = record {
-  none : first_below (name_fault (plain_view l.view) l.code.functions.items (plain_lists l.lists) l.i) l.j ≡ None;
-  listed : AreListed (plain_view l.view) l.code.functions.items (plain_lists l.lists) l.i l.j l.regions;
+  none : first_below (name_fault (plain_view l.names.view.now) l.names.code.now.functions.items (plain_lists l.lists) l.i) l.j ≡ None;
+  listed : AreListed (plain_view l.names.view.now) l.names.code.now.functions.items (plain_lists l.lists) l.i l.j l.regions;
 }

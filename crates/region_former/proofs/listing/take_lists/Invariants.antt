@@ -7,6 +7,6 @@ use Rattle.region_former.proofs.listing.take_lists.Given as goal
 
 abbrev pub invariant-loop-i : goal.invariant-loop-i
 invariant-loop-i l = record {
-  none : first_below (list_fault (plain_view l.view) l.code.functions.items (plain_lists l.lists)) l.i ≡ None;
-  listed : AreListed (plain_view l.view) l.code.functions.items (plain_lists l.lists) l.i 0 l.regions;
+  none : first_below (list_fault (plain_view l.names.view.now) l.names.code.now.functions.items (plain_lists l.lists)) l.i ≡ None;
+  listed : AreListed (plain_view l.names.view.now) l.names.code.now.functions.items (plain_lists l.lists) l.i 0 l.regions;
 }
