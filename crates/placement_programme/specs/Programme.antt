@@ -2,7 +2,7 @@
 use Rattle.std.specs.Prelude.{ℕ, zero, suc, ◌==◌, ◌<◌, ◌≤◌, ℤ, pos, ◌-ℤ◌, Bool, true, false, if◌then◌else◌, List, [], ◌∷◌, length, slice_index, Option, Some, None, IsSomeAnd}
 use Rattle.std.specs.List.{sum_by}
 use Rattle.placement_programme.specs.Plain.{PlainVar, PlainSide, PlainProgramme, PlainChoice}
-use Rattle.placement_programme.specs.Bounds.{AscendWithin, row_of}
+use Rattle.placement_programme.specs.Bounds.{AscendWithin}
 
 -- the gain and the weights of variable `k`; none past the last
 abbrev pub gain_at : List PlainVar → ℕ → ℕ
@@ -34,10 +34,6 @@ load side take row = load_in side.vars take row
 -- the gains of the taken variables, summed
 abbrev pub taken_gains : PlainSide → List ℕ → ℕ
 taken_gains side take = sum_by (gain_at side.vars) take
-
--- taken variables don't exceed the row of an entry
-abbrev pub IsHeld : List PlainVar → List ℕ → List ℕ → ℕ × ℕ → Type 0
-IsHeld vs rows take entry = load_in vs take (row_of entry) ≤ slice_index rows (row_of entry)
 
 -- taken variables fit: their numbers ascend and are in range, and no row is exceeded
 pub record FitsIn (vs : List PlainVar) (capacities take : List ℕ) : Type 0 where

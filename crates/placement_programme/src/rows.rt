@@ -18,7 +18,7 @@ pub fn rows_ascend(entries: &[(u32, u64)], count: usize) -> bool
 }
 
 /// How many of some entries stand in rows before `row`, by binary search.
-fn count_before(entries: &[(u32, u64)], row: u32) -> usize
+pub(crate) fn count_before(entries: &[(u32, u64)], row: u32) -> usize
     requires { (count : ℕ) × RowsWithin 0 count entries.now }
     ensures bound { result ≤ length entries.now }
     ensures before { (k : ℕ) → k < result → row_of (slice_index_or entries.now k (0, 0)) < row }
