@@ -21,7 +21,7 @@ pub fn weight_of(weights: &[(u32, u64)], row: u32) -> u64
 }
 
 /// How many rows are summed at a time. Their sums stand in an array, so that no memory is taken.
-const ROWS_AT_ONCE: usize = 1024;
+const ROWS_AT_ONCE: usize = 4096;
 
 /// Adds weights to the loads of rows, of which the first is `low`.
 fn add_weights(loads: &mut [u64], low: u32, weights: &[(u32, u64)])
@@ -38,7 +38,7 @@ fn add_weights(loads: &mut [u64], low: u32, weights: &[(u32, u64)])
 
 /// Loads of nothing.
 fn no_loads() -> [u64; ROWS_AT_ONCE]
-    ensures { result ≡ replicate 1024 0 }
+    ensures { result ≡ replicate 4096 0 }
 {
     [0; ROWS_AT_ONCE]
 }
@@ -48,8 +48,8 @@ fn loads_from(vars: &[Var], take: &[u32], low: u32) -> [u64; ROWS_AT_ONCE]
     requires numbers { AscendWithin 0 (length vars.now) take.now }
     requires few { length vars.now ≤ 4000 }
     requires weights { (count : ℕ) × All (λ v. AreWeights count v.weights) (map plain_var vars.now) }
-    requires rows { low + 1024 < 2 ^ 32 }
-    ensures { (k : ℕ) → k < 1024 → slice_index result k ≡ load_in (map plain_var vars.now) take.now (low + k) }
+    requires rows { low + 4096 < 2 ^ 32 }
+    ensures { (k : ℕ) → k < 4096 → slice_index result k ≡ load_in (map plain_var vars.now) take.now (low + k) }
 {
     let mut loads = no_loads();
     for number in take {
@@ -100,8 +100,8 @@ fn part_holds(vars: &[Var], rows: &[u64], take: &[u32], low: u32) -> bool
     requires numbers { AscendWithin 0 (length vars.now) take.now }
     requires few { length vars.now ≤ 4000 }
     requires weights { (count : ℕ) × All (λ v. AreWeights count v.weights) (map plain_var vars.now) }
-    requires small { length rows.now ≤ 1024 }
-    requires rows { low + 1024 < 2 ^ 32 }
+    requires small { length rows.now ≤ 4096 }
+    requires rows { low + 4096 < 2 ^ 32 }
     ensures { IsTrue result ↔ ((k : ℕ) → k < length rows.now → load_in (map plain_var vars.now) take.now (low + k) ≤ slice_index rows.now k) }
 {
     if weigh_nothing(vars, take, low, low + rows.len() as u32) {
@@ -110,7 +110,7 @@ fn part_holds(vars: &[Var], rows: &[u64], take: &[u32], low: u32) -> bool
     are_within(&loads_from(vars, take, low), rows)
 }
 
-/// Whether the taken variables exceed no row. The time grows with the number of their weights, and for each 1,024 rows
+/// Whether the taken variables exceed no row. The time grows with the number of their weights, and for each 4,096 rows
 /// with that of the variables.
 fn all_hold(vars: &[Var], rows: &[u64], take: &[u32]) -> bool
     requires numbers { AscendWithin 0 (length vars.now) take.now }

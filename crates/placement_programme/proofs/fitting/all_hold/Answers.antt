@@ -10,9 +10,9 @@ part_holds-requires-clause-weights c = (length c.args.rows.now, c.requires.weigh
 
 pub loop-part-preserved : goal.loop-part-preserved
 loop-part-preserved c row before inside =
-    elim (cases_lt row (c.loop-part.part * 1024)) [
+    elim (cases_lt row (c.loop-part.part * 4096)) [
       | inl earlier ↦ c.loop-part.invariant row earlier inside
       | inr here ↦
-          in_part (load_in (map plain_var c.args.vars.now) c.args.take.now) c.args.rows.now (c.loop-part.part * 1024) c.min-high.result row (omega (arith, c.min-high.ensures))
+          in_part (load_in (map plain_var c.args.vars.now) c.args.take.now) c.args.rows.now (c.loop-part.part * 4096) c.min-high.result row (omega (arith, c.min-high.ensures))
           (c.part_holds.ensures.0 c.if-not-part_holds.false) here (omega (arith, c.min-high.ensures, before, inside))
     ]

@@ -10,11 +10,11 @@ use Rattle.placement_programme.proofs.fitting.loads_from.Goals as goal
 pub loop-number-init : goal.loop-number-init
 loop-number-init c =
     let is = c.no_loads-loads.ensures in
-    let len : length c.no_loads-loads.result ≡ 1024 = ap length is ∙ length-replicate {A = ℕ} 1024 0 in
+    let len : length c.no_loads-loads.result ≡ 4096 = ap length is ∙ length-replicate {A = ℕ} 4096 0 in
     record {
       len = len;
-      sums = λ k below. ap (λ (xs : List ℕ). slice_index xs k) is ∙ get_or-replicate 1024 k 0 0 (omega (arith, below, len));
-      small = λ k below. let none : slice_index c.no_loads-loads.result k ≡ 0 = ap (λ (xs : List ℕ). slice_index xs k) is ∙ get_or-replicate 1024 k 0 0 (omega (arith, below, len)) in omega (arith, none);
+      sums = λ k below. ap (λ (xs : List ℕ). slice_index xs k) is ∙ get_or-replicate 4096 k 0 0 (omega (arith, below, len));
+      small = λ k below. let none : slice_index c.no_loads-loads.result k ≡ 0 = ap (λ (xs : List ℕ). slice_index xs k) is ∙ get_or-replicate 4096 k 0 0 (omega (arith, below, len)) in omega (arith, none);
     }
 
 pub bounds-vars-number : goal.bounds-vars-number
