@@ -1,0 +1,334 @@
+"""Draws calls of spmlink on hostile files, each with the answer that the second paths tell."""
+
+import glob
+import os
+from collections.abc import Callable
+from dataclasses import dataclass
+from random import Random
+
+import board_path
+import cert_path
+import elf_path
+import hex_path
+import mutate
+from board_path import Board
+from cert_path import BOUND, BRANCH, LEAF, MARK, OVER, Programme, Side
+from fault import Endless, Fault, Untold
+from machine_path import Machine
+
+MOST_STEPS = 5000  # of a run that is compared
+HERE = os.path.dirname(os.path.abspath(__file__))
+ROOT = os.path.normpath(f"{HERE}/../..")
+
+
+@dataclass
+class Told:
+    """Status, standard output, and what stands then under the names that were written."""
+
+    status: int
+    printed: bytes
+    written: dict[str, bytes]
+
+
+@dataclass
+class Among:
+    """One of some statuses: the second paths tell no more."""
+
+    statuses: set[int]
+
+
+Answer = Told | Among
+
+
+@dataclass
+class Case:
+    """A call: its words, the files that it finds, the names that it writes, and its answer."""
+
+    words: list[str]
+    files: dict[str, bytes]
+    outputs: list[str]
+    answer: Answer | None  # None where it isn't to be called
+
+
+def contents(pattern: str) -> list[bytes]:
+    files = []
+    for name in sorted(glob.glob(f"{ROOT}/{pattern}")):
+        with open(name, "rb") as file:
+            files.append(file.read())
+    return files
+
+
+class Seeds:
+    """What the cases are drawn from: files of the repository."""
+
+    def __init__(self) -> None:
+        self.elf = contents("crates/case_runner/data/*.elf") + contents("crates/analysis_listing/data/*.elf")
+        self.small = [file for file in self.elf if len(file) < 4096]
+        self.boards = contents("examples/*.toml") + [text.encode() for text in BOARDS + LAYOUTS]
+        self.programs = [program(*known) for known in PROGRAMS]
+
+
+BOARDS = [
+    "",
+    "spm = [0x01000000, 256]\n" "price = { main_fetch = 10, main_read = 10, main_write = 10, spm_fetch = 10, "
+    "spm_read = 2, spm_write = 2 }\n",
+    'grain = 64\nspm = [0x20000040, 64]\nfix = ["a", ".data"]\nbss = "movable"\nsteps = 1000\nnodes = 1\n',
+    'regions = [["f"], ["g", "main"], []]\ntwins = true\ndriver = "start"\nfence_i = true\n',
+    "areas = [[0x20000, 1], [0, 4], [0xFFFFFFF0, 15]]\nmain = [0, 0xFFFFFFFF]\npatch = [64, 1048576]\n",
+    "[price]\nmain_fetch = 0\nmain_read = 10000\nmain_write = 1\nspm_fetch = 2\nspm_read = 3\nspm_write = 4\n",
+]
+
+# What of the layouts a file may meet: other scratchpads, patch ranges and memories, and regions.
+LAYOUTS = [
+    "",
+    "",
+    "",
+    "",
+    "spm = [0x00011000, 256]\n",
+    "patch = [0x00010000, 4096]\n",
+    "patch = [0x00012000, 65536]\n",
+    "patch = [0x00090000, 64]\n",
+    "patch = [0x00400000, 65536]\n",
+    "spm = [0, 256]\n",
+    "spm = [0x00090000, 4096]\n",
+    "main = [0x00010000, 4096]\n",
+    "main = [0x00010000, 4096]\nareas = [[0x00011000, 4096], [0x00012000, 0x20000]]\n",
+    'regions = [["main"], ["f"], ["g"]]\n',
+    'regions = [["main", "main"]]\n',
+    'regions = [["f"], ["g"], ["f"]]\n',
+    'regions = [["k0", "k1"], ["k2"], [""]]\n',
+    'bss = "movable"\ntwins = true\n',
+    "fence_i = true\npatch = [0x00090000, 64]\n",
+]
+
+DATA_PRICES = ("price = { main_fetch = 10, main_read = 10, main_write = 10, spm_fetch = 10, spm_read = 2, "
+               "spm_write = 2 }\n")
+# A program reads each word of a table of 64 words 100 times, which is 6,400 reads that save 8 each, less the copy of the
+# table. Its code has six blocks, and gains nothing at these prices.
+ONE_TABLE = "base 326040\nside off fixed 50\nrows 256 65452 1 1 1 1 1 1\nvar 47172 0:256 1:44\n"
+# Programs whose programmes were worked out by hand: their boards, and where the programmes are.
+PROGRAMS = [
+    ("caller_and_callee.elf", 'spm = [0x01000000, 48]\nregions = [["f"], ["g"]]\n', "regions.txt", 0),
+    ("two_phases.elf", "spm = [0x01000000, 1024]\n" + DATA_PRICES, "regions.txt", 1),
+    ("shared_table.elf", "spm = [0x01000000, 1024]\ntwins = true\n" + DATA_PRICES, "regions.txt", 2),
+    ("sums.elf", "spm = [0x01000000, 256]\n" + DATA_PRICES, None, 0),
+]
+PROGRAM_WEIGHTS = (500, 2, 1, 30)  # the longer ones run for some 300,000 steps
+
+
+@dataclass
+class Program:
+    file: bytes
+    board: bytes
+    programme: Programme
+    nodes: int
+
+
+def program(file: str, board: str, source: str | None, place: int) -> Program:
+    text = contents(f"crates/solver_bench/data/{source}")[0].decode() if source else ONE_TABLE
+    programme = cert_path.read_programmes(text)[place]
+    nodes = board_path.read(board.encode()).nodes
+    return Program(contents(f"crates/case_runner/data/{file}")[0], board.encode(), programme, nodes)
+
+
+def told(answer: Callable[[], Answer]) -> Answer | None:
+    """An answer, or the fault that comes in its place. None where the call would take long."""
+    try:
+        return answer()
+    except Fault as fault:
+        return Told(fault.status, fault.line(), {})
+    except Untold:
+        return Among({0, 4, 5, 6, 7, 8, 10, 11, 12, 14})
+    except Endless:
+        return None
+
+
+def run_answer(file: bytes, board: Board, given: bytes) -> Answer:
+    written, outcome = Machine(elf_path.read(file), board, given).run(min(board.steps, MOST_STEPS))
+    if outcome == "running" and board.steps > MOST_STEPS:
+        raise Endless
+    return Told(0, f"{outcome}\n".encode(), {"out": written})
+
+
+def analysis_answer(file: bytes, board: Board, statuses: set[int]) -> Answer:
+    elf_path.check_analysis(elf_path.read(file), board)
+    return Among(statuses)
+
+
+def compare_answer(file: bytes, result: bytes, board: Board) -> Answer:
+    elf_path.check_analysis(elf_path.read(file), board)
+    elf_path.read(result)
+    return Among({0, 11, 12})
+
+
+def hex_answer(file: bytes) -> Answer:
+    text = hex_path.write(elf_path.read(file))
+    return Told(0, b"records %d\n" % text.count(b"\n"), {"out": text})
+
+
+def hex_check_answer(file: bytes, text: bytes) -> Answer:
+    hex_path.check(elf_path.read(file), text)
+    return Told(0, b"same\n", {})
+
+
+def board_text(random: Random) -> bytes:
+    """A board of few steps on which a file may not fit."""
+    steps = random.choice((1, 30, 300, 300, 300, 2000))
+    return (random.choice(LAYOUTS) + f"steps = {steps}\nnodes = {random.choice((1, 50))}\n").encode()
+
+
+def elf_case(random: Random, seeds: Seeds) -> Case:
+    """A file with changes, under each command that reads one."""
+    file, text = mutate.elf(random, seeds.elf), board_text(random)
+    board, given = board_path.read(text), random.randbytes(random.choice((0, 3, 100)))
+    files = {"file": file, "board": text, "input": given}
+    command = random.choices(list(COMMANDS), [weight for weight, _ in COMMANDS.values()])[0]
+    return COMMANDS[command][1](random, seeds, files, board)
+
+
+def run_case(random: Random, seeds: Seeds, files: dict[str, bytes], board: Board) -> Case:
+    answer = told(lambda: run_answer(files["file"], board, files["input"]))
+    return Case(["run", "file", "board", "input", "out"], files, ["out"], answer)
+
+
+def show_case(random: Random, seeds: Seeds, files: dict[str, bytes], board: Board) -> Case:
+    answer = told(lambda: analysis_answer(files["file"], board, {0}))
+    return Case(["show", "file", "board"], {name: files[name] for name in ("file", "board")}, [], answer)
+
+
+def profile_case(random: Random, seeds: Seeds, files: dict[str, bytes], board: Board) -> Case:
+    answer = told(lambda: analysis_answer(files["file"], board, {0, 8}))
+    return Case(["profile", "file", "board", "input"], files, [], answer)
+
+
+def relink_case(random: Random, seeds: Seeds, files: dict[str, bytes], board: Board) -> Case:
+    answer = told(lambda: analysis_answer(files["file"], board, {0, 8}))
+    return Case(["relink", "file", "board", "input", "out", "cert"], files, ["out", "cert"], answer)
+
+
+def check_case(random: Random, seeds: Seeds, files: dict[str, bytes], board: Board) -> Case:
+    answer = told(lambda: analysis_answer(files["file"], board, {0, 8, 10}))
+    return Case(["check", "file", "board", "input", "cert"], files | {"cert": MARK + bytes(3)}, [], answer)
+
+
+def compare_case(random: Random, seeds: Seeds, files: dict[str, bytes], board: Board) -> Case:
+    """The file with changes stands for FILE or for RESULT."""
+    other = random.choice(seeds.small)
+    if random.random() < 0.5:
+        files = files | {"result": files["file"], "file": other}
+    else:
+        files = files | {"result": other}
+    answer = told(lambda: compare_answer(files["file"], files["result"], board))
+    return Case(["compare", "file", "result", "board", "input"], files, [], answer)
+
+
+def hex_case(random: Random, seeds: Seeds, files: dict[str, bytes], board: Board) -> Case:
+    answer = told(lambda: hex_answer(files["file"]))
+    return Case(["hex", "file", "out"], {"file": files["file"]}, ["out"], answer)
+
+
+def hex_check_case(random: Random, seeds: Seeds, files: dict[str, bytes], board: Board) -> Case:
+    """The text is that of another file with changes of the same kind, or of the file itself."""
+    try:
+        text = hex_path.write(elf_path.read(random.choice((files["file"], random.choice(seeds.small)))))
+    except Fault:
+        text = hex_path.record(hex_path.END, 0, b"")
+    answer = told(lambda: hex_check_answer(files["file"], text))
+    return Case(["hexcheck", "file", "text"], {"file": files["file"], "text": text}, [], answer)
+
+
+CaseOf = Callable[[Random, Seeds, dict[str, bytes], Board], Case]
+COMMANDS: dict[str, tuple[int, CaseOf]] = {
+    "run": (50, run_case),
+    "show": (10, show_case),
+    "profile": (10, profile_case),
+    "relink": (10, relink_case),
+    "check": (3, check_case),
+    "compare": (10, compare_case),
+    "hex": (10, hex_case),
+    "hexcheck": (10, hex_check_case),
+}
+
+
+def board_case(random: Random, seeds: Seeds) -> Case:
+    """A board with changes, under `run`, and under `show` of a file that has functions."""
+    text = random.choice(seeds.boards)
+    if random.random() < 0.5:
+        text += b"\n" + random.choice(seeds.boards)
+    text = mutate.tokens(random, text)
+    file = random.choice(seeds.small)
+    files = {"file": file, "board": text}
+    if random.random() < 0.3:
+        return Case(["show", "file", "board"], files, [],
+                    told(lambda: analysis_answer(file, board_path.read(text), {0})))
+    files |= {"input": b"input"}
+    return Case(["run", "file", "board", "input", "out"], files, ["out"],
+                told(lambda: run_answer(file, board_path.read(text), b"input")))
+
+
+
+
+def cert_case(random: Random, seeds: Seeds) -> Case:
+    """A certificate of a programme that is known, most often with changes."""
+    known = random.choices(seeds.programs, PROGRAM_WEIGHTS)[0]
+    text = mutate.numbers(random, certificate(random, known.programme))
+    files = {"file": known.file, "board": known.board, "input": b"", "cert": text}
+    return Case(["check", "file", "board", "input", "cert"], files, [],
+                told(lambda: Told(0, cert_path.check(known.programme, known.nodes, text), {})))
+
+
+def certificate(random: Random, programme: Programme) -> list[int]:
+    """The numbers of a certificate of some choice, whose trees show that it is a best one where it is."""
+    number = random.randrange(len(programme.sides))
+    side = programme.sides[number]
+    taken: list[int] = []
+    for var in random.sample(range(len(side.gains)), random.randint(0, len(side.gains))):
+        if all(side.weight(row, [*taken, var]) <= capacity for row, capacity in enumerate(side.rows)):
+            taken.append(var)
+    head = [*MARK, int(random.random() < 0.8), number, len(taken), *sorted(taken)]
+    if not head[4]:
+        return head
+    gain = sum(side.gains[var] for var in taken) - side.fixed
+    trees = [tree(random, side, {}, max(gain, 0) + side.fixed) for side in programme.sides]
+    return head + [len(trees)] + [number for nodes in trees for number in nodes]
+
+
+def tree(random: Random, side: Side, part: dict[int, bool], limit: int) -> list[int]:
+    """The numbers of a tree over a part of the choices, whose leaves hold where nothing of it gains over the limit."""
+    taken = [var for var, is_taken in part.items() if is_taken]
+    for row, capacity in enumerate(side.rows):
+        if side.weight(row, taken) > capacity:
+            return [OVER, row]
+    free = [var for var in range(len(side.gains)) if var not in part]
+    if not free:
+        return [LEAF]
+    bound = (BOUND, random.randint(1, 3), multipliers(random, side))
+    if random.random() < 0.02 or cert_path.holds(side, bound, part, limit):
+        return [BOUND, bound[1], len(bound[2]), *(number for pair in bound[2] for number in pair)]
+    var = random.choice(free)
+    return [BRANCH, var, *tree(random, side, {**part, var: False}, limit), *tree(random, side, {**part, var: True}, limit)]
+
+
+def multipliers(random: Random, side: Side) -> list[tuple[int, int]]:
+    """A few rows, each with a multiplier about the gain that a unit of it may bring."""
+    rows = sorted(random.sample(range(len(side.rows)), random.choice((0, 0, 1, 2))))
+    greatest = max(side.gains)
+    return [(row, random.randrange(2 * greatest // side.rows[row] + 2)) for row in rows]
+
+
+def hex_text_case(random: Random, seeds: Seeds) -> Case:
+    """The text of a small file with changes."""
+    file = random.choice(seeds.small)
+    try:
+        text = mutate.hex_text(random, hex_path.write(elf_path.read(file)))
+    except Fault:
+        text = random.choice(mutate.HEX_LINES)
+    return Case(["hexcheck", "file", "text"], {"file": file, "text": text}, [], told(lambda: hex_check_answer(file, text)))
+
+
+KINDS: dict[str, Callable[[Random, Seeds], Case]] = {
+    "elf": elf_case,
+    "board": board_case,
+    "cert": cert_case,
+    "hex": hex_text_case,
+}
