@@ -1,5 +1,6 @@
 """The second path of board files: the first fault of a text, or the board that it describes (docs/BOARD.md)."""
 
+import math
 import re
 import tomllib
 from collections.abc import Callable
@@ -8,7 +9,7 @@ from typing import Any
 
 from fault import WORD, Fault, Untold
 
-PRICES = ("main_fetch", "main_read", "main_write", "spm_fetch", "spm_read", "spm_write")
+PRICES = {"main_fetch": 10, "main_read": 10, "main_write": 10, "spm_fetch": 2, "spm_read": 2, "spm_write": 2}
 KEYS = ("main", "spm", "patch", "areas", "price", "fix", "bss", "grain", "fence_i", *(None for _ in PRICES),
         "driver", "regions", "steps", "nodes", "twins")
 GRAINS = (16, 32, 64)
@@ -23,6 +24,10 @@ class Board:
     spm: range
     patch: range
     areas: list[range]
+    prices: dict[str, int]
+    fix: list[str]
+    bss_movable: bool
+    grain: int
     fence_i: bool
     regions: list[list[str]]
     steps: int
@@ -40,7 +45,7 @@ def read(text: bytes) -> Board:
 
 def parse(text: bytes) -> dict[str, Any]:
     try:
-        table = tomllib.loads(text.decode().removeprefix("\ufeff"))
+        table = tomllib.loads(text.decode().removeprefix("\ufeff"), parse_float=parse_float)
     except RecursionError as error:
         raise Untold("values are nested deep") from error
     except ValueError as error:
@@ -50,6 +55,13 @@ def parse(text: bytes) -> dict[str, Any]:
     if not all(-(2**63) <= number < 2**63 for number in integers(table)):
         raise Fault(4, "not-toml")
     return table
+
+
+def parse_float(text: str) -> float:
+    """TOML leaves it open what a number beyond all 64-bit floats is. Here it is refused."""
+    if math.isinf(float(text)) and "inf" not in text:
+        raise Fault(4, "not-toml")
+    return float(text)
 
 
 def integers(value: Any) -> list[int]:
@@ -115,9 +127,9 @@ class Table:
         areas = self.top("areas", [], is_list_of(is_pair),
                          lambda pairs: len(pairs) <= 16 and all(is_range(pair) for pair in pairs))
         price = self.top("price", {}, lambda value: isinstance(value, dict))
-        self.top("fix", [], is_list_of(is_text))
-        self.top("bss", "fixed", is_text, lambda text: text in ("fixed", "movable"))
-        self.top("grain", 16, is_integer, lambda grain: grain in GRAINS)
+        fix = self.top("fix", [], is_list_of(is_text))
+        bss = self.top("bss", "fixed", is_text, lambda text: text in ("fixed", "movable"))
+        grain = self.top("grain", 16, is_integer, lambda grain: grain in GRAINS)
         fence_i = self.top("fence_i", False, is_boolean)
         self.check_prices(price)
         self.top("driver", "main", is_text)
@@ -126,8 +138,9 @@ class Table:
         nodes = self.top("nodes", 100_000, is_integer, lambda nodes: 1 <= nodes <= 10**7)
         self.top("twins", False, is_boolean)
         check_unknown(self.table, KEYS)
-        check_unknown(price, PRICES)
+        check_unknown(price, tuple(PRICES))
         return Board(as_range(main), as_range(spm), as_range(patch), [as_range(pair) for pair in areas],
+                     {key: price.get(key, default) for key, default in PRICES.items()}, fix, bss == "movable", grain,
                      fence_i, regions, steps, nodes)
 
     def is_scratchpad(self, pair: list[int]) -> bool:

@@ -11,33 +11,17 @@ import cert_path
 import elf_path
 import hex_path
 import mutate
+from answers import MOST_STEPS, Among, Answer, Relinked, Told
 from board_path import Board
-from cert_path import BOUND, BRANCH, LEAF, MARK, OVER, Programme, Side
+from cert_path import BOUND, BRANCH, DEEPEST, LEAF, MARK, OVER, Programme, Side
+from elf_path import File
 from fault import Endless, Fault, Untold
 from machine_path import Machine
+from source_path import Source
 
-MOST_STEPS = 5000  # of a run that is compared
+LONGEST_RUN = 3_000_000  # steps of a result that the program is to take in one call
 HERE = os.path.dirname(os.path.abspath(__file__))
 ROOT = os.path.normpath(f"{HERE}/../..")
-
-
-@dataclass
-class Told:
-    """Status, standard output, and what stands then under the names that were written."""
-
-    status: int
-    printed: bytes
-    written: dict[str, bytes]
-
-
-@dataclass
-class Among:
-    """One of some statuses: the second paths tell no more."""
-
-    statuses: set[int]
-
-
-Answer = Told | Among
 
 
 @dataclass
@@ -144,21 +128,73 @@ def told(answer: Callable[[], Answer]) -> Answer | None:
 
 
 def run_answer(file: bytes, board: Board, given: bytes) -> Answer:
-    written, outcome = Machine(elf_path.read(file), board, given).run(min(board.steps, MOST_STEPS))
+    machine = Machine(elf_path.read(file), board, given)
+    outcome = machine.run(min(board.steps, MOST_STEPS))
     if outcome == "running" and board.steps > MOST_STEPS:
         raise Endless
-    return Told(0, f"{outcome}\n".encode(), {"out": written})
+    return Told(0, f"{outcome}\n".encode(), {"out": bytes(machine.written)})
 
 
-def analysis_answer(file: bytes, board: Board, statuses: set[int]) -> Answer:
-    elf_path.check_analysis(elf_path.read(file), board)
-    return Among(statuses)
+def analysed(file: bytes, board: Board) -> File:
+    """A file without a fault for a board."""
+    tables = elf_path.read(file)
+    elf_path.check_analysis(tables, board)
+    return tables
 
 
-def compare_answer(file: bytes, result: bytes, board: Board) -> Answer:
-    elf_path.check_analysis(elf_path.read(file), board)
-    elf_path.read(result)
-    return Among({0, 11, 12})
+def show_answer(file: bytes, board: Board) -> Answer:
+    analysed(file, board)
+    return Among({0})
+
+
+def profile_answer(file: bytes, board: Board, given: bytes) -> Answer:
+    source = Source(analysed(file, board), board, given)
+    lines = [f"{source.run(board.steps)}\n".encode()]
+    lines.insert(0, b"steps %d\n" % source.steps)
+    lines += [b"block 0x%08x %d\n" % (at, count) for at, count in sorted(source.began.items()) if count]
+    lines += [b"object %d %d %s\n" % (reads, writes, one.symbols[0].name)
+              for one, reads, writes in zip(source.objects, source.reads, source.writes)]
+    return Told(0, b"".join(lines), {})
+
+
+def relink_answer(file: bytes, board: Board, given: bytes) -> Answer:
+    source = Source(analysed(file, board), board, given)
+    outcome = source.run(board.steps)
+    return Relinked(file, board, given, bytes(source.written), outcome, source.energy())
+
+
+def check_answer(file: bytes, board: Board, given: bytes) -> Answer:
+    """Of the certificate that takes nothing."""
+    source = Source(analysed(file, board), board, given)
+    source.run(board.steps)
+    return Told(0, b"best found %d\nbefore %d\nafter %d\n" % (board.nodes, source.energy(), source.energy()), {})
+
+
+def compare_answer(file: bytes, result: bytes, board: Board, given: bytes) -> Answer:
+    tables, results = analysed(file, board), elf_path.read(result)
+    source, machine = Source(tables, board, given), Machine(results, board, given)
+    try:
+        outcome = source.run(board.steps)
+    except Fault as fault:
+        raise Fault(12, *fault.args[1:]) from fault
+    limit = (source.steps + 1) * (12 * len(board.spm) + 256)
+    ended = machine.run(min(limit, MOST_STEPS), len(source.written) if outcome == "running" else None)
+    is_enough = outcome == "running" and len(machine.written) >= len(source.written)
+    if ended == "running" and limit > MOST_STEPS and not is_enough:
+        if limit > LONGEST_RUN:
+            raise Endless
+        return Among({0, 11})
+    return compared(bytes(source.written), outcome, bytes(machine.written), ended)
+
+
+def compared(written: bytes, outcome: str, other: bytes, ended: str) -> Answer:
+    """What `compare` prints of a program and a result by what they wrote and how they ended."""
+    if outcome == "running":
+        other = other[:len(written)]
+    if written == other and outcome in ("running", ended):
+        return Told(0, f"same\n{outcome}\n".encode(), {})
+    shorter = min(len(written), len(other))
+    raise Fault(11, "differs", next((at for at in range(shorter) if written[at] != other[at]), shorter))
 
 
 def hex_answer(file: bytes) -> Answer:
@@ -192,22 +228,22 @@ def run_case(random: Random, seeds: Seeds, files: dict[str, bytes], board: Board
 
 
 def show_case(random: Random, seeds: Seeds, files: dict[str, bytes], board: Board) -> Case:
-    answer = told(lambda: analysis_answer(files["file"], board, {0}))
+    answer = told(lambda: show_answer(files["file"], board))
     return Case(["show", "file", "board"], {name: files[name] for name in ("file", "board")}, [], answer)
 
 
 def profile_case(random: Random, seeds: Seeds, files: dict[str, bytes], board: Board) -> Case:
-    answer = told(lambda: analysis_answer(files["file"], board, {0, 8}))
+    answer = told(lambda: profile_answer(files["file"], board, files["input"]))
     return Case(["profile", "file", "board", "input"], files, [], answer)
 
 
 def relink_case(random: Random, seeds: Seeds, files: dict[str, bytes], board: Board) -> Case:
-    answer = told(lambda: analysis_answer(files["file"], board, {0, 8}))
+    answer = told(lambda: relink_answer(files["file"], board, files["input"]))
     return Case(["relink", "file", "board", "input", "out", "cert"], files, ["out", "cert"], answer)
 
 
 def check_case(random: Random, seeds: Seeds, files: dict[str, bytes], board: Board) -> Case:
-    answer = told(lambda: analysis_answer(files["file"], board, {0, 8, 10}))
+    answer = told(lambda: check_answer(files["file"], board, files["input"]))
     return Case(["check", "file", "board", "input", "cert"], files | {"cert": MARK + bytes(3)}, [], answer)
 
 
@@ -218,7 +254,7 @@ def compare_case(random: Random, seeds: Seeds, files: dict[str, bytes], board: B
         files = files | {"result": files["file"], "file": other}
     else:
         files = files | {"result": other}
-    answer = told(lambda: compare_answer(files["file"], files["result"], board))
+    answer = told(lambda: compare_answer(files["file"], files["result"], board, files["input"]))
     return Case(["compare", "file", "result", "board", "input"], files, [], answer)
 
 
@@ -252,15 +288,14 @@ COMMANDS: dict[str, tuple[int, CaseOf]] = {
 
 def board_case(random: Random, seeds: Seeds) -> Case:
     """A board with changes, under `run`, and under `show` of a file that has functions."""
-    text = random.choice(seeds.boards)
-    if random.random() < 0.5:
-        text += b"\n" + random.choice(seeds.boards)
-    text = mutate.tokens(random, text)
+    text = mutate.board(random) if random.random() < 0.8 else random.choice(seeds.boards)
+    if random.random() < 0.4:
+        text = mutate.tokens(random, text)
     file = random.choice(seeds.small)
     files = {"file": file, "board": text}
     if random.random() < 0.3:
         return Case(["show", "file", "board"], files, [],
-                    told(lambda: analysis_answer(file, board_path.read(text), {0})))
+                    told(lambda: show_answer(file, board_path.read(text))))
     files |= {"input": b"input"}
     return Case(["run", "file", "board", "input", "out"], files, ["out"],
                 told(lambda: run_answer(file, board_path.read(text), b"input")))
@@ -271,7 +306,8 @@ def board_case(random: Random, seeds: Seeds) -> Case:
 def cert_case(random: Random, seeds: Seeds) -> Case:
     """A certificate of a programme that is known, most often with changes."""
     known = random.choices(seeds.programs, PROGRAM_WEIGHTS)[0]
-    text = mutate.numbers(random, certificate(random, known.programme))
+    given = certificate(random, known.programme)
+    text = mutate.numbers(random, given) if random.random() < 0.8 else bytes().join(map(mutate.leb128, given))
     files = {"file": known.file, "board": known.board, "input": b"", "cert": text}
     return Case(["check", "file", "board", "input", "cert"], files, [],
                 told(lambda: Told(0, cert_path.check(known.programme, known.nodes, text), {})))
@@ -281,16 +317,29 @@ def certificate(random: Random, programme: Programme) -> list[int]:
     """The numbers of a certificate of some choice, whose trees show that it is a best one where it is."""
     number = random.randrange(len(programme.sides))
     side = programme.sides[number]
-    taken: list[int] = []
-    for var in random.sample(range(len(side.gains)), random.randint(0, len(side.gains))):
-        if all(side.weight(row, [*taken, var]) <= capacity for row, capacity in enumerate(side.rows)):
-            taken.append(var)
+    taken = max((choice(random, side) for _ in range(random.choice((1, 20)))), key=side.gain)
     head = [*MARK, int(random.random() < 0.8), number, len(taken), *sorted(taken)]
     if not head[4]:
         return head
-    gain = sum(side.gains[var] for var in taken) - side.fixed
-    trees = [tree(random, side, {}, max(gain, 0) + side.fixed) for side in programme.sides]
+    if random.random() < 0.03:
+        return head + [1] + deep_tree(random)
+    gain = max(side.gain(taken) - side.fixed, 0)
+    trees = [tree(random, side, {}, gain + side.fixed) for side in programme.sides]
     return head + [len(trees)] + [number for nodes in trees for number in nodes]
+
+
+def choice(random: Random, side: Side) -> list[int]:
+    """Some variables that fit, taken one after the other."""
+    taken: list[int] = []
+    for var in random.sample(range(len(side.gains)), random.randint(0, len(side.gains))):
+        if side.fits([*taken, var]):
+            taken.append(var)
+    return taken
+
+
+def deep_tree(random: Random) -> list[int]:
+    """The numbers of a tree whose last node is about as deep as any may be."""
+    return [BRANCH, 0] * random.randint(DEEPEST - 1, DEEPEST + 1) + [random.choice((BRANCH, LEAF, LEAF, 4))] + [LEAF] * 5000
 
 
 def tree(random: Random, side: Side, part: dict[int, bool], limit: int) -> list[int]:

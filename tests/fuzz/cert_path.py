@@ -24,6 +24,13 @@ class Side:
     def weight(self, row: int, taken: list[int]) -> int:
         return sum(self.weights[var].get(row, 0) for var in taken)
 
+    def fits(self, taken: list[int]) -> bool:
+        return all(self.weight(row, taken) <= capacity for row, capacity in enumerate(self.rows))
+
+    def gain(self, taken: list[int]) -> int:
+        """What is gained, the side's fixed cost left aside."""
+        return sum(self.gains[var] for var in taken)
+
 
 @dataclass
 class Programme:
@@ -162,11 +169,11 @@ def gain_of(programme: Programme, certificate: Certificate) -> int:
     side = programme.sides[certificate.side]
     if any(var >= len(side.gains) for var in taken):
         raise Fault(10, "bad-choice")
-    if any(side.weight(row, taken) > capacity for row, capacity in enumerate(side.rows)):
+    if not side.fits(taken):
         raise Fault(10, "bad-choice")
     if certificate.side == 0 and not taken:
         return 0
-    gain = sum(side.gains[var] for var in taken) - side.fixed
+    gain = side.gain(taken) - side.fixed
     if gain < 0:
         raise Fault(10, "bad-choice")
     return gain
@@ -194,7 +201,7 @@ def holds(side: Side, node: tuple, part: dict[int, bool], limit: int) -> bool:
     if node[0] == OVER:
         return node[1] < len(side.rows) and side.weight(node[1], taken) > side.rows[node[1]]
     if node[0] == LEAF:
-        return len(part) == len(side.gains) and sum(side.gains[var] for var in taken) <= limit
+        return len(part) == len(side.gains) and side.gain(taken) <= limit
     _, scale, multipliers = node
     if any(row >= len(side.rows) for row, _ in multipliers):
         return False

@@ -7,6 +7,7 @@ from random import Random
 from typing import TypeVar
 
 import hex_path
+from board_path import PRICES
 from elf_path import HEADER, NOBITS, NULL, PROGRAM, RELA, RELOCATION, SECTION, SYMBOL, SYMTAB
 
 Element = TypeVar("Element")
@@ -17,7 +18,6 @@ HEADER_FIELDS = [(at, 1) for at in range(16)] + [(16, 2), (18, 2)] + [(at, 4) fo
     + [(at, 2) for at in range(40, 52, 2)]
 WORDS = {PROGRAM: range(0, PROGRAM, 4), SECTION: range(0, SECTION, 4), RELOCATION: range(0, RELOCATION, 4)}
 SYMBOL_FIELDS = [(0, 4), (4, 4), (8, 4), (12, 1), (13, 1), (14, 2)]
-LONG_TABLE = 0x110000  # bytes of a symbol table beyond its limit
 MOST_CHANGES = 4
 
 
@@ -139,13 +139,14 @@ def move_section(random: Random, file: bytearray) -> None:
     put(file, at + column, 4, value)
 
 
-def lengthen_symbols(random: Random, file: bytearray) -> None:
-    """Gives the symbol table a place behind the file, where it has too many symbols."""
+def lengthen_table(random: Random, file: bytearray) -> None:
+    """Gives the symbol table, or a table of relocations, a place behind the file, where it has too many records."""
+    kind, size = random.choice(((SYMTAB, SYMBOL * 65536), (RELA, RELOCATION * 262144)))
     for at, _ in whole(file, word(file, 32), SECTION, half(file, 48)) if len(file) >= HEADER else []:
-        if word(file, at + 4) == SYMTAB:
+        if word(file, at + 4) == kind:
             put(file, at + 16, 4, len(file))
-            put(file, at + 20, 4, LONG_TABLE + random.choice((0, 0, 8)))
-            file += bytes(LONG_TABLE + 8)
+            put(file, at + 20, 4, size + random.choice((0, 4, 48)))
+            file += bytes(size + 48)
             return
 
 
@@ -165,7 +166,7 @@ def splice(random: Random, file: bytearray, others: list[bytes]) -> None:
 
 CHANGES: list[tuple[int, Callable[[Random, bytearray], None]]] = [
     (400, change_field), (100, flip), (150, change_word), (30, cut), (40, extend), (60, copy_record), (60, move_section),
-    (40, change_kind), (1, lengthen_symbols)]
+    (40, change_kind), (1, lengthen_table)]
 
 
 def elf(random: Random, seeds: list[bytes]) -> bytes:
@@ -226,6 +227,50 @@ HEX_LINES = [
     hex_path.record(3, 0, bytes(4)), hex_path.record(hex_path.ENTRY, 1, bytes(4)), hex_path.record(hex_path.END, 1, b""),
     hex_path.record(hex_path.UPPER_ADDRESS, 0, b"\0"), hex_path.record(hex_path.END, 0, b"\0"), b"\n", b":\n", b":00\n",
     b":00000001FF", b":00000001ff\r\n", b":00000001FF\r\r\n", b" \n", b";comment\n"]
+
+
+RANGES = ["[0x10000, 0x80000]", "[0x10000, 4096]", "[0, 0xFFFFFFFF]", "[0, 0x100000000]", "[0x20000000, 64]", "[16, 16]",
+          "[0x1000000, 256]", "[0x1000000, 16777216]", "[0x1000000, 16777232]", "[0x90000, 65536]", "[0x90000, 1048576]",
+          "[0x90000, 1048640]", "[0x90000, 64]", "[0x90000, 84]", "[0x90000, 128]", "[64, 0]", "[-16, 64]", "[1, 4294967294]",
+          "[1, 4294967295]", "[0x90020, 96]", "[0x1000030, 48]", "[64]", "[64, 64, 64]", '[64, "64"]', "[64, 64.0]", "64", "[]"]
+LISTS = ["[]", '["main"]', '["f", "g"]', '["table", ".data"]', '[""]', '["f", 1]', '"f"', "[[]]", '["\u00e9"]']
+NESTED = ["[]", "[[]]", '[["main"]]', '[["f"], ["g"]]', '[["f", "f"]]', '[["f"], ["k0", "main"], ["f"]]', '[["no such"]]',
+          "[[], [], [], [], [], [], [], []]", "[[], [], [], [], [], [], [], [], []]", '[["f"], "g"]', '["f"]', "[[1]]", "1"]
+AREAS = ["[]", "[[0x100000, 4096]]", "[[0x10000, 0x20000], [0, 1]]", "[[0, 1, 2]]", "[[0, 0]]", "[[0, 1], 5]", "[0, 1]",
+         f"[{', '.join(['[0, 1]'] * 16)}]", f"[{', '.join(['[0, 1]'] * 17)}]", "{}"]
+SWITCHES = ["true", "false", "0", '"true"', "[]"]
+# What a board may say of each key; numbers are a corner or beside one.
+VALUES = {
+    "main": RANGES, "spm": RANGES, "patch": RANGES, "areas": AREAS, "fix": LISTS, "bss": ['"fixed"', '"movable"', '"Fixed"', "1"],
+    "grain": ["16", "32", "64", "8", "128", '"16"', "16.0", "0x10"], "fence_i": SWITCHES, "twins": SWITCHES,
+    "driver": ['"main"', '"f"', '""', "1", "['main']"], "regions": NESTED,
+    "steps": ["1", "300", "300", "300", "0", "1000000000", "1000000001", "1e3", "-1", '"1"'],
+    "nodes": ["1", "100", "0", "10000000", "10000001", "true"],
+    "price": ["{}", "1", "[]", "{ main_fetch = 1 }", "{ colour = 1 }"],
+    "colour": ["1"], "Main": ["1"], '"a b"': ["[]"], '""': ["{}"], '"\u00e9"': ["1"], "price.a": ["1"], "main.a": ["1"],
+}
+PRICE_VALUES = ["0", "1", "10", "10000", "10001", "-1", "1.0", "true", "[1]"]
+
+
+def board(random: Random) -> bytes:
+    """The text of a board of some keys in any order, of which few have a fault."""
+    lines = []
+    for key in random.sample(list(VALUES), random.choice((1, 2, 3, 6))):
+        values = VALUES[key]
+        lines.append(f"{key} = {random.choice(values if random.random() < 0.5 else values[:3])}\n")
+    if random.random() < 0.7 and not any(line.startswith("steps") for line in lines):
+        lines.append("steps = 300\n")
+    prices = [f"{key} = {random.choice(PRICE_VALUES[:3] if random.random() < 0.9 else PRICE_VALUES)}"
+              for key in (*PRICES, *random.choice(((), (), ("colour", "b"), ("spm",)))) if random.random() < 0.97]
+    random.shuffle(prices)
+    form = random.randrange(4)
+    if form == 0:
+        lines.insert(random.randrange(len(lines) + 1), f"price = {{ {', '.join(prices)} }}\n")
+    elif form == 1:
+        lines += ["[price]\n", *(f"{price}\n" for price in prices)]
+    elif form == 2:
+        lines += [f"price.{price}\n" for price in prices]
+    return "".join(lines).encode()
 
 
 def hex_text(random: Random, text: bytes) -> bytes:
