@@ -29,6 +29,7 @@ class Board:
     bss_movable: bool
     grain: int
     fence_i: bool
+    driver: str
     regions: list[list[str]]
     steps: int
     nodes: int
@@ -132,7 +133,7 @@ class Table:
         grain = self.top("grain", 16, is_integer, lambda grain: grain in GRAINS)
         fence_i = self.top("fence_i", False, is_boolean)
         self.check_prices(price)
-        self.top("driver", "main", is_text)
+        driver = self.top("driver", "main", is_text)
         regions = self.top("regions", [], is_list_of(is_list_of(is_text)), lambda lists: len(lists) <= 8)
         steps = self.top("steps", 100_000_000, is_integer, lambda steps: 1 <= steps <= 10**9)
         nodes = self.top("nodes", 100_000, is_integer, lambda nodes: 1 <= nodes <= 10**7)
@@ -141,7 +142,7 @@ class Table:
         check_unknown(price, tuple(PRICES))
         return Board(as_range(main), as_range(spm), as_range(patch), [as_range(pair) for pair in areas],
                      {key: price.get(key, default) for key, default in PRICES.items()}, fix, bss == "movable", grain,
-                     fence_i, regions, steps, nodes)
+                     fence_i, driver, regions, steps, nodes)
 
     def is_scratchpad(self, pair: list[int]) -> bool:
         """The grain that counts here is the default one where the key has a fault."""

@@ -11,12 +11,14 @@ import cert_path
 import elf_path
 import hex_path
 import mutate
+import objects_path
 from answers import MOST_STEPS, Among, Answer, Relinked, Told
 from board_path import Board
 from cert_path import BOUND, BRANCH, DEEPEST, LEAF, MARK, OVER, Programme, Side
 from elf_path import File
 from fault import Endless, Fault, Untold
 from machine_path import Machine
+from regions_path import Regions
 from source_path import Source
 
 LONGEST_RUN = 3_000_000  # steps of a result that the program is to take in one call
@@ -42,6 +44,15 @@ def contents(pattern: str) -> list[bytes]:
     return files
 
 
+def is_accepted(file: bytes) -> bool:
+    """Whether a file has no fault on the board without keys."""
+    try:
+        elf_path.check_analysis(elf_path.read(file), board_path.read(b""))
+    except Fault:
+        return False
+    return True
+
+
 class Seeds:
     """What the cases are drawn from: files of the repository."""
 
@@ -49,7 +60,8 @@ class Seeds:
         self.elf = contents("crates/case_runner/data/*.elf") + contents("crates/analysis_listing/data/*.elf")
         self.small = [file for file in self.elf if len(file) < 4096]
         self.boards = contents("examples/*.toml") + [text.encode() for text in BOARDS + LAYOUTS]
-        self.programs = [program(*known) for known in PROGRAMS]
+        self.known = [program(*known) for known in PROGRAMS]
+        self.programs = [file for file in self.elf if is_accepted(file)]
 
 
 BOARDS = [
@@ -83,6 +95,18 @@ LAYOUTS = [
     'regions = [["k0", "k1"], ["k2"], [""]]\n',
     'bss = "movable"\ntwins = true\n',
     "fence_i = true\npatch = [0x00090000, 64]\n",
+]
+
+# Boards on which objects and code of a program may move.
+MOVING = [
+    b"",
+    b'bss = "movable"\n',
+    b'bss = "movable"\ngrain = 64\nfence_i = true\ntwins = true\n',
+    b'grain = 32\nspm = [0x80000800, 256]\nfix = ["table", ".rodata"]\n',
+    b'regions = [["f"], ["g"]]\nspm = [0x01000000, 128]\n',
+    b'regions = [[]]\nspm = [0x000a0000, 512]\nprice = { main_fetch = 3, main_read = 50, main_write = 60, spm_fetch = 1, '
+    b"spm_read = 2, spm_write = 3 }\n",
+    b'driver = "f"\n',
 ]
 
 DATA_PRICES = ("price = { main_fetch = 10, main_read = 10, main_write = 10, spm_fetch = 10, spm_read = 2, "
@@ -143,8 +167,10 @@ def analysed(file: bytes, board: Board) -> File:
 
 
 def show_answer(file: bytes, board: Board) -> Answer:
-    analysed(file, board)
-    return Among({0})
+    tables = analysed(file, board)
+    found = objects_path.find(tables, board)
+    lines = [b"object 0x%08x %d %s\n" % (one.home, one.size, one.symbols[0].name) for one in found.objects]
+    return Told(0, b"".join(lines + Regions(tables, board, found).lines()), {})
 
 
 def profile_answer(file: bytes, board: Board, given: bytes) -> Answer:
@@ -220,6 +246,14 @@ def elf_case(random: Random, seeds: Seeds) -> Case:
     files = {"file": file, "board": text, "input": given}
     command = random.choices(list(COMMANDS), [weight for weight, _ in COMMANDS.values()])[0]
     return COMMANDS[command][1](random, seeds, files, board)
+
+
+def program_case(random: Random, seeds: Seeds) -> Case:
+    """A program with changes that most often leave it one, under the commands that analyse or run it."""
+    text = random.choice(MOVING) + f"steps = {random.choice((3, 100, 1000))}\nnodes = {random.choice((1, 50))}\n".encode()
+    files = {"file": mutate.program(random, seeds.programs), "board": text, "input": random.randbytes(random.choice((0, 3, 100)))}
+    command = random.choices(list(ANALYSING), list(ANALYSING.values()))[0]
+    return COMMANDS[command][1](random, seeds, files, board_path.read(text))
 
 
 def run_case(random: Random, seeds: Seeds, files: dict[str, bytes], board: Board) -> Case:
@@ -305,7 +339,7 @@ def board_case(random: Random, seeds: Seeds) -> Case:
 
 def cert_case(random: Random, seeds: Seeds) -> Case:
     """A certificate of a programme that is known, most often with changes."""
-    known = random.choices(seeds.programs, PROGRAM_WEIGHTS)[0]
+    known = random.choices(seeds.known, PROGRAM_WEIGHTS)[0]
     given = certificate(random, known.programme)
     text = mutate.numbers(random, given) if random.random() < 0.8 else bytes().join(map(mutate.leb128, given))
     files = {"file": known.file, "board": known.board, "input": b"", "cert": text}
@@ -375,8 +409,10 @@ def hex_text_case(random: Random, seeds: Seeds) -> Case:
     return Case(["hexcheck", "file", "text"], {"file": file, "text": text}, [], told(lambda: hex_check_answer(file, text)))
 
 
+ANALYSING = {"show": 25, "profile": 35, "relink": 25, "compare": 8, "check": 5, "run": 10}
 KINDS: dict[str, Callable[[Random, Seeds], Case]] = {
     "elf": elf_case,
+    "program": program_case,
     "board": board_case,
     "cert": cert_case,
     "hex": hex_text_case,

@@ -402,13 +402,18 @@ def functions(file: File, code: list[range]) -> list[Symbol]:
     return kept
 
 
+def named_function(file: File, starts: set[int], name: bytes) -> int | None:
+    """Where the function of a name starts, of those that start there: the first symbol of this name counts."""
+    return next((symbol.value for symbol in file.symbols
+                 if symbol.kind == FUNCTION and symbol.name == name and symbol.value in starts), None)
+
+
 def check_regions(file: File, board: Board, code: list[range]) -> None:
     """Each listed name stands for a function, and for one that was not listed before."""
     starts = {function.value for function in functions(file, code)}
     listed = set()
     for name in (name.encode() for region in board.regions for name in region):
-        start = next((symbol.value for symbol in file.symbols
-                      if symbol.kind == FUNCTION and symbol.name == name and symbol.value in starts), None)
+        start = named_function(file, starts, name)
         if start is None:
             raise Fault(5, "unknown-function", name=name)
         if start in listed:

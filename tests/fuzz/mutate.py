@@ -8,7 +8,7 @@ from typing import TypeVar
 
 import hex_path
 from board_path import PRICES
-from elf_path import HEADER, NOBITS, NULL, PROGRAM, RELA, RELOCATION, SECTION, SYMBOL, SYMTAB
+from elf_path import HEADER, NOBITS, NULL, PROGRAM, RELA, RELOCATION, SECTION, SUPPORTED, SYMBOL, SYMTAB
 
 Element = TypeVar("Element")
 
@@ -167,6 +167,78 @@ def splice(random: Random, file: bytearray, others: list[bytes]) -> None:
 CHANGES: list[tuple[int, Callable[[Random, bytearray], None]]] = [
     (400, change_field), (100, flip), (150, change_word), (30, cut), (40, extend), (60, copy_record), (60, move_section),
     (40, change_kind), (1, lengthen_table)]
+
+
+def records_of(file: bytes, kind: int, size: int) -> list[int]:
+    """The places of the records of tables of one kind."""
+    sections = whole(file, word(file, 32), SECTION, half(file, 48)) if len(file) >= HEADER else []
+    return [start for at, _ in sections if word(file, at + 4) == kind
+            for start, _ in whole(file, word(file, at + 16), size, word(file, at + 20) // size)]
+
+
+def change_symbol(random: Random, file: bytearray) -> None:
+    """Gives a symbol another value, size, kind or section, near its own or that of another symbol."""
+    symbols = records_of(file, SYMTAB, SYMBOL)
+    if symbols:
+        at, other = random.choice(symbols), random.choice(symbols)
+        field, size = random.choice(((4, 4), (4, 4), (8, 4), (12, 1), (14, 2)))
+        near = word(file, at + field) + random.choice((-4, -1, 1, 2, 4, 16))
+        value = random.choice((word(file, other + field), near, random.choice((0, 1, 2, 3, 4, 16))))
+        put(file, at + field, size, value)
+
+
+def change_relocation(random: Random, file: bytearray) -> None:
+    """Gives a relocation another place, kind, symbol or addend."""
+    relocations = records_of(file, RELA, RELOCATION)
+    symbols = len(records_of(file, SYMTAB, SYMBOL))
+    if not relocations:
+        return change_word(random, file)
+    at, other = random.choice(relocations), random.choice(relocations)
+    action = random.randrange(5)
+    if action == 0:
+        put(file, at, 4, word(file, random.choice((at, other))) + random.choice((-4, 0, 1, 2, 4)))
+    elif action == 1:
+        put(file, at + 4, 1, random.choice(sorted(SUPPORTED)))
+    elif action == 2:
+        put(file, at + 5, 3, random.randrange(symbols + 1))
+    elif action == 3:
+        put(file, at + 8, 4, word(file, at + 8) + random.choice((-4, -1, 1, 2, 4, 16, 64)))
+    else:
+        file[at:at + RELOCATION] = file[other:other + RELOCATION]
+
+
+def change_flags(random: Random, file: bytearray) -> None:
+    """Takes from a section that it can be written, is code, or has memory, or gives it that."""
+    sections = whole(file, word(file, 32), SECTION, half(file, 48)) if len(file) >= HEADER else []
+    if sections:
+        at = random.choice(sections)[0]
+        put(file, at + 8, 4, word(file, at + 8) ^ random.choice((1, 2, 4)))
+
+
+def change_part(random: Random, file: bytearray) -> None:
+    """Another register, function or immediate in an instruction, which is most often the one of a relocation."""
+    places = [(word(file, at + 4), word(file, at + 8), word(file, at + 16))
+              for at, _ in whole(file, word(file, 28), PROGRAM, half(file, 44))]
+    relocated = [word(file, at) for at in records_of(file, RELA, RELOCATION)]
+    for offset, address, size in random.sample(places, min(1, len(places))):
+        spots = [at for at in relocated if address <= at and at + 4 <= address + size]
+        at = random.choice(spots) if spots and random.random() < 0.5 else address + 4 * random.randrange(size // 4 + 1)
+        at += offset - address
+        if at + 4 <= len(file):
+            low, bits = random.choice(((7, 5), (12, 3), (15, 5), (20, 5), (25, 7), (20, 12), (30, 1)))
+            kept = word(file, at) & ~((1 << bits) - 1 << low)
+            put(file, at, 4, kept | random.randrange(1 << bits) << low)
+
+
+GENTLE = (change_word, change_part, change_part, change_symbol, change_relocation, change_relocation, change_flags)
+
+
+def program(random: Random, seeds: list[bytes]) -> bytes:
+    """A seed with a few changes to its instructions, symbols and relocations, which most often leave it a file."""
+    file = bytearray(random.choice(seeds))
+    for change in random.choices(GENTLE, k=random.choice((1, 1, 2, 3))):
+        change(random, file)
+    return bytes(file)
 
 
 def elf(random: Random, seeds: list[bytes]) -> bytes:
