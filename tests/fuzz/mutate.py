@@ -1,7 +1,6 @@
 """Changes of files and texts, drawn by a seeded generator."""
 
 import re
-import struct
 from collections.abc import Callable
 from random import Random
 from typing import TypeVar

@@ -7,8 +7,8 @@ from dataclasses import dataclass, field
 
 import instructions as code
 from board_path import Board
-from elf_path import (EXECUTE, FUNCTION, HEADER, NOBITS, OBJECT, PROGBITS, SYMTAB, WRITE, File, Relocation, Section, Symbol,
-                      code_ranges, has_word, is_loaded, meet, within)
+from elf_path import (EXECUTE, FUNCTION, HEADER, NOBITS, OBJECT, PROGBITS, SYMTAB, File, Relocation, Section, Symbol,
+                      code_ranges, is_loaded, meet, within)
 from fault import WORD
 from machine_path import load_image
 

@@ -7,7 +7,7 @@ from dataclasses import dataclass, field
 
 import instructions as code
 from board_path import Board
-from elf_path import File, Symbol, code_ranges, functions, named_function
+from elf_path import File, code_ranges, functions, named_function
 from fault import WORD
 from objects_path import Objects
 
