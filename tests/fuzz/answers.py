@@ -67,6 +67,7 @@ class Relinked:
     given: bytes
     written: bytes
     outcome: str
+    steps: int
     before: int
     is_compared = True
 
@@ -83,7 +84,7 @@ class Relinked:
     def judge_result(self, result: bytes) -> None:
         try:
             machine = Machine(elf_path.read(result), self.board, self.given)
-            outcome = machine.run(MOST_STEPS)
+            outcome = machine.run(2 * self.steps + MOST_STEPS)
         except Fault as fault:
             raise Failure(f"made a file that has a fault: {fault.text!r}") from fault
         except Endless:

@@ -11,17 +11,11 @@ import cert_path
 import elf_path
 import hex_path
 import mutate
-import objects_path
-from answers import MOST_STEPS, Among, Answer, Relinked, Told
-from board_path import Board
+from answers import Answer, Told
 from cert_path import BOUND, BRANCH, DEEPEST, LEAF, MARK, OVER, Programme, Side
-from elf_path import File
-from fault import Endless, Fault, Untold
-from machine_path import Machine
-from regions_path import Regions
-from source_path import Source
+from command_path import PATHS, told
+from fault import Fault
 
-LONGEST_RUN = 3_000_000  # steps of a result that the program is to take in one call
 HERE = os.path.dirname(os.path.abspath(__file__))
 ROOT = os.path.normpath(f"{HERE}/../..")
 
@@ -60,8 +54,9 @@ class Seeds:
         self.elf = contents("crates/case_runner/data/*.elf") + contents("crates/analysis_listing/data/*.elf")
         self.small = [file for file in self.elf if len(file) < 4096]
         self.boards = contents("examples/*.toml") + [text.encode() for text in BOARDS + LAYOUTS]
-        self.known = [program(*known) for known in PROGRAMS]
+        self.known = [known_program(*known) for known in KNOWN]
         self.programs = [file for file in self.elf if is_accepted(file)]
+        self.in_turn = [contents(f"crates/case_runner/data/{name}")[0] for name in IN_TURN]
 
 
 BOARDS = [
@@ -97,227 +92,122 @@ LAYOUTS = [
     "fence_i = true\npatch = [0x00090000, 64]\n",
 ]
 
-# Boards on which objects and code of a program may move.
-MOVING = [
-    b"",
-    b'bss = "movable"\n',
-    b'bss = "movable"\ngrain = 64\nfence_i = true\ntwins = true\n',
-    b'grain = 32\nspm = [0x80000800, 256]\nfix = ["table", ".rodata"]\n',
-    b'regions = [["f"], ["g"]]\nspm = [0x01000000, 128]\n',
-    b'regions = [[]]\nspm = [0x000a0000, 512]\nprice = { main_fetch = 3, main_read = 50, main_write = 60, spm_fetch = 1, '
-    b"spm_read = 2, spm_write = 3 }\n",
-    b'driver = "f"\n',
-]
-
 DATA_PRICES = ("price = { main_fetch = 10, main_read = 10, main_write = 10, spm_fetch = 10, spm_read = 2, "
                "spm_write = 2 }\n")
+CODE_PRICES = "price = { main_fetch = 40, main_read = 1, main_write = 1, spm_fetch = 1, spm_read = 1, spm_write = 1 }\n"
+HIGH_PRICES = "price = { main_fetch = 3, main_read = 50, main_write = 60, spm_fetch = 1, spm_read = 2, spm_write = 3 }\n"
+# The parts of boards on which objects and code of a program may move.
+MOVING = [
+    ["", "spm = [0x01000000, 64]\n", "spm = [0x01000000, 192]\n", "grain = 32\nspm = [0x80000800, 256]\n",
+     "grain = 64\nspm = [0x000a0000, 512]\n"],
+    ["", DATA_PRICES, CODE_PRICES, HIGH_PRICES],
+    ["", "", "", "twins = true\n", "regions = [[]]\n", 'regions = [["f"], ["g"]]\n', 'driver = "f"\n'],
+    ["", 'bss = "movable"\n', 'bss = "movable"\n', 'fix = ["table", ".rodata"]\n', "fence_i = true\n"],
+    ["nodes = 1\n", "nodes = 50\n", "nodes = 5000\n"],
+]
+# Programs of some 35,000 steps in which regions have objects and code in turn.
+IN_TURN = ("tables_and_loops.elf", "caller_and_callee_in_turn.elf")
+STEPS_IN_TURN = 40_000
+
 # A program reads each word of a table of 64 words 100 times, which is 6,400 reads that save 8 each, less the copy of the
 # table. Its code has six blocks, and gains nothing at these prices.
 ONE_TABLE = "base 326040\nside off fixed 50\nrows 256 65452 1 1 1 1 1 1\nvar 47172 0:256 1:44\n"
 # Programs whose programmes were worked out by hand: their boards, and where the programmes are.
-PROGRAMS = [
+KNOWN = [
     ("caller_and_callee.elf", 'spm = [0x01000000, 48]\nregions = [["f"], ["g"]]\n', "regions.txt", 0),
     ("two_phases.elf", "spm = [0x01000000, 1024]\n" + DATA_PRICES, "regions.txt", 1),
     ("shared_table.elf", "spm = [0x01000000, 1024]\ntwins = true\n" + DATA_PRICES, "regions.txt", 2),
     ("sums.elf", "spm = [0x01000000, 256]\n" + DATA_PRICES, None, 0),
 ]
-PROGRAM_WEIGHTS = (500, 2, 1, 30)  # the longer ones run for some 300,000 steps
+KNOWN_WEIGHTS = (500, 2, 1, 30)  # the longer ones run for some 300,000 steps
+NOTHING_TAKEN = MARK + bytes(3)
 
 
 @dataclass
-class Program:
+class Known:
+    """A program and a board whose programme is known."""
+
     file: bytes
     board: bytes
     programme: Programme
-    nodes: int
+
+    def verdict(self, text: bytes) -> Answer:
+        return Told(0, cert_path.check(self.programme, board_path.read(self.board).nodes, text), {})
 
 
-def program(file: str, board: str, source: str | None, place: int) -> Program:
+def known_program(file: str, board: str, source: str | None, place: int) -> Known:
     text = contents(f"crates/solver_bench/data/{source}")[0].decode() if source else ONE_TABLE
-    programme = cert_path.read_programmes(text)[place]
-    nodes = board_path.read(board.encode()).nodes
-    return Program(contents(f"crates/case_runner/data/{file}")[0], board.encode(), programme, nodes)
+    return Known(contents(f"crates/case_runner/data/{file}")[0], board.encode(), cert_path.read_programmes(text)[place])
 
 
-def told(answer: Callable[[], Answer]) -> Answer | None:
-    """An answer, or the fault that comes in its place. None where the call would take long."""
+# The words of each command behind its name. `out` and `cert` are written.
+WORDS = {
+    "run": "file board input out",
+    "show": "file board",
+    "profile": "file board input",
+    "relink": "file board input out cert",
+    "check": "file board input text",
+    "compare": "file result board input",
+    "hex": "file out",
+    "hexcheck": "file text",
+}
+# How often a command is called: on any file, and on a program.
+READING = {"run": 50, "show": 10, "profile": 10, "relink": 10, "check": 3, "compare": 10, "hex": 10, "hexcheck": 10}
+ANALYSING = {"show": 25, "profile": 35, "relink": 25, "compare": 8, "check": 5, "run": 10}
+
+
+def one_of(random: Random, weights: dict[str, int]) -> str:
+    return random.choices(list(weights), list(weights.values()))[0]
+
+
+def call(command: str, contents: dict[str, bytes]) -> Case:
+    """The case of a command on files, of which it may read some only."""
+    names = WORDS[command].split()
+    files = {name: contents[name] for name in names if name in contents}
+    outputs = [name for name in names if name not in contents]
+    return Case([command, *names], files, outputs, told(PATHS[command], *files.values()))
+
+
+def with_others(random: Random, seeds: Seeds, command: str, files: dict[str, bytes]) -> dict[str, bytes]:
+    """The files of a command, with a result, a text or a certificate where it reads one."""
+    if command == "compare":
+        other = random.choice(seeds.small)
+        files = files | {"result": other}
+        if random.random() < 0.5:
+            files |= {"file": other, "result": files["file"]}
+    elif command == "check":
+        files = files | {"text": random.choice((NOTHING_TAKEN, mutate.numbers(random, list(NOTHING_TAKEN))))}
+    elif command == "hexcheck":
+        files = files | {"text": hex_of(random.choice((files["file"], random.choice(seeds.small))))}
+    return files
+
+
+def hex_of(file: bytes) -> bytes:
+    """The text of a file, or an empty one where the file has a fault."""
     try:
-        return answer()
-    except Fault as fault:
-        return Told(fault.status, fault.line(), {})
-    except Untold:
-        return Among({0, 4, 5, 6, 7, 8, 10, 11, 12, 14})
-    except Endless:
-        return None
-
-
-def run_answer(file: bytes, board: Board, given: bytes) -> Answer:
-    machine = Machine(elf_path.read(file), board, given)
-    outcome = machine.run(min(board.steps, MOST_STEPS))
-    if outcome == "running" and board.steps > MOST_STEPS:
-        raise Endless
-    return Told(0, f"{outcome}\n".encode(), {"out": bytes(machine.written)})
-
-
-def analysed(file: bytes, board: Board) -> File:
-    """A file without a fault for a board."""
-    tables = elf_path.read(file)
-    elf_path.check_analysis(tables, board)
-    return tables
-
-
-def show_answer(file: bytes, board: Board) -> Answer:
-    tables = analysed(file, board)
-    found = objects_path.find(tables, board)
-    lines = [b"object 0x%08x %d %s\n" % (one.home, one.size, one.symbols[0].name) for one in found.objects]
-    return Told(0, b"".join(lines + Regions(tables, board, found).lines()), {})
-
-
-def profile_answer(file: bytes, board: Board, given: bytes) -> Answer:
-    source = Source(analysed(file, board), board, given)
-    lines = [f"{source.run(board.steps)}\n".encode()]
-    lines.insert(0, b"steps %d\n" % source.steps)
-    lines += [b"block 0x%08x %d\n" % (at, count) for at, count in sorted(source.began.items()) if count]
-    lines += [b"object %d %d %s\n" % (reads, writes, one.symbols[0].name)
-              for one, reads, writes in zip(source.objects, source.reads, source.writes)]
-    return Told(0, b"".join(lines), {})
-
-
-def relink_answer(file: bytes, board: Board, given: bytes) -> Answer:
-    source = Source(analysed(file, board), board, given)
-    outcome = source.run(board.steps)
-    return Relinked(file, board, given, bytes(source.written), outcome, source.energy())
-
-
-def check_answer(file: bytes, board: Board, given: bytes) -> Answer:
-    """Of the certificate that takes nothing."""
-    source = Source(analysed(file, board), board, given)
-    source.run(board.steps)
-    return Told(0, b"best found %d\nbefore %d\nafter %d\n" % (board.nodes, source.energy(), source.energy()), {})
-
-
-def compare_answer(file: bytes, result: bytes, board: Board, given: bytes) -> Answer:
-    tables, results = analysed(file, board), elf_path.read(result)
-    source, machine = Source(tables, board, given), Machine(results, board, given)
-    try:
-        outcome = source.run(board.steps)
-    except Fault as fault:
-        raise Fault(12, *fault.args[1:]) from fault
-    limit = (source.steps + 1) * (12 * len(board.spm) + 256)
-    ended = machine.run(min(limit, MOST_STEPS), len(source.written) if outcome == "running" else None)
-    is_enough = outcome == "running" and len(machine.written) >= len(source.written)
-    if ended == "running" and limit > MOST_STEPS and not is_enough:
-        if limit > LONGEST_RUN:
-            raise Endless
-        return Among({0, 11})
-    return compared(bytes(source.written), outcome, bytes(machine.written), ended)
-
-
-def compared(written: bytes, outcome: str, other: bytes, ended: str) -> Answer:
-    """What `compare` prints of a program and a result by what they wrote and how they ended."""
-    if outcome == "running":
-        other = other[:len(written)]
-    if written == other and outcome in ("running", ended):
-        return Told(0, f"same\n{outcome}\n".encode(), {})
-    shorter = min(len(written), len(other))
-    raise Fault(11, "differs", next((at for at in range(shorter) if written[at] != other[at]), shorter))
-
-
-def hex_answer(file: bytes) -> Answer:
-    text = hex_path.write(elf_path.read(file))
-    return Told(0, b"records %d\n" % text.count(b"\n"), {"out": text})
-
-
-def hex_check_answer(file: bytes, text: bytes) -> Answer:
-    hex_path.check(elf_path.read(file), text)
-    return Told(0, b"same\n", {})
-
-
-def board_text(random: Random) -> bytes:
-    """A board of few steps on which a file may not fit."""
-    steps = random.choice((1, 30, 300, 300, 300, 2000))
-    return (random.choice(LAYOUTS) + f"steps = {steps}\nnodes = {random.choice((1, 50))}\n").encode()
+        return hex_path.write(elf_path.read(file))
+    except Fault:
+        return hex_path.record(hex_path.END, 0, b"")
 
 
 def elf_case(random: Random, seeds: Seeds) -> Case:
-    """A file with changes, under each command that reads one."""
-    file, text = mutate.elf(random, seeds.elf), board_text(random)
-    board, given = board_path.read(text), random.randbytes(random.choice((0, 3, 100)))
-    files = {"file": file, "board": text, "input": given}
-    command = random.choices(list(COMMANDS), [weight for weight, _ in COMMANDS.values()])[0]
-    return COMMANDS[command][1](random, seeds, files, board)
+    """A file with changes, on a board of few steps on which it may not fit."""
+    steps = random.choice((1, 30, 300, 300, 300, 2000))
+    text = random.choice(LAYOUTS) + f"steps = {steps}\nnodes = {random.choice((1, 50))}\n"
+    files = {"file": mutate.elf(random, seeds.elf), "board": text.encode(), "input": random.randbytes(random.choice((0, 3, 100)))}
+    command = one_of(random, READING)
+    return call(command, with_others(random, seeds, command, files))
 
 
 def program_case(random: Random, seeds: Seeds) -> Case:
     """A program with changes that most often leave it one, under the commands that analyse or run it."""
-    text = random.choice(MOVING) + f"steps = {random.choice((3, 100, 1000))}\nnodes = {random.choice((1, 50))}\n".encode()
-    files = {"file": mutate.program(random, seeds.programs), "board": text, "input": random.randbytes(random.choice((0, 3, 100)))}
-    command = random.choices(list(ANALYSING), list(ANALYSING.values()))[0]
-    return COMMANDS[command][1](random, seeds, files, board_path.read(text))
-
-
-def run_case(random: Random, seeds: Seeds, files: dict[str, bytes], board: Board) -> Case:
-    answer = told(lambda: run_answer(files["file"], board, files["input"]))
-    return Case(["run", "file", "board", "input", "out"], files, ["out"], answer)
-
-
-def show_case(random: Random, seeds: Seeds, files: dict[str, bytes], board: Board) -> Case:
-    answer = told(lambda: show_answer(files["file"], board))
-    return Case(["show", "file", "board"], {name: files[name] for name in ("file", "board")}, [], answer)
-
-
-def profile_case(random: Random, seeds: Seeds, files: dict[str, bytes], board: Board) -> Case:
-    answer = told(lambda: profile_answer(files["file"], board, files["input"]))
-    return Case(["profile", "file", "board", "input"], files, [], answer)
-
-
-def relink_case(random: Random, seeds: Seeds, files: dict[str, bytes], board: Board) -> Case:
-    answer = told(lambda: relink_answer(files["file"], board, files["input"]))
-    return Case(["relink", "file", "board", "input", "out", "cert"], files, ["out", "cert"], answer)
-
-
-def check_case(random: Random, seeds: Seeds, files: dict[str, bytes], board: Board) -> Case:
-    answer = told(lambda: check_answer(files["file"], board, files["input"]))
-    return Case(["check", "file", "board", "input", "cert"], files | {"cert": MARK + bytes(3)}, [], answer)
-
-
-def compare_case(random: Random, seeds: Seeds, files: dict[str, bytes], board: Board) -> Case:
-    """The file with changes stands for FILE or for RESULT."""
-    other = random.choice(seeds.small)
-    if random.random() < 0.5:
-        files = files | {"result": files["file"], "file": other}
-    else:
-        files = files | {"result": other}
-    answer = told(lambda: compare_answer(files["file"], files["result"], board, files["input"]))
-    return Case(["compare", "file", "result", "board", "input"], files, [], answer)
-
-
-def hex_case(random: Random, seeds: Seeds, files: dict[str, bytes], board: Board) -> Case:
-    answer = told(lambda: hex_answer(files["file"]))
-    return Case(["hex", "file", "out"], {"file": files["file"]}, ["out"], answer)
-
-
-def hex_check_case(random: Random, seeds: Seeds, files: dict[str, bytes], board: Board) -> Case:
-    """The text is that of another file with changes of the same kind, or of the file itself."""
-    try:
-        text = hex_path.write(elf_path.read(random.choice((files["file"], random.choice(seeds.small)))))
-    except Fault:
-        text = hex_path.record(hex_path.END, 0, b"")
-    answer = told(lambda: hex_check_answer(files["file"], text))
-    return Case(["hexcheck", "file", "text"], {"file": files["file"], "text": text}, [], answer)
-
-
-CaseOf = Callable[[Random, Seeds, dict[str, bytes], Board], Case]
-COMMANDS: dict[str, tuple[int, CaseOf]] = {
-    "run": (50, run_case),
-    "show": (10, show_case),
-    "profile": (10, profile_case),
-    "relink": (10, relink_case),
-    "check": (3, check_case),
-    "compare": (10, compare_case),
-    "hex": (10, hex_case),
-    "hexcheck": (10, hex_check_case),
-}
+    is_long = random.random() < 0.03
+    file = mutate.program(random, seeds.in_turn if is_long else seeds.programs)
+    steps = STEPS_IN_TURN if is_long else random.choice((3, 100, 1000, 1000, 3000))
+    text = "".join(random.choice(lines) for lines in MOVING) + f"steps = {steps}\n"
+    files = {"file": file, "board": text.encode(), "input": random.randbytes(random.choice((0, 3, 100)))}
+    command = "relink" if is_long else one_of(random, ANALYSING)
+    return call(command, with_others(random, seeds, command, files))
 
 
 def board_case(random: Random, seeds: Seeds) -> Case:
@@ -325,26 +215,23 @@ def board_case(random: Random, seeds: Seeds) -> Case:
     text = mutate.board(random) if random.random() < 0.8 else random.choice(seeds.boards)
     if random.random() < 0.4:
         text = mutate.tokens(random, text)
-    file = random.choice(seeds.small)
-    files = {"file": file, "board": text}
-    if random.random() < 0.3:
-        return Case(["show", "file", "board"], files, [],
-                    told(lambda: show_answer(file, board_path.read(text))))
-    files |= {"input": b"input"}
-    return Case(["run", "file", "board", "input", "out"], files, ["out"],
-                told(lambda: run_answer(file, board_path.read(text), b"input")))
-
-
+    files = {"file": random.choice(seeds.small), "board": text, "input": b"input"}
+    return call(random.choice(("show", "run", "run")), files)
 
 
 def cert_case(random: Random, seeds: Seeds) -> Case:
     """A certificate of a programme that is known, most often with changes."""
-    known = random.choices(seeds.known, PROGRAM_WEIGHTS)[0]
-    given = certificate(random, known.programme)
-    text = mutate.numbers(random, given) if random.random() < 0.8 else bytes().join(map(mutate.leb128, given))
-    files = {"file": known.file, "board": known.board, "input": b"", "cert": text}
-    return Case(["check", "file", "board", "input", "cert"], files, [],
-                told(lambda: Told(0, cert_path.check(known.programme, known.nodes, text), {})))
+    known = random.choices(seeds.known, KNOWN_WEIGHTS)[0]
+    numbers = certificate(random, known.programme)
+    text = mutate.numbers(random, numbers) if random.random() < 0.8 else b"".join(map(mutate.leb128, numbers))
+    files = {"file": known.file, "board": known.board, "input": b"", "text": text}
+    return Case(["check", *files], files, [], told(known.verdict, text))
+
+
+def hex_case(random: Random, seeds: Seeds) -> Case:
+    """The text of a small file, most often with changes."""
+    file = random.choice(seeds.small)
+    return call("hexcheck", {"file": file, "text": mutate.hex_text(random, hex_of(file))})
 
 
 def certificate(random: Random, programme: Programme) -> list[int]:
@@ -399,21 +286,10 @@ def multipliers(random: Random, side: Side) -> list[tuple[int, int]]:
     return [(row, random.randrange(2 * greatest // side.rows[row] + 2)) for row in rows]
 
 
-def hex_text_case(random: Random, seeds: Seeds) -> Case:
-    """The text of a small file with changes."""
-    file = random.choice(seeds.small)
-    try:
-        text = mutate.hex_text(random, hex_path.write(elf_path.read(file)))
-    except Fault:
-        text = random.choice(mutate.HEX_LINES)
-    return Case(["hexcheck", "file", "text"], {"file": file, "text": text}, [], told(lambda: hex_check_answer(file, text)))
-
-
-ANALYSING = {"show": 25, "profile": 35, "relink": 25, "compare": 8, "check": 5, "run": 10}
 KINDS: dict[str, Callable[[Random, Seeds], Case]] = {
     "elf": elf_case,
     "program": program_case,
     "board": board_case,
     "cert": cert_case,
-    "hex": hex_text_case,
+    "hex": hex_case,
 }

@@ -329,7 +329,7 @@ def board(random: Random) -> bytes:
     for key in random.sample(list(VALUES), random.choice((1, 2, 3, 6))):
         values = VALUES[key]
         lines.append(f"{key} = {random.choice(values if random.random() < 0.5 else values[:3])}\n")
-    if random.random() < 0.7 and not any(line.startswith("steps") for line in lines):
+    if random.random() < 0.95 and not any(line.startswith("steps") for line in lines):
         lines.append("steps = 300\n")
     prices = [f"{key} = {random.choice(PRICE_VALUES[:3] if random.random() < 0.9 else PRICE_VALUES)}"
               for key in (*PRICES, *random.choice(((), (), ("colour", "b"), ("spm",)))) if random.random() < 0.97]

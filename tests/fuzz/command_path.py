@@ -1,0 +1,130 @@
+"""The second path of commands: what each answers on the bytes of its files, given in the order of its words."""
+
+from collections.abc import Callable
+
+import board_path
+import cert_path
+import elf_path
+import hex_path
+import objects_path
+from answers import MOST_STEPS, Among, Answer, Relinked, Told
+from board_path import Board
+from elf_path import File
+from fault import Endless, Fault, Untold
+from machine_path import Machine
+from regions_path import Regions
+from source_path import Source
+
+LONGEST_RUN = 3_000_000  # steps of a result that the program is to take in one call
+STATUSES = {0, 4, 5, 6, 7, 8, 10, 11, 12, 14}
+
+
+def told(path: Callable[..., Answer], *contents: bytes) -> Answer | None:
+    """The answer of a command, or the fault that comes in its place. None where the call would take long."""
+    try:
+        return path(*contents)
+    except Fault as fault:
+        return Told(fault.status, fault.line(), {})
+    except Untold:
+        return Among(STATUSES)
+    except Endless:
+        return None
+
+
+def analysed(file: bytes, board: Board) -> File:
+    """The tables of a file without a fault for a board."""
+    tables = elf_path.read(file)
+    elf_path.check_analysis(tables, board)
+    return tables
+
+
+def measured(file: bytes, board: Board, given: bytes) -> tuple[Source, str]:
+    """The measured run of a program, and its outcome."""
+    source = Source(analysed(file, board), board, given)
+    return source, source.run(board.steps)
+
+
+def run(file: bytes, text: bytes, given: bytes) -> Answer:
+    board = board_path.read(text)
+    machine = Machine(elf_path.read(file), board, given)
+    outcome = machine.run(min(board.steps, MOST_STEPS))
+    if outcome == "running" and board.steps > MOST_STEPS:
+        raise Endless
+    return Told(0, f"{outcome}\n".encode(), {"out": bytes(machine.written)})
+
+
+def show(file: bytes, text: bytes) -> Answer:
+    board = board_path.read(text)
+    tables = analysed(file, board)
+    found = objects_path.find(tables, board)
+    lines = [b"object 0x%08x %d %s\n" % (one.home, one.size, one.symbols[0].name) for one in found.objects]
+    return Told(0, b"".join(lines + Regions(tables, board, found).lines()), {})
+
+
+def profile(file: bytes, text: bytes, given: bytes) -> Answer:
+    source, outcome = measured(file, board_path.read(text), given)
+    lines = [b"steps %d\n" % source.steps, f"{outcome}\n".encode()]
+    lines += [b"block 0x%08x %d\n" % (at, count) for at, count in sorted(source.began.items()) if count]
+    lines += [b"object %d %d %s\n" % (reads, writes, one.symbols[0].name)
+              for one, reads, writes in zip(source.objects, source.reads, source.writes)]
+    return Told(0, b"".join(lines), {})
+
+
+def relink(file: bytes, text: bytes, given: bytes) -> Answer:
+    board = board_path.read(text)
+    source, outcome = measured(file, board, given)
+    return Relinked(file, board, given, bytes(source.written), outcome, source.steps, source.energy())
+
+
+def check(file: bytes, text: bytes, given: bytes, certificate: bytes) -> Answer:
+    """The verdict is told of a certificate that takes nothing and claims nothing."""
+    board = board_path.read(text)
+    source, _ = measured(file, board, given)
+    claim = cert_path.read(certificate)
+    if claim.side or claim.taken or claim.trees:
+        return Among({0, 10})
+    energy = source.energy()
+    return Told(0, b"best found %d\nbefore %d\nafter %d\n" % (board.nodes, energy, energy), {})
+
+
+def compare(file: bytes, result: bytes, text: bytes, given: bytes) -> Answer:
+    board = board_path.read(text)
+    tables, machine = analysed(file, board), Machine(elf_path.read(result), board, given)
+    source = Source(tables, board, given)
+    try:
+        outcome = source.run(board.steps)
+    except Fault as fault:
+        raise Fault(12, *fault.args[1:]) from fault
+    limit = (source.steps + 1) * (12 * len(board.spm) + 256)
+    ended = machine.run(min(limit, MOST_STEPS), len(source.written) if outcome == "running" else None)
+    is_enough = outcome == "running" and len(machine.written) >= len(source.written)
+    if ended == "running" and limit > MOST_STEPS and not is_enough:
+        if limit > LONGEST_RUN:
+            raise Endless
+        return Among({0, 11})
+    return compared(bytes(source.written), outcome, bytes(machine.written), ended)
+
+
+def compared(written: bytes, outcome: str, other: bytes, ended: str) -> Answer:
+    """What `compare` prints of a program and a result by what they wrote and how they ended."""
+    if outcome == "running":
+        other = other[:len(written)]
+    if written == other and outcome in ("running", ended):
+        return Told(0, f"same\n{outcome}\n".encode(), {})
+    shorter = min(len(written), len(other))
+    raise Fault(11, "differs", next((at for at in range(shorter) if written[at] != other[at]), shorter))
+
+
+def hex(file: bytes) -> Answer:
+    text = hex_path.write(elf_path.read(file))
+    return Told(0, b"records %d\n" % text.count(b"\n"), {"out": text})
+
+
+def hexcheck(file: bytes, text: bytes) -> Answer:
+    hex_path.check(elf_path.read(file), text)
+    return Told(0, b"same\n", {})
+
+
+PATHS: dict[str, Callable[..., Answer]] = {
+    "run": run, "show": show, "profile": profile, "relink": relink, "check": check, "compare": compare, "hex": hex,
+    "hexcheck": hexcheck}
