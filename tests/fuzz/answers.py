@@ -59,16 +59,23 @@ class Among:
 
 
 @dataclass
-class Relinked:
-    """A report whose choice is free, and a file that does what the program did."""
+class Run:
+    """What a program does on an input: what it writes, how it ends, and in how many steps."""
 
-    file: bytes
-    board: Board
     given: bytes
     written: bytes
     outcome: str
     steps: int
+
+
+@dataclass
+class Relinked:
+    """A report whose choice is free, and a file that does what the program did on each input."""
+
+    file: bytes
+    board: Board
     before: int
+    runs: list[Run]
     is_compared = True
 
     def judge(self, came: Came) -> None:
@@ -76,24 +83,25 @@ class Relinked:
                               came.printed, re.DOTALL)
         if came.status or not report:
             raise Failure(f"answers {came.status} {came.printed!r}, and is to print a report with before {self.before}")
-        if not report[3] and (came.after.get("out") != self.file or int(report[2]) != self.before):
-            raise Failure("moved nothing, and changed the file or its energy")
         if report[3]:
-            self.judge_result(came.after.get("out", b""))
+            for run in self.runs:
+                self.judge_result(came.after.get("out", b""), run)
+        elif came.after.get("out") != self.file or int(report[2]) != self.before:
+            raise Failure("moved nothing, and changed the file or its energy")
 
-    def judge_result(self, result: bytes) -> None:
+    def judge_result(self, result: bytes, run: Run) -> None:
         try:
-            machine = Machine(elf_path.read(result), self.board, self.given)
-            outcome = machine.run(2 * self.steps + MOST_STEPS)
+            machine = Machine(elf_path.read(result), self.board, run.given)
+            outcome = machine.run(2 * run.steps + MOST_STEPS)
         except Fault as fault:
             raise Failure(f"made a file that has a fault: {fault.text!r}") from fault
         except Endless:
             return
-        shorter = min(len(machine.written), len(self.written))
-        if machine.written[:shorter] != self.written[:shorter]:
-            raise Failure(f"made a file that writes {bytes(machine.written)!r:.200}, and not {self.written!r:.200}")
-        if "running" not in (outcome, self.outcome) and (outcome, machine.written) != (self.outcome, self.written):
-            raise Failure(f"made a file whose outcome is {outcome}, and not {self.outcome}")
+        shorter = min(len(machine.written), len(run.written))
+        if machine.written[:shorter] != run.written[:shorter]:
+            raise Failure(f"made a file that writes {bytes(machine.written)!r:.200}, and not {run.written!r:.200}")
+        if "running" not in (outcome, run.outcome) and (outcome, machine.written) != (run.outcome, run.written):
+            raise Failure(f"made a file whose outcome is {outcome}, and not {run.outcome}")
 
 
 Answer = Told | Among | Relinked
