@@ -214,6 +214,20 @@ def change_flags(random: Random, file: bytearray) -> None:
         put(file, at + 8, 4, word(file, at + 8) ^ random.choice((1, 2, 4)))
 
 
+def split_section(random: Random, file: bytearray) -> None:
+    """Makes two sections of one, of which a part may be empty; another section's header is lost."""
+    sections = whole(file, word(file, 32), SECTION, half(file, 48)) if len(file) >= HEADER else []
+    if len(sections) < 2:
+        return
+    (first, _), (second, _) = random.sample(sections, 2)
+    size = word(file, first + 20)
+    part = random.choice((0, size, 4 * random.randint(0, size // 4), random.randint(0, size)))
+    file[second:second + SECTION] = file[first:first + SECTION]
+    put(file, first + 20, 4, part)
+    for column, value in ((12, part), (16, part), (20, -part)):
+        put(file, second + column, 4, word(file, second + column) + value)
+
+
 def change_part(random: Random, file: bytearray) -> None:
     """Another register, function or immediate in an instruction, which is most often the one of a relocation."""
     places = [(word(file, at + 4), word(file, at + 8), word(file, at + 16))
@@ -229,7 +243,8 @@ def change_part(random: Random, file: bytearray) -> None:
             put(file, at, 4, kept | random.randrange(1 << bits) << low)
 
 
-GENTLE = (change_word, change_part, change_part, change_symbol, change_relocation, change_relocation, change_flags)
+GENTLE = (change_word, change_part, change_part, change_symbol, change_relocation, change_relocation, change_flags,
+          split_section)
 
 
 def program(random: Random, seeds: list[bytes]) -> bytes:

@@ -8,7 +8,7 @@ from dataclasses import dataclass, field
 import instructions as code
 from board_path import Board
 from elf_path import (EXECUTE, FUNCTION, HEADER, NOBITS, OBJECT, PROGBITS, SYMTAB, File, Relocation, Section, Symbol,
-                      code_ranges, is_loaded, meet, within)
+                      code_ranges, first_word, is_loaded, meet, within)
 from fault import WORD
 from machine_path import load_image
 
@@ -51,9 +51,14 @@ class Objects:
     sites: dict[int, Site]
     data_words: dict[int, Site]
     words: dict[int, int] = field(default_factory=dict)
+    firsts: set[int] = field(default_factory=set)  # the first word of each section of code
     pairs: dict[int, int] = field(default_factory=dict)  # the targets of call pairs
     leaders: set[int] = field(default_factory=set)
     indirect: set[int] = field(default_factory=set)
+
+    def goes_on(self, at: int) -> bool:
+        """Whether a section of code has a word there that is not its first, so that a block may go on."""
+        return at in self.words and at not in self.firsts
 
 
 def upper_part(address: int) -> int:
@@ -232,6 +237,7 @@ def find(file: File, board: Board) -> Objects:
     finder = Finder(file, board)
     found = finder.find()
     found.words = finder.words
+    found.firsts = {first_word(stretch) for stretch in code_ranges(file)}
     find_leaders(finder, found)
     return found
 

@@ -21,7 +21,7 @@ READING_TWO = (code.BRANCH, code.STORE, code.REGISTER)
 
 @dataclass
 class Block:
-    """Units from a leader on, by their addresses, and where control goes behind them."""
+    """Units of one section from a leader on, by their addresses, and where control goes behind them."""
 
     units: list[int]
     targets: list[int]  # what the last unit names, a leader or not
@@ -64,7 +64,7 @@ def block_at(found: Objects, start: int) -> Block:
             end(block, at, word)
             return block
         at += 4
-        if at in found.leaders or at not in found.words:
+        if at in found.leaders or not found.goes_on(at):
             block.targets = [at]
             return block
 

@@ -111,7 +111,7 @@ class Source:
         if not code.has_meaning(word):
             raise Trap
         effect = self.call_pair(word) if is_pair else FAMILIES[code.opcode(word)](self, word)
-        is_within_block = self.next == at + 4 and code.opcode(word) not in ENDING and self.next in self.found.words
+        is_within_block = self.next == at + 4 and code.opcode(word) not in ENDING and self.found.goes_on(self.next)
         if self.next not in self.found.leaders and not is_within_block:
             raise AddressFault(NO_LEADER)
         if effect:
