@@ -14,7 +14,7 @@ import mutate
 from answers import Answer, Told
 from cert_path import BOUND, BRANCH, DEEPEST, LEAF, MARK, OVER, Programme, Side
 from command_path import PATHS, told
-from fault import Fault
+from fault import Fault, Untold
 
 HERE = os.path.dirname(os.path.abspath(__file__))
 ROOT = os.path.normpath(f"{HERE}/../..")
@@ -42,7 +42,7 @@ def is_accepted(file: bytes) -> bool:
     """Whether a file has no fault on the board without keys."""
     try:
         elf_path.check_analysis(elf_path.read(file), board_path.read(b""))
-    except Fault:
+    except (Fault, Untold):
         return False
     return True
 
@@ -59,10 +59,12 @@ class Seeds:
         self.in_turn = [contents(f"crates/case_runner/data/{name}")[0] for name in IN_TURN]
 
 
+DATA_PRICES = "price = { main_fetch = 10, main_read = 10, main_write = 10, spm_fetch = 10, spm_read = 2, spm_write = 2 }\n"
+CODE_PRICES = "price = { main_fetch = 40, main_read = 1, main_write = 1, spm_fetch = 1, spm_read = 1, spm_write = 1 }\n"
+HIGH_PRICES = "price = { main_fetch = 3, main_read = 50, main_write = 60, spm_fetch = 1, spm_read = 2, spm_write = 3 }\n"
 BOARDS = [
     "",
-    "spm = [0x01000000, 256]\n" "price = { main_fetch = 10, main_read = 10, main_write = 10, spm_fetch = 10, "
-    "spm_read = 2, spm_write = 2 }\n",
+    "spm = [0x01000000, 256]\n" + DATA_PRICES,
     'grain = 64\nspm = [0x20000040, 64]\nfix = ["a", ".data"]\nbss = "movable"\nsteps = 1000\nnodes = 1\n',
     'regions = [["f"], ["g", "main"], []]\ntwins = true\ndriver = "start"\nfence_i = true\n',
     "areas = [[0x20000, 1], [0, 4], [0xFFFFFFF0, 15]]\nmain = [0, 0xFFFFFFFF]\npatch = [64, 1048576]\n",
@@ -92,10 +94,6 @@ LAYOUTS = [
     "fence_i = true\npatch = [0x00090000, 64]\n",
 ]
 
-DATA_PRICES = ("price = { main_fetch = 10, main_read = 10, main_write = 10, spm_fetch = 10, spm_read = 2, "
-               "spm_write = 2 }\n")
-CODE_PRICES = "price = { main_fetch = 40, main_read = 1, main_write = 1, spm_fetch = 1, spm_read = 1, spm_write = 1 }\n"
-HIGH_PRICES = "price = { main_fetch = 3, main_read = 50, main_write = 60, spm_fetch = 1, spm_read = 2, spm_write = 3 }\n"
 # The parts of boards on which objects and code of a program may move.
 MOVING = [
     ["", "spm = [0x01000000, 64]\n", "spm = [0x01000000, 192]\n", "grain = 32\nspm = [0x80000800, 256]\n",
