@@ -27,7 +27,7 @@ header_alike file ps ms none is i below =
     let here = free_byte (view_in file) ps None ms i (omega (arith, inside, below)) (header_contents_free file ps None ms i none is below) in
     ap (slice_index (written (view_in file) ps None ms)) same ∙ (here ∙ ap (slice_index file) (sym same))
 
-header_byte : (file : List ℕ) (ps : List Patch) (s : NewSegment) (ms : List SymbolMove) (q : ℕ) → first_fault file ≡ None → IsWritable (view_in file) ps (Some s) ms → q < 52 → slice_index (written (view_in file) ps (Some s) ms) q ≡ byte_changed (header_changes (view_in file) s) q (slice_index file q)
+pub header_byte : (file : List ℕ) (ps : List Patch) (s : NewSegment) (ms : List SymbolMove) (q : ℕ) → first_fault file ≡ None → IsWritable (view_in file) ps (Some s) ms → q < 52 → slice_index (written (view_in file) ps (Some s) ms) q ≡ byte_changed (header_changes (view_in file) s) q (slice_index file q)
 header_byte file ps s ms q none is below =
     let v = view_in file in
     let inside = header_inside file none in

@@ -17,3 +17,9 @@ pub mod RelocationsRead
 pub mod TableRead
 pub mod SegmentsRead
 pub mod ViewRead
+pub mod HeaderFaults
+pub mod ProgramFaults
+pub mod SectionFaults
+pub mod SymbolFaults
+pub mod RelocationFaults
+pub mod WrittenFaults

@@ -1,7 +1,6 @@
 -- The relocations of a written file, read back.
-use Rattle.std.proofs.Common.{◌≡◌, ◌∙◌, inl, inr, ℕ, zero, suc, ◌+◌, ◌*◌, ◌/◌, ◌<◌, ◌≤◌, nat_lt, Bool, true, false, not, ◌&&◌, List, [], ◌∷◌, ◌++◌, Option, None, refl, ap, arith, if◌then◌else◌}
-use Rattle.std.proofs.lemmas.Bool.{eqb-true, cases_lt}
-use Rattle.std.proofs.lemmas.Bool.Decides.{nat_tests}
+use Rattle.std.proofs.Common.{◌≡◌, ◌∙◌, ℕ, zero, suc, ◌+◌, ◌*◌, ◌/◌, ◌<◌, ◌≤◌, Bool, true, false, not, ◌&&◌, List, [], ◌∷◌, ◌++◌, Option, None, refl, ap, arith, if◌then◌else◌}
+use Rattle.std.proofs.lemmas.Bool.{eqb-true}
 use Rattle.list_checks.proofs.TestLemmas.{both}
 use Rattle.elf_reader.specs.Layout.{section_count, section_header, relocation_record_in, relocation_record}
 use Rattle.elf_reader.specs.Sections.{is_allocated, is_rela, is_relocation_section, names_section, is_read, relocation_count_at, symbol_of_info, kind_of_info}
@@ -14,31 +13,17 @@ use Rattle.elf_writer.specs.Written.{written}
 use Rattle.elf_writer.specs.Conditions.{IsWritable}
 use Rattle.elf_writer.proofs.AlikeLemmas.{part_alike, relocation_alike}
 use Rattle.elf_writer.proofs.HeaderRead.{keeps_header}
-use Rattle.elf_writer.proofs.SectionsRead.{section_header_is, kept_content}
+use Rattle.elf_writer.proofs.SectionsRead.{section_header_is, named_stays, kept_content}
 
-count_is : (file : List ℕ) (ps : List Patch) (new : Option NewSegment) (ms : List SymbolMove) → first_fault file ≡ None → IsWritable (view_in file) ps new ms → section_count (written (view_in file) ps new ms) ≡ section_count file
+pub count_is : (file : List ℕ) (ps : List Patch) (new : Option NewSegment) (ms : List SymbolMove) → first_fault file ≡ None → IsWritable (view_in file) ps new ms → section_count (written (view_in file) ps new ms) ≡ section_count file
 count_is file ps new ms none is = (keeps_header file ps new ms none is).sections
 
--- a number names an allocated section as before
-named_is : (file : List ℕ) (ps : List Patch) (new : Option NewSegment) (ms : List SymbolMove) (k : ℕ) → first_fault file ≡ None → IsWritable (view_in file) ps new ms → names_section (written (view_in file) ps new ms) is_allocated k ≡ names_section file is_allocated k
-named_is file ps new ms k none is =
-    let out = written (view_in file) ps new ms in
-    let count = count_is file ps new ms none is in
-    elim (cases_lt k (section_count file)) [
-      | inl below ↦
-          let same = section_header_is file ps new ms k none is below in
-          λ i. nat_lt k (count i) && is_allocated (same i)
-      | inr behind ↦
-          let over : nat_lt k (section_count file) ≡ false = grind (arith, nat_tests, behind) in
-          (λ i. nat_lt k (count i) && is_allocated (section_header out k)) ∙ rw over refl
-    ]
-
-read_is : (file : List ℕ) (ps : List Patch) (new : Option NewSegment) (ms : List SymbolMove) (k : ℕ) → first_fault file ≡ None → IsWritable (view_in file) ps new ms → k < section_count file → relocation_count_at (written (view_in file) ps new ms) k ≡ relocation_count_at file k
+pub read_is : (file : List ℕ) (ps : List Patch) (new : Option NewSegment) (ms : List SymbolMove) (k : ℕ) → first_fault file ≡ None → IsWritable (view_in file) ps new ms → k < section_count file → relocation_count_at (written (view_in file) ps new ms) k ≡ relocation_count_at file k
 read_is file ps new ms k none is below =
     let out = written (view_in file) ps new ms in
     let same = section_header_is file ps new ms k none is below in
     let named : names_section out is_allocated (section_header out k).sh_info ≡ names_section file is_allocated (section_header file k).sh_info =
-    (λ i. names_section out is_allocated (same i).sh_info) ∙ named_is file ps new ms (section_header file k).sh_info none is
+    (λ i. names_section out is_allocated (same i).sh_info) ∙ named_stays file ps new ms is_allocated (section_header file k).sh_info none is
     in
     λ i. if is_relocation_section (same i) && named i then (same i).sh_size / 12 else 0
 
@@ -47,8 +32,8 @@ counts : (test : Bool) (n i : ℕ) → i < (if test then n else 0) → (test ≡
 counts true n i below = (refl, below)
 counts false n i below = absurd (omega (arith, below))
 
-relocation_read : (file : List ℕ) (ps : List Patch) (new : Option NewSegment) (ms : List SymbolMove) (k i : ℕ) → first_fault file ≡ None → IsWritable (view_in file) ps new ms → k < section_count file → i < relocation_count_at file k → relocation_of (written (view_in file) ps new ms) k i ≡ relocation_of file k i
-relocation_read file ps new ms k i none is below entry =
+pub record_stays : (file : List ℕ) (ps : List Patch) (new : Option NewSegment) (ms : List SymbolMove) (k i : ℕ) → first_fault file ≡ None → IsWritable (view_in file) ps new ms → k < section_count file → i < relocation_count_at file k → relocation_record (written (view_in file) ps new ms) k i ≡ relocation_record file k i
+record_stays file ps new ms k i none is below entry =
     let out = written (view_in file) ps new ms in
     let s = section_header file k in
     let at = s.sh_offset + 12 * i in
@@ -59,9 +44,12 @@ relocation_read file ps new ms k i none is below entry =
     let whole = kept_content file ps new ms k 4 none is below kind refl (λ e. omega (arith, e)) (λ e. omega (arith, e)) in
     let inside : i < s.sh_size / 12 = read.1 in
     let here = part_alike out file s.sh_offset s.sh_offset s.sh_size (12 * i) 12 whole (omega (arith, inside)) in
-    let there : relocation_record out k i ≡ relocation_record file k i =
     (λ j. relocation_record_in out ((same j).sh_offset + 12 * i)) ∙ relocation_alike out at file at here
-    in
+
+relocation_read : (file : List ℕ) (ps : List Patch) (new : Option NewSegment) (ms : List SymbolMove) (k i : ℕ) → first_fault file ≡ None → IsWritable (view_in file) ps new ms → k < section_count file → i < relocation_count_at file k → relocation_of (written (view_in file) ps new ms) k i ≡ relocation_of file k i
+relocation_read file ps new ms k i none is below entry =
+    let same = section_header_is file ps new ms k none is below in
+    let there = record_stays file ps new ms k i none is below entry in
     λ j.
     record {
       at = (there j).r_offset;

@@ -1,6 +1,7 @@
 -- The sections of a written file, read back.
-use Rattle.std.proofs.Common.{◌≡◌, ◌∙◌, inl, inr, ℕ, zero, suc, ◌+◌, ◌-◌, ◌*◌, ◌<◌, ◌≤◌, nat_lt, true, IsTrue, List, [], ◌∷◌, ◌++◌, map, length, Option, None, refl, sym, ap, arith}
-use Rattle.std.proofs.lemmas.Bool.{eqb-true, ltb-true, cases_Bool}
+use Rattle.std.proofs.Common.{◌≡◌, ◌∙◌, inl, inr, ℕ, zero, suc, ◌+◌, ◌-◌, ◌*◌, ◌<◌, ◌≤◌, nat_lt, Bool, true, false, ◌&&◌, IsTrue, List, [], ◌∷◌, ◌++◌, map, length, Option, None, refl, sym, ap, arith}
+use Rattle.std.proofs.lemmas.Bool.{eqb-true, ltb-true, cases_Bool, cases_lt}
+use Rattle.std.proofs.lemmas.Bool.Decides.{nat_tests}
 use Rattle.std.proofs.lemmas.List.{map-append}
 use Rattle.list_checks.proofs.TestLemmas.{both}
 use Rattle.elf_reader.specs.Layout.{file_header, section_count, section_header_in, section_header}
@@ -36,6 +37,20 @@ section_header_is file ps new ms k none is below =
     ap (λ n. section_header_in out (n + 40 * k)) (keeps_header file ps new ms none is).sections_at
     ∙ section_header_alike out (start + 40 * k) file (start + 40 * k) here
 
+-- a number names a section for which a test holds as before
+pub named_stays : (file : List ℕ) (ps : List Patch) (new : Option NewSegment) (ms : List SymbolMove) (test : _ → Bool) (k : ℕ) → first_fault file ≡ None → IsWritable (view_in file) ps new ms → names_section (written (view_in file) ps new ms) test k ≡ names_section file test k
+named_stays file ps new ms test k none is =
+    let out = written (view_in file) ps new ms in
+    let count = (keeps_header file ps new ms none is).sections in
+    elim (cases_lt k (section_count file)) [
+      | inl below ↦
+          let same = section_header_is file ps new ms k none is below in
+          λ i. nat_lt k (count i) && test (same i)
+      | inr behind ↦
+          let over : nat_lt k (section_count file) ≡ false = grind (arith, nat_tests, behind) in
+          (λ i. nat_lt k (count i) && test (section_header out k)) ∙ rw over refl
+    ]
+
 -- contents have the changes of their places, and those of string tables stay
 content_written : (file : List ℕ) (ps : List Patch) (new : Option NewSegment) (ms : List SymbolMove) (k : ℕ) → first_fault file ≡ None → k < section_count file → content_of (written (view_in file) ps new ms) (section_header file k) ≡ changed (all_changes (view_in file) ps new ms) (section_header file k).sh_offset (section_content file k)
 content_written file ps new ms k none below =
@@ -67,7 +82,7 @@ strings_stay file ps new ms k none is named =
     let content : content_of out s ≡ content_of file s = rw stands range in
     ap (content_of out) (section_header_is file ps new ms k none is below) ∙ content
 
-names_stay : (file : List ℕ) (ps : List Patch) (new : Option NewSegment) (ms : List SymbolMove) (k : ℕ) → first_fault file ≡ None → IsWritable (view_in file) ps new ms → k < section_count file → section_names (written (view_in file) ps new ms) ≡ section_names file
+pub names_stay : (file : List ℕ) (ps : List Patch) (new : Option NewSegment) (ms : List SymbolMove) (k : ℕ) → first_fault file ≡ None → IsWritable (view_in file) ps new ms → k < section_count file → section_names (written (view_in file) ps new ms) ≡ section_names file
 names_stay file ps new ms k none is below =
     let out = written (view_in file) ps new ms in
     let named = names_table_held file (none_of_sections file none) (omega (arith, below)) in

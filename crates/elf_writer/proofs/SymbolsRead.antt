@@ -260,21 +260,32 @@ record_moved out file symbols ms start i at bytes stand fit is_at =
 
 -- ---- all symbols
 
-pub symbol_read : (file : List ℕ) (ps : List Patch) (new : Option NewSegment) (ms : List SymbolMove) (t i : ℕ) → first_fault file ≡ None → IsWritable (view_in file) ps new ms → All HasWordValue ms → symbol_table file ≡ Some t → IsReadable file t → i < symbol_count_of (section_header file t) → symbol_of (written (view_in file) ps new ms) t i ≡ moved_symbol ms i (symbol_of file t i)
-symbol_read file ps new ms t i none is fit found readable below =
+-- the record of symbol `i` of table `t`, and the names of its symbols
+pub record_there : (file : List ℕ) (ps : List Patch) (new : Option NewSegment) (ms : List SymbolMove) (t i : ℕ) → first_fault file ≡ None → IsWritable (view_in file) ps new ms → All HasWordValue ms → symbol_table file ≡ Some t → i < symbol_count_of (section_header file t) → IsMoved (written (view_in file) ps new ms) file ms ((section_header file t).sh_offset + 16 * i) i
+record_there file ps new ms t i none is fit found below =
     let out = written (view_in file) ps new ms in
     let s = section_header file t in
     let at = s.sh_offset + 16 * i in
     let own = own_table file t none found in
-    let same = section_header_is file ps new ms t none is readable.below in
-    let names : symbol_names out t ≡ symbol_names file t =
-    (λ k. section_content out (same k).sh_link) ∙ strings_stay file ps new ms s.sh_link none is readable.strings
-    in
     let inside : at + 16 ≤ s.sh_offset + s.sh_size = omega (arith, below) in
     let bytes : BytesMoved out file (view_in file).symbols ms at =
     λ r low. table_byte file ps new ms t (at + r) none is own (omega arith) (omega (arith, low, inside))
     in
-    let moved = record_moved out file (view_in file).symbols ms s.sh_offset i at bytes (moves_stand file ms t found is.symbols) fit refl in
+    record_moved out file (view_in file).symbols ms s.sh_offset i at bytes (moves_stand file ms t found is.symbols) fit refl
+
+pub names_same : (file : List ℕ) (ps : List Patch) (new : Option NewSegment) (ms : List SymbolMove) (t : ℕ) → first_fault file ≡ None → IsWritable (view_in file) ps new ms → IsReadable file t → symbol_names (written (view_in file) ps new ms) t ≡ symbol_names file t
+names_same file ps new ms t none is readable =
+    let out = written (view_in file) ps new ms in
+    let same = section_header_is file ps new ms t none is readable.below in
+    (λ k. section_content out (same k).sh_link) ∙ strings_stay file ps new ms (section_header file t).sh_link none is readable.strings
+
+pub symbol_read : (file : List ℕ) (ps : List Patch) (new : Option NewSegment) (ms : List SymbolMove) (t i : ℕ) → first_fault file ≡ None → IsWritable (view_in file) ps new ms → All HasWordValue ms → symbol_table file ≡ Some t → IsReadable file t → i < symbol_count_of (section_header file t) → symbol_of (written (view_in file) ps new ms) t i ≡ moved_symbol ms i (symbol_of file t i)
+symbol_read file ps new ms t i none is fit found readable below =
+    let out = written (view_in file) ps new ms in
+    let at = (section_header file t).sh_offset + 16 * i in
+    let same = section_header_is file ps new ms t none is readable.below in
+    let names = names_same file ps new ms t none is readable in
+    let moved = record_there file ps new ms t i none is fit found below in
     let there : symbol_record out t i ≡ symbol_record_in out at = λ k. symbol_record_in out ((same k).sh_offset + 16 * i) in
     (λ k.
     record {

@@ -1,7 +1,12 @@
 -- What the bytes of a file that is written are, place by place, and what a reader finds in them.
-use Rattle.std.specs.Prelude.{◌≡◌, ◌⊎◌, ℕ, ◌+◌, ◌<◌, ◌≤◌, List, length, slice_index, slice_range, Option, None, All}
+use Rattle.std.specs.Prelude.{◌≡◌, ◌⊎◌, ℕ, ◌+◌, ◌<◌, ◌≤◌, nat_le, List, length, slice_index, slice_range, Option, None, All}
+use Rattle.list_checks.specs.First.{◌or_else◌, unless}
 use Rattle.elf_reader.specs.File.{IsFile, PlainView, plain_view, view_in}
 use Rattle.elf_reader.specs.Faults.{first_fault}
+use Rattle.elf_reader.specs.HeaderChecks.{capped}
+use Rattle.elf_reader.specs.ProgramHeaderChecks.{memory_fault}
+use Rattle.elf_reader.specs.declared.fault.ElfFault.{ElfFault}
+use Rattle.elf_reader.specs.declared.fault.ElfFault.TheVariants.{OverLimit}
 use Rattle.elf_reader.specs.declared.view.ElfView.{ElfView}
 use Rattle.elf_writer.specs.declared.parts.Patch.{Patch}
 use Rattle.elf_writer.specs.declared.parts.SymbolMove.{SymbolMove}
@@ -46,3 +51,15 @@ WrittenIsFile =
     → HasWords new ms
     → plain_view view ≡ written_view (view_in file) ps new ms
     → IsFile (written (view_in file) ps new ms) view
+
+-- a file has at most 64 MiB
+abbrev pub length_fault : List ℕ → Option ElfFault
+length_fault file = unless (nat_le (length file) 67108864) (OverLimit 1 (capped (length file)))
+
+-- what is written of a file without a fault has none either, but that it may be too long, or its segments may take too
+-- much memory
+abbrev pub WrittenFaults : Type 0
+WrittenFaults =
+    (file : List ℕ) (ps : List Patch) (new : Option NewSegment) (ms : List SymbolMove) → first_fault file ≡ None → IsWritable (view_in file) ps new ms
+    → HasWords new ms
+    → first_fault (written (view_in file) ps new ms) ≡ length_fault (written (view_in file) ps new ms) or_else memory_fault (written (view_in file) ps new ms)

@@ -1,5 +1,5 @@
 ghost use Rattle.elf_writer.specs.Images.{NewBytesLoaded, ChangedBytesLoaded, ZerosLoaded, OthersUntouched, UntouchedStay, PatchesLoaded, WordsLoaded, OthersLoaded};
-ghost use Rattle.elf_writer.specs.Laws.{BytesWritten, RangesWritten, OthersStay, WrittenReadsBack, WrittenIsFile};
+ghost use Rattle.elf_writer.specs.Laws.{BytesWritten, RangesWritten, OthersStay, WrittenReadsBack, WrittenIsFile, WrittenFaults};
 
 /// A byte of the input stays in the file that is written, but for the changes of its place.
 pub fn bytes_written()
@@ -25,6 +25,12 @@ pub fn written_reads_back()
 /// Each view that says this is one of the file that is written.
 pub fn written_is_file()
     ensures { WrittenIsFile }
+{}
+
+/// The file that is written of one without a fault has none, but that it may be longer than 64 MiB, or its segments may
+/// take more than 16 MiB of memory.
+pub fn written_faults()
+    ensures { WrittenFaults }
 {}
 
 /// The new segment's bytes stand in memory at its addresses.

@@ -65,3 +65,11 @@ any_found test (suc n) found =
 
 pub all_at : (test : ℕ → Bool) (n k : ℕ) → k < n → all_below test n ≡ true → test k ≡ true
 all_at test n k below all = not_not _ (none_at (λ j. not (test j)) n k below (not_true _ all))
+
+-- two tests that answer alike at each place
+pub any_same : (test other : ℕ → Bool) (n : ℕ) → ((k : ℕ) → k < n → test k ≡ other k) → any_below test n ≡ any_below other n
+any_same test other zero same = refl
+any_same test other (suc n) same =
+    let earlier = any_same test other n (λ k below. same k (omega (arith, below))) in
+    let here = same n (omega arith) in
+    λ i. earlier i || here i
