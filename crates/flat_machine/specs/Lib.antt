@@ -16,3 +16,4 @@ pub mod Sizes
 pub mod Machine
 pub mod Known
 pub mod Reach
+pub mod Stops

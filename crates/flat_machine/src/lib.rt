@@ -11,6 +11,7 @@ mod loading;
 mod machine;
 mod mapping;
 mod reach;
+mod stop;
 
 pub use events::{FlatAccess, FlatEvent, FlatOutcome};
 pub use laws::{
