@@ -1,5 +1,5 @@
 -- The weights of a side by rows, as variables are entered.
-use Rattle.std.proofs.Common.{◌≡◌, ◌≢◌, ◌⊎◌, ◌∙◌, inl, inr, ℕ, zero, suc, ◌+◌, ◌^◌, ◌<◌, ◌≤◌, ◌==◌, if◌then◌else◌, List, [], ◌∷◌, ◌++◌, length, take, get_or, slice_set, slice_index_or, Vec, refl, sym, ap, subst, arith}
+use Rattle.std.proofs.Common.{◌≡◌, ◌≢◌, ◌⊎◌, ◌∙◌, inl, inr, ℕ, zero, suc, ◌^◌, ◌<◌, ◌≤◌, List, [], ◌∷◌, ◌++◌, length, take, get_or, slice_set, slice_index_or, Vec, refl, sym, ap, subst, arith}
 use Rattle.std.specs.Global.{Global}
 use Rattle.std.specs.List.{All}
 use Rattle.std.proofs.lemmas.Bool.{cases_eq, cases_lt}
@@ -12,7 +12,6 @@ use Rattle.placement_programme.specs.Programme.{weight_in, weights_at, weight_at
 use Rattle.placement_programme.proofs.RowLemmas.{rows_higher}
 use Rattle.placement_programme.proofs.WeightLemmas.{weight_small}
 use Rattle.certificate_checker.specs.RowWise.{row_items, plain_rows, row_at, IsRowOf, AreRowsOf, entry_for, entries_for, Enters}
-use Rattle.certificate_checker.proofs.Pricing.{weight_before}
 use Rattle.certificate_checker.proofs.LoadLemmas.{rows_push, weight_other, weight_last}
 
 -- one more of a variable's weights

@@ -1,20 +1,15 @@
 -- A walk over the text of a tree.
-use Rattle.std.proofs.Common.{◌≡◌, ◌∙◌, ◌↔◌, IsTrue, ℕ, zero, suc, ◌-◌, ◌+◌, ◌*◌, ◌<◌, ◌≤◌, Bool, List, [], ◌∷◌, length, get_or, slice_index, slice_set, Result, Ok, Err, refl, sym, ap, subst, arith}
+use Rattle.std.proofs.Common.{◌≡◌, ◌∙◌, ◌↔◌, IsTrue, ℕ, zero, suc, ◌-◌, ◌+◌, ◌<◌, ◌≤◌, Bool, List, [], ◌∷◌, length, slice_index, slice_set, Result, Ok, Err, refl, sym, ap, subst, arith}
 use Rattle.std.specs.Result.{OnOk}
-use Rattle.std.proofs.lemmas.List.Sums.{sum_by-cons}
 use Rattle.placement_programme.specs.Plain.{PlainSide}
-use Rattle.placement_programme.specs.Bounds.{RowsWithin, IsWithinBounds, row_of, value_of}
-use Rattle.placement_programme.specs.Programme.{gain_at, weight_in, weights_at}
-use Rattle.placement_programme.proofs.TakeLemmas.{below_same}
 use Rattle.placement_programme.proofs.RowLemmas.{rows_higher}
 use Rattle.certificate_checker.specs.declared.fault.CertFault.{CertFault}
 use Rattle.certificate_checker.specs.declared.fields.Part.TheVariants.{Node}
 use Rattle.certificate_checker.specs.declared.walking.Failing.{Failing}
 use Rattle.certificate_checker.specs.Nodes.{PlainTree, branch, over, dual, leaf}
-use Rattle.certificate_checker.specs.Rules.{kept, moved, BranchHolds, KeepsRule, DualHolds}
+use Rattle.certificate_checker.specs.Rules.{kept, BranchHolds, KeepsRule, DualHolds}
 use Rattle.certificate_checker.specs.Shows.{in_32_bits}
-use Rattle.certificate_checker.specs.Parts.{kept_part, moved_part, SumsHold}
-use Rattle.certificate_checker.specs.Prices.{priced_by}
+use Rattle.certificate_checker.specs.Parts.{SumsHold}
 use Rattle.certificate_checker.specs.Digits.{number_at}
 use Rattle.certificate_checker.specs.declared.fields.Part.{Part}
 use Rattle.certificate_checker.specs.Reading.{number_in, entries_at, over_at, dual_at, tree_at, cut_off, below_all}

@@ -1,15 +1,15 @@
 -- The way to a node, while a tree is read from its text.
-use Rattle.std.proofs.Common.{◌≡◌, ◌∙◌, ◌≢◌, inl, inr, ℕ, zero, suc, ◌+◌, ◌-◌, ◌*◌, ◌^◌, ◌<◌, ◌≤◌, Bool, true, false, List, [], ◌∷◌, length, length-append, slice_set, Result, Ok, Err, refl, sym, ap, subst, get_or-set_other, get_or-set_same, arith}
+use Rattle.std.proofs.Common.{◌≡◌, ◌∙◌, ◌≢◌, inl, inr, ℕ, zero, suc, ◌+◌, ◌-◌, ◌^◌, ◌<◌, ◌≤◌, Bool, true, false, List, [], ◌∷◌, length, length-append, slice_set, Result, Ok, Err, refl, sym, ap, subst, get_or-set_other, get_or-set_same, arith}
 use Rattle.std.proofs.Common.{replicate}
 use Rattle.std.proofs.lemmas.List.{set-get_or}
 use Rattle.placement_programme.specs.Plain.{PlainSide}
 use Rattle.certificate_checker.specs.Nodes.{PlainTree, branch, over, dual, leaf, size}
 use Rattle.certificate_checker.specs.Rules.{BranchHolds, Holds, FirstWrong}
 use Rattle.certificate_checker.specs.Shows.{all_free, in_32_bits}
-use Rattle.certificate_checker.specs.Walks.{IsAt, FailsIn, Walks}
+use Rattle.certificate_checker.specs.Walks.{Walks}
 use Rattle.certificate_checker.specs.Reading.{◌>>=◌, number_in, tree_at}
 use Rattle.certificate_checker.specs.Loading.{behind_of, both_of}
-use Rattle.certificate_checker.specs.Ways.{Step, to_zero, to_one, marks_at, node_at, HeldBefore, Completes, resumed, written_step, step_to_one, step_in, HasWay, HoldsSoFar, SoFar, HoldsWith, Behind, TreeText, text_of, IsBefore, IsBehind, MayMark, marked, StandsAt, IfEnded, CanRise}
+use Rattle.certificate_checker.specs.Ways.{Step, to_zero, to_one, marks_at, node_at, HeldBefore, Completes, resumed, written_step, step_to_one, step_in, HasWay, SoFar, HoldsWith, Behind, TreeText, text_of, IsBefore, IsBehind, MayMark, marked, StandsAt, IfEnded, CanRise}
 use Rattle.certificate_checker.specs.declared.fault.CertFault.{CertFault}
 use Rattle.certificate_checker.specs.declared.fields.Part.TheVariants.{Node}
 use Rattle.certificate_checker.specs.declared.steps.PathStep.{PathStep}

@@ -45,13 +45,7 @@ fn scaled_gain(side: &Side, scale: u32, number: usize) -> u128
     u128::from(scale) * gain_of_var(side, number)
 }
 
-fn parts_at(
-    side: &Side,
-    marks: &[Fixing],
-    scale: u32,
-    prices: &Prices,
-    number: usize,
-) -> TwoParts
+fn parts_at(side: &Side, marks: &[Fixing], scale: u32, prices: &Prices, number: usize) -> TwoParts
     requires number { number < length (plain_side side.now).vars }
     requires marked { number < length marks.now }
     requires scale { scale ≤ 65536 }

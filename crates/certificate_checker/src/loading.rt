@@ -19,13 +19,7 @@ pub(crate) struct Loaded {
 }
 
 /// Adds one more row, times its multiplier.
-fn load_entry(
-    task: &Task,
-    prices: &mut [u128],
-    loaded: Loaded,
-    row: u32,
-    multiplier: u64,
-) -> Loaded
+fn load_entry(task: &Task, prices: &mut [u128], loaded: Loaded, row: u32, multiplier: u64) -> Loaded
     requires by_row { IsOfSide (plain_side task.now.side.now) (rows_of task.now.by_row.now) }
     requires room { length (plain_side task.now.side.now).vars ≤ length prices.old }
     requires bound { loaded.bound ≤ length (plain_side task.now.side.now).rows * 2 ^ 96 }

@@ -56,13 +56,7 @@ fn walk_over<'a>(
 }
 
 /// Whether a dual node keeps its rule, by the prices that its rows make.
-fn loaded_holds(
-    task: &Task,
-    marks: &[Fixing],
-    prices: &[u128],
-    scale: u32,
-    loaded: &Loaded,
-) -> bool
+fn loaded_holds(task: &Task, marks: &[Fixing], prices: &[u128], scale: u32, loaded: &Loaded) -> bool
     requires best { task.now.best ≤ 2 ^ 104 }
     requires marked { length (plain_side task.now.side.now).vars ≤ length marks.now }
     requires room { length (plain_side task.now.side.now).vars ≤ length prices.now }

@@ -118,7 +118,8 @@ impl LiveVars {
             if place < layout.columns.len() && node.is_live(*number) {
                 let column = &layout.columns[place];
                 let from = number_at(&self.ended, column.first_row());
-                self.tied.push(LiveVar::of(column, *number, from, multipliers))?;
+                self.tied
+                    .push(LiveVar::of(column, *number, from, multipliers))?;
             }
         }
         Ok(())

@@ -12,12 +12,12 @@ loop-init c =
     let total = c.args.task.now.total in
     let read = entries_at total c.args.count 0 c.args.bytes.now in
     let all : c.args.count - 0 ≡ c.args.count = omega arith in (
-  [],
-  (
-    subst (λ n. with_front [] (entries_at total n 0 c.args.bytes.now) ≡ read) (sym all) (front_none read),
-    loaded_none (plain_side c.args.task.now.side.now) c.clear.new.prices c.clear.ensures,
-  ),
-)
+      [],
+      (
+        subst (λ n. with_front [] (entries_at total n 0 c.args.bytes.now) ≡ read) (sym all) (front_none read),
+        loaded_none (plain_side c.args.task.now.side.now) c.clear.new.prices c.clear.ensures,
+      ),
+    )
 
 pub returns-in_err-found-clause-loads : goal.returns-in_err-found-clause-loads
 returns-in_err-found-clause-loads c =

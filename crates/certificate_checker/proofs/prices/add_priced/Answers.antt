@@ -1,6 +1,5 @@
-use Rattle.std.proofs.Common.{◌≡◌, ◌+◌, ◌*◌, length, take, get_or, refl, ap, arith}
-use Rattle.placement_programme.specs.Bounds.{row_of, value_of}
-use Rattle.placement_programme.specs.Programme.{weight_in}
+use Rattle.std.proofs.Common.{◌+◌, ◌*◌, get_or, refl, ap, arith}
+use Rattle.placement_programme.specs.Bounds.{row_of}
 use Rattle.placement_programme.proofs.AscendLemmas.{row_below}
 use Rattle.certificate_checker.proofs.EntryLemmas.{weight_before, priced_more}
 use Rattle.certificate_checker.proofs.prices.add_priced.Goals as goal

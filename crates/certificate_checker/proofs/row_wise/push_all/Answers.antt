@@ -1,9 +1,8 @@
-use Rattle.std.proofs.Common.{◌≡◌, ◌+◌, length, subst, refl, arith}
+use Rattle.std.proofs.Common.{◌+◌, length, arith}
 use Rattle.std.proofs.lemmas.List.{length-map}
-use Rattle.placement_programme.specs.Bounds.{RowsWithin}
 use Rattle.placement_programme.specs.Views.{plain_side}
 use Rattle.certificate_checker.specs.RowWise.{plain_rows, row_items}
-use Rattle.certificate_checker.proofs.RowWiseLemmas.{no_vars, rows_entered}
+use Rattle.certificate_checker.proofs.RowWiseLemmas.{rows_entered}
 use Rattle.certificate_checker.proofs.row_wise.push_all.Goals as goal
 
 pub loop-number-preserved : goal.loop-number-preserved

@@ -1,5 +1,4 @@
-use Rattle.std.proofs.Common.{◌≡◌, ◌+◌, length, get_or, refl, subst, arith}
-use Rattle.placement_programme.specs.Bounds.{row_of}
+use Rattle.std.proofs.Common.{◌+◌, length, get_or, refl, arith}
 use Rattle.placement_programme.proofs.AscendLemmas.{row_below}
 use Rattle.certificate_checker.specs.RowWise.{plain_rows}
 use Rattle.certificate_checker.proofs.RowWiseLemmas.{entered_more}

@@ -1,4 +1,4 @@
-use Rattle.std.proofs.Common.{Err, Ok, subst, refl, arith}
+use Rattle.std.proofs.Common.{subst, refl, arith}
 use Rattle.placement_programme.specs.Views.{plain_side}
 use Rattle.certificate_checker.specs.Ways.{SoFar}
 use Rattle.certificate_checker.specs.declared.walking.Failing.{Failing}

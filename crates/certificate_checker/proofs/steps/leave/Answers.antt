@@ -1,4 +1,4 @@
-use Rattle.std.proofs.Common.{◌≡◌, ◌∙◌, ◌-◌, Bool, slice_set, sym, ap, subst, arith}
+use Rattle.std.proofs.Common.{◌∙◌, ◌-◌, slice_set, sym, ap, subst, arith}
 use Rattle.certificate_checker.specs.Ways.{IsBehind, IsBefore, marked, step_to_one}
 use Rattle.certificate_checker.specs.declared.steps.PathStep.{PathStep}
 use Rattle.certificate_checker.specs.declared.fixings.Fixing.TheVariants.{One, Free}

@@ -12,8 +12,7 @@ pub returns : goal.returns
 returns c =
     let task = c.args.task.now in
     let loads = c.in_ok-loaded.ensures.loads in
-    let tree = dual c.in_ok-scale.scale loads.0 in
-    (
+    let tree = dual c.in_ok-scale.scale loads.0 in (
       tree,
       (
         dual_read task.total c.args.bytes.now c.in_ok-scale.scale c.in_ok-scale.rest.now c.in_ok-count.count c.in_ok-count.rest.now loads.0 c.in_ok-loaded.rest.now c.in_ok-scale.ensures.gives c.in_ok-count.ensures loads.1.0,

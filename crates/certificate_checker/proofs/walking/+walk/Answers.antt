@@ -1,4 +1,4 @@
-use Rattle.std.proofs.Common.{◌≡◌, Ok, slice_set, refl, rules, sym, subst, arith}
+use Rattle.std.proofs.Common.{◌≡◌, Ok, slice_set, rules, sym, subst, arith}
 use Rattle.placement_programme.specs.Views.{plain_side}
 use Rattle.certificate_checker.specs.Rules.{BranchHolds, KeepsRule}
 use Rattle.certificate_checker.specs.Views.{plain_tree}
