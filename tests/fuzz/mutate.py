@@ -40,33 +40,42 @@ def put(file: bytearray, at: int, size: int, value: int) -> None:
 
 
 def whole(file: bytes, at: int, size: int, count: int) -> list[tuple[int, int]]:
-    """The records of a table that lie in the file, as place and size."""
-    return [(start, size) for start in range(at, at + size * count, size) if start + size <= len(file)]
+    """The records of a table that lie in the file, as place and size; none of a file without a header."""
+    if len(file) < HEADER:
+        return []
+    return [(start, size) for start in range(at, min(at + size * count, len(file) - size + 1), size)]
+
+
+def section_headers(file: bytes) -> list[tuple[int, int]]:
+    return whole(file, word(file, 32), SECTION, half(file, 48))
+
+
+def program_headers(file: bytes) -> list[tuple[int, int]]:
+    return whole(file, word(file, 28), PROGRAM, half(file, 44))
+
+
+def records(file: bytes, kind: int, size: int) -> list[tuple[int, int]]:
+    """The records of the sections of one type."""
+    return [record for at, _ in section_headers(file) if word(file, at + 4) == kind
+            for record in whole(file, word(file, at + 16), size, word(file, at + 20) // size)]
 
 
 def tables(file: bytes) -> list[list[tuple[int, int]]]:
-    """The records of a file, a list for each kind that it has: header, program headers, sections, symbols, relocations."""
-    if len(file) < HEADER:
-        return []
-    sections = whole(file, word(file, 32), SECTION, half(file, 48))
-    parts: dict[int, list[tuple[int, int]]] = {SYMBOL: [], RELOCATION: []}
-    for at, _ in sections:
-        size = {SYMTAB: SYMBOL, RELA: RELOCATION}.get(word(file, at + 4))
-        if size:
-            parts[size] += whole(file, word(file, at + 16), size, min(word(file, at + 20), len(file)) // size)
-    kinds = [[(0, HEADER)], whole(file, word(file, 28), PROGRAM, half(file, 44)), sections, *parts.values()]
-    return [records for records in kinds if records]
+    """The records of a file, a list for each kind that it has."""
+    kinds = [whole(file, 0, HEADER, 1), program_headers(file), section_headers(file), records(file, SYMTAB, SYMBOL),
+             records(file, RELA, RELOCATION)]
+    return [kind for kind in kinds if kind]
 
 
 def change_field(random: Random, file: bytearray) -> None:
     kinds = tables(file)
     if not kinds:
         return flip(random, file)
-    records = random.choice(kinds)
-    start, record = random.choice(records)
+    kind = random.choice(kinds)
+    start, record = random.choice(kind)
     at, size = random.choice(fields(record))
     old = int.from_bytes(file[start + at:start + at + size], "little")
-    other = random.choice(records)[0] + at
+    other = random.choice(kind)[0] + at
     values = [
         random.choice(CORNERS),
         old + random.choice((-4, -1, 1, 4)),
@@ -87,10 +96,7 @@ def flip(random: Random, file: bytearray) -> None:
 
 def change_word(random: Random, file: bytearray) -> None:
     """Puts an instruction somewhere into the bytes of a segment."""
-    if len(file) < HEADER:
-        return
-    segments = whole(file, word(file, 28), PROGRAM, half(file, 44))
-    places = [(word(file, at + 4), word(file, at + 16)) for at, _ in segments]
+    places = [(word(file, at + 4), word(file, at + 16)) for at, _ in program_headers(file)]
     places = [(start, size // 4) for start, size in places if size >= 4 and start + size <= len(file)]
     for start, words in places[:random.randint(1, 2)]:
         put(file, start + 4 * random.randrange(min(words, random.choice((8, 64, words)))), 4, instruction(random))
@@ -116,7 +122,7 @@ def extend(random: Random, file: bytearray) -> None:
 
 def copy_record(random: Random, file: bytearray) -> None:
     """One record in place of another of its kind, or both change places."""
-    kinds = [records for records in tables(file) if len(records) > 1]
+    kinds = [kind for kind in tables(file) if len(kind) > 1]
     if not kinds:
         return
     (first, size), (second, _) = random.sample(random.choice(kinds), 2)
@@ -128,7 +134,7 @@ def copy_record(random: Random, file: bytearray) -> None:
 
 def move_section(random: Random, file: bytearray) -> None:
     """Gives a section the place, or the address, of another one or of a segment."""
-    sections = whole(file, word(file, 32), SECTION, half(file, 48)) if len(file) >= HEADER else []
+    sections = section_headers(file)
     if not sections:
         return
     at = random.choice(sections)[0]
@@ -141,7 +147,7 @@ def move_section(random: Random, file: bytearray) -> None:
 def lengthen_table(random: Random, file: bytearray) -> None:
     """Gives the symbol table, or a table of relocations, a place behind the file, where it has too many records."""
     kind, size = random.choice(((SYMTAB, SYMBOL * 65536), (RELA, RELOCATION * 262144)))
-    for at, _ in whole(file, word(file, 32), SECTION, half(file, 48)) if len(file) >= HEADER else []:
+    for at, _ in section_headers(file):
         if word(file, at + 4) == kind:
             put(file, at + 16, 4, len(file))
             put(file, at + 20, 4, size + random.choice((0, 4, 48)))
@@ -151,7 +157,7 @@ def lengthen_table(random: Random, file: bytearray) -> None:
 
 def change_kind(random: Random, file: bytearray) -> None:
     """Gives a section another type."""
-    sections = whole(file, word(file, 32), SECTION, half(file, 48)) if len(file) >= HEADER else []
+    sections = section_headers(file)
     if sections:
         put(file, random.choice(sections)[0] + 4, 4, random.choice((NULL, 1, 2, 3, RELA, NOBITS, 9, 14)))
 
@@ -168,18 +174,11 @@ CHANGES: list[tuple[int, Callable[[Random, bytearray], None]]] = [
     (40, change_kind), (1, lengthen_table)]
 
 
-def records_of(file: bytes, kind: int, size: int) -> list[int]:
-    """The places of the records of tables of one kind."""
-    sections = whole(file, word(file, 32), SECTION, half(file, 48)) if len(file) >= HEADER else []
-    return [start for at, _ in sections if word(file, at + 4) == kind
-            for start, _ in whole(file, word(file, at + 16), size, word(file, at + 20) // size)]
-
-
 def change_symbol(random: Random, file: bytearray) -> None:
     """Gives a symbol another value, size, kind or section, near its own or that of another symbol."""
-    symbols = records_of(file, SYMTAB, SYMBOL)
+    symbols = records(file, SYMTAB, SYMBOL)
     if symbols:
-        at, other = random.choice(symbols), random.choice(symbols)
+        (at, _), (other, _) = random.choice(symbols), random.choice(symbols)
         field, size = random.choice(((4, 4), (4, 4), (8, 4), (12, 1), (14, 2)))
         near = word(file, at + field) + random.choice((-4, -1, 1, 2, 4, 16))
         value = random.choice((word(file, other + field), near, random.choice((0, 1, 2, 3, 4, 16))))
@@ -188,11 +187,11 @@ def change_symbol(random: Random, file: bytearray) -> None:
 
 def change_relocation(random: Random, file: bytearray) -> None:
     """Gives a relocation another place, kind, symbol or addend."""
-    relocations = records_of(file, RELA, RELOCATION)
-    symbols = len(records_of(file, SYMTAB, SYMBOL))
+    relocations = records(file, RELA, RELOCATION)
+    symbols = len(records(file, SYMTAB, SYMBOL))
     if not relocations:
         return change_word(random, file)
-    at, other = random.choice(relocations), random.choice(relocations)
+    (at, _), (other, _) = random.choice(relocations), random.choice(relocations)
     action = random.randrange(5)
     if action == 0:
         put(file, at, 4, word(file, random.choice((at, other))) + random.choice((-4, 0, 1, 2, 4)))
@@ -208,7 +207,7 @@ def change_relocation(random: Random, file: bytearray) -> None:
 
 def change_flags(random: Random, file: bytearray) -> None:
     """Takes from a section that it can be written, is code, or has memory, or gives it that."""
-    sections = whole(file, word(file, 32), SECTION, half(file, 48)) if len(file) >= HEADER else []
+    sections = section_headers(file)
     if sections:
         at = random.choice(sections)[0]
         put(file, at + 8, 4, word(file, at + 8) ^ random.choice((1, 2, 4)))
@@ -216,7 +215,7 @@ def change_flags(random: Random, file: bytearray) -> None:
 
 def split_section(random: Random, file: bytearray) -> None:
     """Makes two sections of one, of which a part may be empty; another section's header is lost."""
-    sections = whole(file, word(file, 32), SECTION, half(file, 48)) if len(file) >= HEADER else []
+    sections = section_headers(file)
     if len(sections) < 2:
         return
     (first, _), (second, _) = random.sample(sections, 2)
@@ -230,9 +229,8 @@ def split_section(random: Random, file: bytearray) -> None:
 
 def change_part(random: Random, file: bytearray) -> None:
     """Another register, function or immediate in an instruction, which is most often the one of a relocation."""
-    places = [(word(file, at + 4), word(file, at + 8), word(file, at + 16))
-              for at, _ in whole(file, word(file, 28), PROGRAM, half(file, 44))]
-    relocated = [word(file, at) for at in records_of(file, RELA, RELOCATION)]
+    places = [(word(file, at + 4), word(file, at + 8), word(file, at + 16)) for at, _ in program_headers(file)]
+    relocated = [word(file, at) for at, _ in records(file, RELA, RELOCATION)]
     for offset, address, size in random.sample(places, min(1, len(places))):
         spots = [at for at in relocated if address <= at and at + 4 <= address + size]
         at = random.choice(spots) if spots and random.random() < 0.5 else address + 4 * random.randrange(size // 4 + 1)
