@@ -110,12 +110,13 @@ STEPS_IN_TURN = 40_000
 # A program reads each word of a table of 64 words 100 times, which is 6,400 reads that save 8 each, less the copy of the
 # table. Its code has six blocks, and gains nothing at these prices.
 ONE_TABLE = "base 326040\nside off fixed 50\nrows 256 65452 1 1 1 1 1 1\nvar 47172 0:256 1:44\n"
-# Programs whose programmes were worked out by hand: their boards, and where the programmes are.
+# Programs whose programmes were worked out by hand, with their boards. The base, which is the energy of the run with nothing
+# moved, tells which programme it is: that above, or one of crates/solver_bench/data/regions.txt.
 KNOWN = [
-    ("caller_and_callee.elf", 'spm = [0x01000000, 48]\nregions = [["f"], ["g"]]\n', "regions.txt", 0),
-    ("two_phases.elf", "spm = [0x01000000, 1024]\n" + DATA_PRICES, "regions.txt", 1),
-    ("shared_table.elf", "spm = [0x01000000, 1024]\ntwins = true\n" + DATA_PRICES, "regions.txt", 2),
-    ("sums.elf", "spm = [0x01000000, 256]\n" + DATA_PRICES, None, 0),
+    ("caller_and_callee.elf", 'spm = [0x01000000, 48]\nregions = [["f"], ["g"]]\n', 30590),
+    ("two_phases.elf", "spm = [0x01000000, 1024]\n" + DATA_PRICES, 4116840),
+    ("shared_table.elf", "spm = [0x01000000, 1024]\ntwins = true\n" + DATA_PRICES, 4322670),
+    ("sums.elf", "spm = [0x01000000, 256]\n" + DATA_PRICES, 326040),
 ]
 KNOWN_WEIGHTS = (500, 2, 1, 30)  # the longer ones run for some 300,000 steps
 NOTHING_TAKEN = MARK + bytes(3)
@@ -133,9 +134,10 @@ class Known:
         return Told(0, cert_path.check(self.programme, board_path.read(self.board).nodes, text), {})
 
 
-def known_program(file: str, board: str, source: str | None, place: int) -> Known:
-    text = contents(f"crates/solver_bench/data/{source}")[0].decode() if source else ONE_TABLE
-    return Known(contents(f"crates/case_runner/data/{file}")[0], board.encode(), cert_path.read_programmes(text)[place])
+def known_program(file: str, board: str, base: int) -> Known:
+    programmes = cert_path.read_programmes(ONE_TABLE + contents("crates/solver_bench/data/regions.txt")[0].decode())
+    programme = next(programme for programme in programmes if programme.base == base)
+    return Known(contents(f"crates/case_runner/data/{file}")[0], board.encode(), programme)
 
 
 # The words of each command behind its name. `out` and `cert` are written.
