@@ -14,6 +14,7 @@ import mutate
 from answers import Answer, Told
 from cert_path import BOUND, BRANCH, DEEPEST, LEAF, MARK, OVER, Programme, Side
 from command_path import PATHS, told
+from elf_path import File
 from fault import Fault, Untold
 
 HERE = os.path.dirname(os.path.abspath(__file__))
@@ -212,11 +213,25 @@ def program_case(random: Random, seeds: Seeds) -> Case:
 
 def board_case(random: Random, seeds: Seeds) -> Case:
     """A board with changes, under `run`, and under `show` of a file that has functions."""
-    text = mutate.board(random) if random.random() < 0.8 else random.choice(seeds.boards)
-    if random.random() < 0.4:
-        text = mutate.tokens(random, text)
-    files = {"file": random.choice(seeds.small), "board": text, "input": b"input"}
-    return call(random.choice(("show", "run", "run")), files)
+    file = random.choice(seeds.programs)
+    if random.random() < 0.2:
+        text = memory_about(random, elf_path.read(file))
+    else:
+        text = mutate.board(random) if random.random() < 0.8 else random.choice(seeds.boards)
+        if random.random() < 0.4:
+            text = mutate.tokens(random, text)
+    return call(random.choice(("show", "run", "run")), {"file": file, "board": text, "input": b"input"})
+
+
+def memory_about(random: Random, file: File) -> bytes:
+    """A board whose memory begins and ends about where the segments of a file do."""
+    ranges = []
+    for _ in range(random.randint(1, 4)):
+        segment = random.choice(file.segments)
+        start = segment.address + random.choice((-4, -1, 0, 0, 0, 1, 4, random.randrange(segment.size + 1)))
+        end = segment.address + segment.size + random.choice((-4, -1, 0, 0, 0, 1, 64, -random.randrange(segment.size + 1)))
+        ranges.append(f"[{start}, {max(end - start, 1)}]")
+    return f"main = {ranges[0]}\nareas = [{', '.join(ranges[1:])}]\nsteps = 300\n".encode()
 
 
 def cert_case(random: Random, seeds: Seeds) -> Case:
