@@ -1,9 +1,9 @@
 -- Nodes and their marks, in lists that grow at their ends.
-use Rattle.std.proofs.Common.{◌≡◌, ◌≢◌, inl, inr, ℕ, zero, suc, ◌+◌, ◌*◌, ◌%◌, ◌^◌, ◌<◌, ◌==◌, true, false, if◌then◌else◌, List, [], ◌∷◌, ◌++◌, length, slice_index_or, slice_set, replicate, refl, sym, ◌∙◌, ap, subst, arith}
+use Rattle.std.proofs.Common.{◌≡◌, ◌≢◌, inl, inr, ℕ, zero, suc, ◌+◌, ◌-◌, ◌*◌, ◌%◌, ◌^◌, min, ◌<◌, ◌≤◌, ◌==◌, true, false, if◌then◌else◌, List, [], ◌∷◌, ◌++◌, length, slice_index_or, slice_set, refl, sym, ◌∙◌, ap, subst, arith}
 use Rattle.std.specs.Prelude.{◌↔◌, IsTrue}
 use Rattle.std.specs.List.{AllPairs, list_any}
 use Rattle.std.specs.List.Sorted.{IsStrictlyIncreasing}
-use Rattle.std.proofs.lemmas.Bool.{cases_eq, eq-eqb}
+use Rattle.std.proofs.lemmas.Bool.{cases_eq, cases_lt, eq-eqb}
 use Rattle.std.proofs.lemmas.Bool.Decides.{nat_tests}
 use Rattle.std.specs.Int.{bit_at}
 use Rattle.std.proofs.lemmas.Nat.{one_shl}
@@ -15,9 +15,9 @@ use Rattle.list_checks.proofs.TestLemmas.{neither}
 use Rattle.code_leaders.specs.Early.{has}
 use Rattle.reach_graph.specs.Reaching.{HasMark, word_at, Reaches}
 use Rattle.reach_graph.specs.declared.edges.Edge.{Edge}
-use Rattle.reach_graph.proofs.MarkLemmas.{none_in_zero, none_in_zeros}
-use Rattle.points_to.specs.Nodes.{memory}
-use Rattle.points_to.specs.Tables.{word_of, Kept, AreKept, Keeps, Begins, IsReached}
+use Rattle.reach_graph.proofs.MarkLemmas.{none_in_zero}
+use Rattle.points_to.specs.Nodes.{memory, object_node}
+use Rattle.points_to.specs.Tables.{word_of, Kept, AreKept, Keeps, Begins, IsReached, AreGroups, group_at, none_kept}
 
 -- ---- one more node
 
@@ -69,6 +69,20 @@ kept_none marks end w nodes words is none are = record {
   exact = λ m low. elim (cases_eq m end) [
     | inl same ↦ ap (word_of nodes words) same ∙ absent nodes words end are.below ∙ sym none ∙ is ∙ ap (word_at marks) (sym same)
     | inr other ↦ are.exact m (omega (arith, low, other))
+  ];
+}
+
+-- nodes that have no mark
+pub kept_skip : (marks : List ℕ) (end to : ℕ) (nodes words : List ℕ) → end ≤ to → ((m : ℕ) → end ≤ m → m < to → word_at marks m ≡ 0) → AreKept marks end nodes words → AreKept marks to nodes words
+kept_skip marks end to nodes words order none are = record {
+  ascending = are.ascending;
+  below = λ k d inside. let less = are.below k d inside in omega (arith, less, order);
+  one_each = are.one_each;
+  exact = λ m low. elim (cases_lt m end) [
+    | inl before ↦ are.exact m before
+    | inr past ↦
+        absent nodes words m (λ k d inside. let less = are.below k d inside in omega (arith, less, past))
+        ∙ sym (none m (omega (arith, past)) low)
   ];
 }
 
@@ -126,12 +140,6 @@ no_mark w k none = (λ never. absurd cc, λ mark. absurd (none_in_zero k (subst 
 
 -- ---- marks to begin with
 
-pub begun_none : (first n : ℕ) (marks : List ℕ) → marks ≡ replicate n 0 → Begins first 0 marks
-begun_none first n marks bare = record {
-  only = λ m k has. absurd (none_in_zeros n m k marks bare has);
-  there = λ k low. absurd (omega (arith, low));
-}
-
 pub begun_more : (first k w : ℕ) (marks : List ℕ) → first + k < length marks → ((j : ℕ) → HasMark w j ↔ (j ≡ k)) → Begins first k marks → Begins first (k + 1) (slice_set marks (first + k) w)
 begun_more first k w marks inside one begins =
     let here : word_at (slice_set marks (first + k) w) (first + k) ≡ w = get_or-set_same marks (first + k) w 0 inside in record {
@@ -175,3 +183,20 @@ reached_is rows n first count start marks kept begins propagate keeps = record {
   entries = λ m k low. subst (λ (w : ℕ). HasMark w k ↔ Reaches rows start m k) (sym (keeps.entries m low)) (propagate m k);
   in_memory = λ k. subst (λ (w : ℕ). HasMark w k ↔ Reaches rows start (memory n) k) (sym keeps.in_memory) (propagate (memory n) k);
 }
+
+-- one more group
+pub groups_more : (rows : List (List Edge)) (n objects j : ℕ) (groups : List Kept) (kept : Kept) → IsReached rows n (object_node n (64 * j)) (min 64 (objects - 64 * j)) kept → AreGroups rows n objects j groups
+    → AreGroups rows n objects (j + 1) (groups ++ kept ∷ [])
+groups_more rows n objects j groups kept reached are =
+    let size = are.size in
+    let longer = length_push groups kept in record {
+      size = omega (arith, longer, size);
+      each = λ i low. elim (cases_eq i j) [
+        | inl same ↦
+            let here : kept ≡ group_at (groups ++ kept ∷ []) i = sym (get_or_push groups kept none_kept i (size ∙ sym same)) in
+            subst (λ (r : Kept). IsReached rows n (object_node n (64 * i)) (min 64 (objects - 64 * i)) r) here (subst (λ (k : ℕ). IsReached rows n (object_node n (64 * k)) (min 64 (objects - 64 * k)) kept) (sym same) reached)
+        | inr other ↦
+            let before : i < length groups = omega (arith, low, other, size) in
+            subst (λ (r : Kept). IsReached rows n (object_node n (64 * i)) (min 64 (objects - 64 * i)) r) (sym (get_or_append_left groups (kept ∷ []) none_kept i before)) (are.each i (omega (arith, low, other)))
+      ];
+    }

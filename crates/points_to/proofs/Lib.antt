@@ -13,3 +13,6 @@ pub mod QueryLemmas
 pub mod SweepLemmas
 pub mod OverlaidLemmas
 pub mod AskedLemmas
+pub mod WaitLemmas
+pub mod SpreadLemmas
+pub mod FreeLemmas

@@ -1,6 +1,5 @@
 -- Marks that came some of the way come as far as those at the start.
 use Rattle.std.proofs.Common.{◌≡◌, inl, inr, ℕ, ◌<◌, List, length, slice_set, bit_or, bit_and, refl, sym, ◌∙◌, ap, subst}
-use Rattle.std.specs.Prelude.{◌↔◌}
 use Rattle.std.proofs.Math.ListN.{length-set}
 use Rattle.std.proofs.lemmas.Bool.{cases_eq}
 use Rattle.std.proofs.lemmas.List.{get_or-set_same, get_or-set_other}
@@ -45,15 +44,3 @@ pub between_more : (rows : List (List Edge)) (start now : List ℕ) (row : List 
 between_more rows start now row f i is inside fits between =
     subst (λ (r : List Edge). AreBetween rows start (slice_set now (edge_at r i).to (bit_or (word_at now (edge_at r i).to) (bit_and (word_at now f) (edge_at r i).mask)))) is
     (passed rows start now f i (subst (λ (r : List Edge). i < length r) (sym is) inside) (subst (λ (r : List Edge). (edge_at r i).to < length now) (sym is) fits) between)
-
-module _ (rows : List (List Edge)) (start now : List ℕ) (between : AreBetween rows start now) where
-  back : (m k : ℕ) → Reaches rows now m k → Reaches rows start m k
-  back _ k (Reaches.stands m _ has) = between.reached m k has
-  back _ k (Reaches.passes m i _ came inside passes) = Reaches.passes m i k (back m k came) inside passes
-
-  forth : (m k : ℕ) → Reaches rows start m k → Reaches rows now m k
-  forth _ k (Reaches.stands m _ has) = Reaches.stands m k (between.kept m k has)
-  forth _ k (Reaches.passes m i _ came inside passes) = Reaches.passes m i k (forth m k came) inside passes
-
-  pub as_far : (marks : List ℕ) → ((m k : ℕ) → HasMark (word_at marks m) k ↔ Reaches rows now m k) → (m k : ℕ) → HasMark (word_at marks m) k ↔ Reaches rows start m k
-  as_far marks propagate m k = (λ has. back m k ((propagate m k).0 has), λ came. (propagate m k).1 (forth m k came))

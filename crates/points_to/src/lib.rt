@@ -4,6 +4,7 @@
 
 mod asked;
 mod blocks;
+mod clearing;
 mod edges;
 mod flows;
 mod laws;
@@ -16,6 +17,7 @@ mod starting;
 mod sweeping;
 mod table;
 mod units;
+mod waiting;
 
 pub use laws::words_escape;
 pub use pointing::points;

@@ -1,9 +1,10 @@
-ghost use Rattle.std.specs.Prelude.{◌≡◌, ◌*◌, ◌+◌, ◌<◌, ◌-◌, ◌/◌, min, length, map, IfOk};
+ghost use Rattle.std.specs.Prelude.{◌≡◌, ◌+◌, ◌≤◌, ◌/◌, length, map, IfOk};
 ghost use Rattle.std.specs.List.Sorted.{IsStrictlyIncreasing};
 ghost use Rattle.reach_graph.specs.Reaching.{plain_rows, AreInside};
 ghost use Rattle.object_graph.specs.Lookups.{IsSomeGraph};
 ghost use Rattle.code_blocks.specs.Numbers.{starts_of};
-ghost use Rattle.points_to.specs.Nodes.{node_count, object_node};
+ghost use Rattle.points_to.specs.Nodes.{node_count, loaded};
+ghost use Rattle.points_to.specs.Sweeps.{AreBare, HasRoom};
 ghost use Rattle.points_to.specs.Tables.{IsReached, AreGroups, IsTableOf, plain};
 
 use crate::blocks::edges_of;
@@ -20,7 +21,8 @@ use std::alloc::{AllocError, Global};
 /// an address of them may stand in memory.
 ///
 /// It fails only where no memory was left, which is always so of more than 2 ^ 25 blocks or 2 ^ 30 objects. The time
-/// grows with the number of registers of blocks, once for every 64 objects.
+/// grows with the numbers of blocks and edges, and, for each 64 objects, with the registers of blocks that some of them
+/// reach.
 pub fn points(alloc: Global, code: &Code, graph: &Graph) -> Result<PointsTable, AllocError>
     requires ascending { IsStrictlyIncreasing (starts_of code.now) }
     requires graph { IsSomeGraph graph.now }
@@ -28,8 +30,7 @@ pub fn points(alloc: Global, code: &Code, graph: &Graph) -> Result<PointsTable, 
 {
     let nodes = Nodes::of(code, graph)?;
     let graph_edges = edges_of(alloc, nodes, code, graph)?;
-    let loads = reached_from(alloc, nodes, &graph_edges, nodes.loaded(), 1)?;
-    let groups = groups_of(alloc, nodes, &graph_edges)?;
+    let (loads, groups) = reached_by_all(alloc, nodes, &graph_edges)?;
     let leaders = leaders_of(alloc, code)?;
     Ok(PointsTable {
         leaders,
@@ -49,36 +50,74 @@ fn leaders_of(alloc: Global, code: &Code) -> Result<Vec<u32>, AllocError>
     Ok(leaders)
 }
 
-/// What the objects reach, 64 at a time.
-fn groups_of(
+/// What is loaded reaches, and what the objects do, 64 at a time.
+fn reached_by_all(
     alloc: Global,
     nodes: Nodes,
     graph_edges: &[Vec<Edge>],
-) -> Result<Vec<Reached>, AllocError>
+) -> Result<(Reached, Vec<Reached>), AllocError>
     requires room { length graph_edges.now ≡ node_count nodes.blocks nodes.objects }
     requires inside { AreInside (plain_rows graph_edges.now) (node_count nodes.blocks nodes.objects) }
-    ensures { IfOk result (λ groups. AreGroups (plain_rows graph_edges.now) nodes.blocks nodes.objects ((nodes.objects + 63) / 64) (map plain groups.items)) }
+    ensures loads { IfOk result (λ r. IsReached (plain_rows graph_edges.now) nodes.blocks (loaded nodes.blocks) 1 (plain r.0)) }
+    ensures groups { IfOk result (λ r. AreGroups (plain_rows graph_edges.now) nodes.blocks nodes.objects ((nodes.objects + 63) / 64) (map plain r.1.items)) }
 {
-    let count = (nodes.objects + 63) / 64;
-    let mut groups = Vec::new(alloc);
-    for j in 0..count {
-        groups.push(group(alloc, nodes, graph_edges, 64 * j)?)?;
-    }
-    Ok(groups)
+    let mut marks = vec![in alloc; 0; nodes.count() as usize]?;
+    let pages = nodes.pages();
+    let mut waiting = vec![in alloc; 0; pages]?;
+    let mut touched = vec![in alloc; false; pages]?;
+    reached_by_each(
+        alloc,
+        nodes,
+        graph_edges,
+        &mut marks,
+        &mut waiting,
+        &mut touched,
+    )
 }
 
-/// What 64 objects from `first` on reach, or those that there are.
-fn group(
+/// The same, over nodes without marks.
+fn reached_by_each(
     alloc: Global,
     nodes: Nodes,
     graph_edges: &[Vec<Edge>],
-    first: u32,
-) -> Result<Reached, AllocError>
+    marks: &mut [u64],
+    waiting: &mut [u64],
+    touched: &mut [bool],
+) -> Result<(Reached, Vec<Reached>), AllocError>
     requires room { length graph_edges.now ≡ node_count nodes.blocks nodes.objects }
     requires inside { AreInside (plain_rows graph_edges.now) (node_count nodes.blocks nodes.objects) }
-    requires first { first < nodes.objects }
-    ensures { IfOk result (λ r. IsReached (plain_rows graph_edges.now) nodes.blocks (object_node nodes.blocks first) (min 64 (nodes.objects - first)) (plain r)) }
+    requires size { length marks.old ≡ node_count nodes.blocks nodes.objects }
+    requires words { HasRoom nodes.blocks nodes.objects waiting.old }
+    requires one_each { length touched.old ≡ length waiting.old }
+    requires units { length waiting.old ≤ 67108864 }
+    requires bare { AreBare marks.old }
+    ensures loads { IfOk result (λ r. IsReached (plain_rows graph_edges.now) nodes.blocks (loaded nodes.blocks) 1 (plain r.0)) }
+    ensures groups { IfOk result (λ r. AreGroups (plain_rows graph_edges.now) nodes.blocks nodes.objects ((nodes.objects + 63) / 64) (map plain r.1.items)) }
 {
-    let count = (nodes.objects - first).min(64);
-    reached_from(alloc, nodes, graph_edges, nodes.object(first), count)
+    let loads = reached_from(
+        alloc,
+        nodes,
+        graph_edges,
+        nodes.loaded(),
+        1,
+        marks,
+        waiting,
+        touched,
+    )?;
+    let mut groups = Vec::new(alloc);
+    for j in 0..(nodes.objects + 63) / 64 {
+        let count = (nodes.objects - 64 * j).min(64);
+        let first = nodes.object(64 * j);
+        groups.push(reached_from(
+            alloc,
+            nodes,
+            graph_edges,
+            first,
+            count,
+            marks,
+            waiting,
+            touched,
+        )?)?;
+    }
+    Ok((loads, groups))
 }

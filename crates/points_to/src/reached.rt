@@ -2,7 +2,7 @@ ghost use Rattle.std.specs.Prelude.{◌≡◌, length};
 ghost use Rattle.std.specs.List.Sorted.{IsStrictlyIncreasing};
 
 use crate::asked::with_asked;
-use crate::marks::{has_mark, keep};
+use crate::marks::{has_mark, keep_page};
 use crate::nodes::Nodes;
 use rv_decode::RegSet;
 use std::alloc::{AllocError, Global};
@@ -21,22 +21,29 @@ pub struct Reached {
 }
 
 impl Reached {
-    ghost use Rattle.std.specs.Prelude.{◌≡◌, ◌<◌, ◌↔◌, ℕ, length, IfOk, IsTrue};
+    ghost use Rattle.std.specs.Prelude.{◌≡◌, ◌<◌, ◌≤◌, ◌↔◌, ℕ, length, IfOk, IsTrue};
     ghost use Rattle.reach_graph.specs.Reaching.{HasMark};
     ghost use Rattle.points_to.specs.Nodes.{node_count};
     ghost use Rattle.points_to.specs.Tables.{plain, kept_word, Keeps};
     ghost use Rattle.points_to.specs.Asked.{ReachedAsked};
+    ghost use Rattle.points_to.specs.Sweeps.{AreNoted};
 
-    /// What is kept of the marks of all nodes.
-    pub(crate) fn of(alloc: Global, nodes: Nodes, marks: &[u64]) -> Result<Reached, AllocError>
-        requires { length marks.now ≡ node_count nodes.blocks nodes.objects }
+    /// What is kept of the marks of all nodes, where each that has one is of a word of units of which one has waited.
+    pub(crate) fn of(
+        alloc: Global,
+        nodes: Nodes,
+        marks: &[u64],
+        touched: &[bool],
+    ) -> Result<Reached, AllocError>
+        requires size { length marks.now ≡ node_count nodes.blocks nodes.objects }
+        requires few { length touched.now ≤ 67108864 }
+        requires noted { AreNoted nodes.blocks touched.now marks.now }
         ensures { IfOk result (λ r. Keeps marks.now nodes.blocks (plain r)) }
     {
         let mut reached = Vec::new(alloc);
         let mut words = Vec::new(alloc);
-        let end = 32 * nodes.blocks;
-        for node in 0..end {
-            keep(&mut reached, &mut words, node, marks[node as usize])?;
+        for page in 0..touched.len() {
+            keep_page(&mut reached, &mut words, nodes, marks, touched, page)?;
         }
         Ok(Reached {
             nodes: reached,

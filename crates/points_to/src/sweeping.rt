@@ -1,68 +1,146 @@
-ghost use Rattle.std.specs.Prelude.{◌≡◌, ◌+◌, ◌<◌, ◌≤◌, ℕ, List, length, slice_set, bit_or, bit_and};
-ghost use Rattle.reach_graph.specs.Reaching.{word_at, edge_at, edges_of, plain_rows, AreInside};
+ghost use Rattle.std.specs.Prelude.{◌≡◌, ◌+◌, ◌*◌, ◌<◌, ◌≤◌, ◌↔◌, ℕ, List, length, slice_set, bit_or, bit_and};
+ghost use Rattle.reach_graph.specs.Reaching.{HasMark, word_at, edge_at, edges_of, plain_rows, AreInside, Reaches};
 ghost use Rattle.reach_graph.specs.declared.edges.Edge.{Edge};
 ghost use Rattle.points_to.specs.Nodes.{node_count};
-ghost use Rattle.points_to.specs.Sweeps.{AreBetween};
+ghost use Rattle.points_to.specs.Sweeps.{AreBetween, AreNoted, AreSpreading, GoesOn, HasRoom, IsFromTo, IsOfUnit, PassedAll, PassedUpto};
 
 use crate::nodes::Nodes;
+use crate::waiting::{add, take};
 use reach_graph::Edge;
 
-/// Lets the marks of `count` nodes from `first` on, and then those of each block, pass once along the edges of the
-/// nodes, in the order of the code. Little is then left to spread, of what goes back.
-pub(crate) fn sweep(
+/// Lets the marks of all nodes pass along the edges, as far as they come, by way of the units that wait. These are
+/// taken in the order of the code, so that marks which go the same way pass a block together.
+pub(crate) fn spread(
     nodes: Nodes,
     graph_edges: &[Vec<Edge>],
-    first: u32,
-    count: u32,
     marks: &mut [u64],
+    waiting: &mut [u64],
+    touched: &mut [bool],
 )
     requires room { length graph_edges.now ≡ node_count nodes.blocks nodes.objects }
     requires size { length marks.old ≡ node_count nodes.blocks nodes.objects }
     requires inside { AreInside (plain_rows graph_edges.now) (node_count nodes.blocks nodes.objects) }
-    requires last { first + count ≤ node_count nodes.blocks nodes.objects }
-    ensures { (start : List ℕ) → AreBetween (plain_rows graph_edges.now) start marks.old → AreBetween (plain_rows graph_edges.now) start marks.new }
+    requires words { HasRoom nodes.blocks nodes.objects waiting.old }
+    requires one_each { length touched.old ≡ length waiting.old }
+    requires few { length waiting.old ≤ 67108864 }
+    requires begins { AreSpreading nodes.blocks (plain_rows graph_edges.now) marks.old marks.old waiting.old touched.old }
+    ensures exact { (m k : ℕ) → HasMark (word_at marks.new m) k ↔ Reaches (plain_rows graph_edges.now) marks.old m k }
+    ensures noted { AreNoted nodes.blocks touched.new marks.new }
 {
-    pass_each(graph_edges, marks, first, first + count);
-    for block in 0..nodes.blocks {
-        pass_each(
-            graph_edges,
-            marks,
-            nodes.entry(block),
-            nodes.entry(block) + 32,
-        );
-        pass_each(graph_edges, marks, nodes.end(block), nodes.end(block) + 32);
+    let mut at = 0;
+    while let Some(unit) = take(waiting, touched, &mut at) {
+        pass_unit(nodes, graph_edges, marks, waiting, unit);
     }
+}
+
+/// Lets the marks of the nodes of a unit pass along their edges.
+fn pass_unit(
+    nodes: Nodes,
+    graph_edges: &[Vec<Edge>],
+    marks: &mut [u64],
+    waiting: &mut [u64],
+    unit: u32,
+)
+    requires room { length graph_edges.now ≡ node_count nodes.blocks nodes.objects }
+    requires size { length marks.old ≡ node_count nodes.blocks nodes.objects }
+    requires inside { AreInside (plain_rows graph_edges.now) (node_count nodes.blocks nodes.objects) }
+    requires words { HasRoom nodes.blocks nodes.objects waiting.old }
+    ensures { PassedAll (λ m. IsOfUnit nodes.blocks m unit) nodes.blocks (plain_rows graph_edges.now) marks.old waiting.old marks.new waiting.new }
+{
+    if unit < nodes.blocks {
+        let entry = nodes.entry(unit);
+        let end = nodes.end(unit);
+        pass_each(nodes, graph_edges, marks, waiting, entry, entry + 32);
+        pass_each(nodes, graph_edges, marks, waiting, end, end + 32);
+        return;
+    }
+    if unit == nodes.blocks {
+        let hub = nodes.hub();
+        pass_each(nodes, graph_edges, marks, waiting, hub, hub + 34);
+        return;
+    }
+    let (from, to) = nodes.group(unit);
+    pass_each(nodes, graph_edges, marks, waiting, from, to);
 }
 
 /// Lets the marks of the nodes from `from` to before `to` pass along their edges.
-fn pass_each(graph_edges: &[Vec<Edge>], marks: &mut [u64], from: u32, to: u32)
-    requires room { length graph_edges.now ≡ length marks.old }
-    requires inside { AreInside (plain_rows graph_edges.now) (length marks.old) }
+fn pass_each(
+    nodes: Nodes,
+    graph_edges: &[Vec<Edge>],
+    marks: &mut [u64],
+    waiting: &mut [u64],
+    from: u32,
+    to: u32,
+)
+    requires room { length graph_edges.now ≡ node_count nodes.blocks nodes.objects }
+    requires size { length marks.old ≡ node_count nodes.blocks nodes.objects }
+    requires inside { AreInside (plain_rows graph_edges.now) (node_count nodes.blocks nodes.objects) }
+    requires words { HasRoom nodes.blocks nodes.objects waiting.old }
     requires to { to ≤ length marks.old }
-    ensures { (start : List ℕ) → AreBetween (plain_rows graph_edges.now) start marks.old → AreBetween (plain_rows graph_edges.now) start marks.new }
+    ensures { PassedAll (IsFromTo from to) nodes.blocks (plain_rows graph_edges.now) marks.old waiting.old marks.new waiting.new }
 {
     for node in from..to {
-        pass_row(&graph_edges[node as usize], marks, node);
+        pass_node(nodes, graph_edges, marks, waiting, node);
     }
 }
 
-/// Lets the marks of a node pass along its edges.
-fn pass_row(row: &[Edge], marks: &mut [u64], node: u32)
+/// Lets the marks of a node pass along its edges, if it has any.
+fn pass_node(
+    nodes: Nodes,
+    graph_edges: &[Vec<Edge>],
+    marks: &mut [u64],
+    waiting: &mut [u64],
+    node: u32,
+)
+    requires room { length graph_edges.now ≡ node_count nodes.blocks nodes.objects }
+    requires size { length marks.old ≡ node_count nodes.blocks nodes.objects }
+    requires inside { AreInside (plain_rows graph_edges.now) (node_count nodes.blocks nodes.objects) }
+    requires words { HasRoom nodes.blocks nodes.objects waiting.old }
     requires node { node < length marks.old }
+    ensures { PassedAll (λ m. m ≡ node) nodes.blocks (plain_rows graph_edges.now) marks.old waiting.old marks.new waiting.new }
+{
+    if marks[node as usize] == 0 {
+        return;
+    }
+    pass_row(nodes, &graph_edges[node as usize], marks, waiting, node);
+}
+
+/// Lets them pass along the edges of its row.
+fn pass_row(nodes: Nodes, row: &[Edge], marks: &mut [u64], waiting: &mut [u64], node: u32)
+    requires node { node < length marks.old }
+    requires size { length marks.old ≡ node_count nodes.blocks nodes.objects }
     requires inside { (i : ℕ) → i < length row.now → (edge_at row.now i).to < length marks.old }
-    ensures { (rows : List (List Edge)) (start : List ℕ) → edges_of rows node ≡ row.now → AreBetween rows start marks.old → AreBetween rows start marks.new }
+    requires words { HasRoom nodes.blocks nodes.objects waiting.old }
+    ensures goes_on { GoesOn nodes.blocks marks.old waiting.old marks.new waiting.new }
+    ensures between { (rows : List (List Edge)) (start : List ℕ) → edges_of rows node ≡ row.now → AreBetween rows start marks.old → AreBetween rows start marks.new }
+    ensures passed { PassedUpto row.now (length row.now) (word_at marks.old node) marks.new }
 {
     for i in 0..row.len() {
-        pass(marks, node, row[i].to, row[i].mask);
+        pass(nodes, marks, waiting, node, row[i]);
     }
 }
 
-/// Lets those of a mask pass to node `to`.
-fn pass(marks: &mut [u64], node: u32, to: u32, mask: u64)
+/// Lets those of its mask pass along an edge.
+fn pass(nodes: Nodes, marks: &mut [u64], waiting: &mut [u64], node: u32, edge: Edge)
     requires node { node < length marks.old }
-    requires to { to < length marks.old }
-    ensures { marks.new ≡ slice_set marks.old to (bit_or (word_at marks.old to) (bit_and (word_at marks.old node) mask)) }
+    requires size { length marks.old ≡ node_count nodes.blocks nodes.objects }
+    requires to { edge.to < length marks.old }
+    requires words { HasRoom nodes.blocks nodes.objects waiting.old }
+    ensures marks { marks.new ≡ slice_set marks.old edge.to (bit_or (word_at marks.old edge.to) (bit_and (word_at marks.old node) edge.mask)) }
+    ensures goes_on { GoesOn nodes.blocks marks.old waiting.old marks.new waiting.new }
 {
-    let by = marks[node as usize] & mask;
-    marks[to as usize] = marks[to as usize] | by;
+    let old = marks[edge.to as usize];
+    let grown = both(old, marks[node as usize] & edge.mask);
+    marks[edge.to as usize] = grown;
+    if grown != old {
+        add(waiting, nodes.unit(edge.to));
+    }
+}
+
+/// The marks of two words.
+fn both(one: u64, other: u64) -> u64
+    ensures both { result ≡ bit_or one other }
+    ensures fits { result < 18446744073709551616 }
+{
+    one | other
 }

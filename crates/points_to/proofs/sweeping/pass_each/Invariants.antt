@@ -1,7 +1,6 @@
-use Rattle.std.proofs.Common.{ℕ, List}
 use Rattle.reach_graph.specs.Reaching.{plain_rows}
-use Rattle.points_to.specs.Sweeps.{AreBetween}
+use Rattle.points_to.specs.Sweeps.{PassedAll, IsFromTo}
 use Rattle.points_to.proofs.sweeping.pass_each.Given as goal
 
 abbrev pub invariant-loop-node : goal.invariant-loop-node
-invariant-loop-node l = (start : List ℕ) → AreBetween (plain_rows l.graph_edges) start l.fn.marks → AreBetween (plain_rows l.graph_edges) start l.marks
+invariant-loop-node l = PassedAll (IsFromTo l.from l.node) l.nodes.blocks (plain_rows l.graph_edges) l.fn.marks l.fn.waiting l.marks l.waiting
