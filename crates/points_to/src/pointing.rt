@@ -10,7 +10,7 @@ ghost use Rattle.points_to.specs.Tables.{IsReached, AreGroups, IsTableOf, plain}
 use crate::blocks::edges_of;
 use crate::nodes::Nodes;
 use crate::reached::Reached;
-use crate::starting::reached_from;
+use crate::starting::{Span, spread_from, take_reached};
 use crate::table::PointsTable;
 use code_blocks::Code;
 use object_graph::Graph;
@@ -94,30 +94,20 @@ fn reached_by_each(
     ensures loads { IfOk result (λ r. IsReached (plain_rows graph_edges.now) nodes.blocks (loaded nodes.blocks) 1 (plain r.0)) }
     ensures groups { IfOk result (λ r. AreGroups (plain_rows graph_edges.now) nodes.blocks nodes.objects ((nodes.objects + 63) / 64) (map plain r.1.items)) }
 {
-    let loads = reached_from(
-        alloc,
-        nodes,
-        graph_edges,
-        nodes.loaded(),
-        1,
-        marks,
-        waiting,
-        touched,
-    )?;
+    let loaded = Span {
+        first: nodes.loaded(),
+        count: 1,
+    };
+    spread_from(nodes, graph_edges, loaded, marks, waiting, touched);
+    let loads = take_reached(alloc, nodes, marks, touched)?;
     let mut groups = Vec::new(alloc);
     for j in 0..(nodes.objects + 63) / 64 {
-        let count = (nodes.objects - 64 * j).min(64);
-        let first = nodes.object(64 * j);
-        groups.push(reached_from(
-            alloc,
-            nodes,
-            graph_edges,
-            first,
-            count,
-            marks,
-            waiting,
-            touched,
-        )?)?;
+        let group = Span {
+            first: nodes.object(64 * j),
+            count: (nodes.objects - 64 * j).min(64),
+        };
+        spread_from(nodes, graph_edges, group, marks, waiting, touched);
+        groups.push(take_reached(alloc, nodes, marks, touched)?)?;
     }
     Ok((loads, groups))
 }

@@ -2,8 +2,8 @@ ghost use Rattle.std.specs.Prelude.{◌≡◌, ◌+◌, ◌<◌, ◌≤◌, List
 ghost use Rattle.reach_graph.specs.Reaching.{plain_rows, AreInside};
 ghost use Rattle.reach_graph.specs.declared.edges.Edge.{Edge};
 ghost use Rattle.points_to.specs.Nodes.{node_count};
-ghost use Rattle.points_to.specs.Tables.{Begins, IsReached, plain};
-ghost use Rattle.points_to.specs.Sweeps.{AreBare, AreBegun, HasRoom};
+ghost use Rattle.points_to.specs.Tables.{Begins, IsReached, Keeps, Kept, plain};
+ghost use Rattle.points_to.specs.Sweeps.{AreBare, AreBegun, AreNoted, HasRoom};
 
 use crate::clearing::{clear, forget};
 use crate::marks::one_mark;
@@ -14,32 +14,51 @@ use crate::waiting::add;
 use reach_graph::Edge;
 use std::alloc::{AllocError, Global};
 
-/// What marks reach of which mark `k` begins at the `k`-th of `count` nodes from `first` on. No node has a mark before,
-/// and none afterwards.
-pub(crate) fn reached_from(
-    alloc: Global,
+/// Some nodes, one behind the other.
+#[derive(Clone, Copy)]
+pub(crate) struct Span {
+    pub(crate) first: u32,
+    pub(crate) count: u32,
+}
+
+/// Lets mark `k` spread from the `k`-th node of a span. No node has a mark before.
+pub(crate) fn spread_from(
     nodes: Nodes,
     graph_edges: &[Vec<Edge>],
-    first: u32,
-    count: u32,
+    span: Span,
     marks: &mut [u64],
     waiting: &mut [u64],
     touched: &mut [bool],
-) -> Result<Reached, AllocError>
+)
     requires room { length graph_edges.now ≡ node_count nodes.blocks nodes.objects }
     requires inside { AreInside (plain_rows graph_edges.now) (node_count nodes.blocks nodes.objects) }
-    requires last { first + count ≤ node_count nodes.blocks nodes.objects }
-    requires few { count ≤ 64 }
+    requires last { span.first + span.count ≤ node_count nodes.blocks nodes.objects }
+    requires few { span.count ≤ 64 }
     requires size { length marks.old ≡ node_count nodes.blocks nodes.objects }
     requires words { HasRoom nodes.blocks nodes.objects waiting.old }
     requires one_each { length touched.old ≡ length waiting.old }
     requires units { length waiting.old ≤ 67108864 }
     requires bare { AreBare marks.old }
-    ensures reached { IfOk result (λ r. IsReached (plain_rows graph_edges.now) nodes.blocks first count (plain r)) }
+    ensures reached { (kept : Kept) → Keeps marks.new nodes.blocks kept → IsReached (plain_rows graph_edges.now) nodes.blocks span.first span.count kept }
+    ensures noted { AreNoted nodes.blocks touched.new marks.new }
+{
+    begin_marks(nodes, marks, waiting, span.first, span.count);
+    spread(nodes, graph_edges, marks, waiting, touched);
+}
+
+/// What is kept of the marks of all nodes, which have none afterwards.
+pub(crate) fn take_reached(
+    alloc: Global,
+    nodes: Nodes,
+    marks: &mut [u64],
+    touched: &mut [bool],
+) -> Result<Reached, AllocError>
+    requires size { length marks.old ≡ node_count nodes.blocks nodes.objects }
+    requires few { length touched.old ≤ 67108864 }
+    requires noted { AreNoted nodes.blocks touched.old marks.old }
+    ensures kept { IfOk result (λ r. Keeps marks.old nodes.blocks (plain r)) }
     ensures bare { OnOk result (AreBare marks.new) }
 {
-    begin_marks(nodes, marks, waiting, first, count);
-    spread(nodes, graph_edges, marks, waiting, touched);
     let reached = Reached::of(alloc, nodes, marks, touched)?;
     clear(nodes, marks, touched);
     forget(touched);

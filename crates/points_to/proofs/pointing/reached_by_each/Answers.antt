@@ -12,11 +12,12 @@ loop-j-preserved c =
     let objects = c.args.nodes.objects in
     let j = c.loop-j.j in
     let groups = c.loop-j.groups.items in
-    let r = c.in_ok-reached_from.field-0 in
-    let count : c.min-count.result ≡ min 64 (objects - 64 * j) = omega (arith, c.min-count.ensures) in
-    let one = subst (λ (m : ℕ). IsReached rows n c.object-first.result m (plain r)) count c.in_ok-reached_from.ensures.reached in
-    let two = subst (λ (m : ℕ). IsReached rows n m (min 64 (objects - 64 * j)) (plain r)) c.object-first.ensures one in
+    let r = c.in_ok-take_reached.field-0 in
+    let reached = c.spread_from-in-loop-j.ensures.reached (plain r) c.in_ok-take_reached.ensures.kept in
+    let count : c.min.result ≡ min 64 (objects - 64 * j) = omega (arith, c.min.ensures) in
+    let one = subst (λ (m : ℕ). IsReached rows n c.object.result m (plain r)) count reached in
+    let two = subst (λ (m : ℕ). IsReached rows n m (min 64 (objects - 64 * j)) (plain r)) c.object.ensures one in
     let whole : map plain c.push.new.self.items ≡ map plain groups ++ plain r ∷ [] = ap (map plain) c.in_ok-push.ensures.items ∙ map-append plain groups (r ∷ []) in (
-      c.in_ok-reached_from.ensures.bare,
+      c.in_ok-take_reached.ensures.bare,
       subst (λ (ks : List Kept). AreGroups rows n objects (j + 1) ks) (sym {A = List Kept} whole) (groups_more rows n objects j (map plain groups) (plain r) two c.loop-j.invariant.1),
     )
