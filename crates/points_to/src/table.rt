@@ -51,7 +51,8 @@ impl PointsTable {
     /// The objects of a group of 64 of which some register that is asked may hold an address where its block begins:
     /// mark `k` is object `64 * group + k`. A set of registers is asked for each block, by its number.
     ///
-    /// The time grows with the number of registers that hold an address of some object of the group.
+    /// The time grows with the number of registers that hold an address of some object of the group, and, where one of
+    /// these stands in memory, with the number of registers that hold what was loaded.
     pub fn held(&self, asked: &[RegSet], group: usize) -> u64
         ensures { (c : Code) (g : Graph) → IsTableOf c g self.now → length asked.now ≤ length c.blocks.items → (k : ℕ) → k < 64 → HasMark result k ↔ IsHeld c g asked.now (64 * group + k) }
     {
@@ -72,6 +73,9 @@ impl PointsTable {
     fn loaded_of(&self, asked: &[RegSet], stored: u64) -> u64
         ensures { (k : ℕ) → HasMark result k ↔ (HasMark stored k × ReachedAsked asked.now (plain self.now.loads) 0) }
     {
+        if stored == 0 {
+            return 0;
+        }
         if has_mark(self.loads.marks_of(asked), 0) {
             stored
         } else {
