@@ -1,6 +1,7 @@
 //! The bytes that a list's contents are.
 
 use crate::lists::{Content, Parts, Stored};
+use crate::pieces::built_bytes;
 use anyhow::{Context, Result};
 use std::alloc::{AllocError, Global};
 use std::fs;
@@ -23,10 +24,18 @@ fn beside(alloc: Global, list: &str, file: &str) -> Result<String, AllocError> {
     }
 }
 
+/// The bytes of the file with this name, or those that it tells in pieces.
+fn whole_bytes(rt: &(impl Files + AllocGlobal), name: &str) -> Result<Vec<u8>> {
+    if name.ends_with(".pieces") {
+        return built_bytes(rt.alloc(), &fs::read_to_string(rt, name)?);
+    }
+    Ok(fs::read(rt, name)?)
+}
+
 /// The bytes of a stored file, cut off and changed.
 fn stored_bytes(rt: &(impl Files + AllocGlobal), list: &str, stored: &Stored) -> Result<Vec<u8>> {
     let name = beside(rt.alloc(), list, &stored.file)?;
-    let mut bytes = fs::read(rt, &name).with_context(|| &name)?;
+    let mut bytes = whole_bytes(rt, &name).with_context(|| &name)?;
     if let Some(first) = stored.first {
         bytes.truncate(usize::try_from(first)?);
     }

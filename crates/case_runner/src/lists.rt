@@ -24,6 +24,10 @@ pub struct Case {
     pub name: String,
     #[serde(default)]
     pub files: BTreeMap<String, Content>,
+    /// Two numbers: the calls are made anew for each length from the first to below the second, and the case's own files are
+    /// cut off there.
+    #[serde(default)]
+    pub lengths: Vec<u64>,
     /// The reads and writes that fail, counted from 0 over all calls.
     #[serde(default)]
     pub failing_calls: Vec<u64>,
@@ -44,7 +48,7 @@ pub struct Call {
     pub words: String,
     #[serde(default)]
     pub status: u8,
-    /// What is printed. Where this is missing, it is not looked at.
+    /// What is printed, with `{length}` for the length at which files are cut off. Where this is missing, it is not looked at.
     pub prints: Option<String>,
     /// Whether `clap` takes the words too. Where this is missing, it is not asked.
     pub clap: Option<bool>,

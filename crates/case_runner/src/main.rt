@@ -18,6 +18,7 @@ mod clap_words;
 mod contents;
 mod lists;
 mod outside;
+mod pieces;
 mod running;
 
 use crate::lists::{Case, List, read_list};

@@ -7,6 +7,7 @@ use crate::outside::Outside;
 use anyhow::{Result, bail};
 use std::alloc::{AllocError, Global};
 use std::collections::BTreeMap;
+use std::ops::Range;
 use std::rt::Files;
 
 /// What stands under each name.
@@ -19,25 +20,62 @@ pub fn first_difference(
     list: &List,
     case: &Case,
 ) -> Result<Option<String>> {
+    match case.lengths.as_slice() {
+        [] => difference_at(rt, name, list, case, None),
+        [from, to] => cut_difference(rt, name, list, case, *from..*to),
+        _ => bail!("`lengths` are two numbers"),
+    }
+}
+
+/// The first difference at one of the lengths at which the case's files are cut off.
+fn cut_difference(
+    rt: &(impl Files + AllocGlobal),
+    name: &str,
+    list: &List,
+    case: &Case,
+    lengths: Range<u64>,
+) -> Result<Option<String>> {
+    for length in lengths {
+        if let Some(difference) = difference_at(rt, name, list, case, Some(length))? {
+            return Ok(Some(format!(in rt.alloc(); "at length {length}: {difference}")?));
+        }
+    }
+    Ok(None)
+}
+
+/// The first difference of the calls, and of the files behind them; where a length is given, with the case's files cut off
+/// there.
+fn difference_at(
+    rt: &(impl Files + AllocGlobal),
+    name: &str,
+    list: &List,
+    case: &Case,
+    length: Option<u64>,
+) -> Result<Option<String>> {
     let mut before = BTreeMap::new(rt.alloc());
-    add_contents(rt, name, &list.files, &mut before)?;
-    add_contents(rt, name, &case.files, &mut before)?;
+    add_contents(rt, name, &list.files, None, &mut before)?;
+    add_contents(rt, name, &case.files, length, &mut before)?;
     let mut outside = Outside::new(rt.alloc(), &before, case)?;
-    if let Some(difference) = called_difference(rt.alloc(), &mut outside, &case.calls)? {
+    if let Some(difference) = called_difference(rt.alloc(), &mut outside, &case.calls, length)? {
         return Ok(Some(difference));
     }
     file_difference(rt, name, &mut outside, case, &before)
 }
 
-/// Puts contents under their names.
+/// Puts contents under their names, at most so many bytes of each.
 fn add_contents(
     rt: &(impl Files + AllocGlobal),
     list: &str,
     contents: &BTreeMap<String, Content>,
+    length: Option<u64>,
     held: &mut Held,
 ) -> Result<()> {
     for (name, content) in contents {
-        held.insert(name.clone()?, bytes_of(rt, list, content)?)?;
+        let mut bytes = bytes_of(rt, list, content)?;
+        if let Some(length) = length {
+            bytes.truncate(usize::try_from(length)?);
+        }
+        held.insert(name.clone()?, bytes)?;
     }
     Ok(())
 }
@@ -47,10 +85,11 @@ fn called_difference(
     alloc: Global,
     outside: &mut Outside,
     calls: &[Call],
+    length: Option<u64>,
 ) -> Result<Option<String>> {
     for call in calls {
         let status = outside.call(&call.words)?;
-        if let Some(difference) = call_difference(alloc, call, status, outside.printed())? {
+        if let Some(difference) = call_difference(alloc, call, length, status, outside.printed())? {
             return Ok(Some(difference));
         }
         if let Some(difference) = clap_difference(alloc, call)? {
@@ -64,11 +103,13 @@ fn called_difference(
 fn call_difference(
     alloc: Global,
     call: &Call,
+    length: Option<u64>,
     status: u8,
     printed: &[u8],
 ) -> Result<Option<String>, AllocError> {
     let words = &call.words;
-    if let Some(wanted) = &call.prints {
+    if let Some(prints) = &call.prints {
+        let wanted = wanted_print(alloc, prints, length)?;
         if printed != wanted.as_bytes() {
             let got = String::from_utf8_lossy(alloc, printed)?;
             return Ok(Some(format!(in alloc;
@@ -81,6 +122,14 @@ fn call_difference(
         return Ok(Some(format!(in alloc; "`{words}` status, expected {wanted}, got {status}")?));
     }
     Ok(None)
+}
+
+/// What must be printed: the text, with the length in place of `{length}` where one is given.
+fn wanted_print(alloc: Global, prints: &str, length: Option<u64>) -> Result<String, AllocError> {
+    match length {
+        Some(length) => prints.replace(alloc, "{length}", &format!(in alloc; "{length}")?),
+        None => String::from_str(alloc, prints),
+    }
 }
 
 /// The difference of what `clap` says of a call's words to what it must.
