@@ -1,5 +1,5 @@
 -- The table of decoded instructions through stores and steps.
-use Rattle.std.proofs.Common.{◌≡◌, ◌≢◌, ℕ, ◌+◌, ◌*◌, ◌/◌, ◌%◌, ◌<◌, List, length, slice_index_or, slice_set, arith, get_or-set_other, length-set, ap, subst, sym, refl, ◌∙◌, ◌==◌, inl, inr}
+use Rattle.std.proofs.Common.{◌≡◌, ◌≢◌, ℕ, ◌+◌, ◌*◌, ◌/◌, ◌%◌, ◌<◌, List, length, slice_index_or, slice_set, arith, get_or-set_other, length-set, ap, subst, sym, refl, ◌==◌, inl, inr}
 use Rattle.std.proofs.lemmas.Bool.{cases_eq, cond_both}
 use Rattle.std.proofs.lemmas.Grind.{get_or-set_at}
 use Rattle.std.specs.Prelude.{true, false, Option, None, IsTrue}
@@ -11,7 +11,7 @@ use Rattle.rv_decode.specs.declared.instructions.StoreKind.{StoreKind}
 use Rattle.rv_decode.specs.declared.instructions.StoreKind.TheVariants.{Sb, Sh, Sw}
 use Rattle.rv_decode.specs.Table.{Means, MeansNothing}
 use Rattle.rv_decode.specs.declared.instructions.Instr.{Instr}
-use Rattle.rv_decode.specs.declared.instructions.Instr.TheVariants.{Load, Store, Ecall, Ebreak}
+use Rattle.rv_decode.specs.declared.instructions.Instr.TheVariants.{Load, Store, Ecall}
 use Rattle.rv_decode.specs.Acts.{store_width, stored, access_of}
 use Rattle.board_config.specs.declared.board.Range.{Range}
 use Rattle.flat_machine.specs.declared.events.FlatOutcome.TheVariants.{GoesOn, Trapped}
@@ -22,9 +22,6 @@ use Rattle.flat_machine.specs.State.{State, trap}
 use Rattle.flat_machine.specs.Calls.{a1, a2, a7, answered, exited, written, read, call}
 use Rattle.flat_machine.specs.Step.{may_access, performed, event_of, ReadsNothing, Performs, StepAt, Step}
 use Rattle.flat_machine.specs.Known.{IsKnown, HoldsIn, SlotHolds, AreKnown, slot_of, vacant, TakesStep}
-use Rattle.flat_machine.specs.declared.stop.Stop.{Stop}
-use Rattle.flat_machine.specs.declared.stop.Stop.TheVariants.{Ended, NoMemory}
-use Rattle.flat_machine.specs.Stops.{Stops, StopsStep}
 use Rattle.flat_machine.proofs.Runs.{performs_meaning}
 
 -- an aligned store keeps the bytes outside the word that it is in
@@ -125,24 +122,6 @@ quiet_after s i known quiet all = all
 pub quiet_kept : (s t : State) (i : Instr) (known : List Known) → IsQuiet i → t ≡ performed s i → AreKnown s.map s.hart.mem known → AreKnown t.map t.hart.mem known
 quiet_kept s t i known quiet is all = subst (AreKnownOf known) (sym is) (quiet_after s i known quiet all)
 
--- an instruction that makes no access and asks nothing of the environment
-abbrev pub IsPlain : Instr → Type 0
-IsPlain (Load kind rd rs1 imm) = ⊥
-IsPlain (Store kind rs1 rs2 imm) = ⊥
-IsPlain Ecall = ⊥
-IsPlain Ebreak = ⊥
-IsPlain other = Unit {0}
-
-plain_after : (s : State) (i : Instr) → IsPlain i → (performed s i).outcome ≡ s.outcome
-plain_after s (Load kind rd rs1 imm) plain = absurd plain
-plain_after s (Store kind rs1 rs2 imm) plain = absurd plain
-plain_after s Ecall plain = absurd plain
-plain_after s Ebreak plain = absurd plain
-plain_after s i plain = refl
-
-pub quiet_goes : (s t : State) (i : Instr) → IsPlain i → t ≡ performed s i → s.outcome ≡ GoesOn → t.outcome ≡ GoesOn
-quiet_goes s t i plain is going = ap (λ (u : State). u.outcome) is ∙ (plain_after s i plain ∙ going)
-
 read_only : (number : ℕ) → (number == 63) ≡ true → number ≡ 63
 read_only number is = grind (arith, nat_tests)
 
@@ -179,9 +158,3 @@ meaningless s going fetches nothing =
 pub known_step : (s t : State) (i : Instr) → s.outcome ≡ GoesOn → IsKnown s.map s.hart.mem s.hart.pc i → t ≡ performed s i → TakesStep s t
 known_step s t i going known is =
     (event_of s i, subst (λ u. Step s (event_of s i) u) (sym is) (performs_meaning s i going known.fetches known.means))
-
--- a step of an instruction that is known stops
-pub stopped_step : (stop : Stop) (s m t : State) (i : Instr) → m ≡ s → s.outcome ≡ GoesOn → IsKnown s.map s.hart.mem s.hart.pc i → Stops stop m t (performed m i) → StopsStep stop s t
-stopped_step Ended s m t i same going known stops =
-    (known_step s t i going known (stops.0 ∙ ap (λ (x : State). performed x i) same), stops.1)
-stopped_step NoMemory s m t i same going known stops = stops ∙ same

@@ -16,4 +16,3 @@ pub mod Sizes
 pub mod Machine
 pub mod Known
 pub mod Reach
-pub mod Stops

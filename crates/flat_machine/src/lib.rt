@@ -11,7 +11,6 @@ mod loading;
 mod machine;
 mod mapping;
 mod reach;
-mod stop;
 
 pub use events::{FlatAccess, FlatEvent, FlatOutcome};
 pub use laws::{

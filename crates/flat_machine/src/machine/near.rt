@@ -4,35 +4,27 @@ use crate::known::Known;
 use crate::known_table::forget;
 use crate::machine::Flat;
 use crate::mapping::{has_access, is_near, range_around, reach_of};
-use crate::stop::Stop;
 use paged_store::ByteStore;
 use rv_decode::{LoadKind, StoreKind};
 use std::alloc::AllocError;
 
 impl<S: ByteStore> Flat<S> {
-    ghost use Rattle.std.specs.Prelude.{◌≡◌, ◌<◌, ◌≤◌, List, length, IsTrue, OnSome, MatchOption, OnOk, OnErr, IfOk, IfErr};
+    ghost use Rattle.std.specs.Prelude.{◌≡◌, ◌<◌, ◌≤◌, List, length, IsTrue, OnOk, OnErr};
     ghost use Rattle.rv_decode.specs.declared.instructions.Instr.{Instr};
     ghost use Rattle.flat_machine.specs.declared.known.Known.{Known};
     ghost use Rattle.flat_machine.specs.Mapping.{can_access};
     ghost use Rattle.flat_machine.specs.Step.{performed};
-    ghost use Rattle.flat_machine.specs.declared.events.FlatOutcome.{FlatOutcome};
     ghost use Rattle.flat_machine.specs.Known.{AreKnown};
-    ghost use Rattle.flat_machine.specs.Runs.{HasEnded};
-    ghost use Rattle.flat_machine.specs.Stops.{Stops};
     ghost use Rattle.flat_machine.specs.Machine.{state_of};
 
     /// A load.
     // The kinds are told apart here, so that each has its own width and its own way into the store.
     #[inline(always)]
-    pub(super) fn load_near(&mut self, kind: LoadKind, rd: u8, rs1: u8, imm: i32) -> Option<u32>
+    pub(super) fn load_near(&mut self, kind: LoadKind, rd: u8, rs1: u8, imm: i32)
         requires rd { rd < 32 }
         requires rs1 { rs1 < 32 }
-        requires going { (state_of S.byte_at self.old).outcome ≡ FlatOutcome.GoesOn }
-        ensures state { state_of S.byte_at self.new
+        ensures { state_of S.byte_at self.new
             ≡ performed (state_of S.byte_at self.old) (Instr.Load kind rd rs1 imm) }
-        ensures going { OnSome result ((state_of S.byte_at self.new).outcome ≡ FlatOutcome.GoesOn) }
-        ensures next { MatchOption result (HasEnded (state_of S.byte_at self.new).outcome)
-            (λ next. next ≡ self.new.pc) }
     {
         match kind {
             LoadKind::Lb => self.load_of(LoadKind::Lb, rd, rs1, imm),
@@ -45,42 +37,33 @@ impl<S: ByteStore> Flat<S> {
 
     /// A load of a kind that the caller names.
     #[inline(always)]
-    fn load_of(&mut self, kind: LoadKind, rd: u8, rs1: u8, imm: i32) -> Option<u32>
+    fn load_of(&mut self, kind: LoadKind, rd: u8, rs1: u8, imm: i32)
         requires rd { rd < 32 }
         requires rs1 { rs1 < 32 }
-        requires going { (state_of S.byte_at self.old).outcome ≡ FlatOutcome.GoesOn }
-        ensures state { state_of S.byte_at self.new
+        ensures { state_of S.byte_at self.new
             ≡ performed (state_of S.byte_at self.old) (Instr.Load kind rd rs1 imm) }
-        ensures going { OnSome result ((state_of S.byte_at self.new).outcome ≡ FlatOutcome.GoesOn) }
-        ensures next { MatchOption result (HasEnded (state_of S.byte_at self.new).outcome)
-            (λ next. next ≡ self.new.pc) }
     {
         let at = self.register(rs1).wrapping_add_signed(imm);
         if self.is_near(at, load_bytes(kind)) {
             let value = loaded_value(&self.store, kind, at);
             self.write(rd, value);
-            return Some(self.pc);
+            return;
         }
-        self.load_far(kind, rd, rs1, imm)
+        self.load_far(kind, rd, rs1, imm);
     }
 
     /// A load from any address.
     #[cold]
     #[inline(never)]
-    fn load_far(&mut self, kind: LoadKind, rd: u8, rs1: u8, imm: i32) -> Option<u32>
+    fn load_far(&mut self, kind: LoadKind, rd: u8, rs1: u8, imm: i32)
         requires rd { rd < 32 }
         requires rs1 { rs1 < 32 }
-        requires going { (state_of S.byte_at self.old).outcome ≡ FlatOutcome.GoesOn }
-        ensures state { state_of S.byte_at self.new
+        ensures { state_of S.byte_at self.new
             ≡ performed (state_of S.byte_at self.old) (Instr.Load kind rd rs1 imm) }
-        ensures going { OnSome result ((state_of S.byte_at self.new).outcome ≡ FlatOutcome.GoesOn) }
-        ensures next { MatchOption result (HasEnded (state_of S.byte_at self.new).outcome)
-            (λ next. next ≡ self.new.pc) }
     {
         let at = self.register(rs1).wrapping_add_signed(imm);
         let _ = self.load(kind, rd, rs1, imm);
         self.go_near(at);
-        self.next()
     }
 
     /// A store. The table forgets the instruction that it wrote over.
@@ -92,21 +75,16 @@ impl<S: ByteStore> Flat<S> {
         rs2: u8,
         imm: i32,
         known: &mut [Known],
-    ) -> Result<u32, Stop>
+    ) -> Result<(), AllocError>
         requires rs1 { rs1 < 32 }
         requires rs2 { rs2 < 32 }
         requires len { length known.old ≡ 4096 }
         requires known { let s = state_of S.byte_at self.old in AreKnown s.map s.hart.mem known.old }
-        requires going { (state_of S.byte_at self.old).outcome ≡ FlatOutcome.GoesOn }
         ensures state { OnOk result (state_of S.byte_at self.new
             ≡ performed (state_of S.byte_at self.old) (Instr.Store kind rs1 rs2 imm)) }
-        ensures going { OnOk result ((state_of S.byte_at self.new).outcome ≡ FlatOutcome.GoesOn) }
-        ensures next { IfOk result (λ next. next ≡ self.new.pc) }
         ensures known { OnOk result (let t = state_of S.byte_at self.new in
             AreKnown t.map t.hart.mem known.new) }
-        ensures stop { IfErr result (λ stop. Stops stop (state_of S.byte_at self.old)
-            (state_of S.byte_at self.new)
-            (performed (state_of S.byte_at self.old) (Instr.Store kind rs1 rs2 imm))) }
+        ensures err { OnErr result (state_of S.byte_at self.new ≡ state_of S.byte_at self.old) }
     {
         match kind {
             StoreKind::Sb => self.store_of(StoreKind::Sb, rs1, rs2, imm, known),
@@ -124,33 +102,24 @@ impl<S: ByteStore> Flat<S> {
         rs2: u8,
         imm: i32,
         known: &mut [Known],
-    ) -> Result<u32, Stop>
+    ) -> Result<(), AllocError>
         requires rs1 { rs1 < 32 }
         requires rs2 { rs2 < 32 }
         requires len { length known.old ≡ 4096 }
         requires known { let s = state_of S.byte_at self.old in AreKnown s.map s.hart.mem known.old }
-        requires going { (state_of S.byte_at self.old).outcome ≡ FlatOutcome.GoesOn }
         ensures state { OnOk result (state_of S.byte_at self.new
             ≡ performed (state_of S.byte_at self.old) (Instr.Store kind rs1 rs2 imm)) }
-        ensures going { OnOk result ((state_of S.byte_at self.new).outcome ≡ FlatOutcome.GoesOn) }
-        ensures next { IfOk result (λ next. next ≡ self.new.pc) }
         ensures known { OnOk result (let t = state_of S.byte_at self.new in
             AreKnown t.map t.hart.mem known.new) }
-        ensures stop { IfErr result (λ stop. Stops stop (state_of S.byte_at self.old)
-            (state_of S.byte_at self.new)
-            (performed (state_of S.byte_at self.old) (Instr.Store kind rs1 rs2 imm))) }
+        ensures err { OnErr result (state_of S.byte_at self.new ≡ state_of S.byte_at self.old) }
     {
         let at = self.register(rs1).wrapping_add_signed(imm);
         if self.is_near(at, store_bytes(kind)) {
             let value = self.register(rs2);
-            let next = self.pc.wrapping_add(4);
-            match set_value(&mut self.store, kind, at, value) {
-                Ok(()) => {}
-                Err(_) => return Err(Stop::NoMemory),
-            }
+            set_value(&mut self.store, kind, at, value)?;
             forget(known, at);
-            self.pc = next;
-            return Ok(next);
+            self.pc = self.pc.wrapping_add(4);
+            return Ok(());
         }
         self.store_far(kind, rs1, rs2, imm, known)
     }
@@ -165,32 +134,21 @@ impl<S: ByteStore> Flat<S> {
         rs2: u8,
         imm: i32,
         known: &mut [Known],
-    ) -> Result<u32, Stop>
+    ) -> Result<(), AllocError>
         requires rs1 { rs1 < 32 }
         requires rs2 { rs2 < 32 }
         requires len { length known.old ≡ 4096 }
         requires known { let s = state_of S.byte_at self.old in AreKnown s.map s.hart.mem known.old }
-        requires going { (state_of S.byte_at self.old).outcome ≡ FlatOutcome.GoesOn }
         ensures state { OnOk result (state_of S.byte_at self.new
             ≡ performed (state_of S.byte_at self.old) (Instr.Store kind rs1 rs2 imm)) }
-        ensures going { OnOk result ((state_of S.byte_at self.new).outcome ≡ FlatOutcome.GoesOn) }
-        ensures next { IfOk result (λ next. next ≡ self.new.pc) }
         ensures known { OnOk result (let t = state_of S.byte_at self.new in
             AreKnown t.map t.hart.mem known.new) }
-        ensures stop { IfErr result (λ stop. Stops stop (state_of S.byte_at self.old)
-            (state_of S.byte_at self.new)
-            (performed (state_of S.byte_at self.old) (Instr.Store kind rs1 rs2 imm))) }
+        ensures err { OnErr result (state_of S.byte_at self.new ≡ state_of S.byte_at self.old) }
     {
         let at = self.register(rs1).wrapping_add_signed(imm);
-        match self.store_anywhere(kind, rs1, rs2, imm, known) {
-            Ok(()) => {}
-            Err(_) => return Err(Stop::NoMemory),
-        }
+        self.store_anywhere(kind, rs1, rs2, imm, known)?;
         self.go_near(at);
-        match self.next() {
-            Some(next) => Ok(next),
-            None => Err(Stop::Ended),
-        }
+        Ok(())
     }
 
     /// A store at any address, whose range is not kept.

@@ -2,7 +2,6 @@
 use Rattle.std.proofs.Common.{rules, w32}
 use Rattle.std.specs.Prelude.{FitsSigned}
 use Rattle.std.proofs.lemmas.Int.{to_z-of_z}
-use Rattle.std.proofs.lemmas.Result.{on_ok_weaker}
 use Rattle.flat_machine.proofs.machine.Flat.perform_knowing.Goals as goal
 
 pub returns-in-Lui-clause-state : goal.returns-in-Lui-clause-state
@@ -28,9 +27,4 @@ returns-in-OpReg-clause-state g c = rw c.in-OpReg.is c.op_reg.ensures
 
 pub returns-in-Load-clause-state : goal.returns-in-Load-clause-state
 returns-in-Load-clause-state g c =
-    let fits : FitsSigned w32 c.in-Load.imm = search rules in
-    on_ok_weaker c.load_knowing.result (λ _. rw c.in-Load.is (simp to_z-of_z at c.load_knowing.ensures.state)) c.load_knowing.ensures.going
-
-pub returns-in-Load-clause-stop : goal.returns-in-Load-clause-stop
-returns-in-Load-clause-stop g c =
-    let fits : FitsSigned w32 c.in-Load.imm = search rules in rw c.in-Load.is (simp to_z-of_z at c.load_knowing.ensures.stop)
+    let fits : FitsSigned w32 c.in-Load.imm = search rules in rw c.in-Load.is (simp to_z-of_z at c.load_near.ensures)
