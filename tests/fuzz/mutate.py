@@ -144,6 +144,12 @@ def move_section(random: Random, file: bytearray) -> None:
     put(file, at + column, 4, value)
 
 
+def move_segment(random: Random, file: bytearray) -> None:
+    """Gives a segment an address about one at which the upper half changes."""
+    for at, _ in program_headers(file)[:random.randint(1, 3)]:
+        put(file, at + 8, 4, random.choice((0x10000, 0x20000, 0xFFFF0000)) - random.randrange(300))
+
+
 def lengthen_table(random: Random, file: bytearray) -> None:
     """Gives the symbol table, or a table of relocations, a place behind the file, where it has too many records."""
     kind, size = random.choice(((SYMTAB, SYMBOL * 65536), (RELA, RELOCATION * 262144)))
@@ -171,7 +177,7 @@ def splice(random: Random, file: bytearray, others: list[bytes]) -> None:
 
 CHANGES: list[tuple[int, Callable[[Random, bytearray], None]]] = [
     (400, change_field), (100, flip), (150, change_word), (30, cut), (40, extend), (60, copy_record), (60, move_section),
-    (40, change_kind), (1, lengthen_table)]
+    (40, change_kind), (30, move_segment), (1, lengthen_table)]
 
 
 def change_symbol(random: Random, file: bytearray) -> None:
