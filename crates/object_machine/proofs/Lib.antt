@@ -17,6 +17,7 @@ pub mod RunLemmas
 pub mod SiteLemmas
 pub mod StartLemmas
 pub mod StoreLemmas
+pub mod NumberLemmas
 pub mod LandingLemmas
 pub mod CellLemmas
 pub mod TableLemmas

@@ -2,13 +2,14 @@ use crate::events::Access;
 use crate::machine::Source;
 use crate::units::Prepared;
 use cell_values::{Val, compare, low_site, op_imm, op_reg};
-use rv_decode::{BranchKind, ImmKind, Instr, RegKind};
+use rv_decode::{BranchKind, ImmKind, Instr, RegKind, imm_result, reg_result};
 use std::alloc::AllocError;
 
 impl Source {
     ghost use Rattle.std.specs.Prelude.{◌≡◌, ◌+◌, ◌<◌, length, IfOk, OnOk, OnErr};
-    ghost use Rattle.cell_values.specs.Objects.{IsOfGraph};
-    ghost use Rattle.object_machine.specs.State.{trapped};
+    ghost use Rattle.cell_values.specs.Objects.{IsOfGraph, objects_of};
+    ghost use Rattle.cell_values.specs.Operations.{op_imm, op_reg};
+    ghost use Rattle.object_machine.specs.State.{trapped, value};
     ghost use Rattle.object_machine.specs.Step.{acts, access_by, one_word, upper_value, imm_result};
     ghost use Rattle.object_machine.specs.Units.{Fits, FitsRead, IsFit};
     ghost use Rattle.object_machine.specs.Machine.{here, seen, seen_state, next_by, accesses, Becomes};
@@ -148,8 +149,7 @@ impl Source {
             let s = seen_state self.old in
             Becomes self.old self.new (acts p s (Instr.Jalr rd rs1 imm) (p.site s.pc)) }
     {
-        let base = self.register(rs1);
-        let target = op_imm(ImmKind::Addi, &base, imm, &self.tables.graph);
+        let target = self.imm_operated(ImmKind::Addi, rs1, imm);
         self.jump_by(&target, rd);
     }
 
@@ -177,22 +177,58 @@ impl Source {
             let s = seen_state self.old in
             Becomes self.old self.new (acts p s (Instr.OpImm kind rd rs1 imm) (p.site s.pc)) }
     {
-        let base = self.register(rs1);
-        let value = self.imm_result(kind, &base, imm);
+        let value = self.imm_result(kind, rs1, imm);
         self.write(rd, value);
     }
 
-    /// What that leaves of a value.
+    /// What that leaves of a register.
     #[inline(always)]
-    fn imm_result(&self, kind: ImmKind, base: &Val, imm: i32) -> Val
-        requires { IsOfGraph self.now.tables.graph base.now }
-        ensures value { result ≡ imm_result (seen self.now) kind base.now imm ((seen self.now).site self.now.pc) }
+    fn imm_result(&self, kind: ImmKind, rs1: u8, imm: i32) -> Val
+        requires { rs1 < 32 }
+        ensures value { result ≡ imm_result (seen self.now) kind (value (seen_state self.now).regs rs1) imm ((seen self.now).site self.now.pc) }
         ensures of { IsOfGraph self.now.tables.graph result }
     {
         match self.site() {
-            Some(site) => low_site(base, site.object, site.offset, &self.tables.graph),
-            None => op_imm(kind, base, imm, &self.tables.graph),
+            Some(site) => {
+                let base = self.register(rs1);
+                low_site(&base, site.object, site.offset, &self.tables.graph)
+            }
+            None => self.imm_operated(kind, rs1, imm),
         }
+    }
+
+    // Operations on numbers, and sums of an address and a number, are inlined. The others take the registers' numbers, so that
+    // no value need stand in memory for them.
+
+    /// What an operation with an immediate leaves of a register.
+    #[inline(always)]
+    pub(super) fn imm_operated(&self, kind: ImmKind, rs1: u8, imm: i32) -> Val
+        requires { rs1 < 32 }
+        ensures value { result ≡ op_imm (objects_of self.now.tables.graph) kind (value (seen_state self.now).regs rs1) imm }
+        ensures of { IsOfGraph self.now.tables.graph result }
+    {
+        match self.register(rs1) {
+            Val::Int(n) => Val::Int(imm_result(kind, n, imm)),
+            Val::Addr { obj, off } => match kind {
+                ImmKind::Addi => Val::Addr {
+                    obj,
+                    off: off.wrapping_add(imm.cast_unsigned()),
+                },
+                _ => self.imm_operated_any(kind, rs1, imm),
+            },
+            _ => self.imm_operated_any(kind, rs1, imm),
+        }
+    }
+
+    /// The same of any value.
+    #[inline(never)]
+    fn imm_operated_any(&self, kind: ImmKind, rs1: u8, imm: i32) -> Val
+        requires { rs1 < 32 }
+        ensures value { result ≡ op_imm (objects_of self.now.tables.graph) kind (value (seen_state self.now).regs rs1) imm }
+        ensures of { IsOfGraph self.now.tables.graph result }
+    {
+        let base = self.register(rs1);
+        op_imm(kind, &base, imm, &self.tables.graph)
     }
 
     /// An operation on two registers.
@@ -205,9 +241,40 @@ impl Source {
             let s = seen_state self.old in
             Becomes self.old self.new (acts p s (Instr.OpReg kind rd rs1 rs2) (p.site s.pc)) }
     {
+        let value = self.operated(kind, rs1, rs2);
+        self.write(rd, value);
+    }
+
+    /// What an operation leaves of two registers.
+    #[inline(always)]
+    #[tactic(auto, using(crate::proofs::NumberLemmas::numbers_operated))]
+    fn operated(&self, kind: RegKind, rs1: u8, rs2: u8) -> Val
+        requires rs1 { rs1 < 32 }
+        requires rs2 { rs2 < 32 }
+        ensures value { let regs = (seen_state self.now).regs in
+            result ≡ op_reg (objects_of self.now.tables.graph) kind (value regs rs1) (value regs rs2) }
+        ensures of { IsOfGraph self.now.tables.graph result }
+    {
+        match self.register(rs1) {
+            Val::Int(a) => match self.register(rs2) {
+                Val::Int(b) => Val::Int(reg_result(kind, a, b)),
+                _ => self.operated_any(kind, rs1, rs2),
+            },
+            _ => self.operated_any(kind, rs1, rs2),
+        }
+    }
+
+    /// The same of any values.
+    #[inline(never)]
+    fn operated_any(&self, kind: RegKind, rs1: u8, rs2: u8) -> Val
+        requires rs1 { rs1 < 32 }
+        requires rs2 { rs2 < 32 }
+        ensures value { let regs = (seen_state self.now).regs in
+            result ≡ op_reg (objects_of self.now.tables.graph) kind (value regs rs1) (value regs rs2) }
+        ensures of { IsOfGraph self.now.tables.graph result }
+    {
         let first = self.register(rs1);
         let second = self.register(rs2);
-        let value = op_reg(kind, &first, &second, &self.tables.graph);
-        self.write(rd, value);
+        op_reg(kind, &first, &second, &self.tables.graph)
     }
 }

@@ -1,7 +1,7 @@
 use crate::events::Access;
 use crate::machine::Source;
 use crate::spots::Spot;
-use cell_values::{Val, low_site, op_imm};
+use cell_values::{Val, low_site};
 use object_graph::Site;
 use rv_decode::ImmKind;
 
@@ -40,16 +40,19 @@ impl Source {
         self.tables.units[self.place].site
     }
 
-    /// Where a load or a store goes whose register has this value: at a site by the object that it names.
+    /// Where a load or a store goes by a register: at a site by the object that it names.
     #[inline(always)]
-    fn address(&self, base: &Val, imm: i32) -> Val
-        requires { IsOfGraph self.now.tables.graph base.now }
-        ensures value { result ≡ address_of (seen self.now) ((seen self.now).site self.now.pc) base.now imm }
+    fn address(&self, rs1: u8, imm: i32) -> Val
+        requires { rs1 < 32 }
+        ensures value { result ≡ address_of (seen self.now) ((seen self.now).site self.now.pc) (value (seen_state self.now).regs rs1) imm }
         ensures of { IsOfGraph self.now.tables.graph result }
     {
         match self.site() {
-            Some(site) => low_site(base, site.object, site.offset, &self.tables.graph),
-            None => op_imm(ImmKind::Addi, base, imm, &self.tables.graph),
+            Some(site) => {
+                let base = self.register(rs1);
+                low_site(&base, site.object, site.offset, &self.tables.graph)
+            }
+            None => self.imm_operated(ImmKind::Addi, rs1, imm),
         }
     }
 
@@ -62,8 +65,7 @@ impl Source {
             where_of result ≡ located p width (address_of p (p.site self.now.pc) (value (seen_state self.now).regs rs1) imm) }
         ensures spans { Spans self.now.tables width result }
     {
-        let base = self.register(rs1);
-        let address = self.address(&base, imm);
+        let address = self.address(rs1, imm);
         self.located(width, &address)
     }
 
