@@ -211,6 +211,14 @@ def change_relocation(random: Random, file: bytearray) -> None:
         file[at:at + RELOCATION] = file[other:other + RELOCATION]
 
 
+def meet_relocation(random: Random, file: bytearray) -> None:
+    """Puts a symbol or a relocation to where another relocation is, or to a word behind it."""
+    symbols, relocations = records(file, SYMTAB, SYMBOL), records(file, RELA, RELOCATION)
+    if relocations and symbols:
+        place = word(file, random.choice(relocations)[0]) + random.choice((0, 4, 8))
+        put(file, random.choice((random.choice(symbols)[0] + 4, random.choice(relocations)[0])), 4, place)
+
+
 def change_flags(random: Random, file: bytearray) -> None:
     """Takes from a section that it can be written, is code, or has memory, or gives it that."""
     sections = section_headers(file)
@@ -248,7 +256,7 @@ def change_part(random: Random, file: bytearray) -> None:
 
 
 GENTLE = (change_word, change_part, change_part, change_symbol, change_relocation, change_relocation, change_flags,
-          split_section)
+          split_section, meet_relocation)
 
 
 def program(random: Random, seeds: list[bytes]) -> bytes:
