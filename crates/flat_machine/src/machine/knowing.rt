@@ -4,11 +4,12 @@ use crate::known::Known;
 use crate::known_table::{forget_all, is_known, kept_at, learn};
 use crate::machine::Flat;
 use paged_store::ByteStore;
-use rv_decode::{A7, CALL_READ, Instr, decode};
+use rv_decode::{A7, BranchKind, CALL_READ, Instr, decode, takes};
 use std::alloc::AllocError;
 
 impl<S: ByteStore> Flat<S> {
     ghost use Rattle.std.specs.Prelude.{◌≡◌, ℕ, ◌<◌, length, MatchBool, OnOk, OnErr};
+    ghost use Rattle.rv_decode.specs.declared.instructions.Instr.{Instr};
     ghost use Rattle.rv_decode.specs.Table.{IsInRange};
     ghost use Rattle.flat_machine.specs.declared.events.FlatOutcome.{FlatOutcome};
     ghost use Rattle.flat_machine.specs.State.{trap};
@@ -104,6 +105,7 @@ impl<S: ByteStore> Flat<S> {
     fn perform_knowing(&mut self, i: Instr, known: &mut [Known]) -> Result<(), AllocError>
         requires len { length known.old ≡ 4096 }
         requires known { let s = state_of S.byte_at self.old in AreKnown s.map s.hart.mem known.old }
+        requires going { (state_of S.byte_at self.old).outcome ≡ FlatOutcome.GoesOn }
         requires in_range { IsInRange i }
         ensures state { OnOk result (state_of S.byte_at self.new
             ≡ performed (state_of S.byte_at self.old) i) }
@@ -121,7 +123,7 @@ impl<S: ByteStore> Flat<S> {
                 rs1,
                 rs2,
                 off,
-            } => self.branch(kind, rs1, rs2, off),
+            } => self.branch_knowing(kind, rs1, rs2, off, known),
             Instr::Load { kind, rd, rs1, imm } => self.load_near(kind, rd, rs1, imm),
             Instr::Store {
                 kind,
@@ -136,6 +138,28 @@ impl<S: ByteStore> Flat<S> {
             Instr::Ebreak => self.trap(),
         }
         Ok(())
+    }
+
+    /// A conditional branch. Where it is taken, its target is looked up at once.
+    // So the host branches here, too, as it would not for a choice between two numbers: where it guesses
+    // wrong, it learns so as soon as it has compared, and not only at the jump to what comes next.
+    #[inline(always)]
+    fn branch_knowing(&mut self, kind: BranchKind, rs1: u8, rs2: u8, off: i32, known: &mut [Known])
+        requires rs1 { rs1 < 32 }
+        requires rs2 { rs2 < 32 }
+        requires len { length known.old ≡ 4096 }
+        requires known { let s = state_of S.byte_at self.old in AreKnown s.map s.hart.mem known.old }
+        requires going { (state_of S.byte_at self.old).outcome ≡ FlatOutcome.GoesOn }
+        ensures state { state_of S.byte_at self.new
+            ≡ performed (state_of S.byte_at self.old) (Instr.Branch kind rs1 rs2 off) }
+        ensures known { let t = state_of S.byte_at self.new in AreKnown t.map t.hart.mem known.new }
+    {
+        if !takes(kind, self.register(rs1), self.register(rs2)) {
+            self.pc = self.pc.wrapping_add(4);
+            return;
+        }
+        self.pc = self.pc.wrapping_add_signed(off);
+        let _ = self.is_ready(known);
     }
 
     /// Does the call that the registers name, and keeps the table right.
