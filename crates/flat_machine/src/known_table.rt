@@ -20,6 +20,8 @@ const VACANT: Known = Known {
 };
 
 /// The slot of an address.
+// Inlined, as all that a step of a run does, here and below.
+#[inline(always)]
 fn slot(at: u32) -> usize
     ensures { result ≡ slot_of at }
 {
@@ -37,7 +39,6 @@ pub fn nothing_known(alloc: Global) -> Result<Vec<Known>, AllocError>
 }
 
 /// Whether the instruction at an address is kept.
-// Inlined, as all that a step of a run does, here and below.
 #[inline(always)]
 #[tactic(auto, unfolding(crate::specs::Known::AreKnown))]
 pub fn is_known(known: &[Known], at: u32) -> bool

@@ -179,6 +179,8 @@ impl<S: ByteStore> Flat<S> {
     }
 
     /// Whether the machine goes on no more.
+    // Inlined, since each step asks it, and `step` and `run` both do.
+    #[inline(always)]
     fn has_ended(&self) -> bool
         ensures { MatchBool result (HasEnded (state_of S.byte_at self.now).outcome)
             ((state_of S.byte_at self.now).outcome ≡ FlatOutcome.GoesOn) }

@@ -48,7 +48,10 @@ fn lengthen_bytes(bytes: &mut Vec<u8>, n: usize) -> Result<(), AllocError>
     bytes.resize(n, 0)
 }
 
+// What each access goes through is inlined, here and below, since it has several callers.
+
 /// The little-endian halfword at a place.
+#[inline(always)]
 fn half_in(bytes: &[u8], place: usize) -> u16
     requires { place + 2 ≤ length bytes.now }
     ensures { result ≡ half_of (slice_index bytes.now place) (slice_index bytes.now (place + 1)) }
@@ -59,6 +62,7 @@ fn half_in(bytes: &[u8], place: usize) -> u16
 
 /// The little-endian word at a place. Its bytes are read from one slice, so that they become one
 /// load.
+#[inline(always)]
 fn word_in(bytes: &[u8], place: usize) -> u32
     requires { place + 4 ≤ length bytes.now }
     ensures { result
@@ -70,6 +74,7 @@ fn word_in(bytes: &[u8], place: usize) -> u32
 }
 
 /// Puts a piece at a place.
+#[inline(always)]
 fn put_piece(bytes: &mut Vec<u8>, place: usize, piece: &[u8])
     requires { place + length piece.now ≤ vec_len bytes.old }
     ensures items { bytes.new.items ≡ with_piece bytes.old.items place piece.now }
@@ -95,6 +100,7 @@ impl PageStore {
     }
 
     /// Whether an address has a page of its own.
+    #[inline(always)]
     fn has_page(&self, at: u32) -> bool
         ensures { result ≡ has_page self.now.directory.items at }
     {
@@ -102,6 +108,7 @@ impl PageStore {
     }
 
     /// Whether all of the `n` addresses from `at` are in one page, which is there.
+    #[inline(always)]
     fn has_span(&self, at: u32, n: u32) -> bool
         ensures { IsTrue result → HasRoom (has_page self.now.directory.items) at n }
     {
@@ -109,6 +116,7 @@ impl PageStore {
     }
 
     /// Where the byte of an address stands, once there is a directory.
+    #[inline(always)]
     fn place(&self, at: u32) -> usize
         requires { 0 < vec_len self.now.directory }
         ensures place { result ≡ byte_place self.now.directory.items at }
@@ -118,6 +126,7 @@ impl PageStore {
     }
 
     /// Puts a piece at an address that has a page, inside that page.
+    #[inline(always)]
     fn set_piece(&mut self, at: u32, piece: &[u8])
         requires page { page_of self.old.directory.items at ≢ 0 }
         requires inside { at % 4096 + length piece.now ≤ 4096 }

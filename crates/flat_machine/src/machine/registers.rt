@@ -6,7 +6,10 @@ impl<S: ByteStore> Flat<S> {
     ghost use Rattle.rv_decode.specs.Acts.{register, with_register, after_write, after_jump};
     ghost use Rattle.flat_machine.specs.Machine.{state_of};
 
+    // These are inlined: each step goes through them, and they have several callers.
+
     /// The word in a register.
+    #[inline(always)]
     pub(super) fn register(&self, k: u8) -> u32
         requires { k < 32 }
         ensures { result ≡ register (state_of S.byte_at self.now).hart.regs k }
@@ -15,6 +18,7 @@ impl<S: ByteStore> Flat<S> {
     }
 
     /// Puts a value into a register.
+    #[inline(always)]
     fn set_register(&mut self, rd: u8, value: u32)
         requires { rd < 32 }
         ensures { let s = state_of S.byte_at self.old in
@@ -27,6 +31,7 @@ impl<S: ByteStore> Flat<S> {
     }
 
     /// Puts a value into a register and goes to the next word.
+    #[inline(always)]
     pub(super) fn write(&mut self, rd: u8, value: u32)
         requires { rd < 32 }
         ensures { let s = state_of S.byte_at self.old in
@@ -37,6 +42,7 @@ impl<S: ByteStore> Flat<S> {
     }
 
     /// Jumps, and leaves the return address in a register.
+    #[inline(always)]
     pub(super) fn jump(&mut self, rd: u8, target: u32)
         requires { rd < 32 }
         ensures { let s = state_of S.byte_at self.old in
