@@ -1,8 +1,8 @@
 -- Marks of the words that have other cells than bytes.
-use Rattle.std.specs.Prelude.{◌≡◌, ◌⊎◌, ℕ, ◌/◌, ◌%◌, ◌<◌, Bool, false, List, length, slice_index, is_some, Option, Some, None}
+use Rattle.std.specs.Prelude.{◌≡◌, ◌⊎◌, ℕ, ◌/◌, ◌%◌, ◌<◌, false, List, length, slice_index, is_some, Option, Some, None}
 use Rattle.word_bits.specs.Words.{half_of}
 use Rattle.cell_values.specs.declared.values.Cell.{Cell}
-use Rattle.cell_values.specs.declared.values.Cell.TheVariants.{Byte, Part, Mist}
+use Rattle.cell_values.specs.declared.values.Cell.TheVariants.{Byte}
 
 -- the mark of the word of an address, 0 where there are no marks
 abbrev pub mark_of : List ℕ → ℕ → ℕ
