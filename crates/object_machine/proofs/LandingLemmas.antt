@@ -1,10 +1,10 @@
 -- Landings, and the widest range of fixed memory.
-use Rattle.std.proofs.Common.{◌≡◌, inl, inr, ℕ, zero, suc, ◌+◌, ◌<◌, ◌≤◌, true, List, set, replicate, length, slice_index, slice_index_or, get_or, Option, Some, None, refl, sym, ◌∙◌, ap, subst, arith}
+use Rattle.std.proofs.Common.{◌≡◌, inl, inr, ℕ, zero, suc, ◌<◌, true, List, set, length, slice_index, get_or, Option, None, refl, ◌∙◌, ap, arith}
 use Rattle.std.specs.List.{list_any}
 use Rattle.std.proofs.lemmas.Bool.{cases_eq}
 use Rattle.std.proofs.lemmas.List.{length-set, get_or-set_same, get_or-set_other}
 use Rattle.std.proofs.lemmas.List.Folds.{list_any_at}
-use Rattle.list_checks.specs.First.{◌or_else◌, first_below}
+use Rattle.list_checks.specs.First.{first_below}
 use Rattle.board_config.specs.declared.board.Range.{Range}
 use Rattle.object_graph.specs.Sites.{in_range}
 use Rattle.code_leaders.specs.Early.{has}

@@ -1,5 +1,3 @@
-use Rattle.std.proofs.Common.{◌≡◌, ℕ, true, subst, sym}
-use Rattle.code_leaders.specs.Early.{has}
 use Rattle.code_blocks.proofs.ListLemmas.{has_at}
 use Rattle.object_machine.proofs.landings.address_in.Goals as goal
 

@@ -1,7 +1,5 @@
-use Rattle.std.proofs.Common.{◌≡◌, ℕ, refl, ◌∙◌}
+use Rattle.std.proofs.Common.{refl, ◌∙◌}
 use Rattle.elf_reader.specs.File.{plain_view}
-use Rattle.object_graph.specs.Sites.{is_fixed_memory}
-use Rattle.object_machine.specs.Layout.{is_in_some}
 use Rattle.object_machine.proofs.TableLemmas.{fixed_agrees, are_tables, agree}
 use Rattle.object_machine.proofs.tabling.tables_of.Goals as goal
 

@@ -1,4 +1,4 @@
-use Rattle.std.proofs.Common.{◌≡◌, ℕ, ◌+◌, ◌<◌, None, refl, sym}
+use Rattle.std.proofs.Common.{refl, sym}
 use Rattle.object_machine.specs.Places.{fault_from}
 use Rattle.object_machine.specs.Machine.{seen}
 use Rattle.object_machine.proofs.LandingLemmas.{none_fails}

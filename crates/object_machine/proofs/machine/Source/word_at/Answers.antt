@@ -1,5 +1,4 @@
-use Rattle.std.proofs.Common.{◌+◌, ◌∙◌, ap}
-use Rattle.cell_values.specs.Objects.{IsOfGraph}
+use Rattle.std.proofs.Common.{◌+◌, ◌∙◌}
 use Rattle.cell_values.specs.Stored.{cells_of}
 use Rattle.object_machine.proofs.CellLemmas.{fixed_word, object_word, join_of}
 use Rattle.object_machine.proofs.machine.Source.word_at.Goals as goal
