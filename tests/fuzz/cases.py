@@ -111,7 +111,7 @@ STEPS_IN_TURN = 40_000
 # A program reads each word of a table of 64 words 100 times, which is 6,400 reads that save 8 each, less the copy of the
 # table. Its code has six blocks, and gains nothing at these prices.
 ONE_TABLE = "base 326040\nside off fixed 50\nrows 256 65452 1 1 1 1 1 1\nvar 47172 0:256 1:44\n"
-# Programs whose programmes were worked out by hand, with their boards. The base, which is the energy of the run with nothing
+# Programs whose programmes are known, with their boards. The base, which is the energy of the run with nothing
 # moved, tells which programme it is: that above, or one of crates/solver_bench/data/regions.txt.
 KNOWN = [
     ("caller_and_callee.elf", 'spm = [0x01000000, 48]\nregions = [["f"], ["g"]]\n', 30590),
