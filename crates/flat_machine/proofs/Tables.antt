@@ -23,6 +23,7 @@ use Rattle.flat_machine.specs.Calls.{a1, a2, a7, answered, exited, written, read
 use Rattle.flat_machine.specs.Step.{may_access, performed, event_of, ReadsNothing, Performs, StepAt, Step}
 use Rattle.flat_machine.specs.Known.{IsKnown, HoldsIn, SlotHolds, AreKnown, slot_of, vacant, TakesStep}
 use Rattle.flat_machine.proofs.Runs.{performs_meaning}
+use Rattle.flat_machine.proofs.LineWords.{word_kept}
 
 -- an aligned store keeps the bytes outside the word that it is in
 next_in_word : (at k : ℕ) → at < 4294967296 → at % 4 + k < 4 → plus at k / 4 ≡ at / 4
@@ -43,17 +44,9 @@ kept_byte Sw mem at value b small aligned off =
 -- and the words
 kept_word : (kind : StoreKind) (mem : Memory) (at value w : ℕ) → at < 4294967296 → at % store_width kind ≡ 0 → w < 4294967296 → w % 4 ≡ 0 → w / 4 ≢ at / 4 → word_at (stored kind mem at value) w ≡ word_at mem w
 kept_word kind mem at value w small aligned within whole off =
-    let one : plus w 1 / 4 ≡ w / 4 = next_in_word w 1 within (omega arith) in
-    let two : plus w 2 / 4 ≡ w / 4 = next_in_word w 2 within (omega arith) in
-    let three : plus w 3 / 4 ≡ w / 4 = next_in_word w 3 within (omega arith) in
-    let off1 : plus w 1 / 4 ≢ at / 4 = omega arith in
-    let off2 : plus w 2 / 4 ≢ at / 4 = omega arith in
-    let off3 : plus w 3 / 4 ≢ at / 4 = omega arith in
-    let b0 = kept_byte kind mem at value w small aligned off in
-    let b1 = kept_byte kind mem at value (plus w 1) small aligned off1 in
-    let b2 = kept_byte kind mem at value (plus w 2) small aligned off2 in
-    let b3 = kept_byte kind mem at value (plus w 3) small aligned off3 in
-    cc
+    word_kept mem (stored kind mem at value) w (omega arith) (λ x low high.
+    let apart : x / 4 ≢ at / 4 = omega arith in
+    kept_byte kind mem at value x small aligned apart)
 
 whole_word : (map : List Range) (at : ℕ) → IsTrue (can_access map at 4) → at % 4 ≡ 0
 whole_word map at can = grind (arith, nat_tests)
