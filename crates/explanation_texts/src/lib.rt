@@ -1,6 +1,7 @@
 //! The words of all explanations: what a command line, a board or a program lacks, in lines for standard error.
 #![tactic(auto)]
 
+mod answers;
 mod boards;
 mod cures;
 mod files;
@@ -13,6 +14,9 @@ mod relocations;
 mod runs;
 mod usage;
 
+pub use answers::{
+    explain_status, say_listed_twice, say_many_blocks, say_small_patch, say_unknown_function,
+};
 pub use boards::{explain_board, gives_key};
 pub use files::{say_incomplete, say_unread, say_unread_device, say_unwritten};
 pub use notes::Notes;

@@ -139,7 +139,13 @@ pub fn explain_layout(
         }
         GraphFault::NoArea { segment } => say_outside(notes, file, &file.segment(segment), board),
         GraphFault::PatchFar { .. } => say_far(notes, file, board),
-        _ => Ok(()),
+        GraphFault::SpmOverlapsPatch => say_ranges_meet(notes, board),
+        GraphFault::SpmAtZero => {
+            notes.say_words("the scratchpad of the board begins below address 16")?;
+            notes.say_first("correct `spm` of the board")
+        }
+        GraphFault::TooManyObjects { count } => say_many_objects(notes, count),
+        GraphFault::Memory => Ok(()),
     }
 }
 
@@ -179,6 +185,22 @@ fn say_range(notes: &mut Notes, key: &str, range: &Range) -> Result<(), AllocErr
         Piece::Text(" to "),
         Piece::Hex(range.base.wrapping_add(range.size)),
     ])
+}
+
+/// A scratchpad and a patch range that share an address.
+fn say_ranges_meet(notes: &mut Notes, board: &Board) -> Result<(), AllocError> {
+    notes.say_words("the scratchpad and the patch range of the board share an address")?;
+    say_range(notes, "spm", &board.spm)?;
+    say_range(notes, "patch", &board.patch)?;
+    notes.say_first("correct `spm` or `patch` of the board")
+}
+
+fn say_many_objects(notes: &mut Notes, count: u32) -> Result<(), AllocError> {
+    notes.say(&[
+        Piece::Number(u64::from(count)),
+        Piece::Text(" objects may move, and 4,096 are the limit"),
+    ])?;
+    notes.say_first("keep some by `fix` of the board")
 }
 
 /// A segment outside the board's memories.

@@ -7,10 +7,13 @@ use crate::inputs::{Inputs, inputs_of};
 use crate::pinned::explain_pinned;
 use crate::runs::{explain_end, explain_run};
 use board_config::{Board, read_board};
+use code_blocks::CodeFault;
 use explanation_texts::{
     Command, Notes, command_of, explain_board, explain_elf, explain_layout, explain_no_code,
-    explain_words,
+    explain_status, explain_words, say_listed_twice, say_many_blocks, say_small_patch,
+    say_unknown_function,
 };
+use region_former::RegionFault;
 use relink_core::{AnalyseFault, Analysis, analyse};
 use relinking::MeasuredEnd;
 use shelf_io::Shelf;
@@ -76,6 +79,7 @@ fn explain_inputs(notes: &mut Notes, inputs: &Inputs) -> Result<(), AllocError> 
     if inputs.status == 0 {
         return explain_done(notes, inputs);
     }
+    explain_status(notes, inputs.status, inputs.board.is_some())?;
     explain_files(notes, inputs)
 }
 
@@ -122,8 +126,25 @@ fn explain_for(notes: &mut Notes, inputs: &Inputs, board: &Board) -> Result<(), 
         return explain_file(notes, inputs);
     }
     match explain_sound(notes, &inputs.file, inputs, board) {
-        Ok(()) => Ok(()),
+        Ok(()) => explain_beside(notes, inputs),
         Err(fault) => explain_refusal(notes, &inputs.unchecked(), board, &fault),
+    }
+}
+
+/// A further ELF file, where it is why the command was refused.
+fn explain_beside(notes: &mut Notes, inputs: &Inputs) -> Result<(), AllocError> {
+    let Some(bytes) = &inputs.beside else {
+        return Ok(());
+    };
+    match elf_reader::read(inputs.alloc, bytes) {
+        Ok(_) => Ok(()),
+        Err(fault) => explain_elf(
+            notes,
+            &UncheckedFile {
+                bytes: bytes.as_slice(),
+            },
+            &fault,
+        ),
     }
 }
 
@@ -137,8 +158,28 @@ fn explain_refusal(
     match fault {
         AnalyseFault::Elf(fault) => explain_elf(notes, file, fault),
         AnalyseFault::Graph(fault) => explain_layout(notes, file, board, fault),
-        AnalyseFault::Code(_) => explain_no_code(notes),
-        _ => Ok(()),
+        AnalyseFault::PatchTooSmall { need, have } => say_small_patch(notes, *need, *have),
+        AnalyseFault::Code(fault) => explain_code(notes, fault),
+        AnalyseFault::Region(fault) => explain_regions(notes, fault),
+        AnalyseFault::Memory => Ok(()),
+    }
+}
+
+/// Why code has no blocks.
+fn explain_code(notes: &mut Notes, fault: &CodeFault) -> Result<(), AllocError> {
+    match fault {
+        CodeFault::TooManyBlocks { count } => say_many_blocks(notes, *count),
+        CodeFault::NoText | CodeFault::EntryNotLeader => explain_no_code(notes),
+        CodeFault::Memory => Ok(()),
+    }
+}
+
+/// Why a program can't have the regions of a board.
+fn explain_regions(notes: &mut Notes, fault: &RegionFault) -> Result<(), AllocError> {
+    match fault {
+        RegionFault::UnknownFunction { name } => say_unknown_function(notes, name.as_str()),
+        RegionFault::TwoRegions { name } => say_listed_twice(notes, name.as_str()),
+        RegionFault::Memory => Ok(()),
     }
 }
 

@@ -17,6 +17,8 @@ pub(crate) struct Inputs {
     pub(crate) input: Option<Vec<u8>>,
     /// The result that was relinked to.
     pub(crate) result: Option<Vec<u8>>,
+    /// A further ELF file that the command read before it was refused.
+    pub(crate) beside: Option<Vec<u8>>,
     pub(crate) status: u8,
     /// How the run ended by which the command measured the program.
     pub(crate) end: Option<MeasuredEnd>,
@@ -38,10 +40,10 @@ pub(crate) fn inputs_of<S: Shelf>(
     status: u8,
     end: Option<MeasuredEnd>,
 ) -> Option<Inputs> {
-    let (input, result) = if status == 0 {
-        (None, command.result)
+    let (input, result, beside) = if status == 0 {
+        (None, command.result, None)
     } else {
-        (command.input, None)
+        (command.input, None, command.beside)
     };
     Some(Inputs {
         alloc,
@@ -50,6 +52,7 @@ pub(crate) fn inputs_of<S: Shelf>(
         analyses: command.analyses,
         input: read_word(alloc, words, shelf, input),
         result: read_word(alloc, words, shelf, result),
+        beside: read_word(alloc, words, shelf, beside),
         status,
         end,
     })
