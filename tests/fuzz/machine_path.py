@@ -25,6 +25,20 @@ class Exited(Exception):
         self.code = code % 256
 
 
+def outcome_of(step: Callable[[], None], steps: int, is_enough: Callable[[], bool] = lambda: False) -> str:
+    """The outcome after so many steps, or where there are enough."""
+    for _ in range(steps):
+        if is_enough():
+            break
+        try:
+            step()
+        except Exited as exited:
+            return f"exited {exited.code}"
+        except Trap:
+            return "trapped"
+    return "running"
+
+
 def load_image(file: File) -> dict[int, int]:
     """The bytes of a file's segments by their addresses."""
     image: dict[int, int] = {}
@@ -46,16 +60,7 @@ class Machine:
 
     def run(self, steps: int, enough: int | None = None) -> str:
         """The outcome after so many steps, or where so many bytes are written."""
-        for _ in range(steps):
-            if enough is not None and len(self.written) >= enough:
-                break
-            try:
-                self.step()
-            except Exited as exited:
-                return f"exited {exited.code}"
-            except Trap:
-                return "trapped"
-        return "running"
+        return outcome_of(self.step, steps, lambda: enough is not None and len(self.written) >= enough)
 
     def check(self, address: int, size: int) -> None:
         if not any(address in stretch and address + size <= stretch.stop for stretch in self.mapped):

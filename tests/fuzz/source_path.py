@@ -12,7 +12,7 @@ from board_path import Board
 from elf_path import WRITE as WRITABLE
 from elf_path import File, code_ranges
 from fault import WORD, Fault
-from machine_path import ADDRESS, COUNT, EXIT, FIRST, NOT_IMPLEMENTED, NUMBER, READ, WRITE, Exited, Trap, load_image
+from machine_path import ADDRESS, COUNT, EXIT, FIRST, NOT_IMPLEMENTED, NUMBER, READ, WRITE, Exited, Trap, load_image, outcome_of
 from objects_path import Object, Objects, find, own_bytes
 
 OUTSIDE, MISALIGNED, UNMAPPED, BY_NUMBER, NO_ADDRESS, NO_LEADER, UNKNOWN_BRANCH, UNKNOWN_CALL, READ_ONLY = range(1, 10)
@@ -87,16 +87,10 @@ class Source:
 
     def run(self, steps: int) -> str:
         """The outcome after so many steps; an address fault is a fault of status 8."""
-        for _ in range(steps):
-            try:
-                self.step()
-            except Exited as exited:
-                return f"exited {exited.code}"
-            except Trap:
-                return "trapped"
-            except AddressFault as fault:
-                raise Fault(8, "address-fault", self.pc, fault.reason) from fault
-        return "running"
+        try:
+            return outcome_of(self.step, steps)
+        except AddressFault as fault:
+            raise Fault(8, "address-fault", self.pc, fault.reason) from fault
 
     def energy(self) -> int:
         return (self.fetches * self.prices["main_fetch"] + self.loads * self.prices["main_read"]
