@@ -1,8 +1,6 @@
-ghost use Rattle.std.specs.Prelude.{◌≡◌, ℕ, ◌+◌, ◌<◌, nat_lt, true, false, [], ◌∷◌, ◌++◌, length, IfOk, OnOk};
+ghost use Rattle.std.specs.Prelude.{◌≡◌, [], ◌∷◌, ◌++◌, length, IfOk, OnOk};
 ghost use Rattle.std.specs.List.{All};
-ghost use Rattle.list_checks.specs.Tests.{any_below};
 ghost use Rattle.elf_reader.specs.File.{plain_view};
-ghost use Rattle.loaded_file.specs.Code.{holds_code, is_code_word, image_word};
 ghost use Rattle.loaded_file.specs.Read.{IsRead};
 ghost use Rattle.object_graph.specs.Lookups.{IsSomeGraph};
 ghost use Rattle.code_blocks.specs.Blocks.{IsUnit};
@@ -13,7 +11,7 @@ ghost use Rattle.object_machine.specs.Preparing.{IsPairOf, IsPreparedOf, ArePrep
 use crate::units::{Pair, Prepared};
 use code_blocks::{Code, Unit};
 use code_leaders::{links, pair_target};
-use loaded_file::{LoadedFile, holds_code, word_in};
+use loaded_file::{LoadedFile, word_of_code};
 use object_graph::Graph;
 use rv_decode::rd;
 use std::alloc::{AllocError, Global};
@@ -28,20 +26,6 @@ pub(crate) struct BlockUnits {
     pub(crate) places: Vec<usize>,
 }
 
-/// The word of code at an address.
-fn code_word(file: &LoadedFile, address: u32) -> u32
-    requires read { IsRead file.now.view.now }
-    requires code { is_code_word (plain_view file.now.view.now) address ≡ true }
-    ensures { result ≡ image_word (plain_view file.now.view.now) address }
-{
-    for k in 0..file.view.sections.len() {
-        if holds_code(file, address, k) {
-            return word_in(file.view, k, address);
-        }
-    }
-    0
-}
-
 /// The call of two words that a unit is.
 fn pair_of(file: &LoadedFile, unit: &Unit) -> Option<Pair>
     requires read { IsRead file.now.view.now }
@@ -51,7 +35,7 @@ fn pair_of(file: &LoadedFile, unit: &Unit) -> Option<Pair>
     if unit.words == 1 {
         return None;
     }
-    let second = code_word(file, unit.at + 4);
+    let second = word_of_code(file, unit.at + 4);
     Some(Pair {
         target: pair_target(unit.at, unit.raw, second),
         register: rd(unit.raw),

@@ -15,8 +15,8 @@ overflow_add-unit c =
     let below = pair_room view c.args.unit.now.at c.requires.read (is_pair_unit (plain_view view) c.args.unit.now c.requires.unit c.if-unit-eq1.false) in
     omega (arith, below)
 
-pub code_word-second-requires-clause-code : goal.code_word-second-requires-clause-code
-code_word-second-requires-clause-code c =
+pub word_of_code-second-requires-clause-code : goal.word_of_code-second-requires-clause-code
+word_of_code-second-requires-clause-code c =
     let v = plain_view c.args.file.now.view.now in
     (pair_is_code v c.args.unit.now.at (is_pair_unit v c.args.unit.now c.requires.unit c.if-unit-eq1.false)).1
 
@@ -25,7 +25,7 @@ returns c =
     let v = plain_view c.args.file.now.view.now in
     let a = c.args.unit.now.at in
     let raw = c.requires.unit.raw in
-    let second = c.code_word-second.ensures in
+    let second = c.word_of_code-second.ensures in
     record {
       is = is_pair_unit v c.args.unit.now c.requires.unit c.if-unit-eq1.false;
       call = (
