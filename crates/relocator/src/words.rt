@@ -1,9 +1,8 @@
-ghost use Rattle.std.specs.Prelude.{◌≡◌, ℕ, ◌<◌, ◌≤◌, Bool, true, length, slice_index, IfOk};
+ghost use Rattle.std.specs.Prelude.{◌≡◌, ℕ, ◌<◌, ◌≤◌, Bool, length, slice_index, IfOk};
 ghost use Rattle.std.specs.List.{list_any};
 ghost use Rattle.word_bits.specs.Words.{plus};
 ghost use Rattle.elf_reader.specs.File.{plain_view};
 ghost use Rattle.board_config.specs.declared.board.Board.{Board};
-ghost use Rattle.loaded_file.specs.Code.{is_code_word, image_word};
 ghost use Rattle.loaded_file.specs.Read.{IsRead};
 ghost use Rattle.object_graph.specs.Graphs.{IsGraph};
 ghost use Rattle.object_graph.specs.Gathered.{AreSeparate, AreInOrder};
@@ -14,7 +13,7 @@ ghost use Rattle.relocator.specs.Gathering.{AreOfSites, AreOfWords, address_of, 
 use crate::places::Places;
 use crate::rewriting::new_word;
 use elf_reader::ElfView;
-use loaded_file::{LoadedFile, holds_code, word_in};
+use loaded_file::{LoadedFile, word_of_code};
 use object_graph::Graph;
 use std::alloc::{AllocError, Global};
 
@@ -24,8 +23,7 @@ use std::alloc::{AllocError, Global};
 /// the address that its object's place in region 0 gives: `region_at` has the region of each site. It fails only where
 /// no memory was left.
 ///
-/// The time grows with n log n, where n is the number of sites and words of data, and with the number of sections for
-/// each site.
+/// The time grows with n log n, where n is the number of sites, words of data and sections.
 pub fn site_words(
     alloc: Global,
     view: &ElfView,
@@ -91,7 +89,7 @@ fn word_of_site(
     ensures { IsNewAtSite (plain_view file.now.view.now) graph.now places.now region_at.now k result }
 {
     let site = &graph.sites[k];
-    let word = word_at(file, site.at);
+    let word = word_of_code(file, site.at);
     let place = place_at(places, site.object, region_at[k]);
     new_word(site.kind, word, place.wrapping_add(site.offset))
 }
@@ -103,20 +101,6 @@ fn place_at(places: &Places, object: u32, region: u32) -> u32
     ensures { result ≡ place_at places.now object region }
 {
     places.of[object as usize][region as usize]
-}
-
-/// The word of code at `address` when the program starts.
-fn word_at(file: &LoadedFile, address: u32) -> u32
-    requires read { IsRead file.now.view.now }
-    requires code { is_code_word (plain_view file.now.view.now) address ≡ true }
-    ensures { result ≡ image_word (plain_view file.now.view.now) address }
-{
-    for k in 0..file.view.sections.len() {
-        if holds_code(file, address, k) {
-            return word_in(file.view, k, address);
-        }
-    }
-    0
 }
 
 /// The new words of data, in their order.

@@ -4,8 +4,8 @@ use Rattle.relocator.specs.Gathering.{CanRewrite}
 use Rattle.relocator.proofs.WordLemmas.{listed_here, code_of, can_of}
 use Rattle.relocator.proofs.words.word_of_site.Goals as goal
 
-pub word_at-word-requires-clause-code : goal.word_at-word-requires-clause-code
-word_at-word-requires-clause-code c =
+pub word_of_code-word-requires-clause-code : goal.word_of_code-word-requires-clause-code
+word_of_code-word-requires-clause-code c =
     let v = plain_view c.args.file.now.view.now in
     let g = c.args.graph.now in
     let s = c.index-site.result.now in
@@ -30,4 +30,4 @@ new_word-requires c =
     let g = c.args.graph.now in
     let s = c.index-site.result.now in
     let can = can_of v (length g.objects.items) s (listed_here v g.objects.items g.sites.items c.args.k s c.requires.graph.1.sites c.requires.below c.index-site.ensures) in
-    subst (λ (w : ℕ). CanRewrite s.kind w) (sym c.word_at-word.ensures) can
+    subst (λ (w : ℕ). CanRewrite s.kind w) (sym c.word_of_code-word.ensures) can
