@@ -19,5 +19,6 @@ pub mod GraphLemmas
 pub mod LookupLemmas
 pub mod SpanLookupLemmas
 pub mod SpanLemmas
+pub mod SpanSearchLemmas
 pub mod BoundLemmas
 pub mod KindLemmas

@@ -17,4 +17,5 @@ pub mod Laws
 pub use Rattle.object_graph.specs.Graphs
 pub use Rattle.object_graph.specs.Sites
 pub mod Spans
+pub mod SpanBounds
 pub mod Kinds

@@ -19,6 +19,7 @@ mod remaining_spans;
 mod sites;
 mod span_bounds;
 mod span_lookup;
+mod span_search;
 mod spans;
 mod words;
 

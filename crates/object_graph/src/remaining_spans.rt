@@ -3,7 +3,8 @@ ghost use Rattle.std.specs.List.{All};
 ghost use Rattle.object_graph.specs.Spans.{IsShort, is_left, IsSteady, Covers};
 
 use crate::span_bounds::bounds_of;
-use crate::spans::{Span, is_left};
+use crate::span_search::{SpanSearch, is_left};
+use crate::spans::Span;
 use board_config::Range;
 use std::alloc::{AllocError, Global};
 
@@ -12,7 +13,7 @@ const ADDRESSES: u64 = 1 << 32;
 
 /// The addresses that lie in a span of `kept` and in none of `cut`, as ranges.
 ///
-/// The time grows with the square of the number of spans: nothing changes between neighbouring bounds of
+/// The time grows with n log n, where n is the number of spans: nothing changes between neighbouring bounds of
 /// spans, so the least address of each two is looked at.
 pub(crate) fn ranges_left(
     alloc: Global,
@@ -22,7 +23,24 @@ pub(crate) fn ranges_left(
     requires { All IsShort kept.now }
     ensures { IfOk result (λ ranges. Covers kept.now cut.now ranges.items 4294967296) }
 {
-    let bounds = bounds_of(alloc, kept, cut)?;
+    let kept_search = SpanSearch::of(alloc, kept)?;
+    let cut_search = SpanSearch::of(alloc, cut)?;
+    match ranges_between(alloc, &kept_search, &cut_search) {
+        Ok(ranges) => Ok(ranges),
+        Err(error) => Err(error),
+    }
+}
+
+/// The same of spans that can be searched.
+fn ranges_between(
+    alloc: Global,
+    kept: &SpanSearch,
+    cut: &SpanSearch,
+) -> Result<Vec<Range>, AllocError>
+    requires { All IsShort kept.now.spans.now }
+    ensures { IfOk result (λ ranges. Covers kept.now.spans.now cut.now.spans.now ranges.items 4294967296) }
+{
+    let bounds = bounds_of(alloc, kept.spans, cut.spans)?;
     let mut ranges = Vec::new(alloc);
     let mut from = 0;
     for k in 0..bounds.len() {
@@ -37,17 +55,17 @@ pub(crate) fn ranges_left(
 /// Appends the addresses from `from` to before `to`, if they are left. No span begins or ends between.
 fn push_left(
     ranges: &mut Vec<Range>,
-    kept: &[Span],
-    cut: &[Span],
+    kept: &SpanSearch,
+    cut: &SpanSearch,
     from: u64,
     to: u64,
 ) -> Result<(), AllocError>
-    requires short { All IsShort kept.now }
-    requires covers { Covers kept.now cut.now ranges.old.items from }
-    requires steady { IsSteady kept.now cut.now from to }
+    requires short { All IsShort kept.now.spans.now }
+    requires covers { Covers kept.now.spans.now cut.now.spans.now ranges.old.items from }
+    requires steady { IsSteady kept.now.spans.now cut.now.spans.now from to }
     requires order { from ≤ to }
     requires limit { to ≤ 4294967296 }
-    ensures { OnOk result (Covers kept.now cut.now ranges.new.items to) }
+    ensures { OnOk result (Covers kept.now.spans.now cut.now.spans.now ranges.new.items to) }
 {
     if starts_left(kept, cut, from, to) {
         ranges.push(Range {
@@ -59,8 +77,9 @@ fn push_left(
 }
 
 /// There are addresses from `from` to before `to`, and the first is left.
-fn starts_left(kept: &[Span], cut: &[Span], from: u64, to: u64) -> bool
-    ensures { result ≡ (nat_lt from to && is_left kept.now cut.now from) }
+fn starts_left(kept: &SpanSearch, cut: &SpanSearch, from: u64, to: u64) -> bool
+    requires { to ≤ 4294967296 }
+    ensures { result ≡ (nat_lt from to && is_left kept.now.spans.now cut.now.spans.now from) }
 {
     from < to && is_left(kept, cut, from)
 }

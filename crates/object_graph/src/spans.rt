@@ -1,7 +1,7 @@
 ghost use Rattle.std.specs.Prelude.{◌≡◌, ℕ, ◌||◌, OnOk};
 ghost use Rattle.std.specs.List.{All, list_any};
 ghost use Rattle.object_graph.specs.Sites.{in_range};
-ghost use Rattle.object_graph.specs.Spans.{span_of, IsShort, holds, any_holds, is_left};
+ghost use Rattle.object_graph.specs.Spans.{span_of, IsShort, holds, any_holds};
 
 use board_config::Range;
 use std::alloc::AllocError;
@@ -11,6 +11,15 @@ use std::alloc::AllocError;
 pub(crate) struct Span {
     pub(crate) start: u64,
     pub(crate) end: u64,
+}
+
+/// Which bound of a span.
+#[derive(Clone, Copy)]
+pub(crate) enum Bound {
+    /// Its first address.
+    First,
+    /// The address behind it.
+    Behind,
 }
 
 /// The addresses of a range.
@@ -46,20 +55,4 @@ pub(crate) fn push_ranges(spans: &mut Vec<Span>, ranges: &[Range]) -> Result<(),
         push_span(spans, span_of(range))?;
     }
     Ok(())
-}
-
-/// An address lies in one of some spans.
-fn any_holds(spans: &[Span], address: u64) -> bool
-    ensures { result ≡ any_holds spans.now address }
-{
-    spans
-        .iter()
-        .any(|span| span.start <= address && address < span.end)
-}
-
-/// An address lies in a span of `kept` and in none of `cut`.
-pub(crate) fn is_left(kept: &[Span], cut: &[Span], address: u64) -> bool
-    ensures { result ≡ is_left kept.now cut.now address }
-{
-    any_holds(kept, address) && !any_holds(cut, address)
 }
