@@ -1,4 +1,4 @@
-use Rattle.std.proofs.Common.{inl, inr, ◌+◌, ◌*◌, map, length, arith}
+use Rattle.std.proofs.Common.{inl, inr, ◌*◌, map, length, arith}
 use Rattle.std.proofs.lemmas.Bool.{cases_lt}
 use Rattle.placement_programme.specs.Plain.{plain_var}
 use Rattle.placement_programme.specs.Programme.{load_in}

@@ -1,4 +1,3 @@
-use Rattle.std.proofs.Common.{map}
 use Rattle.std.proofs.lemmas.List.{length-map}
 use Rattle.placement_programme.specs.Plain.{plain_var}
 use Rattle.placement_programme.proofs.fitting.fits_in.Goals as goal
