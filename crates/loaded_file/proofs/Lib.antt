@@ -5,3 +5,5 @@ pub mod ByteRangeLemmas
 pub mod OverlapLemmas
 pub mod ReachLemmas
 pub mod DisjointSections
+pub mod ListedLemmas
+pub mod ContentLemmas

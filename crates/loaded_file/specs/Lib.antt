@@ -8,3 +8,5 @@ pub use Rattle.loaded_file.specs.Records
 pub mod Ranges
 pub mod ByteRanges
 pub mod Reaches
+pub mod Listed
+pub mod Contents

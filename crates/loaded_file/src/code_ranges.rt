@@ -17,16 +17,6 @@ pub fn is_code_range(file: &LoadedFile, k: usize) -> bool
     file.is_loaded(k) && section.kind == SHT_PROGBITS && (section.flags >> EXECUTABLE_BIT) & 1 == 1
 }
 
-/// Whether the four bytes from `address` lie in code range `k`.
-pub fn holds_code(file: &LoadedFile, address: u32, k: usize) -> bool
-    requires below { k < length file.now.view.now.sections.items }
-    ensures { result ≡ holds_code (plain_view file.now.view.now) address k }
-{
-    let section = &file.view.sections[k];
-    let (start, at) = (u64::from(section.addr), u64::from(address));
-    is_code_range(file, k) && start <= at && at + 4 <= start + u64::from(section.size)
-}
-
 /// Whether an instruction may stand at `address`: it is a multiple of 4, inside one code range.
 pub fn is_code_word(file: &LoadedFile, address: u32) -> bool
     ensures { result ≡ is_code_word (plain_view file.now.view.now) address }

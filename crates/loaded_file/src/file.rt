@@ -33,7 +33,7 @@ impl<'a> LoadedFile<'a> {
 
     /// A view with the marks of its loaded sections. It fails only where no memory was left.
     ///
-    /// The time grows with the number of sections times that of sections and segments.
+    /// The time grows with n log n, where n is the number of sections, and with n times the number of segments.
     #[tactic(auto, unfolding(crate::specs::Reaches::AreListed))]
     pub fn of(alloc: Global, view: &'a ElfView<'a>) -> Result<LoadedFile<'a>, AllocError>
         ensures { IfOk result (λ file. file.view.now ≡ view.now) }

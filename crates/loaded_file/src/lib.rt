@@ -4,6 +4,7 @@
 mod byte_ranges;
 mod code_ranges;
 mod code_words;
+mod contents;
 mod file;
 mod loaded;
 mod overlaps;
@@ -12,7 +13,7 @@ mod records;
 mod symbol_ranges;
 
 pub use byte_ranges::ByteRange;
-pub use code_ranges::{holds_code, is_code_range, is_code_word};
+pub use code_ranges::{is_code_range, is_code_word};
 pub use code_words::{code_word, content_word, word_in, word_of_code};
 pub use file::LoadedFile;
 pub use overlaps::overlapped;

@@ -2,12 +2,14 @@ ghost use Rattle.std.specs.Prelude.{◌≡◌, ℕ, ◌+◌, ◌*◌, ◌^◌, �
 ghost use Rattle.list_checks.specs.Tests.{any_below, lies_in};
 ghost use Rattle.elf_reader.specs.Layout.{file_header};
 ghost use Rattle.elf_reader.specs.File.{plain_segment, plain_section, plain_view};
-ghost use Rattle.elf_reader.specs.Loaded.{overlaps_headers, overlaps_section, overlaps_segment, has_own_bytes, is_filled, is_zeroed, loads, is_loaded};
+ghost use Rattle.elf_reader.specs.Loaded.{section_at, segment_at, overlaps_headers, overlaps_segment, has_own_bytes, is_filled, is_zeroed, loads, is_loaded};
 ghost use Rattle.loaded_file.specs.Marks.{all_loaded};
-ghost use Rattle.elf_reader.specs.Sections.{bit_of, stands_in_file};
+ghost use Rattle.loaded_file.specs.Contents.{AreContentBounds};
+ghost use Rattle.elf_reader.specs.Sections.{bit_of};
 ghost use Rattle.list_checks.specs.Tests.{ranges_overlap};
 
-use elf_reader::{ElfView, SHT_NOBITS, SHT_NULL, SHT_PROGBITS, Section, Segment};
+use crate::contents::{ContentBounds, content_bounds, overlaps_some_section};
+use elf_reader::{ElfView, SHT_NOBITS, SHT_PROGBITS, Section, Segment};
 use std::alloc::{AllocError, Global};
 
 /// The bytes of a program header and of a section header.
@@ -22,24 +24,26 @@ const ALLOC: u32 = 2;
 /// puts its bytes, which no other section, no other segment and no table of headers shares, at its address.
 /// It fails only where no memory was left.
 ///
-/// The time grows with the number of sections times that of sections and segments.
+/// The time grows with n log n, where n is the number of sections, and with n times the number of segments.
 pub fn loaded_sections(alloc: Global, view: &ElfView) -> Result<Vec<bool>, AllocError>
     ensures { IfOk result (λ marks. marks.items ≡ all_loaded (plain_view view.now)) }
 {
+    let bounds = content_bounds(alloc, view)?;
     let mut marks = Vec::new(alloc);
     for k in 0..view.sections.len() {
-        marks.push(is_loaded(view, k))?;
+        marks.push(is_loaded(view, &bounds, k))?;
     }
     Ok(marks)
 }
 
 /// Some segment loads section `k`.
-fn is_loaded(view: &ElfView, k: usize) -> bool
-    requires { k < length view.now.sections.items }
+fn is_loaded(view: &ElfView, bounds: &ContentBounds, k: usize) -> bool
+    requires bounds { AreContentBounds (plain_view view.now) bounds.now }
+    requires below { k < length view.now.sections.items }
     ensures { result ≡ is_loaded (plain_view view.now) k }
 {
     for g in 0..view.segments.len() {
-        if loads(view, k, g) {
+        if loads(view, bounds, k, g) {
             return true;
         }
     }
@@ -47,7 +51,8 @@ fn is_loaded(view: &ElfView, k: usize) -> bool
 }
 
 /// Segment `g` loads section `k`.
-fn loads(view: &ElfView, k: usize, g: usize) -> bool
+fn loads(view: &ElfView, bounds: &ContentBounds, k: usize, g: usize) -> bool
+    requires bounds { AreContentBounds (plain_view view.now) bounds.now }
     requires section { k < length view.now.sections.items }
     requires segment { g < length view.now.segments.items }
     ensures { result ≡ loads (plain_view view.now) k g }
@@ -55,7 +60,7 @@ fn loads(view: &ElfView, k: usize, g: usize) -> bool
     let (section, segment) = (&view.sections[k], &view.segments[g]);
     is_allocated(section)
         && lies_in(segment.vaddr, segment.memsz as usize, section)
-        && (is_filled(view, k, g, section, segment) || is_zeroed(section, segment))
+        && (is_filled(view, bounds, k, g) || is_zeroed(section, segment))
 }
 
 /// A section has memory when the program runs.
@@ -74,17 +79,20 @@ fn lies_in(base: u32, size: usize, section: &Section) -> bool
     base <= section.addr && end <= base as usize + size
 }
 
-/// A section with content stands in the file bytes of segment `g` at its address, and has its bytes for
-/// itself.
-fn is_filled(view: &ElfView, k: usize, g: usize, section: &Section, segment: &Segment) -> bool
-    ensures { result ≡ is_filled (plain_view view.now) k g (plain_section section.now) (plain_segment segment.now) }
+/// Section `k` has content, stands in the file bytes of segment `g` at its address, and has its bytes for itself.
+fn is_filled(view: &ElfView, bounds: &ContentBounds, k: usize, g: usize) -> bool
+    requires bounds { AreContentBounds (plain_view view.now) bounds.now }
+    requires section { k < length view.now.sections.items }
+    requires segment { g < length view.now.segments.items }
+    ensures { result ≡ is_filled (plain_view view.now) k g (section_at (plain_view view.now) k) (segment_at (plain_view view.now) g) }
 {
+    let (section, segment) = (&view.sections[k], &view.segments[g]);
     let in_file = u64::from(section.offset) + u64::from(segment.vaddr);
     let in_memory = u64::from(section.addr) + u64::from(segment.offset);
     section.kind == SHT_PROGBITS
         && in_file == in_memory
         && lies_in(segment.vaddr, segment.bytes.len(), section)
-        && has_own_bytes(view, k, g, section)
+        && has_own_bytes(view, bounds, k, g)
 }
 
 /// A section of zeros begins at or behind the end of a segment's file bytes.
@@ -95,13 +103,17 @@ fn is_zeroed(section: &Section, segment: &Segment) -> bool
     section.kind == SHT_NOBITS && end <= section.addr as usize
 }
 
-/// Section `k` shares no byte of the file with a table of headers, another section, or another segment
-/// than `g`.
-fn has_own_bytes(view: &ElfView, k: usize, g: usize, section: &Section) -> bool
-    ensures { result ≡ has_own_bytes (plain_view view.now) k g (plain_section section.now) }
+/// Section `k`, which has content, shares no byte of the file with a table of headers, another section, or another
+/// segment than `g`.
+fn has_own_bytes(view: &ElfView, bounds: &ContentBounds, k: usize, g: usize) -> bool
+    requires bounds { AreContentBounds (plain_view view.now) bounds.now }
+    requires below { k < length view.now.sections.items }
+    requires kind { (section_at (plain_view view.now) k).kind ≡ 1 }
+    ensures { result ≡ has_own_bytes (plain_view view.now) k g (section_at (plain_view view.now) k) }
 {
+    let section = &view.sections[k];
     !overlaps_headers(view, section)
-        && !overlaps_some_section(view, k, section)
+        && !overlaps_some_section(view, bounds, k)
         && !overlaps_some_segment(view, g, section)
 }
 
@@ -141,34 +153,6 @@ fn byte(bytes: &[u8], at: usize) -> u8
     bytes.get(at).copied().unwrap_or(0)
 }
 
-/// The content of some other section than `k` meets that of `section`.
-fn overlaps_some_section(view: &ElfView, k: usize, section: &Section) -> bool
-    ensures { result ≡ any_below (overlaps_section (plain_view view.now) k section.now.offset section.now.size) (length (plain_view view.now).sections) }
-{
-    for j in 0..view.sections.len() {
-        if overlaps_section(view, k, section, j) {
-            return true;
-        }
-    }
-    false
-}
-
-/// Section `j` is another one than `k`, and its content meets that of `section`.
-fn overlaps_section(view: &ElfView, k: usize, section: &Section, j: usize) -> bool
-    requires { j < length view.now.sections.items }
-    ensures { result ≡ overlaps_section (plain_view view.now) k section.now.offset section.now.size j }
-{
-    let other = &view.sections[j];
-    j != k
-        && is_in_file(other.kind)
-        && overlap(
-            section.offset,
-            section.size,
-            other.offset,
-            u128::from(other.size),
-        )
-}
-
 /// The file bytes of some other segment than `g` meet those of `section`.
 fn overlaps_some_segment(view: &ElfView, g: usize, section: &Section) -> bool
     ensures { result ≡ any_below (overlaps_segment (plain_view view.now) g section.now.offset section.now.size) (length (plain_view view.now).segments) }
@@ -194,13 +178,6 @@ fn overlaps_segment(view: &ElfView, g: usize, section: &Section, h: usize) -> bo
             other.offset,
             other.bytes.len() as u128,
         )
-}
-
-/// Whether the content of a section of this type stands in the file.
-fn is_in_file(kind: u32) -> bool
-    ensures { result ≡ stands_in_file kind }
-{
-    !(kind == SHT_NULL || kind == SHT_NOBITS)
 }
 
 /// Two ranges, each a first place and a size, share a place.

@@ -1,5 +1,5 @@
 -- An address lies in some span just where more spans begin there or before than end there or before.
-use Rattle.std.proofs.Common.{◌≡◌, ◌∙◌, ℕ, zero, suc, ◌+◌, nat_lt, nat_le, Bool, true, false, ◌&&◌, ◌||◌, if◌then◌else◌, List, length, arith, refl}
+use Rattle.std.proofs.Common.{◌≡◌, ◌∙◌, ℕ, ◌+◌, nat_lt, nat_le, Bool, true, ◌&&◌, if◌then◌else◌, List, length, arith}
 use Rattle.std.specs.List.{count_by}
 use Rattle.std.proofs.lemmas.Bool.Decides.{nat_tests}
 use Rattle.std.proofs.lemmas.List.Folds.{list_any_at}
@@ -7,30 +7,13 @@ use Rattle.list_checks.specs.Tests.{any_below}
 use Rattle.list_checks.specs.Sorted.{is_under, count_below}
 use Rattle.list_checks.proofs.StepLemmas.{any_place}
 use Rattle.list_checks.proofs.TestLemmas.{both, same_tests, any_at, any_found}
+use Rattle.loaded_file.specs.Listed.{passes_with}
+use Rattle.loaded_file.proofs.ListedLemmas.{split_counts, any_count}
 use Rattle.loaded_file.proofs.ByteRangeLemmas.{both_made}
-use Rattle.rewritable_relocations.specs.Lists.{passes_with}
 use Rattle.object_graph.specs.Spans.{holds, any_holds}
 use Rattle.object_graph.specs.SpanBounds.{no_span, span_at, is_filled, bound_at, AreBoundsOf}
 use Rattle.object_graph.specs.declared.spans.Bound.TheVariants.{First, Behind}
 use Rattle.object_graph.specs.declared.spans.Span.{Span}
-
--- where each place counts as often for one test as for two others together, so do all
-split_counts : (whole first second : ℕ → Bool) → ((k : ℕ) → (if whole k then 1 else 0) ≡ (if first k then 1 else 0) + (if second k then 1 else 0)) → (n : ℕ) → count_below whole n ≡ count_below first n + count_below second n
-split_counts whole first second each zero = omega arith
-split_counts whole first second each (suc n) =
-    let earlier = split_counts whole first second each n in
-    let here = each n in
-    omega (arith, earlier, here)
-
-any_count_step : (rest here : Bool) (count : ℕ) → nat_lt 0 count ≡ rest → nat_lt 0 (count + (if here then 1 else 0)) ≡ (rest || here)
-any_count_step true here count same = grind (arith, nat_tests, same)
-any_count_step false true count same = grind (arith, nat_tests, same)
-any_count_step false false count same = grind (arith, nat_tests, same)
-
--- some place passes where the count is not 0
-any_count : (test : ℕ → Bool) (n : ℕ) → nat_lt 0 (count_below test n) ≡ any_below test n
-any_count test zero = refl
-any_count test (suc n) = any_count_step (any_below test n) (test n) (count_below test n) (any_count test n)
 
 abbrev holds_at : List Span → ℕ → ℕ → Bool
 holds_at spans a k = is_filled spans k && holds a (span_at spans k)

@@ -1,6 +1,6 @@
 -- The first addresses of spans and those behind them, as sorted lists.
 use Rattle.std.specs.Prelude.{ℕ, nat_lt, Bool, List, length, slice_index_or}
-use Rattle.rewritable_relocations.specs.Lists.{IsListOf}
+use Rattle.loaded_file.specs.Listed.{IsListOf}
 use Rattle.object_graph.specs.declared.spans.Span.{Span}
 use Rattle.object_graph.specs.declared.spans.Bound.{Bound}
 use Rattle.object_graph.specs.declared.spans.Bound.TheVariants.{First, Behind}

@@ -8,8 +8,9 @@ use Rattle.loaded_file.specs.Records.{symbol_at}
 use Rattle.loaded_file.specs.Ranges.{has_range}
 use Rattle.loaded_file.proofs.RangeLemmas.{range_parts}
 use Rattle.list_checks.specs.Sorted.{is_inside}
+use Rattle.loaded_file.specs.Listed.{passes_with}
 use Rattle.rewritable_relocations.specs.Rewritable.{cuts_range}
-use Rattle.rewritable_relocations.specs.Lists.{passes_with, is_ranged, range_start, range_end, AreListsOf}
+use Rattle.rewritable_relocations.specs.Lists.{is_ranged, range_start, range_end, AreListsOf}
 use Rattle.rewritable_relocations.specs.declared.lists.RelocationLists.{RelocationLists}
 use Rattle.rewritable_relocations.proofs.ListLemmas.{any_or, any_same, first_passes, first_fails}
 

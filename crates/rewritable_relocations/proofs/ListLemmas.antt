@@ -1,33 +1,11 @@
--- How the lists of a view are made, and tests over two of them.
-use Rattle.std.proofs.Common.{◌≡◌, ◌∙◌, ℕ, zero, suc, ◌+◌, ◌<◌, Bool, true, false, ◌&&◌, ◌||◌, if◌then◌else◌, List, [], ◌∷◌, ◌++◌, length, slice_index_or, refl, sym, ap, arith, add-one}
-use Rattle.std.specs.List.{count_by, list_any}
+-- Tests over two lists of a view.
+use Rattle.std.proofs.Common.{◌≡◌, ◌∙◌, ℕ, zero, suc, ◌<◌, Bool, true, false, ◌&&◌, ◌||◌, length, slice_index_or, refl, sym, arith}
 use Rattle.std.proofs.lemmas.List.{get_or_default}
 use Rattle.list_checks.specs.Tests.{any_below}
 use Rattle.elf_reader.specs.File.{plain_view}
 use Rattle.elf_reader.specs.declared.view.ElfView.{ElfView}
 use Rattle.elf_reader.specs.declared.view.Reloc.{Reloc}
 use Rattle.loaded_file.specs.Records.{no_reloc, reloc_at}
-use Rattle.list_checks.specs.Sorted.{IsSorted, collected}
-use Rattle.list_checks.proofs.SortedLemmas.{any_collected, count_collected}
-use Rattle.rewritable_relocations.specs.Lists.{IsListOf}
-
--- one more place
-pub one_more : (test : ℕ → Bool) (value : ℕ → ℕ) (k : ℕ) (old new : List ℕ) (wanted : Bool) (number : ℕ) → old ≡ collected test value k → new ≡ old ++ (if wanted then number ∷ [] else []) → wanted ≡ test k → number ≡ value k → new ≡ collected test value (k + 1)
-one_more test value k old new wanted number earlier more is at =
-    rw (add-one k)
-    (more
-    ∙ ap (λ xs. xs ++ (if wanted then number ∷ [] else [])) earlier
-    ∙ ap (λ b. collected test value k ++ (if b then number ∷ [] else [])) is
-    ∙ ap (λ x. collected test value k ++ (if test k then x ∷ [] else [])) at)
-
--- what is collected, sorted
-pub list_of : (test : ℕ → Bool) (value : ℕ → ℕ) (n : ℕ) (old new : List ℕ) → old ≡ collected test value n → IsSorted new → ((asked : ℕ → Bool) → list_any asked new ≡ list_any asked old) → ((asked : ℕ → Bool) → count_by asked new ≡ count_by asked old) → IsListOf test value n new
-list_of test value n old new made sorted same counts =
-    record {
-      sorted = sorted;
-      any = λ asked. same asked ∙ ap (list_any asked) made ∙ any_collected test value asked n;
-      counted = λ asked. counts asked ∙ ap (count_by asked) made ∙ count_collected test value asked n;
-    }
 
 pub any_or : (t u : ℕ → Bool) (n : ℕ) → (any_below t n || any_below u n) ≡ any_below (λ k. t k || u k) n
 any_or t u zero = refl

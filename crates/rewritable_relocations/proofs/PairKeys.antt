@@ -11,8 +11,9 @@ use Rattle.elf_reader.specs.declared.view.Reloc.{Reloc}
 use Rattle.loaded_file.specs.Code.{is_code_word, image_word}
 use Rattle.loaded_file.specs.Records.{reloc_at, counts, symbol_of, is_call_kind}
 use Rattle.list_checks.specs.Sorted.{is_inside, is_number}
+use Rattle.loaded_file.specs.Listed.{passes_with}
 use Rattle.rewritable_relocations.specs.Rewritable.{is_addi, is_load_word, is_store_word, i_low, s_low, distance, is_pair_low, is_paired, is_unpaired, is_call_at, u_high, is_rewritable_pair}
-use Rattle.rewritable_relocations.specs.Lists.{passes_with, is_calling, change_start, is_lower, is_upper_pair, form_part, low_part, low_key, AreListsOf}
+use Rattle.rewritable_relocations.specs.Lists.{is_calling, change_start, is_lower, is_upper_pair, form_part, low_part, low_key, AreListsOf}
 use Rattle.rewritable_relocations.specs.declared.lists.RelocationLists.{RelocationLists}
 use Rattle.rewritable_relocations.proofs.ListLemmas.{any_or, any_same, first_passes, first_fails}
 

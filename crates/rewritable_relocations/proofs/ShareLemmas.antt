@@ -1,6 +1,6 @@
 -- Another relocation changes a word just where more than one of those that begin before the word's end end
 -- behind its start.
-use Rattle.std.proofs.Common.{◌≡◌, ◌∙◌, inl, inr, ℕ, zero, suc, ◌+◌, ◌<◌, ◌≤◌, ◌==◌, nat_lt, Bool, true, false, not, ◌&&◌, ◌||◌, if◌then◌else◌, List, length, refl, ap, arith}
+use Rattle.std.proofs.Common.{◌≡◌, ◌∙◌, inl, inr, ℕ, ◌+◌, ◌<◌, ◌≤◌, ◌==◌, nat_lt, Bool, true, false, not, ◌&&◌, if◌then◌else◌, List, length, refl, ap, arith}
 use Rattle.std.specs.List.{count_by}
 use Rattle.std.proofs.lemmas.Bool.{cases_eq}
 use Rattle.std.proofs.lemmas.Bool.Decides.{nat_tests}
@@ -8,9 +8,11 @@ use Rattle.list_checks.specs.Tests.{any_below, ranges_overlap}
 use Rattle.elf_reader.specs.File.{PlainView}
 use Rattle.loaded_file.specs.Records.{reloc_at, counts, is_hint, is_call_kind, is_half_kind, is_byte_kind, width_of}
 use Rattle.list_checks.specs.Sorted.{is_under, count_below}
+use Rattle.loaded_file.specs.Listed.{passes_with}
 use Rattle.list_checks.proofs.SortedLemmas.{two_places}
+use Rattle.loaded_file.proofs.ListedLemmas.{split_counts, any_count}
 use Rattle.rewritable_relocations.specs.Rewritable.{changes_word}
-use Rattle.rewritable_relocations.specs.Lists.{passes_with, is_changing, change_start, change_end, AreListsOf}
+use Rattle.rewritable_relocations.specs.Lists.{is_changing, change_start, change_end, AreListsOf}
 use Rattle.rewritable_relocations.specs.declared.lists.RelocationLists.{RelocationLists}
 use Rattle.rewritable_relocations.proofs.ListLemmas.{any_same}
 
@@ -31,22 +33,6 @@ overlaps_word v at k = is_changing v k && ranges_overlap at 4 (change_start v k)
 split_step : (h : Bool) (at start width : ℕ) → 0 < width → (if h && nat_lt start (at + 4) then 1 else 0) ≡ (if h && nat_lt (start + width) (at + 1) then 1 else 0) + (if h && ranges_overlap at 4 start width then 1 else 0)
 split_step true at start width filled = grind (arith, nat_tests, filled)
 split_step false at start width filled = omega arith
-
-split_counts : (whole first second : ℕ → Bool) → ((k : ℕ) → (if whole k then 1 else 0) ≡ (if first k then 1 else 0) + (if second k then 1 else 0)) → (n : ℕ) → count_below whole n ≡ count_below first n + count_below second n
-split_counts whole first second each zero = omega arith
-split_counts whole first second each (suc n) =
-    let earlier = split_counts whole first second each n in
-    let here = each n in
-    omega (arith, earlier, here)
-
-any_count_step : (rest here : Bool) (count : ℕ) → nat_lt 0 count ≡ rest → nat_lt 0 (count + (if here then 1 else 0)) ≡ (rest || here)
-any_count_step true here count same = grind (arith, nat_tests, same)
-any_count_step false true count same = grind (arith, nat_tests, same)
-any_count_step false false count same = grind (arith, nat_tests, same)
-
-any_count : (test : ℕ → Bool) (n : ℕ) → nat_lt 0 (count_below test n) ≡ any_below test n
-any_count test zero = refl
-any_count test (suc n) = any_count_step (any_below test n) (test n) (count_below test n) (any_count test n)
 
 -- a place that fails may be left out
 left_out : (test : ℕ → Bool) (i : ℕ) → test i ≡ false → (j : ℕ) → test j ≡ (not (j == i) && test j)

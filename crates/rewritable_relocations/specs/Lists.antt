@@ -1,28 +1,16 @@
 -- The sorted lists of a view by which each relocation is compared with all symbols and all others.
-use Rattle.std.specs.Prelude.{◌≡◌, ℕ, ◌+◌, ◌*◌, ◌==◌, Bool, not, ◌&&◌, ◌||◌, if◌then◌else◌, List, length}
+use Rattle.std.specs.Prelude.{ℕ, ◌+◌, ◌*◌, ◌==◌, Bool, not, ◌&&◌, ◌||◌, if◌then◌else◌, length}
 use Rattle.std.specs.Int.{cast_unsigned, w32}
-use Rattle.std.specs.List.{count_by, list_any}
-use Rattle.list_checks.specs.Tests.{any_below}
 use Rattle.elf_reader.specs.File.{PlainView}
 use Rattle.elf_reader.specs.declared.view.Reloc.{Reloc}
 use Rattle.loaded_file.specs.Code.{is_code_word, image_word}
 use Rattle.loaded_file.specs.Records.{symbol_at, reloc_at, counts, symbol_of, is_hint, is_call_kind, width_of}
 use Rattle.loaded_file.specs.Ranges.{has_range}
-use Rattle.list_checks.specs.Sorted.{IsSorted, count_below}
+use Rattle.loaded_file.specs.Listed.{IsListOf}
 use Rattle.rewritable_relocations.specs.Rewritable.{is_addi, is_load_word, is_store_word, i_low, s_low, is_upper_of, distance, is_pair_low}
 use Rattle.rewritable_relocations.specs.declared.lists.RelocationLists.{RelocationLists}
 use Rattle.rewritable_relocations.specs.declared.lists.Listed.{Listed}
 use Rattle.rewritable_relocations.specs.declared.lists.Listed.TheVariants.{RangeStart, RangeEnd, ChangeStart, ChangeEnd, Call, LowKey}
-
--- place `k` passes a test, and its value another one
-abbrev pub passes_with : (ℕ → Bool) → (ℕ → ℕ) → (ℕ → Bool) → ℕ → Bool
-passes_with test value asked k = test k && asked (value k)
-
--- a sorted list has the values of the places below n that pass a test
-pub record IsListOf (test : ℕ → Bool) (value : ℕ → ℕ) (n : ℕ) (list : List ℕ) : Type 0 where
-  pub sorted : IsSorted list
-  pub any : (asked : ℕ → Bool) → list_any asked list ≡ any_below (passes_with test value asked) n
-  pub counted : (asked : ℕ → Bool) → count_by asked list ≡ count_below (passes_with test value asked) n
 
 -- symbol `k` is that of an object, whose range begins and ends there
 abbrev pub is_ranged : PlainView → ℕ → Bool

@@ -1,7 +1,8 @@
 ghost use Rattle.std.specs.Prelude.{◌≡◌, ◌^◌, ◌<◌, ◌∷◌, [], ◌++◌, if◌then◌else◌, length, IfOk};
 ghost use Rattle.elf_reader.specs.File.{plain_view};
 ghost use Rattle.loaded_file.specs.Read.{IsRead};
-ghost use Rattle.rewritable_relocations.specs.Lists.{IsListOf, AreListsOf, count_of, is_listed, number_of, is_ranged, range_start, range_end, is_changing, change_start, change_end, is_calling, is_lower, low_part, low_key};
+ghost use Rattle.loaded_file.specs.Listed.{IsListOf};
+ghost use Rattle.rewritable_relocations.specs.Lists.{AreListsOf, count_of, is_listed, number_of, is_ranged, range_start, range_end, is_changing, change_start, change_end, is_calling, is_lower, low_part, low_key};
 
 use crate::fields::{NO_PART, form_part};
 use crate::kinds::{is_call_kind, is_hint, is_pair_low, width_of};

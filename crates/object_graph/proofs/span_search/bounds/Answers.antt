@@ -1,6 +1,6 @@
-use Rattle.std.proofs.Common.{◌≡◌, ℕ, length, refl, subst, arith}
+use Rattle.std.proofs.Common.{◌≡◌, ℕ, length, subst, arith}
 use Rattle.list_checks.specs.Sorted.{collected}
-use Rattle.rewritable_relocations.proofs.ListLemmas.{one_more, list_of}
+use Rattle.loaded_file.proofs.ListedLemmas.{collected_more, list_of}
 use Rattle.object_graph.specs.SpanBounds.{is_filled, bound_at}
 use Rattle.object_graph.proofs.span_search.bounds.Goals as goal
 
@@ -8,7 +8,7 @@ pub loop-k-preserved : goal.loop-k-preserved
 loop-k-preserved c =
     let test = is_filled c.args.spans.now in
     let value = bound_at c.args.bound c.args.spans.now in
-    one_more test value c.loop-k.k _ _ (test c.loop-k.k) (value c.loop-k.k) c.loop-k.invariant c.in_ok-push_bound.ensures refl refl
+    collected_more test value c.loop-k.k _ _ c.loop-k.invariant c.in_ok-push_bound.ensures
 
 pub returns : goal.returns
 returns c =

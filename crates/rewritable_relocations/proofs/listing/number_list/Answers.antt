@@ -1,15 +1,15 @@
-use Rattle.std.proofs.Common.{◌≡◌, ℕ, refl, subst, arith}
+use Rattle.std.proofs.Common.{◌≡◌, ℕ, subst, arith}
 use Rattle.elf_reader.specs.File.{plain_view}
 use Rattle.list_checks.specs.Sorted.{collected}
+use Rattle.loaded_file.proofs.ListedLemmas.{collected_more, list_of}
 use Rattle.rewritable_relocations.specs.Lists.{count_of, is_listed, number_of}
-use Rattle.rewritable_relocations.proofs.ListLemmas.{one_more, list_of}
 use Rattle.rewritable_relocations.proofs.listing.number_list.Goals as goal
 
 pub loop-k-preserved : goal.loop-k-preserved
 loop-k-preserved c =
     let test = is_listed c.args.listed (plain_view c.args.file.now.view.now) in
     let value = number_of c.args.listed (plain_view c.args.file.now.view.now) in
-    one_more test value c.loop-k.k _ _ (test c.loop-k.k) (value c.loop-k.k) c.loop-k.invariant c.in_ok-push_number.ensures refl refl
+    collected_more test value c.loop-k.k _ _ c.loop-k.invariant c.in_ok-push_number.ensures
 
 pub returns : goal.returns
 returns c =
