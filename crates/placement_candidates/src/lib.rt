@@ -7,7 +7,6 @@ mod objects;
 mod pieces;
 mod ranking;
 mod selecting;
-mod stating;
 mod weight_rows;
 
 pub use adding::energy_adds_up;
@@ -15,5 +14,4 @@ pub use counting::{full, side_of, stub_price};
 pub use objects::{data_gain, data_span, object_at};
 pub use pieces::code_span;
 pub use selecting::select;
-pub use stating::programme;
 pub use weight_rows::{JOB_BYTES, STUB_BYTES, push_rows};
