@@ -16,7 +16,6 @@ mod serving_plan;
 pub use code_regions::CodeRegions;
 pub use copy_source::CopySource;
 pub use copying::copies;
-pub use entering::entry_stubs;
 pub use padding::padded_words;
 pub use placed_copy::PlacedCopy;
 pub use serving::serving_stubs;
