@@ -54,8 +54,8 @@ fn scaled_target(side: &Side, layout: &Layout, best: u128) -> u64 {
 
 /// The multipliers of the packing rows: what each adds to the reach.
 fn add_steps(multipliers: &mut [u64], layout: &Layout, dual_problem: &LagrangianDual) {
-    for row in 0..layout.is_knapsack.len() {
-        if !layout.is_knapsack[row] {
+    for row in 0..layout.rows.numbers.len() {
+        if !is_set(&layout.rows.is_knapsack, row) {
             let step = dual_problem.relaxation.step(&dual_problem.live, row);
             put(multipliers, row, step);
         }
@@ -87,12 +87,17 @@ fn bar_all(multipliers: &mut [u64], layout: &Layout, dual_problem: &LagrangianDu
     }
 }
 
-fn entries(alloc: Global, multipliers: &[u64]) -> Result<Vec<(u32, u64)>, AllocError> {
+/// The multipliers above 0, behind the numbers of their rows on the side.
+fn entries(
+    alloc: Global,
+    layout: &Layout,
+    multipliers: &[u64],
+) -> Result<Vec<(u32, u64)>, AllocError> {
     let mut entries = Vec::new(alloc);
-    for row in 0..numbered(multipliers.len()) {
-        let multiplier = number_at(multipliers, row as usize);
+    for place in 0..numbered(multipliers.len()) {
+        let multiplier = number_at(multipliers, place as usize);
         if multiplier > 0 {
-            entries.push((row, multiplier))?;
+            entries.push((layout.rows.number_of(place), multiplier))?;
         }
     }
     Ok(entries)
@@ -108,7 +113,7 @@ fn dual_solution(
     bar_all(&mut multipliers, layout, dual_problem);
     Ok(DualSolution {
         scale: layout.scale,
-        multipliers: entries(alloc, &multipliers)?,
+        multipliers: entries(alloc, layout, &multipliers)?,
     })
 }
 
@@ -121,8 +126,11 @@ fn branch_of(layout: &Layout, dual_problem: &LagrangianDual) -> Option<u32> {
         if place >= layout.columns.len() || !is_set(&dual_problem.node.free, place) {
             continue;
         }
+        if !dual_problem.relaxation.is_split(place) {
+            continue;
+        }
         let size = layout.columns[place].reduced_gain_size(&dual_problem.multipliers);
-        if dual_problem.relaxation.is_split(place) && size < least {
+        if size < least {
             least = size;
             branch = Some(number);
         }
@@ -149,9 +157,15 @@ fn bound_of(
 impl DualBound {
     /// Of a side.
     pub(crate) fn new(alloc: Global, side: &Side) -> Result<DualBound, AllocError> {
+        let layout = Layout::of(alloc, side)?;
+        let rows = match &layout {
+            Some(layout) => layout.rows.numbers.len(),
+            None => 0,
+        };
+        let multipliers = zeros(alloc, rows)?;
         Ok(DualBound {
-            layout: Layout::of(alloc, side)?,
-            multipliers: zeros(alloc, side.rows.len())?,
+            layout,
+            multipliers,
         })
     }
 
@@ -169,9 +183,9 @@ impl DualBound {
         };
         let target = scaled_target(side, layout, best);
         let node = Node::of(alloc, layout, marks, target)?;
-        if node.exceeded.is_some() {
+        if let Some(place) = node.exceeded {
             let mut found = nothing();
-            found.exceeded = node.exceeded;
+            found.exceeded = Some(layout.rows.number_of(place));
             return Ok(found);
         }
         let live = LiveVars::of(alloc, layout, &node, &self.multipliers)?;

@@ -1,4 +1,5 @@
-use crate::numbers::{is_set, number_at, set, unset};
+use crate::named_rows::NamedRows;
+use crate::numbers::{is_set, number_at};
 use placement_programme::{Side, Var};
 use std::alloc::{AllocError, Global};
 
@@ -89,41 +90,20 @@ pub(crate) fn scale_for(side: &Side) -> Option<u32> {
     }
 }
 
-/// The knapsack rows: those whose capacity or some weight isn't 1.
-pub(crate) fn knapsack_rows(alloc: Global, side: &Side) -> Result<Vec<bool>, AllocError> {
-    let mut knapsack = unset(alloc, side.rows.len())?;
-    for (row, capacity) in side.rows.iter().enumerate() {
-        if *capacity != 1 {
-            set(&mut knapsack, row);
-        }
-    }
-    for var in &side.vars {
-        mark_weights(&mut knapsack, &var.weights);
-    }
-    Ok(knapsack)
-}
-
-fn mark_weights(knapsack: &mut [bool], weights: &[(u32, u64)]) {
-    for (row, weight) in weights {
-        if *weight != 1 {
-            set(knapsack, *row as usize);
-        }
-    }
-}
-
 fn scaled(gain: u128, scale: u32) -> u64 {
     let product = gain.saturating_mul(u128::from(scale));
     u64::try_from(product.min(GAIN_LIMIT)).unwrap_or(0)
 }
 
-fn column_of(alloc: Global, var: &Var, scale: u32, rows: &[bool]) -> Result<Column, AllocError> {
+fn column_of(alloc: Global, var: &Var, scale: u32, rows: &NamedRows) -> Result<Column, AllocError> {
     let mut knapsack = Vec::new(alloc);
     let mut packing = Vec::new(alloc);
     for (row, weight) in &var.weights {
-        if is_set(rows, *row as usize) {
-            knapsack.push((*row, *weight))?;
+        let place = rows.place_of(*row);
+        if is_set(&rows.is_knapsack, place as usize) {
+            knapsack.push((place, *weight))?;
         } else {
-            packing.push(*row)?;
+            packing.push(place)?;
         }
     }
     Ok(Column {
@@ -133,16 +113,16 @@ fn column_of(alloc: Global, var: &Var, scale: u32, rows: &[bool]) -> Result<Colu
     })
 }
 
-/// The columns of a side's variables, with these knapsack rows.
+/// The columns of a side's variables, over its named rows.
 pub(crate) fn columns_of(
     alloc: Global,
     side: &Side,
     scale: u32,
-    knapsack: &[bool],
+    rows: &NamedRows,
 ) -> Result<Vec<Column>, AllocError> {
     let mut columns = Vec::new(alloc);
     for var in &side.vars {
-        columns.push(column_of(alloc, var, scale, knapsack)?)?;
+        columns.push(column_of(alloc, var, scale, rows)?)?;
     }
     Ok(columns)
 }

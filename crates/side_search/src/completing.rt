@@ -1,7 +1,7 @@
 use crate::columns::Column;
 use crate::layout::Layout;
 use crate::node::Node;
-use crate::numbers::{copy_of, is_set, number_at, numbered, put, set, unset};
+use crate::numbers::{copy_of, is_set, number_at, numbered, put, set};
 use crate::relaxation::LagrangianRelaxation;
 use std::alloc::{AllocError, Global};
 
@@ -17,9 +17,14 @@ pub(crate) struct Completion {
     pub gain: u64,
 }
 
+/// Whether a row has room for a weight.
+fn has_room(slack: &[u64], entry: &(u32, u64)) -> bool {
+    number_at(slack, entry.0 as usize) >= entry.1
+}
+
 fn fits(slack: &[u64], column: &Column) -> bool {
-    for (row, weight) in &column.knapsack {
-        if number_at(slack, *row as usize) < *weight {
+    for entry in &column.knapsack {
+        if !has_room(slack, entry) {
             return false;
         }
     }
@@ -48,17 +53,27 @@ impl Completion {
         }
     }
 
+    /// Takes what a relaxation takes, whose sums are known.
     fn take_relaxed(&mut self, layout: &Layout, relaxation: &LagrangianRelaxation) {
-        for number in 0..layout.columns.len() {
-            if is_set(&relaxation.taken, number) {
-                self.take(&layout.columns[number], number);
+        for row in &layout.knapsack {
+            let load = number_at(&relaxation.load, *row as usize);
+            use_slack(&mut self.slack, *row, load);
+        }
+        for (column, is_taken) in layout.columns.iter().zip(relaxation.taken.iter()) {
+            if *is_taken {
+                for row in &column.packing {
+                    use_slack(&mut self.slack, *row, 1);
+                }
             }
         }
     }
 
     fn fill(&mut self, layout: &Layout, node: &Node) {
-        for (_, number) in &layout.by_gain {
-            let place = *number as usize;
+        for ranked in &layout.by_gain {
+            if !has_room(&self.slack, &ranked.first) || !has_room(&self.slack, &ranked.last) {
+                continue;
+            }
+            let place = ranked.number as usize;
             if place >= layout.columns.len() || is_set(&self.taken, place) {
                 continue;
             }
@@ -77,8 +92,8 @@ impl Completion {
     ) -> Result<Completion, AllocError> {
         let mut completion = Completion {
             slack: copy_of(alloc, &node.slack)?,
-            taken: unset(alloc, layout.columns.len())?,
-            gain: node.gained,
+            taken: Vec::from_slice(alloc, &relaxation.taken)?,
+            gain: node.gained.saturating_add(relaxation.gain),
         };
         completion.take_relaxed(layout, relaxation);
         completion.fill(layout, node);

@@ -180,8 +180,11 @@ impl LagrangianDual {
         number: u32,
     ) -> Result<BoundStatus, AllocError> {
         let row = number as usize;
-        self.live.seek(layout, &self.multipliers, number);
         let mut bracket = Bracket::at(self.point(row));
+        if bracket.next(layout.scale).is_none() {
+            return Ok(BoundStatus::Undecided);
+        }
+        self.live.seek(layout, &self.multipliers, number);
         for _ in 0..TRIES {
             let Some(multiplier) = bracket.next(layout.scale) else {
                 break;

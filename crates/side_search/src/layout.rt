@@ -1,36 +1,33 @@
-use crate::columns::{Column, columns_of, knapsack_rows, scale_for};
-use crate::numbers::{copy_of, is_set, numbered};
+use crate::columns::{Column, columns_of, scale_for};
+use crate::named_rows::NamedRows;
+use crate::numbers::{flagged, numbered};
 use placement_programme::Side;
 use std::alloc::{AllocError, Global};
 use std::cmp::Reverse;
+
+/// A variable with its weights in its first and in its last knapsack row, by which most are seen not to fit.
+#[derive(Clone, Copy, Drop)]
+pub(crate) struct Ranked {
+    pub number: u32,
+    pub first: (u32, u64),
+    pub last: (u32, u64),
+}
 
 /// What the bound reads of a side, made once.
 #[derive(Drop)]
 pub(crate) struct Layout {
     /// By which gains are multiplied.
     pub scale: u32,
-    pub capacities: Vec<u64>,
+    pub rows: NamedRows,
     pub columns: Vec<Column>,
     /// The knapsack rows.
     pub knapsack: Vec<u32>,
-    /// Whether a row is one of those.
-    pub is_knapsack: Vec<bool>,
     /// For each packing row, the variables of which it is the last one.
     pub ending: Vec<Vec<u32>>,
     /// The variables without packing rows.
     pub loose: Vec<u32>,
-    /// The variables behind their scaled gains, the greatest gain first and the lowest number on a tie.
-    pub by_gain: Vec<(Reverse<u64>, u32)>,
-}
-
-fn set_rows(alloc: Global, flags: &[bool]) -> Result<Vec<u32>, AllocError> {
-    let mut rows = Vec::new(alloc);
-    for row in 0..numbered(flags.len()) {
-        if is_set(flags, row as usize) {
-            rows.push(row)?;
-        }
-    }
-    Ok(rows)
+    /// The variables, the greatest gain first and the lowest number on a tie.
+    pub by_gain: Vec<Ranked>,
 }
 
 fn empty_lists(alloc: Global, count: usize) -> Result<Vec<Vec<u32>>, AllocError> {
@@ -48,14 +45,12 @@ fn push_at(lists: &mut [Vec<u32>], place: usize, number: u32) -> Result<(), Allo
     Ok(())
 }
 
-/// Enters a variable where the bound looks for it: by its gain, and by the last of its packing rows.
+/// Enters a variable where the bound looks for it: by the last of its packing rows.
 fn sort_in(layout: &mut Layout, number: u32) -> Result<(), AllocError> {
     let place = number as usize;
     if place >= layout.columns.len() {
         return Ok(());
     }
-    let gain = layout.columns[place].gain;
-    layout.by_gain.push((Reverse(gain), number))?;
     match layout.columns[place].span() {
         Some(span) => push_at(&mut layout.ending, span.last, number)?,
         None => layout.loose.push(number)?,
@@ -65,20 +60,19 @@ fn sort_in(layout: &mut Layout, number: u32) -> Result<(), AllocError> {
 
 /// The layout of a side, into which no variable is sorted yet.
 fn unsorted(alloc: Global, side: &Side, scale: u32) -> Result<Layout, AllocError> {
-    let is_knapsack = knapsack_rows(alloc, side)?;
-    let columns = columns_of(alloc, side, scale, &is_knapsack)?;
-    let knapsack = set_rows(alloc, &is_knapsack)?;
-    let capacities = copy_of(alloc, &side.rows)?;
-    let ending = empty_lists(alloc, side.rows.len())?;
+    let rows = NamedRows::of(alloc, side)?;
+    let columns = columns_of(alloc, side, scale, &rows)?;
+    let by_gain = ranking_of(alloc, &columns)?;
+    let knapsack = flagged(alloc, &rows.is_knapsack)?;
+    let ending = empty_lists(alloc, rows.numbers.len())?;
     Ok(Layout {
         scale,
-        capacities,
+        rows,
         columns,
         knapsack,
-        is_knapsack,
         ending,
         loose: Vec::new(alloc),
-        by_gain: Vec::new(alloc),
+        by_gain,
     })
 }
 
@@ -86,8 +80,40 @@ fn sort_all(layout: &mut Layout) -> Result<(), AllocError> {
     for number in 0..numbered(layout.columns.len()) {
         sort_in(layout, number)?;
     }
-    layout.by_gain.sort_unstable();
     Ok(())
+}
+
+/// The variables behind their scaled gains, the greatest gain first and the lowest number on a tie.
+fn sorted_gains(alloc: Global, columns: &[Column]) -> Result<Vec<(Reverse<u64>, u32)>, AllocError> {
+    let mut gains = Vec::new(alloc);
+    for column in columns {
+        let number = numbered(gains.len());
+        gains.push((Reverse(column.gain), number))?;
+    }
+    gains.sort_unstable();
+    Ok(gains)
+}
+
+/// A weight in a row, 0 where there is none.
+fn or_none(entry: Option<&(u32, u64)>) -> (u32, u64) {
+    match entry {
+        Some(entry) => *entry,
+        None => (0, 0),
+    }
+}
+
+fn ranking_of(alloc: Global, columns: &[Column]) -> Result<Vec<Ranked>, AllocError> {
+    let mut ranking = Vec::with_capacity(alloc, columns.len())?;
+    for (_, number) in &sorted_gains(alloc, columns)? {
+        if let Some(column) = columns.get(*number as usize) {
+            ranking.push(Ranked {
+                number: *number,
+                first: or_none(column.knapsack.first()),
+                last: or_none(column.knapsack.last()),
+            })?;
+        }
+    }
+    Ok(ranking)
 }
 
 fn sorted(alloc: Global, side: &Side, scale: u32) -> Result<Layout, AllocError> {

@@ -13,6 +13,7 @@ mod incumbents;
 mod lagrangian;
 mod layout;
 mod live;
+mod named_rows;
 mod node;
 mod numbers;
 mod relaxation;

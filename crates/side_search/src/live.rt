@@ -1,7 +1,7 @@
 use crate::columns::Column;
 use crate::layout::Layout;
 use crate::node::Node;
-use crate::numbers::number_at;
+use crate::numbers::{number_at, numbered};
 use std::alloc::{AllocError, Global};
 
 /// A live variable of a node, with what the relaxation asks of it each time.
@@ -9,10 +9,9 @@ use std::alloc::{AllocError, Global};
 pub(crate) struct LiveVar {
     pub number: u32,
     /// How many live variables end before its first packing row.
-    pub from: u64,
-    gain: u64,
-    /// Its multiplied weights, but for the row whose multiplier is sought.
-    rest: u128,
+    pub from: u32,
+    /// What of its scaled gain is left behind its multiplied weights, but for that in the row whose multiplier is sought.
+    left: u64,
     /// Its weight in that row.
     weight: u64,
 }
@@ -21,18 +20,27 @@ fn product(weight: u64, multiplier: u64) -> u128 {
     u128::from(weight).wrapping_mul(u128::from(multiplier))
 }
 
+/// What of a gain is left behind a price.
+fn left_of(gain: u64, price: u128) -> u64 {
+    u64::try_from(u128::from(gain).saturating_sub(price)).unwrap_or(0)
+}
+
+/// The multiplied weights of a variable.
+fn priced(column: &Column, multipliers: &[u64]) -> u128 {
+    let mut price: u128 = 0;
+    for (row, weight) in &column.knapsack {
+        let multiplier = number_at(multipliers, *row as usize);
+        price = price.wrapping_add(product(*weight, multiplier));
+    }
+    price
+}
+
 impl LiveVar {
-    fn of(column: &Column, number: u32, from: u64, multipliers: &[u64]) -> LiveVar {
-        let mut rest: u128 = 0;
-        for (row, weight) in &column.knapsack {
-            let multiplier = number_at(multipliers, *row as usize);
-            rest = rest.wrapping_add(product(*weight, multiplier));
-        }
+    fn of(column: &Column, number: u32, from: u32, price: u128) -> LiveVar {
         LiveVar {
             number,
             from,
-            gain: column.gain,
-            rest,
+            left: left_of(column.gain, price),
             weight: 0,
         }
     }
@@ -40,17 +48,27 @@ impl LiveVar {
     /// What of the scaled gain is left behind the multiplied weights, at a multiplier of the row that is sought.
     #[inline(always)] // asked for each live variable each time a multiplier is tried
     pub(crate) fn reduced_gain(&self, multiplier: u64) -> u64 {
-        let price = self.rest.wrapping_add(product(self.weight, multiplier));
-        let left = u128::from(self.gain).saturating_sub(price);
-        u64::try_from(left).unwrap_or(0)
+        self.left
+            .saturating_sub(self.weight.saturating_mul(multiplier))
     }
 
-    /// Puts the weight in another row in place of that in the row that was sought.
-    fn turn(&mut self, column: &Column, row: u32, before: u64, multiplier: u64) {
-        let whole = self.rest.wrapping_add(product(self.weight, before));
-        self.weight = column.knapsack_weight(row);
-        self.rest = whole.wrapping_sub(product(self.weight, multiplier));
+    /// Puts the weight in another row in place of that in the row that was sought; `rest` are the multiplied weights in
+    /// all rows but that one, before and behind it.
+    fn turn(&mut self, column: &Column, rest: &mut u128, change: &RowChange) {
+        let whole = rest.wrapping_add(product(self.weight, change.before));
+        self.weight = column.knapsack_weight(change.row);
+        *rest = whole.wrapping_sub(product(self.weight, change.multiplier));
+        self.left = left_of(column.gain, *rest);
     }
+}
+
+/// From the row that was sought to the next one.
+#[derive(Drop)]
+struct RowChange {
+    row: u32,
+    /// The multipliers of both rows.
+    before: u64,
+    multiplier: u64,
 }
 
 /// The live variables of a node, and the row whose multiplier is sought.
@@ -60,6 +78,9 @@ pub(crate) struct LiveVars {
     pub loose: Vec<LiveVar>,
     /// The others, by their last packing rows.
     pub tied: Vec<LiveVar>,
+    /// The multiplied weights of those without packing rows, and of the others, but for the row that is sought.
+    loose_prices: Vec<u128>,
+    tied_prices: Vec<u128>,
     /// Of each row, and behind the last, how many of these end before it.
     ended: Vec<u64>,
     row: u32,
@@ -76,6 +97,8 @@ impl LiveVars {
         let mut live = LiveVars {
             loose: Vec::new(alloc),
             tied: Vec::new(alloc),
+            loose_prices: Vec::new(alloc),
+            tied_prices: Vec::new(alloc),
             ended: Vec::with_capacity(alloc, layout.ending.len().saturating_add(1))?,
             row: 0,
         };
@@ -99,8 +122,10 @@ impl LiveVars {
     ) -> Result<(), AllocError> {
         let place = number as usize;
         if place < layout.columns.len() && node.is_live(number) {
-            let var = LiveVar::of(&layout.columns[place], number, 0, multipliers);
-            self.loose.push(var)?;
+            let column = &layout.columns[place];
+            let price = priced(column, multipliers);
+            self.loose.push(LiveVar::of(column, number, 0, price))?;
+            self.loose_prices.push(price)?;
         }
         Ok(())
     }
@@ -117,9 +142,10 @@ impl LiveVars {
             let place = *number as usize;
             if place < layout.columns.len() && node.is_live(*number) {
                 let column = &layout.columns[place];
-                let from = number_at(&self.ended, column.first_row());
-                self.tied
-                    .push(LiveVar::of(column, *number, from, multipliers))?;
+                let from = numbered(self.ended_before(column.first_row()));
+                let price = priced(column, multipliers);
+                self.tied.push(LiveVar::of(column, *number, from, price))?;
+                self.tied_prices.push(price)?;
             }
         }
         Ok(())
@@ -137,19 +163,22 @@ impl LiveVars {
 
     /// Seeks the multiplier of a row from now on.
     pub(crate) fn seek(&mut self, layout: &Layout, multipliers: &[u64], row: u32) {
-        let before = self.multiplier(multipliers);
-        let multiplier = number_at(multipliers, row as usize);
-        turn_all(&mut self.loose, layout, row, before, multiplier);
-        turn_all(&mut self.tied, layout, row, before, multiplier);
+        let change = RowChange {
+            row,
+            before: self.multiplier(multipliers),
+            multiplier: number_at(multipliers, row as usize),
+        };
+        turn_all(&mut self.loose, &mut self.loose_prices, layout, &change);
+        turn_all(&mut self.tied, &mut self.tied_prices, layout, &change);
         self.row = row;
     }
 }
 
-fn turn_all(vars: &mut [LiveVar], layout: &Layout, row: u32, before: u64, multiplier: u64) {
-    for var in vars.iter_mut() {
+fn turn_all(vars: &mut [LiveVar], prices: &mut [u128], layout: &Layout, change: &RowChange) {
+    for (var, price) in vars.iter_mut().zip(prices.iter_mut()) {
         let place = var.number as usize;
         if place < layout.columns.len() {
-            var.turn(&layout.columns[place], row, before, multiplier);
+            var.turn(&layout.columns[place], price, change);
         }
     }
 }

@@ -80,7 +80,7 @@ impl Node {
     ) -> Result<Node, AllocError> {
         let count = layout.columns.len();
         let mut node = Node {
-            slack: copy_of(alloc, &layout.capacities)?,
+            slack: copy_of(alloc, &layout.rows.capacities)?,
             exceeded: None,
             ones: unset(alloc, count)?,
             free: unset(alloc, count)?,

@@ -33,12 +33,28 @@ pub(crate) fn set(flags: &mut [bool], place: usize) {
     }
 }
 
+/// Writes a flag, and nothing past the end.
+pub(crate) fn put_flag(flags: &mut [bool], place: usize, flag: bool) {
+    if place < flags.len() {
+        flags[place] = flag;
+    }
+}
+
 /// Adds to a number, which stops at its greatest.
 pub(crate) fn add(numbers: &mut [u64], place: usize, more: u64) {
     put(
         numbers,
         place,
         number_at(numbers, place).saturating_add(more),
+    );
+}
+
+/// Takes off a number, which stops at 0.
+pub(crate) fn take_off(numbers: &mut [u64], place: usize, less: u64) {
+    put(
+        numbers,
+        place,
+        number_at(numbers, place).saturating_sub(less),
     );
 }
 
@@ -54,6 +70,17 @@ pub(crate) fn unset(alloc: Global, count: usize) -> Result<Vec<bool>, AllocError
     let mut flags = Vec::new(alloc);
     flags.resize(count, false)?;
     Ok(flags)
+}
+
+/// The places that are marked, ascending.
+pub(crate) fn flagged(alloc: Global, flags: &[bool]) -> Result<Vec<u32>, AllocError> {
+    let mut places = Vec::new(alloc);
+    for place in 0..numbered(flags.len()) {
+        if is_set(flags, place as usize) {
+            places.push(place)?;
+        }
+    }
+    Ok(places)
 }
 
 /// A copy of some numbers.

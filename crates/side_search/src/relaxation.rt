@@ -1,8 +1,8 @@
 use crate::columns::Column;
 use crate::layout::Layout;
-use crate::live::{LiveVar, LiveVars};
+use crate::live::LiveVars;
 use crate::node::Node;
-use crate::numbers::{add, is_set, number_at, put, set, unset, zeros};
+use crate::numbers::{add, is_set, number_at, put, put_flag, set, take_off, unset, zeros};
 use std::alloc::{AllocError, Global};
 
 /// What the free variables gain at most where the knapsack rows have multipliers in place of capacities.
@@ -17,16 +17,19 @@ pub(crate) struct LagrangianRelaxation {
     reach: Vec<u64>,
     /// Whether the next one is taken for that.
     ends: Vec<bool>,
-    /// Which variables it takes.
+    /// Which of the live variables with packing rows it takes.
+    chosen: Vec<bool>,
+    /// Which variables it takes. From one trial of multipliers to the next few change, so that only these are added to the
+    /// sums or taken off them.
     pub taken: Vec<bool>,
     /// Of each knapsack row, what they weigh.
     pub load: Vec<u64>,
     /// Their scaled gains.
     pub gain: u64,
-    /// How many times each variable was taken at this node.
-    pub times: Vec<u64>,
-    /// How many multipliers were tried at this node.
-    pub tries: u64,
+    /// Whether some multipliers that were tried at this node take a variable, and others don't.
+    split: Vec<bool>,
+    /// Whether no multipliers were tried yet.
+    is_new: bool,
 }
 
 impl LagrangianRelaxation {
@@ -40,80 +43,82 @@ impl LagrangianRelaxation {
             value: u64::MAX,
             reach: zeros(alloc, live.tied.len().saturating_add(1))?,
             ends: unset(alloc, live.tied.len())?,
+            chosen: unset(alloc, live.tied.len())?,
             taken: unset(alloc, vars)?,
-            load: zeros(alloc, layout.capacities.len())?,
+            load: zeros(alloc, layout.rows.numbers.len())?,
             gain: 0,
-            times: zeros(alloc, vars)?,
-            tries: 0,
+            split: unset(alloc, vars)?,
+            is_new: true,
         })
     }
 
-    fn start(&mut self, layout: &Layout) {
-        self.value = 0;
-        self.gain = 0;
-        self.tries = self.tries.saturating_add(1);
-        self.taken.fill(false);
-        for row in &layout.knapsack {
-            put(&mut self.load, *row as usize, 0);
-        }
-    }
-
-    fn take(&mut self, column: &Column, number: usize) {
-        set(&mut self.taken, number);
-        add(&mut self.times, number, 1);
+    fn take(&mut self, column: &Column) {
         self.gain = self.gain.saturating_add(column.gain);
         for (row, weight) in &column.knapsack {
             add(&mut self.load, *row as usize, *weight);
         }
     }
 
-    fn take_var(&mut self, layout: &Layout, var: &LiveVar) {
-        let place = var.number as usize;
-        if place < layout.columns.len() {
-            self.take(&layout.columns[place], place);
+    fn leave(&mut self, column: &Column) {
+        self.gain = self.gain.saturating_sub(column.gain);
+        for (row, weight) in &column.knapsack {
+            take_off(&mut self.load, *row as usize, *weight);
         }
     }
 
-    /// What the variables up to this one hold at most.
-    fn settle(&mut self, place: usize, var: &LiveVar, multiplier: u64) {
-        let gain = var.reduced_gain(multiplier);
-        let without = number_at(&self.reach, place);
-        let with = number_at(&self.reach, var.from as usize).saturating_add(gain);
-        let ends = gain > 0 && with > without;
-        let best = if ends { with } else { without };
-        put(&mut self.reach, place.saturating_add(1), best);
-        if place < self.ends.len() {
-            self.ends[place] = ends;
+    /// Takes a variable that it didn't take, or drops one that it did.
+    fn turn(&mut self, layout: &Layout, place: usize) {
+        if place >= layout.columns.len() || place >= self.taken.len() {
+            return;
+        }
+        let column = &layout.columns[place];
+        if self.taken[place] {
+            self.taken[place] = false;
+            self.leave(column);
+        } else {
+            self.taken[place] = true;
+            self.take(column);
+        }
+        if !self.is_new {
+            set(&mut self.split, place);
         }
     }
 
-    fn settle_all(&mut self, live: &LiveVars, multiplier: u64) {
+    /// What the variables with packing rows hold at most, up to each one.
+    fn settle(&mut self, live: &LiveVars, multiplier: u64) {
+        let mut best: u64 = 0;
         for (place, var) in live.tied.iter().enumerate() {
-            self.settle(place, var, multiplier);
+            let behind = number_at(&self.reach, var.from as usize);
+            let with = behind.saturating_add(var.reduced_gain(multiplier));
+            put_flag(&mut self.ends, place, with > best);
+            best = best.max(with);
+            put(&mut self.reach, place.saturating_add(1), best);
         }
-        self.value = self
-            .value
-            .saturating_add(number_at(&self.reach, live.tied.len()));
+        self.value = self.value.saturating_add(best);
     }
 
-    fn take_loose(&mut self, layout: &Layout, live: &LiveVars, multiplier: u64) {
+    fn choose_loose(&mut self, layout: &Layout, live: &LiveVars, multiplier: u64) {
         for var in &live.loose {
             let gain = var.reduced_gain(multiplier);
             self.value = self.value.saturating_add(gain);
-            if gain > 0 {
-                self.take_var(layout, var);
+            let place = var.number as usize;
+            if is_set(&self.taken, place) != (gain > 0) {
+                self.turn(layout, place);
             }
         }
     }
 
-    /// Takes variables with packing rows, from the last one back.
-    fn take_ends(&mut self, layout: &Layout, live: &LiveVars) {
+    /// Chooses variables with packing rows, from the last one back.
+    fn choose_tied(&mut self, layout: &Layout, live: &LiveVars) {
         let mut behind = live.tied.len();
         for place in (0..live.tied.len()).rev() {
-            if place < behind && is_set(&self.ends, place) {
-                let var = &live.tied[place];
-                behind = var.from as usize;
-                self.take_var(layout, var);
+            let takes = place < behind && is_set(&self.ends, place);
+            if takes {
+                behind = live.tied[place].from as usize;
+            }
+            if is_set(&self.chosen, place) != takes {
+                put_flag(&mut self.chosen, place, takes);
+                self.turn(layout, live.tied[place].number as usize);
             }
         }
     }
@@ -136,11 +141,12 @@ impl LagrangianRelaxation {
         multipliers: &[u64],
     ) {
         let multiplier = live.multiplier(multipliers);
-        self.start(layout);
+        self.value = 0;
         self.add_slack_cost(layout, node, multipliers);
-        self.take_loose(layout, live, multiplier);
-        self.settle_all(live, multiplier);
-        self.take_ends(layout, live);
+        self.choose_loose(layout, live, multiplier);
+        self.settle(live, multiplier);
+        self.choose_tied(layout, live);
+        self.is_new = false;
     }
 
     /// What a row adds to what the rows hold at most.
@@ -162,7 +168,6 @@ impl LagrangianRelaxation {
 
     /// Whether some multipliers that were tried take a variable, and others don't.
     pub(crate) fn is_split(&self, number: usize) -> bool {
-        let times = number_at(&self.times, number);
-        times > 0 && times < self.tries
+        is_set(&self.split, number)
     }
 }
