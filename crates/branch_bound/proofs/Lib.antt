@@ -1,4 +1,5 @@
 pub mod OnesLemmas
+pub mod OpenLemmas
 pub mod LoadLemmas
 pub mod MarkLemmas
 pub mod EntryLemmas
