@@ -4,6 +4,7 @@ pub mod RangeLemmas
 pub mod PatchPlaces
 pub mod BlockOrder
 pub mod FirstReaches
+pub mod MovedRangeLemmas
 pub mod MoveLemmas
 pub mod WritableLemmas
 pub mod LoadableLemmas

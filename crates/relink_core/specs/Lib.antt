@@ -4,6 +4,7 @@ pub mod Regions
 pub mod Findings
 pub mod Choices
 pub mod Making
+pub mod MovedRanges
 pub mod Written
 pub mod Placed
 pub mod Walks

@@ -74,8 +74,8 @@ struct Parts<'a> {
 /// (`PatchTooSmall`), which take 84 bytes, or 88 with a FENCE.I; those of the code (`Code`); and those of the names
 /// by which the board lists regions (`Region`). `Memory` comes only where no memory was left.
 ///
-/// The time grows with n log n, where n is the number of words of code, symbols and relocations, times the
-/// number of sections. For each name that the board lists all symbols are looked at.
+/// The time grows with n log n, where n is the number of words of code, sections, symbols, relocations and listed
+/// names, and with the number of blocks of each loop.
 pub fn analyse<'a>(
     alloc: Global,
     bytes: &'a [u8],

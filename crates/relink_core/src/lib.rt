@@ -7,6 +7,7 @@ mod chosen_results;
 mod fault;
 mod form_sources;
 mod laws;
+mod moved_ranges;
 mod patching;
 mod realising;
 mod segments;

@@ -1,11 +1,12 @@
 //! The symbols of objects that are moved.
-ghost use Rattle.std.specs.Prelude.{◌≡◌, ◌<◌, ◌≤◌, ◌==◌, ◌&&◌, length, OnOk, IfOk, Option, ◌++◌};
+ghost use Rattle.std.specs.Prelude.{◌≡◌, ◌<◌, ◌≤◌, length, None, OnOk, IfOk, ◌++◌, if◌then◌else◌};
 ghost use Rattle.elf_reader.specs.File.{plain_view};
 ghost use Rattle.loaded_file.specs.Records.{symbol_at};
-ghost use Rattle.cell_values.specs.Objects.{object_of};
-ghost use Rattle.relink_core.specs.Making.{range_value, symbol_value, move_to, moves_below, HasStarts, AreOfGraph};
+ghost use Rattle.loaded_file.specs.Ranges.{has_range};
+ghost use Rattle.relink_core.specs.Making.{move_to, moves_below, HasStarts, AreOfGraph};
+ghost use Rattle.relink_core.specs.MovedRanges.{place_of_range};
 
-use crate::standing::start_place;
+use crate::moved_ranges::{MovedRanges, moved_place, moved_ranges};
 use elf_reader::ElfView;
 use elf_writer::SymbolMove;
 use loaded_file::{LoadedFile, has_range};
@@ -13,47 +14,16 @@ use object_graph::Graph;
 use relocator::Places;
 use std::alloc::{AllocError, Global};
 
-/// Whether an object has these bytes.
-fn is_range(graph: &Graph, object: u32, home: u32, size: u32) -> bool
-    requires { object < length graph.now.objects.items }
-    ensures { result ≡ ((object_of graph.now object).home == home) && ((object_of graph.now object).size == size) }
-{
-    let found = &graph.objects[object as usize];
-    found.home == home && found.size == size
-}
-
-/// The place of the first of some objects that has `size` bytes at `home`.
-fn range_value(graph: &Graph, places: &Places, home: u32, size: u32, objects: &[u32]) -> Option<u32>
-    requires listed { AreOfGraph graph.now objects.now }
-    requires starts { HasStarts graph.now places.now }
-    ensures { result ≡ range_value graph.now places.now home size objects.now }
-{
-    for object in objects {
-        if is_range(graph, *object, home, size) {
-            return Some(start_place(graph, places, *object));
-        }
-    }
-    None
-}
-
 /// The new value of symbol `k`, if it is one of an object that is moved.
-fn symbol_value(
-    file: &LoadedFile,
-    graph: &Graph,
-    places: &Places,
-    objects: &[u32],
-    k: usize,
-) -> Option<u32>
-    requires listed { AreOfGraph graph.now objects.now }
-    requires starts { HasStarts graph.now places.now }
-    requires below { k < length file.now.view.now.symbols.items }
-    ensures { result ≡ symbol_value (plain_view file.now.view.now) graph.now places.now objects.now (symbol_at (plain_view file.now.view.now) k) }
+fn symbol_value(file: &LoadedFile, ranges: &MovedRanges, k: usize) -> Option<u32>
+    requires { k < length file.now.view.now.symbols.items }
+    ensures { result ≡ (if has_range (plain_view file.now.view.now) (symbol_at (plain_view file.now.view.now) k) then place_of_range ranges.now (symbol_at (plain_view file.now.view.now) k).value (symbol_at (plain_view file.now.view.now) k).size else None) }
 {
     let symbol = &file.view.symbols[k];
     if !has_range(file, symbol) {
         return None;
     }
-    range_value(graph, places, symbol.value, symbol.size, objects)
+    moved_place(ranges, symbol.value, symbol.size)
 }
 
 /// Appends the move of symbol `k`, if it has a new value.
@@ -69,7 +39,7 @@ fn push_move(moves: &mut Vec<SymbolMove>, symbol: u32, value: Option<u32>) -> Re
 /// The moves of the symbols of some objects to their places, in the order of the symbols. It fails only where no
 /// memory was left.
 ///
-/// The time grows with the number of symbols of objects times the number of objects.
+/// The time grows with n log n, where n is the number of symbols and objects.
 pub(crate) fn symbol_moves(
     alloc: Global,
     view: &ElfView,
@@ -83,9 +53,10 @@ pub(crate) fn symbol_moves(
     ensures { IfOk result (λ moves. moves.items ≡ moves_below (plain_view view.now) graph.now places.now objects.now (length view.now.symbols.items)) }
 {
     let file = LoadedFile::of(alloc, view)?;
+    let ranges = moved_ranges(alloc, graph, places, objects)?;
     let mut moves = Vec::new(alloc);
     for k in 0..view.symbols.len() {
-        let value = symbol_value(&file, graph, places, objects, k);
+        let value = symbol_value(&file, &ranges, k);
         push_move(&mut moves, k as u32, value)?;
     }
     Ok(moves)
