@@ -27,9 +27,8 @@ use std::alloc::{AllocError, Global};
 /// of the blocks by which control enters it cannot be entered through a stub: `has_dead` tells, block by block,
 /// whether some register is dead at its beginning.
 ///
-/// It fails exactly at the first listed name that stands for no function, or for one that was listed before. Apart
-/// from the names, the time grows with n log n, where n is the number of blocks and functions; for each name all
-/// symbols are looked at.
+/// It fails exactly at the first listed name that stands for no function, or for one that was listed before. The time
+/// grows with n log n, where n is the number of blocks, functions, symbols and listed names.
 pub fn regions(
     alloc: Global,
     code: &Code,
