@@ -1,5 +1,5 @@
 -- One more row of a dual node, in the prices.
-use Rattle.std.proofs.Common.{◌≡◌, ◌≢◌, inl, inr, ℕ, suc, ◌+◌, ◌*◌, ◌^◌, ◌<◌, ◌≤◌, List, [], ◌∷◌, ◌++◌, length, slice_index, replicate, Result, Ok, Err, sym, subst, ap, refl, arith}
+use Rattle.std.proofs.Common.{◌≡◌, ◌≢◌, inl, inr, ℕ, zero, suc, ◌+◌, ◌*◌, ◌^◌, ◌<◌, ◌≤◌, List, [], ◌∷◌, ◌++◌, length, take, get_or, slice_index, replicate, Result, Ok, Err, sym, subst, ap, refl, arith}
 use Rattle.std.specs.List.{sum_by}
 use Rattle.std.proofs.lemmas.Bool.{cases_eq, cases_lt}
 use Rattle.std.proofs.lemmas.Bool.Decides.{nat_tests}
@@ -8,6 +8,7 @@ use Rattle.std.proofs.lemmas.List.Sums.{sum_by-cons, sum_by-append}
 use Rattle.placement_programme.specs.Plain.{PlainSide}
 use Rattle.placement_programme.specs.Bounds.{RowsWithin, row_of, value_of}
 use Rattle.placement_programme.specs.Programme.{weight_in, weight_at}
+use Rattle.placement_programme.proofs.AscendLemmas.{row_at_least}
 use Rattle.placement_programme.proofs.WeightLemmas.{weight_small}
 use Rattle.certificate_checker.specs.Rules.{price}
 use Rattle.certificate_checker.specs.RowWise.{IsRowOf}
@@ -47,6 +48,15 @@ weight_last low (k ∷ ms) row m rows =
     let rest = weight_last (suc (row_of k)) ms row m rows.2 in
     let disjoint : row_of k ≢ row = omega (arith, rows.1) in
     grind (arith, nat_tests, disjoint, rest)
+
+-- the entries before one name rows before its own
+pub rows_before : (low high : ℕ) (ms : List (ℕ × ℕ)) (i : ℕ) (d : ℕ × ℕ) → RowsWithin low high ms → i < length ms → RowsWithin low (row_of (get_or ms i d)) (take i ms)
+rows_before low high [] i d rows inside = absurd (omega arith)
+rows_before low high (m ∷ ms) zero d rows inside = tt
+rows_before low high (m ∷ ms) (suc i) d rows inside =
+    let within : i < length ms = omega (arith, inside) in
+    let later = row_at_least (suc (row_of m)) high ms i d rows.2 within in
+    (rows.0, omega (arith, later), rows_before (suc (row_of m)) high ms i d rows.2 within)
 
 pub loaded_none : (s : PlainSide) (prices : List ℕ) → ((j : ℕ) → slice_index prices j ≡ 0) → IsLoaded s prices 0 0 []
 loaded_none s prices zeroes = record {

@@ -1,16 +1,28 @@
-ghost use Rattle.std.specs.Prelude.{◌≡◌, ℕ, ◌+◌, ◌*◌, ◌^◌, ◌<◌, ◌≤◌, ◌↔◌, IsTrue, length};
+ghost use Rattle.std.specs.Prelude.{◌≡◌, ℕ, ◌+◌, ◌*◌, ◌^◌, ◌<◌, ◌≤◌, ◌↔◌, IsTrue, List, length, slice_index, IfOk};
 ghost use Rattle.placement_programme.specs.Programme.{gain_at};
 ghost use Rattle.placement_programme.specs.Sums.{sum_below};
 ghost use Rattle.placement_programme.specs.Views.{plain_side};
 ghost use Rattle.certificate_checker.specs.Rules.{kept, moved, DualHolds};
 ghost use Rattle.certificate_checker.specs.Prices.{price_in, AreOfSide};
 ghost use Rattle.certificate_checker.specs.Parts.{kept_part, moved_part, SumsHold};
+ghost use Rattle.certificate_checker.specs.RowWise.{rows_of, IsOfSide};
+ghost use Rattle.certificate_checker.specs.Loading.{IsLoaded};
 
-use crate::columns::{gain_of_var, var_count};
+use crate::columns::{gain_of_var, row_count, var_count};
 use crate::fixings::{Fixing, fixing_of};
+use crate::loading::{Loaded, load_rows};
 use crate::multipliers::bounded;
 use crate::prices::{Prices, price_of};
+use crate::row_wise::RowWise;
 use placement_programme::{Side, rows_ascend};
+use std::alloc::{AllocError, Global};
+
+/// A side, with its weights by rows as well.
+#[derive(Clone, Copy, Drop)]
+pub struct Weighed<'a> {
+    pub side: &'a Side,
+    pub by_row: &'a RowWise,
+}
 
 /// What a variable adds to the left and to the right side of a dual node's rule.
 #[derive(Drop)]
@@ -98,6 +110,38 @@ pub(crate) fn sums_hold(
     left <= right
 }
 
+/// Whether a dual node keeps its rule, by the prices that its rows make.
+pub(crate) fn loaded_holds(
+    side: &Side,
+    best: u128,
+    marks: &[Fixing],
+    prices: &[u128],
+    scale: u32,
+    loaded: &Loaded,
+) -> bool
+    requires best { best ≤ 2 ^ 104 }
+    requires marked { length (plain_side side.now).vars ≤ length marks.now }
+    requires room { length (plain_side side.now).vars ≤ length prices.now }
+    requires prices { (j : ℕ) → slice_index prices.now j < 2 ^ 113 }
+    requires least { 1 ≤ scale }
+    requires most { scale ≤ 65536 }
+    requires bound { loaded.now.bound < 2 ^ 113 }
+    ensures { (ms : List (ℕ × ℕ)) → IsLoaded (plain_side side.now) prices.now loaded.now.row_end loaded.now.bound ms
+        → (IsTrue result ↔ DualHolds (plain_side side.now) best marks.now scale ms) }
+{
+    if loaded.row_end > row_count(side) as u64 {
+        return false;
+    }
+    sums_hold(
+        side,
+        best,
+        marks,
+        scale,
+        loaded.bound,
+        &Prices::Listed(prices),
+    )
+}
+
 /// Whether a dual node keeps its rule under these marks, of which each variable has one: its scale is from 1 to 65,536, its
 /// rows ascend in range, and by weak duality nothing gains more than `best`, which has the fixed cost taken off.
 pub fn dual_holds(
@@ -123,4 +167,37 @@ pub fn dual_holds(
         bound,
         &Prices::Sorted(multipliers),
     )
+}
+
+/// A price of 0 for each of so many variables.
+fn no_prices(alloc: Global, count: usize) -> Result<Vec<u128>, AllocError>
+    ensures count { IfOk result (λ prices. length prices.items ≡ count) }
+    ensures clear { IfOk result (λ prices. (j : ℕ) → slice_index prices.items j ≡ 0) }
+{
+    vec![in alloc; 0u128; count]
+}
+
+/// Whether a dual node keeps its rule, as `dual_holds` tells it: the prices are added up by the rows that the node names, and
+/// not looked for by variables.
+pub fn dual_holds_by_row(
+    alloc: Global,
+    weighed: &Weighed,
+    best: u128,
+    marks: &[Fixing],
+    scale: u32,
+    multipliers: &[(u32, u64)],
+) -> Result<bool, AllocError>
+    requires by_row { IsOfSide (plain_side weighed.now.side.now) (rows_of weighed.now.by_row.now) }
+    requires best { best ≤ 2 ^ 104 }
+    requires marked { length (plain_side weighed.now.side.now).vars ≤ length marks.now }
+    ensures { IfOk result (λ holds. IsTrue holds ↔ DualHolds (plain_side weighed.now.side.now) best marks.now scale multipliers.now) }
+{
+    let side = weighed.side;
+    if scale == 0 || scale > 65536 || !rows_ascend(multipliers, side.rows.len()) {
+        return Ok(false);
+    }
+    let mut prices = no_prices(alloc, var_count(side))?;
+    let loaded = load_rows(side, weighed.by_row, &mut prices, multipliers);
+    let holds = loaded_holds(side, best, marks, &prices, scale, &loaded);
+    Ok(holds)
 }

@@ -1,23 +1,21 @@
-ghost use Rattle.std.specs.Prelude.{◌≡◌, ℕ, suc, ◌+◌, ◌^◌, ◌<◌, ◌≤◌, ◌↔◌, IsTrue, false, List, [], ◌∷◌, length, slice_index, IfOk};
+ghost use Rattle.std.specs.Prelude.{◌≡◌, ℕ, suc, ◌+◌, ◌^◌, ◌<◌, ◌≤◌, ◌↔◌, IsTrue, false, List, [], ◌∷◌, length, IfOk};
 ghost use Rattle.placement_programme.specs.Plain.{PlainSide};
 ghost use Rattle.placement_programme.specs.Views.{plain_side};
 ghost use Rattle.certificate_checker.specs.Nodes.{PlainTree};
-ghost use Rattle.certificate_checker.specs.Rules.{KeepsRule, DualHolds};
+ghost use Rattle.certificate_checker.specs.Rules.{KeepsRule};
 ghost use Rattle.certificate_checker.specs.Shows.{all_free};
 ghost use Rattle.certificate_checker.specs.Walks.{Walks};
 ghost use Rattle.certificate_checker.specs.declared.fixings.Fixing.{Fixing};
 ghost use Rattle.certificate_checker.specs.Reading.{over_at, dual_at, tree_at};
 ghost use Rattle.certificate_checker.specs.RowWise.{rows_of, IsOfSide};
-ghost use Rattle.certificate_checker.specs.Loading.{IsLoaded, IsSingle, SplitsFirst, WalksRead, behind_of, both_of};
+ghost use Rattle.certificate_checker.specs.Loading.{IsSingle, SplitsFirst, WalksRead, behind_of, both_of};
 ghost use Rattle.certificate_checker.specs.Ways.{text_of, IsBefore, Stands, Advances, CanAdvance, left};
 
-use crate::columns::row_count;
-use crate::duals::sums_hold;
+use crate::duals::loaded_holds;
 use crate::fault::CertFault;
 use crate::fields::{Part, cut_off, number_in, place, small_number};
 use crate::fixings::Fixing;
-use crate::loading::{Loaded, load_entries};
-use crate::prices::Prices;
+use crate::loading::load_entries;
 use crate::reading::below_all;
 use crate::rules::{branch_holds, leaf_holds, over_holds};
 use crate::steps::{PathStep, Progress, enter, is_done, leave};
@@ -55,31 +53,6 @@ fn walk_over<'a>(
     }
 }
 
-/// Whether a dual node keeps its rule, by the prices that its rows make.
-fn loaded_holds(task: &Task, marks: &[Fixing], prices: &[u128], scale: u32, loaded: &Loaded) -> bool
-    requires best { task.now.best ≤ 2 ^ 104 }
-    requires marked { length (plain_side task.now.side.now).vars ≤ length marks.now }
-    requires room { length (plain_side task.now.side.now).vars ≤ length prices.now }
-    requires prices { (j : ℕ) → slice_index prices.now j < 2 ^ 113 }
-    requires least { 1 ≤ scale }
-    requires most { scale ≤ 65536 }
-    requires bound { loaded.now.bound < 2 ^ 113 }
-    ensures { (ms : List (ℕ × ℕ)) → IsLoaded (plain_side task.now.side.now) prices.now loaded.now.row_end loaded.now.bound ms
-        → (IsTrue result ↔ DualHolds (plain_side task.now.side.now) task.now.best marks.now scale ms) }
-{
-    if loaded.row_end > row_count(task.side) as u64 {
-        return false;
-    }
-    sums_hold(
-        task.side,
-        task.best,
-        marks,
-        scale,
-        loaded.bound,
-        &Prices::Listed(prices),
-    )
-}
-
 #[tactic(auto, unfolding(crate::specs::Reading::dual_at))]
 fn walk_dual<'a>(
     task: &Task,
@@ -98,7 +71,7 @@ fn walk_dual<'a>(
     let (scale, rest) = number_in(Part::Node, 1, 65536, task.total, bytes)?;
     let (count, rest) = small_number(Part::Node, 0, task.total, rest)?;
     let (loaded, rest) = load_entries(task, prices, count, rest)?;
-    let holds = loaded_holds(task, marks, prices, scale as u32, &loaded);
+    let holds = loaded_holds(task.side, task.best, marks, prices, scale as u32, &loaded);
     Ok((single(holds, node, depth), rest))
 }
 

@@ -9,11 +9,11 @@ returns-then-place-row_count-clause-loaded c ms loaded low =
     let row_end = c.from-row_end.ensures in
     let past = c.if-place-row_count.true in
     let count = c.row_count.ensures in
-    loaded_past (plain_side c.args.task.now.side.now) c.args.prices.now c.args.loaded.row_end c.args.loaded.bound c.args.row c.args.multiplier (c.from-row_end.result + 1) ms loaded low (omega (arith, past, count)) (omega (arith, row_end))
+    loaded_past (plain_side c.args.side.now) c.args.prices.now c.args.loaded.row_end c.args.loaded.bound c.args.row c.args.multiplier (c.from-row_end.result + 1) ms loaded low (omega (arith, past, count)) (omega (arith, row_end))
 
 pub returns-clause-loaded : goal.returns-clause-loaded
 returns-clause-loaded c ms loaded low =
-    let s = plain_side c.args.task.now.side.now in
+    let s = plain_side c.args.side.now in
     let row = c.args.row in
     let row_end = c.from-row_end.ensures in
     let inside = c.if-place-row_count.false in
