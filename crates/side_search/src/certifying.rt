@@ -2,6 +2,7 @@ ghost use Rattle.std.specs.Prelude.{◌≡◌, ◌≤◌, IfOk, IfSome, OnOk, le
 ghost use Rattle.std.proofs.Common.{replicate};
 ghost use Rattle.placement_programme.specs.Plain.{PlainProgramme};
 ghost use Rattle.placement_programme.specs.Views.{plain_side, plain_programme};
+ghost use Rattle.certificate_checker.specs.RowWise.{rows_of, IsOfSide};
 ghost use Rattle.certificate_checker.specs.Shows.{all_free, Shows};
 ghost use Rattle.certificate_checker.specs.Reading.{most_levels};
 ghost use Rattle.certificate_checker.specs.Spelling.{IsInRange};
@@ -14,7 +15,7 @@ use crate::bounding::DualBound;
 use crate::incumbents::Incumbent;
 use crate::searching::{Task, search};
 use crate::visiting::{OnSide, Round};
-use certificate_checker::{Certificate, Fixing, Tree, free_marks};
+use certificate_checker::{Certificate, Fixing, RowWise, Tree, free_marks};
 use placement_programme::{Choice, Programme, Side};
 use std::alloc::{AllocError, Global};
 
@@ -30,6 +31,7 @@ fn search_from(
     marks: &mut [Fixing],
     best: &mut Incumbent,
 ) -> Result<Option<Tree>, AllocError>
+    requires by_row { IsOfSide (plain_side task.now.side.now) (rows_of task.now.by_row.now) }
     requires marks { marks.old ≡ all_free (plain_side task.now.side.now) }
     requires sound { IsSound (plain_programme task.now.programme.now) best.old }
     ensures sound { OnOk result (IsSound (plain_programme task.now.programme.now) best.new) }
@@ -57,9 +59,11 @@ fn search_side(
     ensures shown { IfOk result (ShownBelow (plain_side side.now) best.new.gain (all_free (plain_side side.now)) most_levels) }
 {
     let mut marks = free_marks(alloc, side)?;
+    let by_row = RowWise::of(alloc, side)?;
     let task = Task {
         programme: p,
         side,
+        by_row: &by_row,
         on,
     };
     match search_from(alloc, &task, &mut marks, best) {

@@ -1,15 +1,17 @@
-ghost use Rattle.std.specs.Prelude.{◌^◌, ◌<◌, ◌≤◌, ◌↔◌, IsTrue, length, IfSome};
+ghost use Rattle.std.specs.Prelude.{◌^◌, ◌<◌, ◌≤◌, ◌↔◌, IsTrue, length, IfSome, IfOk};
 ghost use Rattle.std.specs.List.{All};
 ghost use Rattle.placement_programme.specs.Bounds.{value_of};
 ghost use Rattle.placement_programme.specs.Views.{plain_side};
 ghost use Rattle.certificate_checker.specs.Rules.{BranchHolds, DualHolds};
+ghost use Rattle.certificate_checker.specs.RowWise.{rows_of, IsOfSide};
 ghost use Rattle.certificate_checker.specs.Spelling.{IsDualInRange};
 ghost use Rattle.side_search.specs.Visits.{ShownBelow, IsVisited};
 
 use crate::bounding::DualSolution;
 use crate::visiting::Visit;
-use certificate_checker::{Fixing, Tree, branch_holds, dual_holds, keeps_rule};
+use certificate_checker::{Fixing, Tree, Weighed, branch_holds, dual_holds_by_row, keeps_rule};
 use placement_programme::Side;
+use std::alloc::{AllocError, Global};
 
 /// A row that is exceeded fathoms a node.
 fn fathom_over(side: &Side, best: u128, marks: &[Fixing], row: Option<u32>) -> Option<Tree>
@@ -34,35 +36,42 @@ fn are_small(multipliers: &[(u32, u64)]) -> bool
 
 /// Whether multipliers make a dual node that keeps its rule and is within the ranges of a certificate's text.
 fn is_dual(
-    side: &Side,
+    alloc: Global,
+    weighed: &Weighed,
     best: u128,
     marks: &[Fixing],
     scale: u32,
     multipliers: &[(u32, u64)],
-) -> bool
+) -> Result<bool, AllocError>
+    requires by_row { IsOfSide (plain_side weighed.now.side.now) (rows_of weighed.now.by_row.now) }
     requires best { best ≤ 2 ^ 104 }
-    requires marked { length (plain_side side.now).vars ≤ length marks.now }
-    ensures { IsTrue result → DualHolds (plain_side side.now) best marks.now scale multipliers.now × IsDualInRange scale multipliers.now }
+    requires marked { length (plain_side weighed.now.side.now).vars ≤ length marks.now }
+    ensures { IfOk result (λ found. IsTrue found → DualHolds (plain_side weighed.now.side.now) best marks.now scale multipliers.now × IsDualInRange scale multipliers.now) }
 {
-    dual_holds(side, best, marks, scale, multipliers) && are_small(multipliers)
+    let holds = dual_holds_by_row(alloc, weighed, best, marks, scale, multipliers)?;
+    Ok(holds && are_small(multipliers))
 }
 
 /// A dual solution fathoms a node where it bounds the gain.
-fn fathom_dual(
-    side: &Side,
+pub(crate) fn fathom_dual(
+    alloc: Global,
+    weighed: &Weighed,
     best: u128,
     marks: &[Fixing],
     dual: Option<DualSolution>,
-) -> Option<Tree>
+) -> Result<Option<Tree>, AllocError>
+    requires by_row { IsOfSide (plain_side weighed.now.side.now) (rows_of weighed.now.by_row.now) }
     requires best { best ≤ 2 ^ 104 }
-    requires marked { length (plain_side side.now).vars ≤ length marks.now }
-    ensures { ShownBelow (plain_side side.now) best marks.now 1 result }
+    requires marked { length (plain_side weighed.now.side.now).vars ≤ length marks.now }
+    ensures { IfOk result (ShownBelow (plain_side weighed.now.side.now) best marks.now 1) }
 {
-    let DualSolution { scale, multipliers } = dual?;
-    if is_dual(side, best, marks, scale, &multipliers) {
-        Some(Tree::Dual { scale, multipliers })
+    let Some(DualSolution { scale, multipliers }) = dual else {
+        return Ok(None);
+    };
+    if is_dual(alloc, weighed, best, marks, scale, &multipliers)? {
+        Ok(Some(Tree::Dual { scale, multipliers }))
     } else {
-        None
+        Ok(None)
     }
 }
 
@@ -86,17 +95,18 @@ fn fathom(
     best: u128,
     marks: &[Fixing],
     exceeded: Option<u32>,
-    dual: Option<DualSolution>,
+    dual: Option<Tree>,
 ) -> Option<Tree>
     requires best { best ≤ 2 ^ 104 }
     requires marked { length (plain_side side.now).vars ≤ length marks.now }
+    requires dual { ShownBelow (plain_side side.now) best marks.now 1 dual }
     ensures { ShownBelow (plain_side side.now) best marks.now 1 result }
 {
     if let Some(tree) = fathom_over(side, best, marks, exceeded) {
         return Some(tree);
     }
-    if let Some(tree) = fathom_dual(side, best, marks, dual) {
-        return Some(tree);
+    if dual.is_some() {
+        return dual;
     }
     fathom_leaf(side, best, marks)
 }
@@ -129,17 +139,18 @@ fn open(side: &Side, marks: &[Fixing], suggested: Option<u32>) -> Option<u32>
     }
 }
 
-/// Fathoms a node, or finds the variable to branch on.
+/// Fathoms a node, with the tree of a dual solution if there is one, or finds the variable to branch on.
 pub(crate) fn fathom_or_branch(
     side: &Side,
     best: u128,
     marks: &[Fixing],
     exceeded: Option<u32>,
-    dual: Option<DualSolution>,
+    dual: Option<Tree>,
     suggested: Option<u32>,
 ) -> Visit
     requires best { best ≤ 2 ^ 104 }
     requires marked { length (plain_side side.now).vars ≤ length marks.now }
+    requires dual { ShownBelow (plain_side side.now) best marks.now 1 dual }
     ensures { IsVisited (plain_side side.now) best marks.now result }
 {
     if let Some(tree) = fathom(side, best, marks, exceeded, dual) {

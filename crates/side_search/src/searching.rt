@@ -1,14 +1,15 @@
 ghost use Rattle.std.specs.Prelude.{◌≡◌, ◌^◌, ◌<◌, ◌≤◌, suc, length, slice_set, IfOk, OnOk};
 ghost use Rattle.placement_programme.specs.Views.{plain_side, plain_programme};
+ghost use Rattle.certificate_checker.specs.RowWise.{rows_of, IsOfSide};
 ghost use Rattle.certificate_checker.specs.Rules.{BranchHolds};
 ghost use Rattle.side_search.specs.Incumbents.{IsSound};
 ghost use Rattle.side_search.specs.Visits.{ShownBelow, IsVisited};
 
 use crate::bounding::{DualBound, NodeBound};
-use crate::fathoming::fathom_or_branch;
+use crate::fathoming::{fathom_dual, fathom_or_branch};
 use crate::incumbents::Incumbent;
 use crate::visiting::Visit;
-use certificate_checker::{Fixing, Tree, accepted, branch_on, fixing_of};
+use certificate_checker::{Fixing, RowWise, Tree, Weighed, accepted, branch_on, fixing_of};
 use placement_programme::{Choice, Programme, Side};
 use std::alloc::{AllocError, Global};
 
@@ -17,6 +18,8 @@ use std::alloc::{AllocError, Global};
 pub(crate) struct Task<'a> {
     pub programme: &'a Programme,
     pub side: &'a Side,
+    /// The weights of the side by rows.
+    pub by_row: &'a RowWise,
     pub on: bool,
 }
 
@@ -73,6 +76,7 @@ fn visit(
     marks: &[Fixing],
     best: &mut Incumbent,
 ) -> Result<Visit, AllocError>
+    requires by_row { IsOfSide (plain_side task.now.side.now) (rows_of task.now.by_row.now) }
     requires marked { length (plain_side task.now.side.now).vars ≤ length marks.now }
     requires sound { IsSound (plain_programme task.now.programme.now) best.old }
     ensures sound { OnOk result (IsSound (plain_programme task.now.programme.now) best.new) }
@@ -87,6 +91,11 @@ fn visit(
         branch,
     } = bound.at_node(alloc, task.side, marks, best.gain)?;
     try_candidate(task.programme, task.on, candidate, best);
+    let weighed = Weighed {
+        side: task.side,
+        by_row: task.by_row,
+    };
+    let dual = fathom_dual(alloc, &weighed, best.gain, marks, dual)?;
     let visit = fathom_or_branch(task.side, best.gain, marks, exceeded, dual, branch);
     Ok(visit)
 }
@@ -102,6 +111,7 @@ pub(crate) fn search(
     levels: u32,
     best: &mut Incumbent,
 ) -> Result<Option<Tree>, AllocError>
+    requires by_row { IsOfSide (plain_side task.now.side.now) (rows_of task.now.by_row.now) }
     requires marked { length (plain_side task.now.side.now).vars ≤ length marks.old }
     requires sound { IsSound (plain_programme task.now.programme.now) best.old }
     ensures kept { OnOk result (marks.new ≡ marks.old) }
@@ -134,6 +144,7 @@ fn search_children(
     branch: Branch,
     best: &mut Incumbent,
 ) -> Result<Option<Tree>, AllocError>
+    requires by_row { IsOfSide (plain_side task.now.side.now) (rows_of task.now.by_row.now) }
     requires marked { length (plain_side task.now.side.now).vars ≤ length marks.old }
     requires branch { BranchHolds (plain_side task.now.side.now) marks.old branch.var }
     requires sound { IsSound (plain_programme task.now.programme.now) best.old }
@@ -174,6 +185,7 @@ fn search_child(
     best: &mut Incumbent,
 ) -> Result<Option<Tree>, AllocError>
     requires inside { child.var < length marks.old }
+    requires by_row { IsOfSide (plain_side task.now.side.now) (rows_of task.now.by_row.now) }
     requires marked { length (plain_side task.now.side.now).vars ≤ length marks.old }
     requires sound { IsSound (plain_programme task.now.programme.now) best.old }
     ensures kept { OnOk result (marks.new ≡ marks.old) }

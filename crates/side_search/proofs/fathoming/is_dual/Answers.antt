@@ -2,8 +2,9 @@ use Rattle.placement_programme.specs.Views.{plain_side}
 use Rattle.side_search.proofs.Ranges.{dual_in_range}
 use Rattle.side_search.proofs.fathoming.is_dual.Goals as goal
 
-pub returns-then-dual_holds : goal.returns-then-dual_holds
-returns-then-dual_holds c =
+pub returns-then-holds : goal.returns-then-holds
+returns-then-holds c =
     λ small.
-    let holds = c.dual_holds.ensures.0 c.if-dual_holds.true in
-    (holds, dual_in_range (plain_side c.args.side.now) c.args.best c.args.marks.now c.args.scale c.args.multipliers.now c.args.side.now.bounds holds (c.are_small.ensures.0 small))
+    let weighed = c.args.weighed.now in
+    let holds = c.in_ok-holds.ensures.0 c.if-holds.true in
+    (holds, dual_in_range (plain_side weighed.side.now) c.args.best c.args.marks.now c.args.scale c.args.multipliers.now weighed.side.now.bounds holds (c.are_small.ensures.0 small))
