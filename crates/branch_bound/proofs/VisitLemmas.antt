@@ -1,22 +1,69 @@
 -- How a node is closed or opened.
-use Rattle.std.proofs.Common.{◌≡◌, ◌∙◌, ℕ, suc, ◌+◌, ◌-◌, ◌*◌, ◌^◌, ◌<◌, ◌≤◌, max, List, [], ◌∷◌, length, slice_set, sym, ap, refl, subst, arith}
+use Rattle.std.proofs.Common.{◌≡◌, ◌∙◌, inl, inr, ℕ, zero, suc, ◌+◌, ◌-◌, ◌*◌, ◌^◌, ◌<◌, ◌≤◌, max, List, [], ◌∷◌, ◌++◌, length, slice_index, slice_set, sym, ap, refl, subst, arith}
 use Rattle.std.specs.List.{count_by}
 use Rattle.placement_programme.specs.Plain.{PlainSide}
-use Rattle.placement_programme.specs.Programme.{gain_at, Fits, taken_gains}
+use Rattle.placement_programme.specs.Programme.{gain_at, weight_at, Fits, taken_gains}
+use Rattle.placement_programme.specs.Sums.{sum_below}
 use Rattle.placement_programme.proofs.TakeLemmas.{below_at_most}
 use Rattle.certificate_checker.specs.Rules.{if_one, kept, kept_at, moved_at, OverHolds, LeafHolds, DualHolds}
 use Rattle.certificate_checker.specs.Shows.{all_free}
 use Rattle.certificate_checker.proofs.Failures.{set_twice}
-use Rattle.branch_bound.specs.Assignments.{taken, FailsEveryLeafRule, IsGreatestFree}
+use Rattle.std.proofs.lemmas.Bool.{cases_eq, cases_lt}
+use Rattle.certificate_checker.proofs.Children.{free_inside, mark_same, mark_other}
+use Rattle.branch_bound.specs.Searching.{EntryBelow, IsTried}
+use Rattle.branch_bound.specs.Assignments.{number_if, ones_below, taken, FailsEveryLeafRule, IsGreatestFree}
 use Rattle.certificate_checker.specs.Fixings.{fixing_of, is_free}
 use Rattle.certificate_checker.specs.declared.fixings.Fixing.{Fixing}
 use Rattle.certificate_checker.specs.declared.fixings.Fixing.TheVariants.{Zero, One, Free}
-use Rattle.branch_bound.proofs.OnesLemmas.{over_not_fits, gains_are, nothing_taken}
+use Rattle.branch_bound.proofs.OnesLemmas.{fits_from, over_not_fits, gains_are, nothing_taken}
 use Rattle.branch_bound.proofs.MarkLemmas.{fewer_free}
 
 pub leaf_here : (s : PlainSide) (marks : List Fixing) (old new : ℕ) → ((j : ℕ) → j < length s.vars → fixing_of marks j ≡ Free → ⊥) → new ≡ max old (taken_gains s (taken s marks) - s.fixed) → LeafHolds s new marks
 leaf_here s marks old new full is =
     record { full = full; gains = let sum = gains_are s marks in omega (arith, sum, is) }
+
+-- marks on the way to the second child
+pub zero_marks : (marks now : List Fixing) (j : ℕ) → now ≡ slice_set marks j One → slice_set now j Zero ≡ slice_set marks j Zero
+zero_marks marks now j is = ap (λ l. slice_set l j Zero) is ∙ set_twice marks j One Zero
+
+-- the same of a full assignment that is known to gain no more
+pub leaf_known : (s : PlainSide) (best : ℕ) (marks : List Fixing) → Fits s (taken s marks) → EntryBelow s best marks → ((j : ℕ) → j < length s.vars → fixing_of marks j ≡ Free → ⊥) → LeafHolds s best marks
+leaf_known s best marks fits below full =
+    record { full = full; gains = let sum = gains_are s marks in let most = below fits in omega (arith, sum, most) }
+
+-- what is taken where a free variable is fixed to zero
+zero_below : (n : ℕ) (marks : List Fixing) (j : ℕ) → fixing_of marks j ≡ Free → ones_below n (slice_set marks j Zero) ≡ ones_below n marks
+zero_below zero marks j unfixed = refl
+zero_below (suc n) marks j unfixed =
+    let rest = zero_below n marks j unfixed in
+    let here : number_if (fixing_of (slice_set marks j Zero) n) n ≡ number_if (fixing_of marks n) n =
+    elim (cases_eq n j) [
+      | inl same ↦
+          let free_there : fixing_of marks n ≡ Free = subst (λ i. fixing_of marks i ≡ Free) (sym same) unfixed in
+          let zero_there : fixing_of (slice_set marks j Zero) n ≡ Zero = subst (λ i. fixing_of (slice_set marks j Zero) i ≡ Zero) (sym same) (mark_same marks j Zero (free_inside marks j unfixed)) in
+          ap (λ m. number_if m n) zero_there ∙ sym (ap (λ m. number_if m n) free_there)
+      | inr other ↦ ap (λ m. number_if m n) (mark_other marks j Zero n other)
+    ] in
+    ap (λ ns. ns ++ number_if (fixing_of (slice_set marks j Zero) n) n) rest ∙ ap (λ ns. ones_below n marks ++ ns) here
+
+-- what is taken fits where no row is exceeded
+within_fits : (s : PlainSide) (marks : List Fixing) → ((row : ℕ) → OverHolds s marks row → ⊥) → Fits s (taken s marks)
+within_fits s marks within =
+    fits_from s marks (λ row inside.
+    elim (cases_lt (slice_index s.rows row) (sum_below (length s.vars) (λ j. if_one (fixing_of marks j) (weight_at s.vars row j)))) [
+      | inl over ↦ absurd (within row record { inside = inside; exceeded = over })
+      | inr held ↦ held
+    ])
+
+-- a child that fixes a free variable to zero is tried with its parent
+pub zero_tried : (s : PlainSide) (best more : ℕ) (marks now : List Fixing) (j : ℕ) → FailsEveryLeafRule s best marks → EntryBelow s best marks → best ≤ more → fixing_of marks j ≡ Free → now ≡ slice_set marks j One → IsTried s more (slice_set now j Zero)
+zero_tried s best more marks now j fails below grows unfixed is =
+    let fits = within_fits s marks fails.within in
+    let same : taken s (slice_set now j Zero) ≡ taken s marks = ap (λ m. taken s m) (zero_marks marks now j is) ∙ zero_below (length s.vars) marks j unfixed in
+    let most = below fits in (
+      subst (λ take. Fits s take) (sym same) fits,
+      λ any. subst (λ take. taken_gains s take ≤ more + s.fixed) (sym same) (omega (arith, most, grows)),
+    )
 
 pub opens : (s : PlainSide) (best : ℕ) (marks : List Fixing) (j : ℕ) → Fits s (taken s marks) → IsGreatestFree s marks j → (DualHolds s best marks 1 [] → ⊥) → FailsEveryLeafRule s best marks
 opens s best marks j fits greatest unbounded =
@@ -49,9 +96,6 @@ first_fails s best unbounded =
     }
 
 -- marks on the way through the two children
-pub zero_marks : (marks now : List Fixing) (j : ℕ) → now ≡ slice_set marks j One → slice_set now j Zero ≡ slice_set marks j Zero
-zero_marks marks now j is = ap (λ l. slice_set l j Zero) is ∙ set_twice marks j One Zero
-
 pub fewer_again : (marks now : List Fixing) (j : ℕ) → fixing_of marks j ≡ Free → now ≡ slice_set marks j One → count_by is_free (slice_set now j Zero) < count_by is_free marks
 fewer_again marks now j unfixed is =
     let fewer = fewer_free marks j Zero unfixed refl in

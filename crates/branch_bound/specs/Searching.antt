@@ -20,6 +20,10 @@ use Rattle.certificate_checker.specs.declared.fixings.Fixing.{Fixing}
 abbrev pub EntryBelow : PlainSide → ℕ → List Fixing → Type 0
 EntryBelow s best marks = Fits s (taken s marks) → taken_gains s (taken s marks) ≤ best + s.fixed
 
+-- what an assignment takes fits, and gains at most `best`, the fixed cost taken off
+abbrev pub IsTried : PlainSide → ℕ → List Fixing → Type 0
+IsTried s best marks = Fits s (taken s marks) × EntryBelow s best marks
+
 -- a finished subtree is closed by its tree, and had no more nodes than its stated list has entries; where the budget of
 -- `left` nodes ends within it, none of so many entries of its list gains more than `best`, and there are more of them
 abbrev pub Reports : PlainSide → ℕ → List Fixing → ℕ → ℕ → ℕ → Option Tree → Type 0

@@ -1,10 +1,10 @@
-ghost use Rattle.std.specs.Prelude.{◌≡◌, ℕ, suc, ◌+◌, ◌^◌, ◌<◌, ◌≤◌, length, Option, Some, None, IfOk, OnOk};
+ghost use Rattle.std.specs.Prelude.{◌≡◌, ℕ, suc, ◌+◌, ◌^◌, ◌<◌, ◌≤◌, IsTrue, length, Option, Some, None, IfOk, OnOk};
 ghost use Rattle.std.specs.List.{count_by};
 ghost use Rattle.placement_programme.specs.Programme.{Fits};
 ghost use Rattle.placement_programme.specs.Views.{plain_side};
 ghost use Rattle.certificate_checker.specs.Fixings.{is_free};
 ghost use Rattle.branch_bound.specs.Assignments.{taken, IsGreatestFree};
-ghost use Rattle.branch_bound.specs.Searching.{EntryBelow, Reports, Visits, HasLevels, KeepsIncumbent};
+ghost use Rattle.branch_bound.specs.Searching.{EntryBelow, IsTried, Reports, Visits, HasLevels, KeepsIncumbent};
 
 use crate::closing::plain_dual;
 use crate::greedy::greatest_free;
@@ -30,6 +30,20 @@ fn close_or_open(alloc: Global, side: &Side, marks: &[Fixing], number: u32, best
     }
 }
 
+/// Visits a node of which it is known that what its assignment takes fits, and gains no more than `best`.
+fn visit_known(alloc: Global, side: &Side, marks: &[Fixing], best: u128) -> Visit
+    requires marked { length (plain_side side.now).vars ≤ length marks.now }
+    requires fits { Fits (plain_side side.now) (taken (plain_side side.now) marks.now) }
+    requires below { EntryBelow (plain_side side.now) best marks.now }
+    requires small { best ≤ 2 ^ 104 }
+    ensures { Visits (plain_side side.now) best marks.now result }
+{
+    match greatest_free(side, marks) {
+        None => Visit::Closed(Tree::Leaf),
+        Some(number) => close_or_open(alloc, side, marks, number, best),
+    }
+}
+
 /// Visits a node that exceeds no row. What its assignment takes may become the incumbent.
 fn visit_fitting(
     alloc: Global,
@@ -49,25 +63,22 @@ fn visit_fitting(
     ensures keeps { OnOk result (KeepsIncumbent on (plain_side side.now) run.old.best run.new.best) }
 {
     improve(alloc, side, on, marks, &mut run.best)?;
-    match greatest_free(side, marks) {
-        None => Ok(Visit::Closed(Tree::Leaf)),
-        Some(number) => {
-            let best = run.best.gain;
-            Ok(close_or_open(alloc, side, marks, number, best))
-        }
-    }
+    Ok(visit_known(alloc, side, marks, run.best.gain))
 }
 
-/// Visits a node: closes it, or names the variable on which to branch.
+/// Visits a node: closes it, or names the variable on which to branch. `known` tells that what its assignment takes was
+/// tried before.
 fn visit(
     alloc: Global,
     side: &Side,
     on: bool,
     marks: &[Fixing],
     run: &mut Running,
+    known: bool,
 ) -> Result<Visit, AllocError>
     requires marked { length (plain_side side.now).vars ≤ length marks.now }
     requires small { run.old.best.gain ≤ 2 ^ 104 }
+    requires known { IsTrue known → IsTried (plain_side side.now) run.old.best.gain marks.now }
     ensures visits { IfOk result (Visits (plain_side side.now) run.new.best.gain marks.now) }
     ensures here { OnOk result (EntryBelow (plain_side side.now) run.new.best.gain marks.now) }
     ensures grows { OnOk result (run.old.best.gain ≤ run.new.best.gain) }
@@ -75,6 +86,9 @@ fn visit(
     ensures left { OnOk result (run.new.left ≡ run.old.left) }
     ensures keeps { OnOk result (KeepsIncumbent on (plain_side side.now) run.old.best run.new.best) }
 {
+    if known {
+        return Ok(visit_known(alloc, side, marks, run.best.gain));
+    }
     match exceeded(alloc, side, marks)? {
         Some(row) => Ok(Visit::Closed(Tree::Over { row })),
         None => visit_fitting(alloc, side, on, marks, run),
@@ -82,16 +96,19 @@ fn visit(
 }
 
 /// Searches below some fixings, depth first and one before zero, for what gains more than the incumbent; None where the
-/// budget ends before everything is closed. The depth is at most the number of free variables.
+/// budget ends before everything is closed. The depth is at most the number of free variables. A child that fixes a
+/// variable to zero takes what its parent takes, which is known then.
 pub(crate) fn search(
     alloc: Global,
     side: &Side,
     on: bool,
     marks: &mut [Fixing],
     run: &mut Running,
+    known: bool,
 ) -> Result<Option<Tree>, AllocError>
     requires marked { length (plain_side side.now).vars ≤ length marks.old }
     requires small { run.old.best.gain ≤ 2 ^ 104 }
+    requires known { IsTrue known → IsTried (plain_side side.now) run.old.best.gain marks.old }
     ensures kept { OnOk result (marks.new ≡ marks.old) }
     ensures grows { OnOk result (run.old.best.gain ≤ run.new.best.gain) }
     ensures small { run.new.best.gain ≤ 2 ^ 104 }
@@ -103,14 +120,14 @@ pub(crate) fn search(
         return Ok(None);
     }
     run.left -= 1;
-    let number = match visit(alloc, side, on, marks, run)? {
+    let number = match visit(alloc, side, on, marks, run, known)? {
         Visit::Closed(tree) => return Ok(Some(tree)),
         Visit::Open(number) => number,
     };
     let place = number as usize;
     let old = fixing_of(marks, place);
     marks[place] = Fixing::One;
-    let one = match search(alloc, side, on, marks, run)? {
+    let one = match search(alloc, side, on, marks, run, false)? {
         None => {
             marks[place] = old;
             return Ok(None);
@@ -118,7 +135,7 @@ pub(crate) fn search(
         Some(tree) => tree,
     };
     marks[place] = Fixing::Zero;
-    let zero = match search(alloc, side, on, marks, run)? {
+    let zero = match search(alloc, side, on, marks, run, true)? {
         None => {
             marks[place] = old;
             return Ok(None);

@@ -43,7 +43,7 @@ fn search_side(
 {
     let mut marks = free_marks(alloc, side)?;
     let mut run = Running { best, left };
-    let tree = search(alloc, side, on, &mut marks, &mut run)?;
+    let tree = search(alloc, side, on, &mut marks, &mut run, false)?;
     let Running { best, left } = run;
     Ok(Outcome { best, left, tree })
 }

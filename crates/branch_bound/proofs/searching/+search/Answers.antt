@@ -1,15 +1,15 @@
-use Rattle.std.proofs.Common.{◌≡◌, ◌≤◌, ◌<◌, ◌^◌, ℕ, suc, List, nat_le, length, slice_set, Option, Some, None, refl, rules, subst, arith}
+use Rattle.std.proofs.Common.{◌≡◌, ◌≤◌, ◌<◌, ◌^◌, ℕ, suc, IsTrue, true, List, nat_le, length, slice_set, Option, Some, None, refl, rules, subst, arith}
 use Rattle.std.specs.List.{count_by}
 use Rattle.placement_programme.specs.Views.{plain_side}
 use Rattle.certificate_checker.specs.declared.trees.Tree.{Tree}
 use Rattle.branch_bound.specs.declared.visiting.Visit.{Visit}
-use Rattle.branch_bound.specs.Searching.{Reports, Visits, HasLevels}
+use Rattle.branch_bound.specs.Searching.{IsTried, Reports, Visits, HasLevels}
 use Rattle.certificate_checker.specs.Fixings.{is_free}
 use Rattle.certificate_checker.specs.declared.fixings.Fixing.{Fixing}
 use Rattle.certificate_checker.specs.declared.fixings.Fixing.TheVariants.{Zero, One}
 use Rattle.side_search.proofs.Branches.{back_once, back_twice}
 use Rattle.branch_bound.proofs.TellLemmas.{Branches, children, tells_first, tells_second, tells_both, levels_both}
-use Rattle.branch_bound.proofs.VisitLemmas.{zero_marks, fewer_again}
+use Rattle.branch_bound.proofs.VisitLemmas.{zero_marks, zero_tried, fewer_again}
 use Rattle.branch_bound.proofs.searching.+search.Goals as goal
 
 pub returns-in-None-clause-kept : goal.returns-in-None-clause-kept
@@ -37,6 +37,8 @@ search-requires-2 t c =
     let s = plain_side c.args.side.now in
     let visits = subst (λ (v : Visit). Visits s c.visit.new.run.best.gain c.args.marks.now v) c.in-Open.is c.in_ok-tree.ensures.visits in
     let fewer = fewer_again c.args.marks.now c.search.new.marks c.in-Open.number visits.1.holds c.in_ok-search.ensures.kept in
+    let tried = zero_tried s c.visit.new.run.best.gain c.search.new.run.best.gain c.args.marks.now c.search.new.marks c.in-Open.number visits.0 c.in_ok-tree.ensures.here c.in_ok-search.ensures.grows visits.1.holds c.in_ok-search.ensures.kept in
+    let known : IsTrue true → IsTried s c.search.new.run.best.gain (slice_set c.search.new.marks c.in-Open.number Zero) = λ any. tried in
     search rules
 
 pub returns-in-None-2-clause-kept : goal.returns-in-None-2-clause-kept
