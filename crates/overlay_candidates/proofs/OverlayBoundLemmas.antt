@@ -1,5 +1,5 @@
 -- What candidates save and weigh with overlay is within the bounds of a side.
-use Rattle.std.proofs.Common.{inl, inr, ℕ, zero, suc, ◌+◌, ◌-◌, ◌*◌, ◌^◌, ◌<◌, ◌≤◌, Bool, true, false, List, [], ◌∷◌, ◌++◌, length, map, replicate, slice_index_or, refl, arith, if◌then◌else◌}
+use Rattle.std.proofs.Common.{inl, inr, ℕ, zero, suc, ◌+◌, ◌-◌, ◌*◌, ◌^◌, ◌<◌, ◌≤◌, Bool, true, false, List, [], ◌∷◌, ◌++◌, length, map, replicate, slice_index_or, arith, if◌then◌else◌}
 use Rattle.std.specs.List.{All, sum_by}
 use Rattle.std.specs.List.Sorted.{IsStrictlyIncreasing}
 use Rattle.std.specs.Prelude.{unsigned_abs}
@@ -8,109 +8,10 @@ use Rattle.std.proofs.lemmas.List.Kept.{AllPairs-from_increasing}
 use Rattle.std.proofs.lemmas.List.Elements.{All-nil, All-cons, All-append, All-replicate}
 use Rattle.std.proofs.lemmas.List.Sums.{sum_by-cons}
 use Rattle.std.proofs.lemmas.Nat.{mul-le}
-use Rattle.board_config.specs.Board.{AreLawfulPrices}
-use Rattle.board_config.specs.declared.board.Prices.{Prices}
-use Rattle.object_graph.specs.declared.parts.Graph.{Graph}
-use Rattle.object_graph.specs.declared.parts.Object.{Object}
-use Rattle.code_blocks.specs.declared.parts.Code.{Code}
-use Rattle.region_former.specs.declared.table.RegionTable.{RegionTable}
-use Rattle.profile_runner.specs.declared.counts.Profile.{Profile}
-use Rattle.list_checks.specs.Sorted.{sum_below}
-use Rattle.block_splitter.specs.declared.block_range.BlockRange.{BlockRange}
-use Rattle.energy_model.specs.Energy.{into_price, back_price, object_rounds}
-use Rattle.energy_model.specs.Overlay.{accesses_price, is_entered, entering_price, entered_words, copied_price}
-use Rattle.energy_model.specs.Copied.{arrivals_in, home_words, copy_words_run, came_in, came_to, pending_to, sum_in, pending}
-use Rattle.energy_model.specs.Counts.{CountsCode}
-use Rattle.overlay_counts.specs.OverlayCost.{CountsOverlay}
-use Rattle.overlay_counts.specs.Entering.{IsEnteringCount, if_border, displaced_of, first_of, stays_entered}
-use Rattle.overlay_counts.specs.Gains.{AreSmallCounts, object_saves, object_copied, piece_saves}
-use Rattle.overlay_counts.specs.declared.object_counts.ObjectCounts.{ObjectCounts}
-use Rattle.overlay_counts.proofs.EnteringLemmas.{is_entering}
 use Rattle.placement_programme.specs.Plain.{PlainFullVar}
 use Rattle.placement_programme.specs.Bounds.{AreWeights, value_of}
 use Rattle.placement_programme.specs.Rows.{Layout, Candidate, static_data, static_code, overlay_data, overlay_code, kept_data, in_rows, blocks_of, block_row, object_row, patch_row, data_span, code_span, on_code_bytes, overlay_data_bytes, kept_data_bytes, first_twin, fixed_bytes, on_capacities, on_weights, IsCandidateOf}
 use Rattle.placement_programme.proofs.RowLemmas.{weights_in_rows, on_length}
-use Rattle.placement_candidates.proofs.PieceLemmas.{abs_difference, came_few}
-use Rattle.placement_candidates.proofs.StatedLemmas.{job_small}
-
--- ---- objects
-
-price_few : (b : Bool) (x y : ℕ) → x ≤ 10000 → y ≤ 10000 → (if b then x else y) ≤ 10000
-price_few true x y first second = first
-price_few false x y first second = second
-
-accesses_few : (prices : Prices) (fast : Bool) (reads writes : ℕ) → AreLawfulPrices prices → reads ≤ 2000000000 → writes ≤ 2000000000 → accesses_price prices fast reads writes ≤ 40000000000000
-accesses_few prices fast reads writes lawful first second =
-    let read = price_few fast prices.spm_read prices.main_read lawful.spm_read lawful.main_read in
-    let write = price_few fast prices.spm_write prices.main_write lawful.spm_write lawful.main_write in
-    let left = mul-le reads (if fast then prices.spm_read else prices.main_read) 2000000000 10000 first read in
-    let right = mul-le writes (if fast then prices.spm_write else prices.main_write) 2000000000 10000 second write in
-    omega (arith, left, right)
-
-back_few : (prices : Prices) (n : ℕ) → AreLawfulPrices prices → n ≤ 4294967296 → back_price prices n ≤ 400000000000000
-back_few prices n lawful few =
-    let fetches = mul-le (6 + 5 * n) prices.main_fetch (6 + 5 * 4294967296) 10000 (omega (arith, few)) lawful.main_fetch in
-    let reads = mul-le n prices.spm_read 4294967296 10000 few lawful.spm_read in
-    let writes = mul-le n prices.main_write 4294967296 10000 few lawful.main_write in
-    omega (arith, fetches, reads, writes)
-
-if_few : (b : Bool) (x most : ℕ) → x ≤ most → (if b then x else 0) ≤ most
-if_few true x most few = few
-if_few false x most few = omega arith
-
--- what an object saves, of which so much is counted
-pub object_few : (prices : Prices) (o : Object) (counts : ObjectCounts) → AreLawfulPrices prices → AreSmallCounts counts → object_rounds o ≤ 4294967296 → unsigned_abs (object_saves prices o counts) ≤ 20000000000000000000000000
-object_few prices o counts lawful small few =
-    let home = accesses_few prices false counts.reads counts.writes lawful small.reads small.writes in
-    let fast = accesses_few prices true counts.reads counts.writes lawful small.reads small.writes in
-    let into = mul-le counts.enters (into_price prices (object_rounds o)) 18000000000 400000000000000 small.enters (job_small prices (object_rounds o) lawful few) in
-    let back = mul-le counts.leaves (if o.writable then back_price prices (object_rounds o) else 0) 18000000000 400000000000000 small.leaves
-    (if_few o.writable (back_price prices (object_rounds o)) 400000000000000 (back_few prices (object_rounds o) lawful few)) in
-    abs_difference (accesses_price prices false counts.reads counts.writes) (accesses_price prices true counts.reads counts.writes + object_copied prices o counts.enters counts.leaves) 20000000000000000000000000
-    (omega (arith, home)) (omega (arith, fast, into, back))
-
--- ---- pieces
-
--- what is counted of its entries
-entering : (c : Code) (t : RegionTable) (g : Graph) (q : Profile) (r : BlockRange) → CountsCode c g q → CountsOverlay c t g q → IsEnteringCount c g q t.border.items r (record { checks = sum_in r (if_border t.border.items (arrivals_in q)) (length c.blocks.items); displaced = sum_in r (if_border t.border.items (displaced_of c g q)) (length c.blocks.items); first = sum_in r (if_border t.border.items (first_of c q)) (length c.blocks.items); came = sum_in r (if_border t.border.items (arrivals_in q)) (length c.blocks.items) + pending_to c q r (is_entered t.border.items r) - sum_in r (stays_entered c q t.border.items r) (length c.blocks.items) })
-entering c t g q r code counts =
-    let n = length c.blocks.items in
-    let borders = t.border.items in
-    is_entering c t g q r
-    (record {
-      checks = sum_in r (if_border borders (arrivals_in q)) n;
-      displaced = sum_in r (if_border borders (displaced_of c g q)) n;
-      first = sum_in r (if_border borders (first_of c q)) n;
-      pending = sum_in r (if_border borders (pending c q)) n;
-      stayed = sum_in r (stays_entered c q borders r) n;
-    })
-    (pending_to c q r (is_entered borders r)) code counts (record { checks = refl; displaced = refl; first = refl; pending = refl; stayed = refl }) refl
-
--- so a piece saves little, whose copies cost little
-pub code_few : (c : Code) (t : RegionTable) (g : Graph) (q : Profile) (prices : Prices) (r : BlockRange) (copies : ℕ) → CountsCode c g q → CountsOverlay c t g q → AreLawfulPrices prices → copies ≤ 4000000000000000000 → unsigned_abs (piece_saves c g prices q t.border.items r copies) ≤ 10000000000000000000
-code_few c t g q prices r copies code counts lawful few =
-    let borders = t.border.items in
-    let n = length c.blocks.items in
-    let is = entering c t g q r code counts in
-    let checks = is.checks in
-    let displaced = is.displaced in
-    let first = is.first in
-    let came = is.came in
-    let small_checks = is.small_checks in
-    let small_displaced = is.small_displaced in
-    let small_first = is.small_first in
-    let small_came = is.small_came in
-    let fetch = lawful.main_fetch in
-    let read = lawful.main_read in
-    let home = mul-le (home_words c g q r) prices.main_fetch 1000000000000 10000 (code.home r) fetch in
-    let checked = mul-le (sum_below (λ b. if is_entered borders r b then arrivals_in q b else 0) n) (5 * prices.main_fetch + prices.main_read) 1000000000000 60000 (omega (arith, checks, small_checks)) (omega (arith, fetch, read)) in
-    let moved = mul-le (sum_below (λ b. if is_entered borders r b then displaced_of c g q b else 0) n) prices.main_fetch 1000000000000 10000 (omega (arith, displaced, small_displaced)) fetch in
-    let entered = mul-le (entered_words c q borders r) prices.main_fetch 1000000000000 10000 (omega (arith, first, small_first)) fetch in
-    let copied = mul-le (copy_words_run c g q r) prices.spm_fetch 1000000000000 10000 (code.copies r) lawful.spm_fetch in
-    let pads = mul-le (came_in c q r) (3 * prices.main_fetch) 2000000000000 30000 (came_few c g q r code) (omega (arith, fetch)) in
-    let stubs = mul-le (came_to c q r (is_entered borders r)) (4 * prices.main_fetch + prices.main_read) 2000000000000 50000 (omega (arith, came, small_came)) (omega (arith, fetch, read)) in
-    abs_difference (home_words c g q r * prices.main_fetch + entering_price c g prices q borders r) (entered_words c q borders r * prices.main_fetch + copied_price c g prices q borders r + copies) 10000000000000000000
-    (omega (arith, home, checked, moved)) (omega (arith, entered, copied, pads, stubs, few))
 
 -- ---- sums
 

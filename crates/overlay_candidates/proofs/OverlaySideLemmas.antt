@@ -7,7 +7,6 @@ use Rattle.std.proofs.lemmas.List.{length-map}
 use Rattle.std.proofs.lemmas.List.Elements.{All-nil, All-cons, All-append, All-map}
 use Rattle.std.proofs.lemmas.Nat.{mul-le}
 use Rattle.rv_decode.specs.Table.{OneInstruction}
-use Rattle.elf_reader.specs.File.{plain_view}
 use Rattle.elf_reader.specs.declared.view.ElfView.{ElfView}
 use Rattle.list_checks.specs.Sorted.{collected}
 use Rattle.profile_runner.specs.Transition.{Transition}
@@ -15,7 +14,6 @@ use Rattle.block_splitter.specs.declared.piece.Piece.{Piece}
 use Rattle.block_splitter.specs.Pieces.{range_of, is_entry}
 use Rattle.block_splitter.specs.Forms.{holds_block}
 use Rattle.cell_values.specs.Objects.{object_of, datum_of}
-use Rattle.object_machine.proofs.GraphLemmas.{ends_below}
 use Rattle.placement_programme.specs.declared.variables.FullVar.{FullVar}
 use Rattle.placement_programme.specs.Plain.{PlainFullVar, PlainFullSide, PlainFull, plain_full_var}
 use Rattle.placement_programme.specs.Bounds.{AreWeights}
@@ -29,20 +27,21 @@ use Rattle.energy_model.specs.Counts.{CountsCode}
 use Rattle.overlay_counts.proofs.GainLemmas.{has_place}
 use Rattle.overlay_counts.specs.Gains.{overlaid_counts, kept_counts}
 use Rattle.energy_model.proofs.CountsLemmas.{counts_code}
+use Rattle.overlay_counts.proofs.GainBounds.{object_saves_small, piece_saves_small}
 use Rattle.overlay_counts.proofs.OverlayCostLemmas.{counts_overlay, overlay_cost_is}
 use Rattle.overlay_candidates.specs.declared.measured.Measured.{Measured}
 use Rattle.placement_candidates.specs.Stated.{part_of, AreSomePieces, IsStaticFull}
 use Rattle.placement_candidates.specs.Counted.{stub_price, CanCountPiece}
-use Rattle.overlay_candidates.specs.Overlaid.{AreOverlaidObjects, static_objects, static_pieces, static_candidates, overlay_candidates, overlay_gain, overlay_var, overlay_fixed, on_side, has_on_side, IsWholeFull}
+use Rattle.overlay_candidates.specs.Overlaid.{AreOverlaidObjects, static_objects, static_pieces, static_candidates, overlay_candidates, overlay_gain, overlay_var, overlay_fixed, on_side, has_on_side, IsSmallOn, IsWholeFull}
 use Rattle.overlay_candidates.specs.OverlayCounted.{scene_in, layout_in, gain_in, on_var, on_vars, counted_on_side, counted_on, CanCountOverlay}
 use Rattle.placement_candidates.proofs.LimitLemmas.{blocks_few}
-use Rattle.placement_candidates.proofs.SpanLemmas.{spans_small}
+use Rattle.placement_candidates.proofs.SpanLemmas.{objects_small, spans_small}
 use Rattle.placement_candidates.proofs.PieceLemmas.{can_count_piece, pieces_few, part_entries, code_span_small, copy_job_small}
 use Rattle.placement_candidates.proofs.StatedLemmas.{counts_accesses, gain_small, rounds_few, stub_empty, grain_some}
 use Rattle.overlay_candidates.proofs.CandidateLemmas.{are_of_layout}
 use Rattle.overlay_candidates.proofs.EachLemmas.{each_candidate, by_kind, all_most}
 use Rattle.overlay_candidates.proofs.OverlayGainLemmas.{data_gain, code_gain, region_data_gain, region_code_gain, pair_data_gain}
-use Rattle.overlay_candidates.proofs.OverlayBoundLemmas.{object_few, code_few, sum_few, few_numbers, IsLight, are_weights, rows_count, capacities_few}
+use Rattle.overlay_candidates.proofs.OverlayBoundLemmas.{sum_few, few_numbers, IsLight, are_weights, rows_count, capacities_few}
 
 -- ---- how many there are
 
@@ -107,11 +106,11 @@ pairs_few : (twins : Bool) (count : ℕ) → count ≤ 8 → pairs_of twins coun
 pairs_few true count few = omega (arith, few)
 pairs_few false count few = omega arith
 
-products : (regions pairs most pieces some : ℕ) → regions ≤ 8 → pairs ≤ 4 → most ≤ 4096 → some ≤ 4096 → pieces ≤ 4294967296 → most * 20000000000000000000000000 + pieces * 10000000000000000000 + regions * (some * 20000000000000000000000000) + regions * (pieces * 10000000000000000000) + pairs * (some * 20000000000000000000000000) < 2 ^ 104
+products : (regions pairs most pieces some : ℕ) → regions ≤ 8 → pairs ≤ 4 → most ≤ 4096 → some ≤ 4096 → pieces ≤ 67108864 → most * 5000000000000000000000 + pieces * 1000000000000000000 + regions * (some * 5000000000000000000000) + regions * (pieces * 1000000000000000000) + pairs * (some * 5000000000000000000000) < 2 ^ 90
 products regions pairs most pieces some first second third fourth fifth =
-    let each = mul-le regions (some * 20000000000000000000000000) 8 81920000000000000000000000000 first (omega (arith, fourth)) in
-    let code_each = mul-le regions (pieces * 10000000000000000000) 8 42949672960000000000000000000 first (omega (arith, fifth)) in
-    let kept = mul-le pairs (some * 20000000000000000000000000) 4 81920000000000000000000000000 second (omega (arith, fourth)) in
+    let each = mul-le regions (some * 5000000000000000000000) 8 20480000000000000000000000 first (omega (arith, fourth)) in
+    let code_each = mul-le regions (pieces * 1000000000000000000) 8 67108864000000000000000000 first (omega (arith, fifth)) in
+    let kept = mul-le pairs (some * 5000000000000000000000) 4 20480000000000000000000000 second (omega (arith, fourth)) in
     omega (arith, each, code_each, kept, third, fifth)
 
 collected_below : (test : ℕ → Bool) (n : ℕ) → All (λ b. b < n) (collected test (λ b. b) n)
@@ -161,26 +160,26 @@ module _ (one : OneInstruction) (view : ElfView) (m : Measured) (objects : List 
   pub side_is : counted_on_side m objects ≡ on_side w (layout_in m) objects m.pieces.now ms
   side_is = λ i. record { fixed = fixed_is i; rows = on_capacities (layout_in m); vars = vars_are i }
 
-  pub whole_is : (f : PlainFull) → IsStaticFull w (layout_of m.graph.now m.code.now m.regions.now m.board.now) m.pieces.now ms f → (on : Option PlainFullSide) → on ≡ counted_on m objects → IsWholeFull w (layout_in m) objects m.pieces.now ms (record f { on = on })
-  whole_is f static on is =
+  pub whole_is : (f : PlainFull) → IsStaticFull w (layout_of m.graph.now m.code.now m.regions.now m.board.now) m.pieces.now ms f → (on : Option PlainFullSide) → on ≡ counted_on m objects → IsSmallOn on → IsWholeFull w (layout_in m) objects m.pieces.now ms (record f { on = on })
+  whole_is f static on is small =
       let base = ap (λ (g : PlainFull). g.base) static.is in
       let off = ap (λ (g : PlainFull). g.off) static.is in
       let there = is ∙ ap (λ (s : PlainFullSide). if has_on_side w (layout_in m) objects m.pieces.now then Some s else None) side_is in
       record {
         is = λ i. record { base = base i; off = off i; on = there i };
         base_small = static.base_small;
-        fixed_small = static.fixed_small;
-        gains_small = static.gains_small;
+        off_small = static.off_small;
+        on_small = small;
       }
 
   -- ---- bounds
 
-  rounds_small : (o : ℕ) → object_rounds (object_of m.graph.now o) ≤ 4294967296
-  rounds_small o =
+  rounds_small : (o : ℕ) → o < length m.graph.now.objects.items → object_rounds (object_of m.graph.now o) ≤ 16777216
+  rounds_small o below =
       let object = object_of m.graph.now o in
-      let ends = ends_below (plain_view view) m.board.now m.graph.now given.graph o in
+      let small = objects_small view m.board.now m.graph.now given.read given.graph o below in
       let rounds = rounds_few (object.home % 4 == 0) (object.size % 4 == 0) object.size in
-      omega (arith, rounds, ends)
+      omega (arith, rounds, small)
 
   code : CountsCode m.code.now m.graph.now m.profile.now
   code = counts_code one view m.board.now m.graph.now m.code.now m.regions.now m.profile.now ms given
@@ -194,17 +193,18 @@ module _ (one : OneInstruction) (view : ElfView) (m : Measured) (objects : List 
   countable : All (CanCountPiece m.code.now) m.pieces.now
   countable = can_count_piece view m.board.now m.graph.now m.code.now m.regions.now m.profile.now ms m.pieces.now given are
 
-  few_object : (r o : ℕ) → r ≤ m.regions.now.count → o < length m.graph.now.objects.items → unsigned_abs (gain_in m (overlay_data r (datum_of m.graph.now o))) ≤ 20000000000000000000000000
+  few_object : (r o : ℕ) → r ≤ m.regions.now.count → o < length m.graph.now.objects.items → unsigned_abs (gain_in m (overlay_data r (datum_of m.graph.now o))) ≤ 5000000000000000000000
   few_object r o region below =
       let place = has_place m.code.now m.regions.now m.graph.now m.profile.now o r overlay below region in
       let reads = place.reads in
       let writes = place.writes in
       let enters = place.enters in
       let leaves = place.leaves in
-      object_few m.board.now.prices (object_of m.graph.now o) (overlaid_counts m.profile.now o r) given.lawful.prices
-      (record { reads = omega (arith, reads); writes = omega (arith, writes); enters = omega (arith, enters); leaves = omega (arith, leaves) }) (rounds_small o)
+      let small = object_saves_small m.board.now.prices (object_of m.graph.now o) (overlaid_counts m.profile.now o r) 16777216 given.lawful.prices
+      (record { reads = omega (arith, reads); writes = omega (arith, writes); enters = omega (arith, enters); leaves = omega (arith, leaves) }) (rounds_small o below) in
+      omega (arith, small)
 
-  few_kept : (pair o : ℕ) → 1 ≤ pair → 2 * pair ≤ m.regions.now.count → o < length m.graph.now.objects.items → unsigned_abs (gain_in m (kept_data pair (datum_of m.graph.now o))) ≤ 20000000000000000000000000
+  few_kept : (pair o : ℕ) → 1 ≤ pair → 2 * pair ≤ m.regions.now.count → o < length m.graph.now.objects.items → unsigned_abs (gain_in m (kept_data pair (datum_of m.graph.now o))) ≤ 5000000000000000000000
   few_kept pair o some within below =
       let first = has_place m.code.now m.regions.now m.graph.now m.profile.now o (first_twin pair) overlay below (omega (arith, within)) in
       let second = has_place m.code.now m.regions.now m.graph.now m.profile.now o (second_twin pair) overlay below (omega (arith, within)) in
@@ -216,25 +216,28 @@ module _ (one : OneInstruction) (view : ElfView) (m : Measured) (objects : List 
       let second_writes = second.writes in
       let second_enters = second.enters in
       let second_leaves = second.leaves in
-      object_few m.board.now.prices (object_of m.graph.now o) (kept_counts m.profile.now o pair) given.lawful.prices
-      (record { reads = omega (arith, first_reads, second_reads); writes = omega (arith, first_writes, second_writes); enters = omega (arith, first_enters, second_enters); leaves = omega (arith, first_leaves, second_leaves) }) (rounds_small o)
+      let small = object_saves_small m.board.now.prices (object_of m.graph.now o) (kept_counts m.profile.now o pair) 16777216 given.lawful.prices
+      (record { reads = omega (arith, first_reads, second_reads); writes = omega (arith, first_writes, second_writes); enters = omega (arith, first_enters, second_enters); leaves = omega (arith, first_leaves, second_leaves) }) (rounds_small o below) in
+      omega (arith, small)
 
-  few_code : (k : ℕ) (d : Piece) → k < length m.pieces.now → unsigned_abs (gain_in m (static_code (part_of w (slice_index_or m.pieces.now k d)))) ≤ 10000000000000000000
+  few_code : (k : ℕ) (d : Piece) → k < length m.pieces.now → unsigned_abs (gain_in m (static_code (part_of w (slice_index_or m.pieces.now k d)))) ≤ 1000000000000000000
   few_code k d below =
       let p = slice_index_or m.pieces.now k d in
       let copies = copies_small p.bytes (countable k d below).bytes in
-      code_few m.code.now m.regions.now m.graph.now m.profile.now m.board.now.prices (range p.first p.last) (into_price m.board.now.prices (p.bytes / 4)) code overlay given.lawful.prices (omega (arith, copies))
+      let small = piece_saves_small m.code.now m.regions.now m.graph.now m.profile.now m.board.now.prices (range p.first p.last) (into_price m.board.now.prices (p.bytes / 4)) code overlay given.lawful.prices in
+      omega (arith, small, copies)
 
-  few_region_code : (r : ℕ) (k : ℕ) (d : Piece) → r ≤ m.regions.now.count → k < length m.pieces.now → unsigned_abs (gain_in m (overlay_code r (part_of w (slice_index_or m.pieces.now k d)))) ≤ 10000000000000000000
+  few_region_code : (r : ℕ) (k : ℕ) (d : Piece) → r ≤ m.regions.now.count → k < length m.pieces.now → unsigned_abs (gain_in m (overlay_code r (part_of w (slice_index_or m.pieces.now k d)))) ≤ 1000000000000000000
   few_region_code r k d region below =
       let p = slice_index_or m.pieces.now k d in
       let enters = overlay.enters.small r (omega (arith, region)) in
-      let copies = mul-le (slice_index_or m.profile.now.enters.items r 0) (into_price m.board.now.prices (p.bytes / 4)) 9000000000 400000000 enters (copies_small p.bytes (countable k d below).bytes) in
-      code_few m.code.now m.regions.now m.graph.now m.profile.now m.board.now.prices (range p.first p.last) (slice_index_or m.profile.now.enters.items r 0 * into_price m.board.now.prices (p.bytes / 4)) code overlay given.lawful.prices (omega (arith, copies))
+      let copies = mul-le (slice_index_or m.profile.now.enters.items r 0) (into_price m.board.now.prices (p.bytes / 4)) 1000000000 400000000 enters (copies_small p.bytes (countable k d below).bytes) in
+      let small = piece_saves_small m.code.now m.regions.now m.graph.now m.profile.now m.board.now.prices (range p.first p.last) (slice_index_or m.profile.now.enters.items r 0 * into_price m.board.now.prices (p.bytes / 4)) code overlay given.lawful.prices in
+      omega (arith, small, copies)
 
-  few_gains : All (λ c. unsigned_abs (gain_in m c) ≤ by_kind 20000000000000000000000000 10000000000000000000 c) cs
+  few_gains : All (λ c. unsigned_abs (gain_in m c) ≤ by_kind 5000000000000000000000 1000000000000000000 c) cs
   few_gains =
-      each_candidate (λ c. unsigned_abs (gain_in m c) ≤ by_kind 20000000000000000000000000 10000000000000000000 c) w objects m.pieces.now
+      each_candidate (λ c. unsigned_abs (gain_in m c) ≤ by_kind 5000000000000000000000 1000000000000000000 c) w objects m.pieces.now
       (record {
         object = λ k below. let small = gain_small view m.board.now m.graph.now m.code.now m.regions.now m.profile.now ms k given below in omega (arith, small);
         code = few_code;
@@ -269,14 +272,14 @@ module _ (one : OneInstruction) (view : ElfView) (m : Measured) (objects : List 
       All-map (λ (v : PlainFullVar). AreWeights (length (on_capacities (layout_in m))) v.weights) (on_var m) cs
       (λ k d below. are_weights (layout_in m) (slice_index_or cs k d) (are_of_layout m.board.now m.graph.now m.code.now m.regions.now objects m.pieces.now are overlaid k d below) (light k d below))
 
-  gains_small : length m.graph.now.objects.items ≤ 4096 → sum_by (λ v. unsigned_abs v.gain) (on_vars m objects) < 2 ^ 104
+  gains_small : length m.graph.now.objects.items ≤ 4096 → sum_by (λ v. unsigned_abs v.gain) (on_vars m objects) < 2 ^ 90
   gains_small few =
-      let sum = sum_few (on_var m) (by_kind 20000000000000000000000000 10000000000000000000) cs few_gains in
-      let most = all_most 20000000000000000000000000 10000000000000000000 w objects m.pieces.now in
+      let sum = sum_few (on_var m) (by_kind 5000000000000000000000 1000000000000000000) cs few_gains in
+      let most = all_most 5000000000000000000000 1000000000000000000 w objects m.pieces.now in
       let regions = m.regions.now.few in
       let pairs = pairs_few m.board.now.twins m.regions.now.count regions in
       let some = few_numbers objects (length m.graph.now.objects.items) overlaid.ascending numbers in
-      let pieces = pieces_few m.code.now m.graph.now m.pieces.now (blocks_few view m.code.now given.read given.code given.no_code_fault) are in
+      let pieces = pieces_few m.code.now m.graph.now m.pieces.now (blocks_few view m.code.now given.read given.code given.no_code_fault) code.filled are in
       let all = products m.regions.now.count (pairs_of m.board.now.twins m.regions.now.count) (length m.graph.now.objects.items) (length m.pieces.now) (length objects) regions pairs few (omega (arith, some, few)) pieces in
       omega (arith, sum, most, all)
 
@@ -285,6 +288,7 @@ module _ (one : OneInstruction) (view : ElfView) (m : Measured) (objects : List 
       let blocks = blocks_few view m.code.now given.read given.code given.no_code_fault in
       let spm = given.lawful.spm.most_size in
       let patch = given.lawful.patch.most_size in
+      let gains = gains_small few in
       record {
         weigh = record {
           graph = code.graph;
@@ -309,9 +313,10 @@ module _ (one : OneInstruction) (view : ElfView) (m : Measured) (objects : List 
               entries = entries_below k d below;
             };
         numbers = numbers;
+        gains_small = gains;
         side = record {
           fixed = omega arith;
-          gains = gains_small few;
+          gains = omega (arith, gains);
           few_rows = rows_count (layout_in m) m.regions.now.few blocks few;
           capacities = capacities_few (layout_in m) (omega (arith, spm)) (omega (arith, patch));
           weights = weigh;

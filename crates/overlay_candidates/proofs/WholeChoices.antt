@@ -33,7 +33,7 @@ use Rattle.overlay_candidates.proofs.CandidateLemmas.{are_of_layout}
 use Rattle.overlay_candidates.proofs.WholeLemmas.{overlay_sum}
 use Rattle.placement_candidates.proofs.ChoiceLemmas.{stated_energy}
 
-some_candidate : (cs : List Candidate) (k : ℕ) → k < length cs → Candidate
+pub some_candidate : (cs : List Candidate) (k : ℕ) → k < length cs → Candidate
 some_candidate [] k below = absurd (omega (arith, below))
 some_candidate (x ∷ xs) k below = x
 
@@ -41,12 +41,12 @@ from_all : (name : VarName) (names : List VarName) → IsApartFromEach HaveNothi
 from_all name [] free = tt
 from_all name (other ∷ names) free = (free.0, from_all name names free.1)
 
-all_from : (names : List VarName) → AreAllApart HaveNothingInCommon names → AreApartAll names
+pub all_from : (names : List VarName) → AreAllApart HaveNothingInCommon names → AreApartAll names
 all_from [] free = tt
 all_from (name ∷ names) free = (from_all name names free.0, all_from names free.1)
 
 -- a fixed cost that is a difference
-energy_shape : (base with_none gains : ℕ) (sum : ℤ) → base ≤ with_none → pos gains ≡ sum → pos base -ℤ (pos gains -ℤ pos (with_none - base)) ≡ pos with_none -ℤ sum
+pub energy_shape : (base with_none gains : ℕ) (sum : ℤ) → base ≤ with_none → pos gains ≡ sum → pos base -ℤ (pos gains -ℤ pos (with_none - base)) ≡ pos with_none -ℤ sum
 energy_shape base with_none gains sum order is = omega (arith, ints, order, is)
 
 module _ (board : Board) (g : Graph) (c : Code) (t : RegionTable) (objects : List ℕ) (pieces : List Piece) (ms : List Transition) (are : AreSomePieces c g pieces) (overlaid : AreOverlaidObjects c g t objects) where
@@ -72,7 +72,7 @@ module _ (board : Board) (g : Graph) (c : Code) (t : RegionTable) (objects : Lis
   saves k below =
       subst (λ (v : PlainFullVar). v.gain ≡ overlay_gain w ms v.name) (sym (var_is k (some_candidate cs k (in_list k below)) below)) refl
 
-  apart : 1 ≤ t.count → (m n : ℕ) → m < n → n < length vs → FitTogether (on_capacities l) (var_in vs m) (var_in vs n) → HaveNothingInCommon (var_in vs m).name (var_in vs n).name
+  pub apart : 1 ≤ t.count → (m n : ℕ) → m < n → n < length vs → FitTogether (on_capacities l) (var_in vs m) (var_in vs n) → HaveNothingInCommon (var_in vs m).name (var_in vs n).name
   apart some m n less below fit =
       let inside : m < length vs = omega (arith, less, below) in
       let d = some_candidate cs m (in_list m inside) in
@@ -115,7 +115,7 @@ module _ (board : Board) (g : Graph) (c : Code) (t : RegionTable) (objects : Lis
   where_there take false all some feasible = absurd feasible
   where_there take true all some feasible = where_worth take (has_overlay side.vars) all (some refl) feasible
 
-  some_region : has_on_side w l objects pieces ≡ true → 1 ≤ t.count
+  pub some_region : has_on_side w l objects pieces ≡ true → 1 ≤ t.count
   some_region there =
       let tests = both (nat_lt 0 t.count && nat_lt 0 (length (overlay_candidates w objects pieces))) (nat_le (fixed_bytes l) l.patch) there in
       let region = (both (nat_lt 0 t.count) (nat_lt 0 (length (overlay_candidates w objects pieces))) tests.0).0 in

@@ -11,10 +11,10 @@ use Rattle.energy_model.proofs.SceneLemmas.{Follows, follows}
 use Rattle.energy_model.proofs.TogetherLemmas.{saves_side}
 use Rattle.overlay_candidates.specs.Whole.{AreApartAll, overlay_gains, OverlayAddsUp}
 
-one_more : (all rest alone none : ℕ) (gains : ℤ) → all + none ≡ rest + alone → pos rest ≡ pos none -ℤ gains → pos all ≡ pos none -ℤ ((pos none -ℤ pos alone) +ℤ gains)
+pub one_more : (all rest alone none : ℕ) (gains : ℤ) → all + none ≡ rest + alone → pos rest ≡ pos none -ℤ gains → pos all ≡ pos none -ℤ ((pos none -ℤ pos alone) +ℤ gains)
 one_more all rest alone none gains saves earlier = omega (arith, ints, saves, earlier)
 
-no_more : (none : ℕ) → pos none ≡ pos none -ℤ pos 0
+pub no_more : (none : ℕ) → pos none ≡ pos none -ℤ pos 0
 no_more none = omega (arith, ints)
 
 pub overlay_sum : (w : Scene) (ms : List Transition) (names : List VarName) → Follows w ms → AreApartAll names → pos (side_energy w (taken true names) ms) ≡ pos (side_energy w (taken true []) ms) -ℤ overlay_gains w ms names

@@ -1,6 +1,6 @@
 -- The programme with overlay that a run states: what may be taken for a region or for a pair of them, with all that it gains,
 -- also where that is nothing.
-use Rattle.std.specs.Prelude.{◌≡◌, ℕ, zero, suc, ◌-◌, ◌^◌, unsigned_abs, ◌<◌, ◌≤◌, ◌==◌, nat_lt, nat_le, ℤ, pos, ◌-ℤ◌, Bool, true, not, ◌&&◌, if◌then◌else◌, List, [], ◌∷◌, ◌++◌, map, length, Some, None}
+use Rattle.std.specs.Prelude.{◌≡◌, ℕ, zero, suc, ◌-◌, ◌^◌, unsigned_abs, ◌<◌, ◌≤◌, ◌==◌, nat_lt, nat_le, ℤ, pos, ◌-ℤ◌, Bool, true, not, ◌&&◌, if◌then◌else◌, List, [], ◌∷◌, ◌++◌, map, length, Option, Some, None}
 use Rattle.std.specs.List.{filter, sum_by}
 use Rattle.board_config.specs.declared.board.Board.{Board}
 use Rattle.object_graph.specs.declared.parts.Graph.{Graph}
@@ -20,7 +20,7 @@ use Rattle.cell_values.specs.Objects.{datum_of}
 use Rattle.energy_model.specs.Energy.{nothing_taken, Scene, steps_energy, side_energy}
 use Rattle.energy_model.specs.Scenes.{scene_of, layout_of}
 use Rattle.energy_model.specs.Together.{taken}
-use Rattle.placement_candidates.specs.Stated.{is_border, displaced_at, part_of, off_side}
+use Rattle.placement_candidates.specs.Stated.{is_border, displaced_at, part_of, off_side, IsSmallSide}
 
 -- ---- what may be taken
 
@@ -140,9 +140,14 @@ OffSideStays =
     → (whole_full (scene_of g c t board) (overlay_layout g c t board) objects pieces transitions).off
     ≡ off_side (scene_of g c t board) (layout_of g c t board) pieces transitions
 
+-- the sums of the side with overlay are small, where there is one
+abbrev pub IsSmallOn : Option PlainFullSide → Type 0
+IsSmallOn None = Unit {0}
+IsSmallOn (Some side) = IsSmallSide side
+
 -- a programme is that one; and its sums are small
 pub record IsWholeFull (w : Scene) (l : Layout) (objects : List ℕ) (pieces : List Piece) (transitions : List Transition) (f : PlainFull) : Type 0 where
   pub is : f ≡ whole_full w l objects pieces transitions
   pub base_small : f.base < 2 ^ 90
-  pub fixed_small : f.off.fixed < 2 ^ 90
-  pub gains_small : sum_by (λ v. unsigned_abs v.gain) f.off.vars < 2 ^ 90
+  pub off_small : IsSmallSide f.off
+  pub on_small : IsSmallOn f.on

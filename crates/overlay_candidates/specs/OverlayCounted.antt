@@ -1,6 +1,6 @@
 -- The side with overlay, as it is counted from the tables of a profile.
-use Rattle.std.specs.Prelude.{◌≡◌, ℕ, ◌+◌, ◌*◌, ◌/◌, ◌<◌, ◌≤◌, ℤ, if◌then◌else◌, Option, Some, None, List, ◌++◌, map, length, slice_index_or}
-use Rattle.std.specs.List.{All}
+use Rattle.std.specs.Prelude.{◌≡◌, ℕ, ◌+◌, ◌*◌, ◌/◌, ◌^◌, ◌<◌, ◌≤◌, ℤ, unsigned_abs, if◌then◌else◌, Option, Some, None, List, ◌++◌, map, length, slice_index_or}
+use Rattle.std.specs.List.{All, sum_by}
 use Rattle.object_graph.specs.Lookups.{IsSomeGraph}
 use Rattle.points_to.specs.Overlaid.{region_in}
 use Rattle.placement_programme.specs.Rows.{Layout, Candidate, static_data, static_code, overlay_data, overlay_code, kept_data, name_of, on_capacities, on_weights}
@@ -107,4 +107,5 @@ pub record CanCountOverlay (m : Measured) (objects : List ℕ) : Type 0 where
   pub gain : CanGain m
   pub pieces : All (CanWeighPiece m) m.pieces.now
   pub numbers : All (λ o. o < length m.graph.now.objects.items) objects
+  pub gains_small : sum_by (λ v. unsigned_abs v.gain) (on_vars m objects) < 2 ^ 90
   pub side : IsWithinFullBounds (record { fixed = 0; rows = on_capacities (layout_in m); vars = on_vars m objects })

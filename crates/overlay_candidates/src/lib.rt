@@ -16,4 +16,4 @@ mod whole_side;
 pub use finding::overlaid_objects;
 pub use laws::{off_side_stays, overlay_adds_up, whole_energy_is_of_the_run};
 pub use measured::Measured;
-pub use whole_side::{whole_full, whole_programme};
+pub use whole_side::whole_full;

@@ -2,14 +2,13 @@ ghost use Rattle.std.specs.Prelude.{◌≡◌, ◌+◌, ◌-◌, ◌^◌, ◌≤
 ghost use Rattle.elf_reader.specs.declared.view.ElfView.{ElfView};
 ghost use Rattle.placement_programme.specs.Plain.{plain_full_var};
 ghost use Rattle.placement_programme.specs.Rows.{fixed_bytes};
-ghost use Rattle.placement_programme.specs.Views.{plain_full_side, plain_full, plain_programme};
+ghost use Rattle.placement_programme.specs.Views.{plain_full_side, plain_full};
 ghost use Rattle.profile_runner.specs.Transition.{Transition};
 ghost use Rattle.energy_model.specs.Scenes.{AreOfSameFile};
 ghost use Rattle.overlay_counts.specs.OverlayCost.{overlay_cost};
 ghost use Rattle.placement_candidates.specs.Counted.{stub_price};
-ghost use Rattle.placement_candidates.specs.Stated.{AreSomePieces};
-ghost use Rattle.overlay_candidates.specs.Overlaid.{AreOverlaidObjects, IsWholeFull};
-ghost use Rattle.overlay_candidates.specs.Whole.{whole_stated};
+ghost use Rattle.placement_candidates.specs.Stated.{AreSomePieces, IsSmallSide};
+ghost use Rattle.overlay_candidates.specs.Overlaid.{AreOverlaidObjects, IsSmallOn, IsWholeFull};
 ghost use Rattle.overlay_candidates.specs.OverlayCounted.{scene_in, layout_in, on_vars, counted_on_side, counted_on, CanWeigh, CanGain, CanCountOverlay};
 
 use crate::measured::Measured;
@@ -17,8 +16,8 @@ use crate::overlaid_vars::on_vars;
 use crate::overlay_parts::{capacities, fixed_bytes};
 use energy_model::count_blocks;
 use overlay_counts::overlay_cost;
-use placement_candidates::{full, select, side_of, stub_price};
-use placement_programme::{Full, FullSide, FullVar, Programme};
+use placement_candidates::{full, side_of, stub_price};
+use placement_programme::{Full, FullSide, FullVar};
 use rv_decode::one_instruction;
 use std::alloc::{AllocError, Global};
 
@@ -51,7 +50,7 @@ fn has_overlaid(m: &Measured<'_>, vars: &[FullVar]) -> bool
 fn on_fixed(m: &Measured<'_>) -> u128
     requires { CanGain m.now }
     ensures sum { result ≡ stub_price m.now.board.now + overlay_cost m.now.code.now m.now.graph.now m.now.regions.now m.now.board.now m.now.profile.now }
-    ensures small { result < 2 ^ 104 }
+    ensures small { result < 2 ^ 90 }
 {
     let cost = overlay_cost(m.code, m.graph, m.profile, m.regions, m.board);
     stub_price(m.board) + cost
@@ -78,7 +77,8 @@ fn side_with(
 ) -> Result<FullSide, AllocError>
     requires can { CanCountOverlay m.now objects.now }
     requires vars { map plain_full_var vars.items ≡ on_vars m.now objects.now }
-    ensures { IfOk result (λ side. plain_full_side side ≡ counted_on_side m.now objects.now) }
+    ensures is { IfOk result (λ side. plain_full_side side ≡ counted_on_side m.now objects.now) }
+    ensures small { IfOk result (λ side. IsSmallSide (plain_full_side side)) }
 {
     let rows = capacities(alloc, m, patch_left(m))?;
     Ok(side_of(on_fixed(m), rows, vars))
@@ -87,7 +87,8 @@ fn side_with(
 /// The side with overlay, if there is one.
 fn on_side(alloc: Global, m: &Measured<'_>, objects: &[u32]) -> Result<Option<FullSide>, AllocError>
     requires { CanCountOverlay m.now objects.now }
-    ensures { IfOk result (λ on. option_map plain_full_side on ≡ counted_on m.now objects.now) }
+    ensures is { IfOk result (λ on. option_map plain_full_side on ≡ counted_on m.now objects.now) }
+    ensures small { IfOk result (λ on. IsSmallOn (option_map plain_full_side on)) }
 {
     if !has_room(m) {
         return Ok(None);
@@ -105,7 +106,8 @@ fn on_side(alloc: Global, m: &Measured<'_>, objects: &[u32]) -> Result<Option<Fu
 /// The side without overlay is that of `full`, whose conditions are asked of the run. `objects` are those that may be
 /// overlaid, by number. There are at most 4,096 objects, as in each file without layout faults. There is a side with
 /// overlay where there is a region, something may be overlaid, and the patch range has room for the bytes that no
-/// variable changes.
+/// variable changes. The base is below 2^90, and so are the fixed cost and the sum of the gains' absolute values of
+/// each side.
 ///
 /// It fails only where no memory was left.
 pub fn whole_full(alloc: Global, m: &Measured<'_>, objects: &[u32]) -> Result<Full, AllocError>
@@ -121,25 +123,4 @@ pub fn whole_full(alloc: Global, m: &Measured<'_>, objects: &[u32]) -> Result<Fu
     )?;
     whole.on = on_side(alloc, m, objects)?;
     Ok(whole)
-}
-
-/// The programme of both sides that a run states: what may be taken and saves something.
-///
-/// The conditions are those of `whole_full`. It fails only where no memory was left.
-pub fn whole_programme(
-    alloc: Global,
-    m: &Measured<'_>,
-    objects: &[u32],
-) -> Result<Programme, AllocError>
-    requires run { (view : ElfView) × ((transitions : List Transition) × AreOfSameFile view m.now.board.now m.now.graph.now m.now.code.now m.now.regions.now m.now.profile.now transitions) }
-    requires few { length m.now.graph.now.objects.items ≤ 4096 }
-    requires pieces { AreSomePieces m.now.code.now m.now.graph.now m.now.pieces.now }
-    requires overlaid { AreOverlaidObjects m.now.code.now m.now.graph.now m.now.regions.now objects.now }
-    ensures { IfOk result (λ p. (view : ElfView) (transitions : List Transition) → AreOfSameFile view m.now.board.now m.now.graph.now m.now.code.now m.now.regions.now m.now.profile.now transitions → plain_programme p ≡ whole_stated (scene_in m.now) (layout_in m.now) objects.now m.now.pieces.now transitions) }
-{
-    let whole = whole_full(alloc, m, objects)?;
-    match select(alloc, &whole) {
-        Ok(programme) => Ok(programme),
-        Err(error) => Err(error),
-    }
 }

@@ -46,17 +46,17 @@ accesses_small reads writes read write few_reads few_writes read_small write_sma
     omega (arith, first, second)
 
 -- an object whose copies have at most so many rounds
-pub object_saves_small : (prices : Prices) (o : Object) (counts : ObjectCounts) (rounds : ℕ) → AreLawfulPrices prices → AreSmallCounts counts → object_rounds o ≤ rounds → unsigned_abs (object_saves prices o counts) ≤ 40000000000000 + 36000000000 * most_job rounds
+pub object_saves_small : (prices : Prices) (o : Object) (counts : ObjectCounts) (rounds : ℕ) → AreLawfulPrices prices → AreSmallCounts counts → object_rounds o ≤ rounds → unsigned_abs (object_saves prices o counts) ≤ 40000000000000 + 4000000000 * most_job rounds
 object_saves_small prices o counts rounds lawful small few =
     let home = accesses_small counts.reads counts.writes prices.main_read prices.main_write small.reads small.writes lawful.main_read lawful.main_write in
     let moved = accesses_small counts.reads counts.writes prices.spm_read prices.spm_write small.reads small.writes lawful.spm_read lawful.spm_write in
     let into = job_small prices prices.main_read prices.spm_write (object_rounds o) rounds lawful lawful.main_read lawful.spm_write few in
     let back = if_at_most o.writable (back_price prices (object_rounds o)) (most_job rounds) (job_small prices prices.spm_read prices.main_write (object_rounds o) rounds lawful lawful.spm_read lawful.main_write few) in
-    let enters = mul-le counts.enters (into_price prices (object_rounds o)) 18000000000 (most_job rounds) small.enters into in
-    let leaves = mul-le counts.leaves (if o.writable then back_price prices (object_rounds o) else 0) 18000000000 (most_job rounds) small.leaves back in
+    let enters = mul-le counts.enters (into_price prices (object_rounds o)) 2000000000 (most_job rounds) small.enters into in
+    let leaves = mul-le counts.leaves (if o.writable then back_price prices (object_rounds o) else 0) 2000000000 (most_job rounds) small.leaves back in
     difference_small (accesses_price prices false counts.reads counts.writes)
     (accesses_price prices true counts.reads counts.writes + object_copied prices o counts.enters counts.leaves)
-    (40000000000000 + 36000000000 * most_job rounds)
+    (40000000000000 + 4000000000 * most_job rounds)
     (omega (arith, home)) (omega (arith, moved, enters, leaves))
 
 -- ---- pieces

@@ -1,4 +1,5 @@
 pub mod DisplacedLemmas
+pub mod ChangeCounts
 pub mod OverlayCostLemmas
 pub mod SwitchLemmas
 pub mod GainLemmas

@@ -24,6 +24,7 @@ use Rattle.energy_model.proofs.BaseLemmas.{few_transitions}
 use Rattle.energy_model.proofs.CountsLemmas.{counted_run}
 use Rattle.energy_model.proofs.ArrivalLemmas.{began_where, few_stay_to}
 use Rattle.energy_model.proofs.OverlayLemmas.{overlay_counted}
+use Rattle.overlay_counts.proofs.ChangeCounts.{few_enters, few_leaves}
 use Rattle.overlay_counts.proofs.DisplacedLemmas.{first_checked, first_paid}
 
 abbrev Given : ElfView → Board → Graph → Code → RegionTable → Profile → List Transition → Type 0
@@ -39,15 +40,14 @@ small_table rows height width count is few =
       small = λ j k row column. let here = is.counts j k row column in let small = few j k in omega (arith, here, small);
     }
 
--- sums of at most nine counts
-small_list : (counts : List ℕ) (size : ℕ) (each : ℕ → ℕ → ℕ) → IsList counts size (λ k. sum_below (each k) size) → size ≤ 9 → ((k s : ℕ) → each k s ≤ most_steps) → IsSmallList counts size
-small_list counts size each is nine few =
+small_list : (counts : List ℕ) (size steps : ℕ) (each : ℕ → ℕ) → IsList counts size each → ((k : ℕ) → each k ≤ steps) → steps ≤ most_steps → IsSmallList counts size
+small_list counts size steps each is few small =
     record {
       size_is = is.size_is;
       small = λ k below.
           let here = is.each k below in
-          let small = sum_small (each k) most_steps size (λ s inside. few k s) in
-          omega (arith, here, small, nine);
+          let at_most = few k in
+          omega (arith, here, at_most, small);
     }
 
 began_once : (b : Bool) → ◌≤◌ (if true then (if b then 1 else 0) else 0) 1
@@ -82,7 +82,6 @@ counts_overlay one view board g c t q ms given =
     let starts = starts_of w in
     let count = switches_of starts w.regions ms in
     let began = began_all c g t board q ms run in
-    let regions = t.few in
     record {
       borders = t.same ∙ given.regions;
       few = omega (arith, began, steps);
@@ -91,8 +90,8 @@ counts_overlay one view board g c t q ms given =
       reads = small_table (plain_rows q.reads.items) (length g.objects.items) (suc t.count) (accesses_of starts w.regions ms false) tables.reads (λ o r. few_accesses starts w.regions ms false o r steps);
       writes = small_table (plain_rows q.writes.items) (length g.objects.items) (suc t.count) (accesses_of starts w.regions ms true) tables.writes (λ o r. few_accesses starts w.regions ms true o r steps);
       switches = small_table (plain_rows q.switches.items) (suc t.count) (suc t.count) count tables.switches (λ s r. few_switches starts w.regions ms s r steps);
-      enters = small_list q.enters.items (suc t.count) (λ r s. count s r) tables.enters (omega (arith, regions)) (λ r s. few_switches starts w.regions ms s r steps);
-      leaves = small_list q.leaves.items (suc t.count) count tables.leaves (omega (arith, regions)) (λ s r. few_switches starts w.regions ms s r steps);
+      enters = small_list q.enters.items (suc t.count) (length ms) (λ r. sum_below (λ s. count s r) (suc t.count)) tables.enters (few_enters starts w.regions ms (suc t.count)) steps;
+      leaves = small_list q.leaves.items (suc t.count) (length ms) (λ s. sum_below (count s) (suc t.count)) tables.leaves (few_leaves starts w.regions ms (suc t.count)) steps;
     }
 
 -- ---- the cost

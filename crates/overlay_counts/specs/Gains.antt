@@ -47,8 +47,8 @@ pub record HasPlace (q : Profile) (o r : ℕ) : Type 0 where
   pub leave : r < length q.leaves.items
   pub reads : reads_in q o r ≤ 1000000000
   pub writes : writes_in q o r ≤ 1000000000
-  pub enters : slice_index_or q.enters.items r 0 ≤ 9000000000
-  pub leaves : slice_index_or q.leaves.items r 0 ≤ 9000000000
+  pub enters : slice_index_or q.enters.items r 0 ≤ 1000000000
+  pub leaves : slice_index_or q.leaves.items r 0 ≤ 1000000000
 
 -- and for changes from one region to another
 pub record HasSwitches (q : Profile) (s r : ℕ) : Type 0 where
@@ -70,8 +70,8 @@ object_saves prices o counts =
 pub record AreSmallCounts (counts : ObjectCounts) : Type 0 where
   pub reads : counts.reads ≤ 2000000000
   pub writes : counts.writes ≤ 2000000000
-  pub enters : counts.enters ≤ 18000000000
-  pub leaves : counts.leaves ≤ 18000000000
+  pub enters : counts.enters ≤ 2000000000
+  pub leaves : counts.leaves ≤ 2000000000
 
 -- ---- pieces
 

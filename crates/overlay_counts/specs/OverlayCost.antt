@@ -14,12 +14,9 @@ use Rattle.energy_model.specs.Scenes.{scene_of}
 
 -- ---- conditions
 
--- a run has no more steps, and so no single count passes this; nor do those of all regions together pass the other
+-- a run has no more steps, and so no count passes this; nor do the changes to a region, or from it, together
 abbrev pub most_steps : ℕ
 most_steps = 1000000000
-
-abbrev pub most_changes : ℕ
-most_changes = 9000000000
 
 -- a table of so many rows and columns
 pub record IsSmallTable (rows : List (List ℕ)) (height width : ℕ) : Type 0 where
@@ -29,7 +26,7 @@ pub record IsSmallTable (rows : List (List ℕ)) (height width : ℕ) : Type 0 w
 
 pub record IsSmallList (counts : List ℕ) (size : ℕ) : Type 0 where
   pub size_is : length counts ≡ size
-  pub small : (k : ℕ) → k < size → slice_index_or counts k 0 ≤ most_changes
+  pub small : (k : ℕ) → k < size → slice_index_or counts k 0 ≤ most_steps
 
 -- what regions, accesses and their changes are counted from: a check is made as often as a block began by which control
 -- enters a region, and the first unit there has two words at most at home

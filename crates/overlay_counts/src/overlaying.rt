@@ -34,7 +34,7 @@ pub fn overlay_cost(
     requires counts { CountsCode code.now graph.now profile.now }
     requires overlay { CountsOverlay code.now regions.now graph.now profile.now }
     ensures sum { result ≡ overlay_cost code.now graph.now regions.now board.now profile.now }
-    ensures small { result < 2 ^ 90 }
+    ensures small { result < 2 ^ 89 }
 {
     let fetch = u128::from(board.prices.main_fetch);
     let checks = checks_price(count_checks(profile, &regions.border), &board.prices);

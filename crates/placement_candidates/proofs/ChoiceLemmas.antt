@@ -133,11 +133,11 @@ static_from name (other ∷ names) static apart = (apart.0, static_from name nam
 energy_shape : (base fixed gains : ℕ) (sum : ℤ) → pos gains ≡ sum → pos base -ℤ (pos gains -ℤ pos fixed) ≡ pos (base + fixed) -ℤ sum
 energy_shape base fixed gains sum is = omega (arith, ints, is)
 
-nothing_shape : (base : ℕ) → pos base -ℤ pos 0 ≡ pos base
+pub nothing_shape : (base : ℕ) → pos base -ℤ pos 0 ≡ pos base
 nothing_shape base = omega (arith, ints)
 
 -- a choice that takes something pays for the start stub
-some_choice : (n x y : ℕ) → (if not false && (suc n == 0) then x else y) ≡ y
+pub some_choice : (n x y : ℕ) → (if not false && (suc n == 0) then x else y) ≡ y
 some_choice n x y = let test : (suc n == 0) ≡ false = grind (arith, nat_tests) in rw test refl
 
 module _ (board : Board) (g : Graph) (c : Code) (t : RegionTable) (pieces : List Piece) (ms : List Transition) (are : AreSomePieces c g pieces) where
@@ -177,7 +177,7 @@ module _ (board : Board) (g : Graph) (c : Code) (t : RegionTable) (pieces : List
       ]
 
   -- two that fit together have nothing in common
-  apart : (m n : ℕ) → m < n → n < length vs → FitTogether (off_capacities l) (var_in vs m) (var_in vs n) → IsApart (var_in vs m).name (var_in vs n).name
+  pub apart : (m n : ℕ) → m < n → n < length vs → FitTogether (off_capacities l) (var_in vs m) (var_in vs n) → IsApart (var_in vs m).name (var_in vs n).name
   apart m n less below fit =
       let count = vars_count w l pieces ms in
       elim (cases_lt n (object_count w)) [

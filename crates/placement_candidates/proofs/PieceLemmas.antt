@@ -2,13 +2,15 @@
 use Rattle.std.proofs.Common.{◌≡◌, ◌∙◌, inl, inr, ℕ, zero, suc, ◌+◌, ◌-◌, ◌*◌, ◌/◌, ◌^◌, ◌<◌, ◌≤◌, nat_le, Bool, true, false, not, ◌&&◌, pos, ◌-ℤ◌, List, [], ◌∷◌, ◌++◌, length, map, take, slice_index_or, refl, sym, ap, subst, arith, if◌then◌else◌, length-append}
 use Rattle.std.specs.List.{All, filter, sum_by}
 use Rattle.std.specs.Prelude.{unsigned_abs}
+use Rattle.std.proofs.lemmas.Bool.{cases_lt}
 use Rattle.std.proofs.lemmas.Bool.Decides.{nat_tests}
 use Rattle.std.proofs.lemmas.List.{length-map, get_or-map, map-append, take_more}
 use Rattle.std.proofs.lemmas.List.Filters.{length-filter_both}
 use Rattle.std.proofs.lemmas.List.Sums.{sum_by-cons}
 use Rattle.std.proofs.lemmas.Int.{ints}
 use Rattle.std.proofs.lemmas.Nat.{mul-le}
-use Rattle.list_checks.specs.Sorted.{collected}
+use Rattle.list_checks.specs.Sorted.{collected, sum_below}
+use Rattle.list_checks.proofs.SumLemmas.{sum_rises}
 use Rattle.list_checks.proofs.TestLemmas.{both}
 use Rattle.rv_decode.specs.Table.{OneInstruction}
 use Rattle.elf_reader.specs.declared.view.ElfView.{ElfView}
@@ -16,6 +18,7 @@ use Rattle.board_config.specs.Board.{AreLawfulPrices, IsGrain}
 use Rattle.board_config.specs.declared.board.Board.{Board}
 use Rattle.board_config.specs.declared.board.Prices.{Prices}
 use Rattle.object_graph.specs.declared.parts.Graph.{Graph}
+use Rattle.code_blocks.specs.Blocks.{start_of}
 use Rattle.code_blocks.specs.Numbers.{ending_of, end_at}
 use Rattle.code_blocks.specs.declared.ends.End.TheVariants.{Stop}
 use Rattle.code_blocks.specs.declared.parts.Block.{Block}
@@ -29,8 +32,9 @@ use Rattle.placement_programme.specs.Bounds.{AscendWithin, AreWeights, row_of, v
 use Rattle.placement_programme.specs.Rows.{Layout, static_code, rounded_up, in_rows, off_weights}
 use Rattle.block_splitter.specs.declared.block_range.BlockRange.{BlockRange}
 use Rattle.block_splitter.specs.declared.piece.Piece.{Piece}
-use Rattle.block_splitter.specs.Forms.{Body, body_of, no_body, body_at, is_site, holds_block, copy_words}
+use Rattle.block_splitter.specs.Forms.{Body, body_of, no_body, body_at, is_site, kind_of, holds_block, begins_in, copy_size, block_size, copy_words}
 use Rattle.block_splitter.specs.Pieces.{range_of, is_entry, IsPiece, IsRange, ComesBefore}
+use Rattle.block_splitter.proofs.CopySizeLemmas.{some_word}
 use Rattle.energy_model.specs.Energy.{Scene, steps_energy, stub_energy, nothing_taken, start_job, into_price, may_stay}
 use Rattle.energy_model.specs.Scenes.{scene_of, layout_of, AreOfSameFile}
 use Rattle.energy_model.specs.Copied.{sum_in, home_words, copy_words_run, pending, pending_inside, came_in}
@@ -154,37 +158,76 @@ can_count_piece view board g c t q ms pieces given are k d below =
       bytes = omega (arith, bytes, small);
     }
 
--- ---- bounds
+-- ---- how many there are: each block has a word, so the last block of a piece is near its first
+
+sum_some : (f : ℕ → ℕ) (n : ℕ) → ((k : ℕ) → 1 ≤ f k) → 0 < n → 1 ≤ sum_below f n
+sum_some f zero each some = absurd (omega (arith, some))
+sum_some f (suc n) each some = let here = each n in omega (arith, here)
+
+block_some : (sites inside : ℕ → Bool) (b : Body) → 0 < length b.units → 1 ≤ block_size sites inside b
+block_some sites inside b some =
+    let units = sum_some (λ k. copy_size inside (kind_of sites b k)) (length b.units) (λ k. some_word inside (kind_of sites b k)) some in
+    omega (arith, units)
+
+held_some : (f : ℕ → ℕ) (r : BlockRange) (n : ℕ) → ((b : ℕ) → holds_block b r ≡ true → 1 ≤ f b) → n ≤ suc r.last → n - r.first ≤ sum_below (λ b. if holds_block b r then f b else 0) n
+held_some f r zero some to = omega arith
+held_some f r (suc n) some to =
+    let earlier = held_some f r n some (omega (arith, to)) in
+    elim (cases_lt n r.first) [
+      | inl before ↦ omega (arith, before)
+      | inr from ↦
+          let held : holds_block n r ≡ true = grind (arith, nat_tests, from, to) in
+          let here = some n held in
+          let term : (if holds_block n r then f n else 0) ≡ f n = rw held refl in
+          omega (arith, earlier, here, term)
+    ]
+
+abbrev pub AreFilled : Code → Type 0
+AreFilled c = (b : ℕ) → b < length c.blocks.items → 0 < length (body_at c.blocks.items b).units
+
+last_near : (c : Code) (g : Graph) (p : Piece) → AreFilled c → IsRange c (range_of p) → IsPiece c g p → p.last < p.first + 1024
+last_near c g p filled is_range is =
+    let inside = begins_in (map start_of c.blocks.items) (range_of p) in
+    let size : ℕ → ℕ = λ b. block_size (is_site g) inside (body_at c.blocks.items b) in
+    let below = is_range.below in
+    let ordered = is_range.ordered in
+    let some = held_some size (range_of p) (suc p.last) (λ b held. block_some (is_site g) inside (body_at c.blocks.items b) (filled b (held_below c p b is_range held))) (omega arith) in
+    let rises = sum_rises (λ b. if holds_block b (range_of p) then size b else 0) (suc p.last) (length c.blocks.items) (omega (arith, below)) in
+    let small = is.copied.small in
+    omega (arith, some, rises, small, ordered)
 
 abbrev key_of : Piece → ℕ
-key_of p = p.first * 65536 + p.last
+key_of p = p.first * 1024 + (p.last - p.first)
 
-first_or_last : (r s : Piece) → r.last < 65536 → ComesBefore (range_of r) (range_of s) → key_of r < key_of s
-first_or_last r s few (inl less) = omega (arith, few, less)
-first_or_last r s few (inr same) = let first = same.0 in let last = same.1 in omega (arith, few, first, last)
+first_or_last : (r s : Piece) → r.first ≤ r.last → r.last < r.first + 1024 → ComesBefore (range_of r) (range_of s) → key_of r < key_of s
+first_or_last r s ordered near (inl less) = omega (arith, near, less)
+first_or_last r s ordered near (inr same) = let first = same.0 in let last = same.1 in omega (arith, ordered, first, last)
 
-key_at_least : (c : Code) (g : Graph) (pieces : List Piece) (k : ℕ) (d : Piece) → length c.blocks.items ≤ 65536 → AreSomePieces c g pieces → k < length pieces → k ≤ key_of (slice_index_or pieces k d)
-key_at_least c g pieces zero d blocks are below = omega arith
-key_at_least c g pieces (suc k) d blocks are below =
-    let earlier = key_at_least c g pieces k d blocks are (omega (arith, below)) in
-    let bound = (piece_range c g pieces k d are (omega (arith, below))).below in
-    let before = first_or_last (slice_index_or pieces k d) (slice_index_or pieces (suc k) d) (omega (arith, bound, blocks)) (are.ordered k (suc k) d (omega arith) below) in
+key_at_least : (c : Code) (g : Graph) (pieces : List Piece) (k : ℕ) (d : Piece) → AreFilled c → AreSomePieces c g pieces → k < length pieces → k ≤ key_of (slice_index_or pieces k d)
+key_at_least c g pieces zero d filled are below = omega arith
+key_at_least c g pieces (suc k) d filled are below =
+    let earlier = key_at_least c g pieces k d filled are (omega (arith, below)) in
+    let is_range = piece_range c g pieces k d are (omega (arith, below)) in
+    let near = last_near c g (slice_index_or pieces k d) filled is_range (are.each k d (omega (arith, below))) in
+    let before = first_or_last (slice_index_or pieces k d) (slice_index_or pieces (suc k) d) is_range.ordered near (are.ordered k (suc k) d (omega arith) below) in
     omega (arith, earlier, before)
 
-key_small : (first last : ℕ) → first ≤ last → last < 65536 → first * 65536 + last < 4294967296
-key_small first last ordered few = omega (arith, ordered, few)
+key_small : (first last : ℕ) → first ≤ last → last < 65536 → last < first + 1024 → first * 1024 + (last - first) < 67108864
+key_small first last ordered few near = omega (arith, ordered, few, near)
 
-pub pieces_few : (c : Code) (g : Graph) (pieces : List Piece) → length c.blocks.items ≤ 65536 → AreSomePieces c g pieces → length pieces ≤ 4294967296
-pieces_few c g [] blocks are = omega arith
-pieces_few c g (p ∷ pieces) blocks are =
+pub pieces_few : (c : Code) (g : Graph) (pieces : List Piece) → length c.blocks.items ≤ 65536 → AreFilled c → AreSomePieces c g pieces → length pieces ≤ 67108864
+pieces_few c g [] blocks filled are = omega arith
+pieces_few c g (p ∷ pieces) blocks filled are =
     let n = length pieces in
-    let least = key_at_least c g (p ∷ pieces) n p blocks are (omega arith) in
-    let is = piece_range c g (p ∷ pieces) n p are (omega arith) in
-    let ordered = is.ordered in
-    let bound = is.below in
+    let least = key_at_least c g (p ∷ pieces) n p filled are (omega arith) in
+    let is_range = piece_range c g (p ∷ pieces) n p are (omega arith) in
     let last = slice_index_or (p ∷ pieces) n p in
-    let small = key_small last.first last.last ordered (omega (arith, bound, blocks)) in
+    let bound = is_range.below in
+    let near = last_near c g last filled is_range (are.each n p (omega arith)) in
+    let small = key_small last.first last.last is_range.ordered (omega (arith, bound, blocks)) near in
     omega (arith, least, small)
+
+-- ---- bounds
 
 pub abs_difference : (a b bound : ℕ) → a ≤ bound → b ≤ bound → unsigned_abs (pos a -ℤ pos b) ≤ bound
 abs_difference a b bound first second = omega (arith, ints, first, second)

@@ -85,9 +85,12 @@ span_small grain home n (inl is) small = rw is (omega (arith, small))
 span_small grain home n (inr (inl is)) small = rw is (omega (arith, small))
 span_small grain home n (inr (inr is)) small = rw is (omega (arith, small))
 
-pub spans_small : (view : ElfView) (board : Board) (g : Graph) → IsRead view → IsLawful board → IsGraph (plain_view view) board g → (k : ℕ) → k < length g.objects.items → data_span board.grain (datum_of g k) < 2 ^ 32
-spans_small view board g read lawful is k below =
+pub objects_small : (view : ElfView) (board : Board) (g : Graph) → IsRead view → IsGraph (plain_view view) board g → (k : ℕ) → k < length g.objects.items → (object_of g k).size ≤ 16777216
+objects_small view board g read is k below =
     let v = plain_view view in
     let movable = movable_at v board g k is below in
-    let small = object_small view (object_of g k).home (object_of g k).size (symbol_at v movable.symbol) read movable.of in
-    span_small board.grain (object_of g k).home (object_of g k).size lawful.grain small
+    object_small view (object_of g k).home (object_of g k).size (symbol_at v movable.symbol) read movable.of
+
+pub spans_small : (view : ElfView) (board : Board) (g : Graph) → IsRead view → IsLawful board → IsGraph (plain_view view) board g → (k : ℕ) → k < length g.objects.items → data_span board.grain (datum_of g k) < 2 ^ 32
+spans_small view board g read lawful is k below =
+    span_small board.grain (object_of g k).home (object_of g k).size lawful.grain (objects_small view board g read is k below)

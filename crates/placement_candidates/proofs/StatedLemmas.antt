@@ -253,8 +253,9 @@ all_gains_small one view board g c t q pieces ms given are =
     let objects = gains_small view board g c t q ms (length g.objects.items) given (omega arith) in
     let few = objects_few (plain_view view) board g given.graph in
     let blocks = blocks_few view c given.read given.code given.no_code_fault in
-    let code = code_gains_small c g q board.prices board.grain pieces (counts_code one view board g c t q ms given) given.lawful.prices (can_count_piece view board g c t q ms pieces given are) in
-    let count = pieces_few c g pieces blocks are in
+    let counts = counts_code one view board g c t q ms given in
+    let code = code_gains_small c g q board.prices board.grain pieces counts given.lawful.prices (can_count_piece view board g c t q ms pieces given are) in
+    let count = pieces_few c g pieces blocks counts.filled are in
     let sum = sum_by-append (λ (v : PlainFullVar). unsigned_abs v.gain) (counted_vars board.prices q g board.grain (length g.objects.items)) (map (counted_code_var board.prices q c g board.grain) pieces) in
     omega (arith, objects, few, code, count, sum)
 
@@ -312,6 +313,8 @@ full_stated one view board g c t q pieces ms f given are counted off on =
     record {
       is = full_path f.base (steps_energy (scene_of g c t board) nothing_taken ms) f.off (off_side (scene_of g c t board) (layout_of g c t board) pieces ms) f.on base (off ∙ side_stated one view board g c t q pieces ms given are) on;
       base_small = omega (arith, base, small, few);
-      fixed_small = omega (arith, fixed, stub);
-      gains_small = subst (λ (s : PlainFullSide). sum_by (λ v. unsigned_abs v.gain) s.vars < 2 ^ 90) (sym off) gains;
+      off_small = record {
+        fixed = omega (arith, fixed, stub);
+        gains = subst (λ (s : PlainFullSide). sum_by (λ v. unsigned_abs v.gain) s.vars < 2 ^ 90) (sym off) gains;
+      };
     }

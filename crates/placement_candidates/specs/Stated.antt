@@ -92,9 +92,13 @@ abbrev pub static_full : Scene → Layout → List Piece → List Transition →
 static_full w l pieces transitions =
     record { base = steps_energy w nothing_taken transitions; off = off_side w l pieces transitions; on = None }
 
+-- the sums of a side are small
+pub record IsSmallSide (side : PlainFullSide) : Type 0 where
+  pub fixed : side.fixed < 2 ^ 90
+  pub gains : sum_by (λ v. unsigned_abs v.gain) side.vars < 2 ^ 90
+
 -- a programme is that one; and its sums are small
 pub record IsStaticFull (w : Scene) (l : Layout) (pieces : List Piece) (transitions : List Transition) (f : PlainFull) : Type 0 where
   pub is : f ≡ static_full w l pieces transitions
   pub base_small : f.base < 2 ^ 90
-  pub fixed_small : f.off.fixed < 2 ^ 90
-  pub gains_small : sum_by (λ v. unsigned_abs v.gain) f.off.vars < 2 ^ 90
+  pub off_small : IsSmallSide f.off

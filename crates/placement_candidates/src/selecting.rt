@@ -115,8 +115,8 @@ fn side_of(fixed: u128, rows: Vec<u64>, vars: Vec<Var>) -> Side
     Side { fixed, rows, vars }
 }
 
-/// The rows of a side.
-fn rows_of(alloc: Global, side: &FullSide) -> Result<Vec<u64>, AllocError>
+/// The rows of a side. It fails only where no memory was left.
+pub fn rows_of(alloc: Global, side: &FullSide) -> Result<Vec<u64>, AllocError>
     ensures { IfOk result (λ rows. rows.items ≡ side.now.rows.items) }
 {
     let mut rows = Vec::new(alloc);

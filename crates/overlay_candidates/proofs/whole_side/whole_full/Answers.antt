@@ -9,4 +9,4 @@ on_side-requires c =
 
 pub returns : goal.returns
 returns c = λ view transitions given.
-    whole_is c.one_instruction.ensures view c.args.m.now c.args.objects.now transitions given c.requires.pieces c.requires.overlaid (plain_full c.in_ok-whole.whole) (c.in_ok-whole.ensures view transitions given) _ c.in_ok-whole-2.ensures
+    whole_is c.one_instruction.ensures view c.args.m.now c.args.objects.now transitions given c.requires.pieces c.requires.overlaid (plain_full c.in_ok-whole.whole) (c.in_ok-whole.ensures view transitions given) _ c.in_ok-whole-2.ensures.is c.in_ok-whole-2.ensures.small
