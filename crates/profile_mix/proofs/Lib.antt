@@ -1,0 +1,4 @@
+pub mod SumLemmas
+pub mod MixLemmas
+pub mod RunLemmas
+pub mod EnergyLemmas

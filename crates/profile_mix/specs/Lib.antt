@@ -1,0 +1,4 @@
+pub mod Parts
+pub mod Mixing
+pub mod Mixed
+pub mod Laws
