@@ -25,11 +25,12 @@ use Rattle.profile_runner.specs.declared.counts.Profile.{Profile}
 use Rattle.rv_decode.proofs.Meaning.{same_instruction}
 use Rattle.energy_model.specs.Energy.{Scene, energy}
 use Rattle.placement_candidates.specs.Stated.{AreSomePieces}
-use Rattle.energy_model.specs.Scenes.{scene_of, layout_of, AreOfSameFile}
+use Rattle.energy_model.specs.Scenes.{scene_of, AreOfSameFile}
 use Rattle.overlay_candidates.specs.Overlaid.{AreOverlaidObjects, overlay_layout}
 use Rattle.overlay_candidates.specs.Whole.{whole_stated, taken_of}
 use Rattle.overlay_candidates.proofs.WholeChoices.{whole_of_the_run}
 use Rattle.placement_programme.specs.Rows.{Layout}
+use Rattle.profile_mix.specs.Mixed.{WeightedRun, mixed_energy, EnergiesAreMixed}
 use Rattle.relink_core.specs.Faults.{least_patch}
 use Rattle.relinking.specs.ProgrammeOfRun.{EnergiesAreOf}
 
@@ -84,6 +85,10 @@ at_most_base base saved n is = omega (arith, ints, is)
 pub within_base : (w : Scene) (transitions : List Transition) (p : PlainProgramme) → EnergiesAreOf w transitions p
     → (c : PlainChoice) → IsFeasible p c → gain p c ≤ℤ pos p.base
 within_base w transitions p energies c feasible = at_most_base p.base (gain p c) (energy w (taken_of p c) transitions) (energies c feasible)
+
+pub mixed_within : (w : Scene) (runs : List WeightedRun) (p : PlainProgramme) → EnergiesAreMixed w runs p
+    → (c : PlainChoice) → IsFeasible p c → gain p c ≤ℤ pos p.base
+mixed_within w runs p energies c feasible = at_most_base p.base (gain p c) (mixed_energy w (taken_of p c) runs) (energies c feasible)
 
 -- the same programme, of lists that are equal
 pub of_lists : {os os' : List ℕ} {ps ps' : List Piece} (p : PlainProgramme) (w : Scene) (l : Layout) (transitions : List Transition)

@@ -7,3 +7,4 @@ pub mod Energies
 pub mod Solutions
 pub mod ItemsTold
 pub mod Relinking
+pub mod MixedRuns

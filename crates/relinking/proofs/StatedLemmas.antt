@@ -1,13 +1,11 @@
--- The programme that a run states is one whose choices can be realised.
+-- The programme that a run states, or several together, is one whose choices can be realised.
 use Rattle.std.proofs.Common.{◌≡◌, ◌≢◌, ◌∙◌, ◌==◌, ℕ, zero, suc, ◌+◌, ◌-◌, ◌<◌, ◌≤◌, Bool, true, false, not, ◌&&◌, if◌then◌else◌, List, [], ◌∷◌, ◌++◌, length, map, slice_index_or, Option, Some, None, IsSomeAnd, nat_le, nat_lt, refl, sym, ap, subst, arith}
-use Rattle.std.specs.List.{All, AllPairs, Contains, filter}
+use Rattle.std.specs.List.{All, AllPairs}
 use Rattle.std.proofs.lemmas.Bool.Decides.{nat_tests}
-use Rattle.std.proofs.lemmas.List.{get_or_default, get_or-map, length-map, length-append, map-append, get_or_append_left}
-use Rattle.std.proofs.lemmas.List.Elements.{All-nil, All-cons, All-append, All-map}
+use Rattle.std.proofs.lemmas.List.{get_or_default, get_or-map, length-map, length-append, get_or_append_left}
 use Rattle.std.proofs.lemmas.Bool.{and_parts}
 use Rattle.list_checks.proofs.TestLemmas.{none_at}
 use Rattle.board_config.specs.declared.board.Board.{Board}
-use Rattle.cell_values.specs.Objects.{datum_of}
 use Rattle.object_graph.specs.declared.parts.Graph.{Graph}
 use Rattle.code_blocks.specs.declared.parts.Code.{Code}
 use Rattle.block_splitter.specs.declared.piece.Piece.{Piece}
@@ -16,18 +14,20 @@ use Rattle.block_splitter.specs.Pieces.{range_of, ArePieces}
 use Rattle.region_former.specs.declared.table.RegionTable.{RegionTable}
 use Rattle.points_to.specs.Overlaid.{region_in, is_border}
 use Rattle.profile_runner.specs.Transition.{Transition}
-use Rattle.placement_programme.specs.Plain.{PlainVar, PlainChoice, PlainFullVar, PlainSide, PlainProgramme}
+use Rattle.placement_programme.specs.Plain.{PlainVar, PlainChoice, PlainFullVar, PlainFullSide, PlainSide, PlainProgramme}
 use Rattle.placement_programme.specs.Programme.{Fits, side_for, IsFeasible}
-use Rattle.placement_programme.specs.Rows.{Layout, Candidate, static_data, static_code, overlay_data, overlay_code, kept_data, name_of, fixed_bytes, weights, off_weights, on_weights, on_capacities, IsOfSide}
+use Rattle.placement_programme.specs.Rows.{Layout, Candidate, static_data, static_code, overlay_data, overlay_code, kept_data, name_of, fixed_bytes, capacities, weights, on_weights, on_capacities, IsOfSide}
 use Rattle.energy_model.specs.Energy.{Scene}
 use Rattle.energy_model.specs.Scenes.{scene_of, layout_of}
-use Rattle.placement_candidates.specs.Stated.{part_of, AreSomePieces, gain_alone, data_var, data_vars, code_var, static_vars, displaced_at}
-use Rattle.placement_candidates.specs.Selected.{no_var, var_in, plain_kept, selected_side, has_overlay, selected_on}
+use Rattle.placement_candidates.specs.Stated.{part_of, AreSomePieces, displaced_at}
+use Rattle.placement_candidates.specs.Selected.{no_var, var_in, plain_kept, selected_side, has_overlay, selected_on, selected}
 use Rattle.placement_candidates.proofs.ChoiceLemmas.{piece_range}
 use Rattle.placement_candidates.proofs.SideLemmas.{number_at, kept, ns, kept_at_place, number_below, number_order}
-use Rattle.overlay_candidates.specs.Overlaid.{AreOverlaidObjects, is_of_region, displaced_below, overlay_layout, overlay_var, static_objects, static_pieces, static_candidates, overlay_candidates, on_side, has_on_side}
+use Rattle.overlay_candidates.specs.Overlaid.{AreOverlaidObjects, is_of_region, displaced_below, overlay_layout, overlay_var, static_candidates, overlay_candidates, on_side, has_on_side, whole_full}
 use Rattle.overlay_candidates.specs.Whole.{whole_stated}
+use Rattle.overlay_candidates.proofs.CandidateLemmas.{static_sides, off_var, off_are}
 use Rattle.overlay_candidates.proofs.EachLemmas.{each_candidate}
+use Rattle.profile_mix.specs.Mixed.{WeightedRun, mixed_var, mixed_side, mixed_full, mixed_stated}
 use Rattle.result_placements.specs.Choices.{border_words, side_layout, IsPartFor, IsOfPiece, IsCandidateFor, IsVarFor, IsSideFor, IsChoiceFor}
 use Rattle.relinking.proofs.StatedNames.{AreTwoItems, statics_differ, candidates_differ}
 
@@ -75,9 +75,9 @@ module _ (on : Bool) (board : Board) (g : Graph) (c : Code) (t : RegionTable) (p
       (subst (λ (v : PlainVar). (plain_kept (var_in made (number_at (ns made) i))).name ≢ v.name) (sym (kept_at_place made j d below))
       (kept_differ (number_at (ns made) i) (number_at (ns made) j) (number_order made i j before below) (number_below made j below)))
 
--- ---- what a run states
+-- ---- a programme of the candidates
 
-module _ (board : Board) (g : Graph) (c : Code) (t : RegionTable) (pieces : List Piece) (overlaid : List ℕ) (moves : List Transition) (are : AreSomePieces c g pieces) (one_each : length t.of_block.items ≡ length c.blocks.items) (may : AreOverlaidObjects c g t overlaid) where
+module _ (board : Board) (g : Graph) (c : Code) (t : RegionTable) (pieces : List Piece) (overlaid : List ℕ) (are : AreSomePieces c g pieces) (one_each : length t.of_block.items ≡ length c.blocks.items) (may : AreOverlaidObjects c g t overlaid) where
   abbrev w : Scene
   w = scene_of g c t board
 
@@ -86,6 +86,9 @@ module _ (board : Board) (g : Graph) (c : Code) (t : RegionTable) (pieces : List
 
   abbrev statics : List Candidate
   statics = static_candidates w pieces
+
+  abbrev items : List Candidate
+  items = static_candidates w pieces ++ overlay_candidates w overlaid pieces
 
   -- ---- candidates
 
@@ -132,62 +135,22 @@ module _ (board : Board) (g : Graph) (c : Code) (t : RegionTable) (pieces : List
           let size = length-append xs ys in
           subst (IsCandidateFor board g c t pieces) (get_or_append_left xs ys d i below) (all i d (omega (arith, below, size)))
 
-  -- ---- the side without overlay
+  -- ---- sides
 
-  abbrev off_var : Candidate → PlainFullVar
-  off_var d = record { name = name_of d; gain = gain_alone w moves (name_of d); weights = off_weights (layout_of g c t board) d }
+  -- the variables of a side are made of the candidates, and weigh what these do
+  record IsMadeSide (on : Bool) (cs : List Candidate) (side : PlainFullSide) : Type 0 where
+    pub make : Candidate → PlainFullVar
+    pub names : (d : Candidate) → (make d).name ≡ name_of d
+    pub weigh : (d : Candidate) → (make d).weights ≡ weights on (side_layout on board g c t) d
+    pub rows : side.rows ≡ capacities on (side_layout on board g c t)
+    pub vars : side.vars ≡ map make cs
 
-  data_are : (n : ℕ) → data_vars w (layout_of g c t board) moves n ≡ map off_var (static_objects g n)
-  data_are zero = refl
-  data_are (suc n) =
-      ap (λ (vs : List PlainFullVar). vs ++ data_var w (layout_of g c t board) moves n ∷ []) (data_are n)
-      ∙ sym (map-append off_var (static_objects g n) (static_data (datum_of g n) ∷ []))
-
-  code_are : (ps : List Piece) → map (code_var w (layout_of g c t board) moves) ps ≡ map off_var (static_pieces w ps)
-  code_are [] = refl
-  code_are (p ∷ ps) = ap (λ (vs : List PlainFullVar). code_var w (layout_of g c t board) moves p ∷ vs) (code_are ps)
-
-  off_are : static_vars w (layout_of g c t board) pieces moves ≡ map off_var statics
-  off_are =
-      let n = length g.objects.items in
-      ap (λ (vs : List PlainFullVar). vs ++ map (code_var w (layout_of g c t board) moves) pieces) (data_are n)
-      ∙ (ap (λ (vs : List PlainFullVar). map off_var (static_objects g n) ++ vs) (code_are pieces)
-      ∙ sym (map-append off_var (static_objects g n) (static_pieces w pieces)))
-
-  off_weigh : (d : Candidate) → off_weights (layout_of g c t board) d ≡ weights false (side_layout false board g c t) d
+  off_weigh : (d : Candidate) → weights false l d ≡ weights false (side_layout false board g c t) d
   off_weigh (static_data d) = refl
   off_weigh (static_code p) = refl
   off_weigh (overlay_data r d) = refl
   off_weigh (overlay_code r p) = refl
   off_weigh (kept_data pair d) = refl
-
-  off_sides : All (IsOfSide false) statics
-  off_sides =
-      All-append (IsOfSide false) (static_objects g (length g.objects.items)) (static_pieces w pieces) (data_sides (length g.objects.items))
-      (All-map (IsOfSide false) (λ p. static_code (part_of w p)) pieces (λ i d below. tt))
-    where
-      data_sides : (n : ℕ) → All (IsOfSide false) (static_objects g n)
-      data_sides zero = All-nil (IsOfSide false)
-      data_sides (suc n) =
-          All-append (IsOfSide false) (static_objects g n) (static_data (datum_of g n) ∷ []) (data_sides n)
-          (All-cons (IsOfSide false) (static_data (datum_of g n)) [] tt (All-nil (IsOfSide false)))
-
-  abbrev whole : PlainProgramme
-  whole = whole_stated w l overlaid pieces moves
-
-  off_is : IsSideFor false board g c t pieces whole.off
-  off_is =
-      let differ = statics_differ w overlaid pieces may.ascending are.ordered in
-      record {
-        rows = refl;
-        vars = subst (λ (vs : List PlainFullVar). All (IsVarFor false board g c t pieces) (kept vs)) (sym off_are)
-            (kept_vars false board g c t pieces off_var statics (λ d. refl) off_weigh off_sides static_listed differ);
-        different = subst (λ (vs : List PlainFullVar). AllPairs (λ v x. v.name ≢ x.name) (kept vs)) (sym off_are)
-            (kept_different false board g c t pieces off_var statics (λ d. refl) off_weigh off_sides static_listed differ);
-        room = λ on. cc;
-      }
-
-  -- ---- the side with overlay
 
   displaced_are : (n : ℕ) → displaced_below w n ≡ border_words g c t.border.items n
   displaced_are zero = refl
@@ -197,24 +160,34 @@ module _ (board : Board) (g : Graph) (c : Code) (t : RegionTable) (pieces : List
   layout_is : l ≡ side_layout true board g c t
   layout_is = ap (λ (ws : List ℕ). record (layout_of g c t board) { displaced = ws }) (displaced_are (length c.blocks.items))
 
-  on_is : has_on_side w l overlaid pieces ≡ true → IsSideFor true board g c t pieces (selected_side (on_side w l overlaid pieces moves))
-  on_is there =
-      let cs = statics ++ overlay_candidates w overlaid pieces in
-      let differ = candidates_differ w overlaid pieces may.ascending are.ordered in
-      let weigh : (d : Candidate) → on_weights l d ≡ weights true (side_layout true board g c t) d = λ d. ap (λ (k : Layout). on_weights k d) layout_is in
-      let room = (and_parts (nat_lt 0 t.count && nat_lt 0 (length (overlay_candidates w overlaid pieces))) (nat_le (fixed_bytes l) board.patch.size) there).1 in
-      let sides : All (IsOfSide true) cs = λ i d below. tt in
+  on_weigh : (d : Candidate) → weights true l d ≡ weights true (side_layout true board g c t) d
+  on_weigh d = ap (λ (k : Layout). on_weights k d) layout_is
+
+  made_side : (on : Bool) (cs : List Candidate) (side : PlainFullSide) → IsMadeSide on cs side → All (IsOfSide on) cs → All (IsCandidateFor board g c t pieces) cs → AllPairs AreTwoItems cs → (on ≡ true → fixed_bytes (side_layout on board g c t) ≤ board.patch.size) → IsSideFor on board g c t pieces (selected_side side)
+  made_side on cs side by sides listed differ room =
       record {
-        rows = ap on_capacities layout_is;
-        vars = kept_vars true board g c t pieces (overlay_var w l moves) cs (λ d. refl) weigh sides candidates differ;
-        different = kept_different true board g c t pieces (overlay_var w l moves) cs (λ d. refl) weigh sides candidates differ;
-        room = λ on. subst (λ (k : Layout). fixed_bytes k ≤ board.patch.size) layout_is (fitting (fixed_bytes l) board.patch.size room);
+        rows = by.rows;
+        vars = subst (λ (vs : List PlainFullVar). All (IsVarFor on board g c t pieces) (kept vs)) (sym by.vars)
+            (kept_vars on board g c t pieces by.make cs by.names by.weigh sides listed differ);
+        different = subst (λ (vs : List PlainFullVar). AllPairs (λ v x. v.name ≢ x.name) (kept vs)) (sym by.vars)
+            (kept_different on board g c t pieces by.make cs by.names by.weigh sides listed differ);
+        room = room;
       }
+
+  off_is : (off : PlainFullSide) → IsMadeSide false statics off → IsSideFor false board g c t pieces (selected_side off)
+  off_is off by =
+      made_side false statics off by (static_sides w pieces) static_listed (statics_differ w overlaid pieces may.ascending are.ordered) (λ is. cc)
+
+  on_is : (on : PlainFullSide) → IsMadeSide true items on → has_on_side w l overlaid pieces ≡ true → IsSideFor true board g c t pieces (selected_side on)
+  on_is on by there =
+      let room = (and_parts (nat_lt 0 t.count && nat_lt 0 (length (overlay_candidates w overlaid pieces))) (nat_le (fixed_bytes l) board.patch.size) there).1 in
+      made_side true items on by (λ i d below. tt) candidates (candidates_differ w overlaid pieces may.ascending are.ordered)
+      (λ is. subst (λ (k : Layout). fixed_bytes k ≤ board.patch.size) layout_is (fitting (fixed_bytes l) board.patch.size room))
     where
       fitting : (least size : ℕ) → nat_le least size ≡ true → least ≤ size
       fitting least size fits = grind (arith, nat_tests, fits)
 
-  -- ---- its choices
+  -- ---- choices
 
   abbrev HasSide : Bool → Option PlainSide → Type 0
   HasSide on side = IsSomeAnd side (IsSideFor on board g c t pieces)
@@ -222,17 +195,39 @@ module _ (board : Board) (g : Graph) (c : Code) (t : RegionTable) (pieces : List
   abbrev FitsSide : List ℕ → Option PlainSide → Type 0
   FitsSide take side = IsSomeAnd side (λ s. Fits s take)
 
-  where_worth : (take : List ℕ) (worth : Bool) → has_on_side w l overlaid pieces ≡ true → FitsSide take (if worth then Some (selected_side (on_side w l overlaid pieces moves)) else None) → HasSide true (if worth then Some (selected_side (on_side w l overlaid pieces moves)) else None)
-  where_worth take false there fits = absurd fits
-  where_worth take true there fits = on_is there
+  -- the programme of these sides, where there is the one with overlay
+  abbrev selected_of : ℕ → PlainFullSide → PlainFullSide → PlainProgramme
+  selected_of base off on =
+      selected (record { base = base; off = off; on = if has_on_side w l overlaid pieces then Some on else None })
 
-  where_there : (take : List ℕ) (there : Bool) → has_on_side w l overlaid pieces ≡ there → FitsSide take (selected_on (if there then Some (on_side w l overlaid pieces moves) else None)) → HasSide true (selected_on (if there then Some (on_side w l overlaid pieces moves) else None))
-  where_there take false is fits = absurd fits
-  where_there take true is fits = where_worth take (has_overlay (on_side w l overlaid pieces moves).vars) is fits
+  where_worth : (on : PlainFullSide) (take : List ℕ) (worth : Bool) → IsMadeSide true items on → has_on_side w l overlaid pieces ≡ true → FitsSide take (if worth then Some (selected_side on) else None) → HasSide true (if worth then Some (selected_side on) else None)
+  where_worth on take false by there fits = absurd fits
+  where_worth on take true by there fits = on_is on by there
 
-  side_of : (on : Bool) (take : List ℕ) → FitsSide take (side_for whole on) → HasSide on (side_for whole on)
-  side_of false take fits = off_is
-  side_of true take fits = where_there take (has_on_side w l overlaid pieces) refl fits
+  where_there : (on : PlainFullSide) (take : List ℕ) (there : Bool) → IsMadeSide true items on → has_on_side w l overlaid pieces ≡ there → FitsSide take (selected_on (if there then Some on else None)) → HasSide true (selected_on (if there then Some on else None))
+  where_there on take false by is fits = absurd fits
+  where_there on take true by is fits = where_worth on take (has_overlay on.vars) by is fits
 
-  pub stated_choice : (choice : PlainChoice) → IsFeasible whole choice → IsChoiceFor board g c t pieces whole choice
-  stated_choice choice feasible = record { side = side_of choice.on choice.take feasible; feasible = feasible }
+  side_of : (base : ℕ) (off on : PlainFullSide) (which : Bool) (take : List ℕ) → IsMadeSide false statics off → IsMadeSide true items on → FitsSide take (side_for (selected_of base off on) which) → HasSide which (side_for (selected_of base off on) which)
+  side_of base off on false take off_made on_made fits = off_is off off_made
+  side_of base off on true take off_made on_made fits = where_there on take (has_on_side w l overlaid pieces) on_made refl fits
+
+  choice_of : (base : ℕ) (off on : PlainFullSide) (choice : PlainChoice) → IsMadeSide false statics off → IsMadeSide true items on → IsFeasible (selected_of base off on) choice → IsChoiceFor board g c t pieces (selected_of base off on) choice
+  choice_of base off on choice off_made on_made feasible =
+      record { side = side_of base off on choice.on choice.take off_made on_made feasible; feasible = feasible }
+
+  -- ---- what a run states, and what several state together
+
+  pub stated_choice : (moves : List Transition) (choice : PlainChoice) → IsFeasible (whole_stated w l overlaid pieces moves) choice → IsChoiceFor board g c t pieces (whole_stated w l overlaid pieces moves) choice
+  stated_choice moves choice feasible =
+      let whole = whole_full w l overlaid pieces moves in
+      choice_of whole.base whole.off (on_side w l overlaid pieces moves) choice
+      (record { make = off_var w l moves; names = λ d. refl; weigh = off_weigh; rows = refl; vars = off_are w l moves pieces })
+      (record { make = overlay_var w l moves; names = λ d. refl; weigh = on_weigh; rows = ap on_capacities layout_is; vars = refl }) feasible
+
+  pub mixed_choice : (runs : List WeightedRun) (choice : PlainChoice) → IsFeasible (mixed_stated w l overlaid pieces runs) choice → IsChoiceFor board g c t pieces (mixed_stated w l overlaid pieces runs) choice
+  mixed_choice runs choice feasible =
+      let mixed = mixed_full w l overlaid pieces runs in
+      choice_of mixed.base mixed.off (mixed_side true w l items runs) choice
+      (record { make = mixed_var false w l runs; names = λ d. refl; weigh = off_weigh; rows = refl; vars = refl })
+      (record { make = mixed_var true w l runs; names = λ d. refl; weigh = on_weigh; rows = ap on_capacities layout_is; vars = refl }) feasible

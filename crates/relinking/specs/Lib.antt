@@ -1,6 +1,7 @@
 pub mod Runs
 pub mod MeasuredRuns
 pub mod ProgrammeOfRun
+pub mod MixOfRuns
 pub mod FoundChoice
 pub mod Relink
 pub mod TakenItems

@@ -9,9 +9,11 @@ use Rattle.block_splitter.specs.declared.piece.Piece.{Piece}
 use Rattle.object_machine.specs.declared.events.Outcome.TheVariants.{AddressFault}
 use Rattle.region_former.specs.declared.table.RegionTable.{RegionTable}
 use Rattle.placement_programme.specs.Plain.{PlainProgramme, PlainChoice}
+use Rattle.placement_programme.specs.Programme.{IsFeasible}
 use Rattle.placement_programme.specs.Views.{plain_programme, plain_choice}
 use Rattle.profile_runner.specs.declared.fault.ProfileFault.{ProfileFault}
 use Rattle.profile_runner.specs.declared.fault.ProfileFault.TheVariants as profile
+use Rattle.result_placements.specs.Choices.{IsChoiceFor}
 use Rattle.relink_core.specs.Choices.{KeepsMeaning}
 use Rattle.relink_core.specs.Faults.{IsFaultless, IsFirst}
 use Rattle.relink_core.specs.Findings.{Findings}
@@ -23,7 +25,9 @@ use Rattle.relinking.specs.FoundChoice.{is_optimal, IsFound}
 use Rattle.relinking.specs.Runs.{RunsProgram}
 use Rattle.relinking.specs.MeasuredRuns.{EndsSo}
 use Rattle.relinking.specs.ProgrammeOfRun.{StatesProgramme}
+use Rattle.relinking.specs.MixOfRuns.{WeightedInput, StatesTogether}
 use Rattle.relinking.specs.declared.making.Relinked.{Relinked}
+use Rattle.relinking.specs.declared.making.RelinkedRun.{RelinkedRun}
 use Rattle.relinking.specs.declared.making.RelinkFault.{RelinkFault}
 use Rattle.relinking.specs.declared.making.RelinkFault.TheVariants as relink
 
@@ -34,16 +38,30 @@ pub record IsResult (file : List ℕ) (board : Board) (g : Graph) (c : Code) (t 
   pub realises : Realises file board g c t (taken_of p choice) out
   pub keeps : KeepsMeaning (taken_of p choice) file out board
 
--- the file's run on the input states the programme, by this graph, code, table of regions and these pieces, and ended so;
--- and the result is one for it, in which what the choice takes stands at its places
-pub record RelinksBy (file : List ℕ) (board : Board) (g : Graph) (c : Code) (t : RegionTable) (pieces : List Piece) (input : List ℕ) (r : Relinked) : Type 0 where
-  pub states : StatesProgramme (view_in file) board g c t pieces input (plain_programme r.programme)
+-- the programme has a choice, one for this graph, code, table of regions and these pieces, and the result is one for that
+-- choice, in which what it takes stands at its places
+pub record IsRelinkedFor (file : List ℕ) (board : Board) (g : Graph) (c : Code) (t : RegionTable) (pieces : List Piece) (r : Relinked) : Type 0 where
+  pub chosen : IsChoiceFor board g c t pieces (plain_programme r.programme) (plain_choice r.found.choice)
   pub result : IsResult file board g c t (plain_programme r.programme) (plain_choice r.found.choice) (is_optimal r.found.status) r.certificate.items r.result.bytes.items
-  pub ended : EndsSo (view_in file) board g input r.end
   pub stands : AreStanding board g c t (plain_programme r.programme) (plain_choice r.found.choice) r.result.names.items r.result.copies.items r.result.places
 
+-- each feasible choice of a programme is one for this graph, code, table of regions and these pieces
+abbrev pub AreChoicesFor : Board → Graph → Code → RegionTable → List Piece → PlainProgramme → Type 0
+AreChoicesFor board g c t pieces p = (choice : PlainChoice) → IsFeasible p choice → IsChoiceFor board g c t pieces p choice
+
+-- the file's run on the input states the programme, by this graph, code, table of regions and these pieces, and ended so
+pub record RelinksBy (file : List ℕ) (board : Board) (g : Graph) (c : Code) (t : RegionTable) (pieces : List Piece) (input : List ℕ) (r : RelinkedRun) : Type 0 where
+  pub states : StatesProgramme (view_in file) board g c t pieces input (plain_programme r.relinked.programme)
+  pub ended : EndsSo (view_in file) board g input r.end
+  pub made : IsRelinkedFor file board g c t pieces r.relinked
+
+-- the file's runs on several inputs state it together
+pub record RelinksTogether (file : List ℕ) (board : Board) (g : Graph) (c : Code) (t : RegionTable) (pieces : List Piece) (inputs : List WeightedInput) (r : Relinked) : Type 0 where
+  pub states : StatesTogether (view_in file) board g c t pieces inputs (plain_programme r.programme)
+  pub made : IsRelinkedFor file board g c t pieces r
+
 -- a file that has no fault is relinked by its own graph, code, regions and pieces
-pub record Relinks (file : List ℕ) (board : Board) (input : List ℕ) (r : Relinked) : Type 0 where
+pub record Relinks (file : List ℕ) (board : Board) (input : List ℕ) (r : RelinkedRun) : Type 0 where
   pub no_fault : IsFaultless file board
   pub found : Findings file board
   pub relinks : RelinksBy file board found.graph found.code found.regions found.pieces input r

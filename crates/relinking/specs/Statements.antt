@@ -12,6 +12,7 @@ use Rattle.energy_model.specs.Scenes.{scene_of}
 use Rattle.placement_candidates.specs.Stated.{AreSomePieces}
 use Rattle.overlay_candidates.specs.Overlaid.{AreOverlaidObjects, overlay_layout}
 use Rattle.overlay_candidates.specs.Whole.{whole_stated}
+use Rattle.profile_mix.specs.Mixed.{WeightedRun, mixed_stated}
 use Rattle.result_placements.specs.Choices.{IsChoiceFor}
 
 -- a feasible choice of the programme that the moves of a run state for objects, of which these may be overlaid, and for
@@ -23,3 +24,11 @@ StatedIsRealisable =
     → AreSomePieces code g pieces → length t.of_block.items ≡ length code.blocks.items → AreOverlaidObjects code g t overlaid
     → IsFeasible (whole_stated (scene_of g code t board) (overlay_layout g code t board) overlaid pieces moves) c
     → IsChoiceFor board g code t pieces (whole_stated (scene_of g code t board) (overlay_layout g code t board) overlaid pieces moves) c
+
+-- and so can one of what several runs state together
+abbrev pub MixedIsRealisable : Type 0
+MixedIsRealisable =
+    (board : Board) (g : Graph) (code : Code) (t : RegionTable) (pieces : List Piece) (overlaid : List ℕ) (runs : List WeightedRun) (c : PlainChoice)
+    → AreSomePieces code g pieces → length t.of_block.items ≡ length code.blocks.items → AreOverlaidObjects code g t overlaid
+    → IsFeasible (mixed_stated (scene_of g code t board) (overlay_layout g code t board) overlaid pieces runs) c
+    → IsChoiceFor board g code t pieces (mixed_stated (scene_of g code t board) (overlay_layout g code t board) overlaid pieces runs) c

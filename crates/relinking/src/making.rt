@@ -1,19 +1,22 @@
-ghost use Rattle.std.specs.Prelude.{◌≡◌, ℕ, List, Err, IfOk, IfErr};
+ghost use Rattle.std.specs.Prelude.{◌≡◌, ℕ, List, map, Err, IfOk, IfErr};
 ghost use Rattle.elf_reader.specs.File.{plain_view};
 ghost use Rattle.board_config.specs.Board.{IsLawful};
+ghost use Rattle.placement_programme.specs.Views.{plain_programme};
 ghost use Rattle.relinking.specs.Runs.{ReportsCounts};
-ghost use Rattle.relinking.specs.Relink.{RelinksBy, Relinks, ReportsRelink};
+ghost use Rattle.relinking.specs.MixOfRuns.{plain_input, AreSomeInputs, FaultsFirst};
+ghost use Rattle.relinking.specs.Relink.{IsRelinkedFor, AreChoicesFor, RelinksBy, RelinksTogether, Relinks, ReportsRelink};
 ghost use Rattle.relink_core.specs.Choices.{IsAnalysisOf};
 
 use crate::finding::find_choice;
 use crate::measuring::MeasuredEnd;
+use crate::mixing::{WeightedBytes, programme_of_runs};
 use crate::stating::programme_of_run;
 use board_config::Board;
 use branch_bound::Found;
 use placement_programme::Programme;
 use profile_runner::ProfileFault;
 use relink_core::{AnalyseFault, Analysis, Realised, analyse, realise};
-use std::alloc::Global;
+use std::alloc::{AllocError, Global};
 use thiserror::Error;
 
 /// A file that was relinked.
@@ -21,14 +24,20 @@ use thiserror::Error;
 pub struct Relinked {
     /// The result, an ELF file, and what has moved in it.
     pub result: Realised,
-    /// What the run of the program states.
+    /// What the runs of the program state.
     pub programme: Programme,
-    /// How the run ended.
-    pub end: MeasuredEnd,
     /// The choice that was found of it.
     pub found: Found,
     /// The text of the choice's certificate.
     pub certificate: Vec<u8>,
+}
+
+/// A file that was relinked by one run.
+#[derive(Drop)]
+pub struct RelinkedRun {
+    pub relinked: Relinked,
+    /// How the run ended.
+    pub end: MeasuredEnd,
 }
 
 /// Why a file is not relinked.
@@ -83,7 +92,7 @@ pub fn relink(
     elf: &[u8],
     board: &Board,
     input: &[u8],
-) -> Result<Relinked, RelinkFault>
+) -> Result<RelinkedRun, RelinkFault>
     requires lawful { IsLawful board.now }
     ensures ok { IfOk result (Relinks elf.now board.now input.now) }
     ensures err { IfErr result (ReportsRelink elf.now board.now input.now) }
@@ -103,19 +112,60 @@ pub fn relink_analysed(
     analysis: &Analysis<'_>,
     board: &Board,
     input: &[u8],
-) -> Result<Relinked, ProfileFault>
+) -> Result<RelinkedRun, ProfileFault>
     requires { (file : List ℕ) × IsAnalysisOf file board.now analysis.now }
     ensures ok { IfOk result (λ r. (file : List ℕ) → IsAnalysisOf file board.now analysis.now → RelinksBy file board.now analysis.now.graph analysis.now.code analysis.now.regions analysis.now.pieces.items input.now r) }
     ensures err { IfErr result (λ fault. ReportsCounts (plain_view analysis.now.view) board.now analysis.now.graph analysis.now.code analysis.now.regions input.now (Err fault)) }
 {
     let measured = programme_of_run(alloc, analysis, board, input)?;
-    let solution = find_choice(alloc, &measured.programme, board.nodes)?;
-    let choice = &solution.found.choice;
-    let result = realise(alloc, analysis, board, &measured.programme, choice)?;
+    match relink_programme(alloc, analysis, board, measured.programme) {
+        Ok(relinked) => {
+            let end = measured.end;
+            Ok(RelinkedRun { relinked, end })
+        }
+        Err(error) => Err(ProfileFault::from(error)),
+    }
+}
+
+/// Relinks a file that is analysed by what its runs on 1 to 16 inputs state together, each for the board's steps.
+///
+/// The error is the address fault of the first run that meets one. `Memory` comes only where no memory was left.
+pub fn relink_runs(
+    alloc: Global,
+    analysis: &Analysis<'_>,
+    board: &Board,
+    inputs: &[WeightedBytes<'_>],
+) -> Result<Relinked, ProfileFault>
+    requires analysis { (file : List ℕ) × IsAnalysisOf file board.now analysis.now }
+    requires inputs { AreSomeInputs (map plain_input inputs.now) }
+    ensures ok { IfOk result (λ r. (file : List ℕ) → IsAnalysisOf file board.now analysis.now → RelinksTogether file board.now analysis.now.graph analysis.now.code analysis.now.regions analysis.now.pieces.items (map plain_input inputs.now) r) }
+    ensures err { IfErr result (FaultsFirst (plain_view analysis.now.view) board.now analysis.now.graph analysis.now.code analysis.now.regions (map plain_input inputs.now)) }
+{
+    let programme = programme_of_runs(alloc, analysis, board, inputs)?;
+    match relink_programme(alloc, analysis, board, programme) {
+        Ok(relinked) => Ok(relinked),
+        Err(error) => Err(ProfileFault::from(error)),
+    }
+}
+
+/// Relinks a file that is analysed by a programme, each choice of which can be realised: a choice is searched with the
+/// board's budget of nodes. It fails only where no memory was left.
+fn relink_programme(
+    alloc: Global,
+    analysis: &Analysis<'_>,
+    board: &Board,
+    programme: Programme,
+) -> Result<Relinked, AllocError>
+    requires analysis { (file : List ℕ) × IsAnalysisOf file board.now analysis.now }
+    requires choices { AreChoicesFor board.now analysis.now.graph analysis.now.code analysis.now.regions analysis.now.pieces.items (plain_programme programme) }
+    ensures programme { IfOk result (λ r. plain_programme r.programme ≡ plain_programme programme) }
+    ensures made { IfOk result (λ r. (file : List ℕ) → IsAnalysisOf file board.now analysis.now → IsRelinkedFor file board.now analysis.now.graph analysis.now.code analysis.now.regions analysis.now.pieces.items r) }
+{
+    let solution = find_choice(alloc, &programme, board.nodes)?;
+    let result = realise(alloc, analysis, board, &programme, &solution.found.choice)?;
     Ok(Relinked {
         result,
-        programme: measured.programme,
-        end: measured.end,
+        programme,
         found: solution.found,
         certificate: solution.certificate,
     })

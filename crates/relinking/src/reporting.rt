@@ -1,8 +1,10 @@
-ghost use Rattle.std.specs.Prelude.{◌≡◌, ℕ, List, IfOk};
+ghost use Rattle.std.specs.Prelude.{◌≡◌, ◌≤ℤ◌, ℕ, pos, List, IfOk};
 ghost use Rattle.elf_reader.specs.File.{plain_view};
+ghost use Rattle.placement_programme.specs.Plain.{PlainChoice};
+ghost use Rattle.placement_programme.specs.Programme.{IsFeasible, gain};
 ghost use Rattle.placement_programme.specs.Views.{plain_programme, plain_choice};
 ghost use Rattle.relinking.specs.FoundChoice.{is_optimal};
-ghost use Rattle.relinking.specs.Relink.{RelinksBy};
+ghost use Rattle.relinking.specs.Relink.{IsRelinkedFor};
 ghost use Rattle.relinking.specs.Report.{IsRelinkReport};
 ghost use Rattle.relink_core.specs.Choices.{IsAnalysisOf};
 
@@ -14,14 +16,16 @@ use printed_lines::{choice_report, push_taken_lines};
 use relink_core::Analysis;
 use std::alloc::{AllocError, Global};
 
-/// The report on a file that was relinked: how its choice was found and what the run costs, and what is taken.
+/// The report on a file that was relinked: how its choice was found and what the runs cost, and what is taken. No choice of
+/// the programme saves more than the base.
 pub fn relink_report(
     alloc: Global,
     analysis: &Analysis<'_>,
     board: &Board,
     relinked: &Relinked,
 ) -> Result<Vec<u8>, AllocError>
-    requires { (file input : List ℕ) × IsAnalysisOf file board.now analysis.now × RelinksBy file board.now analysis.now.graph analysis.now.code analysis.now.regions analysis.now.pieces.items input relinked.now }
+    requires made { (file : List ℕ) × IsAnalysisOf file board.now analysis.now × IsRelinkedFor file board.now analysis.now.graph analysis.now.code analysis.now.regions analysis.now.pieces.items relinked.now }
+    requires within { (choice : PlainChoice) → IsFeasible (plain_programme relinked.now.programme) choice → gain (plain_programme relinked.now.programme) choice ≤ℤ pos relinked.now.programme.base }
     ensures { IfOk result (λ text. IsRelinkReport (plain_view analysis.now.view) board.now analysis.now.graph analysis.now.code (plain_programme relinked.now.programme) (plain_choice relinked.now.found.choice) (is_optimal relinked.now.found.status) text.items) }
 {
     let programme = &relinked.programme;

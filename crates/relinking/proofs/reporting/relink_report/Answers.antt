@@ -1,53 +1,39 @@
-use Rattle.std.proofs.Common.{◌∙◌, ℕ, Bool, List, ◌++◌, sym, ap, subst}
+use Rattle.std.proofs.Common.{◌∙◌, Bool, List, ◌++◌, sym, ap, subst}
 use Rattle.std.specs.Prelude.{string_bytes}
 use Rattle.std.specs.List.{All}
-use Rattle.std.proofs.lemmas.List.{append_assoc}
-use Rattle.elf_reader.specs.File.{plain_view, view_in}
+use Rattle.elf_reader.specs.File.{plain_view}
 use Rattle.placement_programme.specs.Views.{plain_programme, plain_choice}
-use Rattle.energy_model.specs.Scenes.{scene_of}
-use Rattle.relocator.specs.Placing.{chosen_slots}
 use Rattle.result_placements.proofs.LayingOut.{choice_lays_out}
 use Rattle.printed_lines.specs.ReportText.{IsReport}
 use Rattle.printed_lines.specs.TakenLines.{taken_lines, IsListed}
 use Rattle.printed_lines.specs.declared.taken.TakenItem.{TakenItem}
-use Rattle.relinking.specs.TakenItems.{items_told}
-use Rattle.relinking.proofs.StatedLemmas.{some_of_all}
-use Rattle.relinking.proofs.Energies.{within_base}
-use Rattle.relinking.proofs.Relinking.{states_choice}
 use Rattle.relinking.proofs.ItemsTold.{all_listed, all_told}
 use Rattle.relinking.proofs.reporting.relink_report.Goals as goal
 
-pub choice_report-requires-clause-within : goal.choice_report-requires-clause-within
-choice_report-requires-clause-within c =
-    let (file, input, is, by) = c.requires in
-    let a = c.args.analysis.now in
-    within_base (scene_of a.graph a.code a.regions c.args.board.now) by.states.transitions (plain_programme c.args.relinked.now.programme) by.states.energies
-
 pub choice_report-requires-clause-feasible : goal.choice_report-requires-clause-feasible
-choice_report-requires-clause-feasible c = let (file, input, is, by) = c.requires in by.result.found.feasible
+choice_report-requires-clause-feasible c = let (file, is, made) = c.requires.made in made.result.found.feasible
 
 pub taken_items-requires : goal.taken_items-requires
 taken_items-requires c =
-    let (file, input, is, by) = c.requires in
+    let (file, is, made) = c.requires.made in
     let board = c.args.board.now in
     let a = c.args.analysis.now in
     let r = c.args.relinked.now in
     let p = plain_programme r.programme in
     let choice = plain_choice r.found.choice in
-    let chosen = states_choice (view_in file) board a.graph a.code a.regions a.pieces.items input p choice (some_of_all a.code a.graph a.pieces.items is.pieces) is.regions.is_formed.one_each by.states by.result.found.feasible in
     record {
-      stands = by.stands;
-      can = choice_lays_out board a.graph a.code a.regions a.pieces.items p choice is.graph.grain chosen;
-      copied = all_told board a.graph a.code a.regions p choice r.result.names.items r.result.copies.items r.result.places by.stands;
+      stands = made.stands;
+      can = choice_lays_out board a.graph a.code a.regions a.pieces.items p choice is.graph.grain made.chosen;
+      copied = all_told board a.graph a.code a.regions p choice r.result.names.items r.result.copies.items r.result.places made.stands;
     }
 
 pub push_taken_lines-requires : goal.push_taken_lines-requires
 push_taken_lines-requires c =
-    let (file, input, is, by) = c.requires in
+    let (file, is, made) = c.requires.made in
     let a = c.args.analysis.now in
     let r = c.args.relinked.now in
     subst (All (IsListed a.graph.objects.items)) (sym (c.deref.ensures.value ∙ c.in_ok-items.ensures))
-    (all_listed c.args.board.now a.graph a.code a.regions (plain_programme r.programme) (plain_choice r.found.choice) r.result.names.items r.result.copies.items r.result.places by.stands)
+    (all_listed c.args.board.now a.graph a.code a.regions (plain_programme r.programme) (plain_choice r.found.choice) r.result.names.items r.result.copies.items r.result.places made.stands)
 
 pub returns : goal.returns
 returns c =
