@@ -104,7 +104,7 @@ module _ (file out : List ℕ) (board : Board) (g : Graph) (c : Code) (pl : Chos
   -- ---- homes
 
   -- the home of a unit is in neither range
-  home_kept : (u b k : ℕ) → StandsThere c u b k → IsKept v board u
+  pub home_kept : (u b k : ℕ) → StandsThere c u b k → IsKept v board u
   home_kept u b k stands =
       let code = unit_code file out board g c pl result u b k stands in
       let even = code_even v u code in
@@ -131,7 +131,7 @@ module _ (file out : List ℕ) (board : Board) (g : Graph) (c : Code) (pl : Chos
         displaced_some pl.sites (body_at plan stub) (unit_at c b 0) (stubs.kind file out board g c pl result u b stub there listed serves uncopied) words
         (stubs.has_words file out board g c pl result u b stub there listed serves uncopied).form
 
-    body_in_patch : in_range board.patch (body_at plan stub) ≡ true
+    pub body_in_patch : in_range board.patch (body_at plan stub) ≡ true
     body_in_patch =
         let some = some_words in
         let zero_there : body_at plan stub + 0 ≡ body_at plan stub = omega arith in
@@ -146,7 +146,7 @@ module _ (file out : List ℕ) (board : Board) (g : Graph) (c : Code) (pl : Chos
           (stubs.has_words file out board g c pl result u b stub there listed serves uncopied).form in
           ap (λ (xs : List ℕ). length xs) displaced.words
 
-      jump_in_patch : in_range board.patch (body_at plan stub + 4) ≡ true
+      pub jump_in_patch : in_range board.patch (body_at plan stub + 4) ≡ true
       jump_in_patch =
           let two = two_words in
           stubs.inside_patch file out board g c pl result u b stub there listed serves uncopied 4 (omega (arith, two))
@@ -155,7 +155,7 @@ module _ (file out : List ℕ) (board : Board) (g : Graph) (c : Code) (pl : Chos
       stub_size = stubs.size_least file out board g c pl result u b stub there listed serves uncopied 2 two_words
 
   -- a copy's words are in the scratchpad
-  copy_in_spm : (u n b k : ℕ) → n < length pl.pieces → holds_block b (piece_of pl n).range ≡ true → StandsThere c u b k → in_range board.spm (address_of (copy_in c g pl n) (place_of (copy_in c g pl n) b k)) ≡ true
+  pub copy_in_spm : (u n b k : ℕ) → n < length pl.pieces → holds_block b (piece_of pl n).range ≡ true → StandsThere c u b k → in_range board.spm (address_of (copy_in c g pl n) (place_of (copy_in c g pl n) b k)) ≡ true
   copy_in_spm u n b k inside held there =
       let copied = ways.is_copy file out board g c pl result n inside in
       let below = held_below v (copy_in c g pl n) (piece_of pl n).words (piece_of pl n).starts b copied held in
@@ -182,7 +182,7 @@ module _ (file out : List ℕ) (board : Board) (g : Graph) (c : Code) (pl : Chos
         let two = fits.1 in
         omega (arith, whole, two)
 
-    in_spm : in_range board.spm behind ≡ true
+    pub in_spm : in_range board.spm behind ≡ true
     in_spm =
         let fits = room in
         copy_inside file out board g c pl result n inside (4 * place_behind copy b) (omega (arith, fits))
@@ -229,7 +229,7 @@ module _ (file out : List ℕ) (board : Board) (g : Graph) (c : Code) (pl : Chos
     no_form _ _ is (InStub x e stub there listed serves uncopied) may same =
         off_patch (subst (λ (y : ℕ). in_range board.patch y ≡ true) same (body_in_patch x e stub there listed serves uncopied))
 
-    copy_only : (a : ℕ) → (x : ArrivesAt c g pl plan r u a) → a ≡ behind → leaving_fetched c g pl plan r u a x ≡ words_from a 2
+    pub copy_only : (a : ℕ) → (x : ArrivesAt c g pl plan r u a) → a ≡ behind → leaving_fetched c g pl plan r u a x ≡ words_from a 2
     copy_only _ (AtForm a at) same = absurd (no_form u a refl at.stands at.may same)
     copy_only _ (AtItsHome home) same =
         let kept = arrives_kept r u home in
@@ -275,7 +275,7 @@ module _ (file out : List ℕ) (board : Board) (g : Graph) (c : Code) (pl : Chos
     no_form_there _ _ own (InStub y e other stands listed_too serves_too uncopied_too) same =
         no_stub e other (subst (λ (q : ℕ). StandsThere c q e 0) own stands) listed_too serves_too same
 
-    stub_only : (a : ℕ) → r ≤ pl.count → (y : ArrivesAt c g pl plan r u a) → a ≡ jump → leaving_fetched c g pl plan r u a y ≡ a ∷ []
+    pub stub_only : (a : ℕ) → r ≤ pl.count → (y : ArrivesAt c g pl plan r u a) → a ≡ jump → leaving_fetched c g pl plan r u a y ≡ a ∷ []
     stub_only _ few (AtForm a at) same = absurd (no_form_there u a refl at.stands same)
     stub_only _ few (AtItsHome home) same =
         let kept = arrives_kept r u home in

@@ -52,16 +52,15 @@ use Rattle.placed_results.proofs.Units.{call_register, no_target, same_register,
 use Rattle.held_addresses.specs.Entries.{RunsIn}
 use Rattle.result_placements.specs.ChosenPlacement.{ChosenPlacement, piece_of, copy_in}
 use Rattle.placed_results.specs.Laws.{IsPlacedResult, setup_of}
-use Rattle.placed_results.specs.PlacedForms.{ArrivesAt}
 use Rattle.placed_results.proofs.Fetches.{RunsOver, PairOver, FormOver}
 use Rattle.placed_results.proofs.Blocks.{begin_leads, temporary_dead, unit_low}
 use Rattle.placed_results.proofs.Standing.{IsHere, piece_here, copy_holds, copy_still, copy_mapped}
-use Rattle.placed_results.proofs.HomeForms.{block_comes, reached_comes}
-use Rattle.placed_results.proofs.CopyWays.{unit_same, unit_count, is_copy, in_order, lands_comes, unit_comes}
+use Rattle.placed_results.proofs.CopyWays.{unit_same, unit_count, is_copy, in_order}
 use Rattle.placed_results.proofs.CopyWays as ways
 use Rattle.placed_results.proofs.UnitForms as parts
 
-module _ (file out : List ℕ) (board : Board) (g : Graph) (c : Code) (pl : ChosenPlacement) (result : IsPlacedResult file out board g c pl) (r u n b k : ℕ) (inside : n < length pl.pieces) (held : holds_block b (piece_of pl n).range ≡ true) (stands : StandsThere c u b k) (may : RunsIn pl.regions b r) where
+-- `arrive` says at which addresses the flat machine may come to a unit
+module _ (file out : List ℕ) (board : Board) (g : Graph) (c : Code) (pl : ChosenPlacement) (result : IsPlacedResult file out board g c pl) (r u n b k : ℕ) (inside : n < length pl.pieces) (held : holds_block b (piece_of pl n).range ≡ true) (stands : StandsThere c u b k) (may : RunsIn pl.regions b r) (arrive : ℕ → ℕ → Type 0) where
   abbrev v : PlainView
   v = view_in file
 
@@ -73,9 +72,6 @@ module _ (file out : List ℕ) (board : Board) (g : Graph) (c : Code) (pl : Chos
 
   abbrev live : ℕ → ℕ → Type 0
   live = live_at c
-
-  abbrev arrive : ℕ → ℕ → Type 0
-  arrive x a = ArrivesAt c g pl result.view.plan r x a
 
   abbrev y : PlacedPiece
   y = piece_of pl n
@@ -96,7 +92,7 @@ module _ (file out : List ℕ) (board : Board) (g : Graph) (c : Code) (pl : Chos
   copy_inside = is_inside cp
 
   -- behind the last unit control falls to the next word
-  abbrev Falls : Type 0
+  abbrev pub Falls : Type 0
   Falls = suc k ≡ length (body_at c.blocks.items b).units → falls_to (end_at c b) ≡ Some (u + 4)
 
   -- the words of it that run
@@ -176,9 +172,6 @@ module _ (file out : List ℕ) (board : Board) (g : Graph) (c : Code) (pl : Chos
   copy_words : IsUnitCopy cp a unit (kind_in cp b k) (words_at y.words place (copy_size copy_inside (kind_in cp b k)))
   copy_words = ((is_copy file out board g c pl result n inside).copy.blocks b held).units k in_body
 
-  behind : Falls → arrive (u + 4) (a + 4 * copy_size copy_inside (kind_in cp b k))
-  behind falls = unit_comes file out board g c pl result n inside r b held may u k stands falls
-
   arrive_at : (x z d e : ℕ) → x ≡ z → d ≡ e → arrive z e → arrive x d
   arrive_at x z d e same there comes = subst (λ (q : ℕ). arrive q d) (sym same) (subst (λ (q : ℕ). arrive z q) (sym there) comes)
 
@@ -225,14 +218,38 @@ module _ (file out : List ℕ) (board : Board) (g : Graph) (c : Code) (pl : Chos
   row_pair : (of : UnitKind) → is_call_pair v u ≡ true → ((t : State) → IsAt l r a t → PairOver p live arrive u (copy_fetched of t) t) → Form of
   row_pair of pair runs = parts.row_pair file board g result.accepted l live arrive r u a low (copy_fetched of) pair runs
 
+  -- ---- where it leads
+
+  -- to a block: at home, or where control lands that goes there; to what follows; and where a jump by a register may go
+  abbrev pub Home : ℕ → Type 0
+  Home target = is_leader v target ≡ true → arrive target target
+
+  abbrev pub Landing : ℕ → Type 0
+  Landing target = (to : ℕ) → is_leader v target ≡ true → Lands cp target to → arrive target to
+
+  abbrev pub Onward : UnitKind → Type 0
+  Onward kind = Falls → arrive (u + 4) (a + 4 * copy_size copy_inside kind)
+
+  abbrev pub Reached : Type 0
+  Reached = (x : ℕ) → p.is_reached x ≡ true → arrive x x
+
+  -- the flat machine may come wherever a unit of a kind leads
+  abbrev pub MayArrive : UnitKind → Type 0
+  MayArrive (Branch kind rs1 rs2 target) = Landing target × Onward (Branch kind rs1 rs2 target)
+  MayArrive (Jump target) = Landing target
+  MayArrive (Call target back link) = Home target
+  MayArrive (Tail target link) = Home target
+  MayArrive Indirect = Reached
+  MayArrive (Linking back link base imm) = Reached
+  MayArrive kind = Onward kind
+
   -- ---- by kind
 
   abbrev FormBy : UnitKind → Type 0
   FormBy kind =
       IsKindOf v c (is_site g) u Falls kind → IsHomeOf v (is_site g) u kind → ((t : State) → IsAt l r a t → CopyRuns cp t a unit kind)
       → place + copy_size copy_inside kind ≤ length y.words
-      → IsUnitCopy cp a unit kind (words_at y.words place (copy_size copy_inside kind))
-      → (Falls → arrive (u + 4) (a + 4 * copy_size copy_inside kind)) → Form kind
+      → IsUnitCopy cp a unit kind (words_at y.words place (copy_size copy_inside kind)) → MayArrive kind → Form kind
 
   upper_form : (rd value : ℕ) → FormBy (Upper rd value)
   upper_form rd value (m, (single, (means, (no_site, falls)))) is runs room words next =
@@ -245,32 +262,43 @@ module _ (file out : List ℕ) (board : Board) (g : Graph) (c : Code) (pl : Chos
       runs_for (Upper rd value) false i t leads at_home (λ j lives differs. differs)
       (λ comes. arrive_at (home_of u t i).pc (u + 4) leads.0 (a + 8) at_home.pc leads.1.0 (next falls)))
 
-  branch_arrives : (test : Bool) (target pc to size : ℕ) → is_leader v target ≡ true → pc ≡ (if test then target else u + 4) → MatchBool test (Lands cp target to) (to ≡ a + 4 * size) → arrive (u + 4) (a + 4 * size) → arrive pc to
-  branch_arrives true target pc to size leads same lands next =
-      arrive_at pc target to to same refl (lands_comes file out board g c pl result n inside r b held may target to leads lands)
-  branch_arrives false target pc to size leads same there next = arrive_at pc (u + 4) to (a + 4 * size) same there next
+  -- where a branch goes that is taken or isn't
+  abbrev pub Either : Bool → UnitKind → ℕ → Type 0
+  Either test kind target = MatchBool test (Landing target) (Onward kind)
+
+  both_ways : (test : Bool) (kind : UnitKind) (target : ℕ) → Landing target → Onward kind → Either test kind target
+  both_ways true kind target lands next = lands
+  both_ways false kind target lands next = next
+
+  branch_arrives : (test : Bool) (kind : UnitKind) (target pc to : ℕ) → is_leader v target ≡ true → Falls → pc ≡ (if test then target else u + 4) → MatchBool test (Lands cp target to) (to ≡ a + 4 * copy_size copy_inside kind) → Either test kind target → arrive pc to
+  branch_arrives true kind target pc to leads falls same lands ways = arrive_at pc target to to same refl (ways to leads lands)
+  branch_arrives false kind target pc to leads falls same there ways =
+      arrive_at pc (u + 4) to (a + 4 * copy_size copy_inside kind) same there (ways falls)
 
   branch_dead : (test : Bool) (target pc j : ℕ) → is_leader v target ≡ true → pc ≡ (if test then target else u + 4) → test ≡ true → IsTemporary c target 0 j → live pc j → ⊥
   branch_dead true target pc j leads same taken is lives =
       temporary_dead file out board g c pl result target 0 j leads is (subst (λ (x : ℕ). live x j) same lives)
   branch_dead false target pc j leads same taken is lives = cc
 
-  branch_form : (kind : BranchKind) (rs1 rs2 target : ℕ) → FormBy (Branch kind rs1 rs2 target)
-  branch_form kind rs1 rs2 target (off, (single, (means, (begins_there, falls)))) is runs room words next =
+  branch_run : (kind : BranchKind) (rs1 rs2 target : ℕ) (off : ℤ) (t : State) → is_leader v target ≡ true → Falls → LeadsAtHome u (Branch kind rs1 rs2 target) (instr.Branch kind rs1 rs2 off ∷ []) (hart_at t) → CopyRuns cp t a unit (Branch kind rs1 rs2 target) → Either (takes (Branch kind rs1 rs2 target) t.hart.regs) (Branch kind rs1 rs2 target) target → RunsOver p live arrive u (copy_fetched (Branch kind rs1 rs2 target) t) t (instr.Branch kind rs1 rs2 off)
+  branch_run kind rs1 rs2 target off t leader falls at_home leads ways =
       let i : Instr = instr.Branch kind rs1 rs2 off in
-      let leader = begin_leads file out board g c pl result target begins_there in
-      row_single (Branch kind rs1 rs2 target) i single means tt
-      (λ t here.
-      let leads = runs t here in
       let test : Bool = is_taken kind (register t.hart.regs rs1) (register t.hart.regs rs2) in
-      let at_home = is.runs (i ∷ []) (mean_one i single means) (hart_at t) refl in
       runs_for (Branch kind rs1 rs2 target) test i t leads at_home
       (λ j lives differs. branch_dead test target (home_of u t i).pc j leader at_home.pc differs.0 differs.1 lives)
-      (λ comes.
-      branch_arrives test target (home_of u t i).pc leads.0 (copy_size copy_inside (Branch kind rs1 rs2 target)) leader at_home.pc leads.1.0 (next falls)))
+      (λ comes. branch_arrives test (Branch kind rs1 rs2 target) target (home_of u t i).pc leads.0 leader falls at_home.pc leads.1.0 ways)
+
+  branch_form : (kind : BranchKind) (rs1 rs2 target : ℕ) → FormBy (Branch kind rs1 rs2 target)
+  branch_form kind rs1 rs2 target (off, (single, (means, (begins_there, falls)))) is runs room words (lands, next) =
+      let i : Instr = instr.Branch kind rs1 rs2 off in
+      row_single (Branch kind rs1 rs2 target) i single means tt
+      (λ t here.
+      branch_run kind rs1 rs2 target off t (begin_leads file out board g c pl result target begins_there) falls
+      (is.runs (i ∷ []) (mean_one i single means) (hart_at t) refl) (runs t here)
+      (both_ways (takes (Branch kind rs1 rs2 target) t.hart.regs) (Branch kind rs1 rs2 target) target lands next))
 
   jump_form : (target : ℕ) → FormBy (Jump target)
-  jump_form target (off, (single, (means, begins_there))) is runs room words next =
+  jump_form target (off, (single, (means, begins_there))) is runs room words lands =
       let i : Instr = instr.Jal 0 off in
       let leader = begin_leads file out board g c pl result target begins_there in
       row_single (Jump target) i single means tt
@@ -280,12 +308,11 @@ module _ (file out : List ℕ) (board : Board) (g : Graph) (c : Code) (pl : Chos
       runs_for (Jump target) false i t leads at_home
       (λ j lives differs. temporary_dead file out board g c pl result target 0 j leader differs (subst (λ (x : ℕ). live x j) at_home.pc lives))
       (λ comes.
-      arrive_at (home_of u t i).pc target leads.0 leads.0 at_home.pc refl
-      (lands_comes file out board g c pl result n inside r b held may target leads.0 leader leads.1.0)))
+      arrive_at (home_of u t i).pc target leads.0 leads.0 at_home.pc refl (lands leads.0 leader leads.1.0)))
 
   -- a call of one word
-  jal_form : (target back link : ℕ) (off : ℤ) → is_leader v target ≡ true → is_call_pair v u ≡ false → Means (image_word v u) (instr.Jal link off) → IsHomeOf v (is_site g) u (Call target back link) → ((t : State) → IsAt l r a t → CopyRuns cp t a unit (Call target back link)) → Form (Call target back link)
-  jal_form target back link off leader single means is runs =
+  jal_form : (target back link : ℕ) (off : ℤ) → is_leader v target ≡ true → is_call_pair v u ≡ false → Means (image_word v u) (instr.Jal link off) → IsHomeOf v (is_site g) u (Call target back link) → ((t : State) → IsAt l r a t → CopyRuns cp t a unit (Call target back link)) → Home target → Form (Call target back link)
+  jal_form target back link off leader single means is runs comes_home =
       let i : Instr = instr.Jal link off in
       row_single (Call target back link) i single means tt
       (λ t here.
@@ -293,11 +320,11 @@ module _ (file out : List ℕ) (board : Board) (g : Graph) (c : Code) (pl : Chos
       let at_home = is.runs (i ∷ []) (mean_one i single means) (hart_at t) refl in
       runs_for (Call target back link) false i t leads at_home
       (λ j lives differs. temporary_dead file out board g c pl result target link j leader differs (subst (λ (x : ℕ). live x j) at_home.pc lives))
-      (λ comes. arrive_at (home_of u t i).pc target leads.0 target at_home.pc leads.1.0 (block_comes file out board g c pl result r target leader)))
+      (λ comes. arrive_at (home_of u t i).pc target leads.0 target at_home.pc leads.1.0 (comes_home leader)))
 
   -- one of two
-  call_form : (target back link : ℕ) → is_leader v target ≡ true → CallsBack v u target back link → ((t : State) → IsAt l r a t → CopyRuns cp t a unit (Call target back link)) → Form (Call target back link)
-  call_form target back link leader calls runs =
+  call_form : (target back link : ℕ) → is_leader v target ≡ true → CallsBack v u target back link → ((t : State) → IsAt l r a t → CopyRuns cp t a unit (Call target back link)) → Home target → Form (Call target back link)
+  call_form target back link leader calls runs comes_home =
       let writes : link ≡ rd_of (image_word v u) = call_register v u link calls.pair calls.links_so calls.register_is in
       row_pair (Call target back link) calls.pair
       (λ t here.
@@ -329,13 +356,13 @@ module _ (file out : List ℕ) (board : Board) (g : Graph) (c : Code) (pl : Chos
                 | inr differs ↦ absurd (dead q lives differs)
               ];
           below = parts.pair_low file board g result.accepted l live arrive r u a low (λ t. []) calls.pair;
-          arrives = λ block. arrive_at (p.goes u) target leads.0 target (sym calls.goes) leads.1.0 (block_comes file out board g c pl result r target leader);
+          arrives = λ block. arrive_at (p.goes u) target leads.0 target (sym calls.goes) leads.1.0 (comes_home leader);
         },
         refl,
       ))
 
   tail_form : (target link : ℕ) → FormBy (Tail target link)
-  tail_form target link (pair, (none, (goes, (register_is, begins_there)))) is runs room words next =
+  tail_form target link (pair, (none, (goes, (register_is, begins_there)))) is runs room words comes_home =
       let leader = begin_leads file out board g c pl result target begins_there in
       row_pair (Tail target link) pair
       (λ t here.
@@ -358,20 +385,20 @@ module _ (file out : List ℕ) (board : Board) (g : Graph) (c : Code) (pl : Chos
               let zero_there = unlinked (image_word v (u + 4)) none in
               absurd (omega (arith, some, zero_there));
           below = parts.pair_low file board g result.accepted l live arrive r u a low (λ t. []) pair;
-          arrives = λ block. arrive_at (p.goes u) target leads.0 target (sym goes) leads.1.0 (block_comes file out board g c pl result r target leader);
+          arrives = λ block. arrive_at (p.goes u) target leads.0 target (sym goes) leads.1.0 (comes_home leader);
         },
         refl,
       ))
 
   linking_form : (back link base : ℕ) (imm : ℤ) → FormBy (Linking back link base imm)
-  linking_form back link base imm (single, means) is runs room words next =
+  linking_form back link base imm (single, means) is runs room words reached =
       let i : Instr = instr.Jalr link base imm in
       row_single (Linking back link base imm) i single means tt
       (λ t here.
       let leads = runs t here in
       let at_home = is.runs (i ∷ []) (mean_one i single means) (hart_at t) refl in
       runs_for (Linking back link base imm) false i t leads at_home (λ j lives differs. differs)
-      (λ comes. arrive_at (home_of u t i).pc (home_of u t i).pc leads.0 (home_of u t i).pc refl (leads.1.0 ∙ sym at_home.pc) (reached_comes file out board g c pl result r (home_of u t i).pc comes)))
+      (λ comes. arrive_at (home_of u t i).pc (home_of u t i).pc leads.0 (home_of u t i).pc refl (leads.1.0 ∙ sym at_home.pc) (reached (home_of u t i).pc comes)))
 
   -- ---- in words
 
@@ -398,11 +425,11 @@ module _ (file out : List ℕ) (board : Board) (g : Graph) (c : Code) (pl : Chos
           omega (arith, whole, room, count, size)
 
   indirect_form : FormBy Indirect
-  indirect_form (base, (imm, (single, means))) is runs room words next =
+  indirect_form (base, (imm, (single, means))) is runs room words reached =
       let i : Instr = instr.Jalr 0 base imm in
       let x : ℕ = image_word v u in
       let raw : unit.raw ≡ x = unit_raw in
-      let acts : ActsFor p arrive u a i i = (refl, (inl refl, reached_comes file out board g c pl result r)) in
+      let acts : ActsFor p arrive u a i i = (refl, (inl refl, reached)) in
       one_word Indirect (λ t. refl) i single means
       (x, (i, (one_stands x room (words ∙ ap (λ (q : ℕ). q ∷ []) raw), (means, (in_range x i means, by_site (p.site u) i acts)))))
       (λ follows. absurd follows)
@@ -421,18 +448,47 @@ module _ (file out : List ℕ) (board : Board) (g : Graph) (c : Code) (pl : Chos
       (λ follows. next falls)
 
   form_by : (kind : UnitKind) → FormBy kind
-  form_by Plain is at_home runs room words next = plain_form is at_home runs room words next
-  form_by (Upper rd value) is at_home runs room words next = upper_form rd value is at_home runs room words next
-  form_by (Branch kind rs1 rs2 target) is at_home runs room words next = branch_form kind rs1 rs2 target is at_home runs room words next
-  form_by (Jump target) is at_home runs room words next = jump_form target is at_home runs room words next
-  form_by (Call target back link) (begins_there, inl calls) at_home runs room words next =
-      call_form target back link (begin_leads file out board g c pl result target begins_there) calls runs
-  form_by (Call target back link) (begins_there, inr (off, (single, means))) at_home runs room words next =
-      jal_form target back link off (begin_leads file out board g c pl result target begins_there) single means at_home runs
-  form_by (Tail target link) is at_home runs room words next = tail_form target link is at_home runs room words next
-  form_by Indirect is at_home runs room words next = indirect_form is at_home runs room words next
-  form_by (Linking back link base imm) is at_home runs room words next = linking_form back link base imm is at_home runs room words next
-  form_by Halt is at_home runs room words next = absurd is
+  form_by Plain is at_home runs room words comes = plain_form is at_home runs room words comes
+  form_by (Upper rd value) is at_home runs room words comes = upper_form rd value is at_home runs room words comes
+  form_by (Branch kind rs1 rs2 target) is at_home runs room words comes = branch_form kind rs1 rs2 target is at_home runs room words comes
+  form_by (Jump target) is at_home runs room words comes = jump_form target is at_home runs room words comes
+  form_by (Call target back link) (begins_there, inl calls) at_home runs room words comes =
+      call_form target back link (begin_leads file out board g c pl result target begins_there) calls runs comes
+  form_by (Call target back link) (begins_there, inr (off, (single, means))) at_home runs room words comes =
+      jal_form target back link off (begin_leads file out board g c pl result target begins_there) single means at_home runs comes
+  form_by (Tail target link) is at_home runs room words comes = tail_form target link is at_home runs room words comes
+  form_by Indirect is at_home runs room words comes = indirect_form is at_home runs room words comes
+  form_by (Linking back link base imm) is at_home runs room words comes = linking_form back link base imm is at_home runs room words comes
+  form_by Halt is at_home runs room words comes = absurd is
 
-  pub copy_form : FormOver p l live arrive r u a (copy_fetched (kind_in cp b k))
-  copy_form = form_by (kind_in cp b k) kind_is home copy_runs fits copy_words behind
+  pub copy_form : MayArrive (kind_in cp b k) → FormOver p l live arrive r u a (copy_fetched (kind_in cp b k))
+  copy_form comes = form_by (kind_in cp b k) kind_is home copy_runs fits copy_words comes
+
+  -- ---- a branch, from one state
+
+  pub record BranchRuns (kind : UnitKind) (t : State) : Type 0 where
+    pub instr : Instr
+    pub single : is_call_pair v u ≡ false
+    pub means : Means (image_word v u) instr
+    pub row : IsRowKind instr (p.site u)
+    pub run : RunsOver p live arrive u (copy_fetched kind t) t instr
+
+  from_state : (kind : BranchKind) (rs1 rs2 target : ℕ) (t : State) → IsKindOf v c (is_site g) u Falls (Branch kind rs1 rs2 target) → IsHomeOf v (is_site g) u (Branch kind rs1 rs2 target) → CopyRuns cp t a unit (Branch kind rs1 rs2 target) → Either (takes (Branch kind rs1 rs2 target) t.hart.regs) (Branch kind rs1 rs2 target) target → BranchRuns (Branch kind rs1 rs2 target) t
+  from_state kind rs1 rs2 target t (off, (single, (means, (begins_there, falls)))) is runs ways =
+      let i : Instr = instr.Branch kind rs1 rs2 off in
+      record {
+        instr = i;
+        single = single;
+        means = means;
+        row = tt;
+        run =
+            branch_run kind rs1 rs2 target off t (begin_leads file out board g c pl result target begins_there) falls
+            (is.runs (i ∷ []) (mean_one i single means) (hart_at t) refl) runs ways;
+      }
+
+  -- it goes one way, which is all that is asked
+  pub branch_from : (kind : BranchKind) (rs1 rs2 target : ℕ) → kind_in cp b k ≡ Branch kind rs1 rs2 target → (t : State) → IsAt l r a t → Either (takes (Branch kind rs1 rs2 target) t.hart.regs) (Branch kind rs1 rs2 target) target → BranchRuns (Branch kind rs1 rs2 target) t
+  branch_from kind rs1 rs2 target same t here ways =
+      from_state kind rs1 rs2 target t (subst (λ (x : UnitKind). IsKindOf v c (is_site g) u Falls x) same kind_is)
+      (subst (λ (x : UnitKind). IsHomeOf v (is_site g) u x) same home)
+      (subst (λ (x : UnitKind). CopyRuns cp t a unit x) same (copy_runs t here)) ways

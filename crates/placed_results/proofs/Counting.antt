@@ -41,17 +41,17 @@ none_behind (Exited code) rest p s s' ts ended transitions = transitions.0
 none_behind (Trapped pc) rest p s s' ts ended transitions = transitions.0
 none_behind (AddressFault pc why) rest p s s' ts ended transitions = transitions.0
 
-none_ended : (n : ℕ) (p : Program) (s s' : SourceState) (ts : List Transition) → (s.outcome ≡ GoesOn → ⊥) → Transitions p n s ts s' → ts ≡ []
+pub none_ended : (n : ℕ) (p : Program) (s s' : SourceState) (ts : List Transition) → (s.outcome ≡ GoesOn → ⊥) → Transitions p n s ts s' → ts ≡ []
 none_ended zero p s s' ts ended transitions = transitions.0
 none_ended (suc n) p s s' ts ended transitions = none_behind s.outcome (Transitions p n) p s s' ts ended transitions
 
-ended_on : (o : Outcome) → HasEnded o → o ≡ GoesOn → ⊥
+pub ended_on : (o : Outcome) → HasEnded o → o ≡ GoesOn → ⊥
 ended_on GoesOn ended is = ended
 ended_on (Exited code) ended is = absurd (cc)
 ended_on (Trapped pc) ended is = absurd (cc)
 ended_on (AddressFault pc why) ended is = absurd (cc)
 
-one_read : (w : ℕ) (q k : Option Instr) → Reads w q → Reads w k → q ≡ k
+pub one_read : (w : ℕ) (q k : Option Instr) → Reads w q → Reads w k → q ≡ k
 one_read w None None one other = refl
 one_read w None (Some j) one other = absurd (one j other)
 one_read w (Some i) k one other = sym (one_reading w i k one other)
@@ -72,7 +72,7 @@ module _ (file out : List ℕ) (board : Board) (g : Graph) (c : Code) (pl : Chos
   -- ---- one transition
 
   -- the region that control enters at an address is the next one that is counted
-  becomes_counted : (i v r : ℕ) → (transition_at whole i).at ≡ v → BecomesCurrent c pl.regions v (now i) r → r ≡ now (suc i)
+  pub becomes_counted : (i v r : ℕ) → (transition_at whole i).at ≡ v → BecomesCurrent c pl.regions v (now i) r → r ≡ now (suc i)
   becomes_counted i v r at becomes =
       elim (cases_Bool (has (starts_of c) (transition_at whole i).at)) [
         | inl begun ↦

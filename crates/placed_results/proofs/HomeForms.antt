@@ -123,20 +123,20 @@ module _ (file out : List ℕ) (board : Board) (g : Graph) (c : Code) (pl : Chos
         laid (u + 4) 0 (pair_is_code v u pair).1 (second_bare file out board g c pl result u pair)
         (Elsewhere (second_alone file out board g c pl result u pair)) (inl refl)
 
-    home_falls : (i : Instr) → is_call_pair v u ≡ false → Means (image_word v u) i → IsFollowed i → falls_from v u ≡ true → arrive r (u + 4) (u + 4)
-    home_falls i single means follows falls = AtItsHome (next_home r u b k stands runs i single means follows falls)
-
     -- its own words
     abbrev pub home_fetched : State → List ℕ
     home_fetched t = if is_call_pair v u then u ∷ (u + 4) ∷ [] else u ∷ []
 
-    pub home_form : FormOver p l live (arrive r) r u u home_fetched
-    home_form =
+    -- where the flat machine may come to the homes of blocks, and to that of what follows
+    pub home_form : (to : ℕ → ℕ → Type 0) → ((a : ℕ) → is_leader v a ≡ true → to a a) → ((i : Instr) → is_call_pair v u ≡ false → Means (image_word v u) i → IsFollowed i → falls_from v u ≡ true → to (u + 4) (u + 4)) → FormOver p l live to r u u home_fetched
+    home_form to blocks next =
         let code = unit_code file out board g c pl result u b k stands in (
           InWords
-              (home_words p l (arrive r) r u (λ a block. block_comes r a block) (λ a reached. reached_comes r a reached)
-              (λ i single means follows falls. home_falls i single means follows falls)
+              (home_words p l to r u blocks (λ a reached. blocks a (indirect_is_leader v a reached)) next
               (unit_laid file board g result.accepted w l r (sound file out board g c pl result r) refl u code
               (laid u (region_in pl.regions b) code bare (InBlock b k stands) runs) (λ pair. laid_behind pair))),
           record { one = λ single t. rw (single) refl; two = λ pair t. rw (pair) refl },
         )
+
+    pub home_falls : (i : Instr) → is_call_pair v u ≡ false → Means (image_word v u) i → IsFollowed i → falls_from v u ≡ true → arrive r (u + 4) (u + 4)
+    home_falls i single means follows falls = AtItsHome (next_home r u b k stands runs i single means follows falls)

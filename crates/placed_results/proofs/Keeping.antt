@@ -51,7 +51,8 @@ use Rattle.placed_results.specs.PlacedForms.{StandsAs, AtHome, InCopy, InStub, M
 use Rattle.placed_results.proofs.Chosen.{is_overlay, holds_plan, holds_homes, sound}
 use Rattle.placed_results.proofs.Pads.{served, block_arrives}
 use Rattle.placed_results.proofs.Arriving.{IsHeldIn, arrivals}
-use Rattle.placed_results.proofs.HomeForms.{block_comes, home_form}
+use Rattle.placed_results.proofs.FormArrivals.{copy_arrives, stub_arrives}
+use Rattle.placed_results.proofs.HomeForms.{block_comes, home_falls, home_form}
 use Rattle.placed_results.proofs.CopyForms.{copy_form}
 use Rattle.placed_results.proofs.StubForms.{stub_form}
 use Rattle.placed_results.specs.Walks.{unit_fetched}
@@ -133,11 +134,18 @@ module _ (file out : List ℕ) (board : Board) (g : Graph) (c : Code) (pl : Chos
     where
       by_place : (u a : ℕ) (stands : StandsAs c g pl plan u a) → MayRun c pl.regions r u → FormOver p l live (comes r) r u a (λ t. unit_fetched p c g pl plan t.hart.regs u a stands)
       by_place _ _ (AtHome u b k stands bare) may =
-          home_form file out board g c pl result r u b k stands bare (runs r u b k stands may)
+          let runs_there : RunsIn pl.regions b r = runs r u b k stands may in
+          home_form file out board g c pl result r u b k stands bare runs_there (comes r)
+          (λ x leads. block_comes file out board g c pl result r x leads)
+          (λ i single means follows falls. home_falls file out board g c pl result r u b k stands bare runs_there i single means follows falls)
       by_place _ _ (InCopy u n b k inside held stands) may =
-          copy_form file out board g c pl result r u n b k inside held stands (runs r u b k stands may)
+          let runs_there : RunsIn pl.regions b r = runs r u b k stands may in
+          copy_form file out board g c pl result r u n b k inside held stands runs_there (comes r)
+          (copy_arrives file out board g c pl result r u n b k inside held stands runs_there)
       by_place _ _ (InStub u b stub stands listed serves uncopied) may =
-          stub_form file out board g c pl result r u b stub stands listed serves uncopied (runs r u b 0 stands may)
+          let runs_there : RunsIn pl.regions b r = runs r u b 0 stands may in
+          stub_form file out board g c pl result r u b stub stands listed serves uncopied runs_there (comes r)
+          (stub_arrives file out board g c pl result r u b stub stands listed serves uncopied runs_there)
 
   abbrev pub forms : (r u a : ℕ) → form r u a → FormAt p l live (comes r) r u a
   forms r u a at = (forms_over r u a at).0

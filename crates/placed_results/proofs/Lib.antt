@@ -25,6 +25,7 @@ pub mod Arriving
 pub mod StubWords
 pub mod StubRows
 pub mod StubForms
+pub mod FormArrivals
 pub mod Coming
 pub mod Keeping
 pub mod Matching

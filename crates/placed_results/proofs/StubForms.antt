@@ -12,6 +12,7 @@ use Rattle.flat_machine.specs.State.{State}
 use Rattle.loaded_file.specs.Code.{image_word}
 use Rattle.object_graph.specs.declared.parts.Graph.{Graph}
 use Rattle.code_leaders.specs.Leaders.{is_call_pair, is_leader}
+use Rattle.code_leaders.proofs.LeaderLemmas.{indirect_is_leader}
 use Rattle.code_blocks.specs.declared.parts.Unit.{Unit}
 use Rattle.code_blocks.specs.declared.parts.Code.{Code}
 use Rattle.block_splitter.specs.declared.unit_kind.UnitKind.{UnitKind}
@@ -38,11 +39,9 @@ use Rattle.held_addresses.specs.Entries.{RunsIn}
 use Rattle.result_placements.specs.ChosenPlacement.{ChosenPlacement}
 use Rattle.result_placements.specs.PlacedView.{IsUncopied, Serves}
 use Rattle.placed_results.specs.Laws.{IsPlacedResult, setup_of}
-use Rattle.placed_results.specs.PlacedForms.{ArrivesHome, ArrivesAt, AtItsHome, BehindStub}
 use Rattle.placed_results.proofs.Blocks.{unit_low}
 use Rattle.placed_results.specs.Walks as walks
 use Rattle.placed_results.proofs.Fetches.{FormOver}
-use Rattle.placed_results.proofs.HomeForms as homes
 use Rattle.placed_results.proofs.StubRows as rows
 use Rattle.placed_results.proofs.StubWords as stubs
 use Rattle.placed_results.proofs.UnitForms as parts
@@ -63,12 +62,9 @@ module _ (file out : List ℕ) (board : Board) (g : Graph) (c : Code) (pl : Chos
   abbrev plan : OverlayPlan
   plan = result.view.plan
 
-  module _ (r u b : ℕ) (stub : ServingStub) (stands : StandsThere c u b 0) (listed : Contains plan.stubs stub) (serves : Serves c g pl (served.body_at plan stub) b stub) (uncopied : IsUncopied pl b) (runs : RunsIn pl.regions b r) where
+  module _ (r u b : ℕ) (stub : ServingStub) (stands : StandsThere c u b 0) (listed : Contains plan.stubs stub) (serves : Serves c g pl (served.body_at plan stub) b stub) (uncopied : IsUncopied pl b) (runs : RunsIn pl.regions b r) (arrive : ℕ → ℕ → Type 0) where
     abbrev a : ℕ
     a = served.body_at plan stub
-
-    abbrev arrive : ℕ → ℕ → Type 0
-    arrive x d = ArrivesAt c g pl plan r x d
 
     abbrev unit : Unit
     unit = unit_at c b 0
@@ -86,12 +82,20 @@ module _ (file out : List ℕ) (board : Board) (g : Graph) (c : Code) (pl : Chos
     low : u + 4 < 4294967296
     low = unit_low file out board g c pl result u b 0 stands
 
-    block_comes : (x : ℕ) → is_leader v x ≡ true → arrive x x
-    block_comes x leads = homes.block_comes file out board g c pl result r x leads
+    -- ---- where it leads
 
-    home_falls : (i : Instr) → is_call_pair v u ≡ false → Means (image_word v u) i → IsFollowed i → falls_from v u ≡ true → ArrivesHome c g pl plan r (u + 4)
-    home_falls i single means follows falls =
-        homes.next_home file out board g c pl result r u b 0 stands runs i single means follows falls
+    -- to the homes of blocks; and to what follows, at an address
+    abbrev pub Blocks : Type 0
+    Blocks = (x : ℕ) → is_leader v x ≡ true → arrive x x
+
+    abbrev pub Follows : ℕ → Type 0
+    Follows to =
+        (i : Instr) → is_call_pair v u ≡ false → Means (image_word v u) i → IsFollowed i → falls_from v u ≡ true → arrive (u + 4) to
+
+    -- the flat machine may come wherever a unit of a kind leads: behind one that doesn't jump to its second word
+    abbrev pub MayArrive : UnitKind → Type 0
+    MayArrive Plain = Follows (a + 4)
+    MayArrive kind = Blocks × Follows (u + 4)
 
     -- ---- in words
 
@@ -108,7 +112,7 @@ module _ (file out : List ℕ) (board : Board) (g : Graph) (c : Code) (pl : Chos
     abbrev FormBy : UnitKind → Type 0
     FormBy kind =
         IsKindBy v c (is_site g) u (Prim.Unit {0}) (Halts v u) kind → IsHomeUnlessHalt v (is_site g) u kind
-        → ((t : State) → IsAt l r a t → DisplacedRuns pl.sites t a unit kind words) → IsDisplaced pl.sites a unit kind words → Form kind
+        → ((t : State) → IsAt l r a t → DisplacedRuns pl.sites t a unit kind words) → IsDisplaced pl.sites a unit kind words → MayArrive kind → Form kind
 
     at_unit : unit.at ≡ u
     at_unit = stubs.at_unit file out board g c pl result u b stub stands listed serves uncopied
@@ -121,11 +125,11 @@ module _ (file out : List ℕ) (board : Board) (g : Graph) (c : Code) (pl : Chos
     by_site i j acts means x there means_j = (x, (j, (there, (means_j, (in_range (image_word v u) i means, acts (p.site u))))))
 
     indirect_form : FormBy Indirect
-    indirect_form (base, (imm, (single, means))) is runs_there displaced =
+    indirect_form (base, (imm, (single, means))) is runs_there displaced comes =
         let i : Instr = instr.Jalr 0 base imm in
         let x : ℕ = image_word v u in
         let one : words ≡ x ∷ [] = displaced ∙ ap (λ (q : ℕ). q ∷ []) raw_unit in
-        let acts : ActsFor p arrive u a i i = (refl, (inl refl, λ x reached. homes.reached_comes file out board g c pl result r x reached)) in
+        let acts : ActsFor p arrive u a i i = (refl, (inl refl, λ x reached. comes.0 x (indirect_is_leader v x reached))) in
         parts.one_word file board g result.accepted l live arrive r u a low (own_fetched Indirect) i single (λ t. refl) means
         (by_site i i (jumps i acts) means x (first_stands x [] one) means) (λ follows. absurd follows)
       where
@@ -134,7 +138,7 @@ module _ (file out : List ℕ) (board : Board) (g : Graph) (c : Code) (pl : Chos
         jumps i acts (Some t) = acts
 
     halt_form : FormBy Halt
-    halt_form (single, halts) is runs_there displaced =
+    halt_form (single, halts) is runs_there displaced comes =
         let x : ℕ = image_word v u in
         let there : StandsAt l r a x = first_stands x [] (displaced ∙ ap (λ (q : ℕ). q ∷ []) raw_unit) in
         parts.by_words file board g result.accepted l live arrive r u a low (own_fetched Halt) single (λ t. refl) (by_read there halts)
@@ -155,8 +159,8 @@ module _ (file out : List ℕ) (board : Board) (g : Graph) (c : Code) (pl : Chos
             subst (λ (q : Instr). OneWordFor p l arrive r u a (Some q)) (same_instruction (image_word v u) instr.Ebreak i ebreak reads)
             (by_site instr.Ebreak instr.Ebreak ends ebreak (image_word v u) there ebreak)
 
-    plain_form : stubs.kind file out board g c pl result u b stub stands listed serves uncopied ≡ Plain → FormBy Plain
-    plain_form plain (i, (single, (means, (straight, falls)))) is runs_there displaced =
+    plain_form : FormBy Plain
+    plain_form (i, (single, (means, (straight, falls)))) is runs_there displaced comes =
         let x : ℕ = word_of_unit pl.sites unit in
         let same : word_of_unit pl.sites (code_unit c b 0) ≡ x =
         ap (λ (q : Unit). word_of_unit pl.sites q) (stubs.same_unit file out board g c pl result u b stub stands listed serves uncopied) in
@@ -165,9 +169,7 @@ module _ (file out : List ℕ) (board : Board) (g : Graph) (c : Code) (pl : Chos
         let behind : a + 4 ≡ plus a 4 = omega (arith, whole, count) in
         parts.one_word file board g result.accepted l live arrive r u a low (own_fetched Plain) i single (λ t. refl) means
         (parts.plain_word file out board g c pl result arrive r u a b 0 stands runs i means straight x same (first_stands x (displaced.jump ∷ []) displaced.words))
-        (λ follows on.
-        subst (λ (q : ℕ). arrive (u + 4) q) behind
-        (BehindStub u b stub stands listed serves uncopied plain refl (home_falls i single means follows on)))
+        (λ follows on. subst (λ (q : ℕ). arrive (u + 4) q) behind (comes i single means follows on))
 
     -- ---- in a row
 
@@ -180,32 +182,31 @@ module _ (file out : List ℕ) (board : Board) (g : Graph) (c : Code) (pl : Chos
     told_at kind there t here =
         subst (λ (q : ℕ). RowRuns t kind (λ k. ⊥) (displaced_fetched a (takes kind t.hart.regs) kind) (next_after (q + 4) kind t.hart.regs)) at_unit (there t here)
 
-    next_comes : (i : Instr) → is_call_pair v u ≡ false → Means (image_word v u) i → IsFollowed i → falls_from v u ≡ true → arrive (u + 4) (u + 4)
-    next_comes i single means follows falls = AtItsHome (home_falls i single means follows falls)
+    form_by : (kind : UnitKind) → FormBy kind
+    form_by Plain is home there displaced comes = plain_form is home there displaced comes
+    form_by (Upper rd value) is home there displaced comes =
+        rows.upper_form file board g c result.accepted l live arrive r u a low comes.0 comes.1 rd value is home (told_at (Upper rd value) there)
+    form_by (Branch kind rs1 rs2 target) is home there displaced comes =
+        rows.branch_form file board g c result.accepted l live arrive r u a low comes.0 comes.1 kind rs1 rs2 target is home (told_at (Branch kind rs1 rs2 target) there)
+    form_by (Jump target) is home there displaced comes =
+        rows.jump_form file board g c result.accepted l live arrive r u a low comes.0 comes.1 target is home (told_at (Jump target) there)
+    form_by (Call target back link) (begins_there, inl calls) home there displaced comes =
+        rows.call_form file board g c result.accepted l live arrive r u a low comes.0 comes.1 target back link calls (told_at (Call target back link) there)
+    form_by (Call target back link) (begins_there, inr (off, (single, means))) home there displaced comes =
+        rows.jal_form file board g c result.accepted l live arrive r u a low comes.0 comes.1 target back link off single means home (told_at (Call target back link) there)
+    form_by (Tail target link) is home there displaced comes =
+        rows.tail_form file board g c result.accepted l live arrive r u a low comes.0 comes.1 target link is home (told_at (Tail target link) there)
+    form_by Indirect is home there displaced comes = indirect_form is home there displaced comes
+    form_by (Linking back link base imm) is home there displaced comes =
+        rows.linking_form file board g c result.accepted l live arrive r u a low comes.0 comes.1 back link base imm is home (told_at (Linking back link base imm) there)
+    form_by Halt is home there displaced comes = halt_form is home there displaced comes
 
-    form_by : (kind : UnitKind) → stubs.kind file out board g c pl result u b stub stands listed serves uncopied ≡ kind → FormBy kind
-    form_by Plain same is home there displaced = plain_form same is home there displaced
-    form_by (Upper rd value) same is home there displaced =
-        rows.upper_form file board g c result.accepted l live arrive r u a low block_comes next_comes rd value is home (told_at (Upper rd value) there)
-    form_by (Branch kind rs1 rs2 target) same is home there displaced =
-        rows.branch_form file board g c result.accepted l live arrive r u a low block_comes next_comes kind rs1 rs2 target is home (told_at (Branch kind rs1 rs2 target) there)
-    form_by (Jump target) same is home there displaced =
-        rows.jump_form file board g c result.accepted l live arrive r u a low block_comes next_comes target is home (told_at (Jump target) there)
-    form_by (Call target back link) same (begins_there, inl calls) home there displaced =
-        rows.call_form file board g c result.accepted l live arrive r u a low block_comes next_comes target back link calls (told_at (Call target back link) there)
-    form_by (Call target back link) same (begins_there, inr (off, (single, means))) home there displaced =
-        rows.jal_form file board g c result.accepted l live arrive r u a low block_comes next_comes target back link off single means home (told_at (Call target back link) there)
-    form_by (Tail target link) same is home there displaced =
-        rows.tail_form file board g c result.accepted l live arrive r u a low block_comes next_comes target link is home (told_at (Tail target link) there)
-    form_by Indirect same is home there displaced = indirect_form is home there displaced
-    form_by (Linking back link base imm) same is home there displaced =
-        rows.linking_form file board g c result.accepted l live arrive r u a low block_comes next_comes back link base imm is home (told_at (Linking back link base imm) there)
-    form_by Halt same is home there displaced = halt_form is home there displaced
+    abbrev pub own_kind : UnitKind
+    own_kind = stubs.kind file out board g c pl result u b stub stands listed serves uncopied
 
-    pub stub_form : Form (stubs.kind file out board g c pl result u b stub stands listed serves uncopied)
-    stub_form =
-        form_by (stubs.kind file out board g c pl result u b stub stands listed serves uncopied) refl
-        (stubs.kind_is file out board g c pl result u b stub stands listed serves uncopied)
+    pub stub_form : MayArrive own_kind → Form own_kind
+    stub_form comes =
+        form_by own_kind (stubs.kind_is file out board g c pl result u b stub stands listed serves uncopied)
         (stubs.home_is file out board g c pl result u b stub stands listed serves uncopied)
         (λ t here. stubs.stub_runs file out board g c pl result u b stub stands listed serves uncopied r t here)
-        (stubs.has_words file out board g c pl result u b stub stands listed serves uncopied).form
+        (stubs.has_words file out board g c pl result u b stub stands listed serves uncopied).form comes

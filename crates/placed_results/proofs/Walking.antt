@@ -71,7 +71,7 @@ form_more p l live arrive first last r u a t (InRow row) more told =
     }
 
 -- what is told of a run that ends in no fault
-fine_told : (o : Outcome) (tells : List FlatEvent → Type 0) (es : List FlatEvent) → IsNoFault o → Tells o tells es → tells es
+pub fine_told : (o : Outcome) (tells : List FlatEvent → Type 0) (es : List FlatEvent) → IsNoFault o → Tells o tells es → tells es
 fine_told GoesOn tells es fine told = told
 fine_told (Exited code) tells es fine told = told
 fine_told (Trapped pc) tells es fine told = told
