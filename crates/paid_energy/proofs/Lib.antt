@@ -1,0 +1,4 @@
+pub mod CostLemmas
+pub mod RunLemmas
+pub mod InwardLemmas
+pub mod Listed

@@ -1,0 +1,138 @@
+-- The pieces of which a choice copies blocks, and their entries.
+use Rattle.std.proofs.Common.{◌≡◌, ◌∙◌, ◌⊎◌, inl, inr, ℕ, zero, suc, ◌+◌, ◌<◌, ◌≤◌, ◌==◌, Bool, true, false, ◌&&◌, if◌then◌else◌, List, [], ◌∷◌, map, drop, length, get_or, Option, Some, None, IsSomeAnd, IfSome, refl, sym, ap, arith}
+use Rattle.std.specs.List.{All}
+use Rattle.std.specs.List.Sorted.{IsStrictlyIncreasing}
+use Rattle.std.proofs.lemmas.Bool.Decides.{nat_tests}
+use Rattle.list_checks.specs.Sorted.{collected}
+use Rattle.list_checks.specs.Tests.{any_below}
+use Rattle.list_checks.proofs.TestLemmas.{both, same_tests, any_at, any_found}
+use Rattle.list_checks.proofs.SortedLemmas.{any_collected}
+use Rattle.board_config.specs.declared.board.Board.{Board}
+use Rattle.object_graph.specs.declared.parts.Graph.{Graph}
+use Rattle.code_leaders.specs.Early.{has}
+use Rattle.code_blocks.specs.declared.parts.Code.{Code}
+use Rattle.region_former.specs.declared.table.RegionTable.{RegionTable}
+use Rattle.block_splitter.specs.declared.block_range.BlockRange.{BlockRange}
+use Rattle.block_splitter.specs.declared.piece.Piece.{Piece}
+use Rattle.block_splitter.specs.Forms.{holds_block}
+use Rattle.block_splitter.specs.Pieces.{is_entry, range_of, IsPiece}
+use Rattle.placement_programme.specs.Bounds.{AscendWithin}
+use Rattle.placement_programme.specs.Plain.{PlainVar, PlainSide, PlainProgramme, PlainChoice}
+use Rattle.placement_programme.specs.Programme.{Fits, side_for}
+use Rattle.placement_programme.specs.Rows.{Part, Candidate, static_data, static_code, overlay_data, overlay_code, kept_data, name_of}
+use Rattle.energy_model.specs.Energy.{piece_in, covering, piece_of}
+use Rattle.placement_candidates.specs.Adding.{no_kept, kept_name}
+use Rattle.overlay_candidates.specs.Whole.{names_of, taken_of as names_taken}
+use Rattle.result_placements.specs.Choices.{IsOfPiece, IsCandidateFor, IsVarFor, IsSideFor, IsChoiceFor}
+use Rattle.relink_core.proofs.BlockOrder.{collected_are}
+use Rattle.paid_energy.specs.Inward.{IsListed}
+
+-- ---- entries
+
+pub entries_ascend : (test : ℕ → Bool) (n : ℕ) → IsStrictlyIncreasing (collected test (λ b. b) n)
+entries_ascend test n k below = (collected_are test n).rise k (k + 1) 0 (omega arith) (omega (arith, below))
+
+has_collected : (test : ℕ → Bool) (n b : ℕ) → b < n → has (collected test (λ b. b) n) b ≡ test b
+has_collected test n b below =
+    any_collected test (λ k. k) (λ x. b == x) n
+    ∙ same_tests (any_below (λ i. test i && (b == i)) n) (test b)
+    (λ some. let (k, less, is) = any_found (λ i. test i && (b == i)) n some in
+    let parts = both (test k) (b == k) is in
+    let same : b ≡ k = grind (arith, nat_tests, parts.1) in
+    rw same parts.0)
+    (λ passes. let here : (b == b) ≡ true = grind (arith, nat_tests) in
+    any_at (λ i. test i && (b == i)) n b below (rw (passes, here) refl))
+
+-- a piece tells by which of its blocks control may enter
+pub tells_entry : (c : Code) (g : Graph) (p : Piece) (b : ℕ) → IsPiece c g p → b < length c.blocks.items → holds_block b (range_of p) ≡ true → has p.entries.items b ≡ is_entry c (range_of p) b
+tells_entry c g p b piece below held =
+    ap (λ entries. has entries b) piece.entries
+    ∙ has_collected (λ k. holds_block k (range_of p) && is_entry c (range_of p) k) (length c.blocks.items) b below
+    ∙ ap (λ t. t && is_entry c (range_of p) b) held
+
+-- ---- the piece of a block
+
+abbrev after : List PlainVar → List ℕ → ℕ → Option BlockRange
+after vars take b = piece_of (map (kept_name vars) take) b
+
+-- a variable that copies the block not leaves it to those behind
+pub passed_on : (vars : List PlainVar) (take : List ℕ) (k d b : ℕ) → k < length take
+    → ((other : Option BlockRange) → covering b (piece_in (kept_name vars (get_or take k d))) other ≡ other)
+    → after vars (drop k take) b ≡ after vars (drop (k + 1) take) b
+passed_on vars [] k d b below keeps = absurd (omega (arith, below))
+passed_on vars (n ∷ ns) zero d b below keeps = keeps (after vars ns b)
+passed_on vars (n ∷ ns) (suc k) d b below keeps =
+    let order : suc (k + 1) ≡ suc k + 1 = omega arith in
+    passed_on vars ns k d b (omega (arith, below)) keeps ∙ ap (λ j. after vars (drop j (n ∷ ns)) b) order
+
+pub found_there : (vars : List PlainVar) (take : List ℕ) (k d b : ℕ) (range : BlockRange) → k < length take
+    → ((other : Option BlockRange) → covering b (piece_in (kept_name vars (get_or take k d))) other ≡ Some range)
+    → after vars (drop k take) b ≡ Some range
+found_there vars [] k d b range below covers = absurd (omega (arith, below))
+found_there vars (n ∷ ns) zero d b range below covers = covers (after vars ns b)
+found_there vars (n ∷ ns) (suc k) d b range below covers = found_there vars ns k d b range (omega (arith, below)) covers
+
+pub none_left : (vars : List PlainVar) (take : List ℕ) (k b : ℕ) → length take ≤ k → after vars (drop k take) b ≡ None
+none_left vars [] zero b all = refl
+none_left vars [] (suc k) b all = refl
+none_left vars (n ∷ ns) zero b all = absurd (omega (arith, all))
+none_left vars (n ∷ ns) (suc k) b all = none_left vars ns k b (omega (arith, all))
+
+-- ---- it is one of the pieces of the program
+
+abbrev range_or : BlockRange → Option BlockRange → BlockRange
+range_or range None = range
+range_or range (Some found) = found
+
+one_range : (range other : BlockRange) → Some range ≡ Some other → range ≡ other
+one_range range other same = ap (range_or range) same
+
+absurd_none : {A : Type 0} (x : A) → None ≡ Some x → ⊥
+absurd_none x is = cc (is)
+
+module _ (board : Board) (g : Graph) (c : Code) (t : RegionTable) (pieces : List Piece) where
+  part_listed : (part : Part) (test : ℕ → Type 0) (range : BlockRange) → IsOfPiece g c t pieces part test → ◌≡◌ {A = BlockRange} (record { first = part.first; last = part.last }) range → IsListed pieces range
+  part_listed part test range of same =
+      let own : range_of of.piece ≡ record { first = part.first; last = part.last } = λ i. record { first = sym of.part_is.first i; last = sym of.part_is.last i } in
+      (of.piece, (of.listed, own ∙ same))
+
+  candidate_listed : (d : Candidate) (range : BlockRange) → IsCandidateFor board g c t pieces d → piece_in (name_of d) ≡ Some range → IsListed pieces range
+  candidate_listed (static_data d) range is found = absurd (absurd_none range found)
+  candidate_listed (static_code part) range is found = part_listed part (λ b. Unit {0}) range is (one_range (record { first = part.first; last = part.last }) range found)
+  candidate_listed (overlay_data r d) range is found = absurd (absurd_none range found)
+  candidate_listed (overlay_code r part) range is found = part_listed part _ range is.1 (one_range (record { first = part.first; last = part.last }) range found)
+  candidate_listed (kept_data pair d) range is found = absurd (absurd_none range found)
+
+  covered : (b : ℕ) (own rest : Option BlockRange) (range : BlockRange) → covering b own rest ≡ Some range → (own ≡ Some range) ⊎ (rest ≡ Some range)
+  covered b None rest range found = inr found
+  covered b (Some piece) rest range found = by (holds_block b piece) found
+    where
+      by : (held : Bool) → (if held then Some piece else rest) ≡ Some range → (Some piece ≡ Some range) ⊎ (rest ≡ Some range)
+      by true is = inl is
+      by false is = inr is
+
+  side_listed : (on : Bool) (vars : List PlainVar) (low : ℕ) (take : List ℕ) (b : ℕ) (range : BlockRange) → All (IsVarFor on board g c t pieces) vars → AscendWithin low (length vars) take → after vars take b ≡ Some range → IsListed pieces range
+  side_listed on vars low [] b range all numbers found = absurd (absurd_none range found)
+  side_listed on vars low (n ∷ ns) b range all numbers found =
+      elim (covered b (piece_in (kept_name vars n)) (after vars ns b) range found) [
+        | inl own ↦
+            let is = all n no_kept numbers.1 in
+            candidate_listed is.candidate range is.is (ap piece_in (sym is.name) ∙ own)
+        | inr rest ↦ side_listed on vars (suc n) ns b range all numbers.2 rest
+      ]
+
+  listed_on : (on : Bool) (side : Option PlainSide) (take : List ℕ) (b : ℕ) (range : BlockRange) → IsSomeAnd side (IsSideFor on board g c t pieces) → IsSomeAnd side (λ s. Fits s take) → piece_of (names_of side take) b ≡ Some range → IsListed pieces range
+  listed_on on None take b range is fits found = absurd is
+  listed_on on (Some side) take b range is fits found = side_listed on side.vars 0 take b range is.vars fits.numbers found
+
+-- the blocks among which a choice copies a block are those of a piece
+pub piece_listed : (board : Board) (g : Graph) (c : Code) (t : RegionTable) (pieces : List Piece) (p : PlainProgramme) (choice : PlainChoice) (b : ℕ) (range : BlockRange)
+    → IsChoiceFor board g c t pieces p choice → piece_of (names_taken p choice).names b ≡ Some range → IsListed pieces range
+piece_listed board g c t pieces p choice b range is found =
+    listed_on board g c t pieces choice.on (side_for p choice.on) choice.take b range is.side is.feasible found
+
+-- if the block is copied
+pub some_listed : (board : Board) (g : Graph) (c : Code) (t : RegionTable) (pieces : List Piece) (p : PlainProgramme) (choice : PlainChoice) (b : ℕ) (found : Option BlockRange)
+    → IsChoiceFor board g c t pieces p choice → found ≡ piece_of (names_taken p choice).names b → IfSome found (IsListed pieces)
+some_listed board g c t pieces p choice b None is same = tt
+some_listed board g c t pieces p choice b (Some range) is same = piece_listed board g c t pieces p choice b range is (sym same)

@@ -1,0 +1,202 @@
+ghost use Rattle.std.specs.Prelude.{◌≡◌, ℕ, ◌<◌, true, false, not, ◌&&◌, List, map, length, slice_index_or, Option, Some, IfSome, MatchOption, MatchBool};
+ghost use Rattle.object_graph.specs.declared.parts.Graph.{Graph};
+ghost use Rattle.placement_programme.specs.Bounds.{AscendWithin};
+ghost use Rattle.placement_programme.specs.Plain.{plain_var};
+ghost use Rattle.placement_programme.specs.Programme.{IsFeasible};
+ghost use Rattle.placement_programme.specs.Views.{plain_programme, plain_choice};
+ghost use Rattle.profile_runner.specs.Transition.{Transition};
+ghost use Rattle.code_blocks.specs.Numbers.{end_at};
+ghost use Rattle.block_splitter.specs.Forms.{holds_block};
+ghost use Rattle.block_splitter.specs.Pieces.{is_entry, range_of, IsPiece, ArePieces};
+ghost use Rattle.energy_model.specs.Energy.{piece_in, covering, piece_of};
+ghost use Rattle.energy_model.specs.Scenes.{scene_of, AreOfSameFile};
+ghost use Rattle.placement_candidates.specs.Adding.{kept_name};
+ghost use Rattle.overlay_candidates.specs.Whole.{taken_of as names_taken};
+ghost use Rattle.result_placements.specs.Choices.{IsChoiceFor};
+ghost use Rattle.relink_core.specs.Choices.{IsAnalysisOf};
+ghost use Rattle.paid_energy.specs.Inward.{calls, is_within, is_inward, inward_count, counted_inward, IsListed};
+
+use block_splitter::{BlockRange, Piece};
+use board_config::Board;
+use code_blocks::{Code, End};
+use code_leaders::has_address;
+use energy_model::holds;
+use placement_programme::{Choice, Programme, Var, VarName};
+use profile_runner::{Edge, Profile};
+use region_former::RegionTable;
+use relink_core::Analysis;
+use rv_decode::one_instruction;
+
+/// Whether a block ends in a call that names where it leads, or in one that doesn't come back.
+fn calls(end: &End) -> bool
+    ensures { result ≡ calls end.now }
+{
+    match end {
+        End::Call { .. } | End::Tail { .. } => true,
+        End::Fall { .. }
+        | End::Branch { .. }
+        | End::Jump { .. }
+        | End::Indirect { .. }
+        | End::Stop => { false }
+    }
+}
+
+/// Whether a block of a code ends so.
+fn block_calls(code: &Code, b: u32) -> bool
+    requires { b < length code.now.blocks.items }
+    ensures { result ≡ calls (end_at code.now b) }
+{
+    calls(&code.blocks[b as usize].end)
+}
+
+/// The blocks that a variable copies, if block `b` is among them.
+fn copied_with(name: VarName, b: u32) -> Option<BlockRange>
+    ensures { MatchOption result ((other : Option BlockRange) → covering b (piece_in name) other ≡ other) (λ range. (other : Option BlockRange) → covering b (piece_in name) other ≡ Some range) }
+{
+    match name {
+        VarName::StaticCode { first, last } | VarName::OverlayCode { first, last, .. } => {
+            let range = BlockRange { first, last };
+            if holds(&range, b) { Some(range) } else { None }
+        }
+        VarName::StaticData { .. } | VarName::OverlayData { .. } | VarName::KeptData { .. } => {
+            None
+        }
+    }
+}
+
+/// The name of variable `number`.
+fn name_of(vars: &[Var], number: u32) -> VarName
+    requires { number < length vars.now }
+    ensures { result ≡ kept_name (map plain_var vars.now) number }
+{
+    vars[number as usize].name
+}
+
+/// The blocks among which block `b` is copied, if it is, where these variables are taken.
+fn piece_in_side(vars: &[Var], take: &[u32], b: u32) -> Option<BlockRange>
+    requires { AscendWithin 0 (length vars.now) take.now }
+    ensures { result ≡ piece_of (map (kept_name (map plain_var vars.now)) take.now) b }
+{
+    for k in 0..take.len() {
+        match copied_with(name_of(vars, take[k]), b) {
+            Some(range) => return Some(range),
+            None => {}
+        }
+    }
+    None
+}
+
+/// The same for what a choice takes.
+fn piece_of(p: &Programme, c: &Choice, b: u32) -> Option<BlockRange>
+    requires { IsFeasible (plain_programme p.now) (plain_choice c.now) }
+    ensures { result ≡ piece_of (names_taken (plain_programme p.now) (plain_choice c.now)).names b }
+{
+    if !c.on {
+        return piece_in_side(&p.off.vars, &c.take, b);
+    }
+    match &p.on {
+        Some(side) => piece_in_side(&side.vars, &c.take, b),
+        None => None,
+    }
+}
+
+/// Whether a piece is of these blocks.
+fn is_of(piece: &Piece, range: &BlockRange) -> bool
+    ensures { MatchBool result (range_of piece.now ≡ range.now) (range_of piece.now ≡ range.now → ⊥) }
+{
+    piece.first == range.first && piece.last == range.last
+}
+
+/// Whether control may come to block `b` of a piece from outside.
+fn piece_enters(piece: &Piece, b: u32) -> bool
+    requires { (c : Code) × ((g : Graph) × (IsPiece c g piece.now × ((b < length c.blocks.items) × (holds_block b (range_of piece.now) ≡ true)))) }
+    ensures { (c : Code) (g : Graph) → IsPiece c g piece.now → b < length c.blocks.items → holds_block b (range_of piece.now) ≡ true → result ≡ is_entry c (range_of piece.now) b }
+{
+    has_address(&piece.entries, b)
+}
+
+/// Whether control may come to block `b` of these blocks, which are those of a piece, from outside.
+fn is_entry(pieces: &[Piece], range: &BlockRange, b: u32) -> bool
+    requires listed { IsListed pieces.now range.now }
+    requires are { (c : Code) × ((g : Graph) × (ArePieces c g pieces.now × ((b < length c.blocks.items) × (holds_block b range.now ≡ true)))) }
+    ensures { (c : Code) (g : Graph) → ArePieces c g pieces.now → b < length c.blocks.items → holds_block b range.now ≡ true → result ≡ is_entry c range.now b }
+{
+    for k in 0..pieces.len() {
+        let piece = &pieces[k];
+        if is_of(piece, range) {
+            return piece_enters(piece, b);
+        }
+    }
+    false
+}
+
+/// Whether block `b` is of these blocks too, if there are some, and control comes to it from nowhere outside.
+fn is_within(pieces: &[Piece], piece: &Option<BlockRange>, b: u32) -> bool
+    requires listed { IfSome piece.now (IsListed pieces.now) }
+    requires are { (c : Code) × ((g : Graph) × (ArePieces c g pieces.now × (b < length c.blocks.items))) }
+    ensures { (c : Code) (g : Graph) → ArePieces c g pieces.now → b < length c.blocks.items → result ≡ is_within c piece.now b }
+{
+    match piece {
+        Some(range) => holds(range, b) && !is_entry(pieces, range, b),
+        None => false,
+    }
+}
+
+/// Whether a check is made at block `b`.
+fn is_checked(regions: &RegionTable, on: bool, b: u32) -> bool
+    requires { b < length regions.now.border.items }
+    ensures { result ≡ (on && slice_index_or regions.now.border.items b false) }
+{
+    on && regions.border[b as usize]
+}
+
+/// Whether an edge leads to a block of the piece that a choice takes of the one that it leaves, and no pad stands there.
+fn is_unpadded(a: &Analysis, p: &Programme, c: &Choice, edge: &Edge) -> bool
+    requires analysis { (file : List ℕ) × ((board : Board) × (IsAnalysisOf file board a.now × IsChoiceFor board a.now.graph a.now.code a.now.regions a.now.pieces.items (plain_programme p.now) (plain_choice c.now))) }
+    requires to { edge.now.to < length a.now.code.blocks.items }
+    ensures { result ≡ (is_within a.now.code (piece_of (names_taken (plain_programme p.now) (plain_choice c.now)).names edge.now.from) edge.now.to && not (c.now.on && slice_index_or a.now.regions.border.items edge.now.to false)) }
+{
+    let piece = piece_of(p, c, edge.from);
+    is_within(&a.pieces, &piece, edge.to) && !is_checked(&a.regions, c.on, edge.to)
+}
+
+/// Whether an edge is an inward call.
+fn is_inward(a: &Analysis, p: &Programme, c: &Choice, edge: &Edge) -> bool
+    requires analysis { (file : List ℕ) × ((board : Board) × (IsAnalysisOf file board a.now × IsChoiceFor board a.now.graph a.now.code a.now.regions a.now.pieces.items (plain_programme p.now) (plain_choice c.now))) }
+    requires from { edge.now.from < length a.now.code.blocks.items }
+    requires to { edge.now.to < length a.now.code.blocks.items }
+    ensures { (board : Board) → result ≡ is_inward (scene_of a.now.graph a.now.code a.now.regions board) a.now.code (names_taken (plain_programme p.now) (plain_choice c.now)) edge.now.from edge.now.to }
+{
+    block_calls(&a.code, edge.from) && is_unpadded(a, p, c, edge)
+}
+
+/// How often an edge was taken, if it is an inward call, and else 0.
+fn inward_count(a: &Analysis, p: &Programme, c: &Choice, edge: &Edge) -> u64
+    requires analysis { (file : List ℕ) × ((board : Board) × (IsAnalysisOf file board a.now × IsChoiceFor board a.now.graph a.now.code a.now.regions a.now.pieces.items (plain_programme p.now) (plain_choice c.now))) }
+    requires from { edge.now.from < length a.now.code.blocks.items }
+    requires to { edge.now.to < length a.now.code.blocks.items }
+    ensures { (board : Board) → result ≡ inward_count (scene_of a.now.graph a.now.code a.now.regions board) a.now.code (names_taken (plain_programme p.now) (plain_choice c.now)) edge.now }
+{
+    if is_inward(a, p, c, edge) {
+        edge.count
+    } else {
+        0
+    }
+}
+
+/// How many calls of the profiled run are inward: those that stay in a piece that a choice takes and find no pad where they
+/// lead. Their copies lead home, and there the block runs in main memory, though the energy of the choice counts it in the
+/// copy.
+pub fn inward(profile: &Profile, a: &Analysis, board: &Board, p: &Programme, c: &Choice) -> u64
+    requires same { (transitions : List Transition) × AreOfSameFile a.now.view board.now a.now.graph a.now.code a.now.regions profile.now transitions }
+    requires analysis { (file : List ℕ) × IsAnalysisOf file board.now a.now }
+    requires choice { IsChoiceFor board.now a.now.graph a.now.code a.now.regions a.now.pieces.items (plain_programme p.now) (plain_choice c.now) }
+    ensures { result ≡ counted_inward (scene_of a.now.graph a.now.code a.now.regions board.now) a.now.code (names_taken (plain_programme p.now) (plain_choice c.now)) profile.now }
+{
+    one_instruction();
+    let mut total = 0;
+    for j in 0..profile.edges.len() {
+        total += inward_count(a, p, c, &profile.edges[j]);
+    }
+    total
+}
