@@ -1,0 +1,10 @@
+pub use Rattle.energy_model.specs.Energy
+pub use Rattle.relink_core.specs.Walks
+pub use Rattle.paid_energy.specs.Costs
+pub use Rattle.paid_energy.specs.FlatRuns
+pub use Rattle.paid_energy.specs.Inward
+pub mod HomeWalks
+pub mod Leading
+pub mod WalkCosts
+pub mod CountedWalks
+pub mod Laws
