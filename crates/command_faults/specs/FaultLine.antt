@@ -5,6 +5,8 @@ use Rattle.elf_reader.specs.declared.fault.ElfFault.{ElfFault}
 use Rattle.elf_reader.specs.declared.fault.ElfFault.TheVariants as elf
 use Rattle.hex_image.specs.declared.fault.HexFault.{HexFault}
 use Rattle.hex_image.specs.declared.fault.HexFault.TheVariants as hex
+use Rattle.mix_text.specs.declared.parts.MixFault.{MixFault}
+use Rattle.mix_text.specs.declared.parts.MixFault.TheVariants as mix
 use Rattle.board_config.specs.declared.board.BoardFault.{BoardFault}
 use Rattle.board_config.specs.declared.board.BoardFault.TheVariants as board
 use Rattle.board_config.specs.Faults.{Fault, not_toml, missing, wrong_type, out_of_range, unknown_key, memory, plain_fault}
@@ -125,6 +127,10 @@ choice_parts = parts 10 (codes "bad-choice") 0 0
 abbrev pub tree_parts : ℕ → ℕ → Parts
 tree_parts side node = parts 10 (codes "wrong") side node
 
+-- a line of a mix breaks a rule, at a place of the text
+abbrev pub mix_parts : ℕ → Parts
+mix_parts at = parts 13 (codes "bad-mix") at 0
+
 -- a difference at a place
 abbrev pub differs_parts : ℕ → Parts
 differs_parts at = parts 11 (codes "differs") at 0
@@ -141,6 +147,7 @@ parts_of (command_fault.Certificate fault) = cert_parts fault
 parts_of command_fault.BadChoice = choice_parts
 parts_of (command_fault.WrongTree side node) = tree_parts side node
 parts_of (command_fault.Hex fault) = hex_parts fault
+parts_of (command_fault.BadMix at) = mix_parts at
 parts_of (command_fault.Differs at) = differs_parts at
 parts_of (command_fault.SourceFault pc why) = source_parts pc why
 parts_of command_fault.Memory = parts 9 (codes "memory") 0 0
@@ -191,3 +198,7 @@ cert_command_fault fault = command_fault.Certificate fault
 abbrev pub hex_command_fault : HexFault → CommandFault
 hex_command_fault hex.Memory = command_fault.Memory
 hex_command_fault fault = command_fault.Hex fault
+
+abbrev pub mix_command_fault : MixFault → CommandFault
+mix_command_fault (mix.BadMix at) = command_fault.BadMix at
+mix_command_fault mix.Memory = command_fault.Memory

@@ -3,6 +3,7 @@ use certificate_checker::CertFault;
 use code_blocks::CodeFault;
 use elf_reader::ElfFault;
 use hex_image::HexFault;
+use mix_text::MixFault;
 use object_graph::GraphFault;
 use profile_runner::ProfileFault;
 use region_former::RegionFault;
@@ -36,6 +37,8 @@ pub enum CommandFault {
     WrongTree { side: u32, node: u32 },
     /// The text is not one in Intel HEX.
     Hex(HexFault),
+    /// The line of a mix that begins at this byte is the first to break a rule.
+    BadMix { at: u64 },
     /// What was compared differs first at this place.
     Differs { at: u64 },
     /// The unit at `pc` of the program, run beside its result, can't be performed where objects have no addresses,
@@ -46,7 +49,7 @@ pub enum CommandFault {
 }
 
 impl CommandFault {
-    ghost use Rattle.std.specs.Prelude.{◌≡◌, ◌++◌, IfOk, string_bytes};
+    ghost use Rattle.std.specs.Prelude.{◌≡◌, IfOk, string_bytes};
     ghost use Rattle.command_faults.specs.FaultLine.{plain_parts, parts_of, status_of, fault_line};
 
     /// The exit status.
@@ -79,7 +82,8 @@ impl CommandFault {
             CommandFault::BadChoice => LineParts::new(10, "bad-choice", 0, 0),
             CommandFault::WrongTree { side, node } => LineParts::new(10, "wrong", *side, *node),
             CommandFault::Hex(fault) => LineParts::of_hex(fault),
-            CommandFault::Differs { at } => LineParts::of_difference(*at),
+            CommandFault::BadMix { at } => LineParts::of_place(13, "bad-mix", *at),
+            CommandFault::Differs { at } => LineParts::of_place(11, "differs", *at),
             CommandFault::SourceFault { pc, why } => LineParts::new(12, "address-fault", *pc, *why),
             CommandFault::Memory => LineParts::new(9, "memory", 0, 0),
         }
@@ -192,6 +196,20 @@ impl From<HexFault> for CommandFault {
     }
 }
 
+impl From<MixFault> for CommandFault {
+    ghost use Rattle.std.specs.Prelude.{◌≡◌};
+    ghost use Rattle.command_faults.specs.FaultLine.{mix_command_fault};
+
+    ghost from_gives = { λ fault command_fault. command_fault ≡ mix_command_fault fault };
+
+    fn from(fault: MixFault) -> CommandFault {
+        match fault {
+            MixFault::BadMix { at } => CommandFault::BadMix { at },
+            MixFault::Memory => CommandFault::Memory,
+        }
+    }
+}
+
 /// The parts of a fault line, of which the name is there only for some faults.
 #[derive(Clone, Copy)]
 struct LineParts<'a> {
@@ -205,7 +223,7 @@ struct LineParts<'a> {
 impl<'a> LineParts<'a> {
     ghost use Rattle.std.specs.Prelude.{◌≡◌};
     ghost use Rattle.board_config.specs.Faults.{plain_fault};
-    ghost use Rattle.command_faults.specs.FaultLine.{parts, named_parts, plain_parts, board_parts, elf_parts, graph_parts, code_parts, analyse_parts, cert_parts, hex_parts, differs_parts, region_parts};
+    ghost use Rattle.command_faults.specs.FaultLine.{parts, named_parts, plain_parts, board_parts, elf_parts, graph_parts, code_parts, analyse_parts, cert_parts, hex_parts, region_parts};
     ghost use Rattle.region_former.specs.Faults as region;
 
     fn new(status: u8, word: &'static str, first: u32, second: u32) -> LineParts<'a>
@@ -232,13 +250,13 @@ impl<'a> LineParts<'a> {
         }
     }
 
-    /// A place of an output, which may be long.
-    fn of_difference(at: u64) -> LineParts<'a>
-        ensures { plain_parts result ≡ differs_parts at }
+    /// A place of a text or an output, which may be long.
+    fn of_place(status: u8, word: &'static str, at: u64) -> LineParts<'a>
+        ensures { plain_parts result ≡ parts status word.entry.now at 0 }
     {
         LineParts {
-            status: 11,
-            word: "differs",
+            status,
+            word,
             first: at,
             second: 0,
             name: None,

@@ -1,0 +1,5 @@
+pub mod LineLemmas
+pub mod NameLemmas
+pub mod StepLemmas
+pub mod SpellLemmas
+pub mod LawLemmas
