@@ -4,7 +4,7 @@ use Rattle.shelf_io.specs.Shelf.{ShelfView}
 use Rattle.shelf_io.specs.Sink.{SinkView}
 use Rattle.command_words.specs.Command.{PlainCommand, IsCommand}
 use Rattle.command_line.specs.Diagnostic.{IsDiagnosticOrMemory}
-use Rattle.command_line.specs.Reading.{one_fails, memory_wanting}
+use Rattle.command_line.specs.Listing.{name_fails, names_want_memory}
 use Rattle.command_line.specs.Performing.{Performs, YieldsOf, InputsFail, RejectsPreparing, RejectsPerforming, IsRejectedBy, preparing_fails, write_fails, print_fails, line_wants_memory, write_wants_memory}
 use Rattle.command_line.specs.Answers.{Produces, InputFails, IsDone, IsNoCommand, WantsBeforeWriting, Cause, HasCause}
 use Rattle.command_line.specs.declared.diagnostic.Diagnostic.{Diagnostic}
@@ -37,6 +37,7 @@ input_cause (command_fault.Certificate fault) words old new sink mid f same = (f
 input_cause command_fault.BadChoice words old new sink mid f same = (f, same)
 input_cause (command_fault.WrongTree side node) words old new sink mid f same = (f, same)
 input_cause (command_fault.Hex fault) words old new sink mid f same = (f, same)
+input_cause (command_fault.BadMix at) words old new sink mid f same = (f, same)
 input_cause (command_fault.Differs at) words old new sink mid f same = (f, same)
 input_cause (command_fault.SourceFault pc why) words old new sink mid f same = (f, same)
 input_cause command_fault.Usage words old new sink mid f same =
@@ -59,18 +60,18 @@ inputs_cause words command old new sink mid fault is f same =
 -- a command that can't be prepared has written nothing
 before_writing : (words : List (List ℕ)) (command : PlainCommand) (old new : ShelfView) (fault : CommandFault)
     → IsCommand words command → RejectsPreparing command old new fault → WantsBeforeWriting words old new
-before_writing words command old new fault is (inl (one_fails n is_read e logged)) =
+before_writing words command old new fault is (inl (name_fails n is_read e logged)) =
     inr (n.place, record { command = command; is_command = is; read = n; is_read = is_read; place_is = refl; logged = logged })
-before_writing words command old new fault is (inl (memory_wanting e same)) = inl same
+before_writing words command old new fault is (inl (names_want_memory e same)) = inl same
 before_writing words command old new fault is (inr f) = inl f.same
 
 -- a rejected command has its cause
 cause_of_rejects : (words : List (List ℕ)) (command : PlainCommand) (old new : ShelfView) (sink mid : SinkView) (fault : CommandFault)
     → IsCommand words command → RejectsPerforming command old new sink mid fault → Cause fault words old new sink mid
-cause_of_rejects words command old new sink mid fault is (preparing_fails (inl (one_fails n is_read e logged)) same) =
+cause_of_rejects words command old new sink mid fault is (preparing_fails (inl (name_fails n is_read e logged)) same) =
     subst (λ (r : CommandFault). Cause r words old new sink mid) (sym e)
     (record { command = command; is_command = is; read = n; is_read = is_read; place_is = refl; logged = logged }, same)
-cause_of_rejects words command old new sink mid fault is (preparing_fails (inl (memory_wanting e shelf_same)) same) =
+cause_of_rejects words command old new sink mid fault is (preparing_fails (inl (names_want_memory e shelf_same)) same) =
     subst (λ (r : CommandFault). Cause r words old new sink mid) (sym e) (inl (inl shelf_same), same)
 cause_of_rejects words command old new sink mid fault is (preparing_fails (inr f) same) =
     inputs_cause words command old new sink mid fault is f same

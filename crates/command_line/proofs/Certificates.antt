@@ -1,5 +1,5 @@
 -- A certificate for the programme that a run states: what is told of it.
-use Rattle.std.proofs.Common.{◌≡◌, inl, inr, ℕ, Bool, true, false, List, None, Ok, Err, refl, sym, subst}
+use Rattle.std.proofs.Common.{◌≡◌, inl, inr, ℕ, Bool, true, false, List, Some, None, Ok, Err, refl, sym, subst}
 use Rattle.placement_programme.specs.Plain.{PlainProgramme, PlainChoice}
 use Rattle.placement_programme.specs.Programme.{IsFeasible}
 use Rattle.elf_reader.specs.File.{PlainView, plain_view}
@@ -7,7 +7,7 @@ use Rattle.board_config.specs.declared.board.Board.{Board}
 use Rattle.certificate_checker.specs.Nodes.{PlainCertificate}
 use Rattle.certificate_checker.specs.Reading.{certificate_of}
 use Rattle.certificate_checker.specs.Spelling.{AreBytes}
-use Rattle.certificate_checker.specs.Shows.{PlainVerdict, optimal, best_found, bad_choice, wrong, Answers}
+use Rattle.certificate_checker.specs.Shows.{Answers}
 use Rattle.certificate_checker.specs.Rooms.{KeepsChoice, BodyAnswers}
 use Rattle.certificate_checker.specs.Views.{plain_verdict}
 use Rattle.certificate_checker.specs.declared.verdict.Verdict.{Verdict}
@@ -19,8 +19,9 @@ use Rattle.command_faults.specs.FaultLine.{parts_of, cert_command_fault}
 use Rattle.command_line.specs.Analysed.{Accepts, IsOpened}
 use Rattle.command_line.specs.ProgramRun.{StatesOf, RejectsProfiled}
 use Rattle.relinking.specs.ProgrammeOfRun.{StatesProgramme}
+use Rattle.relinking.specs.FoundChoice.{IsLeast}
 use Rattle.printed_lines.specs.ReportText.{IsReport}
-use Rattle.command_line.specs.CheckFile.{answer_of, ReportsText, told_of, ReportsCertificate, unspelled, answered, of_run, of_certificate, RejectsChecked, RejectsText, MayReport, ReportsAnswer, RejectsAnswer}
+use Rattle.command_line.specs.CheckFile.{answer_of, AcceptsChoice, ReportsText, told_of, ReportsCertificate, unspelled, answered, of_run, of_certificate, RejectsChecked, RejectsText}
 use Rattle.command_line.specs.declared.opening.Opened.{Opened}
 use Rattle.command_faults.specs.declared.faults.CommandFault.{CommandFault}
 use Rattle.relinking.proofs.Analysed.{findings}
@@ -28,54 +29,53 @@ use Rattle.command_line.proofs.Analysing.{opened_view}
 
 -- ---- an answer
 
-pub may_report : (p : PlainProgramme) (kept : PlainChoice) (v : PlainVerdict) (c : PlainCertificate)
-    → Answers p c v → KeepsChoice c.choice kept v → MayReport p kept v
-may_report p kept optimal c answers same = subst (IsFeasible p) (sym same) answers.1.accepted.feasible
-may_report p kept best_found c answers same = subst (IsFeasible p) (sym same) answers.0.1.feasible
-may_report p kept bad_choice c answers same = tt
-may_report p kept (wrong side node depth) c answers same = tt
+kept_is : (says : Bool) (choice kept : PlainChoice) → KeepsChoice choice kept (answer_of says) → kept ≡ choice
+kept_is true choice kept same = same
+kept_is false choice kept same = same
 
-module _ (p : PlainProgramme) (nodes : ℕ) (text : List ℕ) (kept : PlainChoice) (all : AreBytes text) where
-  reports : (v : PlainVerdict) (c : PlainCertificate) (report : List ℕ) → certificate_of text ≡ Ok c → Answers p c v
-      → KeepsChoice c.choice kept v → ReportsAnswer p nodes kept v report → ReportsText p nodes text report
-  reports optimal c report read answers same made =
+answered_feasible : (p : PlainProgramme) (says : Bool) (c : PlainCertificate) → Answers p c (answer_of says) → IsFeasible p c.choice
+answered_feasible p true c answers = answers.1.accepted.feasible
+answered_feasible p false c answers = answers.0.1.feasible
+
+answered_least : (p : PlainProgramme) (says : Bool) (c : PlainCertificate) → Answers p c (answer_of says) → says ≡ true → IsLeast p c.choice
+answered_least p true c answers is = λ other feasible. (shown_is_least p c other answers feasible).1
+answered_least p false c answers is = absurd (cc (is))
+
+-- a choice that is accepted is feasible
+pub accepted_feasible : (p : PlainProgramme) (text : List ℕ) (says : Bool) (choice : PlainChoice) → AcceptsChoice p text says choice → IsFeasible p choice
+accepted_feasible p text says choice accepted =
+    subst (IsFeasible p) (sym accepted.choice_is) (answered_feasible p says accepted.certificate accepted.answers)
+
+-- and has its report
+pub accepted_reported : (p : PlainProgramme) (nodes : ℕ) (text : List ℕ) (says : Bool) (choice : PlainChoice) (report : List ℕ)
+    → AcceptsChoice p text says choice → IsReport p nodes choice says report → ReportsText p nodes text report
+accepted_reported p nodes text says choice report accepted made =
+    record {
+      certificate = accepted.certificate;
+      spells = accepted.spells;
+      says_optimal = says;
+      answers = accepted.answers;
+      least = answered_least p says accepted.certificate accepted.answers;
+      is_report = subst (λ (x : PlainChoice). IsReport p nodes x says report) accepted.choice_is made;
+    }
+
+module _ (p : PlainProgramme) (text : List ℕ) (kept : PlainChoice) (all : AreBytes text) where
+  -- a text whose choice is kept
+  pub text_accepted : (v : Verdict) (says : Bool) → BodyAnswers p kept (Ok v) (certificate_of text) → plain_verdict v ≡ answer_of says → AcceptsChoice p text says kept
+  text_accepted v says body is =
+      let (c, (read, answers, same)) = body in
       record {
         certificate = c;
         spells = certificate_takes text c all read;
-        says_optimal = true;
-        answers = answers;
-        least = λ e other feasible. (shown_is_least p c other answers feasible).1;
-        is_report = subst (λ (x : PlainChoice). IsReport p nodes x true report) same made;
+        answers = subst (Answers p c) is answers;
+        choice_is = kept_is says c.choice kept (subst (KeepsChoice c.choice kept) is same);
       }
-  reports best_found c report read answers same made =
-      record {
-        certificate = c;
-        spells = certificate_takes text c all read;
-        says_optimal = false;
-        answers = answers;
-        least = λ e. absurd (cc);
-        is_report = subst (λ (x : PlainChoice). IsReport p nodes x false report) same made;
-      }
-  reports bad_choice c report read answers same made = absurd made
-  reports (wrong side node depth) c report read answers same made = absurd made
-
-  -- a text that is answered has its report
-  pub text_reported : (v : Verdict) (report : List ℕ) → BodyAnswers p kept (Ok v) (certificate_of text)
-      → ReportsAnswer p nodes kept (plain_verdict v) report → ReportsText p nodes text report
-  text_reported v report body made =
-      let (c, (read, answers, same)) = body in reports (plain_verdict v) c report read answers same made
 
   -- and one that is rejected for its answer tells that
   pub text_rejected : (v : Verdict) (fault : CommandFault) → BodyAnswers p kept (Ok v) (certificate_of text)
-      → RejectsAnswer (plain_verdict v) fault → RejectsText p text fault
-  text_rejected v fault body (inl memory) = inl memory
-  text_rejected v fault body (inr told) =
+      → told_of (plain_verdict v) ≡ Some (parts_of fault) → RejectsText p text fault
+  text_rejected v fault body told =
       let (c, (read, answers, same)) = body in inr (answered c (plain_verdict v) (certificate_takes text c all read) answers (sym told))
-
-pub may_report_read : (p : PlainProgramme) (text : List ℕ) (kept : PlainChoice) (v : Verdict) → BodyAnswers p kept (Ok v) (certificate_of text)
-    → MayReport p kept (plain_verdict v)
-may_report_read p text kept v body =
-    let (c, (read, answers, same)) = body in may_report p kept (plain_verdict v) c answers same
 
 -- a text that spells no certificate
 pub unspelled_rejected : (p : PlainProgramme) (text : List ℕ) (fault : CertFault) → certificate_of text ≡ Err fault

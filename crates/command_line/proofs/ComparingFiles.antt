@@ -1,5 +1,5 @@
 -- A file and the file that it was relinked to, compared.
-use Rattle.std.proofs.Common.{◌≡◌, ◌⊎◌, inl, inr, ℕ, List, Some, None, refl, sym, subst}
+use Rattle.std.proofs.Common.{◌≡◌, ◌⊎◌, inl, inr, ℕ, List, Some, None, refl, sym, ap, subst}
 use Rattle.elf_reader.specs.File.{PlainView, plain_view, view_in}
 use Rattle.elf_reader.specs.Faults.{first_fault}
 use Rattle.elf_reader.specs.declared.fault.ElfFault.{ElfFault}
@@ -18,7 +18,7 @@ use Rattle.result_setups.specs.HomeLaws.{program_in, source_start}
 use Rattle.compare_runner.specs.Comparing.{Judges, Reports, JudgesRun, Compares}
 use Rattle.compare_runner.specs.declared.comparing.Comparison.{Comparison}
 use Rattle.compare_runner.specs.declared.comparing.Comparison.TheVariants.{Same, Differs, SourceFault}
-use Rattle.command_faults.specs.FaultLine.{elf_command_fault}
+use Rattle.command_faults.specs.FaultLine.{elf_parts, parts_of, elf_command_fault}
 use Rattle.command_line.specs.Analysed.{Accepts, IsOpened}
 use Rattle.printed_lines.specs.Endings.{IsAddressFault}
 use Rattle.command_line.specs.CompareFiles.{Compared, ComparesTo, HasEnding, AnswersComparison, RejectsComparison, RejectsCompared, of_relinked, of_comparison}
@@ -72,24 +72,33 @@ has_ending p board n start other (SourceFault pc why) compares = tt
 
 -- ---- what is told
 
-module _ (board_text file relinked input : List ℕ) (board : Board) (accepts : Accepts board_text file board) where
-  relinked_told : (fault : ElfFault) → (fault ≡ elf.Memory) ⊎ (first_fault relinked ≡ Some fault)
-      → (fault ≡ elf.Memory → ⊥) → RejectsCompared board_text file relinked input (command_fault.Elf fault)
-  relinked_told fault (inl memory) other = absurd (other memory)
-  relinked_told fault (inr first) other = inr (of_relinked board fault accepts first refl)
+-- a fault of a file that is read, other than want of memory, is told as it is
+elf_apart : {First : Type 0} (fault : ElfFault) → (fault ≡ elf.Memory) ⊎ First → (fault ≡ elf.Memory → ⊥)
+    → (command_fault.Elf fault ≡ command_fault.Memory) ⊎ (First × (parts_of (command_fault.Elf fault) ≡ elf_parts fault))
+elf_apart fault (inl memory) other = absurd (other memory)
+elf_apart fault (inr first) other = inr (first, refl)
 
+pub elf_told : {First : Type 0} (fault : ElfFault) → (fault ≡ elf.Memory) ⊎ First
+    → (elf_command_fault fault ≡ command_fault.Memory) ⊎ (First × (parts_of (elf_command_fault fault) ≡ elf_parts fault))
+elf_told (elf.TooShort need have) told = elf_apart (elf.TooShort need have) told (λ e. cc)
+elf_told (elf.NotElf at) told = elf_apart (elf.NotElf at) told (λ e. cc)
+elf_told (elf.WrongKind field value) told = elf_apart (elf.WrongKind field value) told (λ e. cc)
+elf_told (elf.OutOfFile table index) told = elf_apart (elf.OutOfFile table index) told (λ e. cc)
+elf_told (elf.BadIndex table index) told = elf_apart (elf.BadIndex table index) told (λ e. cc)
+elf_told (elf.Unsupported index kind) told = elf_apart (elf.Unsupported index kind) told (λ e. cc)
+elf_told (elf.OverLimit what count) told = elf_apart (elf.OverLimit what count) told (λ e. cc)
+elf_told (elf.Compressed section) told = elf_apart (elf.Compressed section) told (λ e. cc)
+elf_told (elf.Overlap first second) told = elf_apart (elf.Overlap first second) told (λ e. cc)
+elf_told elf.Memory told = inl refl
+
+module _ (board_text file relinked input : List ℕ) (board : Board) (accepts : Accepts board_text file board) where
   pub relinked_rejected : (fault : ElfFault) → (fault ≡ elf.Memory) ⊎ (first_fault relinked ≡ Some fault)
       → RejectsCompared board_text file relinked input (elf_command_fault fault)
-  relinked_rejected (elf.TooShort need have) told = relinked_told (elf.TooShort need have) told (λ e. cc)
-  relinked_rejected (elf.NotElf at) told = relinked_told (elf.NotElf at) told (λ e. cc)
-  relinked_rejected (elf.WrongKind field value) told = relinked_told (elf.WrongKind field value) told (λ e. cc)
-  relinked_rejected (elf.OutOfFile table index) told = relinked_told (elf.OutOfFile table index) told (λ e. cc)
-  relinked_rejected (elf.BadIndex table index) told = relinked_told (elf.BadIndex table index) told (λ e. cc)
-  relinked_rejected (elf.Unsupported index kind) told = relinked_told (elf.Unsupported index kind) told (λ e. cc)
-  relinked_rejected (elf.OverLimit what count) told = relinked_told (elf.OverLimit what count) told (λ e. cc)
-  relinked_rejected (elf.Compressed section) told = relinked_told (elf.Compressed section) told (λ e. cc)
-  relinked_rejected (elf.Overlap first second) told = relinked_told (elf.Overlap first second) told (λ e. cc)
-  relinked_rejected elf.Memory told = inl refl
+  relinked_rejected fault told =
+      elim (elf_told fault told) [
+        | inl memory ↦ inl memory
+        | inr first ↦ inr (of_relinked board fault accepts first.0 (ap Some first.1))
+      ]
 
   pub comparison_rejected : (c : Comparison) (fault : CommandFault) → first_fault relinked ≡ None → Compared file relinked board input c
       → RejectsComparison c fault → RejectsCompared board_text file relinked input fault

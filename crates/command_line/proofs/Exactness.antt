@@ -1,5 +1,5 @@
 -- Each status comes exactly where the inputs call for it.
-use Rattle.std.proofs.Common.{◌≡◌, inl, inr, ℕ, List, [], ◌∷◌, ◌++◌, length, Option, Some, None, refl, subst, sym, ap, ◌∙◌, arith, length-append}
+use Rattle.std.proofs.Common.{◌≡◌, inl, inr, ℕ, List, [], ◌∷◌, ◌++◌, length, Option, Some, None, option_map, refl, subst, sym, ap, ◌∙◌, arith, length-append}
 use Rattle.shelf_io.specs.Counts.{Rose}
 use Rattle.shelf_io.specs.Shelf.{ShelfView}
 use Rattle.shelf_io.specs.Sink.{SinkView}
@@ -7,25 +7,29 @@ use Rattle.elf_reader.specs.File.{entry_of, load_segments}
 use Rattle.hex_image.specs.Runs.{file_map}
 use Rattle.hex_image.specs.Reading as hex
 use Rattle.command_words.specs.Command.{PlainCommand, IsCommand, Named, reads}
-use Rattle.command_faults.specs.FaultLine.{Parts, status_of, fault_line, parts_of}
+use Rattle.mix_text.specs.Lines.{mix_lines}
+use Rattle.command_faults.specs.FaultLine.{Parts, status_of, fault_line, parts_of, elf_parts}
 use Rattle.command_line.specs.Delivery.{LosesOne}
 use Rattle.command_line.specs.Diagnostic.{PutsLine, rejected_status, rejected_line}
-use Rattle.command_line.specs.Reading.{HoldsAll}
+use Rattle.command_line.specs.Listing.{HoldsInputs}
 use Rattle.compare_runner.specs.declared.comparing.Comparison.TheVariants.{Same}
 use Rattle.command_line.specs.ProgramRun.{of_none}
 use Rattle.command_line.specs.ShowFile as show
 use Rattle.command_line.specs.CompareFiles.{of_comparison}
 use Rattle.command_line.specs.CheckFile.{of_certificate}
-use Rattle.command_line.specs.Meaning.{Compares, IsFirst, run_first, relink_first, profile_first, compare_first, check_first, gen_first, hex_first, check_difference, Yields, runs, relinks, profiles, compares, checks, generates, writes_hex, agrees, show_first, shows}
-use Rattle.command_line.specs.Answers.{IsDone, Cause, HasCause, EndsRejected, InputFails, AnswersInputs, AnswersUsage, AnswersCommand, ReportsAll}
+use Rattle.command_line.specs.PaidFile.{of_result}
+use Rattle.command_line.specs.MixFile as mixed
+use Rattle.command_line.specs.Meaning.{Compares, IsFirst, run_first, relink_first, profile_first, compare_first, check_first, mix_first, check_mix_first, gen_first, hex_first, check_difference, Yields, runs, relinks, profiles, compares, checks, mixes, checks_mix, generates, writes_hex, agrees, show_first, shows, paid_first, pays}
+use Rattle.command_line.specs.Answers.{IsDone, Cause, HasCause, EndsRejected, InputFails, AnswersInputs, AnswersUsage, AnswersCommand, ReportsInputs, ReportsAll}
 use Rattle.command_line.specs.declared.diagnostic.Diagnostic.{Diagnostic}
 use Rattle.command_faults.specs.declared.faults.CommandFault.{CommandFault}
 use Rattle.command_faults.specs.declared.faults.CommandFault.TheVariants as command_fault
-use Rattle.command_line.proofs.OneCommand.{one_command, one_reading}
+use Rattle.command_line.proofs.OneCommand.{one_command, one_inputs}
 use Rattle.command_line.proofs.Statuses.{status_positive}
 use Rattle.command_line.proofs.Profiling.{profile_runs}
 use Rattle.command_line.proofs.Stating.{relinked_runs}
 use Rattle.command_line.proofs.Certificates.{nothing_told}
+use Rattle.command_line.proofs.MixedRuns.{nothing_told_of_runs}
 
 -- ---- what the inputs are
 
@@ -51,6 +55,14 @@ yields_first command inputs outputs text (compares f r b i file relinked board i
 yields_first command inputs outputs text (checks f b i c file board input cert is are outs made) =
     check_first f b i c file board input cert is are
     (of_certificate made.board made.programme made.accepts made.states (nothing_told made.programme made.board.nodes cert text made.reports))
+yields_first command inputs outputs text (pays f b i c file board input cert is are outs made) =
+    paid_first f b i c file board input cert is are (of_result made.board made.out made.accepts made.makes (sym (ap (option_map elf_parts) made.sound)))
+yields_first command inputs outputs text (mixes f b m o c file board mix certificate out texts is are outs unbroken made) =
+    mix_first f b m o c file board mix texts is are
+    (mixed.of_runs unbroken (nothing_told_of_runs board file made.board (mixed.inputs_of (mix_lines mix) texts) made.programme made.accepts made.states))
+yields_first command inputs outputs text (checks_mix f b m c file board mix cert texts is are outs unbroken made) =
+    check_mix_first f b m c file board mix cert texts is are
+    (mixed.of_checked_runs unbroken (mixed.of_certificate made.board made.programme made.accepts made.states (nothing_told made.programme made.board.nodes cert text made.reports)))
 yields_first command inputs outputs text (shows f b file board is are outs made) =
     show_first f b file board is are (show.of_none made.board made.accepts refl)
 yields_first command inputs outputs text (generates s k o is are outs printed) = gen_first s k o is are refl
@@ -60,12 +72,12 @@ yields_first command inputs outputs text (agrees f h file hex_text is are none s
 
 -- a first fault of what a command read is that of what the shelf tells
 first_told : (words : List (List ℕ)) (shelf : ShelfView) (one other : PlainCommand) (read told : List (List ℕ)) (first : Option Parts)
-    → IsCommand words one → IsCommand words other → HoldsAll shelf (reads one) read → ReportsAll shelf (reads other) told
+    → IsCommand words one → IsCommand words other → HoldsInputs shelf one read → ReportsInputs shelf other told
     → IsFirst one read first → IsFirst other told first
 first_told words shelf one other read told first is is' h t f =
     let same = one_command words one other is is' in
-    let h' = subst (λ (c : PlainCommand). HoldsAll shelf (reads c) read) same h in
-    let same_read = one_reading shelf (reads other) read told h' t in
+    let h' = subst (λ (c : PlainCommand). HoldsInputs shelf c read) same h in
+    let same_read = one_inputs shelf other read told h' t in
     subst (λ (c : PlainCommand). IsFirst c told first) same (subst (λ (r : List (List ℕ)). IsFirst one r first) same_read f)
 
 -- ---- nothing failed
@@ -132,13 +144,14 @@ rejected_usage (command_fault.Certificate fault) status words old new sink mid e
 rejected_usage command_fault.BadChoice status words old new sink mid e c none = absurd (none c.0.command c.0.is_command)
 rejected_usage (command_fault.WrongTree side node) status words old new sink mid e c none = absurd (none c.0.command c.0.is_command)
 rejected_usage (command_fault.Hex fault) status words old new sink mid e c none = absurd (none c.0.command c.0.is_command)
+rejected_usage (command_fault.BadMix at) status words old new sink mid e c none = absurd (none c.0.command c.0.is_command)
 rejected_usage (command_fault.Differs at) status words old new sink mid e c none = absurd (none c.0.command c.0.is_command)
 rejected_usage (command_fault.SourceFault pc why) status words old new sink mid e c none = absurd (none c.0.command c.0.is_command)
 rejected_usage command_fault.Memory status words old new sink mid e c none = inr e
 
 input_answers : (fault : CommandFault) (status : ℕ) (words : List (List ℕ)) (old new : ShelfView)
     → status ≡ status_of fault → InputFails words fault old new
-    → (command : PlainCommand) (inputs : List (List ℕ)) → IsCommand words command → ReportsAll old (reads command) inputs
+    → (command : PlainCommand) (inputs : List (List ℕ)) → IsCommand words command → ReportsInputs old command inputs
     → AnswersInputs status command inputs
 input_answers fault status words old new e f command inputs is told =
     record {
@@ -174,6 +187,8 @@ rejected_command (command_fault.WrongTree side node) status words old new sink m
     inl (input_answers (command_fault.WrongTree side node) status words old new e c.0 command inputs is told)
 rejected_command (command_fault.Hex fault) status words old new sink mid sink' e c line command inputs is told nothing =
     inl (input_answers (command_fault.Hex fault) status words old new e c.0 command inputs is told)
+rejected_command (command_fault.BadMix at) status words old new sink mid sink' e c line command inputs is told nothing =
+    inl (input_answers (command_fault.BadMix at) status words old new e c.0 command inputs is told)
 rejected_command (command_fault.Differs at) status words old new sink mid sink' e c line command inputs is told nothing =
     inl (input_answers (command_fault.Differs at) status words old new e c.0 command inputs is told)
 rejected_command (command_fault.SourceFault pc why) status words old new sink mid sink' e c line command inputs is told nothing =

@@ -11,5 +11,9 @@ pub mod ComparingFiles
 pub mod Certificates
 pub mod CommandFaults
 pub mod Readings
+pub mod ListedNames
+pub mod MixedRuns
+pub mod MixResults
 pub mod Writings
 pub mod Comparing
+pub mod Paying

@@ -3,7 +3,9 @@ use Rattle.std.proofs.Common.{◌≡◌, inl, inr, ℕ, List, length, Ok, Err, r
 use Rattle.std.proofs.lemmas.List.{length-map}
 use Rattle.elf_reader.specs.File.{PlainView, plain_view, view_in}
 use Rattle.board_config.specs.declared.board.Board.{Board}
+use Rattle.object_graph.specs.Graphs.{IsGraph}
 use Rattle.object_graph.specs.declared.parts.Graph.{Graph}
+use Rattle.object_machine.specs.declared.events.Outcome.TheVariants.{AddressFault}
 use Rattle.code_blocks.specs.Blocks.{start_of}
 use Rattle.code_blocks.specs.Numbers.{starts_of}
 use Rattle.code_blocks.specs.declared.parts.Code.{Code}
@@ -29,22 +31,26 @@ use Rattle.printed_lines.specs.ProfileLines.{profile_text}
 use Rattle.relinking.specs.Runs.{ReportsCounts}
 use Rattle.command_line.specs.ProfileFile.{ProfilesTo}
 
+-- a program whose counts end so was run to this address fault
+pub fault_run : (file : List ℕ) (board : Board) (g : Graph) (c : Code) (t : RegionTable) (input : List ℕ) (pc why : ℕ) → IsGraph (view_in file) board g
+    → ReportsCounts (view_in file) board g c t input (Err (FaultAt pc why)) → RunsProgram file board input (AddressFault pc why)
+fault_run file board g c t input pc why is (last, fault) =
+    record {
+      graph = g;
+      is_graph = is;
+      last = last;
+      taken = transitions_steps (program_in file board g) board.steps (source_start file board g input) last fault.transitions fault.run;
+      outcome_is = sym (faulted last.outcome pc why fault.fault);
+    }
+
 -- an address fault rejects the command
 pub counts_rejected : (board_text file input : List ℕ) (o : Opened) (fault : ProfileFault) → IsOpened board_text file o
     → ReportsCounts (plain_view o.analysis.view) o.board o.analysis.graph o.analysis.code o.analysis.regions input (Err fault)
     → RejectsProfiled board_text file input (profile_command_fault fault)
 counts_rejected board_text file input o (FaultAt pc why) is told =
-    let g = o.analysis.graph in
-    let (last, fault) = subst (λ (u : PlainView). ReportsCounts u o.board g o.analysis.code o.analysis.regions input (Err (FaultAt pc why))) (opened_view board_text file o is) told in
-    inr (of_run o.board pc why is.accepts
-    (record {
-      graph = g;
-      is_graph = is.analysed.graph;
-      last = last;
-      taken = transitions_steps (program_in file o.board g) o.board.steps (source_start file o.board g input) last fault.transitions fault.run;
-      outcome_is = sym (faulted last.outcome pc why fault.fault);
-    })
-    refl)
+    let a = o.analysis in
+    let counts = subst (λ (u : PlainView). ReportsCounts u o.board a.graph a.code a.regions input (Err (FaultAt pc why))) (opened_view board_text file o is) told in
+    inr (of_run o.board pc why is.accepts (fault_run file o.board a.graph a.code a.regions input pc why is.analysed.graph counts) refl)
 counts_rejected board_text file input o Memory is told = inl refl
 
 -- what printing a profile asks of it

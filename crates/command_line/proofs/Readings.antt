@@ -1,5 +1,5 @@
 -- Reading names one by one.
-use Rattle.std.proofs.Common.{◌≡◌, inl, inr, ℕ, List, [], ◌∷◌, ◌++◌, map, ap, get_or, length, ◌<◌, refl, subst, arith}
+use Rattle.std.proofs.Common.{◌≡◌, inl, inr, ℕ, suc, List, [], ◌∷◌, ◌++◌, map, ap, get_or, length, ◌<◌, refl, subst, arith}
 use Rattle.std.specs.List.{Contains}
 use Rattle.shelf_io.specs.Shelf.{ShelfView, Holds}
 use Rattle.std.proofs.lemmas.List.Elements.{Contains-get_or}
@@ -18,6 +18,13 @@ holds_more shelf [] [] n text h one = (one, tt)
 holds_more shelf [] (x ∷ texts) n text h one = absurd h
 holds_more shelf (m ∷ names) [] n text h one = absurd h
 holds_more shelf (m ∷ names) (x ∷ texts) n text h one = (h.0, holds_more shelf names texts n text h.1 one)
+
+-- as many texts as names
+pub held_size : (shelf : ShelfView) (names : List Named) (texts : List (List ℕ)) → HoldsAll shelf names texts → length texts ≡ length names
+held_size shelf [] [] h = refl
+held_size shelf [] (x ∷ texts) h = absurd h
+held_size shelf (m ∷ names) [] h = absurd h
+held_size shelf (m ∷ names) (x ∷ texts) h = ap suc (held_size shelf names texts h.1)
 
 -- the fault of one read
 pub one_rejected : (names : List Named) (n : Named) (old mid new : ShelfView) (fault : CommandFault)
@@ -39,7 +46,11 @@ is_named words i d below =
     let held = Contains-get_or (map plain_named words) i (plain_named d) (rw (length-map words plain_named) below) in
     subst (Contains (map plain_named words)) (get_or-map plain_named words i d (plain_named d) below) held
 
--- the bytes of one, two, three and four texts, one by one
+-- the bytes of no text, and of one, two, three and four texts, one by one
+pub contents_of_none : (texts : List (Vec ℕ Global)) → length texts ≡ 0 → [] ≡ contents texts
+contents_of_none [] e = refl
+contents_of_none (p ∷ texts) e = absurd (omega (arith, e))
+
 pub contents_of_one : (texts : List (Vec ℕ Global)) (a : Vec ℕ Global) (x : List ℕ) → length texts ≡ 1
     → a ≡ get_or texts 0 a → x ≡ a.items → x ∷ [] ≡ contents texts
 contents_of_one [] a x e is same = absurd (omega arith)

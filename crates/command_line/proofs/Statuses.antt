@@ -1,5 +1,5 @@
 -- The statuses of what is told of inputs.
-use Rattle.std.proofs.Common.{◌≡◌, ℕ, ◌≤◌, List, Option, Some, None, option_map, subst, sym, arith}
+use Rattle.std.proofs.Common.{◌≡◌, ℕ, ◌≤◌, List, [], ◌∷◌, Option, Some, None, option_map, subst, sym, arith}
 use Rattle.list_checks.specs.First.{◌or_else◌}
 use Rattle.elf_reader.specs.Faults.{first_fault}
 use Rattle.elf_reader.specs.declared.fault.ElfFault.{ElfFault}
@@ -21,7 +21,7 @@ use Rattle.hex_image.specs.Reading.{hex_fault}
 use Rattle.hex_image.specs.declared.fault.HexFault.{HexFault}
 use Rattle.hex_image.specs.declared.fault.HexFault.TheVariants as hex
 use Rattle.command_words.specs.Command.{PlainCommand}
-use Rattle.command_faults.specs.FaultLine.{Parts, board_parts, elf_parts, graph_parts, code_parts, analyse_parts, address_parts, source_parts, cert_parts, choice_parts, tree_parts, hex_parts, differs_parts, status_of, region_parts}
+use Rattle.command_faults.specs.FaultLine.{Parts, board_parts, elf_parts, graph_parts, code_parts, analyse_parts, address_parts, source_parts, cert_parts, choice_parts, tree_parts, hex_parts, mix_parts, differs_parts, status_of, region_parts}
 use Rattle.compare_runner.specs.declared.comparing.Comparison.TheVariants.{Same, Differs, SourceFault}
 use Rattle.command_line.specs.Analysed.{ReportsAnalysed, of_board, of_analysis}
 use Rattle.command_line.specs.ProgramRun.{ReportsProfiled, of_run, of_none}
@@ -30,7 +30,11 @@ use Rattle.command_line.specs.CompareFiles.{ReportsCompared, of_relinked, of_com
 use Rattle.command_line.specs.CompareFiles as compared
 use Rattle.command_line.specs.CheckFile.{ReportsCertificate, unspelled, answered, ReportsChecked, of_certificate}
 use Rattle.command_line.specs.CheckFile as checked
-use Rattle.command_line.specs.Meaning.{IsFirst, run_first, relink_first, profile_first, compare_first, check_first, gen_first, hex_first, check_fault, check_difference, show_first}
+use Rattle.command_line.specs.PaidFile.{ReportsPaid, of_check, of_result}
+use Rattle.command_line.specs.Meaning.{IsFirst, run_first, relink_first, profile_first, compare_first, check_first, mix_first, check_mix_first, gen_first, hex_first, check_fault, check_difference, show_first, paid_first}
+use Rattle.relinking.specs.MixOfRuns.{WeightedInput}
+use Rattle.command_line.specs.MixFile.{ReportsRuns, ReportsMixed, of_list, of_runs, ReportsCheckedRuns, of_inputs, ReportsMixChecked, of_checked_list, of_checked_runs}
+use Rattle.command_line.specs.MixFile as mixed
 use Rattle.command_line.specs.ShowFile.{ReportsShown}
 use Rattle.command_line.specs.ShowFile as show
 use Rattle.command_faults.specs.declared.faults.CommandFault.{CommandFault}
@@ -148,6 +152,35 @@ checked_least board file input text told (checked.of_run parts tells e) =
     let same : parts ≡ told = cc in subst IsOfInputs same (profiled_least board file input parts tells)
 checked_least board file input text told (of_certificate b p accepts states tells) = text_least p text told tells
 
+bad_line_least : (at : ℕ) (told : Parts) → Some told ≡ Some (mix_parts at) → IsOfInputs told
+bad_line_least at told e =
+    let same : mix_parts at ≡ told = cc in
+    let low : IsOfInputs (mix_parts at) = omega arith in subst IsOfInputs same low
+
+runs_least : (board file : List ℕ) (inputs : List WeightedInput) (told : Parts) → ReportsRuns board file inputs (Some told) → IsOfInputs told
+runs_least board file inputs told (mixed.of_files parts tells e) =
+    let same : parts ≡ told = cc in subst IsOfInputs same (analysed_least board file parts tells)
+runs_least board file inputs told (mixed.of_run b before after one pc why accepts are well runs e) =
+    let same : address_parts pc why ≡ told = cc in
+    let low : IsOfInputs (address_parts pc why) = omega arith in subst IsOfInputs same low
+runs_least board file inputs told (mixed.of_none b accepts well e) = absurd (cc)
+
+mixed_least : (written : List (List ℕ)) (board file mix : List ℕ) (texts : List (List ℕ)) (told : Parts) → ReportsMixed written board file mix texts (Some told)
+    → IsOfInputs told
+mixed_least written board file mix texts told (of_list at broken e) = bad_line_least at told e
+mixed_least written board file mix texts told (of_runs unbroken tells) = runs_least board file _ told tells
+
+checked_runs_least : (board file : List ℕ) (inputs : List WeightedInput) (text : List ℕ) (told : Parts) → ReportsCheckedRuns board file inputs text (Some told)
+    → IsOfInputs told
+checked_runs_least board file inputs text told (of_inputs parts tells e) =
+    let same : parts ≡ told = cc in subst IsOfInputs same (runs_least board file inputs parts tells)
+checked_runs_least board file inputs text told (mixed.of_certificate b p accepts states tells) = text_least p text told tells
+
+mix_checked_least : (board file mix text : List ℕ) (texts : List (List ℕ)) (told : Parts) → ReportsMixChecked board file mix text texts (Some told)
+    → IsOfInputs told
+mix_checked_least board file mix text texts told (of_checked_list at broken e) = bad_line_least at told e
+mix_checked_least board file mix text texts told (of_checked_runs unbroken tells) = checked_runs_least board file _ text told tells
+
 shown_least : (board file : List ℕ) (told : Parts) → ReportsShown board file (Some told) → IsOfInputs told
 shown_least board file told (show.of_files parts tells e) =
     let same : parts ≡ told = cc in subst IsOfInputs same (analysed_least board file parts tells)
@@ -173,6 +206,12 @@ differs_least None told e = absurd (cc)
 differs_least (Some at) told e =
     let same : differs_parts at ≡ told = cc in let low : IsOfInputs (differs_parts at) = omega arith in subst IsOfInputs same low
 
+-- of the file that is made, too
+paid_least : (board file input text : List ℕ) (told : Parts) → ReportsPaid board file input text (Some told) → IsOfInputs told
+paid_least board file input text told (of_check parts tells e) =
+    let same : parts ≡ told = cc in subst IsOfInputs same (checked_least board file input text parts tells)
+paid_least board file input text told (of_result b out accepts makes e) = told_least elf_parts elf_least (first_fault out) told (sym e)
+
 pub first_least : (command : PlainCommand) (inputs : List (List ℕ)) (told : Parts)
     → IsFirst command inputs (Some told) → IsOfInputs told
 first_least command inputs told (run_first f b i o file board input is are e) =
@@ -185,6 +224,12 @@ first_least command inputs told (compare_first f r b i file relinked board input
     compared_least board file relinked input told tells
 first_least command inputs told (check_first f b i c file board input text is are tells) =
     checked_least board file input text told tells
+first_least command inputs told (paid_first f b i c file board input text is are tells) =
+    paid_least board file input text told tells
+first_least command inputs told (mix_first f b m o c file board mix texts is are tells) =
+    mixed_least (c ∷ o ∷ []) board file mix texts told tells
+first_least command inputs told (check_mix_first f b m c file board mix text texts is are tells) =
+    mix_checked_least board file mix text texts told tells
 first_least command inputs told (show_first f b file board is are tells) = shown_least board file told tells
 first_least command inputs told (gen_first s k o is are e) = absurd (cc)
 first_least command inputs told (hex_first f o file is are e) =
@@ -208,6 +253,7 @@ status_positive (command_fault.Certificate fault) e = let low = cert_least fault
 status_positive command_fault.BadChoice e = omega arith
 status_positive (command_fault.WrongTree side node) e = omega arith
 status_positive (command_fault.Hex fault) e = let low = hex_least fault in omega arith
+status_positive (command_fault.BadMix at) e = omega arith
 status_positive (command_fault.Differs at) e = omega arith
 status_positive (command_fault.SourceFault pc why) e = omega arith
 status_positive command_fault.Memory e = omega arith

@@ -1,8 +1,7 @@
 -- What each answer of the top call says of the outside.
 use Rattle.std.specs.Prelude.{◌≡◌, ◌⊎◌, ℕ, List, [], ◌∷◌, Option, Some, None}
-use Rattle.std.specs.List.{Contains}
 use Rattle.shelf_io.specs.Counts.{Rose}
-use Rattle.command_words.specs.Command.{PlainCommand, IsCommand, Named, reads, writes}
+use Rattle.command_words.specs.Command.{PlainCommand, IsCommand, Named, writes}
 use Rattle.command_faults.specs.FaultLine.{Parts, fault_line, status_of, parts_of}
 use Rattle.shelf_io.specs.Shelf.{ShelfView, LogsFailed}
 use Rattle.relinking.specs.declared.measuring.MeasuredEnd.{MeasuredEnd}
@@ -11,7 +10,7 @@ use Rattle.shelf_io.specs.declared.shelves.CallKind.TheVariants.{Read}
 use Rattle.command_line.specs.Delivery.{SetsAll, LosesOne, WantsInOne}
 use Rattle.command_line.specs.Meaning.{IsFirst}
 use Rattle.command_line.specs.Performing.{YieldsOf, TellsEndOf}
-use Rattle.command_line.specs.Reading.{HoldsAll}
+use Rattle.command_line.specs.Listing.{all_reads, HoldsInputs, ReadsName}
 use Rattle.command_line.specs.Diagnostic.{IsDiagnosticOf, PutsLine}
 use Rattle.command_line.specs.declared.diagnostic.Diagnostic.{Diagnostic}
 use Rattle.command_faults.specs.declared.faults.CommandFault.{CommandFault}
@@ -47,7 +46,7 @@ pub record ReadFails (words : List (List ℕ)) (place : ℕ) (old new : ShelfVie
   pub command : PlainCommand
   pub is_command : IsCommand words command
   pub read : Named
-  pub is_read : Contains (reads command) read
+  pub is_read : ReadsName old command read
   pub place_is : place ≡ read.place
   pub logged : LogsFailed Read read.name old new
 
@@ -72,7 +71,7 @@ pub record InputFails (words : List (List ℕ)) (fault : CommandFault) (old new 
   pub command : PlainCommand
   pub is_command : IsCommand words command
   pub inputs : List (List ℕ)
-  pub holds : HoldsAll old (reads command) inputs
+  pub holds : HoldsInputs old command inputs
   pub first : IsFirst command inputs (Some (parts_of fault))
   pub same : new ≡ old
 
@@ -152,13 +151,17 @@ ReportsAll shelf [] (text ∷ texts) = ⊥
 ReportsAll shelf (n ∷ names) [] = ⊥
 ReportsAll shelf (n ∷ names) (text ∷ texts) = (shelf.content n.name ≡ Some (Some text)) × ReportsAll shelf names texts
 
+-- so it does under those that a command reads
+abbrev pub ReportsInputs : ShelfView → PlainCommand → List (List ℕ) → Type 0
+ReportsInputs shelf command inputs = ReportsAll shelf (all_reads command inputs) inputs
+
 -- a command whose names the shelf tells, in a call in which nothing outside fails, has the status that
 -- they call for, or 9
 abbrev pub AnswersCommand : ℕ → List (List ℕ) → ShelfView → ShelfView → SinkView → SinkView → Type 0
 AnswersCommand status words old new sink sink' =
     (command : PlainCommand) (inputs : List (List ℕ))
     → IsCommand words command
-    → ReportsAll old (reads command) inputs
+    → ReportsInputs old command inputs
     → NothingFailed old new sink sink'
     → AnswersInputs status command inputs ⊎ (status ≡ 9)
 

@@ -2,7 +2,6 @@
 use Rattle.std.specs.Prelude.{◌≡◌, ◌⊎◌, ℕ, Bool, true, false, List, Option, Some, None, Err}
 use Rattle.board_config.specs.declared.board.Board.{Board}
 use Rattle.placement_programme.specs.Plain.{PlainProgramme, PlainChoice}
-use Rattle.placement_programme.specs.Programme.{IsFeasible}
 use Rattle.certificate_checker.specs.Nodes.{PlainCertificate}
 use Rattle.certificate_checker.specs.Reading.{certificate_of}
 use Rattle.certificate_checker.specs.Spelling.{Spells}
@@ -20,6 +19,13 @@ use Rattle.command_faults.specs.declared.faults.CommandFault.TheVariants as comm
 abbrev pub answer_of : Bool → PlainVerdict
 answer_of true = optimal
 answer_of false = best_found
+
+-- the text spells a certificate of this choice, which is answered so: the choice is feasible and gains no less than 0
+pub record AcceptsChoice (p : PlainProgramme) (text : List ℕ) (says_optimal : Bool) (choice : PlainChoice) : Type 0 where
+  pub certificate : PlainCertificate
+  pub spells : Spells text certificate
+  pub answers : Answers p certificate (answer_of says_optimal)
+  pub choice_is : choice ≡ certificate.choice
 
 -- The text spells a certificate whose choice is feasible and gains no less than 0. The report says `optimal` where its
 -- trees show that no feasible choice has less energy, and `best found` where it has none.
@@ -69,21 +75,3 @@ RejectsChecked board_text file input text fault =
 -- the same of a computation on a programme and a text
 abbrev pub RejectsText : PlainProgramme → List ℕ → CommandFault → Type 0
 RejectsText p text fault = (fault ≡ command_fault.Memory) ⊎ ReportsCertificate p text (Some (parts_of fault))
-
--- ---- an answer alone
-
--- a choice of which a report is made is feasible
-abbrev pub MayReport : PlainProgramme → PlainChoice → PlainVerdict → Type 0
-MayReport p choice optimal = IsFeasible p choice
-MayReport p choice best_found = IsFeasible p choice
-MayReport p choice bad_choice = Unit {0}
-MayReport p choice (wrong side node depth) = Unit {0}
-
-abbrev pub ReportsAnswer : PlainProgramme → ℕ → PlainChoice → PlainVerdict → List ℕ → Type 0
-ReportsAnswer p nodes choice optimal report = IsReport p nodes choice true report
-ReportsAnswer p nodes choice best_found report = IsReport p nodes choice false report
-ReportsAnswer p nodes choice bad_choice report = ⊥
-ReportsAnswer p nodes choice (wrong side node depth) report = ⊥
-
-abbrev pub RejectsAnswer : PlainVerdict → CommandFault → Type 0
-RejectsAnswer verdict fault = (fault ≡ command_fault.Memory) ⊎ (told_of verdict ≡ Some (parts_of fault))

@@ -1,5 +1,6 @@
 pub mod Diagnostic
 pub mod Reading
+pub mod Listing
 pub mod Delivery
 pub mod RunFile
 pub mod Analysed
@@ -7,9 +8,12 @@ pub mod ProgramRun
 pub mod ProfileFile
 pub mod CompareFiles
 pub mod CheckFile
+pub mod PaidFile
 pub mod ShowFile
 pub mod RelinkFile
+pub mod MixFile
 pub mod Measured
 pub mod Meaning
 pub mod Performing
+pub mod ListedTexts
 pub mod Answers

@@ -10,7 +10,8 @@ use Rattle.hex_image.specs.Runs.{ByteMap, file_map}
 use Rattle.hex_image.specs.Text.{hex_text, hex_records}
 use Rattle.hex_image.specs.Reading as hex
 use Rattle.hex_image.specs.Difference.{IsDifference}
-use Rattle.command_words.specs.Command.{PlainCommand, run_command, relink_command, profile_command, compare_command, check_command, gen_command, hex_command, hex_check_command, show_command}
+use Rattle.command_words.specs.Command.{PlainCommand, run_command, relink_command, profile_command, compare_command, check_command, mix_command, check_mix_command, gen_command, hex_command, hex_check_command, show_command, paid_command}
+use Rattle.mix_text.specs.Lines.{broken_at, mix_lines}
 use Rattle.command_faults.specs.FaultLine.{Parts, elf_parts, hex_parts, differs_parts, parts_of}
 use Rattle.command_line.specs.RunFile.{RunsTo, first_command_fault}
 use Rattle.command_line.specs.ProgramRun.{ReportsProfiled}
@@ -18,6 +19,8 @@ use Rattle.command_line.specs.RelinkFile.{RelinksTo}
 use Rattle.command_line.specs.ProfileFile.{ProfilesTo}
 use Rattle.command_line.specs.CompareFiles.{ComparesTo, ReportsCompared}
 use Rattle.command_line.specs.CheckFile.{ChecksTo, ReportsChecked}
+use Rattle.command_line.specs.PaidFile.{PaysTo, ReportsPaid}
+use Rattle.command_line.specs.MixFile.{inputs_of, MixesTo, ChecksMixTo, ReportsMixed, ReportsMixChecked}
 use Rattle.command_line.specs.ShowFile.{ShowsTo, ReportsShown}
 use Rattle.command_faults.specs.declared.faults.CommandFault.{CommandFault}
 use Rattle.command_faults.specs.declared.faults.CommandFault.TheVariants as command_fault
@@ -71,6 +74,18 @@ pub data IsFirst (command : PlainCommand) (inputs : List (List ℕ)) (told : Opt
       → command ≡ check_command file_name board_name input_name cert_name
       → inputs ≡ file ∷ board ∷ input ∷ cert ∷ [] → ReportsChecked board file input cert told
       → IsFirst command inputs told
+  paid_first : (file_name board_name input_name cert_name file board input cert : List ℕ)
+      → command ≡ paid_command file_name board_name input_name cert_name
+      → inputs ≡ file ∷ board ∷ input ∷ cert ∷ [] → ReportsPaid board file input cert told
+      → IsFirst command inputs told
+  mix_first : (file_name board_name mix_name out_name cert_name file board mix : List ℕ) (texts : List (List ℕ))
+      → command ≡ mix_command file_name board_name mix_name out_name cert_name
+      → inputs ≡ file ∷ board ∷ mix ∷ texts → ReportsMixed (cert_name ∷ out_name ∷ []) board file mix texts told
+      → IsFirst command inputs told
+  check_mix_first : (file_name board_name mix_name cert_name file board mix cert : List ℕ) (texts : List (List ℕ))
+      → command ≡ check_mix_command file_name board_name mix_name cert_name
+      → inputs ≡ file ∷ board ∷ mix ∷ cert ∷ texts → ReportsMixChecked board file mix cert texts told
+      → IsFirst command inputs told
   show_first : (file_name board_name file board : List ℕ)
       → command ≡ show_command file_name board_name → inputs ≡ file ∷ board ∷ [] → ReportsShown board file told
       → IsFirst command inputs told
@@ -107,6 +122,20 @@ pub data Yields (command : PlainCommand) (inputs outputs : List (List ℕ)) (tex
       → command ≡ check_command file_name board_name input_name cert_name
       → inputs ≡ file ∷ board ∷ input ∷ cert ∷ []
       → outputs ≡ [] → ChecksTo file board input cert text → Yields command inputs outputs text
+  pays : (file_name board_name input_name cert_name file board input cert : List ℕ)
+      → command ≡ paid_command file_name board_name input_name cert_name
+      → inputs ≡ file ∷ board ∷ input ∷ cert ∷ []
+      → outputs ≡ [] → PaysTo file board input cert text → Yields command inputs outputs text
+  mixes : (file_name board_name mix_name out_name cert_name file board mix certificate out : List ℕ) (texts : List (List ℕ))
+      → command ≡ mix_command file_name board_name mix_name out_name cert_name
+      → inputs ≡ file ∷ board ∷ mix ∷ texts → outputs ≡ certificate ∷ out ∷ []
+      → broken_at (cert_name ∷ out_name ∷ []) mix ≡ None
+      → MixesTo file board (inputs_of (mix_lines mix) texts) certificate out text → Yields command inputs outputs text
+  checks_mix : (file_name board_name mix_name cert_name file board mix cert : List ℕ) (texts : List (List ℕ))
+      → command ≡ check_mix_command file_name board_name mix_name cert_name
+      → inputs ≡ file ∷ board ∷ mix ∷ cert ∷ texts → outputs ≡ []
+      → broken_at [] mix ≡ None
+      → ChecksMixTo file board (inputs_of (mix_lines mix) texts) cert text → Yields command inputs outputs text
   shows : (file_name board_name file board : List ℕ)
       → command ≡ show_command file_name board_name → inputs ≡ file ∷ board ∷ [] → outputs ≡ []
       → ShowsTo file board text → Yields command inputs outputs text

@@ -1,10 +1,11 @@
 -- How a command goes, from its names to its result.
-use Rattle.std.specs.Prelude.{◌≡◌, ◌⊎◌, ℕ, List, Option}
+use Rattle.std.specs.Prelude.{◌≡◌, ◌⊎◌, ℕ, List, ◌++◌, Option}
 use Rattle.shelf_io.specs.Shelf.{ShelfView}
 use Rattle.relinking.specs.declared.measuring.MeasuredEnd.{MeasuredEnd}
 use Rattle.shelf_io.specs.Sink.{SinkView, PutAll, PutSome}
-use Rattle.command_words.specs.Command.{PlainCommand, reads, writes}
+use Rattle.command_words.specs.Command.{PlainCommand, writes}
 use Rattle.command_line.specs.Reading.{HoldsAll, RejectsReads}
+use Rattle.command_line.specs.Listing.{further_reads, HoldsInputs, RejectsNames}
 use Rattle.command_line.specs.Meaning.{Yields, RejectsInputs}
 use Rattle.command_line.specs.Measured.{TellsEnd}
 use Rattle.command_line.specs.Delivery.{ArePrepared, SetsAll, LosesOne, WantsInOne}
@@ -22,29 +23,42 @@ pub record IsPreparedFor (command : PlainCommand) (inputs : List (List ℕ)) (pr
   pub print_fault : IsDiagnosticOf (command_fault.Write 0) prepared.print_fault
   pub measured : TellsEnd command inputs prepared.measured
 
+-- The result of a command stands ready, by the texts of its words and those that these list, which were read behind them.
+pub record IsPreparedOf (command : PlainCommand) (texts : List (List ℕ)) (old new : ShelfView) (prepared : PreparedResult) : Type 0 where
+  pub listed : List (List ℕ)
+  pub holds_listed : HoldsAll old (further_reads command texts) listed
+  pub same_shelf : new ≡ old
+  pub prepared_of : IsPreparedFor command (texts ++ listed) prepared
+
+-- it can't be made: a read of what the texts list fails, or what was read is rejected
+pub data RejectsPreparingOf (command : PlainCommand) (texts : List (List ℕ)) (old new : ShelfView) (fault : CommandFault) : Type 0 where
+  listed_fail : RejectsReads (further_reads command texts) old new fault → RejectsPreparingOf command texts old new fault
+  inputs_fail : (listed : List (List ℕ)) → HoldsAll old (further_reads command texts) listed → new ≡ old
+      → RejectsInputs command (texts ++ listed) fault → RejectsPreparingOf command texts old new fault
+
 -- the result stands ready, and the shelf is as before
 pub record IsPrepared (command : PlainCommand) (prepared : PreparedResult) (old new : ShelfView) : Type 0 where
   pub inputs : List (List ℕ)
-  pub holds : HoldsAll old (reads command) inputs
+  pub holds : HoldsInputs old command inputs
   pub same : new ≡ old
   pub prepared_for : IsPreparedFor command inputs prepared
 
 -- what was read is rejected
 pub record InputsFail (command : PlainCommand) (old new : ShelfView) (fault : CommandFault) : Type 0 where
   pub inputs : List (List ℕ)
-  pub holds : HoldsAll old (reads command) inputs
+  pub holds : HoldsInputs old command inputs
   pub same : new ≡ old
   pub rejects : RejectsInputs command inputs fault
 
 -- the result can't be made
 abbrev pub RejectsPreparing : PlainCommand → ShelfView → ShelfView → CommandFault → Type 0
 RejectsPreparing command old new fault =
-    RejectsReads (reads command) old new fault ⊎ InputsFail command old new fault
+    RejectsNames command old new fault ⊎ InputsFail command old new fault
 
 -- the command yields these outputs and this text of what the shelf holds
 pub record YieldsOf (command : PlainCommand) (outputs : List (List ℕ)) (text : List ℕ) (shelf : ShelfView) : Type 0 where
   pub inputs : List (List ℕ)
-  pub holds : HoldsAll shelf (reads command) inputs
+  pub holds : HoldsInputs shelf command inputs
   pub yields : Yields command inputs outputs text
 
 -- the command's outputs were written and its text printed
@@ -58,7 +72,7 @@ pub record Performs (command : PlainCommand) (old new : ShelfView) (sink sink' :
 -- what the command tells of the run that it measures, of what the shelf holds
 pub record TellsEndOf (command : PlainCommand) (told : Option MeasuredEnd) (shelf : ShelfView) : Type 0 where
   pub inputs : List (List ℕ)
-  pub holds : HoldsAll shelf (reads command) inputs
+  pub holds : HoldsInputs shelf command inputs
   pub tells : TellsEnd command inputs told
 
 -- why a command is rejected, and what that leaves

@@ -1,16 +1,15 @@
-ghost use Rattle.std.specs.Prelude.{◌≡◌, ℤ, pos, ◌≤ℤ◌, IfOk, IfErr, string_bytes};
+ghost use Rattle.std.specs.Prelude.{ℤ, pos, ◌≤ℤ◌, IfOk, IfErr, string_bytes};
 ghost use Rattle.placement_programme.specs.Plain.{PlainChoice};
 ghost use Rattle.placement_programme.specs.Programme.{IsFeasible, gain};
-ghost use Rattle.placement_programme.specs.Views.{plain_programme, plain_choice};
-ghost use Rattle.certificate_checker.specs.Views.{plain_verdict};
+ghost use Rattle.placement_programme.specs.Views.{plain_programme};
 ghost use Rattle.command_line.specs.Measured.{MeasuresTo};
-ghost use Rattle.command_line.specs.CheckFile.{ChecksTo, RejectsChecked, ReportsText, RejectsText, MayReport, ReportsAnswer, RejectsAnswer};
+ghost use Rattle.command_line.specs.CheckFile.{ChecksTo, RejectsChecked, ReportsText, RejectsText};
 
+use crate::accepting::accepted_choice;
 use crate::measured_text::MeasuredText;
 use crate::opening::open;
-use certificate_checker::{Room, Verdict, check_text};
 use command_faults::CommandFault;
-use placement_programme::{Choice, Programme};
+use placement_programme::Programme;
 use printed_lines::choice_report;
 use relinking::programme_of_run;
 use std::alloc::Global;
@@ -45,7 +44,7 @@ pub fn check_file(
 }
 
 /// Checks a certificate for a programme, and makes the report on its choice.
-fn checked(
+pub fn checked(
     alloc: Global,
     programme: &Programme,
     nodes: u64,
@@ -55,31 +54,14 @@ fn checked(
     ensures ok { IfOk result (λ report. ReportsText (plain_programme programme.now) nodes cert.now (string_bytes report)) }
     ensures err { IfErr result (RejectsText (plain_programme programme.now) cert.now) }
 {
-    let mut room = Room::new(alloc, programme)?;
-    let verdict = check_text(programme, cert, &mut room)?;
-    match answer(alloc, programme, &room.choice, verdict, nodes) {
-        Ok(report) => Ok(report),
+    match accepted_choice(alloc, programme, cert) {
+        Ok(accepted) => Ok(choice_report(
+            alloc,
+            programme,
+            &accepted.choice,
+            accepted.optimal,
+            nodes,
+        )?),
         Err(fault) => Err(fault),
-    }
-}
-
-/// The report on a choice that is answered so, or why there is none.
-fn answer(
-    alloc: Global,
-    programme: &Programme,
-    choice: &Choice,
-    verdict: Verdict,
-    nodes: u64,
-) -> Result<String, CommandFault>
-    requires within { (c : PlainChoice) → IsFeasible (plain_programme programme.now) c → gain (plain_programme programme.now) c ≤ℤ pos programme.now.base }
-    requires feasible { MayReport (plain_programme programme.now) (plain_choice choice.now) (plain_verdict verdict) }
-    ensures ok { IfOk result (λ report. ReportsAnswer (plain_programme programme.now) nodes (plain_choice choice.now) (plain_verdict verdict) (string_bytes report)) }
-    ensures err { IfErr result (RejectsAnswer (plain_verdict verdict)) }
-{
-    match verdict {
-        Verdict::Optimal => Ok(choice_report(alloc, programme, choice, true, nodes)?),
-        Verdict::BestFound => Ok(choice_report(alloc, programme, choice, false, nodes)?),
-        Verdict::BadChoice => Err(CommandFault::BadChoice),
-        Verdict::Wrong { side, node, .. } => Err(CommandFault::WrongTree { side, node }),
     }
 }

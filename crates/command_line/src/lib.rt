@@ -2,14 +2,20 @@
 //! printed; `run_command` also tells how a measured run ended.
 #![tactic(auto)]
 
+mod accepting;
 mod check_file;
+mod check_mix_file;
 mod compare_files;
 mod delivery;
 mod diagnostic;
 mod hex_files;
 mod measured_text;
+mod mix_file;
+mod mix_inputs;
+mod mix_results;
 mod opening;
 mod outcomes;
+mod paid_file;
 mod performing;
 mod printing;
 mod profile_file;

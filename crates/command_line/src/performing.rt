@@ -1,4 +1,4 @@
-ghost use Rattle.std.specs.Prelude.{◌≡◌, OnOk, IfOk, IfErr};
+ghost use Rattle.std.specs.Prelude.{OnOk, IfOk, IfErr};
 ghost use Rattle.command_words.specs.Command.{HasNumbers, plain_command};
 ghost use Rattle.command_line.specs.Performing.{IsPrepared, RejectsPreparing, Performs, TellsEndOf, IsRejectedBy};
 
@@ -24,7 +24,7 @@ fn prepare<'a, S: Shelf>(
 {
     let names = command.reads(alloc)?;
     match read_all(alloc, &names, shelf) {
-        Ok(texts) => match prepare_result(alloc, command, &texts) {
+        Ok(texts) => match prepare_result(alloc, command, &texts, shelf) {
             Ok(prepared) => Ok(prepared),
             Err(fault) => Err(fault),
         },

@@ -36,8 +36,9 @@ pub fn relink_file(
     ensures err { IfErr result (RejectsProfiled board.now file.now input.now) }
 {
     let opened = open(alloc, file, board)?;
-    let relinked = relink_analysed(alloc, &opened.analysis, &opened.board, input)?;
-    let end = relinked.end;
+    let made = relink_analysed(alloc, &opened.analysis, &opened.board, input)?;
+    let end = made.end;
+    let relinked = made.relinked;
     let report = relink_report(alloc, &opened.analysis, &opened.board, &relinked)?;
     Ok(RelinkedFile {
         certificate: relinked.certificate,

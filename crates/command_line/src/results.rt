@@ -1,32 +1,36 @@
-ghost use Rattle.std.specs.Prelude.{◌≡◌, ◌∷◌, [], ◌≤◌, ℕ, List, IfOk, IfErr, length, string_bytes};
-ghost use Rattle.command_words.specs.Command.{HasNumbers, plain_command, reads, run_command, relink_command, profile_command, compare_command, check_command, gen_command, hex_command, hex_check_command, show_command};
+ghost use Rattle.std.specs.Prelude.{◌≡◌, [], ◌≤◌, ℕ, List, IfOk, IfErr, length, string_bytes, ◌∷◌};
+ghost use Rattle.command_words.specs.Command.{HasNumbers, plain_command, reads, run_command, relink_command, profile_command, compare_command, check_command, gen_command, hex_command, hex_check_command, show_command, paid_command};
 ghost use Rattle.command_line.specs.Reading.{contents};
 ghost use Rattle.command_line.specs.Meaning.{RejectsInputs, kernels_text};
-ghost use Rattle.command_line.specs.Performing.{IsPreparedFor};
+ghost use Rattle.command_line.specs.Performing.{IsPreparedFor, IsPreparedOf, RejectsPreparingOf};
 
 use crate::check_file::check_file;
 use crate::compare_files::compare_files;
 use crate::delivery::{Output, PreparedResult};
 use crate::hex_files::{check_hex, hex_file};
+use crate::mix_results::{prepare_check_mix, prepare_mix};
+use crate::paid_file::paid_file;
 use crate::profile_file::profile_file;
 use crate::relink_file::relink_file;
 use crate::run_file::run_file;
 use crate::show_file::show_file;
 use command_faults::CommandFault;
 use command_words::Command;
+use shelf_io::Shelf;
 use std::alloc::{AllocError, Global};
 use workload_gen::workload;
 
-/// Makes the result of a command of what it read, one text for each name.
-pub fn prepare_result<'a>(
+/// Makes the result of a command of the texts of its words, one for each name, and of what these list, which is read here.
+pub fn prepare_result<'a, S: Shelf>(
     alloc: Global,
     command: &Command<'a>,
     texts: &[Vec<u8>],
+    shelf: &mut S,
 ) -> Result<PreparedResult<'a>, CommandFault>
     requires numbers { HasNumbers (plain_command command.now) }
     requires texts { length texts.now ≡ length (reads (plain_command command.now)) }
-    ensures ok { IfOk result (IsPreparedFor (plain_command command.now) (contents texts.now)) }
-    ensures err { IfErr result (RejectsInputs (plain_command command.now) (contents texts.now)) }
+    ensures ok { IfOk result (IsPreparedOf (plain_command command.now) (contents texts.now) (S.view shelf.old) (S.view shelf.new)) }
+    ensures err { IfErr result (RejectsPreparingOf (plain_command command.now) (contents texts.now) (S.view shelf.old) (S.view shelf.new)) }
 {
     match *command {
         Command::Run { out, .. } => match prepare_run(alloc, out, texts) {
@@ -49,11 +53,26 @@ pub fn prepare_result<'a>(
             Ok(prepared) => Ok(prepared),
             Err(fault) => Err(fault),
         },
+        Command::Paid { .. } => match prepare_paid(alloc, texts) {
+            Ok(prepared) => Ok(prepared),
+            Err(fault) => Err(fault),
+        },
+        Command::Mix { out, cert, .. } => match prepare_mix(alloc, out, cert, texts, shelf) {
+            Ok(prepared) => Ok(prepared),
+            Err(fault) => Err(fault),
+        },
+        Command::CheckMix { .. } => match prepare_check_mix(alloc, texts, shelf) {
+            Ok(prepared) => Ok(prepared),
+            Err(fault) => Err(fault),
+        },
         Command::Show { .. } => match prepare_show(alloc, texts) {
             Ok(prepared) => Ok(prepared),
             Err(fault) => Err(fault),
         },
-        Command::Gen { seed, kernels, out } => prepare_gen(alloc, seed, kernels, out),
+        Command::Gen { seed, kernels, out } => match prepare_gen(alloc, seed, kernels, out) {
+            Ok(prepared) => Ok(prepared),
+            Err(fault) => Err(fault),
+        },
         Command::Hex { out, .. } => match prepare_hex(alloc, out, texts) {
             Ok(prepared) => Ok(prepared),
             Err(fault) => Err(fault),
@@ -139,6 +158,19 @@ fn prepare_check<'a>(alloc: Global, texts: &[Vec<u8>]) -> Result<PreparedResult<
         → RejectsInputs (check_command f b i c) (contents texts.now) fault) }
 {
     match check_file(alloc, &texts[0], &texts[1], &texts[2], &texts[3]) {
+        Ok(made) => Ok(PreparedResult::printed(alloc, made.text, Some(made.end))?),
+        Err(fault) => Err(fault),
+    }
+}
+
+fn prepare_paid<'a>(alloc: Global, texts: &[Vec<u8>]) -> Result<PreparedResult<'a>, CommandFault>
+    requires { length texts.now ≡ 4 }
+    ensures ok { IfOk result (λ prepared. (f b i c : List ℕ)
+        → IsPreparedFor (paid_command f b i c) (contents texts.now) prepared) }
+    ensures err { IfErr result (λ fault. (f b i c : List ℕ)
+        → RejectsInputs (paid_command f b i c) (contents texts.now) fault) }
+{
+    match paid_file(alloc, &texts[0], &texts[1], &texts[2], &texts[3]) {
         Ok(made) => Ok(PreparedResult::printed(alloc, made.text, Some(made.end))?),
         Err(fault) => Err(fault),
     }

@@ -1,2 +1,2 @@
 pub mod WordLists
-pub mod Numbers
+pub mod DigitLemmas

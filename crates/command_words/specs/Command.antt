@@ -48,6 +48,9 @@ pub data PlainCommand : Type 0 where
   profile_command : (file board input : List ℕ) → PlainCommand
   compare_command : (file relinked board input : List ℕ) → PlainCommand
   check_command : (file board input cert : List ℕ) → PlainCommand
+  paid_command : (file board input cert : List ℕ) → PlainCommand
+  mix_command : (file board mix out cert : List ℕ) → PlainCommand
+  check_mix_command : (file board mix cert : List ℕ) → PlainCommand
   show_command : (file board : List ℕ) → PlainCommand
   gen_command : (seed kernels : ℕ) (out : List ℕ) → PlainCommand
   hex_command : (file out : List ℕ) → PlainCommand
@@ -62,7 +65,8 @@ pub record SpellsGen (words : List (List ℕ)) (seed kernels : ℕ) (out : List 
   pub is_kernels : IsNumber 1 64 kernels_word kernels
 
 -- the words of a command: `run FILE BOARD INPUT OUT`, `relink FILE BOARD INPUT OUT CERT`,
--- `profile FILE BOARD INPUT`, `compare FILE RESULT BOARD INPUT`, `check FILE BOARD INPUT CERT`, `show FILE BOARD`,
+-- `profile FILE BOARD INPUT`, `compare FILE RESULT BOARD INPUT`, `check FILE BOARD INPUT CERT`,
+-- `paid FILE BOARD INPUT CERT`, `mix FILE BOARD MIX OUT CERT`, `checkmix FILE BOARD MIX CERT`, `show FILE BOARD`,
 -- `gen SEED KERNELS OUT`, `hex FILE OUT`, `hexcheck FILE HEX`
 abbrev pub Spells : List (List ℕ) → PlainCommand → Type 0
 Spells words (run_command file board input out) = words ≡ codes "run" ∷ file ∷ board ∷ input ∷ out ∷ []
@@ -73,18 +77,33 @@ Spells words (compare_command file relinked board input) =
     words ≡ codes "compare" ∷ file ∷ relinked ∷ board ∷ input ∷ []
 Spells words (check_command file board input cert) =
     words ≡ codes "check" ∷ file ∷ board ∷ input ∷ cert ∷ []
+Spells words (paid_command file board input cert) =
+    words ≡ codes "paid" ∷ file ∷ board ∷ input ∷ cert ∷ []
+Spells words (mix_command file board mix out cert) =
+    words ≡ codes "mix" ∷ file ∷ board ∷ mix ∷ out ∷ cert ∷ []
+Spells words (check_mix_command file board mix cert) =
+    words ≡ codes "checkmix" ∷ file ∷ board ∷ mix ∷ cert ∷ []
 Spells words (show_command file board) = words ≡ codes "show" ∷ file ∷ board ∷ []
 Spells words (gen_command seed kernels out) = SpellsGen words seed kernels out
 Spells words (hex_command file out) = words ≡ codes "hex" ∷ file ∷ out ∷ []
 Spells words (hex_check_command file hex) = words ≡ codes "hexcheck" ∷ file ∷ hex ∷ []
 
--- the words spell no command that runs the program of a file
+-- the words spell no command that runs the program of a file and reads no certificate
 pub record SpellsNoRun (words : List (List ℕ)) : Type 0 where
   pub run : (f b i o : List ℕ) → Spells words (run_command f b i o) → ⊥
   pub relink : (f b i o c : List ℕ) → Spells words (relink_command f b i o c) → ⊥
   pub profile : (f b i : List ℕ) → Spells words (profile_command f b i) → ⊥
   pub compare : (f r b i : List ℕ) → Spells words (compare_command f r b i) → ⊥
+
+-- none that reads a certificate for one run
+pub record SpellsNoCertified (words : List (List ℕ)) : Type 0 where
   pub check : (f b i c : List ℕ) → Spells words (check_command f b i c) → ⊥
+  pub paid : (f b i c : List ℕ) → Spells words (paid_command f b i c) → ⊥
+
+-- none of several runs
+pub record SpellsNoMix (words : List (List ℕ)) : Type 0 where
+  pub mix : (f b m o c : List ℕ) → Spells words (mix_command f b m o c) → ⊥
+  pub check_mix : (f b m c : List ℕ) → Spells words (check_mix_command f b m c) → ⊥
 
 -- and none that reads files and runs nothing
 pub record SpellsNoOther (words : List (List ℕ)) : Type 0 where
@@ -100,7 +119,7 @@ pub record Named : Type 0 where
 abbrev pub named : ℕ → List ℕ → Named
 named at text = record { place = at; name = text }
 
--- the names that a command reads, in the order of the reads
+-- the names of its words that a command reads, in the order of the reads
 abbrev pub reads : PlainCommand → List Named
 reads (run_command file board input out) = named 1 file ∷ named 2 board ∷ named 3 input ∷ []
 reads (relink_command file board input out cert) = named 1 file ∷ named 2 board ∷ named 3 input ∷ []
@@ -109,6 +128,11 @@ reads (compare_command file relinked board input) =
     named 1 file ∷ named 2 relinked ∷ named 3 board ∷ named 4 input ∷ []
 reads (check_command file board input cert) =
     named 1 file ∷ named 2 board ∷ named 3 input ∷ named 4 cert ∷ []
+reads (paid_command file board input cert) =
+    named 1 file ∷ named 2 board ∷ named 3 input ∷ named 4 cert ∷ []
+reads (mix_command file board mix out cert) = named 1 file ∷ named 2 board ∷ named 3 mix ∷ []
+reads (check_mix_command file board mix cert) =
+    named 1 file ∷ named 2 board ∷ named 3 mix ∷ named 4 cert ∷ []
 reads (show_command file board) = named 1 file ∷ named 2 board ∷ []
 reads (gen_command seed kernels out) = []
 reads (hex_command file out) = named 1 file ∷ []
@@ -121,6 +145,9 @@ writes (relink_command file board input out cert) = named 5 cert ∷ named 4 out
 writes (profile_command file board input) = []
 writes (compare_command file relinked board input) = []
 writes (check_command file board input cert) = []
+writes (paid_command file board input cert) = []
+writes (mix_command file board mix out cert) = named 5 cert ∷ named 4 out ∷ []
+writes (check_mix_command file board mix cert) = []
 writes (show_command file board) = []
 writes (gen_command seed kernels out) = named 3 out ∷ []
 writes (hex_command file out) = named 2 out ∷ []
@@ -153,6 +180,9 @@ HasNumbers (relink_command file board input out cert) = Unit
 HasNumbers (profile_command file board input) = Unit
 HasNumbers (compare_command file relinked board input) = Unit
 HasNumbers (check_command file board input cert) = Unit
+HasNumbers (paid_command file board input cert) = Unit
+HasNumbers (mix_command file board mix out cert) = Unit
+HasNumbers (check_mix_command file board mix cert) = Unit
 HasNumbers (show_command file board) = Unit
 HasNumbers (gen_command seed kernels out) = (1 ≤ kernels) × (kernels ≤ 64)
 HasNumbers (hex_command file out) = Unit
@@ -167,6 +197,9 @@ plain_command (code.Profile file board input) = profile_command file.now board.n
 plain_command (code.Compare file relinked board input) =
     compare_command file.now relinked.now board.now input.now
 plain_command (code.Check file board input cert) = check_command file.now board.now input.now cert.now
+plain_command (code.Paid file board input cert) = paid_command file.now board.now input.now cert.now
+plain_command (code.Mix file board mix out cert) = mix_command file.now board.now mix.now out.now cert.now
+plain_command (code.CheckMix file board mix cert) = check_mix_command file.now board.now mix.now cert.now
 plain_command (code.Show file board) = show_command file.now board.now
 plain_command (code.Gen seed kernels out) = gen_command seed kernels out.now
 plain_command (code.Hex file out) = hex_command file.now out.now

@@ -2,5 +2,10 @@
 #![tactic(auto)]
 
 mod commands;
+mod numbers;
+mod parsing;
+mod word_lists;
 
-pub use commands::{Command, NamedWord, parse};
+pub use commands::{Command, NamedWord};
+pub use numbers::{are_digits, digits_value};
+pub use parsing::parse;

@@ -6,6 +6,7 @@ mod boards;
 mod cures;
 mod files;
 mod instructions;
+mod mixes;
 mod notes;
 mod objects;
 mod places;
@@ -19,6 +20,7 @@ pub use answers::{
 };
 pub use boards::{explain_board, gives_key};
 pub use files::{say_incomplete, say_unread, say_unread_device, say_unwritten};
+pub use mixes::{say_bad_line, say_faulty_input, say_unread_input};
 pub use notes::Notes;
 pub use objects::{
     Label, PinnedSection, Rule, is_anchor, say_load_address, say_more_sections, say_nothing_moved,

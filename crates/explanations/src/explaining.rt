@@ -4,6 +4,7 @@ ghost use Rattle.relink_core.specs.Choices.{IsAnalysisOf};
 
 use crate::files::{explain_unread, explain_unwritten};
 use crate::inputs::{Inputs, inputs_of};
+use crate::mixes::explain_mix;
 use crate::pinned::explain_pinned;
 use crate::runs::{explain_end, explain_run};
 use board_config::{Board, read_board};
@@ -28,6 +29,9 @@ const UNREAD: u8 = 2;
 
 /// The status of a command that can't write a file or to standard output.
 const UNWRITTEN: u8 = 3;
+
+/// The status of a mix of which a line breaks a rule.
+const BAD_MIX: u8 = 13;
 
 /// Lines for standard error that explain what a command did, from its words, the files that it read, its status, and how
 /// its measured run ended; each begins with `spmlink: `. The text is empty where all is as one expects. It reads the files
@@ -69,17 +73,44 @@ fn explain_command<S: Shelf>(
         UNREAD => explain_unread(notes, words, shelf, command),
         UNWRITTEN => explain_unwritten(notes, words, shelf, command),
         _ => match inputs_of(notes.alloc(), words, shelf, command, status, end) {
-            Some(inputs) => explain_inputs(notes, &inputs),
+            Some(inputs) => explain_inputs(notes, words, command, &inputs),
             None => Ok(()),
         },
     }
 }
 
-fn explain_inputs(notes: &mut Notes, inputs: &Inputs) -> Result<(), AllocError> {
+/// The text that lists the inputs of a command, of which a line breaks a rule.
+fn explain_list(
+    notes: &mut Notes,
+    words: &[String],
+    command: &Command,
+    inputs: &Inputs,
+) -> Result<(), AllocError> {
+    let mut written = Vec::new(inputs.alloc);
+    for place in command.writes {
+        if let Some(word) = words.get(*place) {
+            written.push(word.as_str())?;
+        }
+    }
+    match &inputs.mix {
+        Some(text) => explain_mix(notes, text, &written),
+        None => Ok(()),
+    }
+}
+
+fn explain_inputs(
+    notes: &mut Notes,
+    words: &[String],
+    command: &Command,
+    inputs: &Inputs,
+) -> Result<(), AllocError> {
     if inputs.status == 0 {
         return explain_done(notes, inputs);
     }
     explain_status(notes, inputs.status, inputs.board.is_some())?;
+    if inputs.status == BAD_MIX {
+        return explain_list(notes, words, command, inputs);
+    }
     explain_files(notes, inputs)
 }
 

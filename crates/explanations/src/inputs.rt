@@ -1,3 +1,4 @@
+use crate::mixes::{listed_inputs, mix_of};
 use explanation_texts::Command;
 use relinking::MeasuredEnd;
 use shelf_io::Shelf;
@@ -15,6 +16,10 @@ pub(crate) struct Inputs {
     pub(crate) analyses: bool,
     /// The input of the program, where the command runs it up to an address fault, and it can be read twice.
     pub(crate) input: Option<Vec<u8>>,
+    /// The text that lists the inputs, where the command has one.
+    pub(crate) mix: Option<Vec<u8>>,
+    /// The inputs that it lists, where the command runs the program up to an address fault.
+    pub(crate) listed: Vec<Vec<u8>>,
     /// The result that was relinked to.
     pub(crate) result: Option<Vec<u8>>,
     /// A further ELF file that the command read before it was refused.
@@ -45,12 +50,19 @@ pub(crate) fn inputs_of<S: Shelf>(
     } else {
         (command.input, None, command.beside)
     };
+    let mix = mix_of(alloc, words, shelf, command);
+    let listed = match &mix {
+        Some(text) if status != 0 => listed_inputs(alloc, text, shelf).ok()?,
+        _ => Vec::new(alloc),
+    };
     Some(Inputs {
         alloc,
         file: read_word(alloc, words, shelf, command.file)?,
         board: read_word(alloc, words, shelf, command.board),
         analyses: command.analyses,
         input: read_word(alloc, words, shelf, input),
+        mix,
+        listed,
         result: read_word(alloc, words, shelf, result),
         beside: read_word(alloc, words, shelf, beside),
         status,
@@ -59,7 +71,7 @@ pub(crate) fn inputs_of<S: Shelf>(
 }
 
 /// The bytes under a word. A device may not give them twice, so none but the empty one is read.
-fn read_word<S: Shelf>(
+pub(crate) fn read_word<S: Shelf>(
     alloc: Global,
     words: &[String],
     shelf: &mut S,

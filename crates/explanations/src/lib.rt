@@ -5,6 +5,7 @@ mod census;
 mod explaining;
 mod files;
 mod inputs;
+mod mixes;
 mod names;
 mod pinned;
 mod runs;

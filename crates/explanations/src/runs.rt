@@ -6,7 +6,8 @@ use crate::names::{name_at, object_name, section_at, section_name};
 use board_config::Board;
 use elf_reader::ElfView;
 use explanation_texts::{
-    Involved, Notes, explain_fault, is_anchor, say_load_address, say_still_running, say_trapped,
+    Involved, Notes, explain_fault, is_anchor, say_faulty_input, say_load_address,
+    say_still_running, say_trapped,
 };
 use fault_trail::{AddressFault, fault_of_run};
 use object_graph::Graph;
@@ -34,15 +35,48 @@ pub(crate) fn explain_run(
     if !ADDRESS_FAULTS.contains(&inputs.status) {
         return Ok(());
     }
-    let Some(input) = &inputs.input else {
+    if let Some(input) = &inputs.input {
+        if let Some(fault) = fault_on(inputs.alloc, analysis, board, input)? {
+            explain_faulted(notes, &inputs.unchecked(), analysis, &fault)?;
+        }
         return Ok(());
-    };
-    let mut source = machine(inputs.alloc, analysis, board, input)?;
-    explain_faulted(
-        notes,
-        &inputs.unchecked(),
+    }
+    explain_listed(notes, inputs, board, analysis)
+}
+
+/// The first of the inputs of a mix whose run meets an address fault.
+fn explain_listed(
+    notes: &mut Notes,
+    inputs: &Inputs,
+    board: &Board,
+    analysis: &Analysis<'_>,
+) -> Result<(), AllocError>
+    requires { (file : List ℕ) × IsAnalysisOf file board.now analysis.now }
+{
+    for (place, input) in inputs.listed.iter().enumerate() {
+        if let Some(fault) = fault_on(inputs.alloc, analysis, board, input)? {
+            say_faulty_input(notes, place as u64 + 1)?;
+            return explain_faulted(notes, &inputs.unchecked(), analysis, &fault);
+        }
+    }
+    Ok(())
+}
+
+/// The address fault of the program's run on an input, if it meets one.
+fn fault_on(
+    alloc: Global,
+    analysis: &Analysis<'_>,
+    board: &Board,
+    input: &[u8],
+) -> Result<Option<AddressFault>, AllocError>
+    requires { (file : List ℕ) × IsAnalysisOf file board.now analysis.now }
+{
+    let mut source = machine(alloc, analysis, board, input)?;
+    fault_of_run(
+        alloc,
         &mut source,
-        analysis,
+        &analysis.code,
+        &analysis.graph,
         board.steps,
     )
 }
@@ -86,22 +120,11 @@ pub(crate) fn explain_end(
 fn explain_faulted(
     notes: &mut Notes,
     file: &UncheckedFile,
-    source: &mut Source,
     analysis: &Analysis<'_>,
-    steps: u64,
+    fault: &AddressFault,
 ) -> Result<(), AllocError> {
-    let found = fault_of_run(
-        notes.alloc(),
-        source,
-        &analysis.code,
-        &analysis.graph,
-        steps,
-    )?;
-    let Some(fault) = found else {
-        return Ok(());
-    };
-    let involved = involved_in(&analysis.view, &analysis.graph, &fault);
-    explain_fault(notes, file, &fault, &involved)
+    let involved = involved_in(&analysis.view, &analysis.graph, fault);
+    explain_fault(notes, file, fault, &involved)
 }
 
 /// What is known by name of an address fault.

@@ -27,7 +27,7 @@ returns-in_err-measured-clause-err c =
 pub checked-requires : goal.checked-requires
 checked-requires c =
     let o = c.in_ok-opened.opened in
-    let states = c.in_ok-measured.ensures.ok in
+    let states = c.in_ok-measured.ensures.ok.states in
     record { within = within_base (scene_of o.analysis.graph o.analysis.code o.analysis.regions o.board) states.transitions (plain_programme c.in_ok-measured.measured.programme) states.energies }
 
 pub returns-in-Ok-clause-ok : goal.returns-in-Ok-clause-ok
@@ -39,7 +39,7 @@ returns-in-Ok-clause-ok c =
       board = o.board;
       accepts = is.accepts;
       programme = programme;
-      states = states_of c.args.board.now c.args.file.now c.args.input.now o programme is c.in_ok-measured.ensures.ok;
+      states = states_of c.args.board.now c.args.file.now c.args.input.now o programme is c.in_ok-measured.ensures.ok.states;
       reports = rw c.into_bytes-text.ensures.value c.in-Ok.ensures.ok;
     }
 
@@ -53,5 +53,5 @@ returns-clause-err c =
     let is = c.in_ok-opened.ensures.ok in
     let programme = plain_programme c.in_ok-measured.measured.programme in
     certificate_told c.args.board.now c.args.file.now c.args.input.now c.args.cert.now o.board programme _ is.accepts
-    (states_of c.args.board.now c.args.file.now c.args.input.now o programme is c.in_ok-measured.ensures.ok)
+    (states_of c.args.board.now c.args.file.now c.args.input.now o programme is c.in_ok-measured.ensures.ok.states)
     c.in-Err.ensures.err

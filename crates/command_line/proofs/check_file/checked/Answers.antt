@@ -1,24 +1,12 @@
-use Rattle.std.proofs.Common.{arith}
-use Rattle.std.proofs.lemmas.Result.{err_from_is_err_and}
 use Rattle.placement_programme.specs.Views.{plain_programme, plain_choice}
-use Rattle.command_line.proofs.Certificates.{may_report_read, text_reported, text_rejected, unspelled_rejected}
+use Rattle.command_line.proofs.Certificates.{accepted_feasible, accepted_reported}
 use Rattle.command_line.proofs.check_file.checked.Goals as goal
 
-pub returns-in_err-verdict-clause-err : goal.returns-in_err-verdict-clause-err
-returns-in_err-verdict-clause-err c =
-    let p = err_from_is_err_and c.from_residual-in_err-verdict.result c.from_residual-in_err-verdict.ensures.1 in
-    rw (p.1, p.2) (unspelled_rejected (plain_programme c.args.programme.now) c.args.cert.now _ c.in_err-verdict.ensures.answers)
+pub choice_report-requires-clause-feasible : goal.choice_report-requires-clause-feasible
+choice_report-requires-clause-feasible c =
+    accepted_feasible (plain_programme c.args.programme.now) c.args.cert.now c.in-Ok.accepted.optimal (plain_choice c.in-Ok.accepted.choice) c.in-Ok.ensures.ok
 
-pub answer-requires-clause-feasible : goal.answer-requires-clause-feasible
-answer-requires-clause-feasible c =
-    may_report_read (plain_programme c.args.programme.now) c.args.cert.now (plain_choice c.check_text.new.room.choice) c.in_ok-verdict.verdict c.in_ok-verdict.ensures.answers
-
-pub returns-in-Ok-clause-ok : goal.returns-in-Ok-clause-ok
-returns-in-Ok-clause-ok c =
-    text_reported (plain_programme c.args.programme.now) c.args.nodes c.args.cert.now (plain_choice c.check_text.new.room.choice)
-    (λ i. omega (arith, c.type_inv.cert i)) c.in_ok-verdict.verdict _ c.in_ok-verdict.ensures.answers c.in-Ok.ensures.ok
-
-pub returns-clause-err : goal.returns-clause-err
-returns-clause-err c =
-    text_rejected (plain_programme c.args.programme.now) c.args.nodes c.args.cert.now (plain_choice c.check_text.new.room.choice)
-    (λ i. omega (arith, c.type_inv.cert i)) c.in_ok-verdict.verdict c.in-Err.fault c.in_ok-verdict.ensures.answers c.in-Err.ensures.err
+pub returns-in_ok-choice_report-in-Ok-clause-ok : goal.returns-in_ok-choice_report-in-Ok-clause-ok
+returns-in_ok-choice_report-in-Ok-clause-ok c =
+    accepted_reported (plain_programme c.args.programme.now) c.args.nodes c.args.cert.now c.in-Ok.accepted.optimal (plain_choice c.in-Ok.accepted.choice) _ c.in-Ok.ensures.ok
+    c.in_ok-choice_report-in-Ok.ensures

@@ -1,0 +1,54 @@
+use Rattle.std.proofs.Common.{◌∷◌, [], ◌++◌, ℕ, List, map, refl, sym, subst, ap, ◌∙◌}
+use Rattle.mix_text.specs.Lines.{plain_input}
+use Rattle.relinking.specs.MixOfRuns.{WeightedInput}
+use Rattle.relinking.specs.MixOfRuns as together
+use Rattle.command_words.specs.Command.{mix_command}
+use Rattle.command_line.specs.Listing.{third}
+use Rattle.command_line.specs.Measured.{measures_none}
+use Rattle.command_line.specs.Meaning.{RejectsInputs, mixes}
+use Rattle.command_line.specs.MixFile.{inputs_of, MixesTo, RejectsRuns}
+use Rattle.command_line.specs.Reading.{contents}
+use Rattle.command_line.proofs.MixResults.{three_with_third, inputs_listed, some_listed, mix_rejected}
+use Rattle.command_line.proofs.mix_results.mixed_result.Goals as goal
+
+pub mix_file-requires : goal.mix_file-requires
+mix_file-requires c =
+    let are = ap (map together.plain_input) c.deref-5.ensures.value ∙ c.in_ok-inputs.ensures
+    ∙ (λ i. inputs_of (map plain_input (c.deref.ensures.value i)) (contents (c.deref-2.ensures.value i))) in
+    some_listed (c.args.cert.now ∷ c.args.out.now ∷ []) (third (contents c.args.texts.now)) c.args.listed.now _ c.requires.listed are
+
+pub returns-in-Ok-clause-ok : goal.returns-in-Ok-clause-ok
+returns-in-Ok-clause-ok c f b m =
+    let mix = third (contents c.args.texts.now) in
+    let listed = contents c.args.listed.now.texts.items in
+    let are = ap (map together.plain_input) c.deref-5.ensures.value ∙ c.in_ok-inputs.ensures
+    ∙ (λ i. inputs_of (map plain_input (c.deref.ensures.value i)) (contents (c.deref-2.ensures.value i))) in
+    let inputs = inputs_listed (c.args.cert.now ∷ c.args.out.now ∷ []) mix c.args.listed.now _ c.requires.listed are in
+    let file = c.deref-3.result.now in
+    let board = c.deref-4.result.now in
+    let texts = three_with_third c.args.texts.now c.index-texts-0.result c.index-texts-1.result file board c.requires.texts c.index-texts-0.is c.index-texts-1.is c.deref-3.ensures.value c.deref-4.ensures.value in
+    let mixed = c.in-Ok.mixed in
+    let is = subst (λ (ps : List WeightedInput). MixesTo file board ps mixed.certificate.items mixed.file.items mixed.report.items) inputs c.in-Ok.ensures.ok in
+    let made = c.in_ok-written_twice-in-Ok.ensures in
+    record {
+      outputs = mixed.certificate.items ∷ mixed.file.items ∷ [];
+      yields = rw made.text (mixes f b m _ _ file board mix _ _ listed refl (ap (λ ts. ts ++ listed) (sym texts)) refl c.requires.listed.unbroken is);
+      prepared_outputs = rw made.outputs (c.in_ok-first-in-Ok.ensures, (c.in_ok-second-in-Ok.ensures, tt));
+      print_fault = made.print_fault;
+      measured = measures_none refl made.measured;
+    }
+
+pub returns-clause-err : goal.returns-clause-err
+returns-clause-err c f b m =
+    let mix = third (contents c.args.texts.now) in
+    let listed = contents c.args.listed.now.texts.items in
+    let are = ap (map together.plain_input) c.deref-5.ensures.value ∙ c.in_ok-inputs.ensures
+    ∙ (λ i. inputs_of (map plain_input (c.deref.ensures.value i)) (contents (c.deref-2.ensures.value i))) in
+    let inputs = inputs_listed (c.args.cert.now ∷ c.args.out.now ∷ []) mix c.args.listed.now _ c.requires.listed are in
+    let file = c.deref-3.result.now in
+    let board = c.deref-4.result.now in
+    let texts = three_with_third c.args.texts.now c.index-texts-0.result c.index-texts-1.result file board c.requires.texts c.index-texts-0.is c.index-texts-1.is c.deref-3.ensures.value c.deref-4.ensures.value in
+    let fault = c.in-Err.fault in
+    subst (λ (ts : List (List ℕ)). RejectsInputs (mix_command f b m c.args.out.now c.args.cert.now) (ts ++ listed) fault) texts
+    (mix_rejected f b m c.args.out.now c.args.cert.now file board mix listed fault c.requires.listed.unbroken
+    (subst (λ (ps : List WeightedInput). RejectsRuns board file ps fault) inputs c.in-Err.ensures.err))

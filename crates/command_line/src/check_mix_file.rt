@@ -1,0 +1,34 @@
+ghost use Rattle.std.specs.Prelude.{IfOk, IfErr, map, string_bytes};
+ghost use Rattle.relinking.specs.MixOfRuns.{plain_input, AreSomeInputs};
+ghost use Rattle.command_line.specs.MixFile.{ChecksMixTo, RejectsCheckedRuns};
+
+use crate::check_file::checked;
+use crate::opening::open;
+use command_faults::CommandFault;
+use relinking::{WeightedBytes, programme_of_runs};
+use std::alloc::Global;
+
+/// Checks a certificate for the programme that the runs of a file's program on several inputs state together, with
+/// nothing but the files, and tells in lines how the certificate's choice was found and what the runs cost with it.
+///
+/// The error is the first fault of the board's text, of the file, of where it lies, of its code, of its regions, the
+/// address fault of the first run that meets one, the first byte at which the text breaks the grammar, or how its
+/// certificate fails. `Memory` comes only where no memory was left.
+pub fn check_mix_file(
+    alloc: Global,
+    file: &[u8],
+    board: &[u8],
+    inputs: &[WeightedBytes<'_>],
+    cert: &[u8],
+) -> Result<String, CommandFault>
+    requires { AreSomeInputs (map plain_input inputs.now) }
+    ensures ok { IfOk result (λ report. ChecksMixTo file.now board.now (map plain_input inputs.now) cert.now (string_bytes report)) }
+    ensures err { IfErr result (RejectsCheckedRuns board.now file.now (map plain_input inputs.now) cert.now) }
+{
+    let opened = open(alloc, file, board)?;
+    let programme = programme_of_runs(alloc, &opened.analysis, &opened.board, inputs)?;
+    match checked(alloc, &programme, opened.board.nodes, cert) {
+        Ok(report) => Ok(report),
+        Err(fault) => Err(fault),
+    }
+}

@@ -1,0 +1,44 @@
+ghost use Rattle.std.specs.Prelude.{IfOk, IfErr, map};
+ghost use Rattle.relinking.specs.MixOfRuns.{plain_input, AreSomeInputs};
+ghost use Rattle.command_line.specs.MixFile.{MixesTo, RejectsRuns};
+
+use crate::opening::open;
+use command_faults::CommandFault;
+use relinking::{WeightedBytes, relink_report, relink_runs};
+use std::alloc::Global;
+
+/// The result of a `mix` command, before any of it is written.
+#[derive(Drop)]
+pub struct MixedFile {
+    /// Which choice was made, and why it is one of the best where that was shown.
+    pub certificate: Vec<u8>,
+    /// The file in which what was chosen has moved.
+    pub file: Vec<u8>,
+    /// How the choice was found, what it saves by weight, and where stands what has moved, in lines.
+    pub report: Vec<u8>,
+}
+
+/// Relinks a file for a board and several inputs with weights. The program is run on each input to measure it, for the
+/// board's steps.
+///
+/// The error is the first fault of the board's text, of the file, of where it lies, of its code, of its regions, or the
+/// address fault of the first run that meets one. `Memory` comes only where no memory was left.
+pub fn mix_file(
+    alloc: Global,
+    file: &[u8],
+    board: &[u8],
+    inputs: &[WeightedBytes<'_>],
+) -> Result<MixedFile, CommandFault>
+    requires { AreSomeInputs (map plain_input inputs.now) }
+    ensures ok { IfOk result (λ r. MixesTo file.now board.now (map plain_input inputs.now) r.certificate.items r.file.items r.report.items) }
+    ensures err { IfErr result (RejectsRuns board.now file.now (map plain_input inputs.now)) }
+{
+    let opened = open(alloc, file, board)?;
+    let relinked = relink_runs(alloc, &opened.analysis, &opened.board, inputs)?;
+    let report = relink_report(alloc, &opened.analysis, &opened.board, &relinked)?;
+    Ok(MixedFile {
+        certificate: relinked.certificate,
+        file: relinked.result.bytes,
+        report,
+    })
+}

@@ -1,0 +1,46 @@
+use crate::notes::{Notes, Piece};
+use std::alloc::AllocError;
+
+/// A line of a mix that breaks a rule, by its number from 1. It fails only where no memory was left.
+pub fn say_bad_line(notes: &mut Notes, line: u64) -> Result<(), AllocError> {
+    say_line(
+        notes,
+        line,
+        " breaks a rule: a line is a weight from 1 to 1,000, one space, a name of at most 255 printed bytes that the command does not write, and a newline; there are 1 to 16 of them",
+    )?;
+    notes.say_first("correct that line, as `1 input`")
+}
+
+/// An input that a mix lists and that can't be read, by the number of its line, from 1, and its name. It fails only where
+/// no memory was left.
+pub fn say_unread_input(notes: &mut Notes, line: u64, name: &str) -> Result<(), AllocError> {
+    notes.say(&[
+        Piece::Text("line "),
+        Piece::Number(line),
+        Piece::Text(" of MIX, "),
+        Piece::Name(name.as_bytes()),
+        Piece::Text(
+            ", can't be read: it is missing or a folder, may not be read, or has over 128 MiB",
+        ),
+    ])?;
+    notes.say_first("correct the name, or make the file readable")
+}
+
+/// The input of a mix whose run meets an address fault, by the number of its line, from 1. It fails only where no memory
+/// was left.
+pub fn say_faulty_input(notes: &mut Notes, line: u64) -> Result<(), AllocError> {
+    say_line(
+        notes,
+        line,
+        " names the first input whose run meets an address fault",
+    )
+}
+
+fn say_line(notes: &mut Notes, line: u64, words: &'static str) -> Result<(), AllocError> {
+    notes.say(&[
+        Piece::Text("line "),
+        Piece::Number(line),
+        Piece::Text(" of MIX"),
+        Piece::Text(words),
+    ])
+}
