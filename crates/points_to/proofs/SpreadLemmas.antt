@@ -59,16 +59,16 @@ of_none n m (IsOfUnit.of_object from is) = absurd (omega (arith, is))
 
 -- ---- going on
 
-pub goes_nowhere : (n : ℕ) (marks words : List ℕ) → GoesOn n marks words marks words
-goes_nowhere n marks words = record {
+pub goes_nowhere : (places : List ℕ) (n : ℕ) (marks words : List ℕ) → GoesOn places n marks words marks words
+goes_nowhere places n marks words = record {
   more = λ m k has. has;
   changed = λ m u of. inl refl;
   still = λ u waits. waits;
   less = omega arith;
 }
 
-pub goes_further : (n : ℕ) (m0 w0 m1 w1 m2 w2 : List ℕ) → GoesOn n m0 w0 m1 w1 → GoesOn n m1 w1 m2 w2 → GoesOn n m0 w0 m2 w2
-goes_further n m0 w0 m1 w1 m2 w2 a b = record {
+pub goes_further : (places : List ℕ) (n : ℕ) (m0 w0 m1 w1 m2 w2 : List ℕ) → GoesOn places n m0 w0 m1 w1 → GoesOn places n m1 w1 m2 w2 → GoesOn places n m0 w0 m2 w2
+goes_further places n m0 w0 m1 w1 m2 w2 a b = record {
   more = λ m k has. b.more m k (a.more m k has);
   changed = λ m u of. elim (b.changed m u of) [
     | inl same ↦ elim (a.changed m u of) [ inl before ↦ inl (same ∙ before) | inr waits ↦ inr (b.still u waits) ]
@@ -85,7 +85,7 @@ missing_same [] to v same = refl
 missing_same (w ∷ marks) zero v same = ap (λ (x : ℕ). (18446744073709551616 - x) + missing marks) same
 missing_same (w ∷ marks) (suc to) v same = ap (λ (x : ℕ). (18446744073709551616 - w) + x) (missing_same marks to v same)
 
-module _ (n : ℕ) (marks words words' : List ℕ) (to by : ℕ) (inside : to < length marks) where
+module _ (places : List ℕ) (n : ℕ) (marks words words' : List ℕ) (to by : ℕ) (inside : to < length marks) where
   abbrev grown : ℕ
   grown = bit_or (word_at marks to) by
 
@@ -98,7 +98,7 @@ module _ (n : ℕ) (marks words words' : List ℕ) (to by : ℕ) (inside : to < 
         | inr other ↦ subst (λ (v : ℕ). HasMark v k) (sym (get_or-set_other marks to m grown 0 other)) has
       ]
 
-  pub grown_same : bit_or (word_at marks to) by ≡ word_at marks to → GoesOn n marks words (slice_set marks to (bit_or (word_at marks to) by)) words
+  pub grown_same : bit_or (word_at marks to) by ≡ word_at marks to → GoesOn places n marks words (slice_set marks to (bit_or (word_at marks to) by)) words
   grown_same same =
       let count = missing_same marks to grown same in record {
         more = stays;
@@ -110,14 +110,14 @@ module _ (n : ℕ) (marks words words' : List ℕ) (to by : ℕ) (inside : to < 
         less = omega (arith, count);
       }
 
-  pub grown_more : (u : ℕ) → IsOfUnit n to u → IsAdded u words words' → word_at marks to < bit_or (word_at marks to) by → bit_or (word_at marks to) by < 18446744073709551616
-      → GoesOn n marks words (slice_set marks to (bit_or (word_at marks to) by)) words'
+  pub grown_more : (u : ℕ) → IsOfUnit n to u → IsAdded places u words words' → word_at marks to < bit_or (word_at marks to) by → bit_or (word_at marks to) by < 18446744073709551616
+      → GoesOn places n marks words (slice_set marks to (bit_or (word_at marks to) by)) words'
   grown_more u of added more fits =
       let count = missing_set marks to grown inside more fits in
       let bulk = added.less in record {
         more = stays;
         changed = λ m v is. elim (cases_eq m to) [
-          | inl same ↦ inr (subst (Waits words') (one_unit n to u v of (subst (λ (j : ℕ). IsOfUnit n j v) same is)) added.here)
+          | inl same ↦ inr (subst (Waits places words') (one_unit n to u v of (subst (λ (j : ℕ). IsOfUnit n j v) same is)) added.here)
           | inr other ↦ inl (get_or-set_other marks to m grown 0 other)
         ];
         still = added.still;
@@ -144,18 +144,18 @@ row_more row i by node marks inside still more passed j k below has lets =
 
 -- ---- sets of nodes
 
-module _ (n : ℕ) (rows : List (List Edge)) where
-  pub passed_none : (In : ℕ → Type 0) (marks words : List ℕ) → ((m : ℕ) → In m → word_at marks m ≡ 0) → PassedAll In n rows marks words marks words
+module _ (places : List ℕ) (n : ℕ) (rows : List (List Edge)) where
+  pub passed_none : (In : ℕ → Type 0) (marks words : List ℕ) → ((m : ℕ) → In m → word_at marks m ≡ 0) → PassedAll In places n rows marks words marks words
   passed_none In marks words none = record {
-    goes_on = goes_nowhere n marks words;
+    goes_on = goes_nowhere places n marks words;
     between = λ start b. b;
     passed = λ m is i k below has. absurd (none_in_zero k (subst (λ (w : ℕ). HasMark w k) (none m is) has));
   }
 
-  pub passed_both : (P Q U : ℕ → Type 0) (m0 w0 m1 w1 m2 w2 : List ℕ) → PassedAll P n rows m0 w0 m1 w1 → PassedAll Q n rows m1 w1 m2 w2 → ((m : ℕ) → m < length rows → U m → P m ⊎ Q m)
-      → PassedAll U n rows m0 w0 m2 w2
+  pub passed_both : (P Q U : ℕ → Type 0) (m0 w0 m1 w1 m2 w2 : List ℕ) → PassedAll P places n rows m0 w0 m1 w1 → PassedAll Q places n rows m1 w1 m2 w2 → ((m : ℕ) → m < length rows → U m → P m ⊎ Q m)
+      → PassedAll U places n rows m0 w0 m2 w2
   passed_both P Q U m0 w0 m1 w1 m2 w2 a b split = record {
-    goes_on = goes_further n m0 w0 m1 w1 m2 w2 a.goes_on b.goes_on;
+    goes_on = goes_further places n m0 w0 m1 w1 m2 w2 a.goes_on b.goes_on;
     between = λ start is. b.between start (a.between start is);
     passed = λ m is i k below has lets. elim (cases_lt m (length rows)) [
       | inl inside ↦ elim (split m inside is) [
@@ -168,7 +168,7 @@ module _ (n : ℕ) (rows : List (List Edge)) where
     ];
   }
 
-  pub passed_same : (P U : ℕ → Type 0) (m0 w0 m1 w1 : List ℕ) → PassedAll P n rows m0 w0 m1 w1 → ((m : ℕ) → m < length rows → U m → P m) → PassedAll U n rows m0 w0 m1 w1
+  pub passed_same : (P U : ℕ → Type 0) (m0 w0 m1 w1 : List ℕ) → PassedAll P places n rows m0 w0 m1 w1 → ((m : ℕ) → m < length rows → U m → P m) → PassedAll U places n rows m0 w0 m1 w1
   passed_same P U m0 w0 m1 w1 a same = record {
     goes_on = a.goes_on;
     between = a.between;
@@ -180,8 +180,8 @@ module _ (n : ℕ) (rows : List (List Edge)) where
     ];
   }
 
-  pub passed_row : (node : ℕ) (row : List Edge) (m0 w0 m1 w1 : List ℕ) → edges_of rows node ≡ row → GoesOn n m0 w0 m1 w1 → ((start : List ℕ) → AreBetween rows start m0 → AreBetween rows start m1)
-      → PassedUpto row (length row) (word_at m0 node) m1 → PassedAll (λ m. m ≡ node) n rows m0 w0 m1 w1
+  pub passed_row : (node : ℕ) (row : List Edge) (m0 w0 m1 w1 : List ℕ) → edges_of rows node ≡ row → GoesOn places n m0 w0 m1 w1 → ((start : List ℕ) → AreBetween rows start m0 → AreBetween rows start m1)
+      → PassedUpto row (length row) (word_at m0 node) m1 → PassedAll (λ m. m ≡ node) places n rows m0 w0 m1 w1
   passed_row node row m0 w0 m1 w1 is goes between passed = record {
     goes_on = goes;
     between = between;
@@ -189,20 +189,20 @@ module _ (n : ℕ) (rows : List (List Edge)) where
   }
 
   -- one more node of a range
-  pub passed_more : (from i : ℕ) (m0 w0 m1 w1 m2 w2 : List ℕ) → PassedAll (IsFromTo from i) n rows m0 w0 m1 w1 → PassedAll (λ m. m ≡ i) n rows m1 w1 m2 w2 → PassedAll (IsFromTo from (i + 1)) n rows m0 w0 m2 w2
+  pub passed_more : (from i : ℕ) (m0 w0 m1 w1 m2 w2 : List ℕ) → PassedAll (IsFromTo from i) places n rows m0 w0 m1 w1 → PassedAll (λ m. m ≡ i) places n rows m1 w1 m2 w2 → PassedAll (IsFromTo from (i + 1)) places n rows m0 w0 m2 w2
   passed_more from i m0 w0 m1 w1 m2 w2 a b =
       passed_both (IsFromTo from i) (λ m. m ≡ i) (IsFromTo from (i + 1)) m0 w0 m1 w1 m2 w2 a b
       (λ m _ is. let low = is.0 in let high = is.1 in elim (cases_eq m i) [ inl same ↦ inr same | inr other ↦ inl (low, omega (arith, high, other)) ])
 
-  pub passed_first : (from : ℕ) (marks words : List ℕ) → PassedAll (IsFromTo from from) n rows marks words marks words
+  pub passed_first : (from : ℕ) (marks words : List ℕ) → PassedAll (IsFromTo from from) places n rows marks words marks words
   passed_first from marks words = passed_none (IsFromTo from from) marks words (λ m is. let low = is.0 in let high = is.1 in absurd (omega (arith, low, high)))
 
   -- ---- until no unit waits
 
   module _ (start : List ℕ) where
     pub spreading_more : (u : ℕ) (marks words : List ℕ) (touched : List Bool) (rest : List ℕ) (touched' : List Bool) (marks' words' : List ℕ)
-        → AreSpreading n rows start marks words touched → IsTakenOut u words touched rest touched' → PassedAll (λ m. IsOfUnit n m u) n rows marks rest marks' words'
-        → AreSpreading n rows start marks' words' touched'
+        → AreSpreading places n rows start marks words touched → IsTakenOut places u words touched rest touched' → PassedAll (λ m. IsOfUnit n m u) places n rows marks rest marks' words'
+        → AreSpreading places n rows start marks' words' touched'
     spreading_more u marks words touched rest touched' marks' words' s taken p = record {
       between = p.between start s.between;
       closed = λ m v of. elim (p.goes_on.changed m v of) [
@@ -231,13 +231,13 @@ module _ (n : ℕ) (rows : List (List Edge)) where
     }
 
     pub spreading_less : (u : ℕ) (marks words : List ℕ) (touched : List Bool) (rest : List ℕ) (touched' : List Bool) (marks' words' : List ℕ)
-        → IsTakenOut u words touched rest touched' → PassedAll (λ m. IsOfUnit n m u) n rows marks rest marks' words' → left marks' words' < left marks words
+        → IsTakenOut places u words touched rest touched' → PassedAll (λ m. IsOfUnit n m u) places n rows marks rest marks' words' → left marks' words' < left marks words
     spreading_less u marks words touched rest touched' marks' words' taken p =
         let one = taken.less in
         let other = p.goes_on.less in
         omega (arith, one, other)
 
-    module _ (marks words : List ℕ) (touched : List Bool) (s : AreSpreading n rows start marks words touched) (none : (u : ℕ) → Waits words u → ⊥) where
+    module _ (marks words : List ℕ) (touched : List Bool) (s : AreSpreading places n rows start marks words touched) (none : (u : ℕ) → Waits places words u → ⊥) where
       comes : (m k : ℕ) → Reaches rows start m k → HasMark (word_at marks m) k
       comes _ k (Reaches.stands m _ has) = s.between.kept m k has
       comes _ k (Reaches.passes m i _ came inside lets) =
@@ -265,23 +265,23 @@ begins_none first marks bare = record {
   there = λ k low. absurd (omega (arith, low));
 }
 
-pub begun_first : (n first : ℕ) (marks words : List ℕ) → AreBare marks → AreBegun n first 0 marks words
-begun_first n first marks words bare = record { elsewhere = λ m other. bare m; waiting = λ j u low. absurd (omega (arith, low)) }
+pub begun_first : (places : List ℕ) (n first : ℕ) (marks words : List ℕ) → AreBare marks → AreBegun places n first 0 marks words
+begun_first places n first marks words bare = record { elsewhere = λ m other. bare m; waiting = λ j u low. absurd (omega (arith, low)) }
 
-pub begun_next : (n first k w u : ℕ) (marks words words' : List ℕ) → first + k < length marks → IsOfUnit n (first + k) u → IsAdded u words words' → AreBegun n first k marks words
-    → AreBegun n first (k + 1) (slice_set marks (first + k) w) words'
-begun_next n first k w u marks words words' inside of added begun = record {
+pub begun_next : (places : List ℕ) (n first k w u : ℕ) (marks words words' : List ℕ) → first + k < length marks → IsOfUnit n (first + k) u → IsAdded places u words words' → AreBegun places n first k marks words
+    → AreBegun places n first (k + 1) (slice_set marks (first + k) w) words'
+begun_next places n first k w u marks words words' inside of added begun = record {
   elsewhere = λ m other.
       let differs : m ≢ first + k = λ same. elim other [ inl low ↦ omega (arith, same, low) | inr high ↦ omega (arith, same, high) ] in
       get_or-set_other marks (first + k) m w 0 differs ∙ begun.elsewhere m (elim other [ inl low ↦ inl low | inr high ↦ inr (omega (arith, high)) ]);
   waiting = λ j v low is. elim (cases_eq j k) [
-    | inl same ↦ subst (Waits words') (one_unit n (first + k) u v of (subst (λ (i : ℕ). IsOfUnit n (first + i) v) same is)) added.here
+    | inl same ↦ subst (Waits places words') (one_unit n (first + k) u v of (subst (λ (i : ℕ). IsOfUnit n (first + i) v) same is)) added.here
     | inr other ↦ added.still v (begun.waiting j v (omega (arith, low, other)) is)
   ];
 }
 
-pub spreading_begins : (n first count : ℕ) (rows : List (List Edge)) (marks words : List ℕ) (touched : List Bool) → AreBegun n first count marks words → AreSpreading n rows marks marks words touched
-spreading_begins n first count rows marks words touched begun = record {
+pub spreading_begins : (places : List ℕ) (n first count : ℕ) (rows : List (List Edge)) (marks words : List ℕ) (touched : List Bool) → AreBegun places n first count marks words → AreSpreading places n rows marks marks words touched
+spreading_begins places n first count rows marks words touched begun = record {
   between = between_first rows marks;
   closed = λ m u of. elim (place m) [
     | inl none ↦ inr (λ i k below has lets. absurd (none_in_zero k (subst (λ (w : ℕ). HasMark w k) none has)))

@@ -8,7 +8,7 @@ use Rattle.std.proofs.lemmas.Nat.Bits.{bit_at_clear_same, bit_at_clear_other, bi
 use Rattle.std.proofs.lemmas.List.{get_or-set_same, get_or-set_other}
 use Rattle.reach_graph.specs.Reaching.{HasMark, word_at}
 use Rattle.reach_graph.proofs.MarkLemmas.{none_in_zero}
-use Rattle.points_to.specs.Sweeps.{Waits, total, IsAdded, IsTakenOut}
+use Rattle.points_to.specs.Sweeps.{place_of, unit_at, AreInverse, HasRoom, Waits, total, IsAdded, IsTakenOut}
 
 -- ---- a word without one of its marks
 
@@ -45,47 +45,55 @@ total_set (v ∷ words) (suc page) w inside =
 unit_is : (u v : ℕ) → u / 64 ≡ v / 64 → u % 64 ≡ v % 64 → u ≡ v
 unit_is u v page bit = omega (arith, page, bit)
 
-pub added_unit : (words : List ℕ) (u w : ℕ) → u / 64 < length words → w < 2 ^ 64 → ((k : ℕ) → HasMark w k ↔ (HasMark (word_at words (u / 64)) k ⊎ (k ≡ u % 64))) → IsAdded u words (slice_set words (u / 64) w)
-added_unit words u w inside fits told =
-    let page = u / 64 in
-    let here : word_at (slice_set words page w) page ≡ w = get_or-set_same words page w 0 inside in
-    let sums = total_set words page w inside in record {
-      here = subst (λ (x : ℕ). HasMark x (u % 64)) (sym here) ((told (u % 64)).1 (inr refl));
-      still = λ v waits. elim (cases_eq (v / 64) page) [
-        | inl same ↦
-            let at : word_at (slice_set words page w) (v / 64) ≡ w = ap (word_at (slice_set words page w)) same ∙ here in
-            subst (λ (x : ℕ). HasMark x (v % 64)) (sym at) ((told (v % 64)).1 (inl (subst (λ (p : ℕ). HasMark (word_at words p) (v % 64)) same waits)))
-        | inr other ↦ subst (λ (x : ℕ). HasMark x (v % 64)) (sym (get_or-set_other words page (v / 64) w 0 other)) waits
-      ];
-      less = omega (arith, sums, fits);
-    }
+module _ (places : List ℕ) where
+  pub added_unit : (words : List ℕ) (u p w : ℕ) → u < length places → p ≡ place_of places u → p / 64 < length words → w < 2 ^ 64
+      → ((k : ℕ) → HasMark w k ↔ (HasMark (word_at words (p / 64)) k ⊎ (k ≡ p % 64))) → IsAdded places u words (slice_set words (p / 64) w)
+  added_unit words u p w known is inside fits told =
+      let page = p / 64 in
+      let words' = slice_set words page w in
+      let here : word_at words' page ≡ w = get_or-set_same words page w 0 inside in
+      let sums = total_set words page w inside in record {
+        here = (known, subst (λ (q : ℕ). HasMark (word_at words' (q / 64)) (q % 64)) is (subst (λ (x : ℕ). HasMark x (p % 64)) (sym here) ((told (p % 64)).1 (inr refl))));
+        still = λ v waits. let q = place_of places v in let has = waits.1 in (
+          waits.0,
+          elim (cases_eq (q / 64) page) [
+            | inl same ↦
+                let at : word_at words' (q / 64) ≡ w = ap (word_at words') same ∙ here in
+                subst (λ (x : ℕ). HasMark x (q % 64)) (sym at) ((told (q % 64)).1 (inl (subst (λ (j : ℕ). HasMark (word_at words j) (q % 64)) same has)))
+            | inr other ↦ subst (λ (x : ℕ). HasMark x (q % 64)) (sym (get_or-set_other words page (q / 64) w 0 other)) has
+          ],
+        );
+        less = omega (arith, sums, fits);
+      }
 
-pub taken_unit : (words : List ℕ) (touched : List Bool) (page bit w : ℕ) → page < length words → length touched ≡ length words → bit < 64
-    → ((k : ℕ) → HasMark (word_at words page) k → (k ≡ bit) ⊎ HasMark w k) → w < word_at words page
-    → IsTakenOut (64 * page + bit) words touched (slice_set words page w) (slice_set touched page true)
-taken_unit words touched page bit w inside each low told less =
-    let u = 64 * page + bit in
-    let at_page : u / 64 ≡ page = omega (arith, low) in
-    let at_bit : u % 64 ≡ bit = omega (arith, low) in
-    let here : word_at (slice_set words page w) page ≡ w = get_or-set_same words page w 0 inside in
-    let sums = total_set words page w inside in
-    let room : page < length touched = omega (arith, inside, each) in record {
-      others = λ v waits. elim (cases_eq (v / 64) page) [
-        | inl same ↦ elim (told (v % 64) (subst (λ (p : ℕ). HasMark (word_at words p) (v % 64)) same waits)) [
-          | inl is ↦ inl (unit_is v u (same ∙ sym at_page) (is ∙ sym at_bit))
-          | inr has ↦
-              let at : word_at (slice_set words page w) (v / 64) ≡ w = ap (word_at (slice_set words page w)) same ∙ here in
-              inr (subst (λ (x : ℕ). HasMark x (v % 64)) (sym at) has)
-        ]
-        | inr other ↦ inr (subst (λ (x : ℕ). HasMark x (v % 64)) (sym (get_or-set_other words page (v / 64) w 0 other)) waits)
-      ];
-      less = omega (arith, sums, less);
-      here = subst (λ (p : ℕ). slice_index_or (slice_set touched page true) p false ≡ true) (sym at_page) (get_or-set_same touched page true false room);
-      still = λ v on. elim (cases_eq (v / 64) page) [
-        | inl same ↦ subst (λ (p : ℕ). slice_index_or (slice_set touched page true) p false ≡ true) (sym same) (get_or-set_same touched page true false room)
-        | inr other ↦ get_or-set_other touched page (v / 64) true false other ∙ on
-      ];
-    }
+  pub taken_unit : (units words : List ℕ) (touched : List Bool) (page bit w u : ℕ) → AreInverse places units → page < length words → length touched ≡ length words → HasRoom places words → bit < 64
+      → ((k : ℕ) → HasMark (word_at words page) k → (k ≡ bit) ⊎ HasMark w k) → w < word_at words page → u ≡ unit_at units (64 * page + bit)
+      → IsTakenOut places u words touched (slice_set words page w) (slice_set touched (u / 64) true)
+  taken_unit units words touched page bit w u inverse inside each room low told less is =
+      let p = 64 * page + bit in
+      let at_page : p / 64 ≡ page = omega (arith, low) in
+      let at_bit : p % 64 ≡ bit = omega (arith, low) in
+      let here : word_at (slice_set words page w) page ≡ w = get_or-set_same words page w 0 inside in
+      let sums = total_set words page w inside in
+      let size = inverse.size in
+      let known : unit_at units p < length places = inverse.known p (omega (arith, size, inside, room, low)) in
+      let room_for : u / 64 < length touched = omega (arith, known, is, each, room) in record {
+        others = λ v waits. let q = place_of places v in let has = waits.1 in elim (cases_eq (q / 64) page) [
+          | inl same ↦ elim (told (q % 64) (subst (λ (j : ℕ). HasMark (word_at words j) (q % 64)) same has)) [
+            | inl that ↦ inl (sym (inverse.back v waits.0) ∙ ap (unit_at units) (unit_is q p (same ∙ sym at_page) (that ∙ sym at_bit)) ∙ sym is)
+            | inr stays ↦
+                let at : word_at (slice_set words page w) (q / 64) ≡ w = ap (word_at (slice_set words page w)) same ∙ here in
+                inr (waits.0, subst (λ (x : ℕ). HasMark x (q % 64)) (sym at) stays)
+          ]
+          | inr other ↦ inr (waits.0, subst (λ (x : ℕ). HasMark x (q % 64)) (sym (get_or-set_other words page (q / 64) w 0 other)) has)
+        ];
+        less = omega (arith, sums, less);
+        here = get_or-set_same touched (u / 64) true false room_for;
+        still = λ v on. elim (cases_eq (v / 64) (u / 64)) [
+          | inl same ↦ subst (λ (j : ℕ). slice_index_or (slice_set touched (u / 64) true) j false ≡ true) (sym same) (get_or-set_same touched (u / 64) true false room_for)
+          | inr other ↦ get_or-set_other touched (u / 64) (v / 64) true false other ∙ on
+        ];
+      }
 
-pub none_waits : (words : List ℕ) → ((j : ℕ) → word_at words j ≡ 0) → (u : ℕ) → Waits words u → ⊥
-none_waits words none u waits = none_in_zero (u % 64) (subst (λ (w : ℕ). HasMark w (u % 64)) (none (u / 64)) waits)
+  pub none_waits : (words : List ℕ) → ((j : ℕ) → word_at words j ≡ 0) → (u : ℕ) → Waits places words u → ⊥
+  none_waits words none u waits = none_in_zero (place_of places u % 64) (subst (λ (w : ℕ). HasMark w (place_of places u % 64)) (none (place_of places u / 64)) waits.1)

@@ -53,7 +53,7 @@ fn push_next(
 }
 
 /// Whether an end leads to an address in a register.
-fn is_indirect(end: &End) -> bool
+pub(crate) fn is_indirect(end: &End) -> bool
     ensures { result ≡ is_indirect_end end.now }
 {
     match end {

@@ -8,7 +8,7 @@ ghost use Rattle.points_to.specs.Sweeps.{AreBare, HasRoom};
 ghost use Rattle.points_to.specs.Tables.{IsReached, AreGroups, IsTableOf, plain};
 
 use crate::blocks::edges_of;
-use crate::nodes::Nodes;
+use crate::ordering::Order;
 use crate::reached::Reached;
 use crate::starting::{Span, spread_from, take_reached};
 use crate::table::PointsTable;
@@ -28,9 +28,9 @@ pub fn points(alloc: Global, code: &Code, graph: &Graph) -> Result<PointsTable, 
     requires graph { IsSomeGraph graph.now }
     ensures { IfOk result (IsTableOf code.now graph.now) }
 {
-    let nodes = Nodes::of(code, graph)?;
-    let graph_edges = edges_of(alloc, nodes, code, graph)?;
-    let (loads, groups) = reached_by_all(alloc, nodes, &graph_edges)?;
+    let order = Order::of(alloc, code, graph)?;
+    let graph_edges = edges_of(alloc, order.nodes, code, graph)?;
+    let (loads, groups) = reached_by_all(alloc, &order, &graph_edges)?;
     let leaders = leaders_of(alloc, code)?;
     Ok(PointsTable {
         leaders,
@@ -53,21 +53,21 @@ fn leaders_of(alloc: Global, code: &Code) -> Result<Vec<u32>, AllocError>
 /// What is loaded reaches, and what the objects do, 64 at a time.
 fn reached_by_all(
     alloc: Global,
-    nodes: Nodes,
+    order: &Order,
     graph_edges: &[Vec<Edge>],
 ) -> Result<(Reached, Vec<Reached>), AllocError>
-    requires room { length graph_edges.now ≡ node_count nodes.blocks nodes.objects }
-    requires inside { AreInside (plain_rows graph_edges.now) (node_count nodes.blocks nodes.objects) }
-    ensures loads { IfOk result (λ r. IsReached (plain_rows graph_edges.now) nodes.blocks (loaded nodes.blocks) 1 (plain r.0)) }
-    ensures groups { IfOk result (λ r. AreGroups (plain_rows graph_edges.now) nodes.blocks nodes.objects ((nodes.objects + 63) / 64) (map plain r.1.items)) }
+    requires room { length graph_edges.now ≡ node_count order.now.nodes.blocks order.now.nodes.objects }
+    requires inside { AreInside (plain_rows graph_edges.now) (node_count order.now.nodes.blocks order.now.nodes.objects) }
+    ensures loads { IfOk result (λ r. IsReached (plain_rows graph_edges.now) order.now.nodes.blocks (loaded order.now.nodes.blocks) 1 (plain r.0)) }
+    ensures groups { IfOk result (λ r. AreGroups (plain_rows graph_edges.now) order.now.nodes.blocks order.now.nodes.objects ((order.now.nodes.objects + 63) / 64) (map plain r.1.items)) }
 {
-    let mut marks = vec![in alloc; 0; nodes.count() as usize]?;
-    let pages = nodes.pages();
+    let mut marks = vec![in alloc; 0; order.nodes.count() as usize]?;
+    let pages = order.pages();
     let mut waiting = vec![in alloc; 0; pages]?;
     let mut touched = vec![in alloc; false; pages]?;
     reached_by_each(
         alloc,
-        nodes,
+        order,
         graph_edges,
         &mut marks,
         &mut waiting,
@@ -78,36 +78,36 @@ fn reached_by_all(
 /// The same, over nodes without marks.
 fn reached_by_each(
     alloc: Global,
-    nodes: Nodes,
+    order: &Order,
     graph_edges: &[Vec<Edge>],
     marks: &mut [u64],
     waiting: &mut [u64],
     touched: &mut [bool],
 ) -> Result<(Reached, Vec<Reached>), AllocError>
-    requires room { length graph_edges.now ≡ node_count nodes.blocks nodes.objects }
-    requires inside { AreInside (plain_rows graph_edges.now) (node_count nodes.blocks nodes.objects) }
-    requires size { length marks.old ≡ node_count nodes.blocks nodes.objects }
-    requires words { HasRoom nodes.blocks nodes.objects waiting.old }
+    requires room { length graph_edges.now ≡ node_count order.now.nodes.blocks order.now.nodes.objects }
+    requires inside { AreInside (plain_rows graph_edges.now) (node_count order.now.nodes.blocks order.now.nodes.objects) }
+    requires size { length marks.old ≡ node_count order.now.nodes.blocks order.now.nodes.objects }
+    requires words { HasRoom order.now.places.items waiting.old }
     requires one_each { length touched.old ≡ length waiting.old }
     requires units { length waiting.old ≤ 67108864 }
     requires bare { AreBare marks.old }
-    ensures loads { IfOk result (λ r. IsReached (plain_rows graph_edges.now) nodes.blocks (loaded nodes.blocks) 1 (plain r.0)) }
-    ensures groups { IfOk result (λ r. AreGroups (plain_rows graph_edges.now) nodes.blocks nodes.objects ((nodes.objects + 63) / 64) (map plain r.1.items)) }
+    ensures loads { IfOk result (λ r. IsReached (plain_rows graph_edges.now) order.now.nodes.blocks (loaded order.now.nodes.blocks) 1 (plain r.0)) }
+    ensures groups { IfOk result (λ r. AreGroups (plain_rows graph_edges.now) order.now.nodes.blocks order.now.nodes.objects ((order.now.nodes.objects + 63) / 64) (map plain r.1.items)) }
 {
     let loaded = Span {
-        first: nodes.loaded(),
+        first: order.nodes.loaded(),
         count: 1,
     };
-    spread_from(nodes, graph_edges, loaded, marks, waiting, touched);
-    let loads = take_reached(alloc, nodes, marks, touched)?;
+    spread_from(order, graph_edges, loaded, marks, waiting, touched);
+    let loads = take_reached(alloc, order.nodes, marks, touched)?;
     let mut groups = Vec::new(alloc);
-    for j in 0..(nodes.objects + 63) / 64 {
+    for j in 0..(order.nodes.objects + 63) / 64 {
         let group = Span {
-            first: nodes.object(64 * j),
-            count: (nodes.objects - 64 * j).min(64),
+            first: order.nodes.object(64 * j),
+            count: (order.nodes.objects - 64 * j).min(64),
         };
-        spread_from(nodes, graph_edges, group, marks, waiting, touched);
-        groups.push(take_reached(alloc, nodes, marks, touched)?)?;
+        spread_from(order, graph_edges, group, marks, waiting, touched);
+        groups.push(take_reached(alloc, order.nodes, marks, touched)?)?;
     }
     Ok((loads, groups))
 }

@@ -8,6 +8,7 @@ ghost use Rattle.points_to.specs.Sweeps.{AreBare, AreBegun, AreNoted, HasRoom};
 use crate::clearing::{clear, forget};
 use crate::marks::one_mark;
 use crate::nodes::Nodes;
+use crate::ordering::Order;
 use crate::reached::Reached;
 use crate::sweeping::spread;
 use crate::waiting::add;
@@ -23,27 +24,27 @@ pub(crate) struct Span {
 
 /// Lets mark `k` spread from the `k`-th node of a span. No node has a mark before.
 pub(crate) fn spread_from(
-    nodes: Nodes,
+    order: &Order,
     graph_edges: &[Vec<Edge>],
     span: Span,
     marks: &mut [u64],
     waiting: &mut [u64],
     touched: &mut [bool],
 )
-    requires room { length graph_edges.now ≡ node_count nodes.blocks nodes.objects }
-    requires inside { AreInside (plain_rows graph_edges.now) (node_count nodes.blocks nodes.objects) }
-    requires last { span.first + span.count ≤ node_count nodes.blocks nodes.objects }
+    requires room { length graph_edges.now ≡ node_count order.now.nodes.blocks order.now.nodes.objects }
+    requires inside { AreInside (plain_rows graph_edges.now) (node_count order.now.nodes.blocks order.now.nodes.objects) }
+    requires last { span.first + span.count ≤ node_count order.now.nodes.blocks order.now.nodes.objects }
     requires few { span.count ≤ 64 }
-    requires size { length marks.old ≡ node_count nodes.blocks nodes.objects }
-    requires words { HasRoom nodes.blocks nodes.objects waiting.old }
+    requires size { length marks.old ≡ node_count order.now.nodes.blocks order.now.nodes.objects }
+    requires words { HasRoom order.now.places.items waiting.old }
     requires one_each { length touched.old ≡ length waiting.old }
     requires units { length waiting.old ≤ 67108864 }
     requires bare { AreBare marks.old }
-    ensures reached { (kept : Kept) → Keeps marks.new nodes.blocks kept → IsReached (plain_rows graph_edges.now) nodes.blocks span.first span.count kept }
-    ensures noted { AreNoted nodes.blocks touched.new marks.new }
+    ensures reached { (kept : Kept) → Keeps marks.new order.now.nodes.blocks kept → IsReached (plain_rows graph_edges.now) order.now.nodes.blocks span.first span.count kept }
+    ensures noted { AreNoted order.now.nodes.blocks touched.new marks.new }
 {
-    begin_marks(nodes, marks, waiting, span.first, span.count);
-    spread(nodes, graph_edges, marks, waiting, touched);
+    begin_marks(order, marks, waiting, span.first, span.count);
+    spread(order, graph_edges, marks, waiting, touched);
 }
 
 /// What is kept of the marks of all nodes, which have none afterwards.
@@ -66,17 +67,17 @@ pub(crate) fn take_reached(
 }
 
 /// Sets mark `k` at the `k`-th of `count` nodes from `first` on, and lets these wait.
-fn begin_marks(nodes: Nodes, marks: &mut [u64], waiting: &mut [u64], first: u32, count: u32)
-    requires size { length marks.old ≡ node_count nodes.blocks nodes.objects }
-    requires words { HasRoom nodes.blocks nodes.objects waiting.old }
+fn begin_marks(order: &Order, marks: &mut [u64], waiting: &mut [u64], first: u32, count: u32)
+    requires size { length marks.old ≡ node_count order.now.nodes.blocks order.now.nodes.objects }
+    requires words { HasRoom order.now.places.items waiting.old }
     requires last { first + count ≤ length marks.old }
     requires few { count ≤ 64 }
     requires bare { AreBare marks.old }
     ensures begins { Begins first count marks.new }
-    ensures begun { AreBegun nodes.blocks first count marks.new waiting.new }
+    ensures begun { AreBegun order.now.places.items order.now.nodes.blocks first count marks.new waiting.new }
 {
     for k in 0..count {
         marks[(first + k) as usize] = one_mark(k);
-        add(waiting, nodes.unit(first + k));
+        add(order, waiting, order.nodes.unit(first + k));
     }
 }

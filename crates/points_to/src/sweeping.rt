@@ -4,136 +4,136 @@ ghost use Rattle.reach_graph.specs.declared.edges.Edge.{Edge};
 ghost use Rattle.points_to.specs.Nodes.{node_count};
 ghost use Rattle.points_to.specs.Sweeps.{AreBetween, AreNoted, AreSpreading, GoesOn, HasRoom, IsFromTo, IsOfUnit, PassedAll, PassedUpto};
 
-use crate::nodes::Nodes;
+use crate::ordering::Order;
 use crate::waiting::{add, take};
 use reach_graph::Edge;
 
 /// Lets the marks of all nodes pass along the edges, as far as they come, by way of the units that wait. These are
-/// taken in the order of the code, so that marks which go the same way pass a block together.
+/// taken in an order in which most edges lead on, so that marks which go the same way pass a block together.
 pub(crate) fn spread(
-    nodes: Nodes,
+    order: &Order,
     graph_edges: &[Vec<Edge>],
     marks: &mut [u64],
     waiting: &mut [u64],
     touched: &mut [bool],
 )
-    requires room { length graph_edges.now ≡ node_count nodes.blocks nodes.objects }
-    requires size { length marks.old ≡ node_count nodes.blocks nodes.objects }
-    requires inside { AreInside (plain_rows graph_edges.now) (node_count nodes.blocks nodes.objects) }
-    requires words { HasRoom nodes.blocks nodes.objects waiting.old }
+    requires room { length graph_edges.now ≡ node_count order.now.nodes.blocks order.now.nodes.objects }
+    requires size { length marks.old ≡ node_count order.now.nodes.blocks order.now.nodes.objects }
+    requires inside { AreInside (plain_rows graph_edges.now) (node_count order.now.nodes.blocks order.now.nodes.objects) }
+    requires words { HasRoom order.now.places.items waiting.old }
     requires one_each { length touched.old ≡ length waiting.old }
     requires few { length waiting.old ≤ 67108864 }
-    requires begins { AreSpreading nodes.blocks (plain_rows graph_edges.now) marks.old marks.old waiting.old touched.old }
+    requires begins { AreSpreading order.now.places.items order.now.nodes.blocks (plain_rows graph_edges.now) marks.old marks.old waiting.old touched.old }
     ensures exact { (m k : ℕ) → HasMark (word_at marks.new m) k ↔ Reaches (plain_rows graph_edges.now) marks.old m k }
-    ensures noted { AreNoted nodes.blocks touched.new marks.new }
+    ensures noted { AreNoted order.now.nodes.blocks touched.new marks.new }
 {
     let mut at = 0;
-    while let Some(unit) = take(waiting, touched, &mut at) {
-        pass_unit(nodes, graph_edges, marks, waiting, unit);
+    while let Some(unit) = take(order, waiting, touched, &mut at) {
+        pass_unit(order, graph_edges, marks, waiting, unit);
     }
 }
 
 /// Lets the marks of the nodes of a unit pass along their edges.
 fn pass_unit(
-    nodes: Nodes,
+    order: &Order,
     graph_edges: &[Vec<Edge>],
     marks: &mut [u64],
     waiting: &mut [u64],
     unit: u32,
 )
-    requires room { length graph_edges.now ≡ node_count nodes.blocks nodes.objects }
-    requires size { length marks.old ≡ node_count nodes.blocks nodes.objects }
-    requires inside { AreInside (plain_rows graph_edges.now) (node_count nodes.blocks nodes.objects) }
-    requires words { HasRoom nodes.blocks nodes.objects waiting.old }
-    ensures { PassedAll (λ m. IsOfUnit nodes.blocks m unit) nodes.blocks (plain_rows graph_edges.now) marks.old waiting.old marks.new waiting.new }
+    requires room { length graph_edges.now ≡ node_count order.now.nodes.blocks order.now.nodes.objects }
+    requires size { length marks.old ≡ node_count order.now.nodes.blocks order.now.nodes.objects }
+    requires inside { AreInside (plain_rows graph_edges.now) (node_count order.now.nodes.blocks order.now.nodes.objects) }
+    requires words { HasRoom order.now.places.items waiting.old }
+    ensures { PassedAll (λ m. IsOfUnit order.now.nodes.blocks m unit) order.now.places.items order.now.nodes.blocks (plain_rows graph_edges.now) marks.old waiting.old marks.new waiting.new }
 {
-    if unit < nodes.blocks {
-        let entry = nodes.entry(unit);
-        let end = nodes.end(unit);
-        pass_each(nodes, graph_edges, marks, waiting, entry, entry + 32);
-        pass_each(nodes, graph_edges, marks, waiting, end, end + 32);
+    if unit < order.nodes.blocks {
+        let entry = order.nodes.entry(unit);
+        let end = order.nodes.end(unit);
+        pass_each(order, graph_edges, marks, waiting, entry, entry + 32);
+        pass_each(order, graph_edges, marks, waiting, end, end + 32);
         return;
     }
-    if unit == nodes.blocks {
-        let hub = nodes.hub();
-        pass_each(nodes, graph_edges, marks, waiting, hub, hub + 34);
+    if unit == order.nodes.blocks {
+        let hub = order.nodes.hub();
+        pass_each(order, graph_edges, marks, waiting, hub, hub + 34);
         return;
     }
-    let (from, to) = nodes.group(unit);
-    pass_each(nodes, graph_edges, marks, waiting, from, to);
+    let (from, to) = order.nodes.group(unit);
+    pass_each(order, graph_edges, marks, waiting, from, to);
 }
 
 /// Lets the marks of the nodes from `from` to before `to` pass along their edges.
 fn pass_each(
-    nodes: Nodes,
+    order: &Order,
     graph_edges: &[Vec<Edge>],
     marks: &mut [u64],
     waiting: &mut [u64],
     from: u32,
     to: u32,
 )
-    requires room { length graph_edges.now ≡ node_count nodes.blocks nodes.objects }
-    requires size { length marks.old ≡ node_count nodes.blocks nodes.objects }
-    requires inside { AreInside (plain_rows graph_edges.now) (node_count nodes.blocks nodes.objects) }
-    requires words { HasRoom nodes.blocks nodes.objects waiting.old }
+    requires room { length graph_edges.now ≡ node_count order.now.nodes.blocks order.now.nodes.objects }
+    requires size { length marks.old ≡ node_count order.now.nodes.blocks order.now.nodes.objects }
+    requires inside { AreInside (plain_rows graph_edges.now) (node_count order.now.nodes.blocks order.now.nodes.objects) }
+    requires words { HasRoom order.now.places.items waiting.old }
     requires to { to ≤ length marks.old }
-    ensures { PassedAll (IsFromTo from to) nodes.blocks (plain_rows graph_edges.now) marks.old waiting.old marks.new waiting.new }
+    ensures { PassedAll (IsFromTo from to) order.now.places.items order.now.nodes.blocks (plain_rows graph_edges.now) marks.old waiting.old marks.new waiting.new }
 {
     for node in from..to {
-        pass_node(nodes, graph_edges, marks, waiting, node);
+        pass_node(order, graph_edges, marks, waiting, node);
     }
 }
 
 /// Lets the marks of a node pass along its edges, if it has any.
 fn pass_node(
-    nodes: Nodes,
+    order: &Order,
     graph_edges: &[Vec<Edge>],
     marks: &mut [u64],
     waiting: &mut [u64],
     node: u32,
 )
-    requires room { length graph_edges.now ≡ node_count nodes.blocks nodes.objects }
-    requires size { length marks.old ≡ node_count nodes.blocks nodes.objects }
-    requires inside { AreInside (plain_rows graph_edges.now) (node_count nodes.blocks nodes.objects) }
-    requires words { HasRoom nodes.blocks nodes.objects waiting.old }
+    requires room { length graph_edges.now ≡ node_count order.now.nodes.blocks order.now.nodes.objects }
+    requires size { length marks.old ≡ node_count order.now.nodes.blocks order.now.nodes.objects }
+    requires inside { AreInside (plain_rows graph_edges.now) (node_count order.now.nodes.blocks order.now.nodes.objects) }
+    requires words { HasRoom order.now.places.items waiting.old }
     requires node { node < length marks.old }
-    ensures { PassedAll (λ m. m ≡ node) nodes.blocks (plain_rows graph_edges.now) marks.old waiting.old marks.new waiting.new }
+    ensures { PassedAll (λ m. m ≡ node) order.now.places.items order.now.nodes.blocks (plain_rows graph_edges.now) marks.old waiting.old marks.new waiting.new }
 {
     if marks[node as usize] == 0 {
         return;
     }
-    pass_row(nodes, &graph_edges[node as usize], marks, waiting, node);
+    pass_row(order, &graph_edges[node as usize], marks, waiting, node);
 }
 
 /// Lets them pass along the edges of its row.
-fn pass_row(nodes: Nodes, row: &[Edge], marks: &mut [u64], waiting: &mut [u64], node: u32)
+fn pass_row(order: &Order, row: &[Edge], marks: &mut [u64], waiting: &mut [u64], node: u32)
     requires node { node < length marks.old }
-    requires size { length marks.old ≡ node_count nodes.blocks nodes.objects }
+    requires size { length marks.old ≡ node_count order.now.nodes.blocks order.now.nodes.objects }
     requires inside { (i : ℕ) → i < length row.now → (edge_at row.now i).to < length marks.old }
-    requires words { HasRoom nodes.blocks nodes.objects waiting.old }
-    ensures goes_on { GoesOn nodes.blocks marks.old waiting.old marks.new waiting.new }
+    requires words { HasRoom order.now.places.items waiting.old }
+    ensures goes_on { GoesOn order.now.places.items order.now.nodes.blocks marks.old waiting.old marks.new waiting.new }
     ensures between { (rows : List (List Edge)) (start : List ℕ) → edges_of rows node ≡ row.now → AreBetween rows start marks.old → AreBetween rows start marks.new }
     ensures passed { PassedUpto row.now (length row.now) (word_at marks.old node) marks.new }
 {
     for i in 0..row.len() {
-        pass(nodes, marks, waiting, node, row[i]);
+        pass(order, marks, waiting, node, row[i]);
     }
 }
 
 /// Lets those of its mask pass along an edge.
-fn pass(nodes: Nodes, marks: &mut [u64], waiting: &mut [u64], node: u32, edge: Edge)
+fn pass(order: &Order, marks: &mut [u64], waiting: &mut [u64], node: u32, edge: Edge)
     requires node { node < length marks.old }
-    requires size { length marks.old ≡ node_count nodes.blocks nodes.objects }
+    requires size { length marks.old ≡ node_count order.now.nodes.blocks order.now.nodes.objects }
     requires to { edge.to < length marks.old }
-    requires words { HasRoom nodes.blocks nodes.objects waiting.old }
+    requires words { HasRoom order.now.places.items waiting.old }
     ensures marks { marks.new ≡ slice_set marks.old edge.to (bit_or (word_at marks.old edge.to) (bit_and (word_at marks.old node) edge.mask)) }
-    ensures goes_on { GoesOn nodes.blocks marks.old waiting.old marks.new waiting.new }
+    ensures goes_on { GoesOn order.now.places.items order.now.nodes.blocks marks.old waiting.old marks.new waiting.new }
 {
     let old = marks[edge.to as usize];
     let grown = both(old, marks[node as usize] & edge.mask);
     marks[edge.to as usize] = grown;
     if grown != old {
-        add(waiting, nodes.unit(edge.to));
+        add(order, waiting, order.nodes.unit(edge.to));
     }
 }
 

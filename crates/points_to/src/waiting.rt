@@ -1,33 +1,43 @@
-// Units of nodes that wait: unit `u` does where bit `u % 64` of word `u / 64` is 1.
+// Units of nodes that wait: the one at place `p` does where bit `p % 64` of word `p / 64` is 1.
 ghost use Rattle.std.specs.Prelude.{◌≡◌, ◌⊎◌, ◌+◌, ◌*◌, ◌/◌, ◌<◌, ◌≤◌, ℕ, length, MatchOption, IfSome};
 ghost use Rattle.reach_graph.specs.Reaching.{HasMark, word_at};
-ghost use Rattle.points_to.specs.Sweeps.{IsAdded, IsTaken};
+ghost use Rattle.points_to.specs.Sweeps.{HasRoom, IsAdded, IsTaken};
 
 use crate::marks::{joined, one_mark};
+use crate::ordering::Order;
 
 /// Lets a unit wait.
-pub(crate) fn add(waiting: &mut [u64], unit: u32)
-    requires { unit / 64 < length waiting.old }
-    ensures { IsAdded unit waiting.old waiting.new }
+pub(crate) fn add(order: &Order, waiting: &mut [u64], unit: u32)
+    requires unit { unit < length order.now.places.items }
+    requires room { HasRoom order.now.places.items waiting.old }
+    ensures { IsAdded order.now.places.items unit waiting.old waiting.new }
 {
-    let page = (unit / 64) as usize;
-    waiting[page] = joined(waiting[page], one_mark(unit % 64));
+    let place = order.places[unit as usize];
+    let page = (place / 64) as usize;
+    waiting[page] = joined(waiting[page], one_mark(place % 64));
 }
 
-/// Takes a unit that waits: the first of word `at`, or of the next word that has one, which `at` is then. So units are
-/// taken about in the order of the code, round after round. Of each word it is told whether one was taken.
-pub(crate) fn take(waiting: &mut [u64], touched: &mut [bool], at: &mut usize) -> Option<u32>
+/// Takes a unit that waits: the one with the first place in word `at`, or in the next word that has one, which `at` is
+/// then. So units are taken about in their order, round after round. Of each 64 units it is told whether one was taken.
+pub(crate) fn take(
+    order: &Order,
+    waiting: &mut [u64],
+    touched: &mut [bool],
+    at: &mut usize,
+) -> Option<u32>
+    requires room { HasRoom order.now.places.items waiting.old }
     requires one_each { length touched.old ≡ length waiting.old }
     requires few { length waiting.old ≤ 67108864 }
-    ensures { IsTaken result waiting.old touched.old waiting.new touched.new }
+    ensures { IsTaken order.now.places.items result waiting.old touched.old waiting.new touched.new }
 {
     match next_word(waiting, *at) {
         Some(page) => {
             let bit = first_mark(waiting[page]);
             waiting[page] = without_mark(waiting[page], bit);
-            touched[page] = true;
             *at = page;
-            Some(64 * page as u32 + bit)
+            let unit = order.units[64 * page + bit as usize];
+            touched[(unit / 64) as usize] = true;
+            Some(unit)
         }
         None => None,
     }

@@ -8,8 +8,8 @@ use Rattle.points_to.proofs.pointing.reached_by_each.Goals as goal
 pub loop-j-preserved : goal.loop-j-preserved
 loop-j-preserved c =
     let rows = plain_rows c.args.graph_edges.now in
-    let n = c.args.nodes.blocks in
-    let objects = c.args.nodes.objects in
+    let n = c.args.order.now.nodes.blocks in
+    let objects = c.args.order.now.nodes.objects in
     let j = c.loop-j.j in
     let groups = c.loop-j.groups.items in
     let r = c.in_ok-take_reached.field-0 in

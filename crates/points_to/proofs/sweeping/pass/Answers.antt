@@ -14,5 +14,5 @@ returns-then-grown-old-clause-goes_on c =
     let least = le_or_l (word_at marks to) by in
     let more : word_at marks to < bit_or (word_at marks to) by = omega (arith, both, least, c.if-grown-old.true) in
     let fits : bit_or (word_at marks to) by < 18446744073709551616 = subst (λ (x : ℕ). x < 18446744073709551616) both c.both-grown.ensures.fits in
-    subst (λ (x : ℕ). GoesOn c.args.nodes.blocks marks c.args.waiting.now (slice_set marks to x) c.add.new.waiting) (sym both)
-    (grown_more c.args.nodes.blocks marks c.args.waiting.now c.add.new.waiting to by c.requires.to c.unit.result c.unit.ensures.unit c.add.ensures more fits)
+    subst (λ (x : ℕ). GoesOn c.args.order.now.places.items c.args.order.now.nodes.blocks marks c.args.waiting.now (slice_set marks to x) c.add.new.waiting) (sym both)
+    (grown_more c.args.order.now.places.items c.args.order.now.nodes.blocks marks c.args.waiting.now c.add.new.waiting to by c.requires.to c.unit.result c.unit.ensures.unit c.add.ensures more fits)

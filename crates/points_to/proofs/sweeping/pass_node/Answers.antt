@@ -21,5 +21,5 @@ returns c =
     let node = c.args.node in
     let below : node < length rows = omega (arith, c.requires.node, c.requires.room, c.requires.size) in
     let is = row_is rows node c.index-graph_edges-node.result below c.index-graph_edges-node.is ∙ sym c.deref.ensures.value in
-    passed_row c.args.nodes.blocks (plain_rows rows) node c.deref.result.now c.args.marks.now c.args.waiting.now c.pass_row.new.marks c.pass_row.new.waiting is c.pass_row.ensures.goes_on
+    passed_row c.args.order.now.places.items c.args.order.now.nodes.blocks (plain_rows rows) node c.deref.result.now c.args.marks.now c.args.waiting.now c.pass_row.new.marks c.pass_row.new.waiting is c.pass_row.ensures.goes_on
     (λ start between. c.pass_row.ensures.between (plain_rows rows) start is between) c.pass_row.ensures.passed

@@ -19,7 +19,7 @@ loop-i-preserved c =
     let next = c.pass.ensures.goes_on in
     let is = c.pass.ensures.marks in
     let grown : List ℕ = slice_set now (edge_at row i).to (bit_or (word_at now (edge_at row i).to) (bit_and (word_at now node) (edge_at row i).mask)) in (
-      goes_further c.args.nodes.blocks before c.args.waiting.now now c.loop-i.waiting c.pass.new.marks c.pass.new.waiting goes next,
+      goes_further c.args.order.now.places.items c.args.order.now.nodes.blocks before c.args.waiting.now now c.loop-i.waiting c.pass.new.marks c.pass.new.waiting goes next,
       λ rows start row_is between.
           subst (λ (ms : List ℕ). AreBetween rows start ms) (sym {A = List ℕ} is) (between_more rows start now row node i row_is inside fits (c.loop-i.invariant.1 rows start row_is between)),
       subst (λ (ms : List ℕ). PassedUpto row (i + 1) (word_at before node) ms) (sym {A = List ℕ} is)
