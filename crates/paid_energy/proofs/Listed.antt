@@ -1,8 +1,9 @@
 -- The pieces of which a choice copies blocks, and their entries.
-use Rattle.std.proofs.Common.{◌≡◌, ◌∙◌, ◌⊎◌, inl, inr, ℕ, zero, suc, ◌+◌, ◌<◌, ◌≤◌, ◌==◌, Bool, true, false, ◌&&◌, if◌then◌else◌, List, [], ◌∷◌, map, drop, length, get_or, Option, Some, None, IsSomeAnd, IfSome, refl, sym, ap, arith}
-use Rattle.std.specs.List.{All}
+use Rattle.std.proofs.Common.{◌≡◌, ◌∙◌, ◌⊎◌, inl, inr, ℕ, zero, suc, ◌+◌, ◌<◌, ◌≤◌, ◌==◌, Bool, true, false, ◌&&◌, if◌then◌else◌, List, [], ◌∷◌, map, drop, length, get_or, Option, Some, None, IsSomeAnd, IfSome, refl, sym, ap, subst, arith}
+use Rattle.std.specs.List.{All, list_any}
 use Rattle.std.specs.List.Sorted.{IsStrictlyIncreasing}
 use Rattle.std.proofs.lemmas.Bool.Decides.{nat_tests}
+use Rattle.std.proofs.lemmas.List.Folds.{list_any_at}
 use Rattle.list_checks.specs.Sorted.{collected}
 use Rattle.list_checks.specs.Tests.{any_below}
 use Rattle.list_checks.proofs.TestLemmas.{both, same_tests, any_at, any_found}
@@ -15,7 +16,7 @@ use Rattle.region_former.specs.declared.table.RegionTable.{RegionTable}
 use Rattle.block_splitter.specs.declared.block_range.BlockRange.{BlockRange}
 use Rattle.block_splitter.specs.declared.piece.Piece.{Piece}
 use Rattle.block_splitter.specs.Forms.{holds_block}
-use Rattle.block_splitter.specs.Pieces.{is_entry, range_of, IsPiece}
+use Rattle.block_splitter.specs.Pieces.{is_entry, range_of, is_range_of, IsPiece}
 use Rattle.placement_programme.specs.Bounds.{AscendWithin}
 use Rattle.placement_programme.specs.Plain.{PlainVar, PlainSide, PlainProgramme, PlainChoice}
 use Rattle.placement_programme.specs.Programme.{Fits, side_for}
@@ -49,6 +50,15 @@ tells_entry c g p b piece below held =
     ap (λ entries. has entries b) piece.entries
     ∙ has_collected (λ k. holds_block k (range_of p) && is_entry c (range_of p) k) (length c.blocks.items) b below
     ∙ ap (λ t. t && is_entry c (range_of p) b) held
+
+own_range : (p : Piece) → is_range_of (range_of p) p ≡ true
+own_range p = grind (arith, nat_tests)
+
+-- the search for a piece finds one that is listed
+pub any_of : (pieces : List Piece) (range : BlockRange) → IsListed pieces range → list_any (is_range_of range) pieces ≡ true
+any_of pieces range (piece, (listed, same)) =
+    let here : range_of (get_or pieces listed.0 piece) ≡ range = ap range_of listed.2 ∙ same in
+    list_any_at (is_range_of range) pieces listed.0 piece listed.1 (subst (λ (r : BlockRange). is_range_of r (get_or pieces listed.0 piece) ≡ true) here (own_range (get_or pieces listed.0 piece)))
 
 -- ---- the piece of a block
 

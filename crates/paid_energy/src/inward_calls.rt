@@ -1,4 +1,6 @@
-ghost use Rattle.std.specs.Prelude.{◌≡◌, ℕ, ◌<◌, true, false, not, ◌&&◌, List, map, length, slice_index_or, Option, Some, IfSome, MatchOption, MatchBool};
+ghost use Rattle.std.specs.Prelude.{◌≡◌, ℕ, ◌<◌, true, false, not, ◌&&◌, List, map, length, slice_index_or, Option, Some, IfSome, MatchOption};
+ghost use Rattle.std.specs.List.{AllPairs};
+ghost use Rattle.std.specs.List.Sorted.{IsPartitionPoint};
 ghost use Rattle.object_graph.specs.declared.parts.Graph.{Graph};
 ghost use Rattle.placement_programme.specs.Bounds.{AscendWithin};
 ghost use Rattle.placement_programme.specs.Plain.{plain_var};
@@ -7,12 +9,13 @@ ghost use Rattle.placement_programme.specs.Views.{plain_programme, plain_choice}
 ghost use Rattle.profile_runner.specs.Transition.{Transition};
 ghost use Rattle.code_blocks.specs.Numbers.{end_at};
 ghost use Rattle.block_splitter.specs.Forms.{holds_block};
-ghost use Rattle.block_splitter.specs.Pieces.{is_entry, range_of, IsPiece, ArePieces};
+ghost use Rattle.block_splitter.specs.Pieces.{is_entry, range_of, IsPiece, ComesBefore, ArePieces};
 ghost use Rattle.energy_model.specs.Energy.{piece_in, covering, piece_of};
 ghost use Rattle.energy_model.specs.Scenes.{scene_of, AreOfSameFile};
 ghost use Rattle.placement_candidates.specs.Adding.{kept_name};
 ghost use Rattle.overlay_candidates.specs.Whole.{taken_of as names_taken};
 ghost use Rattle.result_placements.specs.Choices.{IsChoiceFor};
+ghost use Rattle.copied_result.specs.Copies.{comes_before};
 ghost use Rattle.relink_core.specs.Choices.{IsAnalysisOf};
 ghost use Rattle.paid_energy.specs.Inward.{calls, is_within, is_inward, inward_count, counted_inward, IsListed};
 
@@ -100,11 +103,19 @@ fn piece_of(p: &Programme, c: &Choice, b: u32) -> Option<BlockRange>
     }
 }
 
-/// Whether a piece is of these blocks.
-fn is_of(piece: &Piece, range: &BlockRange) -> bool
-    ensures { MatchBool result (range_of piece.now ≡ range.now) (range_of piece.now ≡ range.now → ⊥) }
+/// Whether a piece comes before these blocks: by first block, and then by last.
+fn comes_before(piece: &Piece, range: &BlockRange) -> bool
+    ensures { result ≡ comes_before (range_of piece.now) range.now }
 {
-    piece.first == range.first && piece.last == range.last
+    piece.first < range.first || (piece.first == range.first && piece.last < range.last)
+}
+
+/// How many pieces come before these blocks, by binary search.
+fn pieces_before(pieces: &[Piece], range: &BlockRange) -> usize
+    requires { AllPairs (λ p q. ComesBefore (range_of p) (range_of q)) pieces.now }
+    ensures { IsPartitionPoint (λ p. comes_before (range_of p) range.now ≡ true) (λ p. comes_before (range_of p) range.now ≡ false) pieces.now result }
+{
+    pieces.partition_point(|piece| comes_before(piece, range))
 }
 
 /// Whether control may come to block `b` of a piece from outside.
@@ -121,13 +132,8 @@ fn is_entry(pieces: &[Piece], range: &BlockRange, b: u32) -> bool
     requires are { (c : Code) × ((g : Graph) × (ArePieces c g pieces.now × ((b < length c.blocks.items) × (holds_block b range.now ≡ true)))) }
     ensures { (c : Code) (g : Graph) → ArePieces c g pieces.now → b < length c.blocks.items → holds_block b range.now ≡ true → result ≡ is_entry c range.now b }
 {
-    for k in 0..pieces.len() {
-        let piece = &pieces[k];
-        if is_of(piece, range) {
-            return piece_enters(piece, b);
-        }
-    }
-    false
+    let place = pieces_before(pieces, range);
+    piece_enters(&pieces[place], b)
 }
 
 /// Whether block `b` is of these blocks too, if there are some, and control comes to it from nowhere outside.
@@ -187,6 +193,9 @@ fn inward_count(a: &Analysis, p: &Programme, c: &Choice, edge: &Edge) -> u64
 /// How many calls of the profiled run are inward: those that stay in a piece that a choice takes and find no pad where they
 /// lead. Their copies lead home, and there the block runs in main memory, though the energy of the choice counts it in the
 /// copy.
+///
+/// The time grows with the number of edges, and for each edge that is a call with the number of variables that the choice
+/// takes and with the logarithm of the number of pieces.
 pub fn inward(profile: &Profile, a: &Analysis, board: &Board, p: &Programme, c: &Choice) -> u64
     requires same { (transitions : List Transition) × AreOfSameFile a.now.view board.now a.now.graph a.now.code a.now.regions profile.now transitions }
     requires analysis { (file : List ℕ) × IsAnalysisOf file board.now a.now }
