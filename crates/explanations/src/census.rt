@@ -1,4 +1,4 @@
-use crate::names::section_at;
+use crate::section_map::SectionMap;
 use elf_reader::ElfView;
 use loaded_file::{ByteRange, LoadedFile, counts, object_ranges, symbol_value, target};
 use movable_ranges::is_alias;
@@ -42,7 +42,8 @@ const NO_OBJECTS: SectionObjects = SectionObjects {
 /// Counts the objects of a file, and finds for each section a label that pins its objects. It fails only where no
 /// memory was left.
 ///
-/// The time grows with n log m, where n is the number of symbols and relocations, and m that of objects.
+/// The time grows with n log n, where n is the number of sections, symbols and relocations, and with the number of
+/// sections times that of segments.
 pub(crate) fn census(
     alloc: Global,
     view: &ElfView,
@@ -50,37 +51,38 @@ pub(crate) fn census(
 ) -> Result<ObjectCensus, AllocError> {
     let file = LoadedFile::of(alloc, view)?;
     let ranges = object_ranges(alloc, &file)?;
+    let map = SectionMap::of(alloc, view)?;
     let mut census = ObjectCensus {
         total: ranges.len() as u64,
         sections: vec![in alloc; NO_OBJECTS; view.sections.len()]?,
     };
     for range in &ranges {
-        census.count_range(view, graph, range);
+        census.count_range(&map, graph, range);
     }
-    census.note_labels(&file, &ranges);
+    census.note_labels(&map, &file, &ranges);
     Ok(census)
 }
 
 impl ObjectCensus {
-    fn count_range(&mut self, view: &ElfView, graph: &Graph, range: &ByteRange) {
+    fn count_range(&mut self, map: &SectionMap, graph: &Graph, range: &ByteRange) {
         if is_movable(graph, range) {
             return;
         }
-        if let Some(section) = self.section_of(view, range.home) {
+        if let Some(section) = self.section_of(map, range.home) {
             section.fixed = section.fixed.saturating_add(1);
         }
     }
 
-    fn note_labels(&mut self, file: &LoadedFile, ranges: &[ByteRange]) {
+    fn note_labels(&mut self, map: &SectionMap, file: &LoadedFile, ranges: &[ByteRange]) {
         for k in 0..file.view.relocs.len() {
             if let Some(label) = label_of(file, ranges, k) {
-                self.note_label(file.view, label);
+                self.note_label(map, label);
             }
         }
     }
 
-    fn note_label(&mut self, view: &ElfView, label: LabelUse) {
-        if let Some(section) = self.section_of(view, label.home) {
+    fn note_label(&mut self, map: &SectionMap, label: LabelUse) {
+        if let Some(section) = self.section_of(map, label.home) {
             if section.label.is_none() {
                 section.label = Some(label);
             }
@@ -88,8 +90,8 @@ impl ObjectCensus {
     }
 
     /// The entry of the section that has the byte at an address.
-    fn section_of(&mut self, view: &ElfView, address: u32) -> Option<&mut SectionObjects> {
-        let place = section_at(view, address)?;
+    fn section_of(&mut self, map: &SectionMap, address: u32) -> Option<&mut SectionObjects> {
+        let place = map.section_at(address)?;
         self.sections.get_mut(place)
     }
 }

@@ -9,5 +9,6 @@ mod mixes;
 mod names;
 mod pinned;
 mod runs;
+mod section_map;
 
 pub use explaining::explain;

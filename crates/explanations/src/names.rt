@@ -1,14 +1,20 @@
-use elf_reader::{ElfView, STT_OBJECT};
+use elf_reader::{ElfView, STT_OBJECT, Section};
 use object_graph::Graph;
 
 /// `sh_flags`: the section has memory when the program runs.
 const ALLOCATED: u32 = 2;
 
-/// The place of the section with memory that has the byte at an address.
+/// Whether a section has memory when the program runs.
+pub(crate) fn has_memory(section: &Section) -> bool {
+    section.flags & ALLOCATED != 0
+}
+
+/// The place of the first section with memory that has the byte at an address. The time grows with the number of
+/// sections: who asks for many addresses asks a `SectionMap`.
 pub(crate) fn section_at(view: &ElfView, address: u32) -> Option<usize> {
     for (place, section) in view.sections.iter().enumerate() {
         let offset = address.wrapping_sub(section.addr);
-        if section.flags & ALLOCATED != 0 && offset < section.size {
+        if has_memory(section) && offset < section.size {
             return Some(place);
         }
     }
