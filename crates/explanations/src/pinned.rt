@@ -1,4 +1,4 @@
-use crate::census::{ObjectCensus, SectionObjects, census};
+use crate::census::{LabelUse, ObjectCensus, SectionObjects, census};
 use crate::inputs::Inputs;
 use crate::names::{name_at, section_name, section_of_number, symbol_name};
 use board_config::{Board, Prices};
@@ -25,11 +25,29 @@ struct RelinkResult {
     bss_movable: bool,
 }
 
+/// A rule by which objects stay, before the names that it is told with are looked up.
+#[derive(Clone, Copy)]
+enum PinningRule {
+    Zeros,
+    Label(LabelUse),
+    Other,
+}
+
+/// Objects of a section that stay, and why.
+#[derive(Clone, Copy)]
+struct PinnedObjects {
+    /// The number of the section.
+    section: usize,
+    /// How many stay.
+    fixed: u64,
+    rule: PinningRule,
+}
+
 /// The two sections of which most objects stay.
 #[derive(Clone, Copy)]
-struct Largest<'a> {
-    first: Option<PinnedSection<'a>>,
-    second: Option<PinnedSection<'a>>,
+struct Largest {
+    first: Option<PinnedObjects>,
+    second: Option<PinnedObjects>,
     /// How many sections have objects that stay.
     count: u64,
 }
@@ -62,7 +80,7 @@ pub(crate) fn explain_pinned(
             return say_short_run(notes);
         }
     }
-    largest.say(notes)
+    largest.say(notes, view)
 }
 
 /// Whether some access costs less in the scratchpad.
@@ -87,20 +105,16 @@ fn tells_bss(inputs: &Inputs) -> bool {
     }
 }
 
-fn largest_of<'a>(
-    view: &ElfView<'a>,
-    census: &ObjectCensus,
-    relinked: &RelinkResult,
-) -> Largest<'a> {
+fn largest_of(view: &ElfView, census: &ObjectCensus, relinked: &RelinkResult) -> Largest {
     let mut largest = Largest {
         first: None,
         second: None,
         count: 0,
     };
-    for (place, objects) in census.sections.iter().enumerate() {
-        if let Some(rule) = rule_of(view, place, objects, relinked) {
-            largest.add(PinnedSection {
-                name: section_name(view, place),
+    for (section, objects) in census.sections.iter().enumerate() {
+        if let Some(rule) = rule_of(view, section, objects, relinked) {
+            largest.add(PinnedObjects {
+                section,
                 fixed: objects.fixed,
                 rule,
             });
@@ -109,26 +123,28 @@ fn largest_of<'a>(
     largest
 }
 
-impl<'a> Largest<'a> {
-    fn add(&mut self, section: PinnedSection<'a>) {
+impl Largest {
+    fn add(&mut self, objects: PinnedObjects) {
         self.count = self.count.saturating_add(1);
-        if is_larger(&section, &self.first) {
+        if is_larger(&objects, &self.first) {
             self.second = self.first;
-            self.first = Some(section);
-        } else if is_larger(&section, &self.second) {
-            self.second = Some(section);
+            self.first = Some(objects);
+        } else if is_larger(&objects, &self.second) {
+            self.second = Some(objects);
         }
     }
 
     /// A section that an anchor pins comes first: its cure is a flag, and frees most.
-    fn say(&self, notes: &mut Notes) -> Result<(), AllocError> {
-        let (first, second) = if is_anchored(&self.second) && !is_anchored(&self.first) {
+    fn say(&self, notes: &mut Notes, view: &ElfView) -> Result<(), AllocError> {
+        let (first, second) = if is_anchored(view, &self.second)
+            && !is_anchored(view, &self.first)
+        {
             (&self.second, &self.first)
         } else {
             (&self.first, &self.second)
         };
-        say_section(notes, first)?;
-        say_section(notes, second)?;
+        say_section(notes, view, first)?;
+        say_section(notes, view, second)?;
         if self.count > 2 {
             return say_more_sections(notes, self.count - 2);
         }
@@ -136,62 +152,84 @@ impl<'a> Largest<'a> {
     }
 }
 
-fn say_section(notes: &mut Notes, section: &Option<PinnedSection<'_>>) -> Result<(), AllocError> {
-    match section {
-        Some(section) => say_pinned(notes, section),
+fn say_section(
+    notes: &mut Notes,
+    view: &ElfView,
+    objects: &Option<PinnedObjects>,
+) -> Result<(), AllocError> {
+    match objects {
+        Some(objects) => say_pinned(notes, &pinned_section(view, objects)),
         None => Ok(()),
     }
 }
 
+/// What is told of objects that stay. The time grows with the number of symbols, so it is asked only for those that
+/// are told of.
+fn pinned_section<'a>(view: &ElfView<'a>, objects: &PinnedObjects) -> PinnedSection<'a> {
+    PinnedSection {
+        name: section_name(view, objects.section),
+        fixed: objects.fixed,
+        rule: told_rule(view, objects.rule),
+    }
+}
+
+/// A rule with the names that it is told with.
+fn told_rule<'a>(view: &ElfView<'a>, rule: PinningRule) -> Rule<'a> {
+    match rule {
+        PinningRule::Zeros => Rule::Zeros,
+        PinningRule::Label(label) => Rule::Label(Label {
+            name: symbol_name(view, label.symbol),
+            changed: section_of_number(view, label.changed),
+            object: name_at(view, label.home),
+        }),
+        PinningRule::Other => Rule::Other,
+    }
+}
+
 /// Whether an anchor pins the objects of a section.
-fn is_anchored(section: &Option<PinnedSection<'_>>) -> bool {
-    match section {
+fn is_anchored(view: &ElfView, objects: &Option<PinnedObjects>) -> bool {
+    match objects {
         Some(
-            PinnedSection {
-                rule: Rule::Label(label),
+            PinnedObjects {
+                rule: PinningRule::Label(label),
                 ..
             },
-        ) => is_anchor(label.name),
+        ) => is_anchor(symbol_name(view, label.symbol)),
         _ => false,
     }
 }
 
-fn is_larger(section: &PinnedSection, other: &Option<PinnedSection>) -> bool {
+fn is_larger(objects: &PinnedObjects, other: &Option<PinnedObjects>) -> bool {
     match other {
-        Some(other) => section.fixed > other.fixed,
+        Some(other) => objects.fixed > other.fixed,
         None => true,
     }
 }
 
 /// The rule by which objects of a section stay, if one is to be told: none where the board asks for it and others moved.
-fn rule_of<'a>(
-    view: &ElfView<'a>,
+fn rule_of(
+    view: &ElfView,
     place: usize,
     objects: &SectionObjects,
     relinked: &RelinkResult,
-) -> Option<Rule<'a>> {
+) -> Option<PinningRule> {
     let section = view.sections.get(place)?;
     if objects.fixed == 0 {
         return None;
     }
     if section.kind == SHT_NOBITS && !relinked.bss_movable {
-        return told_if(!relinked.tells_bss || !relinked.has_moved, Rule::Zeros);
+        return told_if(
+            !relinked.tells_bss || !relinked.has_moved,
+            PinningRule::Zeros,
+        );
     }
     let Some(label) = objects.label else {
-        return told_if(!relinked.has_moved, Rule::Other);
+        return told_if(!relinked.has_moved, PinningRule::Other);
     };
-    let name = symbol_name(view, label.symbol);
-    let is_table = name.starts_with(TABLE_START);
-    told_if(
-        !relinked.has_moved || !is_table,
-        Rule::Label(Label {
-            name,
-            changed: section_of_number(view, label.changed),
-            object: name_at(view, label.home),
-        }),
-    )
+    let is_table = symbol_name(view, label.symbol).starts_with(TABLE_START);
+    told_if(!relinked.has_moved || !is_table, PinningRule::Label(label))
 }
 
-fn told_if(is_told: bool, rule: Rule<'_>) -> Option<Rule<'_>> {
+fn told_if(is_told: bool, rule: PinningRule) -> Option<PinningRule> {
     if is_told { Some(rule) } else { None }
 }
