@@ -20,8 +20,8 @@ use Rattle.flat_machine.specs.declared.known.Known.{Known}
 use Rattle.flat_machine.specs.Mapping.{can_access, can_move}
 use Rattle.flat_machine.specs.State.{State, trap}
 use Rattle.flat_machine.specs.Calls.{a1, a2, a7, answered, exited, written, read, call}
-use Rattle.flat_machine.specs.Step.{may_access, performed, event_of, ReadsNothing, Performs, StepAt, Step}
-use Rattle.flat_machine.specs.Known.{IsKnown, HoldsIn, SlotHolds, AreKnown, slot_of, vacant, TakesStep}
+use Rattle.flat_machine.specs.Step.{may_access, performed, accessed, event_of, ReadsNothing, Performs, StepAt, Step}
+use Rattle.flat_machine.specs.Known.{IsKnown, HoldsIn, SlotHolds, AreKnown, slot_of, vacant, TellsStep}
 use Rattle.flat_machine.proofs.Runs.{performs_meaning}
 use Rattle.flat_machine.proofs.LineWords.{word_kept}
 
@@ -130,24 +130,35 @@ pub call_kept : (s t : State) (known : List Known) → a7 s ≢ 63 → t ≡ cal
 call_kept s t known other is all = subst (AreKnownOf known) (sym is) (call_after s known other all)
 
 -- a machine that goes on takes a step: it cannot fetch, or the word means nothing, or it performs what the word means
-pub unfetched : (s : State) → s.outcome ≡ GoesOn → can_access s.map s.hart.pc 4 ≡ false → TakesStep s (trap s)
+pub unfetched : (s : State) → s.outcome ≡ GoesOn → can_access s.map s.hart.pc 4 ≡ false → TellsStep s None (trap s)
 unfetched s going shut =
     let e : FlatEvent = record { at = s.hart.pc; outcome = Trapped s.hart.pc; word = 0; access = None } in
-    let q : ReadsNothing s e (trap s) (trap s) = record { state = refl; event = refl } in (
-      e,
-      subst (λ o. StepAt o s e (trap s)) (sym going)
-          (subst (λ b. MatchBool b ((read : Option Instr) × Performs s e (trap s) read) (ReadsNothing s e (trap s) (trap s))) (sym shut) q),
-    )
+    let q : ReadsNothing s e (trap s) (trap s) = record { state = refl; event = refl } in
+    record {
+      event = e;
+      step = subst (λ o. StepAt o s e (trap s)) (sym going)
+          (subst (λ b. MatchBool b ((read : Option Instr) × Performs s e (trap s) read) (ReadsNothing s e (trap s) (trap s))) (sym shut) q);
+      at_is = refl;
+      access_is = refl;
+    }
 
-pub meaningless : (s : State) → s.outcome ≡ GoesOn → IsTrue (can_access s.map s.hart.pc 4) → MeansNothing (word_at s.hart.mem s.hart.pc) → TakesStep s (trap s)
+pub meaningless : (s : State) → s.outcome ≡ GoesOn → IsTrue (can_access s.map s.hart.pc 4) → MeansNothing (word_at s.hart.mem s.hart.pc) → TellsStep s None (trap s)
 meaningless s going fetches nothing =
     let e : FlatEvent = record { at = s.hart.pc; outcome = Trapped s.hart.pc; word = word_at s.hart.mem s.hart.pc; access = None } in
-    let q : Performs s e (trap s) None = record { reads = nothing; state = refl; event = refl } in (
-      e,
-      subst (λ o. StepAt o s e (trap s)) (sym going)
-          (subst (λ b. MatchBool b ((read : Option Instr) × Performs s e (trap s) read) (ReadsNothing s e (trap s) (trap s))) (sym fetches) (None, q)),
-    )
+    let q : Performs s e (trap s) None = record { reads = nothing; state = refl; event = refl } in
+    record {
+      event = e;
+      step = subst (λ o. StepAt o s e (trap s)) (sym going)
+          (subst (λ b. MatchBool b ((read : Option Instr) × Performs s e (trap s) read) (ReadsNothing s e (trap s) (trap s))) (sym fetches) (None, q));
+      at_is = refl;
+      access_is = refl;
+    }
 
-pub known_step : (s t : State) (i : Instr) → s.outcome ≡ GoesOn → IsKnown s.map s.hart.mem s.hart.pc i → t ≡ performed s i → TakesStep s t
+pub known_step : (s t : State) (i : Instr) → s.outcome ≡ GoesOn → IsKnown s.map s.hart.mem s.hart.pc i → t ≡ performed s i → TellsStep s (accessed s i) t
 known_step s t i going known is =
-    (event_of s i, subst (λ u. Step s (event_of s i) u) (sym is) (performs_meaning s i going known.fetches known.means))
+    record {
+      event = event_of s i;
+      step = subst (λ u. Step s (event_of s i) u) (sym is) (performs_meaning s i going known.fetches known.means);
+      at_is = refl;
+      access_is = refl;
+    }

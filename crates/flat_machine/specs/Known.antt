@@ -1,11 +1,12 @@
 -- The table of decoded instructions of a run: what words in memory mean, in slots by their addresses.
-use Rattle.std.specs.Prelude.{◌≡◌, ℕ, ◌/◌, ◌%◌, ◌<◌, List, length, slice_index_or, IsTrue}
+use Rattle.std.specs.Prelude.{◌≡◌, ℕ, ◌/◌, ◌%◌, ◌<◌, List, length, slice_index_or, Option, IsTrue}
 use Rattle.word_bits.specs.Memory.{Memory, word_at}
 use Rattle.rv_decode.specs.declared.instructions.Instr.{Instr}
 use Rattle.rv_decode.specs.declared.instructions.Instr.TheVariants.{Ebreak}
 use Rattle.rv_decode.specs.Table.{Means, IsInRange}
 use Rattle.board_config.specs.declared.board.Range.{Range}
 use Rattle.flat_machine.specs.declared.events.FlatEvent.{FlatEvent}
+use Rattle.flat_machine.specs.declared.events.FlatAccess.{FlatAccess}
 use Rattle.flat_machine.specs.declared.known.Known.{Known}
 use Rattle.flat_machine.specs.Mapping.{can_access}
 use Rattle.flat_machine.specs.State.{State}
@@ -42,6 +43,13 @@ AreKnown map mem known =
 abbrev pub instr_at : List Known → ℕ → Instr
 instr_at known at = (slice_index_or known (slot_of at) vacant).instr
 
--- one step leads from `s` to `t`
+-- one step leads from `s` to `t`; its event is at the pc of `s` and tells of this access
+pub record TellsStep (s : State) (access : Option FlatAccess) (t : State) : Type 0 where
+  pub event : FlatEvent
+  pub step : Step s event t
+  pub at_is : event.at ≡ s.hart.pc
+  pub access_is : event.access ≡ access
+
+-- and of some access, or none
 abbrev pub TakesStep : State → State → Type 0
-TakesStep s t = (e : FlatEvent) × Step s e t
+TakesStep s t = (access : Option FlatAccess) × TellsStep s access t

@@ -13,6 +13,7 @@ mod mapping;
 mod reach;
 
 pub use events::{FlatAccess, FlatEvent, FlatOutcome};
+pub use known::Known;
 pub use laws::{
     ended_stays, events_compose, events_count, is_determined, lines_run, output_grows,
     performs_meaning, steps_compose, words_stay,

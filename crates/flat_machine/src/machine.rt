@@ -9,6 +9,7 @@ mod performing;
 mod registers;
 
 use crate::events::{FlatAccess, FlatEvent, FlatOutcome};
+use crate::known::Known;
 use crate::known_table::nothing_known;
 use crate::loading::{lay_segments, mapped};
 use crate::mapping::{has_access, is_inside, no_reach, range_around};
@@ -89,10 +90,11 @@ impl<S: ByteStore + Drop> Flat<S> {
 }
 
 impl<S: ByteStore> Flat<S> {
-    ghost use Rattle.std.specs.Prelude.{ℕ, ◌<◌, MatchBool, IfOk, OnOk, OnErr};
+    ghost use Rattle.std.specs.Prelude.{ℕ, ◌<◌, vec_len, MatchBool, IfOk, OnOk, OnErr};
     ghost use Rattle.flat_machine.specs.Mapping.{can_access};
     ghost use Rattle.flat_machine.specs.Step.{Step};
     ghost use Rattle.flat_machine.specs.Runs.{HasEnded, Steps};
+    ghost use Rattle.flat_machine.specs.Known.{AreKnown};
     ghost use Rattle.flat_machine.specs.Machine.{state_of};
 
     /// Takes one step. A machine that has ended stays as it is, and tells the same outcome again.
@@ -133,9 +135,18 @@ impl<S: ByteStore> Flat<S> {
         if n == 0 {
             return Ok(self.outcome);
         }
-        let mut known = nothing_known(*self.output.allocator())?;
+        let mut known = self.nothing_known()?;
         self.run_knowing(n, &mut known)?;
         Ok(self.outcome)
+    }
+
+    /// A table for steps of this machine, in which no decoded instruction is kept so far.
+    pub fn nothing_known(&self) -> Result<Vec<Known>, AllocError>
+        ensures len { IfOk result (λ known. vec_len known ≡ 4096) }
+        ensures known { IfOk result (λ known. let s = state_of S.byte_at self.now in
+            AreKnown s.map s.hart.mem known.items) }
+    {
+        nothing_known(*self.output.allocator())
     }
 
     /// The bytes that the program wrote so far.
@@ -178,10 +189,18 @@ impl<S: ByteStore> Flat<S> {
         has_access(&self.map, self.pc, 4)
     }
 
+    /// What has become of the machine.
+    #[inline(always)]
+    pub fn outcome(&self) -> FlatOutcome
+        ensures { result ≡ (state_of S.byte_at self.now).outcome }
+    {
+        self.outcome
+    }
+
     /// Whether the machine goes on no more.
     // Inlined, since each step asks it, and `step` and `run` both do.
     #[inline(always)]
-    fn has_ended(&self) -> bool
+    pub fn has_ended(&self) -> bool
         ensures { MatchBool result (HasEnded (state_of S.byte_at self.now).outcome)
             ((state_of S.byte_at self.now).outcome ≡ FlatOutcome.GoesOn) }
     {

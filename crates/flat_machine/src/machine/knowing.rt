@@ -1,5 +1,6 @@
 // Steps of a run, over a table of decoded instructions: a word that is run again is neither fetched nor
 // decoded again, and no event is made.
+use crate::events::FlatAccess;
 use crate::known::Known;
 use crate::known_table::{forget_all, is_known, kept_at, learn};
 use crate::machine::Flat;
@@ -7,8 +8,17 @@ use paged_store::ByteStore;
 use rv_decode::{A7, BranchKind, CALL_READ, Instr, decode, takes};
 use std::alloc::AllocError;
 
+// Each kind of step has a copy of its own of what performs instructions, by one of these types: LLVM inlines what has one
+// caller, and a step took half as many instructions more where a copy had two.
+
+/// A step of a run.
+pub(crate) struct Running;
+
+/// A step that tells of its access.
+pub(crate) struct Telling;
+
 impl<S: ByteStore> Flat<S> {
-    ghost use Rattle.std.specs.Prelude.{◌≡◌, ℕ, ◌<◌, length, MatchBool, OnOk, OnErr};
+    ghost use Rattle.std.specs.Prelude.{◌≡◌, ℕ, ◌<◌, length, MatchBool, None, IfOk, OnOk, OnErr};
     ghost use Rattle.rv_decode.specs.declared.instructions.Instr.{Instr};
     ghost use Rattle.rv_decode.specs.Table.{IsInRange};
     ghost use Rattle.flat_machine.specs.declared.events.FlatOutcome.{FlatOutcome};
@@ -16,7 +26,7 @@ impl<S: ByteStore> Flat<S> {
     ghost use Rattle.flat_machine.specs.Calls.{call};
     ghost use Rattle.flat_machine.specs.Step.{performed};
     ghost use Rattle.flat_machine.specs.Runs.{Steps};
-    ghost use Rattle.flat_machine.specs.Known.{IsKnown, AreKnown, instr_at, TakesStep};
+    ghost use Rattle.flat_machine.specs.Known.{IsKnown, AreKnown, instr_at, TakesStep, TellsStep};
     ghost use Rattle.flat_machine.specs.Machine.{state_of};
 
     /// Takes `n` steps, or fewer where the machine ends.
@@ -55,7 +65,33 @@ impl<S: ByteStore> Flat<S> {
             return Ok(());
         }
         let instr = kept_at(known, self.pc);
-        self.perform_knowing(instr, known)
+        self.perform_knowing::<Running>(instr, known)
+    }
+
+    /// Takes one step of a machine that goes on, over a table of the instructions that it decoded so far. Tells of the
+    /// access of a load or a store that does not trap.
+    ///
+    /// On an error the step was not taken.
+    // The access is found out beforehand: what performs instructions would grow too large to be inlined if it told of it.
+    #[inline(always)]
+    pub fn step_telling(&mut self, known: &mut [Known]) -> Result<Option<FlatAccess>, AllocError>
+        requires len { length known.old ≡ 4096 }
+        requires known { let s = state_of S.byte_at self.old in AreKnown s.map s.hart.mem known.old }
+        requires going { (state_of S.byte_at self.old).outcome ≡ FlatOutcome.GoesOn }
+        ensures step { IfOk result (λ access. TellsStep (state_of S.byte_at self.old) access
+            (state_of S.byte_at self.new)) }
+        ensures known { OnOk result (let t = state_of S.byte_at self.new in
+            AreKnown t.map t.hart.mem known.new) }
+        ensures err { OnErr result (state_of S.byte_at self.new ≡ state_of S.byte_at self.old) }
+    {
+        if !self.is_ready(known) {
+            self.trap();
+            return Ok(None);
+        }
+        let instr = kept_at(known, self.pc);
+        let access = self.access_of(instr);
+        self.perform_knowing::<Telling>(instr, known)?;
+        Ok(access)
     }
 
     /// Whether the word at the pc can be fetched and has a meaning, which the table has then.
@@ -66,7 +102,7 @@ impl<S: ByteStore> Flat<S> {
         requires going { (state_of S.byte_at self.old).outcome ≡ FlatOutcome.GoesOn }
         ensures told { let s = state_of S.byte_at self.old in
             MatchBool result (IsKnown s.map s.hart.mem s.hart.pc (instr_at known.new s.hart.pc))
-            (TakesStep s (trap s)) }
+            (TellsStep s None (trap s)) }
         ensures known { let s = state_of S.byte_at self.old in AreKnown s.map s.hart.mem known.new }
         ensures state { state_of S.byte_at self.new ≡ state_of S.byte_at self.old }
     {
@@ -83,7 +119,7 @@ impl<S: ByteStore> Flat<S> {
         requires going { (state_of S.byte_at self.old).outcome ≡ FlatOutcome.GoesOn }
         ensures told { let s = state_of S.byte_at self.old in
             MatchBool result (IsKnown s.map s.hart.mem s.hart.pc (instr_at known.new s.hart.pc))
-            (TakesStep s (trap s)) }
+            (TellsStep s None (trap s)) }
         ensures known { let s = state_of S.byte_at self.old in AreKnown s.map s.hart.mem known.new }
         ensures state { state_of S.byte_at self.new ≡ state_of S.byte_at self.old }
     {
@@ -102,7 +138,7 @@ impl<S: ByteStore> Flat<S> {
     /// Performs an instruction, and keeps the table right.
     #[inline(always)]
     #[tactic(auto, using(crate::proofs::Tables::quiet_kept))]
-    fn perform_knowing(&mut self, i: Instr, known: &mut [Known]) -> Result<(), AllocError>
+    fn perform_knowing<Caller>(&mut self, i: Instr, known: &mut [Known]) -> Result<(), AllocError>
         requires len { length known.old ≡ 4096 }
         requires known { let s = state_of S.byte_at self.old in AreKnown s.map s.hart.mem known.old }
         requires going { (state_of S.byte_at self.old).outcome ≡ FlatOutcome.GoesOn }

@@ -1,19 +1,21 @@
 // Loads and stores of a run. Most are near the last one, which one test tells.
 use crate::accesses::{load_bytes, loaded_value, set_value, store_bytes};
+use crate::events::FlatAccess;
 use crate::known::Known;
 use crate::known_table::forget;
 use crate::machine::Flat;
 use crate::mapping::{has_access, is_near, range_around, reach_of};
 use paged_store::ByteStore;
-use rv_decode::{LoadKind, StoreKind};
+use rv_decode::{Instr, LoadKind, StoreKind};
 use std::alloc::AllocError;
 
 impl<S: ByteStore> Flat<S> {
-    ghost use Rattle.std.specs.Prelude.{◌≡◌, ◌<◌, ◌≤◌, List, length, IsTrue, OnOk, OnErr};
+    ghost use Rattle.std.specs.Prelude.{◌≡◌, ◌<◌, ◌≤◌, ℕ, List, length, IsTrue, OnOk, OnErr};
     ghost use Rattle.rv_decode.specs.declared.instructions.Instr.{Instr};
+    ghost use Rattle.rv_decode.specs.Table.{IsInRange};
     ghost use Rattle.flat_machine.specs.declared.known.Known.{Known};
     ghost use Rattle.flat_machine.specs.Mapping.{can_access};
-    ghost use Rattle.flat_machine.specs.Step.{performed};
+    ghost use Rattle.flat_machine.specs.Step.{performed, accessed};
     ghost use Rattle.flat_machine.specs.Known.{AreKnown};
     ghost use Rattle.flat_machine.specs.Machine.{state_of};
 
@@ -180,6 +182,67 @@ impl<S: ByteStore> Flat<S> {
         forget(known, at);
         self.pc = self.pc.wrapping_add(4);
         Ok(())
+    }
+
+    /// The access of an instruction: that of a load or a store that does not trap.
+    #[inline(always)]
+    pub(super) fn access_of(&self, i: Instr) -> Option<FlatAccess>
+        requires { IsInRange i }
+        ensures { result ≡ accessed (state_of S.byte_at self.now) i }
+    {
+        match i {
+            Instr::Load { kind, rs1, imm, .. } => self.load_access(kind, rs1, imm),
+            Instr::Store { kind, rs1, imm, .. } => self.store_access(kind, rs1, imm),
+            Instr::Lui { .. }
+            | Instr::Auipc { .. }
+            | Instr::Jal { .. }
+            | Instr::Jalr { .. }
+            | Instr::Branch { .. }
+            | Instr::OpImm { .. }
+            | Instr::OpReg { .. }
+            | Instr::Fence { .. }
+            | Instr::FenceI { .. }
+            | Instr::Ecall
+            | Instr::Ebreak => None,
+        }
+    }
+
+    /// That of a load.
+    #[inline(always)]
+    fn load_access(&self, kind: LoadKind, rs1: u8, imm: i32) -> Option<FlatAccess>
+        requires { rs1 < 32 }
+        ensures { (rd : ℕ) → result
+            ≡ accessed (state_of S.byte_at self.now) (Instr.Load kind rd rs1 imm) }
+    {
+        let at = self.register(rs1).wrapping_add_signed(imm);
+        if !self.is_mapped(at, load_bytes(kind)) {
+            return None;
+        }
+        Some(FlatAccess { at, write: false })
+    }
+
+    /// That of a store.
+    #[inline(always)]
+    fn store_access(&self, kind: StoreKind, rs1: u8, imm: i32) -> Option<FlatAccess>
+        requires { rs1 < 32 }
+        ensures { (rs2 : ℕ) → result
+            ≡ accessed (state_of S.byte_at self.now) (Instr.Store kind rs1 rs2 imm) }
+    {
+        let at = self.register(rs1).wrapping_add_signed(imm);
+        if !self.is_mapped(at, store_bytes(kind)) {
+            return None;
+        }
+        Some(FlatAccess { at, write: true })
+    }
+
+    /// Whether an access of `width` bytes is aligned and mapped. Most are near the last one.
+    #[inline(always)]
+    fn is_mapped(&self, at: u32, width: u32) -> bool
+        requires some { 1 ≤ width }
+        requires few { width ≤ 4 }
+        ensures { result ≡ can_access (state_of S.byte_at self.now).map at width }
+    {
+        self.is_near(at, width) || has_access(&self.map, at, width)
     }
 
     /// Whether an access of `width` bytes is aligned, and is where the last loads and stores were.

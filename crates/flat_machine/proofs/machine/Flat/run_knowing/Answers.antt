@@ -18,6 +18,6 @@ pub loop-preserved : goal.loop-preserved
 loop-preserved g c =
     let step = c.in_ok-step_knowing.ensures.step in
     record {
-      steps = steps_more c.loop.counter _ _ _ step.0 c.loop.invariant.steps step.1;
+      steps = steps_more c.loop.counter _ _ _ step.1.event c.loop.invariant.steps step.1.step;
       known = c.in_ok-step_knowing.ensures.known;
     }

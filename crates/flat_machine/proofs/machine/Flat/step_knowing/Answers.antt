@@ -1,7 +1,7 @@
 use Rattle.std.proofs.Common.{◌≡◌, ◌∙◌, sym, subst, ap}
 use Rattle.std.proofs.lemmas.Result.{on_ok_weaker}
 use Rattle.flat_machine.specs.State.{State}
-use Rattle.flat_machine.specs.Step.{performed}
+use Rattle.flat_machine.specs.Step.{performed, accessed}
 use Rattle.flat_machine.specs.Known.{IsKnown, instr_at}
 use Rattle.flat_machine.specs.Machine.{state_of}
 use Rattle.flat_machine.proofs.Tables.{known_step}
@@ -17,5 +17,5 @@ returns-clause-step g c =
     let known : IsKnown s.map s.hart.mem s.hart.pc c.kept_at-instr.result =
     subst (λ i. IsKnown s.map s.hart.mem s.hart.pc i) (sym instr) c.if-not-is_ready.ensures.told in
     on_ok_weaker c.perform_knowing.result
-    (λ state. known_step s t c.kept_at-instr.result c.requires.going known (state ∙ ap (λ (x : State). performed x c.kept_at-instr.result) same))
+    (λ state. (accessed s c.kept_at-instr.result, known_step s t c.kept_at-instr.result c.requires.going known (state ∙ ap (λ (x : State). performed x c.kept_at-instr.result) same)))
     c.perform_knowing.ensures.state
