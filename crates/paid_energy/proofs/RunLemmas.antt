@@ -1,21 +1,20 @@
 -- Runs of the flat machine until it ends.
 use Rattle.std.proofs.Common.{◌≡◌, ◌⊎◌, inl, inr, ℕ, ◌+◌, ◌*◌, ◌<◌, ◌≤◌, List, [], ◌∷◌, ◌++◌, length, refl, sym, ◌∙◌, ap, subst, arith}
-use Rattle.std.specs.Prelude.{Bool, true, false, Option}
-use Rattle.std.specs.Bool.{MatchBool}
+use Rattle.std.specs.Prelude.{Option}
 use Rattle.std.proofs.lemmas.Bool.{cases_lt}
 use Rattle.std.proofs.lemmas.List.{length-append}
-use Rattle.rv_decode.specs.declared.instructions.Instr.{Instr}
+use Rattle.std.proofs.Math.Path.{ap₂}
 use Rattle.rv_decode.specs.Table.{OneInstruction}
 use Rattle.board_config.specs.declared.board.Board.{Board}
 use Rattle.flat_machine.specs.declared.events.FlatOutcome.{FlatOutcome}
 use Rattle.flat_machine.specs.declared.events.FlatOutcome.TheVariants.{GoesOn, Exited, Trapped}
+use Rattle.flat_machine.specs.declared.events.FlatAccess.{FlatAccess}
 use Rattle.flat_machine.specs.declared.events.FlatEvent.{FlatEvent}
-use Rattle.flat_machine.specs.Mapping.{can_access}
-use Rattle.flat_machine.specs.State.{State, trap}
-use Rattle.flat_machine.specs.Step.{Performs, ReadsNothing, StepAt, Step}
+use Rattle.flat_machine.specs.State.{State}
 use Rattle.flat_machine.specs.Runs.{Does, Steps, HasEnded}
+use Rattle.flat_machine.specs.Known.{TellsStep}
 use Rattle.flat_machine.proofs.Runs.{does_joined, steps_of_events, one_run, one_list}
-use Rattle.paid_energy.specs.Costs.{event_cost, run_cost}
+use Rattle.paid_energy.specs.Costs.{fetch_cost, told_cost, event_cost, run_cost}
 use Rattle.paid_energy.specs.FlatRuns.{RunsFor, PaysRun}
 use Rattle.paid_energy.proofs.CostLemmas.{run_cost_more}
 
@@ -43,47 +42,25 @@ pub runs_within : (most more : ℕ) (s t : State) (es : List FlatEvent) → Runs
 runs_within most more s t es r ended within =
     record { does = r.does; few = omega (arith, r.few, within); ended = λ less. ended; going = r.going }
 
--- ---- what a step tells has become of the machine
-
-performed : (s t : State) (e : FlatEvent) (read : Option Instr) → Performs s e t read → e.outcome ≡ t.outcome
-performed s t e read p = ap (λ (x : FlatEvent). x.outcome) p.event
-
-nothing_read : (s t next : State) (e : FlatEvent) → ReadsNothing s e t next → e.outcome ≡ t.outcome
-nothing_read s t next e r = ap (λ (x : FlatEvent). x.outcome) r.event
-
-fetched : (fetches : Bool) (s t : State) (e : FlatEvent) → MatchBool fetches ((read : Option Instr) × Performs s e t read) (ReadsNothing s e t (trap s)) → e.outcome ≡ t.outcome
-fetched true s t e q = performed s t e q.0 q.1
-fetched false s t e q = nothing_read s t (trap s) e q
-
-told_at : (o : FlatOutcome) (s t : State) (e : FlatEvent) → StepAt o s e t → e.outcome ≡ t.outcome
-told_at GoesOn s t e q = fetched (can_access s.map s.hart.pc 4) s t e q
-told_at (Exited code) s t e q = nothing_read s t s e q
-told_at (Trapped pc) s t e q = nothing_read s t s e q
-
-pub told_outcome : (s t : State) (e : FlatEvent) → Step s e t → e.outcome ≡ t.outcome
-told_outcome s t e q = told_at s.outcome s t e q
-
 -- ---- a run that goes on, step by step
 
 -- so many steps were taken of a machine that went on before each of them, they led here, and cost so much
-pub record PaidSoFar (board : Board) (s t : State) (n : ℕ) (outcome : FlatOutcome) (steps energy : ℕ) : Type 0 where
+pub record PaidSoFar (board : Board) (s t : State) (n steps energy : ℕ) : Type 0 where
   pub events : List FlatEvent
   pub does : Does events s t
   pub count : length events ≡ n
   pub going : (k : ℕ) (u : State) → k < n → Steps k s u → u.outcome ≡ GoesOn
-  pub outcome_is : outcome ≡ t.outcome
   pub steps_are : steps ≡ n
   pub energy_is : energy ≡ run_cost board events
   pub small : energy ≤ 20000 * n
 
-pub nothing_paid : (board : Board) (s : State) → PaidSoFar board s s 0 s.outcome 0 0
+pub nothing_paid : (board : Board) (s : State) → PaidSoFar board s s 0 0 0
 nothing_paid board s =
     record {
       events = [];
       does = refl;
       count = refl;
       going = λ k u less steps. absurd (omega (arith, less));
-      outcome_is = refl;
       steps_are = refl;
       energy_is = refl;
       small = omega arith;
@@ -104,36 +81,39 @@ going_more one s t n here going before k u less steps =
         ap (λ (x : State). x.outcome) is ∙ going
 
 -- one step more
-pub paid_more : OneInstruction → (board : Board) (s t u : State) (n : ℕ) (outcome : FlatOutcome) (steps energy : ℕ) (e : FlatEvent)
-    → PaidSoFar board s t n outcome steps energy → outcome ≡ GoesOn → Step t e u → event_cost board e ≤ 20000
-    → PaidSoFar board s u (n + 1) e.outcome (steps + 1) (energy + event_cost board e)
-paid_more one board s t u n outcome steps energy e r going step small =
+pub paid_more : OneInstruction → (board : Board) (s t u : State) (n steps energy : ℕ) (access : Option FlatAccess)
+    → PaidSoFar board s t n steps energy → t.outcome ≡ GoesOn → TellsStep t access u → fetch_cost board t.hart.pc + told_cost board access ≤ 20000
+    → PaidSoFar board s u (n + 1) (steps + 1) (energy + (fetch_cost board t.hart.pc + told_cost board access))
+paid_more one board s t u n steps energy access r going tells small =
+    let e = tells.event in
     let taken : Steps n s t = subst (λ k. Steps k s t) r.count (steps_of_events r.events s t r.does) in
+    let cost : event_cost board e ≡ fetch_cost board t.hart.pc + told_cost board access =
+    ap₂ (λ at made. fetch_cost board at + told_cost board made) tells.at_is tells.access_is in
+    let whole : run_cost board (r.events ++ e ∷ []) ≡ run_cost board r.events + event_cost board e = run_cost_more board r.events e in
     record {
       events = r.events ++ e ∷ [];
-      does = does_joined r.events (e ∷ []) s t u r.does (u, (step, refl));
+      does = does_joined r.events (e ∷ []) s t u r.does (u, (tells.step, refl));
       count = length-append r.events (e ∷ []) ∙ ap (λ k. k + 1) r.count;
-      going = going_more one s t n taken (sym r.outcome_is ∙ going) r.going;
-      outcome_is = told_outcome t u e step;
+      going = going_more one s t n taken going r.going;
       steps_are = ap (λ k. k + 1) r.steps_are;
-      energy_is = ap (λ k. k + event_cost board e) r.energy_is ∙ sym (run_cost_more board r.events e);
+      energy_is = omega (arith, r.energy_is, whole, cost);
       small = omega (arith, r.small, small);
     }
 
 -- that is the whole run, where the bound is reached or the machine has ended
-pub whole_run : (board : Board) (s t : State) (most n : ℕ) (outcome : FlatOutcome) (steps energy : ℕ)
-    → PaidSoFar board s t n outcome steps energy → n ≤ most → (n < most → HasEnded outcome) → PaysRun board most s outcome steps energy
-whole_run board s t most n outcome steps energy r within ended =
+pub whole_run : (board : Board) (s t : State) (most n steps energy : ℕ)
+    → PaidSoFar board s t n steps energy → n ≤ most → (n < most → HasEnded t.outcome) → PaysRun board most s t.outcome steps energy
+whole_run board s t most n steps energy r within ended =
     record {
       events = r.events;
       last = t;
       run = record {
         does = r.does;
         few = omega (arith, r.count, within);
-        ended = λ less. subst HasEnded r.outcome_is (ended (omega (arith, r.count, less)));
+        ended = λ less. ended (omega (arith, r.count, less));
         going = λ k u less. r.going k u (omega (arith, r.count, less));
       };
-      outcome_is = r.outcome_is;
+      outcome_is = refl;
       steps_are = r.steps_are ∙ sym r.count;
       energy_is = r.energy_is;
     }

@@ -1,10 +1,10 @@
-ghost use Rattle.std.specs.Prelude.{◌≡◌, ◌≤◌};
+ghost use Rattle.std.specs.Prelude.{◌≡◌, ◌+◌, ◌≤◌};
 ghost use Rattle.board_config.specs.Board.{IsLawful};
 ghost use Rattle.energy_model.specs.Priced.{direction_price};
 ghost use Rattle.paid_energy.specs.Costs as costs;
 
 use board_config::Board;
-use flat_machine::{FlatAccess, FlatEvent};
+use flat_machine::FlatAccess;
 
 /// Whether an address lies in the scratchpad.
 // Inlined, as all that a step of a run pays for, here and below.
@@ -51,12 +51,12 @@ fn told_cost(board: &Board, access: Option<FlatAccess>) -> u32
     }
 }
 
-/// What a step costs: its fetch, also one that traps, and its access.
+/// What a step costs that fetches at an address and makes an access: its fetch, also one that traps, and the access.
 #[inline(always)]
-pub(crate) fn event_cost(board: &Board, event: &FlatEvent) -> u64
+pub(crate) fn step_cost(board: &Board, at: u32, access: Option<FlatAccess>) -> u64
     requires { IsLawful board.now }
-    ensures is { result ≡ costs.event_cost board.now event.now }
+    ensures is { result ≡ costs.fetch_cost board.now at + costs.told_cost board.now access }
     ensures small { result ≤ 20000 }
 {
-    u64::from(fetch_cost(board, event.at)) + u64::from(told_cost(board, event.access))
+    u64::from(fetch_cost(board, at)) + u64::from(told_cost(board, access))
 }

@@ -1,12 +1,12 @@
-ghost use Rattle.std.specs.Prelude.{◌≡◌, ◌<◌, ◌^◌, IfOk, MatchBool};
+ghost use Rattle.std.specs.Prelude.{◌≡◌, ◌<◌, ◌^◌, length, IfOk};
 ghost use Rattle.board_config.specs.Board.{IsLawful};
+ghost use Rattle.flat_machine.specs.Known.{AreKnown};
 ghost use Rattle.flat_machine.specs.Machine.{state_of};
-ghost use Rattle.flat_machine.specs.Runs.{HasEnded};
 ghost use Rattle.paid_energy.specs.FlatRuns.{PaysRun};
 
-use crate::costs::event_cost;
+use crate::costs::step_cost;
 use board_config::Board;
-use flat_machine::{Flat, FlatOutcome};
+use flat_machine::{Flat, FlatOutcome, Known};
 use paged_store::ByteStore;
 use rv_decode::one_instruction;
 use std::alloc::AllocError;
@@ -35,31 +35,39 @@ pub fn paid<S: ByteStore>(
     requires few { limit < 2 ^ 63 }
     ensures { IfOk result (λ r. PaysRun board.now limit (state_of S.byte_at flat.old) r.outcome r.steps r.energy) }
 {
-    one_instruction();
-    let mut run = PaidRun {
-        outcome: FlatOutcome::GoesOn,
-        steps: 0,
-        energy: 0,
-    };
-    for _ in 0..limit as u64 {
-        if has_ended(run.outcome) {
-            break;
-        }
-        let event = flat.step()?;
-        run.outcome = event.outcome;
-        run.steps += 1;
-        run.energy += u128::from(event_cost(board, &event));
-    }
-    Ok(run)
+    let mut known = flat.nothing_known()?;
+    pay_steps(flat, board, limit as u64, &mut known)
 }
 
-/// Whether a machine goes on no more.
-#[inline(always)]
-fn has_ended(outcome: FlatOutcome) -> bool
-    ensures { MatchBool result (HasEnded outcome) (outcome ≡ FlatOutcome.GoesOn) }
+/// The same, over a table of the instructions that the machine decoded so far.
+fn pay_steps<S: ByteStore>(
+    flat: &mut Flat<S>,
+    board: &Board,
+    limit: u64,
+    known: &mut [Known],
+) -> Result<PaidRun, AllocError>
+    requires lawful { IsLawful board.now }
+    requires going { (state_of S.byte_at flat.old).outcome ≡ FlatOutcome.GoesOn }
+    requires few { limit < 2 ^ 63 }
+    requires len { length known.old ≡ 4096 }
+    requires known { let s = state_of S.byte_at flat.old in AreKnown s.map s.hart.mem known.old }
+    ensures { IfOk result (λ r. PaysRun board.now limit (state_of S.byte_at flat.old) r.outcome r.steps r.energy) }
 {
-    match outcome {
-        FlatOutcome::GoesOn => false,
-        FlatOutcome::Exited(_) | FlatOutcome::Trapped { .. } => true,
+    one_instruction();
+    let mut steps = 0;
+    let mut energy = 0;
+    for _ in 0..limit {
+        if flat.has_ended() {
+            break;
+        }
+        let at = flat.at();
+        let access = flat.step_telling(known)?;
+        steps += 1;
+        energy += u128::from(step_cost(board, at, access));
     }
+    Ok(PaidRun {
+        outcome: flat.outcome(),
+        steps,
+        energy,
+    })
 }
