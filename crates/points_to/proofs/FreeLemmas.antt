@@ -1,12 +1,14 @@
 -- Marks that are taken away, and nodes that are looked at only where their units have waited.
-use Rattle.std.proofs.Common.{◌≡◌, ◌⊎◌, inl, inr, ℕ, ◌+◌, ◌*◌, ◌/◌, ◌<◌, ◌≤◌, min, Bool, true, false, List, length, slice_set, slice_index_or, refl, ◌∙◌, ap, subst, arith}
+use Rattle.std.proofs.Common.{◌≡◌, ◌⊎◌, inl, inr, ℕ, ◌+◌, ◌*◌, ◌/◌, ◌<◌, ◌≤◌, min, Bool, true, false, List, length, slice_set, slice_index_or, sym, ◌∙◌, ap, subst, arith}
 use Rattle.std.proofs.lemmas.Bool.{cases_eq, cases_lt}
 use Rattle.std.proofs.lemmas.List.{get_or-set_same, get_or-set_other, get_or_past}
 use Rattle.reach_graph.specs.Reaching.{word_at}
 use Rattle.points_to.specs.Tables.{AreKept}
+use Rattle.points_to.specs.Layouts.{laid, laid_word}
 use Rattle.points_to.specs.Sweeps.{AreBare, IsOfUnit, IsFreed, AreFreed, AreNoted}
 use Rattle.points_to.proofs.KeptLemmas.{kept_skip}
 use Rattle.points_to.proofs.SpreadLemmas.{some_unit}
+use Rattle.points_to.proofs.LayoutLemmas.{laid_entry}
 
 never_both : (b : Bool) → b ≡ true → b ≡ false → ⊥
 never_both b on off = absurd cc
@@ -87,14 +89,27 @@ freed_all n touched old now freed noted m =
 
 -- ---- nodes that are kept
 
--- no word of units from `page` to before `last` has waited
-pub kept_untouched : (n page last : ℕ) (touched : List Bool) (marks nodes words : List ℕ) → page ≤ last → ((p : ℕ) → page ≤ p → p < last → slice_index_or touched p false ≡ false) → AreNoted n touched marks
-    → AreKept marks (min (2048 * page) (32 * n)) nodes words → AreKept marks (min (2048 * last) (32 * n)) nodes words
-kept_untouched n page last touched marks nodes words order off noted kept =
-    kept_skip marks (min (2048 * page) (32 * n)) (min (2048 * last) (32 * n)) nodes words (omega (arith, order)) (λ m low high.
-    let u : ℕ = m / 32 in
-    let below : m < 32 * n = omega (arith, high) in
-    elim (noted m u (IsOfUnit.of_entry below refl)) [
+-- no unit of the word of units of a block has waited
+pub kept_untouched : (n b r : ℕ) (numbers marks : List ℕ) (touched : List Bool) (nodes words : List ℕ) → b < n → r ≡ word_at numbers b → r < n → slice_index_or touched (r / 64) false ≡ false → AreNoted n touched marks
+    → AreKept (laid_word n numbers marks) (32 * b) nodes words → AreKept (laid_word n numbers marks) (32 * (b + 1)) nodes words
+kept_untouched n b r numbers marks touched nodes words inside is low off noted kept =
+    kept_skip (laid_word n numbers marks) (32 * b) (32 * (b + 1)) nodes words (omega arith) (λ m from to.
+    let page : m / 32 ≡ b = omega (arith, from, to) in
+    let number : word_at numbers (m / 32) ≡ r = ap (word_at numbers) page ∙ sym is in
+    let at = laid_entry n numbers m (omega (arith, to, inside)) in
+    let below : laid n numbers m < 32 * n = omega (arith, at, number, low) in
+    let unit : r ≡ laid n numbers m / 32 = omega (arith, at, number) in
+    elim (noted (laid n numbers m) r (IsOfUnit.of_entry below unit)) [
       | inl none ↦ none
-      | inr on ↦ absurd (never_both (slice_index_or touched (u / 64) false) on (off (u / 64) (omega (arith, low, high)) (omega (arith, low, high))))
+      | inr on ↦ absurd (never_both (slice_index_or touched (r / 64) false) on off)
     ]) kept
+
+-- 32 nodes of a block that are kept one by one
+pub laid_at : (n b r : ℕ) (numbers marks : List ℕ) → b < n → r ≡ word_at numbers b → (x : ℕ) → x < 32 → laid_word n numbers marks (32 * b + x) ≡ word_at marks (32 * r + x)
+laid_at n b r numbers marks inside is x low =
+    let m : ℕ = 32 * b + x in
+    let page : m / 32 ≡ b = omega (arith, low) in
+    let number : word_at numbers (m / 32) ≡ r = ap (word_at numbers) page ∙ sym is in
+    let at = laid_entry n numbers m (omega (arith, low, inside)) in
+    let place : laid n numbers m ≡ 32 * r + x = omega (arith, at, number, low) in
+    ap (word_at marks) place

@@ -13,11 +13,11 @@ use Rattle.std.proofs.lemmas.List.Kept.{AllPairs-from_increasing}
 use Rattle.std.proofs.lemmas.List.Quantifiers.{all_pairs_push}
 use Rattle.list_checks.proofs.TestLemmas.{neither}
 use Rattle.code_leaders.specs.Early.{has}
-use Rattle.reach_graph.specs.Reaching.{HasMark, word_at, Reaches}
+use Rattle.reach_graph.specs.Reaching.{HasMark, word_at}
 use Rattle.reach_graph.specs.declared.edges.Edge.{Edge}
 use Rattle.reach_graph.proofs.MarkLemmas.{none_in_zero}
-use Rattle.points_to.specs.Nodes.{memory, object_node}
-use Rattle.points_to.specs.Tables.{word_of, Kept, AreKept, Keeps, Begins, IsReached, AreGroups, group_at, none_kept}
+use Rattle.points_to.specs.Nodes.{object_node}
+use Rattle.points_to.specs.Tables.{word_of, Kept, AreKept, Begins, IsReached, AreGroups, group_at, none_kept}
 
 -- ---- one more node
 
@@ -53,28 +53,28 @@ absent (y ∷ nodes) (v ∷ words) m below =
 
 -- ---- what is kept up to a node
 
-pub kept_first : (marks : List ℕ) → AreKept marks 0 [] []
-kept_first marks = record {
+pub kept_first : (word : ℕ → ℕ) → AreKept word 0 [] []
+kept_first word = record {
   ascending = λ k within. absurd (omega (arith, within));
   below = λ k d inside. absurd (omega (arith, inside));
   one_each = refl;
   exact = λ m low. absurd (omega (arith, low));
 }
 
-pub kept_none : (marks : List ℕ) (end w : ℕ) (nodes words : List ℕ) → w ≡ word_at marks end → w ≡ 0 → AreKept marks end nodes words → AreKept marks (end + 1) nodes words
-kept_none marks end w nodes words is none are = record {
+pub kept_none : (word : ℕ → ℕ) (end w : ℕ) (nodes words : List ℕ) → w ≡ word end → w ≡ 0 → AreKept word end nodes words → AreKept word (end + 1) nodes words
+kept_none word end w nodes words is none are = record {
   ascending = are.ascending;
   below = λ k d inside. let less = are.below k d inside in omega (arith, less);
   one_each = are.one_each;
   exact = λ m low. elim (cases_eq m end) [
-    | inl same ↦ ap (word_of nodes words) same ∙ absent nodes words end are.below ∙ sym none ∙ is ∙ ap (word_at marks) (sym same)
+    | inl same ↦ ap (word_of nodes words) same ∙ absent nodes words end are.below ∙ sym none ∙ is ∙ ap word (sym same)
     | inr other ↦ are.exact m (omega (arith, low, other))
   ];
 }
 
 -- nodes that have no mark
-pub kept_skip : (marks : List ℕ) (end to : ℕ) (nodes words : List ℕ) → end ≤ to → ((m : ℕ) → end ≤ m → m < to → word_at marks m ≡ 0) → AreKept marks end nodes words → AreKept marks to nodes words
-kept_skip marks end to nodes words order none are = record {
+pub kept_skip : (word : ℕ → ℕ) (end to : ℕ) (nodes words : List ℕ) → end ≤ to → ((m : ℕ) → end ≤ m → m < to → word m ≡ 0) → AreKept word end nodes words → AreKept word to nodes words
+kept_skip word end to nodes words order none are = record {
   ascending = are.ascending;
   below = λ k d inside. let less = are.below k d inside in omega (arith, less, order);
   one_each = are.one_each;
@@ -91,8 +91,8 @@ grown xs x rise below =
     let pairs = all_pairs_push (λ (a b : ℕ). a < b) xs x (AllPairs-from_increasing xs rise) below in
     λ k within. pairs k (k + 1) 0 (omega arith) within
 
-pub kept_more : (marks : List ℕ) (end w : ℕ) (nodes words : List ℕ) → w ≡ word_at marks end → AreKept marks end nodes words → AreKept marks (end + 1) (nodes ++ end ∷ []) (words ++ w ∷ [])
-kept_more marks end w nodes words is are =
+pub kept_more : (word : ℕ → ℕ) (end w : ℕ) (nodes words : List ℕ) → w ≡ word end → AreKept word end nodes words → AreKept word (end + 1) (nodes ++ end ∷ []) (words ++ w ∷ [])
+kept_more word end w nodes words is are =
     let longer = length_push nodes end in
     let wider = length_push words w in
     let each = are.one_each in record {
@@ -107,7 +107,7 @@ kept_more marks end w nodes words is are =
       ];
       one_each = omega (arith, longer, wider, each);
       exact = λ m low. elim (cases_eq m end) [
-        | inl same ↦ ap (word_of (nodes ++ end ∷ []) (words ++ w ∷ [])) same ∙ push_same nodes words end w each are.below ∙ is ∙ ap (word_at marks) (sym same)
+        | inl same ↦ ap (word_of (nodes ++ end ∷ []) (words ++ w ∷ [])) same ∙ push_same nodes words end w each are.below ∙ is ∙ ap word (sym same)
         | inr other ↦ push_other nodes words end w m each other ∙ are.exact m (omega (arith, low, other))
       ];
     }
@@ -174,15 +174,6 @@ one_bit width m k low =
       ],
       λ same. subst (λ (v : ℕ). HasMark v k) (sym e) (ap (bit_at (2 ^ m)) same ∙ bit_at-pow_same m),
     )
-
--- what is kept of the marks that spread
-pub reached_is : (rows : List (List Edge)) (n first count : ℕ) (start marks : List ℕ) (kept : Kept) → Begins first count start → ((m k : ℕ) → HasMark (word_at marks m) k ↔ Reaches rows start m k) → Keeps marks n kept → IsReached rows n first count kept
-reached_is rows n first count start marks kept begins propagate keeps = record {
-  start = start;
-  begins = begins;
-  entries = λ m k low. subst (λ (w : ℕ). HasMark w k ↔ Reaches rows start m k) (sym (keeps.entries m low)) (propagate m k);
-  in_memory = λ k. subst (λ (w : ℕ). HasMark w k ↔ Reaches rows start (memory n) k) (sym keeps.in_memory) (propagate (memory n) k);
-}
 
 -- one more group
 pub groups_more : (rows : List (List Edge)) (n objects j : ℕ) (groups : List Kept) (kept : Kept) → IsReached rows n (object_node n (64 * j)) (min 64 (objects - 64 * j)) kept → AreGroups rows n objects j groups

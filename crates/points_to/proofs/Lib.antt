@@ -14,5 +14,7 @@ pub mod SweepLemmas
 pub mod OverlaidLemmas
 pub mod AskedLemmas
 pub mod WaitLemmas
+pub mod LayoutLemmas
+pub mod RowLemmas
 pub mod SpreadLemmas
 pub mod FreeLemmas

@@ -7,6 +7,8 @@ pub mod Points
 pub mod Overlaid
 pub mod Flows
 pub mod Nodes
+pub mod Layouts
+pub mod Rows
 pub mod Sweeps
 pub mod Tables
 pub mod Asked

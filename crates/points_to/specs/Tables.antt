@@ -9,6 +9,7 @@ use Rattle.reach_graph.specs.declared.edges.Edge.{Edge}
 use Rattle.code_blocks.specs.Leads.{IsBlockOf}
 use Rattle.points_to.specs.Points.{Before, Escapes}
 use Rattle.points_to.specs.Nodes.{entry, memory, object_node}
+use Rattle.points_to.specs.Layouts.{laid_word}
 use Rattle.points_to.specs.declared.reached.Reached.{Reached}
 use Rattle.points_to.specs.declared.table.PointsTable.{PointsTable}
 
@@ -32,16 +33,16 @@ plain r = record { nodes = r.nodes.items; words = r.words.items; stored = r.memo
 abbrev pub kept_word : Kept → ℕ → ℕ
 kept_word kept m = word_of kept.nodes kept.words m
 
--- what is kept of the marks of the nodes below `end`
-pub record AreKept (marks : List ℕ) (end : ℕ) (nodes words : List ℕ) : Type 0 where
+-- what is kept of the words of the nodes below `end`
+pub record AreKept (word : ℕ → ℕ) (end : ℕ) (nodes words : List ℕ) : Type 0 where
   pub ascending : IsStrictlyIncreasing nodes
   pub below : (k d : ℕ) → k < length nodes → slice_index_or nodes k d < end
   pub one_each : length words ≡ length nodes
-  pub exact : (m : ℕ) → m < end → word_of nodes words m ≡ word_at marks m
+  pub exact : (m : ℕ) → m < end → word_of nodes words m ≡ word m
 
--- of those of the registers at the beginning of `n` blocks, and of memory
-pub record Keeps (marks : List ℕ) (n : ℕ) (kept : Kept) : Type 0 where
-  pub entries : (m : ℕ) → m < 32 * n → kept_word kept m ≡ word_at marks m
+-- of the marks of the registers at the beginning of `n` blocks, which are laid by their numbers, and of memory
+pub record Keeps (numbers marks : List ℕ) (n : ℕ) (kept : Kept) : Type 0 where
+  pub entries : (m : ℕ) → m < 32 * n → kept_word kept m ≡ laid_word n numbers marks m
   pub in_memory : kept.stored ≡ word_at marks (memory n)
 
 -- ---- marks that spread

@@ -13,6 +13,7 @@ mod nodes;
 mod ordering;
 mod pointing;
 mod reached;
+mod rows;
 mod searching;
 mod sources;
 mod starting;

@@ -2,8 +2,8 @@ ghost use Rattle.std.specs.Prelude.{◌≡◌, length};
 ghost use Rattle.std.specs.List.Sorted.{IsStrictlyIncreasing};
 
 use crate::asked::with_asked;
-use crate::marks::{has_mark, keep_page};
-use crate::nodes::Nodes;
+use crate::marks::{has_mark, keep_block};
+use crate::ordering::Order;
 use rv_decode::RegSet;
 use std::alloc::{AllocError, Global};
 
@@ -21,7 +21,7 @@ pub struct Reached {
 }
 
 impl Reached {
-    ghost use Rattle.std.specs.Prelude.{◌≡◌, ◌<◌, ◌≤◌, ◌↔◌, ℕ, length, IfOk, IsTrue};
+    ghost use Rattle.std.specs.Prelude.{◌≡◌, ◌*◌, ◌<◌, ◌↔◌, ℕ, length, IfOk, IsTrue};
     ghost use Rattle.reach_graph.specs.Reaching.{HasMark};
     ghost use Rattle.points_to.specs.Nodes.{node_count};
     ghost use Rattle.points_to.specs.Tables.{plain, kept_word, Keeps};
@@ -31,24 +31,24 @@ impl Reached {
     /// What is kept of the marks of all nodes, where each that has one is of a word of units of which one has waited.
     pub(crate) fn of(
         alloc: Global,
-        nodes: Nodes,
+        order: &Order,
         marks: &[u64],
         touched: &[bool],
     ) -> Result<Reached, AllocError>
-        requires size { length marks.now ≡ node_count nodes.blocks nodes.objects }
-        requires few { length touched.now ≤ 67108864 }
-        requires noted { AreNoted nodes.blocks touched.now marks.now }
-        ensures { IfOk result (λ r. Keeps marks.now nodes.blocks (plain r)) }
+        requires size { length marks.now ≡ node_count order.now.nodes.blocks order.now.nodes.objects }
+        requires pages { 64 * length touched.now ≡ length order.now.places.items }
+        requires noted { AreNoted order.now.nodes.blocks touched.now marks.now }
+        ensures { IfOk result (λ r. Keeps order.now.numbers.items marks.now order.now.nodes.blocks (plain r)) }
     {
         let mut reached = Vec::new(alloc);
         let mut words = Vec::new(alloc);
-        for page in 0..touched.len() {
-            keep_page(&mut reached, &mut words, nodes, marks, touched, page)?;
+        for block in 0..order.nodes.blocks {
+            keep_block(&mut reached, &mut words, order, marks, touched, block)?;
         }
         Ok(Reached {
             nodes: reached,
             words,
-            memory: marks[nodes.memory() as usize],
+            memory: marks[order.nodes.memory() as usize],
         })
     }
 

@@ -1,18 +1,19 @@
-ghost use Rattle.std.specs.Prelude.{◌≡◌, ◌+◌, ◌<◌, ◌≤◌, List, length, IfOk, OnOk};
-ghost use Rattle.reach_graph.specs.Reaching.{plain_rows, AreInside};
+ghost use Rattle.std.specs.Prelude.{◌≡◌, ◌+◌, ◌*◌, ◌<◌, ◌≤◌, List, length, IfOk, OnOk};
+ghost use Rattle.reach_graph.specs.Reaching.{AreInside};
 ghost use Rattle.reach_graph.specs.declared.edges.Edge.{Edge};
 ghost use Rattle.points_to.specs.Nodes.{node_count};
+ghost use Rattle.points_to.specs.Layouts.{AreLaid};
+ghost use Rattle.points_to.specs.Rows.{rows_of};
 ghost use Rattle.points_to.specs.Tables.{Begins, IsReached, Keeps, Kept, plain};
 ghost use Rattle.points_to.specs.Sweeps.{AreBare, AreBegun, AreNoted, HasRoom};
 
 use crate::clearing::{clear, forget};
 use crate::marks::one_mark;
-use crate::nodes::Nodes;
 use crate::ordering::Order;
 use crate::reached::Reached;
+use crate::rows::EdgeRows;
 use crate::sweeping::spread;
 use crate::waiting::add;
-use reach_graph::Edge;
 use std::alloc::{AllocError, Global};
 
 /// Some nodes, one behind the other.
@@ -25,14 +26,15 @@ pub(crate) struct Span {
 /// Lets mark `k` spread from the `k`-th node of a span. No node has a mark before.
 pub(crate) fn spread_from(
     order: &Order,
-    graph_edges: &[Vec<Edge>],
+    graph_edges: &EdgeRows,
     span: Span,
     marks: &mut [u64],
     waiting: &mut [u64],
     touched: &mut [bool],
 )
-    requires room { length graph_edges.now ≡ node_count order.now.nodes.blocks order.now.nodes.objects }
-    requires inside { AreInside (plain_rows graph_edges.now) (node_count order.now.nodes.blocks order.now.nodes.objects) }
+    requires room { length (rows_of graph_edges.now) ≡ node_count order.now.nodes.blocks order.now.nodes.objects }
+    requires inside { AreInside (rows_of graph_edges.now) (node_count order.now.nodes.blocks order.now.nodes.objects) }
+    requires behind { 64 * order.now.nodes.blocks ≤ span.first }
     requires last { span.first + span.count ≤ node_count order.now.nodes.blocks order.now.nodes.objects }
     requires few { span.count ≤ 64 }
     requires size { length marks.old ≡ node_count order.now.nodes.blocks order.now.nodes.objects }
@@ -40,7 +42,7 @@ pub(crate) fn spread_from(
     requires one_each { length touched.old ≡ length waiting.old }
     requires units { length waiting.old ≤ 67108864 }
     requires bare { AreBare marks.old }
-    ensures reached { (kept : Kept) → Keeps marks.new order.now.nodes.blocks kept → IsReached (plain_rows graph_edges.now) order.now.nodes.blocks span.first span.count kept }
+    ensures reached { (rows : List (List Edge)) (kept : Kept) → AreLaid order.now.nodes.blocks order.now.numbers.items rows (rows_of graph_edges.now) → Keeps order.now.numbers.items marks.new order.now.nodes.blocks kept → IsReached rows order.now.nodes.blocks span.first span.count kept }
     ensures noted { AreNoted order.now.nodes.blocks touched.new marks.new }
 {
     begin_marks(order, marks, waiting, span.first, span.count);
@@ -50,18 +52,19 @@ pub(crate) fn spread_from(
 /// What is kept of the marks of all nodes, which have none afterwards.
 pub(crate) fn take_reached(
     alloc: Global,
-    nodes: Nodes,
+    order: &Order,
     marks: &mut [u64],
     touched: &mut [bool],
 ) -> Result<Reached, AllocError>
-    requires size { length marks.old ≡ node_count nodes.blocks nodes.objects }
+    requires size { length marks.old ≡ node_count order.now.nodes.blocks order.now.nodes.objects }
+    requires pages { 64 * length touched.old ≡ length order.now.places.items }
     requires few { length touched.old ≤ 67108864 }
-    requires noted { AreNoted nodes.blocks touched.old marks.old }
-    ensures kept { IfOk result (λ r. Keeps marks.old nodes.blocks (plain r)) }
+    requires noted { AreNoted order.now.nodes.blocks touched.old marks.old }
+    ensures kept { IfOk result (λ r. Keeps order.now.numbers.items marks.old order.now.nodes.blocks (plain r)) }
     ensures bare { OnOk result (AreBare marks.new) }
 {
-    let reached = Reached::of(alloc, nodes, marks, touched)?;
-    clear(nodes, marks, touched);
+    let reached = Reached::of(alloc, order, marks, touched)?;
+    clear(order.nodes, marks, touched);
     forget(touched);
     Ok(reached)
 }

@@ -1,6 +1,5 @@
 use Rattle.std.proofs.Common.{◌+◌, inl, inr, arith}
-use Rattle.std.proofs.lemmas.List.{length-map}
-use Rattle.reach_graph.specs.Reaching.{row_items, plain_rows}
+use Rattle.points_to.specs.Rows.{rows_of}
 use Rattle.points_to.specs.Sweeps.{IsFromTo, IsOfUnit}
 use Rattle.points_to.proofs.SpreadLemmas.{passed_both, passed_same, of_block}
 use Rattle.points_to.proofs.sweeping.pass_unit.Goals as goal
@@ -9,7 +8,7 @@ pub returns-then-unit-order : goal.returns-then-unit-order
 returns-then-unit-order c =
     let n = c.args.order.now.nodes.blocks in
     let u = c.args.unit in
-    let rows = plain_rows c.args.graph_edges.now in
+    let rows = rows_of c.args.graph_edges.now in
     let m0 = c.args.marks.now in
     let w0 = c.args.waiting.now in
     let m1 = c.pass_each.new.marks in
@@ -28,7 +27,7 @@ pub returns : goal.returns
 returns c =
     let n = c.args.order.now.nodes.blocks in
     let u = c.args.unit in
-    let rows = plain_rows c.args.graph_edges.now in
+    let rows = rows_of c.args.graph_edges.now in
     let r = c.group-from.result in
     passed_same c.args.order.now.places.items n rows (IsFromTo r.0 r.1) (λ m. IsOfUnit n m u) c.args.marks.now c.args.waiting.now c.pass_each-2.new.marks c.pass_each-2.new.waiting c.pass_each-2.ensures
-    (λ m inside is. c.group-from.ensures.whole m (omega (arith, inside, c.requires.room, length-map c.args.graph_edges.now row_items)) is)
+    (λ m inside is. c.group-from.ensures.whole m (omega (arith, inside, c.requires.room)) is)

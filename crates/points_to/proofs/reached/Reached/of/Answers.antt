@@ -1,19 +1,16 @@
-use Rattle.std.proofs.Common.{◌≡◌, ℕ, ◌+◌, ◌*◌, min, false, length, ap, subst, arith}
-use Rattle.std.proofs.lemmas.List.{get_or_past}
+use Rattle.std.proofs.Common.{◌≡◌, ℕ, ◌*◌, ap, subst, arith}
 use Rattle.reach_graph.specs.Reaching.{word_at}
+use Rattle.points_to.specs.Layouts.{laid_word}
 use Rattle.points_to.specs.Tables.{AreKept}
-use Rattle.points_to.proofs.FreeLemmas.{kept_untouched}
 use Rattle.points_to.proofs.reached.Reached.of.Goals as goal
 
 pub returns : goal.returns
 returns c =
-    let n = c.args.nodes.blocks in
+    let order = c.args.order.now in
+    let n = order.nodes.blocks in
     let marks = c.args.marks.now in
-    let touched = c.args.touched.now in
-    let last = length touched in
-    let all : c.loop-page.page ≡ last = omega arith in
-    let some = subst (λ (p : ℕ). AreKept marks (min (2048 * p) (32 * n)) c.loop-page.reached.items c.loop-page.words.items) all c.loop-page.invariant in
-    let kept = kept_untouched n last (last + n) touched marks c.loop-page.reached.items c.loop-page.words.items (omega arith) (λ p low high. get_or_past touched p false (omega (arith, low))) c.requires.noted some in record {
-      entries = λ m low. kept.exact m (omega (arith, low));
+    let all : c.loop-block.block ≡ n = omega arith in
+    let kept = subst (λ (b : ℕ). AreKept (laid_word n order.numbers.items marks) (32 * b) c.loop-block.reached.items c.loop-block.words.items) all c.loop-block.invariant in record {
+      entries = kept.exact;
       in_memory = ap (word_at marks) c.memory.ensures;
     }
