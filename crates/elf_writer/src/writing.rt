@@ -144,6 +144,7 @@ pub fn write(
     requires file { IsFile base.now.bytes.now base.now }
     requires sound { first_fault base.now.bytes.now ≡ None }
     requires writable { IsWritable (plain_view base.now) patches.now (option_map (λ s. new_segment s.now) segment) moves.now }
+    ensures words { OnOk result (HasWords (option_map (λ s. new_segment s.now) segment.entry) moves.now) }
     ensures bytes { IfOk result (λ out. out.items ≡ written (plain_view base.now) patches.now (option_map (λ s. new_segment s.now) segment.entry) moves.now) }
     ensures reads { IfOk result (λ out. view_in out.items ≡ written_view (plain_view base.now) patches.now (option_map (λ s. new_segment s.now) segment.entry) moves.now) }
 {
