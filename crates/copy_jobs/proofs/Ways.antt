@@ -35,7 +35,7 @@ pub stay : (lo size : ℕ) (s : State) → Way lo size 0 [] s s
 stay lo size s =
     record { events = []; does = refl; count = refl; all = refl; fetched = All-nil (IsFrom lo size) }
 
-pub join : (lo size m n : ℕ) (first last : List FlatAccess) (s u t : State) → Way lo size m first s u → Way lo size n last u t → Way lo size (m + n) (first ++ last) s t
+unfoldable pub join : (lo size m n : ℕ) (first last : List FlatAccess) (s u t : State) → Way lo size m first s u → Way lo size n last u t → Way lo size (m + n) (first ++ last) s t
 join lo size m n first last s u t a b =
     record {
       events = a.events ++ b.events;
@@ -46,7 +46,7 @@ join lo size m n first last s u t a b =
       fetched = All-append (IsFrom lo size) a.events b.events a.fetched b.fetched;
     }
 
-pub recount : (lo size m n : ℕ) (first last : List FlatAccess) (s t : State) → m ≡ n → first ≡ last → Way lo size m first s t → Way lo size n last s t
+unfoldable pub recount : (lo size m n : ℕ) (first last : List FlatAccess) (s t : State) → m ≡ n → first ≡ last → Way lo size m first s t → Way lo size n last s t
 recount lo size m n first last s t count told way =
     record { events = way.events; does = way.does; count = way.count ∙ count; all = way.all ∙ told; fetched = way.fetched }
 

@@ -38,7 +38,7 @@ use Rattle.held_addresses.proofs.Held.{one_unit}
 
 -- ---- edges
 
-successor_found : (xs : List ℕ) (a : ℕ) → Contains xs a → list_any (λ (x : ℕ). x == a) xs ≡ true
+pub successor_found : (xs : List ℕ) (a : ℕ) → Contains xs a → list_any (λ (x : ℕ). x == a) xs ≡ true
 successor_found [] a (k, below, is) = absurd (omega (arith, below))
 successor_found (x ∷ xs) a there =
     elim (in_cons x xs a there) [
@@ -99,7 +99,7 @@ module _ (c : Code) (regions : List ℕ) (borders : List Bool) (tells : TellsBor
 named_code : (code same b c d e : Bool) → code ≡ true → same ≡ true → code && (same || b || c || d || e) ≡ true
 named_code code same b c d e is_code is_same = rw (is_code, is_same) refl
 
-entry_indirect : (v : PlainView) → is_leader v v.entry ≡ true → is_indirect v v.entry ≡ true
+pub entry_indirect : (v : PlainView) → is_leader v v.entry ≡ true → is_indirect v v.entry ≡ true
 entry_indirect v leads =
     let same : (v.entry == v.entry) ≡ true = grind (arith, nat_tests) in
     named_code (is_code_word v v.entry) (v.entry == v.entry) (any_below (is_function_at v v.entry) (length v.symbols))

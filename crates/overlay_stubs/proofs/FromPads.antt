@@ -1,5 +1,5 @@
 -- From a pad to the body of a stub.
-use Rattle.std.proofs.Common.{◌≡◌, ℕ, zero, suc, ◌+◌, ◌-◌, ◌*◌, ◌%◌, ◌<◌, ◌≤◌, ◌==◌, true, false, List, [], ◌∷◌, ◌++◌, length, refl, ◌∙◌, ap, subst, arith}
+use Rattle.std.proofs.Common.{◌≡◌, ℕ, zero, suc, ◌+◌, ◌-◌, ◌*◌, ◌%◌, ◌<◌, ◌≤◌, ◌==◌, true, false, List, [], ◌∷◌, ◌++◌, length, refl, sym, ◌∙◌, ap, subst, arith}
 use Rattle.std.specs.Prelude.{All}
 use Rattle.std.proofs.lemmas.Bool.Decides.{nat_tests}
 use Rattle.std.proofs.lemmas.List.Elements.{All-contains}
@@ -18,10 +18,10 @@ use Rattle.flat_machine.proofs.LineWords.{accessed, words_fetched, word_kept}
 use Rattle.flat_machine.proofs.SilentLines.{one_ran}
 use Rattle.copy_jobs.specs.declared.job.CopyJob.{CopyJob}
 use Rattle.copy_jobs.specs.Jobs.{CanCopy}
-use Rattle.copy_jobs.specs.Told.{Way, read_at}
+use Rattle.copy_jobs.specs.Told.{read_at}
 use Rattle.switch_routine.specs.Switching.{routine, jobs_code}
 use Rattle.switch_routine.specs.Checking.{checking}
-use Rattle.switch_routine.specs.Switches.{FitsJob, HasRoutine, IsAtStub, CameTo, Switched}
+use Rattle.switch_routine.specs.Switches.{FitsJob, HasRoutine, IsAtStub, IsFromStub, StubWay, routine_bytes, CameTo, Switched}
 use Rattle.switch_routine.proofs.Checked.{stub_passes_so, stub_switches_so}
 use Rattle.overlay_stubs.specs.Start.{start_at, start_bytes}
 use Rattle.overlay_stubs.specs.Serving.{ServingStub, test_code, test_bytes}
@@ -207,11 +207,12 @@ module _ (p : OverlayPlan) (words : List ℕ) (stub : ServingStub) (s : State) (
       (λ x above under. same x (omega (arith, low, above)) (omega (arith, ends, both, test, less, under)))
       ∙ held_behind s.hart.mem place (body_at p stub) stands.1.0.test stands.1.0.body (omega (arith, test)) parts_held k less
 
-  came : (n : ℕ) (told : List FlatAccess) (t : State) → Way lo room n told called t → CameTo (place + 88) stub.temp called t → ((x : ℕ) → lo ≤ x → x < lo + room → t.hart.mem x ≡ s.hart.mem x) → CameToBody p stub n told s t
+  came : (n : ℕ) (told : List FlatAccess) (t : State) → StubWay lo room place (switch_at p) (routine_bytes (switching p)) n told called t → CameTo (place + 88) stub.temp called t → ((x : ℕ) → lo ≤ x → x < lo + room → t.hart.mem x ≡ s.hart.mem x) → CameToBody p stub n told s t
   came n told t way to same =
       record {
         pad = padded;
-        way = way;
+        way = way.way;
+        own = subst (λ (is : List Instr). All (IsFromStub place (switch_at p) (4 * length is)) way.way.events) (sym routine_is) way.own;
         came = record { pc = to.pc; registers = to.registers; rest = to.rest };
         body = (stands.1.0.body, (stands.1.0.does, body_held t.hart.mem same));
       }

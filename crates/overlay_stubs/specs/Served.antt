@@ -5,6 +5,7 @@ use Rattle.rv_decode.specs.declared.instructions.Instr.TheVariants.{Jal}
 use Rattle.rv_decode.specs.Acts.{HoldsWords}
 use Rattle.rv_decode.specs.Sequences.{MeanAll, distance}
 use Rattle.flat_machine.specs.declared.events.FlatAccess.{FlatAccess}
+use Rattle.flat_machine.specs.declared.events.FlatEvent.{FlatEvent}
 use Rattle.flat_machine.specs.declared.events.FlatOutcome.TheVariants.{GoesOn}
 use Rattle.flat_machine.specs.State.{State}
 use Rattle.flat_machine.specs.Lines.{AreMapped, HoldsAt, Fetches, Ran, went}
@@ -12,11 +13,11 @@ use Rattle.copy_jobs.specs.declared.job.CopyJob.{CopyJob}
 use Rattle.copy_jobs.specs.Jobs.{CanCopy}
 use Rattle.copy_jobs.specs.Told.{Way, read_at}
 use Rattle.switch_routine.specs.Switching.{routine_run, switch_jobs}
-use Rattle.switch_routine.specs.Switches.{CameTo, Switched, switch_accesses}
+use Rattle.switch_routine.specs.Switches.{IsFromStub, CameTo, Switched, switch_accesses}
 use Rattle.overlay_stubs.specs.Start.{start_at, start_bytes}
 use Rattle.overlay_stubs.specs.Laws.{ImagesStand}
 use Rattle.overlay_stubs.specs.Serving.{ServingStub, serving_size, IsBody, AreStubWords}
-use Rattle.overlay_stubs.specs.Overlay.{OverlayPlan, switching, switch_code, switch_at, serving_at, serving_place, overlay_images_at, rest_bytes, CanHold, AreOverlayWords}
+use Rattle.overlay_stubs.specs.Overlay.{OverlayPlan, switching, switch_code, switch_bytes, switch_at, serving_at, serving_place, overlay_images_at, rest_bytes, CanHold, AreOverlayWords}
 
 -- ---- places
 
@@ -77,11 +78,16 @@ pub record IsAtPad (p : OverlayPlan) (stub : ServingStub) (s : State) : Type 0 w
 abbrev pub body_at : OverlayPlan → ServingStub → ℕ
 body_at p stub = serving_place p stub + 88
 
--- the pad leads to the stub. From there `n` words of the code run, with these accesses, and control is at the stub's body,
--- which stands there. All registers but the stub's own are as they were
+-- an event is fetched in a stub's own words before its body, or in the routine
+abbrev pub IsFromStubOf : OverlayPlan → ServingStub → FlatEvent → Type 0
+IsFromStubOf p stub = IsFromStub (serving_place p stub) (switch_at p) (switch_bytes p)
+
+-- the pad leads to the stub. From there `n` words of the code run, with these accesses, each of the stub before its body or of
+-- the routine; and control is at the stub's body, which stands there. All registers but the stub's own are as they were
 pub record CameToBody (p : OverlayPlan) (stub : ServingStub) (n : ℕ) (told : List FlatAccess) (s t : State) : Type 0 where
   pub pad : Ran s (stub.home ∷ []) s.hart.regs (serving_place p stub)
   pub way : Way (start_at p.start) (start_bytes p.start + rest_bytes p) n told (went s s.hart.regs (serving_place p stub)) t
+  pub own : All (IsFromStubOf p stub) way.events
   pub came : CameTo (body_at p stub) stub.temp s t
   pub body : (words : List ℕ) × (IsBody stub.temp stub.body words × HoldsAt t.hart.mem (body_at p stub) words)
 

@@ -25,9 +25,10 @@ pub fn overlay_stands()
     ensures { OverlayStands }
 {}
 
-/// From the pad of a stub with a region control comes to the stub's body, whatever the registers hold. Where its region is
-/// current, nothing else changes but the stub's own register. Where another is, the routine has made the switch from that
-/// one to the stub's: memory is as the jobs of that switch leave it, but for the control words, and the code is as it was.
+/// From the pad of a stub with a region control comes to the stub's body, whatever the registers hold. Behind the pad run
+/// words of the stub before its body, and of the routine, alone. Where the stub's region is current, nothing else changes
+/// but the stub's own register. Where another is, the routine has made the switch from that one to the stub's: memory is as
+/// the jobs of that switch leave it, but for the control words, and the code is as it was.
 pub fn pads_lead()
     ensures { PadsLead }
 {}

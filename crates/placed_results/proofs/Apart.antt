@@ -59,7 +59,7 @@ before_least low high less (one ∷ all) =
     let rest = before_least low high less all in
     grind (arith, nat_tests, first, last, rest, less)
 
-before_fits : (at : ℕ) (all : List ServingStub) (k : ℕ) (d : ServingStub) → k < length all → (slice_index_or all k d).home < at → served_before (slice_index_or all k d).home all + serving_size (slice_index_or all k d) ≤ served_before at all
+pub before_fits : (at : ℕ) (all : List ServingStub) (k : ℕ) (d : ServingStub) → k < length all → (slice_index_or all k d).home < at → served_before (slice_index_or all k d).home all + serving_size (slice_index_or all k d) ≤ served_before at all
 before_fits at [] k d below less = absurd (omega (arith, below))
 before_fits at (one ∷ all) zero d below less =
     let first = below_more serving_home serving_size one.home one all in
@@ -126,7 +126,7 @@ module _ (file out : List ℕ) (board : Board) (g : Graph) (c : Code) (pl : Chos
     abbrev words : List ℕ
     words = stubs.words file out board g c pl result u b stub there listed serves uncopied
 
-    some_words : 1 ≤ length words
+    pub some_words : 1 ≤ length words
     some_words =
         displaced_some pl.sites (body_at plan stub) (unit_at c b 0) (stubs.kind file out board g c pl result u b stub there listed serves uncopied) words
         (stubs.has_words file out board g c pl result u b stub there listed serves uncopied).form

@@ -231,13 +231,13 @@ module _ (file out : List ℕ) (board : Board) (g : Graph) (c : Code) (pl : Chos
                 passes p l live form (EntersAt c pl.regions pl.borders) holds plan result.view.words (source_start file board g input) at_start bound 5
                 (λ q n k has. has.1.1.1) (may_change file out board g c pl result input bound) r s m t sound_there held alike at same in
                 behind_test run.0 run.1.to run.1.rest run.1.events run.1.after r same
-                (Current run.1.rest some same (record { count = run.1.count; accesses = run.1.all; fetched = run.1.fetched }))
+                (Current run.1.rest some same (record { runs = record { count = run.1.count; accesses = run.1.all; fetched = run.1.fetched }; own = run.1.own }))
             | inr other ↦
                 let run =
                 switches p l live form (EntersAt c pl.regions pl.borders) holds plan result.view.words (source_start file board g input) at_start bound 5
                 (λ q n k has. has.1.1.1) (may_change file out board g c pl result input bound) r s m t sound_there held alike at other in
                 behind_test run.0 run.1.to run.1.rest run.1.events run.1.after stub.region refl
-                (Switches run.1.rest some other (record { count = run.1.count; accesses = run.1.all; fetched = run.1.fetched }))
+                (Switches run.1.rest some other (record { runs = record { count = run.1.count; accesses = run.1.all; fetched = run.1.fetched }; own = run.1.own }))
           ]
 
   -- ---- the home of a unit

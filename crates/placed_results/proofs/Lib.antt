@@ -32,6 +32,7 @@ pub mod Matching
 pub mod Entering
 pub mod Arrived
 pub mod Apart
+pub mod Spared
 pub mod Current
 pub mod Walking
 pub mod Counting

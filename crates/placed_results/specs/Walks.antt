@@ -43,7 +43,7 @@ use Rattle.switch_routine.specs.Switches.{switch_accesses}
 use Rattle.overlay_stubs.specs.Start.{start_at as stub_start, start_bytes, start_run}
 use Rattle.overlay_stubs.specs.Serving.{ServingStub, test_bytes}
 use Rattle.overlay_stubs.specs.Overlay.{OverlayPlan, switching, serving_place, rest_bytes}
-use Rattle.overlay_stubs.specs.Served.{body_at}
+use Rattle.overlay_stubs.specs.Served.{IsFromStubOf, body_at}
 use Rattle.simulation.specs.Laws.{EndsAlike}
 use Rattle.result_setups.specs.HomeLaws.{program_in, unnamed_in, source_start, file_start}
 use Rattle.result_placements.specs.ChosenPlacement.{ChosenPlacement, places_in, copy_in}
@@ -67,6 +67,11 @@ pub record PlanRuns (plan : OverlayPlan) (n : ℕ) (told : List FlatAccess) (es 
   pub count : length es ≡ n
   pub accesses : accesses es ≡ told
   pub fetched : All (IsFrom (stub_start plan.start) (start_bytes plan.start + rest_bytes plan)) es
+
+-- so many words of a stub before its body, or of the routine, run
+pub record StubRuns (plan : OverlayPlan) (stub : ServingStub) (n : ℕ) (told : List FlatAccess) (es : List FlatEvent) : Type 0 where
+  pub runs : PlanRuns plan n told es
+  pub own : All (IsFromStubOf plan stub) es
 
 -- ---- a unit
 
@@ -134,10 +139,10 @@ ArrivalsAreDetermined =
 -- region reads the first control word: four words run if this has the region's number, and else the switch is made
 pub data StubPasses (plan : OverlayPlan) (stub : ServingStub) (from : ℕ) : ℕ → List FlatEvent → Type 0 where
   Unchecked : stub.region ≡ 0 → StubPasses plan stub from from []
-  Current : (es : List FlatEvent) → (stub.region ≡ 0 → ⊥) → from ≡ stub.region → PlanRuns plan 4 (read_at plan.start.base ∷ []) es
+  Current : (es : List FlatEvent) → (stub.region ≡ 0 → ⊥) → from ≡ stub.region → StubRuns plan stub 4 (read_at plan.start.base ∷ []) es
       → StubPasses plan stub from from es
   Switches : (es : List FlatEvent) → (stub.region ≡ 0 → ⊥) → (from ≡ stub.region → ⊥)
-      → PlanRuns plan (22 + routine_run (switching plan) from stub.region) (switch_accesses (switching plan) from stub.region) es
+      → StubRuns plan stub (22 + routine_run (switching plan) from stub.region) (switch_accesses (switching plan) from stub.region) es
       → StubPasses plan stub from stub.region es
 
 -- the words of a stub's body that lead to the copy of its block. A displaced unit stands there itself

@@ -22,7 +22,7 @@ use Rattle.switch_routine.specs.Switches.{Switched, switch_accesses}
 use Rattle.overlay_stubs.specs.Start.{start_at, start_bytes}
 use Rattle.overlay_stubs.specs.Serving.{ServingStub}
 use Rattle.overlay_stubs.specs.Overlay.{OverlayPlan, switching, serving_place, rest_bytes}
-use Rattle.overlay_stubs.specs.Served.{HoldsCode, HasCode, IsAtPad, body_at}
+use Rattle.overlay_stubs.specs.Served.{HoldsCode, HasCode, IsAtPad, IsFromStubOf, body_at}
 use Rattle.overlay_stubs.proofs.WholePlaces.{words_count}
 use Rattle.overlay_stubs.proofs.FromPads.{pads_lead_so}
 use Rattle.cell_values.specs.declared.values.Val.{Val}
@@ -191,6 +191,7 @@ module _ (p : Program) (l : Setup) (live : ℕ → ℕ → Type 0) (form : ℕ �
       pub count : length rest ≡ n
       pub all : accesses rest ≡ made_there
       pub fetched : All (IsFrom (start_at plan.start) (start_bytes plan.start + rest_bytes plan)) rest
+      pub own : All (IsFromStubOf plan at.stub) rest
       pub after : switch.after.hart.pc ≡ body_at plan at.stub
 
     pub passes : r ≡ at.stub.region → (switch : Switch p l live form holds bound most r s m t) × Passed 4 (read_at plan.start.base ∷ []) switch
@@ -235,6 +236,7 @@ module _ (p : Program) (l : Setup) (live : ℕ → ℕ → Type 0) (form : ℕ �
             count = came.way.count;
             all = came.way.all;
             fetched = came.way.fetched;
+            own = came.own;
             after = came.came.pc;
           },
         )
@@ -295,6 +297,7 @@ module _ (p : Program) (l : Setup) (live : ℕ → ℕ → Type 0) (form : ℕ �
               count = count;
               all = subst (λ q. accesses came.way.events ≡ switch_accesses (switching plan) q at.stub.region) number came.way.all;
               fetched = came.way.fetched;
+              own = came.own;
               after = came.came.pc;
             },
           )

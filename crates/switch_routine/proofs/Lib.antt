@@ -2,6 +2,7 @@ pub mod PartWays
 pub mod Control
 pub mod Whole
 pub mod SwitchJobs
+pub mod StubWays
 pub mod Checked
 pub mod Counts
 pub mod CodeLemmas

@@ -4,6 +4,7 @@ use Rattle.word_bits.specs.Memory.{Memory, word_at}
 use Rattle.rv_decode.specs.Acts.{HoldsWords}
 use Rattle.rv_decode.specs.Sequences.{jump_absolute}
 use Rattle.flat_machine.specs.declared.events.FlatAccess.{FlatAccess}
+use Rattle.flat_machine.specs.declared.events.FlatEvent.{FlatEvent}
 use Rattle.flat_machine.specs.declared.events.FlatOutcome.TheVariants.{GoesOn}
 use Rattle.flat_machine.specs.State.{State}
 use Rattle.flat_machine.specs.Lines.{AreMapped, CodeAt, with_hart}
@@ -12,7 +13,7 @@ use Rattle.copy_jobs.specs.Jobs.{AreDisjoint, IsJob, all_copied, CanCopy, IsOuts
 use Rattle.switch_routine.specs.Parts.{SwitchPlan}
 use Rattle.switch_routine.specs.Switching.{routine, routine_run, jobs_code, switch_jobs}
 use Rattle.switch_routine.specs.Checking.{checking, saved_registers, saves_accesses, restores_accesses}
-use Rattle.copy_jobs.specs.Told.{Way, read_at, write_at, jobs_accesses}
+use Rattle.copy_jobs.specs.Told.{IsFrom, Way, read_at, write_at, jobs_accesses}
 
 -- ---- where they stand
 
@@ -71,12 +72,26 @@ pub record CameTo (to t : ℕ) (s n : State) : Type 0 where
   pub registers : (k : ℕ) → (k ≡ t → ⊥) → n.hart.regs k ≡ s.hart.regs k
   pub rest : n ≡ with_hart s n.hart
 
+-- an event is fetched in the 22 words of a stub at `a`, behind which its body stands, or in the routine
+pub record IsFromStub (a switch bytes : ℕ) (event : FlatEvent) : Type 0 where
+  pub own : IsFrom a 88 event ⊎ IsFrom switch bytes event
+
+-- a way in a range of code, each word of which is one of the stub's 22 or of the routine
+pub record StubWay (lo size a switch bytes n : ℕ) (told : List FlatAccess) (s t : State) : Type 0 where
+  pub way : Way lo size n told s t
+  pub own : All (IsFromStub a switch bytes) way.events
+
+abbrev pub routine_bytes : SwitchPlan (List CopyJob) → ℕ
+routine_bytes w = 4 * length (routine jobs_code w)
+
 -- where the stub's region is current, four words run, which read the control word; the body stands behind 22 words
 abbrev pub StubPasses : Type 0
 StubPasses =
     (w : SwitchPlan (List CopyJob)) (lo size switch t r a : ℕ) (s : State) → HasRoutine w lo size switch s →
     IsAtStub w.base lo size switch t r a s → word_at s.hart.mem w.base ≡ r →
-    (n : State) × (Way lo size 4 (read_at w.base ∷ []) s n × (CameTo (a + 88) t s n × (n.hart.mem ≡ s.hart.mem)))
+    (n : State)
+    × (StubWay lo size a switch (routine_bytes w) 4 (read_at w.base ∷ []) s n
+    × (CameTo (a + 88) t s n × (n.hart.mem ≡ s.hart.mem)))
 
 -- the accesses of a switch: the stub's test, its saves, those of the routine, and the words that are loaded again
 abbrev pub switch_accesses : SwitchPlan (List CopyJob) → ℕ → ℕ → List FlatAccess
@@ -91,7 +106,8 @@ StubSwitches =
     (w : SwitchPlan (List CopyJob)) (lo size switch t r a : ℕ) (s : State) → HasRoutine w lo size switch s →
     IsAtStub w.base lo size switch t r a s → (word_at s.hart.mem w.base ≡ r → ⊥) →
     (n : State)
-    × (Way lo size (22 + routine_run w (word_at s.hart.mem w.base) r) (switch_accesses w (word_at s.hart.mem w.base) r) s n
+    × (StubWay lo size a switch (routine_bytes w) (22 + routine_run w (word_at s.hart.mem w.base) r)
+    (switch_accesses w (word_at s.hart.mem w.base) r) s n
     × (CameTo (a + 88) t s n × Switched w.base lo size r (switch_jobs w (word_at s.hart.mem w.base) r) s.hart.mem n.hart.mem))
 
 -- a body that jumps runs two words without an access

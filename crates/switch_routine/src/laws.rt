@@ -6,8 +6,8 @@ ghost use Rattle.switch_routine.specs.Plans.{RoutineInRange, CheckingInRange};
 ghost use Rattle.switch_routine.specs.Example.{ExampleWords};
 ghost use Rattle.switch_routine.specs.Counts.{SwitchRunsJobs, SwitchRunsWords, SwitchIsBounded, RoutineCount};
 
-/// Where the region of a checking stub is current, the flat machine runs four of its words and is at its body. Memory is
-/// as it was, and all registers but the stub's own.
+/// Where the region of a checking stub is current, the flat machine runs four of its words, which stand before its body, and
+/// is at that. Memory is as it was, and all registers but the stub's own.
 pub fn stub_passes()
     ensures { StubPasses }
 {}
@@ -15,7 +15,7 @@ pub fn stub_passes()
 /// Where another region is current, the stub and the routine run the jobs that leave that one and enter the stub's. The
 /// machine is at the stub's body then, with all registers but the stub's own as they were. Memory is as the jobs leave it,
 /// but for the control words, of which the first is the stub's region. All accesses are told in order, and how many words
-/// run.
+/// run. Each is one of the stub before its body, or of the routine.
 pub fn stub_switches()
     ensures { StubSwitches }
 {}
