@@ -30,6 +30,7 @@ pub mod ResultGoals
 pub mod PlanGoals
 pub mod StubRoom
 pub mod RealisedChoice
+pub mod ResultsRead
 pub mod UnitSetLemmas
 pub mod UnitOrder
 pub mod UnitSteps

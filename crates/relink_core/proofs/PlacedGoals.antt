@@ -7,7 +7,7 @@ use Rattle.elf_writer.specs.declared.parts.SymbolMove.{SymbolMove}
 use Rattle.elf_writer.specs.Parts.{NewSegment, new_segment}
 use Rattle.elf_writer.specs.Written.{written}
 use Rattle.elf_writer.specs.View.{written_view}
-use Rattle.elf_writer.specs.Conditions.{IsWritable}
+use Rattle.elf_writer.specs.Conditions.{IsWritable, HasWords}
 use Rattle.board_config.specs.declared.board.Board.{Board}
 use Rattle.object_graph.specs.declared.parts.Graph.{Graph}
 use Rattle.code_blocks.specs.Blocks.{IsCode}
@@ -93,10 +93,15 @@ module _ (file : List ℕ) (board : Board) (g : Graph) (c : Code) (pl : ChosenPl
         ∙ ap (λ (w : PlainView). written_view w (map (patch_of w) padded) (Some (new_segment r.segment)) moves) same
         ∙ ap (λ (s : NewSegment). written_view v (map (patch_of v) padded) (Some s) moves) same_new
 
+    fit : HasWords (Some segment) moves
+    fit =
+        subst (λ (s : NewSegment). HasWords (Some s) moves) same_new
+        (subst (HasWords (Some (new_segment r.segment))) (same_moves view objects same same_objects) written_is.fit)
+
     -- it shows what is asked of a result, and is the file of the choice with the same words in the patch range
-    pub is_placed : (shows : IsPlacedView v (view_in out) board g c pl) × IsWrittenFor v board g pl shows.words out
+    pub is_placed : (shows : IsPlacedView v (view_in out) board g c pl) × (IsWrittenFor v board g pl shows.words out × (shows.plan ≡ overlay_plan q))
     is_placed =
-        let (shows, same) = result.shown file board g c pl places region_at entries (overlay_plan q) patch.words is padded padding_is (view_in out) reads in
+        let (shows, (same, plan_is)) = result.shown file board g c pl places region_at entries (overlay_plan q) patch.words is padded padding_is (view_in out) reads in
         let is_of : IsWrittenFor v board g pl patch.words out =
-        made.written_for file board g c pl places region_at entries (overlay_plan q) patch.words is padded padding_is out bytes reads in
-        (shows, subst (λ (ws : List ℕ). IsWrittenFor v board g pl ws out) (sym same) is_of)
+        made.written_for file board g c pl places region_at entries (overlay_plan q) patch.words is padded padding_is out bytes reads fit in
+        (shows, (subst (λ (ws : List ℕ). IsWrittenFor v board g pl ws out) (sym same) is_of, plan_is))

@@ -192,7 +192,7 @@ module _ (file : List ℕ) (board : Board) (g : Graph) (c : Code) (pl : ChosenPl
     -- ---- the whole view
 
     -- so it is in any view that is this one, with these words in the patch range
-    pub shown : (u : PlainView) → u ≡ w → (shows : IsPlacedView v u board g c pl) × (shows.words ≡ words)
+    pub shown : (u : PlainView) → u ≡ w → (shows : IsPlacedView v u board g c pl) × ((shows.words ≡ words) × (shows.plan ≡ plan))
     shown u same = (
       record {
         plan = plan;
@@ -209,5 +209,5 @@ module _ (file : List ℕ) (board : Board) (g : Graph) (c : Code) (pl : ChosenPl
         data_words = subst (λ (x : PlainView). All (IsMovedWord x (places_in board g pl 0)) g.data_words.items) (sym same) words_moved;
         elsewhere = λ a off. ap (λ (x : PlainView). image_of x.segments a) same ∙ rest_stays a off;
       },
-      refl,
+      (refl, refl),
     )

@@ -9,7 +9,7 @@ use Rattle.elf_writer.specs.declared.parts.SymbolMove.{SymbolMove}
 use Rattle.elf_writer.specs.Parts.{NewSegment, new_segment}
 use Rattle.elf_writer.specs.Written.{written}
 use Rattle.elf_writer.specs.View.{written_view}
-use Rattle.elf_writer.specs.Conditions.{PatchesLoadedWord, ArePatchesDisjoint, IsAddable, IsWritable}
+use Rattle.elf_writer.specs.Conditions.{PatchesLoadedWord, ArePatchesDisjoint, IsAddable, IsWritable, HasWords}
 use Rattle.elf_writer.proofs.FitLemmas.{length_written, number_within, table_inside}
 use Rattle.board_config.specs.Board.{IsGrain}
 use Rattle.board_config.specs.declared.board.Board.{Board}
@@ -170,8 +170,8 @@ module _ (file : List ℕ) (board : Board) (g : Graph) (c : Code) (pl : ChosenPl
           short = omega (arith, size, small, few, inside, ends, pad);
         }
 
-    pub written_for : (out : List ℕ) → out ≡ written v (map (patch_of v) padded) (Some segment) moves → view_in out ≡ written_view v (map (patch_of v) padded) (Some segment) moves → IsWrittenFor v board g pl words out
-    written_for out bytes reads =
+    pub written_for : (out : List ℕ) → out ≡ written v (map (patch_of v) padded) (Some segment) moves → view_in out ≡ written_view v (map (patch_of v) padded) (Some segment) moves → HasWords (Some segment) moves → IsWrittenFor v board g pl words out
+    written_for out bytes reads fit =
         record {
           patches = map (patch_of v) padded;
           moves = moves;
@@ -179,4 +179,6 @@ module _ (file : List ℕ) (board : Board) (g : Graph) (c : Code) (pl : ChosenPl
           symbols = symbols_are;
           bytes = bytes;
           view = reads;
+          writable = writable;
+          fit = fit;
         }

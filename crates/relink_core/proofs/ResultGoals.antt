@@ -1,5 +1,5 @@
 -- What the steps by which a result is made ask of each other.
-use Rattle.std.proofs.Common.{◌≡◌, ◌∙◌, ℕ, List, map, length, Some, sym, ap, subst}
+use Rattle.std.proofs.Common.{◌≡◌, ◌∙◌, ℕ, List, map, length, Some, refl, sym, ap, subst}
 use Rattle.std.specs.List.Sorted.{IsStrictlyIncreasing}
 use Rattle.elf_reader.specs.File.{PlainView, plain_view}
 use Rattle.elf_writer.specs.Parts.{new_segment}
@@ -19,7 +19,7 @@ use Rattle.result_placements.specs.Laws.{regions_on}
 use Rattle.result_placements.specs.ChosenPlacement.{ChosenPlacement, slots_in}
 use Rattle.copied_result.specs.Padding.{home_of, ReachAll, ArePadded}
 use Rattle.relink_core.specs.Making.{patch_of, moves_below, HasStarts, AreOfGraph}
-use Rattle.relink_core.specs.Placed.{taken_of, MovesItems}
+use Rattle.relink_core.specs.Placed.{taken_of, MovesBy}
 use Rattle.relink_core.specs.ResultParts.{ArePartsOf, IsPlanOfParts}
 use Rattle.relink_core.specs.Names.{objects_named}
 use Rattle.relink_core.specs.Extending.{IsWrittenOf}
@@ -114,14 +114,18 @@ module _ (file : List ℕ) (t : RegionTable) (p : PlainProgramme) (choice : Plai
           placed.may_write file board g c pl parts.taken.now.places is.region_at parts.source.now.sites.now q r patch (made r patch) padded
           (padded_are ts at padded given same same_at same_padded are) parts.view.now objects is.same (same_objects ∙ objects_are)
 
-      pub moved : (out : List ℕ) → IsWrittenOf view_is padded (moves_below view_is g parts.taken.now.places objects (length parts.view.now.symbols.items)) (new_segment r.segment) out → MovesItems file board g c t (taken_of p choice) out
+      pub moved : (out : List ℕ) → IsWrittenOf view_is padded (moves_below view_is g parts.taken.now.places objects (length parts.view.now.symbols.items)) (new_segment r.segment) out → MovesBy file board g c t (taken_of p choice) pl (overlay_plan q) out
       moved out written =
-          let (shows, is_written) = placed.is_placed file board g c pl parts.taken.now.places is.region_at parts.source.now.sites.now q r patch (made r patch) padded
+          let (shows, (is_written, plan_is)) = placed.is_placed file board g c pl parts.taken.now.places is.region_at parts.source.now.sites.now q r patch (made r patch) padded
           (padded_are ts at padded given same same_at same_padded are) parts.view.now objects out is.same (same_objects ∙ objects_are) written in
           record {
-            pl = pl;
-            placed = of.placed;
-            placement = of.placement;
-            shows = shows;
-            written = is_written;
+            moved = record {
+              pl = pl;
+              placed = of.placed;
+              placement = of.placement;
+              shows = shows;
+              written = is_written;
+            };
+            pl_is = refl;
+            plan_is = plan_is;
           }

@@ -39,10 +39,10 @@ use Rattle.copied_result.specs.declared.copy_source.CopySource.{CopySource}
 use Rattle.copied_result.specs.declared.placed_copy.PlacedCopy.{PlacedCopy}
 use Rattle.list_checks.proofs.TestLemmas.{both, either}
 use Rattle.relink_core.specs.Chosen.{names_of}
-use Rattle.relink_core.specs.Placed.{taken_of}
+use Rattle.relink_core.specs.Placed.{Taken, MovesBy}
 use Rattle.relink_core.specs.ResultParts.{ArePartsOf, ArePlanned}
 use Rattle.relink_core.specs.Written.{IsPatchSegment}
-use Rattle.relink_core.specs.UnitMaps.{regions_named, piece_region, IsAtHome, StandsBefore, AreUnitsAt, MapsUnits}
+use Rattle.relink_core.specs.UnitMaps.{regions_named, piece_region, IsAtHome, IsUnitAt, StandsBefore, AreUnitsAt, MovesWithUnits}
 use Rattle.relink_core.specs.UnitSets.{Gains, Upto, HomeForms, CopyForms, StubForms, runs, CollectedFrom, CollectedForms, CanCollect}
 use Rattle.relink_core.specs.declared.chosen_results.PlannedResult.{PlannedResult}
 use Rattle.relink_core.specs.declared.chosen_results.ResultParts.{ResultParts}
@@ -257,25 +257,16 @@ module _ (file : List ℕ) (t : RegionTable) (p : PlainProgramme) (choice : Plai
         (subst (λ (ys : List PlacedCopy). AreUnitsAt (CollectedFrom z hs ys rs plan.stubs places) units) made.copies
         (subst (λ (us : List ServingStub). AreUnitsAt (CollectedFrom z hs xs rs us places) units) stubs_are given)))
 
-    pub units_mapped : (units : List UnitAt) → AreUnitsAt (CollectedFrom z hs xs rs (map serving_stub ts) places) units → MapsUnits file board g c t (taken_of p choice) units
+    pub units_mapped : (units : List UnitAt) → AreUnitsAt (CollectedFrom z hs xs rs (map serving_stub ts) places) units → AreUnitsAt (IsUnitAt board c g pl plan) units
     units_mapped units given =
         let all = collected_same units given in
         let own = regions_are rs made.regions in
         record {
-          pl = pl;
-          placed = are.plan.of.placed;
-          placement = are.plan.of.placement;
-          plan = plan;
-          planned = are.plan.of.planned;
-          ascending = are.plan.of.ascending;
-          units_at =
-              record {
-                each = λ x. (
-                  λ has. forms_forth (view_in file) (unnamed_in file board g) board s parts.regions.now r.copies.items pl plan stand are.plan.copied are.plan.of.planned.stubs x places places_are rs own ((all.each x).0 has),
-                  λ form. (all.each x).1 (forms_back (view_in file) (unnamed_in file board g) board s parts.regions.now r.copies.items pl plan stand are.plan.copied are.plan.of.planned.stubs x places places_are rs own form),
-                );
-                ordered = all.ordered;
-              };
+          each = λ x. (
+            λ has. forms_forth (view_in file) (unnamed_in file board g) board s parts.regions.now r.copies.items pl plan stand are.plan.copied are.plan.of.planned.stubs x places places_are rs own ((all.each x).0 has),
+            λ form. (all.each x).1 (forms_back (view_in file) (unnamed_in file board g) board s parts.regions.now r.copies.items pl plan stand are.plan.copied are.plan.of.planned.stubs x places places_are rs own form),
+          );
+          ordered = all.ordered;
         }
 
   pub can_collect : (segment : PatchSegment) (w : FormSources) → IsPatchSegment plan segment → IsMadeOf segment w.source.now w.homes.now w.copies.now w.regions.now w.stubs.now w.stub_at.now → CanCollect w
@@ -293,3 +284,13 @@ module _ (file : List ℕ) (t : RegionTable) (p : PlainProgramme) (choice : Plai
         many = made_many segment z hs xs rs ts places patch made;
         ends = ends_are segment z hs xs rs ts places patch made;
       }
+
+-- ---- with their result
+
+pub with_units : (file : List ℕ) (board : Board) (g : Graph) (c : Code) (t : RegionTable) (taken : Taken) (placement : ChosenPlacement) (patch : OverlayPlan) (out : List ℕ) (units : List UnitAt) → MovesBy file board g c t taken placement patch out → AreUnitsAt (IsUnitAt board c g placement patch) units → MovesWithUnits file board g c t taken out units
+with_units file board g c t taken placement patch out units by forms =
+    record {
+      moved = by.moved;
+      forms = subst (λ (q : OverlayPlan). AreUnitsAt (IsUnitAt board c g by.moved.pl q) units) (sym by.plan_is)
+          (subst (λ (x : ChosenPlacement). AreUnitsAt (IsUnitAt board c g x patch) units) (sym by.pl_is) forms);
+    }

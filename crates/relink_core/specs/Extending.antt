@@ -7,6 +7,7 @@ use Rattle.elf_writer.specs.declared.parts.SymbolMove.{SymbolMove}
 use Rattle.elf_writer.specs.Parts.{NewSegment}
 use Rattle.elf_writer.specs.Written.{written}
 use Rattle.elf_writer.specs.View.{written_view}
+use Rattle.elf_writer.specs.Conditions.{HasWords}
 use Rattle.board_config.specs.declared.board.Board.{Board}
 use Rattle.result_setups.specs.HomeLaws.{IsAccepted}
 use Rattle.relink_core.specs.Faults.{headers_fault, least_patch}
@@ -18,7 +19,8 @@ pub record IsExtendable (file : List ℕ) (board : Board) (g : Graph) : Type 0 w
   pub headers : headers_fault (program_header_count file) ≡ None
   pub patch : least_patch board.fence_i ≤ board.patch.size
 
--- a file is written over that of a view, with words at addresses, moved symbols and a segment
+-- a file is written over that of a view, with words at addresses, moved symbols and a segment, whose numbers fit into words
 pub record IsWrittenOf (v : PlainView) (padded : List (ℕ × ℕ)) (moves : List SymbolMove) (s : NewSegment) (out : List ℕ) : Type 0 where
   pub bytes : out ≡ written v (map (patch_of v) padded) (Some s) moves
   pub reads : view_in out ≡ written_view v (map (patch_of v) padded) (Some s) moves
+  pub fit : HasWords (Some s) moves

@@ -7,6 +7,7 @@ pub mod Making
 pub mod MovedRanges
 pub mod Written
 pub mod Placed
+pub mod ResultFaults
 pub mod Walks
 pub mod Standing
 pub mod Sides

@@ -8,6 +8,7 @@ use Rattle.region_former.specs.declared.table.RegionTable.{RegionTable}
 use Rattle.placement_programme.specs.Plain.{PlainProgramme, PlainChoice}
 use Rattle.relocator.specs.declared.items.Item.{Item}
 use Rattle.relocator.specs.Slots.{items_of}
+use Rattle.overlay_stubs.specs.Overlay.{OverlayPlan}
 use Rattle.result_placements.specs.Laws.{regions_on}
 use Rattle.result_placements.specs.ChosenPlacement.{ChosenPlacement, IsChosenPlacement}
 use Rattle.result_placements.specs.PlacedView.{IsPlacedView}
@@ -42,6 +43,12 @@ pub record MovesItems (file : List ℕ) (board : Board) (g : Graph) (c : Code) (
   pub placement : IsChosenPlacement board (view_in file) g c pl
   pub shows : IsPlacedView (view_in file) (view_in out) board g c pl
   pub written : IsWrittenFor (view_in file) board g pl shows.words out
+
+-- one for this placement, and this plan of the patch range
+pub record MovesBy (file : List ℕ) (board : Board) (g : Graph) (c : Code) (t : RegionTable) (taken : Taken) (pl : ChosenPlacement) (plan : OverlayPlan) (out : List ℕ) : Type 0 where
+  pub moved : MovesItems file board g c t taken out
+  pub pl_is : moved.pl ≡ pl
+  pub plan_is : moved.shows.plan ≡ plan
 
 -- the result of a file for what is taken. Where nothing is, and nothing is overlaid, it is the file
 pub data Realises (file : List ℕ) (board : Board) (g : Graph) (c : Code) (t : RegionTable) (taken : Taken) (out : List ℕ) : Type 0 where

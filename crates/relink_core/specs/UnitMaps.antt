@@ -1,8 +1,6 @@
 -- Where the units of a program stand in a result: at home, in the copies of their blocks, and displaced into stubs.
-use Rattle.std.specs.Prelude.{◌≡◌, ◌⊎◌, ◌↔◌, ℕ, ◌<◌, true, false, List, [], length, map, slice_index_or, Option, Some, None, Contains}
+use Rattle.std.specs.Prelude.{◌≡◌, ◌⊎◌, ◌↔◌, ℕ, ◌<◌, true, false, List, [], length, slice_index_or, Option, Some, None, Contains}
 use Rattle.std.specs.List.{AllPairs, filter_map}
-use Rattle.std.specs.List.Sorted.{IsStrictlyIncreasing}
-use Rattle.elf_reader.specs.File.{view_in}
 use Rattle.board_config.specs.declared.board.Board.{Board}
 use Rattle.object_graph.specs.declared.parts.Graph.{Graph}
 use Rattle.code_blocks.specs.declared.parts.Code.{Code}
@@ -11,14 +9,14 @@ use Rattle.block_splitter.specs.Forms.{holds_block}
 use Rattle.block_splitter.specs.Copies.{address_of, place_of}
 use Rattle.placement_programme.specs.declared.variables.VarName.{VarName}
 use Rattle.placement_programme.specs.declared.variables.VarName.TheVariants.{StaticData, StaticCode, OverlayData, OverlayCode, KeptData}
-use Rattle.overlay_stubs.specs.Serving.{ServingStub, serving_home}
+use Rattle.overlay_stubs.specs.Serving.{ServingStub}
 use Rattle.overlay_stubs.specs.Overlay.{OverlayPlan}
 use Rattle.overlay_stubs.specs.Served.{body_at}
 use Rattle.result_setups.specs.LiveUnits.{StandsThere}
-use Rattle.result_placements.specs.ChosenPlacement.{ChosenPlacement, piece_of, copy_in, IsChosenPlacement}
-use Rattle.result_placements.specs.PlacedView.{is_padded, IsUncopied, Serves, IsPlanFor}
+use Rattle.result_placements.specs.ChosenPlacement.{ChosenPlacement, piece_of, copy_in}
+use Rattle.result_placements.specs.PlacedView.{is_padded, IsUncopied, Serves}
 use Rattle.relink_core.specs.Chosen.{names_of}
-use Rattle.relink_core.specs.Placed.{Taken, IsPlacementFor}
+use Rattle.relink_core.specs.Placed.{Taken, MovesItems}
 use Rattle.relink_core.specs.declared.unit_forms.UnitAt.{UnitAt}
 
 -- ---- the regions of pieces
@@ -70,18 +68,17 @@ pub record AreUnitsAt (is : UnitAt → Type 0) (units : List UnitAt) : Type 0 wh
   pub each : (x : UnitAt) → Contains units x ↔ is x
   pub ordered : AllPairs StandsBefore units
 
--- the forms of all units in a result: those for a placement of what is taken, and for a plan of its patch range whose stubs
--- ascend by their homes
-pub record MapsUnits (file : List ℕ) (board : Board) (g : Graph) (c : Code) (t : RegionTable) (taken : Taken) (units : List UnitAt) : Type 0 where
-  pub pl : ChosenPlacement
-  pub placed : IsPlacementFor t taken pl
-  pub placement : IsChosenPlacement board (view_in file) g c pl
-  pub plan : OverlayPlan
-  pub planned : IsPlanFor (view_in file) board g c pl plan
-  pub ascending : IsStrictlyIncreasing (map serving_home plan.stubs)
-  pub units_at : AreUnitsAt (IsUnitAt board c g pl plan) units
+-- ---- a result with the forms of its units
+
+-- items stand in the scratchpad in a result, and these are the forms of units in just this one: both are for one placement and
+-- one plan of the patch range
+pub record MovesWithUnits (file : List ℕ) (board : Board) (g : Graph) (c : Code) (t : RegionTable) (taken : Taken) (out : List ℕ) (units : List UnitAt) : Type 0 where
+  pub moved : MovesItems file board g c t taken out
+  pub forms : AreUnitsAt (IsUnitAt board c g moved.pl moved.shows.plan) units
 
 -- where nothing is taken and nothing is overlaid, the result is the file, and units stand at home alone
-pub data IsUnitMap (file : List ℕ) (board : Board) (g : Graph) (c : Code) (t : RegionTable) (taken : Taken) (units : List UnitAt) : Type 0 where
-  stays_home : taken.on ≡ false → taken.items ≡ [] → AreUnitsAt (IsAtHome c) units → IsUnitMap file board g c t taken units
-  maps_units : (taken.on ≡ true) ⊎ (0 < length taken.items) → MapsUnits file board g c t taken units → IsUnitMap file board g c t taken units
+pub data MakesWithUnits (file : List ℕ) (board : Board) (g : Graph) (c : Code) (t : RegionTable) (taken : Taken) (out : List ℕ) (units : List UnitAt) : Type 0 where
+  hands_on : taken.on ≡ false → taken.items ≡ [] → out ≡ file → AreUnitsAt (IsAtHome c) units
+      → MakesWithUnits file board g c t taken out units
+  moves : (taken.on ≡ true) ⊎ (0 < length taken.items) → MovesWithUnits file board g c t taken out units
+      → MakesWithUnits file board g c t taken out units

@@ -8,7 +8,7 @@ use Rattle.elf_writer.specs.declared.parts.SymbolMove.{SymbolMove}
 use Rattle.elf_writer.specs.Parts.{NewSegment}
 use Rattle.elf_writer.specs.Written.{written}
 use Rattle.elf_writer.specs.View.{written_view}
-use Rattle.elf_writer.specs.Conditions.{PatchesLoadedWord, AreOfTwoSymbols}
+use Rattle.elf_writer.specs.Conditions.{PatchesLoadedWord, AreOfTwoSymbols, IsWritable, HasWords}
 use Rattle.board_config.specs.declared.board.Board.{Board}
 use Rattle.loaded_file.specs.Ranges.{is_symbol_of}
 use Rattle.object_graph.specs.declared.parts.Graph.{Graph}
@@ -73,7 +73,8 @@ static_objects board pl = objects_named (map name_of_slot (slots_in board pl))
 -- ---- which file it is
 
 -- the file is written over that of the view, with words patched inside loaded sections, the segment and the symbols of
--- objects that stand in the scratchpad throughout; and a reader finds just this in it
+-- objects that stand in the scratchpad throughout. All this may be written, its numbers fit into words, and a reader finds
+-- just this in the file
 pub record IsWrittenFor (v : PlainView) (board : Board) (g : Graph) (pl : ChosenPlacement) (words out : List ℕ) : Type 0 where
   pub patches : List Patch
   pub moves : List SymbolMove
@@ -81,3 +82,5 @@ pub record IsWrittenFor (v : PlainView) (board : Board) (g : Graph) (pl : Chosen
   pub symbols : AreSymbolMoves v g (places_in board g pl 0) (static_objects board pl) moves
   pub bytes : out ≡ written v patches (Some (placed_segment v board g pl words)) moves
   pub view : view_in out ≡ written_view v patches (Some (placed_segment v board g pl words)) moves
+  pub writable : IsWritable v patches (Some (placed_segment v board g pl words)) moves
+  pub fit : HasWords (Some (placed_segment v board g pl words)) moves

@@ -3,10 +3,11 @@ ghost use Rattle.std.specs.Prelude.{◌≡◌, ℕ, ◌<◌, List, map, IfOk};
 ghost use Rattle.std.specs.List.{All, sum_by};
 ghost use Rattle.region_former.specs.declared.table.RegionTable.{RegionTable};
 ghost use Rattle.placement_programme.specs.Plain.{PlainProgramme, PlainChoice};
+ghost use Rattle.overlay_stubs.specs.Plans.{overlay_plan};
 ghost use Rattle.overlay_jobs.specs.ChosenJobs.{is_static};
 ghost use Rattle.copied_result.specs.Copies.{range_in, place_in};
 ghost use Rattle.relink_core.specs.Standing.{HasBytes, IsCopiedRange};
-ghost use Rattle.relink_core.specs.Placed.{taken_of, MovesItems};
+ghost use Rattle.relink_core.specs.Placed.{taken_of, MovesItems, MovesBy};
 ghost use Rattle.relink_core.specs.ResultParts.{ArePartsOf, AreParts, AreCopiesOf, HaveCopies, counts_static, stubs_at, HaveRoom, ServeCopies, HavePlan, IsPlanOfParts, IsPlanWith, ArePlanned};
 
 use crate::analysis::least_patch;
@@ -150,7 +151,7 @@ pub(crate) fn written_result(
     plan: &StubPlan,
 ) -> Result<Vec<u8>, AllocError>
     requires { HavePlan parts.now plan.now }
-    ensures { IfOk result (λ out. (file : List ℕ) (t : RegionTable) (p : PlainProgramme) (choice : PlainChoice) → ArePartsOf file t p choice parts.now → IsPlanOfParts file t p choice parts.now plan.now → MovesItems file parts.now.board.now parts.now.source.now.graph.now parts.now.source.now.code.now t (taken_of p choice) out.items) }
+    ensures { IfOk result (λ out. (file : List ℕ) (t : RegionTable) (p : PlainProgramme) (choice : PlainChoice) → ArePartsOf file t p choice parts.now → (of : IsPlanOfParts file t p choice parts.now plan.now) → MovesBy file parts.now.board.now parts.now.source.now.graph.now parts.now.source.now.code.now t (taken_of p choice) of.pl (overlay_plan plan.now) out.items) }
 {
     let patch = patch_segment(alloc, plan)?;
     let padded = padded_words(alloc, parts.source.sites, &plan.stubs, &patch.stub_at)?;

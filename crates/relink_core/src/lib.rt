@@ -20,7 +20,7 @@ mod writing;
 
 pub use analysis::{Analysis, analyse, points_of};
 pub use fault::AnalyseFault;
-pub use laws::{absolute_keeps_runs, unmoved_file_keeps};
+pub use laws::{absolute_keeps_runs, results_are_read, unmoved_file_keeps};
 pub use realising::{Realised, realise};
 pub use unit_forms::UnitAt;
-pub use unit_maps::unit_map;
+pub use unit_maps::{RealisedUnits, realise_units};

@@ -36,7 +36,7 @@ pub struct Realised {
 }
 
 /// The bytes once more.
-fn copied(alloc: Global, bytes: &[u8]) -> Result<Vec<u8>, AllocError>
+pub(crate) fn copied(alloc: Global, bytes: &[u8]) -> Result<Vec<u8>, AllocError>
     ensures { IfOk result (λ out. out.items ≡ bytes.now) }
 {
     bytes.to_vec(alloc)

@@ -7,4 +7,4 @@ written_result-requires c =
 
 pub returns-in-Ok-clause-moved : goal.returns-in-Ok-clause-moved
 returns-in-Ok-clause-moved c = λ file t p choice is.
-    c.in-Ok.ensures file t p choice is (c.in_ok-planned.ensures.planned file t p choice is).plan.of
+    (c.in-Ok.ensures file t p choice is (c.in_ok-planned.ensures.planned file t p choice is).plan.of).moved

@@ -1,45 +1,21 @@
-use Rattle.std.proofs.Common.{◌∙◌, List, map, refl, ap}
-use Rattle.overlay_stubs.specs.declared.plan.Stub.{Stub}
-use Rattle.copied_result.specs.Padding.{home_of}
-use Rattle.placement_programme.specs.declared.variables.VarName.{VarName}
-use Rattle.relink_core.specs.UnitMaps.{regions_named}
-use Rattle.relink_core.proofs.UnitMapsMade.{can_collect, units_mapped}
+use Rattle.overlay_stubs.specs.Plans.{overlay_plan}
+use Rattle.relink_core.specs.Placed.{taken_of}
+use Rattle.relink_core.proofs.UnitMapsMade.{with_units}
 use Rattle.relink_core.proofs.unit_maps.placed_units.Goals as goal
 
-pub patch_segment-requires-clause-lists : goal.patch_segment-requires-clause-lists
-patch_segment-requires-clause-lists c =
+pub written_result-requires : goal.written_result-requires
+written_result-requires c =
     let (file, t, p, choice, is) = c.requires in
-    (c.in_ok-planned.ensures.planned file t p choice is).plan.of.lists
+    (file, t, p, choice, is, (c.in_ok-planned.ensures.planned file t p choice is).plan.of)
 
-pub patch_segment-requires-clause-can : goal.patch_segment-requires-clause-can
-patch_segment-requires-clause-can c =
+pub planned_units-requires : goal.planned_units-requires
+planned_units-requires c =
     let (file, t, p, choice, is) = c.requires in
-    (c.in_ok-planned.ensures.planned file t p choice is).plan.of.planned.can
-
-pub all_forms-requires : goal.all_forms-requires
-all_forms-requires c =
-    let (file, t, p, choice, is) = c.requires in
-    let are = c.in_ok-planned.ensures.planned file t p choice is in
-    can_collect file t p choice c.args.parts.now c.in_ok-planned.planned is are c.in_ok-patch.patch _ c.in_ok-patch.ensures
-    (record {
-      source = refl;
-      homes = c.deref-3.ensures.value ∙ c.in_ok-homes.ensures ∙ ap (λ (ts : List Stub). map home_of ts) c.deref.ensures.value;
-      copies = c.deref-4.ensures.value;
-      regions = c.deref-5.ensures.value ∙ c.in_ok-regions.ensures ∙ ap (λ (names : List VarName). regions_named names) c.deref-2.ensures.value;
-      stubs = c.deref-6.ensures.value;
-      stub_at = c.deref-7.ensures.value;
-    })
+    (file, t, p, choice, is, c.in_ok-planned.ensures.planned file t p choice is)
 
 pub returns-in-Ok : goal.returns-in-Ok
 returns-in-Ok c = λ file t p choice is.
+    let parts = c.args.parts.now in
     let are = c.in_ok-planned.ensures.planned file t p choice is in
-    units_mapped file t p choice c.args.parts.now c.in_ok-planned.planned is are c.in_ok-patch.patch
-    c.args.parts.now.source.now c.deref-3.result.now c.deref-4.result.now c.deref-5.result.now c.deref-6.result.now c.deref-7.result.now c.in_ok-patch.ensures
-    (record {
-      source = refl;
-      homes = c.deref-3.ensures.value ∙ c.in_ok-homes.ensures ∙ ap (λ (ts : List Stub). map home_of ts) c.deref.ensures.value;
-      copies = c.deref-4.ensures.value;
-      regions = c.deref-5.ensures.value ∙ c.in_ok-regions.ensures ∙ ap (λ (names : List VarName). regions_named names) c.deref-2.ensures.value;
-      stubs = c.deref-6.ensures.value;
-      stub_at = c.deref-7.ensures.value;
-    }) c.in-Ok.units.items c.in-Ok.ensures
+    with_units file parts.board.now parts.source.now.graph.now parts.source.now.code.now t (taken_of p choice) are.plan.of.pl (overlay_plan c.in_ok-planned.planned.plan) c.in_ok-bytes.bytes.items c.in-Ok.units.items
+    (c.in_ok-bytes.ensures file t p choice is are.plan.of) (c.in-Ok.ensures file t p choice is are)

@@ -6,7 +6,7 @@ use Rattle.elf_writer.specs.declared.parts.SymbolMove.{SymbolMove}
 use Rattle.elf_writer.specs.Parts.{new_segment}
 use Rattle.elf_writer.specs.Written.{written}
 use Rattle.elf_writer.specs.View.{written_view}
-use Rattle.elf_writer.specs.Conditions.{IsWritable}
+use Rattle.elf_writer.specs.Conditions.{IsWritable, HasWords}
 use Rattle.code_blocks.proofs.KeyLemmas.{symbols_few}
 use Rattle.relink_core.specs.Making.{patch_of}
 use Rattle.relink_core.proofs.writing.written_items.Goals as goal
@@ -41,4 +41,5 @@ returns-in-Ok c =
       reads = c.in-Ok.ensures.reads
           ∙ ap (λ (ps : List Patch). written_view v ps (Some segment) c.deref-2.result.now) patches
           ∙ ap (λ (ms : List SymbolMove). written_view v (map (patch_of v) c.args.padded.now) (Some segment) ms) moves;
+      fit = subst (HasWords (Some segment)) moves c.in-Ok.ensures.words;
     }
