@@ -33,6 +33,7 @@ use Rattle.profile_runner.specs.Transition.{Transition, transition_at}
 use Rattle.profile_runner.proofs.FindLemmas.{block_found}
 use Rattle.energy_model.specs.Energy.{Scene, Taken, piece_of, is_checked, may_stay, comes_from_outside}
 use Rattle.paid_energy.specs.Inward.{calls, is_within, leads_inward, inward_calls}
+use Rattle.held_addresses.proofs.Entries.{entry_indirect, successor_found}
 use Rattle.region_counts.specs.Counted.{IsCountedAt}
 use Rattle.result_setups.specs.LiveUnits.{StandsThere, ComesNext, UnitsStand}
 use Rattle.result_setups.specs.HomeLaws.{unnamed_in}
@@ -47,25 +48,6 @@ use Rattle.walked_energy.proofs.CountedForms.{ComesHome, entry_served, border_se
 use Rattle.walked_energy.proofs.CountedForms as forms
 use Rattle.walked_energy.proofs.KindEnds.{body_ends}
 use Rattle.walked_energy.proofs.Pieces.{IsPieceOf, piece_there, piece_is}
-
--- an address to which an end leads is found among those
-successor_found : (xs : List ℕ) (a : ℕ) → Contains xs a → list_any (λ x. x == a) xs ≡ true
-successor_found xs a (k, below, there) =
-    list_any_at (λ x. x == a) xs k a below (equal (slice_index_or xs k a) a there)
-  where
-    equal : (x y : ℕ) → x ≡ y → (x == y) ≡ true
-    equal x y same = grind (arith, nat_tests, same)
-
--- the entry is a leader that a jump to an address in a register may reach
-named_code : (code same b c d e : Bool) → code ≡ true → same ≡ true → code && (same || b || c || d || e) ≡ true
-named_code code same b c d e is_code is_same = rw (is_code, is_same) refl
-
-entry_indirect : (v : PlainView) → is_leader v v.entry ≡ true → is_indirect v v.entry ≡ true
-entry_indirect v leads =
-    let same : (v.entry == v.entry) ≡ true = grind (arith, nat_tests) in
-    named_code (is_code_word v v.entry) (v.entry == v.entry) (any_below (is_function_at v v.entry) (length v.symbols))
-    (any_below (makes_address v v.entry) (length v.relocs)) (any_code_word v (link_comes_back v v.entry))
-    (any_code_word v (pair_comes_back v v.entry)) (leader_is_code v v.entry leads) same
 
 -- where a block that leads to another isn't left so that control stays in a piece, it ends in a call
 leading_calls : (e : End) (a : ℕ) → may_stay e ≡ false → Contains (successors e) a → calls e ≡ true

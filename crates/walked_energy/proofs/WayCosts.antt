@@ -162,7 +162,7 @@ module _ (file out : List ℕ) (board : Board) (g : Graph) (c : Code) (pl : Chos
   stub_cost stub from _ _ (Current es some is runs) few within on =
       let test : (stub.region == 0) ≡ false = other_numbers stub.region 0 some in
       let tests : test_cost (not (stub.region == 0)) ≡ 4 * fetch + board.prices.main_read = ap (λ (b : Bool). test_cost (not b)) test in
-      let run = plan_run file out board g c pl result 4 (read_at plan.start.base ∷ []) es runs in
+      let run = plan_run file out board g c pl result 4 (read_at plan.start.base ∷ []) es runs.runs in
       let read = control_read in
       let stays : change from from ≡ 0 = same_region pl.choice.on from (switch_price w taken.names from from) in
       omega (arith, tests, run, read, stays)
@@ -170,7 +170,7 @@ module _ (file out : List ℕ) (board : Board) (g : Graph) (c : Code) (pl : Chos
       let test : (stub.region == 0) ≡ false = other_numbers stub.region 0 some in
       let tests : test_cost (not (stub.region == 0)) ≡ 4 * fetch + board.prices.main_read = ap (λ (b : Bool). test_cost (not b)) test in
       let least : 1 ≤ stub.region = let there = some in omega (arith, there) in
-      let run = switch_costs file out board g c pl result from stub.region es few least within other runs in
+      let run = switch_costs file out board g c pl result from stub.region es few least within other runs.runs in
       let goes : change from stub.region ≡ switch_price w taken.names from stub.region =
       other_region pl.choice.on from stub.region (switch_price w taken.names from stub.region) (on some) other in
       omega (arith, tests, run, goes)

@@ -1,9 +1,6 @@
 -- The energy that a result pays is the modelled one.
-use Rattle.std.specs.Prelude.{◌≡◌, ℕ, ◌+◌, ◌*◌, Bool, true, false, if◌then◌else◌, List, length, Option, Some, None}
+use Rattle.std.specs.Prelude.{◌≡◌, ℕ, ◌+◌, ◌*◌, Bool, true, false, if◌then◌else◌, List, length}
 use Rattle.elf_reader.specs.Loadable.{AreBytes}
-use Rattle.elf_reader.specs.Faults.{first_fault}
-use Rattle.elf_reader.specs.declared.fault.ElfFault.{ElfFault}
-use Rattle.elf_reader.specs.declared.fault.ElfFault.TheVariants.{OverLimit}
 use Rattle.board_config.specs.declared.board.Board.{Board}
 use Rattle.flat_machine.specs.declared.events.FlatOutcome.{FlatOutcome}
 use Rattle.flat_machine.specs.declared.events.FlatOutcome.TheVariants as flat
@@ -53,17 +50,3 @@ PaidIsModelled =
     → (outcome ≡ flat.Exited code)
     × (inward_calls (scene_of a.graph a.code a.regions board) a.code (names_taken p choice) transitions ≡ 0
     → paid ≡ energy (scene_of a.graph a.code a.regions board) (names_taken p choice) transitions)
-
--- ---- what may keep a result from being read
-
--- none, or a size: of the file, or of the memory of its segments
-pub data IsOfSize : Option ElfFault → Type 0 where
-  NoFault : IsOfSize None
-  FileSize : (bytes : ℕ) → IsOfSize (Some (OverLimit 1 bytes))
-  MemorySize : (bytes : ℕ) → IsOfSize (Some (OverLimit 4 bytes))
-
--- a result of an accepted file is read but for its size
-abbrev pub ResultsAreRead : Type 0
-ResultsAreRead =
-    (file out : List ℕ) (board : Board) (a : Analysis) (p : PlainProgramme) (choice : PlainChoice) → IsAnalysisOf file board a
-    → Realises file board a.graph a.code a.regions (taken_of p choice) out → IsOfSize (first_fault out)
