@@ -11,6 +11,7 @@ mod shown;
 mod taken;
 
 pub use endings::ending_line;
+pub use parts::{address_text, symbol_name};
 pub use profiles::profile_lines;
 pub use reports::choice_report;
 pub use shown::show_lines;

@@ -6,9 +6,9 @@ ghost use Rattle.printed_lines.specs.ProfileLines.{address_text, named_line};
 use elf_reader::ElfView;
 use std::alloc::{AllocError, Global};
 
-/// An address as it is printed: `0x` and eight hexadecimal digits.
+/// An address as it is printed: `0x` and eight hexadecimal digits. It fails only where no memory was left.
 #[tactic(auto, using(crate::proofs::Hexadecimal::eight_digits))]
-pub(crate) fn address_text(alloc: Global, address: u32) -> Result<String, AllocError>
+pub fn address_text(alloc: Global, address: u32) -> Result<String, AllocError>
     ensures { IfOk result (λ text. string_bytes text ≡ address_text address) }
 {
     format!(in alloc; "0x{address:08x}")
@@ -24,8 +24,8 @@ pub(crate) fn push_named(text: &mut Vec<u8>, head: &[u8], name: &[u8]) -> Result
     Ok(())
 }
 
-/// The name of a symbol by its number.
-pub(crate) fn symbol_name<'a>(view: &ElfView<'a>, number: u32) -> &'a [u8]
+/// The name of a symbol by its number; no bytes where there is no such symbol.
+pub fn symbol_name<'a>(view: &ElfView<'a>, number: u32) -> &'a [u8]
     ensures { result.now ≡ (symbol_at (plain_view view.now) number).name }
 {
     match view.symbols.get(number as usize) {
