@@ -104,7 +104,38 @@ class Relinked:
             raise Failure(f"made a file whose outcome is {outcome}, and not {run.outcome}")
 
 
-Answer = Told | Among | Relinked
+@dataclass
+class Paid:
+    """What a choice of known energy pays: just that, where no call is inward."""
+
+    after: int
+    is_compared = True
+
+    def judge(self, came: Came) -> None:
+        lines = re.fullmatch(rb"(exited \d+)\nmodelled (\d+)\n(.*)\npaid (\d+)\ninward (\d+)\n", came.printed)
+        if came.status or not lines or lines[1] != lines[3] or int(lines[2]) != self.after:
+            raise Failure(f"answers {came.status} {came.printed!r}, and is to model {self.after}")
+        if int(lines[5]) == 0 and lines[4] != lines[2]:
+            raise Failure(f"prints {came.printed!r}, which isn't what is modelled")
+
+
+@dataclass
+class Beside:
+    """What a trace tells of a program, step by step, whatever is moved."""
+
+    units: list[bytes]
+    is_compared = True
+
+    def judge(self, came: Came) -> None:
+        if (came.status, came.printed) != (0, b"steps %d\n" % len(self.units)):
+            raise Failure(f"answers {came.status} {came.printed!r}, and is to trace {len(self.units)} steps")
+        first, *lines = came.after.get("out", b"").split(b"\n")[:-1]
+        told = [re.fullmatch(rb"(0x[0-9a-f]{8}) 0x[0-9a-f]{8} [1-9][0-9]*(?:( [rw] .* [0-9]+) 0x[0-9a-f]{8})?", line) for line in lines]
+        if not re.fullmatch(rb"start [0-9]+", first) or [line and line[1] + (line[2] or b"") for line in told] != self.units:
+            raise Failure(f"traces {lines!r:.400}, and is to tell of {self.units!r:.400}")
+
+
+Answer = Told | Among | Relinked | Paid | Beside
 
 
 def judge(answer: Answer, came: Came, command: str) -> None:

@@ -11,7 +11,8 @@ import cert_path
 import elf_path
 import hex_path
 import mutate
-from answers import Answer, Told
+import result_path
+from answers import Answer, Beside, Paid, Told
 from cert_path import BOUND, BRANCH, DEEPEST, LEAF, MARK, OVER, Programme, Side
 from command_path import PATHS, told
 from elf_path import File
@@ -141,7 +142,8 @@ def known_program(file: str, board: str, base: int) -> Known:
     return Known(contents(f"crates/case_runner/data/{file}")[0], board.encode(), programme)
 
 
-# The words of each command behind its name. `out` and `cert` are written.
+# The words of each command behind its name. `out` and `cert` are written, and `count` is a number. Behind a bar stand files
+# that another one lists.
 WORDS = {
     "run": "file board input out",
     "show": "file board",
@@ -151,10 +153,19 @@ WORDS = {
     "compare": "file result board input",
     "hex": "file out",
     "hexcheck": "file text",
+    "paid": "file board input text",
+    "trace": "file board input text count out",
+    "mix": "file board mix out cert | input",
+    "checkmix": "file board mix text | input",
 }
 # How often a command is called: on any file, and on a program.
-READING = {"run": 50, "show": 10, "profile": 10, "relink": 10, "check": 3, "compare": 10, "hex": 10, "hexcheck": 10}
-ANALYSING = {"show": 25, "profile": 35, "relink": 25, "compare": 8, "check": 5, "run": 10}
+READING = {"run": 50, "show": 10, "profile": 10, "relink": 10, "check": 3, "compare": 10, "hex": 10, "hexcheck": 10,
+           "paid": 3, "trace": 5, "mix": 3, "checkmix": 3}
+ANALYSING = {"show": 25, "profile": 35, "relink": 25, "compare": 8, "check": 5, "run": 10, "paid": 15, "trace": 20, "mix": 8,
+             "checkmix": 5}
+COUNTS = (b"1", b"7", b"100", b"002000", b"100000")
+MIXES = (b"1 input\n", b"3 input\n", b"1000 input\n1 input\n", b"1 input\n" * 16, b"1 input\n" * 17, b"", b"1 input", b"01 input\n",
+         b"1001 input\n", b"0 input\n", b"2  input\n", b"2 input\n-1 input\n", b"2 input \n", b"7 -\n", b"2 input\r\n", b"2 in\xc3\xa9\n")
 
 
 def one_of(random: Random, weights: dict[str, int]) -> str:
@@ -163,10 +174,12 @@ def one_of(random: Random, weights: dict[str, int]) -> str:
 
 def call(command: str, contents: dict[str, bytes]) -> Case:
     """The case of a command on files, of which it may read some only."""
-    names = WORDS[command].split()
-    files = {name: contents[name] for name in names if name in contents}
-    outputs = [name for name in names if name not in contents]
-    return Case([command, *names], files, outputs, told(PATHS[command], *files.values()))
+    names, _, listed = WORDS[command].partition(" | ")
+    given = {name: contents[name] for name in (names + " " + listed).split() if name in contents}
+    answer = told(PATHS[command], *given.values())
+    count = given.pop("count", b"").decode()
+    words = [count if name == "count" else name for name in names.split()]
+    return Case([command, *words], given, [name for name in names.split() if name not in contents], answer)
 
 
 def with_others(random: Random, seeds: Seeds, command: str, files: dict[str, bytes]) -> dict[str, bytes]:
@@ -176,9 +189,14 @@ def with_others(random: Random, seeds: Seeds, command: str, files: dict[str, byt
         files = files | {"result": other}
         if random.random() < 0.5:
             files |= {"file": other, "result": files["file"]}
-    elif command == "check":
+    elif command in ("mix", "checkmix"):
+        texts = MIXES if command == "checkmix" else (*MIXES, b"7 cert\n")
+        files = files | {"mix": random.choice(MIXES[:3] if random.random() < 0.7 else texts)}
+    if command in ("check", "paid", "trace", "checkmix"):
         files = files | {"text": random.choice((NOTHING_TAKEN, mutate.numbers(random, list(NOTHING_TAKEN))))}
-    elif command == "hexcheck":
+    if command == "trace":
+        files = files | {"count": random.choice(COUNTS)}
+    if command == "hexcheck":
         files = files | {"text": hex_of(random.choice((files["file"], random.choice(seeds.small))))}
     return files
 
@@ -240,7 +258,15 @@ def cert_case(random: Random, seeds: Seeds) -> Case:
     numbers = certificate(random, known.programme)
     text = mutate.numbers(random, numbers) if random.random() < 0.8 else b"".join(map(mutate.leb128, numbers))
     files = {"file": known.file, "board": known.board, "input": b"", "text": text}
-    return Case(["check", *files], files, [], told(known.verdict, text))
+    command, verdict = random.choices(("check", "paid", "trace"), (6, 2, 2))[0], told(known.verdict, text)
+    if command == "check" or not isinstance(verdict, Told) or verdict.status:
+        outputs = ["out"] if command == "trace" else []
+        return Case([command, *files, *(["5", "out"] if outputs else [])], files, outputs, verdict)
+    if command == "paid":
+        return Case([command, *files], files, [], Paid(int(verdict.printed.split()[-1])))
+    count = random.choice((1, 30, 300))
+    units = result_path.units(elf_path.read(known.file), board_path.read(known.board), b"", count)
+    return Case([command, *files, str(count), "out"], files, ["out"], Beside(units))
 
 
 def hex_case(random: Random, seeds: Seeds) -> Case:

@@ -6,7 +6,9 @@ import board_path
 import cert_path
 import elf_path
 import hex_path
+import mix_path
 import objects_path
+import result_path
 from answers import MOST_STEPS, Among, Answer, Relinked, Run, Told
 from board_path import Board
 from elf_path import File
@@ -16,7 +18,7 @@ from regions_path import Regions
 from source_path import Source
 
 LONGEST_RUN = 3_000_000  # steps of a result that the program is to take in one call
-STATUSES = {0, 4, 5, 6, 7, 8, 10, 11, 12, 14}
+STATUSES = {0, 4, 5, 6, 7, 8, 10, 11, 12, 13, 14}
 
 
 def told(path: Callable[..., Answer], *contents: bytes) -> Answer | None:
@@ -83,14 +85,64 @@ def relink(file: bytes, text: bytes, given: bytes) -> Answer:
     return Relinked(file, board, source.energy(), runs)
 
 
+def takes_nothing(certificate: bytes) -> bool:
+    """Whether a certificate takes nothing and claims nothing, so that the verdict is known. Its fault, if it has one."""
+    claim = cert_path.read(certificate)
+    return not (claim.side or claim.taken or claim.trees)
+
+
 def check(file: bytes, text: bytes, given: bytes, certificate: bytes) -> Answer:
     """The verdict is told of a certificate that takes nothing and claims nothing."""
     board = board_path.read(text)
     source, _ = measured(file, board, given)
-    claim = cert_path.read(certificate)
-    if claim.side or claim.taken or claim.trees:
+    if not takes_nothing(certificate):
         return Among({0, 10})
     energy = source.energy()
+    return Told(0, b"best found %d\nbefore %d\nafter %d\n" % (board.nodes, energy, energy), {})
+
+
+def paid(file: bytes, text: bytes, given: bytes, certificate: bytes) -> Answer:
+    """What the file itself pays, where nothing is moved."""
+    board = board_path.read(text)
+    source, outcome = measured(file, board, given)
+    if not takes_nothing(certificate):
+        return Among({0, 10})
+    lines = f"{outcome}\nmodelled {source.energy()}\n"
+    if outcome.startswith("exited"):
+        machine = result_path.paid(elf_path.read(file), board, given, 2 * source.steps)
+        lines += f"{machine.outcome}\npaid {machine.paid}\ninward 0\n"
+    return Told(0, lines.encode(), {})
+
+
+def trace(file: bytes, text: bytes, given: bytes, certificate: bytes, count: bytes) -> Answer:
+    """The trace of a program beside its own file, where nothing is moved."""
+    board = board_path.read(text)
+    measured(file, board, given)
+    if not takes_nothing(certificate):
+        return Among({0, 10})
+    lines, ended = result_path.traced(elf_path.read(file), board, given, int(count))
+    return Told(0, f"{ended}\n".encode(), {"out": lines})
+
+
+def mixed(file: bytes, text: bytes, listed: bytes, given: bytes, outputs: tuple[bytes, ...]) -> tuple[Board, int, list[Run]]:
+    """The board, and the energy and the runs of a mix that lists one input, on some lines."""
+    lines = mix_path.read(listed, outputs)
+    assert all(name == b"input" for _, name in lines)
+    board = board_path.read(text)
+    source, outcome = measured(file, board, given)
+    run = Run(given, bytes(source.written), outcome, source.steps)
+    return board, sum(weight for weight, _ in lines) * source.energy(), [run]
+
+
+def mix(file: bytes, text: bytes, listed: bytes, given: bytes) -> Answer:
+    board, energy, runs = mixed(file, text, listed, given, (b"out", b"cert"))
+    return Relinked(file, board, energy, runs)
+
+
+def checkmix(file: bytes, text: bytes, listed: bytes, certificate: bytes, given: bytes) -> Answer:
+    board, energy, _ = mixed(file, text, listed, given, ())
+    if not takes_nothing(certificate):
+        return Among({0, 10})
     return Told(0, b"best found %d\nbefore %d\nafter %d\n" % (board.nodes, energy, energy), {})
 
 
@@ -134,4 +186,4 @@ def hexcheck(file: bytes, text: bytes) -> Answer:
 
 PATHS: dict[str, Callable[..., Answer]] = {
     "run": run, "show": show, "profile": profile, "relink": relink, "check": check, "compare": compare, "hex": hex,
-    "hexcheck": hexcheck}
+    "hexcheck": hexcheck, "paid": paid, "trace": trace, "mix": mix, "checkmix": checkmix}
