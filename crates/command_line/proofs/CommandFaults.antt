@@ -1,6 +1,6 @@
 -- The results of the commands, put together.
 use Rattle.std.proofs.Common.{inl, inr, ℕ, List, [], ◌∷◌, Some, refl, sym, subst}
-use Rattle.command_words.specs.Command.{run_command, relink_command, profile_command, compare_command, check_command, paid_command, hex_command, hex_check_command, show_command}
+use Rattle.command_words.specs.Command.{run_command, relink_command, profile_command, compare_command, check_command, paid_command, trace_command, hex_command, hex_check_command, show_command}
 use Rattle.command_faults.specs.FaultLine.{parts_of}
 use Rattle.command_line.specs.RunFile.{IsFirstCommandFault}
 use Rattle.command_line.specs.ProgramRun.{RejectsProfiled}
@@ -8,7 +8,7 @@ use Rattle.command_line.specs.Analysed.{RejectsAnalysed}
 use Rattle.command_line.specs.CompareFiles.{RejectsCompared}
 use Rattle.command_line.specs.CheckFile.{RejectsChecked}
 use Rattle.command_line.specs.PaidFile.{RejectsPaid}
-use Rattle.command_line.specs.Meaning.{RejectsInputs, RejectsFile, RejectsTexts, memory_wanting, faulty, differing, run_first, relink_first, profile_first, compare_first, check_first, paid_first, hex_first, check_fault, check_difference, show_first}
+use Rattle.command_line.specs.Meaning.{RejectsInputs, RejectsFile, RejectsTexts, memory_wanting, faulty, differing, run_first, relink_first, profile_first, compare_first, check_first, paid_first, trace_first, hex_first, check_fault, check_difference, show_first}
 use Rattle.command_line.specs.ShowFile as show
 use Rattle.command_faults.specs.declared.faults.CommandFault.{CommandFault}
 
@@ -41,6 +41,11 @@ pub paid_rejected : (board file input cert : List ℕ) (fault : CommandFault) �
     → (f b i c : List ℕ) → RejectsInputs (paid_command f b i c) (file ∷ board ∷ input ∷ cert ∷ []) fault
 paid_rejected board file input cert fault (inl e) f b i c = inl e
 paid_rejected board file input cert fault (inr tells) f b i c = inr (paid_first f b i c file board input cert refl refl tells)
+
+pub trace_rejected : (board file input cert : List ℕ) (fault : CommandFault) → RejectsPaid board file input cert fault
+    → (f b i c : List ℕ) (n : ℕ) (o : List ℕ) → RejectsInputs (trace_command f b i c n o) (file ∷ board ∷ input ∷ cert ∷ []) fault
+trace_rejected board file input cert fault (inl e) f b i c n o = inl e
+trace_rejected board file input cert fault (inr tells) f b i c n o = inr (trace_first f b i c n o file board input cert refl refl tells)
 
 pub show_rejected : (board file : List ℕ) (fault : CommandFault) → RejectsAnalysed board file fault
     → (f b : List ℕ) → RejectsInputs (show_command f b) (file ∷ board ∷ []) fault

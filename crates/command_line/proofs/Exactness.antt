@@ -13,13 +13,14 @@ use Rattle.command_line.specs.Delivery.{LosesOne}
 use Rattle.command_line.specs.Diagnostic.{PutsLine, rejected_status, rejected_line}
 use Rattle.command_line.specs.Listing.{HoldsInputs}
 use Rattle.compare_runner.specs.declared.comparing.Comparison.TheVariants.{Same}
+use Rattle.relink_core.specs.ResultFaults.{no_fault}
 use Rattle.command_line.specs.ProgramRun.{of_none}
 use Rattle.command_line.specs.ShowFile as show
 use Rattle.command_line.specs.CompareFiles.{of_comparison}
 use Rattle.command_line.specs.CheckFile.{of_certificate}
 use Rattle.command_line.specs.PaidFile.{of_result}
 use Rattle.command_line.specs.MixFile as mixed
-use Rattle.command_line.specs.Meaning.{Compares, IsFirst, run_first, relink_first, profile_first, compare_first, check_first, mix_first, check_mix_first, gen_first, hex_first, check_difference, Yields, runs, relinks, profiles, compares, checks, mixes, checks_mix, generates, writes_hex, agrees, show_first, shows, paid_first, pays}
+use Rattle.command_line.specs.Meaning.{Compares, IsFirst, run_first, relink_first, profile_first, compare_first, check_first, mix_first, check_mix_first, gen_first, hex_first, check_difference, Yields, runs, relinks, profiles, compares, checks, mixes, checks_mix, generates, writes_hex, agrees, show_first, shows, paid_first, pays, trace_first, traces}
 use Rattle.command_line.specs.Answers.{IsDone, Cause, HasCause, EndsRejected, InputFails, AnswersInputs, AnswersUsage, AnswersCommand, ReportsInputs, ReportsAll}
 use Rattle.command_line.specs.declared.diagnostic.Diagnostic.{Diagnostic}
 use Rattle.command_faults.specs.declared.faults.CommandFault.{CommandFault}
@@ -56,7 +57,9 @@ yields_first command inputs outputs text (checks f b i c file board input cert i
     check_first f b i c file board input cert is are
     (of_certificate made.board made.programme made.accepts made.states (nothing_told made.programme made.board.nodes cert text made.reports))
 yields_first command inputs outputs text (pays f b i c file board input cert is are outs made) =
-    paid_first f b i c file board input cert is are (of_result made.board made.out made.accepts made.makes (sym (ap (option_map elf_parts) made.sound)))
+    paid_first f b i c file board input cert is are (of_result made.board made.out made.accepts made.makes (no_fault made.sound) (sym (ap (option_map elf_parts) made.sound)))
+yields_first command inputs outputs text (traces f b i c n o file board input cert output is are outs made) =
+    trace_first f b i c n o file board input cert is are (of_result made.board made.result made.accepts made.makes (no_fault made.sound) (sym (ap (option_map elf_parts) made.sound)))
 yields_first command inputs outputs text (mixes f b m o c file board mix certificate out texts is are outs unbroken made) =
     mix_first f b m o c file board mix texts is are
     (mixed.of_runs unbroken (nothing_told_of_runs board file made.board (mixed.inputs_of (mix_lines mix) texts) made.programme made.accepts made.states))

@@ -17,3 +17,5 @@ pub mod MixResults
 pub mod Writings
 pub mod Comparing
 pub mod Paying
+pub mod FirstSteps
+pub mod Tracing

@@ -1,7 +1,7 @@
 -- Words spell one command, and a shelf tells one text for each name.
 use Rattle.std.proofs.Common.{◌≡◌, ℕ, List, [], ◌∷◌, codes, Option, Some, None, IfSome, if◌then◌else◌, bytes_eq, refl, sym, subst, ◌∙◌, ◌++◌}
 use Rattle.shelf_io.specs.Shelf.{ShelfView}
-use Rattle.command_words.specs.Command.{PlainCommand, run_command, relink_command, profile_command, compare_command, check_command, mix_command, check_mix_command, gen_command, hex_command, hex_check_command, Spells, IsCommand, Named, named, reads, value_of, show_command, paid_command}
+use Rattle.command_words.specs.Command.{PlainCommand, run_command, relink_command, profile_command, compare_command, check_command, mix_command, check_mix_command, gen_command, hex_command, hex_check_command, Spells, IsCommand, Named, named, reads, value_of, show_command, paid_command, trace_command}
 use Rattle.command_line.specs.Reading.{HoldsAll}
 use Rattle.command_line.specs.Listing.{listed_names, written_names, third, further_reads, HoldsInputs}
 use Rattle.command_line.specs.Answers.{ReportsAll, ReportsInputs}
@@ -29,6 +29,10 @@ check_words words = None
 abbrev paid_words : List (List ℕ) → Option PlainCommand
 paid_words (file ∷ board ∷ input ∷ cert ∷ []) = Some (paid_command file board input cert)
 paid_words words = None
+
+abbrev trace_words : List (List ℕ) → Option PlainCommand
+trace_words (file ∷ board ∷ input ∷ cert ∷ count ∷ out ∷ []) = Some (trace_command file board input cert (value_of count) out)
+trace_words words = None
 
 abbrev mix_words : List (List ℕ) → Option PlainCommand
 mix_words (file ∷ board ∷ mix ∷ out ∷ cert ∷ []) = Some (mix_command file board mix out cert)
@@ -64,6 +68,7 @@ command_in (name ∷ words) =
     else if bytes_eq name (codes "compare") then compare_words words
     else if bytes_eq name (codes "check") then check_words words
     else if bytes_eq name (codes "paid") then paid_words words
+    else if bytes_eq name (codes "trace") then trace_words words
     else if bytes_eq name (codes "mix") then mix_words words
     else if bytes_eq name (codes "checkmix") then check_mix_words words
     else if bytes_eq name (codes "show") then show_words words
@@ -79,6 +84,7 @@ spelled_is words (profile_command file board input) e = rw e refl
 spelled_is words (compare_command file relinked board input) e = rw e refl
 spelled_is words (check_command file board input cert) e = rw e refl
 spelled_is words (paid_command file board input cert) e = rw e refl
+spelled_is words (trace_command file board input cert count out) s = rw (s.spelled, s.is_count.value) refl
 spelled_is words (mix_command file board mix out cert) e = rw e refl
 spelled_is words (check_mix_command file board mix cert) e = rw e refl
 spelled_is words (show_command file board) e = rw e refl

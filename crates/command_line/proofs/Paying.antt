@@ -37,6 +37,8 @@ use Rattle.relink_core.specs.Choices.{IsAnalysisOf}
 use Rattle.printed_lines.specs.Endings.{IsAddressFault}
 use Rattle.paid_energy.specs.FlatRuns.{PaysRun}
 use Rattle.paid_energy.specs.Inward.{inward_calls, counted_inward}
+use Rattle.relink_core.proofs.KeepsLemmas.{passes}
+use Rattle.relink_core.proofs.ResultsRead.{results_are_read}
 use Rattle.paid_energy.proofs.InwardLemmas.{inward_counted}
 use Rattle.walked_energy.specs.Laws.{enough_steps, PaidIsModelled}
 use Rattle.elf_reader.specs.Faults.{first_fault}
@@ -79,7 +81,7 @@ counted_states board_text file input o m is counts =
     }
 
 -- the file that realises a choice that is accepted
-abbrev makes_of : (board_text file input cert out : List ℕ) (o : Opened) (m : MeasuredProgramme) (says : Bool) (choice : PlainChoice) → IsOpened board_text file o → CountsFor o input m
+abbrev pub makes_of : (board_text file input cert out : List ℕ) (o : Opened) (m : MeasuredProgramme) (says : Bool) (choice : PlainChoice) → IsOpened board_text file o → CountsFor o input m
     → AcceptsChoice (plain_programme m.programme) cert says choice
     → Realises file o.board o.analysis.graph o.analysis.code o.analysis.regions (taken_of (plain_programme m.programme) choice) out
     → MakesOf file o.board input cert out
@@ -104,7 +106,10 @@ pub made_rejected : (board_text file input cert : List ℕ) (o : Opened) (m : Me
     → RejectsPaid board_text file input cert fault
 made_rejected board_text file input cert o m says choice fault is counts accepted (inl memory) = inl memory
 made_rejected board_text file input cert o m says choice fault is counts accepted (inr made) =
-    inr (of_result o.board made.out is.accepts (makes_of board_text file input cert made.out o m says choice is counts accepted made.realises) made.told_is)
+    let a = o.analysis in
+    let sound = (passes file o.board is.analysed.passes).first in
+    let size = results_are_read file made.out o.board a.graph a.code a.regions (taken_of (plain_programme m.programme) choice) sound made.realises in
+    inr (of_result o.board made.out is.accepts (makes_of board_text file input cert made.out o m says choice is counts accepted made.realises) size made.told_is)
 
 -- a file that is made and isn't read
 pub elf_rejected : (file : List ℕ) (o : Opened) (p : PlainProgramme) (choice : PlainChoice) (out : List ℕ) (fault : ElfFault) → Realises file o.board o.analysis.graph o.analysis.code o.analysis.regions (taken_of p choice) out

@@ -31,7 +31,7 @@ use Rattle.command_line.specs.CompareFiles as compared
 use Rattle.command_line.specs.CheckFile.{ReportsCertificate, unspelled, answered, ReportsChecked, of_certificate}
 use Rattle.command_line.specs.CheckFile as checked
 use Rattle.command_line.specs.PaidFile.{ReportsPaid, of_check, of_result}
-use Rattle.command_line.specs.Meaning.{IsFirst, run_first, relink_first, profile_first, compare_first, check_first, mix_first, check_mix_first, gen_first, hex_first, check_fault, check_difference, show_first, paid_first}
+use Rattle.command_line.specs.Meaning.{IsFirst, run_first, relink_first, profile_first, compare_first, check_first, mix_first, check_mix_first, gen_first, hex_first, check_fault, check_difference, show_first, paid_first, trace_first}
 use Rattle.relinking.specs.MixOfRuns.{WeightedInput}
 use Rattle.command_line.specs.MixFile.{ReportsRuns, ReportsMixed, of_list, of_runs, ReportsCheckedRuns, of_inputs, ReportsMixChecked, of_checked_list, of_checked_runs}
 use Rattle.command_line.specs.MixFile as mixed
@@ -210,7 +210,7 @@ differs_least (Some at) told e =
 paid_least : (board file input text : List ℕ) (told : Parts) → ReportsPaid board file input text (Some told) → IsOfInputs told
 paid_least board file input text told (of_check parts tells e) =
     let same : parts ≡ told = cc in subst IsOfInputs same (checked_least board file input text parts tells)
-paid_least board file input text told (of_result b out accepts makes e) = told_least elf_parts elf_least (first_fault out) told (sym e)
+paid_least board file input text told (of_result b out accepts makes size e) = told_least elf_parts elf_least (first_fault out) told (sym e)
 
 pub first_least : (command : PlainCommand) (inputs : List (List ℕ)) (told : Parts)
     → IsFirst command inputs (Some told) → IsOfInputs told
@@ -225,6 +225,8 @@ first_least command inputs told (compare_first f r b i file relinked board input
 first_least command inputs told (check_first f b i c file board input text is are tells) =
     checked_least board file input text told tells
 first_least command inputs told (paid_first f b i c file board input text is are tells) =
+    paid_least board file input text told tells
+first_least command inputs told (trace_first f b i c n o file board input text is are tells) =
     paid_least board file input text told tells
 first_least command inputs told (mix_first f b m o c file board mix texts is are tells) =
     mixed_least (c ∷ o ∷ []) board file mix texts told tells

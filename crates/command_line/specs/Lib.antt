@@ -9,6 +9,7 @@ pub mod ProfileFile
 pub mod CompareFiles
 pub mod CheckFile
 pub mod PaidFile
+pub mod TraceFile
 pub mod ShowFile
 pub mod RelinkFile
 pub mod MixFile

@@ -10,7 +10,7 @@ use Rattle.hex_image.specs.Runs.{ByteMap, file_map}
 use Rattle.hex_image.specs.Text.{hex_text, hex_records}
 use Rattle.hex_image.specs.Reading as hex
 use Rattle.hex_image.specs.Difference.{IsDifference}
-use Rattle.command_words.specs.Command.{PlainCommand, run_command, relink_command, profile_command, compare_command, check_command, mix_command, check_mix_command, gen_command, hex_command, hex_check_command, show_command, paid_command}
+use Rattle.command_words.specs.Command.{PlainCommand, run_command, relink_command, profile_command, compare_command, check_command, mix_command, check_mix_command, gen_command, hex_command, hex_check_command, show_command, paid_command, trace_command}
 use Rattle.mix_text.specs.Lines.{broken_at, mix_lines}
 use Rattle.command_faults.specs.FaultLine.{Parts, elf_parts, hex_parts, differs_parts, parts_of}
 use Rattle.command_line.specs.RunFile.{RunsTo, first_command_fault}
@@ -20,6 +20,7 @@ use Rattle.command_line.specs.ProfileFile.{ProfilesTo}
 use Rattle.command_line.specs.CompareFiles.{ComparesTo, ReportsCompared}
 use Rattle.command_line.specs.CheckFile.{ChecksTo, ReportsChecked}
 use Rattle.command_line.specs.PaidFile.{PaysTo, ReportsPaid}
+use Rattle.command_line.specs.TraceFile.{TracesTo}
 use Rattle.command_line.specs.MixFile.{inputs_of, MixesTo, ChecksMixTo, ReportsMixed, ReportsMixChecked}
 use Rattle.command_line.specs.ShowFile.{ShowsTo, ReportsShown}
 use Rattle.command_faults.specs.declared.faults.CommandFault.{CommandFault}
@@ -78,6 +79,10 @@ pub data IsFirst (command : PlainCommand) (inputs : List (List ℕ)) (told : Opt
       → command ≡ paid_command file_name board_name input_name cert_name
       → inputs ≡ file ∷ board ∷ input ∷ cert ∷ [] → ReportsPaid board file input cert told
       → IsFirst command inputs told
+  trace_first : (file_name board_name input_name cert_name : List ℕ) (count : ℕ) (out_name file board input cert : List ℕ)
+      → command ≡ trace_command file_name board_name input_name cert_name count out_name
+      → inputs ≡ file ∷ board ∷ input ∷ cert ∷ [] → ReportsPaid board file input cert told
+      → IsFirst command inputs told
   mix_first : (file_name board_name mix_name out_name cert_name file board mix : List ℕ) (texts : List (List ℕ))
       → command ≡ mix_command file_name board_name mix_name out_name cert_name
       → inputs ≡ file ∷ board ∷ mix ∷ texts → ReportsMixed (cert_name ∷ out_name ∷ []) board file mix texts told
@@ -126,6 +131,10 @@ pub data Yields (command : PlainCommand) (inputs outputs : List (List ℕ)) (tex
       → command ≡ paid_command file_name board_name input_name cert_name
       → inputs ≡ file ∷ board ∷ input ∷ cert ∷ []
       → outputs ≡ [] → PaysTo file board input cert text → Yields command inputs outputs text
+  traces : (file_name board_name input_name cert_name : List ℕ) (count : ℕ) (out_name file board input cert output : List ℕ)
+      → command ≡ trace_command file_name board_name input_name cert_name count out_name
+      → inputs ≡ file ∷ board ∷ input ∷ cert ∷ [] → outputs ≡ output ∷ []
+      → TracesTo file board input cert count output text → Yields command inputs outputs text
   mixes : (file_name board_name mix_name out_name cert_name file board mix certificate out : List ℕ) (texts : List (List ℕ))
       → command ≡ mix_command file_name board_name mix_name out_name cert_name
       → inputs ≡ file ∷ board ∷ mix ∷ texts → outputs ≡ certificate ∷ out ∷ []

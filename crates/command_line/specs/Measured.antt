@@ -7,7 +7,7 @@ use Rattle.object_graph.specs.declared.parts.Graph.{Graph}
 use Rattle.relinking.specs.MeasuredRuns.{EndsSo}
 use Rattle.relinking.specs.declared.measuring.MeasuredEnd.{MeasuredEnd}
 use Rattle.command_line.specs.Analysed.{Accepts}
-use Rattle.command_words.specs.Command.{PlainCommand, run_command, relink_command, profile_command, compare_command, check_command, paid_command, gen_command, hex_command, hex_check_command, show_command}
+use Rattle.command_words.specs.Command.{PlainCommand, run_command, relink_command, profile_command, compare_command, check_command, paid_command, trace_command, gen_command, hex_command, hex_check_command, show_command}
 
 -- the program of a file, run on an input for the steps of a board, ends so
 pub record MeasuresTo (file board_text input : List ℕ) (end : MeasuredEnd) : Type 0 where
@@ -23,6 +23,7 @@ measures (relink_command file board input out cert) = true
 measures (profile_command file board input) = true
 measures (check_command file board input cert) = true
 measures (paid_command file board input cert) = true
+measures (trace_command file board input cert count out) = true
 measures command = false
 
 -- what a command tells of the run that it measures, or nothing where it measures none: a rule for each that does
@@ -38,5 +39,8 @@ pub data TellsEnd (command : PlainCommand) (inputs : List (List ℕ)) (told : Op
       → inputs ≡ file ∷ board ∷ input ∷ cert ∷ [] → told ≡ Some end → MeasuresTo file board input end → TellsEnd command inputs told
   paid_ends : (file_name board_name input_name cert_name file board input cert : List ℕ) (end : MeasuredEnd)
       → command ≡ paid_command file_name board_name input_name cert_name
+      → inputs ≡ file ∷ board ∷ input ∷ cert ∷ [] → told ≡ Some end → MeasuresTo file board input end → TellsEnd command inputs told
+  trace_ends : (file_name board_name input_name cert_name : List ℕ) (count : ℕ) (out_name file board input cert : List ℕ) (end : MeasuredEnd)
+      → command ≡ trace_command file_name board_name input_name cert_name count out_name
       → inputs ≡ file ∷ board ∷ input ∷ cert ∷ [] → told ≡ Some end → MeasuresTo file board input end → TellsEnd command inputs told
   measures_none : measures command ≡ false → told ≡ None → TellsEnd command inputs told

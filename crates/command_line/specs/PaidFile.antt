@@ -18,6 +18,7 @@ use Rattle.overlay_candidates.specs.Whole.{taken_of as names_taken}
 use Rattle.result_setups.specs.HomeLaws.{file_start}
 use Rattle.relink_core.specs.Choices.{KeepsMeaning}
 use Rattle.relink_core.specs.Placed.{taken_of, Realises}
+use Rattle.relink_core.specs.ResultFaults.{IsOfSize}
 use Rattle.relink_core.specs.Walks.{WalksBeside}
 use Rattle.relinking.specs.ProgrammeOfRun.{CountsProgramme}
 use Rattle.relinking.specs.declared.stating.MeasuredProgramme.{MeasuredProgramme}
@@ -103,11 +104,12 @@ pub record PaysTo (file board_text input cert text : List ℕ) : Type 0 where
   pub lines : WhereExited makes.states.states.last.outcome (Pays file board input cert out makes modelled) behind
   pub text_is : text ≡ modelled_text makes.states.states.last.outcome modelled ++ behind
 
--- what is told of the first fault, if there is one: those that `check` tells come before that of the file that is made
+-- what is told of the first fault, if there is one: those that `check` tells come before that of the file that is made,
+-- which is of its size
 pub data ReportsPaid (board_text file input cert : List ℕ) (told : Option Parts) : Type 0 where
   of_check : (parts : Parts) → ReportsChecked board_text file input cert (Some parts) → told ≡ Some parts
       → ReportsPaid board_text file input cert told
-  of_result : (board : Board) (out : List ℕ) → Accepts board_text file board → MakesOf file board input cert out
+  of_result : (board : Board) (out : List ℕ) → Accepts board_text file board → MakesOf file board input cert out → IsOfSize (first_fault out)
       → told ≡ option_map elf_parts (first_fault out) → ReportsPaid board_text file input cert told
 
 -- a computation on the inputs was rejected: for want of memory, or by the first fault

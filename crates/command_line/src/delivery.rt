@@ -53,7 +53,7 @@ pub struct PreparedResult<'a> {
 }
 
 impl<'a> PreparedResult<'a> {
-    ghost use Rattle.std.specs.Prelude.{◌≡◌, ◌∷◌, [], None, IfOk};
+    ghost use Rattle.std.specs.Prelude.{◌≡◌, ◌∷◌, [], IfOk};
     ghost use Rattle.command_words.specs.Command.{named};
     ghost use Rattle.command_line.specs.Delivery.{ArePrepared};
     ghost use Rattle.command_line.specs.Diagnostic.{IsDiagnosticOf};
@@ -86,11 +86,12 @@ impl<'a> PreparedResult<'a> {
         name: &'a str,
         bytes: Vec<u8>,
         text: Vec<u8>,
+        measured: Option<MeasuredEnd>,
     ) -> Result<PreparedResult<'a>, AllocError>
         ensures outputs { IfOk result (λ prepared. ArePrepared (named place name.now ∷ []) (bytes.items ∷ []) prepared.outputs.items) }
         ensures text { IfOk result (λ prepared. prepared.text ≡ text) }
         ensures print_fault { IfOk result (λ prepared. IsDiagnosticOf (command_fault.Write 0) prepared.print_fault) }
-        ensures measured { IfOk result (λ prepared. prepared.measured ≡ None) }
+        ensures measured { IfOk result (λ prepared. prepared.measured ≡ measured) }
     {
         let output = Output::new(alloc, place, name, bytes)?;
         let print_fault = Diagnostic::try_new(alloc, &CommandFault::Write { place: 0 })?;
@@ -99,7 +100,7 @@ impl<'a> PreparedResult<'a> {
             outputs,
             text,
             print_fault,
-            measured: None,
+            measured,
         })
     }
 

@@ -25,5 +25,6 @@ mod results;
 mod run_file;
 mod show_file;
 mod top;
+mod trace_file;
 
 pub use top::{CommandOutcome, run, run_command};

@@ -1,5 +1,5 @@
 ghost use Rattle.std.specs.Prelude.{◌≡◌, [], ◌≤◌, ℕ, List, IfOk, IfErr, length, string_bytes, ◌∷◌};
-ghost use Rattle.command_words.specs.Command.{HasNumbers, plain_command, reads, run_command, relink_command, profile_command, compare_command, check_command, gen_command, hex_command, hex_check_command, show_command, paid_command};
+ghost use Rattle.command_words.specs.Command.{HasNumbers, plain_command, reads, run_command, relink_command, profile_command, compare_command, check_command, gen_command, hex_command, hex_check_command, show_command, paid_command, trace_command};
 ghost use Rattle.command_line.specs.Reading.{contents};
 ghost use Rattle.command_line.specs.Meaning.{RejectsInputs, kernels_text};
 ghost use Rattle.command_line.specs.Performing.{IsPreparedFor, IsPreparedOf, RejectsPreparingOf};
@@ -14,6 +14,7 @@ use crate::profile_file::profile_file;
 use crate::relink_file::relink_file;
 use crate::run_file::run_file;
 use crate::show_file::show_file;
+use crate::trace_file::trace_file;
 use command_faults::CommandFault;
 use command_words::Command;
 use shelf_io::Shelf;
@@ -57,6 +58,10 @@ pub fn prepare_result<'a, S: Shelf>(
             Ok(prepared) => Ok(prepared),
             Err(fault) => Err(fault),
         },
+        Command::Trace { count, out, .. } => match prepare_trace(alloc, count, out, texts) {
+            Ok(prepared) => Ok(prepared),
+            Err(fault) => Err(fault),
+        },
         Command::Mix { out, cert, .. } => match prepare_mix(alloc, out, cert, texts, shelf) {
             Ok(prepared) => Ok(prepared),
             Err(fault) => Err(fault),
@@ -96,7 +101,10 @@ fn prepare_run<'a>(
         → RejectsInputs (run_command f b i out.now) (contents texts.now) fault) }
 {
     match run_file(alloc, &texts[0], &texts[1], &texts[2]) {
-        Ok(run) => Ok(PreparedResult::written(alloc, 4, out, run.output, run.line.into_bytes())?),
+        Ok(run) => {
+            let line = run.line.into_bytes();
+            Ok(PreparedResult::written(alloc, 4, out, run.output, line, None)?)
+        }
         Err(fault) => Err(fault),
     }
 }
@@ -176,6 +184,28 @@ fn prepare_paid<'a>(alloc: Global, texts: &[Vec<u8>]) -> Result<PreparedResult<'
     }
 }
 
+fn prepare_trace<'a>(
+    alloc: Global,
+    count: u32,
+    out: &'a str,
+    texts: &[Vec<u8>],
+) -> Result<PreparedResult<'a>, CommandFault>
+    requires { length texts.now ≡ 4 }
+    ensures ok { IfOk result (λ prepared. (f b i c : List ℕ)
+        → IsPreparedFor (trace_command f b i c count out.now) (contents texts.now) prepared) }
+    ensures err { IfErr result (λ fault. (f b i c : List ℕ)
+        → RejectsInputs (trace_command f b i c count out.now) (contents texts.now) fault) }
+{
+    match trace_file(alloc, &texts[0], &texts[1], &texts[2], &texts[3], count) {
+        Ok(traced) => {
+            let line = traced.line.into_bytes();
+            let end = Some(traced.end);
+            Ok(PreparedResult::written(alloc, 6, out, traced.text, line, end)?)
+        }
+        Err(fault) => Err(fault),
+    }
+}
+
 fn prepare_show<'a>(alloc: Global, texts: &[Vec<u8>]) -> Result<PreparedResult<'a>, CommandFault>
     requires { length texts.now ≡ 2 }
     ensures ok { IfOk result (λ prepared. (f b : List ℕ)
@@ -202,7 +232,7 @@ fn prepare_gen<'a>(
 {
     let file = workload(alloc, seed, kernels)?;
     let text = kernels_line(alloc, kernels)?;
-    Ok(PreparedResult::written(alloc, 3, out, file, text.into_bytes())?)
+    Ok(PreparedResult::written(alloc, 3, out, file, text.into_bytes(), None)?)
 }
 
 /// The line that tells how many kernels a generated file has.
@@ -224,7 +254,10 @@ fn prepare_hex<'a>(
         → RejectsInputs (hex_command f out.now) (contents texts.now) fault) }
 {
     match hex_file(alloc, &texts[0]) {
-        Ok(hex) => Ok(PreparedResult::written(alloc, 2, out, hex.text, hex.line.into_bytes())?),
+        Ok(hex) => {
+            let line = hex.line.into_bytes();
+            Ok(PreparedResult::written(alloc, 2, out, hex.text, line, None)?)
+        }
         Err(fault) => Err(fault),
     }
 }

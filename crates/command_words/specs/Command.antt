@@ -32,11 +32,11 @@ value_from before (digit ∷ digits) = value_from (10 * before + (digit - 48)) d
 abbrev pub value_of : List ℕ → ℕ
 value_of digits = value_from 0 digits
 
--- a word of 1 to 10 digits that spells a number from `low` to `high`
-pub record IsNumber (low high : ℕ) (word : List ℕ) (number : ℕ) : Type 0 where
+-- a word of 1 to `width` digits that spells a number from `low` to `high`
+pub record IsNumber (width low high : ℕ) (word : List ℕ) (number : ℕ) : Type 0 where
   pub digits : All IsDigit word
   pub some : 1 ≤ length word
-  pub few : length word ≤ 10
+  pub few : length word ≤ width
   pub value : number ≡ value_of word
   pub least : low ≤ number
   pub most : number ≤ high
@@ -49,6 +49,7 @@ pub data PlainCommand : Type 0 where
   compare_command : (file relinked board input : List ℕ) → PlainCommand
   check_command : (file board input cert : List ℕ) → PlainCommand
   paid_command : (file board input cert : List ℕ) → PlainCommand
+  trace_command : (file board input cert : List ℕ) (count : ℕ) (out : List ℕ) → PlainCommand
   mix_command : (file board mix out cert : List ℕ) → PlainCommand
   check_mix_command : (file board mix cert : List ℕ) → PlainCommand
   show_command : (file board : List ℕ) → PlainCommand
@@ -61,13 +62,19 @@ pub record SpellsGen (words : List (List ℕ)) (seed kernels : ℕ) (out : List 
   pub seed_word : List ℕ
   pub kernels_word : List ℕ
   pub spelled : words ≡ codes "gen" ∷ seed_word ∷ kernels_word ∷ out ∷ []
-  pub is_seed : IsNumber 0 4294967295 seed_word seed
-  pub is_kernels : IsNumber 1 64 kernels_word kernels
+  pub is_seed : IsNumber 10 0 4294967295 seed_word seed
+  pub is_kernels : IsNumber 10 1 64 kernels_word kernels
+
+-- `trace FILE BOARD INPUT CERT COUNT OUT`: a count of steps, 1 to 100000, in at most six digits
+pub record SpellsTrace (words : List (List ℕ)) (file board input cert : List ℕ) (count : ℕ) (out : List ℕ) : Type 0 where
+  pub count_word : List ℕ
+  pub spelled : words ≡ codes "trace" ∷ file ∷ board ∷ input ∷ cert ∷ count_word ∷ out ∷ []
+  pub is_count : IsNumber 6 1 100000 count_word count
 
 -- the words of a command: `run FILE BOARD INPUT OUT`, `relink FILE BOARD INPUT OUT CERT`,
 -- `profile FILE BOARD INPUT`, `compare FILE RESULT BOARD INPUT`, `check FILE BOARD INPUT CERT`,
--- `paid FILE BOARD INPUT CERT`, `mix FILE BOARD MIX OUT CERT`, `checkmix FILE BOARD MIX CERT`, `show FILE BOARD`,
--- `gen SEED KERNELS OUT`, `hex FILE OUT`, `hexcheck FILE HEX`
+-- `paid FILE BOARD INPUT CERT`, `trace FILE BOARD INPUT CERT COUNT OUT`, `mix FILE BOARD MIX OUT CERT`,
+-- `checkmix FILE BOARD MIX CERT`, `show FILE BOARD`, `gen SEED KERNELS OUT`, `hex FILE OUT`, `hexcheck FILE HEX`
 abbrev pub Spells : List (List ℕ) → PlainCommand → Type 0
 Spells words (run_command file board input out) = words ≡ codes "run" ∷ file ∷ board ∷ input ∷ out ∷ []
 Spells words (relink_command file board input out cert) =
@@ -79,6 +86,7 @@ Spells words (check_command file board input cert) =
     words ≡ codes "check" ∷ file ∷ board ∷ input ∷ cert ∷ []
 Spells words (paid_command file board input cert) =
     words ≡ codes "paid" ∷ file ∷ board ∷ input ∷ cert ∷ []
+Spells words (trace_command file board input cert count out) = SpellsTrace words file board input cert count out
 Spells words (mix_command file board mix out cert) =
     words ≡ codes "mix" ∷ file ∷ board ∷ mix ∷ out ∷ cert ∷ []
 Spells words (check_mix_command file board mix cert) =
@@ -99,6 +107,7 @@ pub record SpellsNoRun (words : List (List ℕ)) : Type 0 where
 pub record SpellsNoCertified (words : List (List ℕ)) : Type 0 where
   pub check : (f b i c : List ℕ) → Spells words (check_command f b i c) → ⊥
   pub paid : (f b i c : List ℕ) → Spells words (paid_command f b i c) → ⊥
+  pub trace : (f b i c : List ℕ) (n : ℕ) (o : List ℕ) → Spells words (trace_command f b i c n o) → ⊥
 
 -- none of several runs
 pub record SpellsNoMix (words : List (List ℕ)) : Type 0 where
@@ -130,6 +139,8 @@ reads (check_command file board input cert) =
     named 1 file ∷ named 2 board ∷ named 3 input ∷ named 4 cert ∷ []
 reads (paid_command file board input cert) =
     named 1 file ∷ named 2 board ∷ named 3 input ∷ named 4 cert ∷ []
+reads (trace_command file board input cert count out) =
+    named 1 file ∷ named 2 board ∷ named 3 input ∷ named 4 cert ∷ []
 reads (mix_command file board mix out cert) = named 1 file ∷ named 2 board ∷ named 3 mix ∷ []
 reads (check_mix_command file board mix cert) =
     named 1 file ∷ named 2 board ∷ named 3 mix ∷ named 4 cert ∷ []
@@ -146,6 +157,7 @@ writes (profile_command file board input) = []
 writes (compare_command file relinked board input) = []
 writes (check_command file board input cert) = []
 writes (paid_command file board input cert) = []
+writes (trace_command file board input cert count out) = named 6 out ∷ []
 writes (mix_command file board mix out cert) = named 5 cert ∷ named 4 out ∷ []
 writes (check_mix_command file board mix cert) = []
 writes (show_command file board) = []
@@ -181,6 +193,7 @@ HasNumbers (profile_command file board input) = Unit
 HasNumbers (compare_command file relinked board input) = Unit
 HasNumbers (check_command file board input cert) = Unit
 HasNumbers (paid_command file board input cert) = Unit
+HasNumbers (trace_command file board input cert count out) = (1 ≤ count) × (count ≤ 100000)
 HasNumbers (mix_command file board mix out cert) = Unit
 HasNumbers (check_mix_command file board mix cert) = Unit
 HasNumbers (show_command file board) = Unit
@@ -198,6 +211,8 @@ plain_command (code.Compare file relinked board input) =
     compare_command file.now relinked.now board.now input.now
 plain_command (code.Check file board input cert) = check_command file.now board.now input.now cert.now
 plain_command (code.Paid file board input cert) = paid_command file.now board.now input.now cert.now
+plain_command (code.Trace file board input cert count out) =
+    trace_command file.now board.now input.now cert.now count out.now
 plain_command (code.Mix file board mix out cert) = mix_command file.now board.now mix.now out.now cert.now
 plain_command (code.CheckMix file board mix cert) = check_mix_command file.now board.now mix.now cert.now
 plain_command (code.Show file board) = show_command file.now board.now

@@ -42,6 +42,14 @@ pub enum Command<'a> {
         input: &'a str,
         cert: &'a str,
     },
+    Trace {
+        file: &'a str,
+        board: &'a str,
+        input: &'a str,
+        cert: &'a str,
+        count: u32,
+        out: &'a str,
+    },
     Mix {
         file: &'a str,
         board: &'a str,
@@ -131,6 +139,13 @@ impl<'a> Command<'a> {
                 board,
                 input,
                 cert,
+            }
+            | Command::Trace {
+                file,
+                board,
+                input,
+                cert,
+                ..
             } => four_names(alloc, file, board, input, cert),
             Command::Mix {
                 file,

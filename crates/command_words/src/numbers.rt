@@ -1,14 +1,15 @@
 ghost use Rattle.std.specs.Prelude.{◌≡◌, ◌≤◌, ◌↔◌, ℕ, IsTrue, MatchOption, All, length};
 ghost use Rattle.command_words.specs.Command.{IsDigit, value_of, IsNumber};
 
-/// The number that a word of 1 to 10 digits spells, where it is from `low` to `high`.
-pub fn parse_number(word: &str, low: u32, high: u32) -> Option<u32>
+/// The number that a word of 1 to `width` digits spells, where it is from `low` to `high`.
+pub fn parse_number(word: &str, width: usize, low: u32, high: u32) -> Option<u32>
+    requires few { width ≤ 10 }
     ensures { MatchOption result
-        ((number : ℕ) → IsNumber low high word.now number → ⊥)
-        (λ number. IsNumber low high word.now number) }
+        ((number : ℕ) → IsNumber width low high word.now number → ⊥)
+        (λ number. IsNumber width low high word.now number) }
 {
     let digits = word.as_bytes();
-    if digits.is_empty() || digits.len() > 10 || !are_digits(digits) {
+    if digits.is_empty() || digits.len() > width || !are_digits(digits) {
         return None;
     }
     let value = digits_value(digits);

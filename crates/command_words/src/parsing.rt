@@ -1,9 +1,9 @@
 ghost use Rattle.std.specs.Prelude.{◌≢◌, ◌↔◌, ℕ, List, IsTrue, MatchOption, All};
-ghost use Rattle.command_words.specs.Command.{texts, IsName, IsNameWord, AreNames, PlainCommand, Spells, SpellsGen, SpellsNoRun, SpellsNoCertified, SpellsNoMix, SpellsNoOther, IsDisjoint, IsCommand, plain_command};
+ghost use Rattle.command_words.specs.Command.{texts, IsName, IsNameWord, AreNames, PlainCommand, Spells, SpellsGen, SpellsTrace, SpellsNoRun, SpellsNoCertified, SpellsNoMix, SpellsNoOther, IsDisjoint, IsCommand, plain_command};
 
 use crate::commands::Command;
 use crate::numbers::parse_number;
-use crate::word_lists::{five_words, four_words, three_words, two_words};
+use crate::word_lists::{five_words, four_words, six_words, three_words, two_words};
 
 /// The command that the words are, or `None` exactly where they are none.
 pub fn parse(words: &[String]) -> Option<Command<'_>>
@@ -99,7 +99,28 @@ fn spelled_certified(words: &[String]) -> Option<Command<'_>>
             cert,
         });
     }
-    None
+    match spelled_trace(words) {
+        Some(command) => Some(command),
+        None => None,
+    }
+}
+
+/// `trace FILE BOARD INPUT CERT COUNT OUT`, if the words are that.
+fn spelled_trace(words: &[String]) -> Option<Command<'_>>
+    ensures { MatchOption result
+        ((f b i c : List ℕ) (n : ℕ) (o : List ℕ) → SpellsTrace (texts words.now) f b i c n o → ⊥)
+        (λ command. Spells (texts words.now) (plain_command command)) }
+{
+    let (file, board, input, cert, count, out) = six_words(words, "trace")?;
+    let count = parse_number(count, 6, 1, 100_000)?;
+    Some(Command::Trace {
+        file,
+        board,
+        input,
+        cert,
+        count,
+        out,
+    })
 }
 
 /// The command that the words spell, of those of several runs.
@@ -153,8 +174,8 @@ fn spelled_gen(words: &[String]) -> Option<Command<'_>>
         (λ command. Spells (texts words.now) (plain_command command)) }
 {
     let (seed, kernels, out) = three_words(words, "gen")?;
-    let seed = parse_number(seed, 0, u32::MAX)?;
-    let kernels = parse_number(kernels, 1, 64)?;
+    let seed = parse_number(seed, 10, 0, u32::MAX)?;
+    let kernels = parse_number(kernels, 10, 1, 64)?;
     Some(Command::Gen { seed, kernels, out })
 }
 
@@ -202,6 +223,14 @@ fn is_disjoint(command: &Command<'_>) -> bool
         Command::Compare { .. } => true,
         Command::Check { .. } => true,
         Command::Paid { .. } => true,
+        Command::Trace {
+            file,
+            board,
+            input,
+            cert,
+            out,
+            ..
+        } => is_new(out, file, board, input) && cert != out,
         Command::Mix {
             file,
             board,

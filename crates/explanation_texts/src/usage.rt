@@ -25,9 +25,11 @@ pub struct Command {
     pub reads: usize,
     /// The places of what it writes, in this order.
     pub writes: &'static [usize],
+    /// What its numbers may be; empty where it has none.
+    numbers: &'static str,
 }
 
-const COMMANDS: [Command; 12] = [
+const COMMANDS: [Command; 13] = [
     Command {
         word: "run",
         operands: "FILE BOARD INPUT OUT",
@@ -41,6 +43,7 @@ const COMMANDS: [Command; 12] = [
         beside: None,
         reads: 3,
         writes: &[4],
+        numbers: "",
     },
     Command {
         word: "relink",
@@ -55,6 +58,7 @@ const COMMANDS: [Command; 12] = [
         beside: None,
         reads: 3,
         writes: &[5, 4],
+        numbers: "",
     },
     Command {
         word: "profile",
@@ -69,6 +73,7 @@ const COMMANDS: [Command; 12] = [
         beside: None,
         reads: 3,
         writes: &[],
+        numbers: "",
     },
     Command {
         word: "compare",
@@ -83,6 +88,7 @@ const COMMANDS: [Command; 12] = [
         beside: Some(2),
         reads: 4,
         writes: &[],
+        numbers: "",
     },
     Command {
         word: "check",
@@ -97,6 +103,7 @@ const COMMANDS: [Command; 12] = [
         beside: None,
         reads: 4,
         writes: &[],
+        numbers: "",
     },
     Command {
         word: "paid",
@@ -111,6 +118,22 @@ const COMMANDS: [Command; 12] = [
         beside: None,
         reads: 4,
         writes: &[],
+        numbers: "",
+    },
+    Command {
+        word: "trace",
+        operands: "FILE BOARD INPUT CERT COUNT OUT",
+        purpose: "writes under OUT how FILE and its result run step by step",
+        file: Some(1),
+        board: Some(2),
+        analyses: true,
+        input: Some(3),
+        mix: None,
+        result: None,
+        beside: None,
+        reads: 4,
+        writes: &[6],
+        numbers: "COUNT is a number of 1 to 6 digits from 1 to 100000",
     },
     Command {
         word: "mix",
@@ -125,6 +148,7 @@ const COMMANDS: [Command; 12] = [
         beside: None,
         reads: 3,
         writes: &[5, 4],
+        numbers: "",
     },
     Command {
         word: "checkmix",
@@ -139,6 +163,7 @@ const COMMANDS: [Command; 12] = [
         beside: None,
         reads: 4,
         writes: &[],
+        numbers: "",
     },
     Command {
         word: "show",
@@ -153,6 +178,7 @@ const COMMANDS: [Command; 12] = [
         beside: None,
         reads: 2,
         writes: &[],
+        numbers: "",
     },
     Command {
         word: "gen",
@@ -167,6 +193,7 @@ const COMMANDS: [Command; 12] = [
         beside: None,
         reads: 0,
         writes: &[3],
+        numbers: "SEED is a number of 1 to 10 digits below 2^32, and KERNELS is one from 1 to 64",
     },
     Command {
         word: "hex",
@@ -181,6 +208,7 @@ const COMMANDS: [Command; 12] = [
         beside: None,
         reads: 1,
         writes: &[2],
+        numbers: "",
     },
     Command {
         word: "hexcheck",
@@ -195,6 +223,7 @@ const COMMANDS: [Command; 12] = [
         beside: None,
         reads: 2,
         writes: &[],
+        numbers: "",
     },
 ];
 
@@ -314,12 +343,23 @@ fn say_count(notes: &mut Notes, command: &Command, words: &[String]) -> Result<(
             Piece::Number(given),
         ]);
     }
-    match command.file {
-        Some(_) => say_repeated(notes, words),
-        None => notes.say_words(
-            "SEED is a number of 1 to 10 digits below 2^32, and KERNELS is one from 1 to 64",
+    match repeated(command, words) {
+        Some((place, word)) => say_word(
+            notes,
+            place,
+            word,
+            "has the name of another word, and what is written needs a name of its own",
         ),
+        None => say_numbers(notes, command),
     }
+}
+
+/// What the numbers of a command may be.
+fn say_numbers(notes: &mut Notes, command: &Command) -> Result<(), AllocError> {
+    if command.numbers.is_empty() {
+        return Ok(());
+    }
+    notes.say_words(command.numbers)
 }
 
 fn fault_of_name(word: &str) -> Option<&'static str> {
@@ -357,28 +397,29 @@ fn count_words(operands: &str) -> u64 {
     count
 }
 
-/// A name that is written and that another word has, too. Names that are written come last.
-fn say_repeated(notes: &mut Notes, words: &[String]) -> Result<(), AllocError> {
-    for place in 1..words.len() {
-        if let Some(other) = repeated(words, words.len() - place) {
-            return say_word(
-                notes,
-                words.len() - place,
-                other,
-                "has the name of another word, and what is written needs a name of its own",
-            );
-        }
-    }
-    Ok(())
-}
-
-/// The word at `place`, if one of the words before it is the same.
-fn repeated(words: &[String], place: usize) -> Option<&str> {
-    let word = words.get(place)?.as_str();
-    for earlier in words.iter().take(place).skip(1) {
-        if earlier.as_str() == word {
-            return Some(word);
+/// A name that is written and that another word has, too, and its place.
+fn repeated<'a>(command: &Command, words: &'a [String]) -> Option<(usize, &'a str)> {
+    for place in command.writes {
+        if let Some(word) = words.get(*place) {
+            if is_named_twice(command, words, *place, word.as_str()) {
+                return Some((*place, word.as_str()));
+            }
         }
     }
     None
+}
+
+/// Whether a name is that of another word than the one at `place`.
+fn is_named_twice(command: &Command, words: &[String], place: usize, name: &str) -> bool {
+    for (other, word) in words.iter().enumerate() {
+        if other != place && is_name(command, other) && word.as_str() == name {
+            return true;
+        }
+    }
+    false
+}
+
+/// Whether the word at a place names what the command reads or writes.
+fn is_name(command: &Command, place: usize) -> bool {
+    (place != 0 && place <= command.reads) || command.writes.contains(&place)
 }

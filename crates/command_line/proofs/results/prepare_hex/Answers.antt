@@ -12,7 +12,7 @@ returns-in_ok-written-in-Ok-clause-ok c f =
     let made = c.in-Ok.ensures in
     record {
       outputs = c.in-Ok.hex.text.items ∷ [];
-      yields = rw (c.in_ok-written-in-Ok.ensures.text, c.into_bytes.ensures.value) (writes_hex f _ _ refl (sym are) made.sound (ap (λ bytes. bytes ∷ []) made.text) made.line);
+      yields = rw (c.in_ok-written-in-Ok.ensures.text, c.into_bytes-line.ensures.value) (writes_hex f _ _ refl (sym are) made.sound (ap (λ bytes. bytes ∷ []) made.text) made.line);
       prepared_outputs = c.in_ok-written-in-Ok.ensures.outputs;
       print_fault = c.in_ok-written-in-Ok.ensures.print_fault;
       measured = measures_none refl c.in_ok-written-in-Ok.ensures.measured;

@@ -41,6 +41,12 @@ returns-in-Ok-prepare_paid-clause-ok g c = rw c.in-Paid.is (unlisted _ _ _ _ ref
 pub returns-in-Err-prepare_paid-clause-err : goal.returns-in-Err-prepare_paid-clause-err
 returns-in-Err-prepare_paid-clause-err g c = rw c.in-Paid.is (unlisted_fails _ _ _ _ refl (c.in-Err-prepare_paid.ensures.err c.in-Paid.file.now c.in-Paid.board.now c.in-Paid.input.now c.in-Paid.cert.now))
 
+pub returns-in-Ok-prepare_trace-clause-ok : goal.returns-in-Ok-prepare_trace-clause-ok
+returns-in-Ok-prepare_trace-clause-ok g c = rw c.in-Trace.is (unlisted _ _ _ _ refl (c.in-Ok-prepare_trace.ensures.ok c.in-Trace.file.now c.in-Trace.board.now c.in-Trace.input.now c.in-Trace.cert.now))
+
+pub returns-in-Err-prepare_trace-clause-err : goal.returns-in-Err-prepare_trace-clause-err
+returns-in-Err-prepare_trace-clause-err g c = rw c.in-Trace.is (unlisted_fails _ _ _ _ refl (c.in-Err-prepare_trace.ensures.err c.in-Trace.file.now c.in-Trace.board.now c.in-Trace.input.now c.in-Trace.cert.now))
+
 pub returns-in-Ok-prepare_show-clause-ok : goal.returns-in-Ok-prepare_show-clause-ok
 returns-in-Ok-prepare_show-clause-ok g c = rw c.in-Show.is (unlisted _ _ _ _ refl (c.in-Ok-prepare_show.ensures.ok c.in-Show.file.now c.in-Show.board.now))
 

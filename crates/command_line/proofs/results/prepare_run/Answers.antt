@@ -11,7 +11,7 @@ returns-in_ok-written-in-Ok-clause-ok c f b i =
     let are = contents_of_three c.args.texts.now c.index-texts-0.result c.index-texts-1.result c.index-texts-2.result _ _ _ c.requires c.index-texts-0.is c.index-texts-1.is c.index-texts-2.is c.deref.ensures.value c.deref-2.ensures.value c.deref-3.ensures.value in
     record {
       outputs = c.in-Ok.run'.output.items ∷ [];
-      yields = rw (c.in_ok-written-in-Ok.ensures.text, c.into_bytes.ensures.value) (runs f b i _ _ _ _ _ refl (sym are) refl c.in-Ok.ensures.ok);
+      yields = rw (c.in_ok-written-in-Ok.ensures.text, c.into_bytes-line.ensures.value) (runs f b i _ _ _ _ _ refl (sym are) refl c.in-Ok.ensures.ok);
       prepared_outputs = c.in_ok-written-in-Ok.ensures.outputs;
       print_fault = c.in_ok-written-in-Ok.ensures.print_fault;
       measured = measures_none refl c.in_ok-written-in-Ok.ensures.measured;
