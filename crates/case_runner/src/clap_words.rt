@@ -5,13 +5,14 @@ use std::alloc::Global;
 
 /// The commands as `clap` has them: subcommands with required positional words.
 fn commands<'a>(alloc: Global) -> Result<Command<'a>, Error> {
-    let all: [(&'static str, &'static [&'static str]); 12] = [
+    let all: [(&'static str, &'static [&'static str]); 13] = [
         ("run", &["FILE", "BOARD", "INPUT", "OUT"]),
         ("relink", &["FILE", "BOARD", "INPUT", "OUT", "CERT"]),
         ("profile", &["FILE", "BOARD", "INPUT"]),
         ("compare", &["FILE", "RESULT", "BOARD", "INPUT"]),
         ("check", &["FILE", "BOARD", "INPUT", "CERT"]),
         ("paid", &["FILE", "BOARD", "INPUT", "CERT"]),
+        ("trace", &["FILE", "BOARD", "INPUT", "CERT", "COUNT", "OUT"]),
         ("mix", &["FILE", "BOARD", "MIX", "OUT", "CERT"]),
         ("checkmix", &["FILE", "BOARD", "MIX", "CERT"]),
         ("show", &["FILE", "BOARD"]),
