@@ -1,5 +1,5 @@
 -- From a command to the words of the command line.
-use Rattle.std.proofs.Common.{◌≡◌, inl, inr, ℕ, List, refl, subst, sym, ap, arith}
+use Rattle.std.proofs.Common.{◌≡◌, inl, inr, ℕ, List, refl, subst, sym, arith}
 use Rattle.shelf_io.specs.Shelf.{ShelfView}
 use Rattle.shelf_io.specs.Sink.{SinkView}
 use Rattle.command_words.specs.Command.{PlainCommand, IsCommand}

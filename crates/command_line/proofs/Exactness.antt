@@ -6,7 +6,7 @@ use Rattle.shelf_io.specs.Sink.{SinkView}
 use Rattle.elf_reader.specs.File.{entry_of, load_segments}
 use Rattle.hex_image.specs.Runs.{file_map}
 use Rattle.hex_image.specs.Reading as hex
-use Rattle.command_words.specs.Command.{PlainCommand, IsCommand, Named, reads}
+use Rattle.command_words.specs.Command.{PlainCommand, IsCommand, Named}
 use Rattle.mix_text.specs.Lines.{mix_lines}
 use Rattle.command_faults.specs.FaultLine.{Parts, status_of, fault_line, parts_of, elf_parts}
 use Rattle.command_line.specs.Delivery.{LosesOne}
@@ -21,7 +21,7 @@ use Rattle.command_line.specs.CheckFile.{of_certificate}
 use Rattle.command_line.specs.PaidFile.{of_result}
 use Rattle.command_line.specs.MixFile as mixed
 use Rattle.command_line.specs.Meaning.{Compares, IsFirst, run_first, relink_first, profile_first, compare_first, check_first, mix_first, check_mix_first, gen_first, hex_first, check_difference, Yields, runs, relinks, profiles, compares, checks, mixes, checks_mix, generates, writes_hex, agrees, show_first, shows, paid_first, pays, trace_first, traces}
-use Rattle.command_line.specs.Answers.{IsDone, Cause, HasCause, EndsRejected, InputFails, AnswersInputs, AnswersUsage, AnswersCommand, ReportsInputs, ReportsAll}
+use Rattle.command_line.specs.Answers.{IsDone, Cause, HasCause, EndsRejected, InputFails, AnswersInputs, AnswersUsage, AnswersCommand, ReportsInputs}
 use Rattle.command_line.specs.declared.diagnostic.Diagnostic.{Diagnostic}
 use Rattle.command_faults.specs.declared.faults.CommandFault.{CommandFault}
 use Rattle.command_faults.specs.declared.faults.CommandFault.TheVariants as command_fault

@@ -1,6 +1,6 @@
 -- The first steps of a run that meets no address fault.
-use Rattle.std.proofs.Common.{◌≡◌, ◌∙◌, inl, inr, ℕ, zero, suc, ◌≤◌, min, List, [], ◌∷◌, length, take, Option, refl, sym, ap, subst, arith}
-use Rattle.std.proofs.Math.Nat.{min-le_right, min-eq_left, min-eq_right}
+use Rattle.std.proofs.Common.{◌≡◌, ◌∙◌, inl, inr, ℕ, zero, suc, ◌≤◌, min, List, [], length, take, refl, sym, ap, subst, arith}
+use Rattle.std.proofs.Math.Nat.{min-eq_left, min-eq_right}
 use Rattle.std.proofs.lemmas.Bool.{cases_lt}
 use Rattle.std.proofs.lemmas.List.{length-take}
 use Rattle.object_machine.specs.declared.events.Outcome.{Outcome}
@@ -9,7 +9,7 @@ use Rattle.object_machine.specs.Program.{Program}
 use Rattle.object_machine.specs.State.{SourceState}
 use Rattle.object_machine.specs.Step.{next_state}
 use Rattle.profile_runner.specs.Transition.{Transition}
-use Rattle.profile_runner.specs.Transitions.{transition_of, Transitions, TransitionsFrom}
+use Rattle.profile_runner.specs.Transitions.{Transitions, TransitionsFrom}
 use Rattle.placed_results.specs.Walks.{IsNoFault}
 use Rattle.printed_lines.specs.Endings.{IsAddressFault}
 

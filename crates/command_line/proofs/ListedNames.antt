@@ -1,9 +1,9 @@
 -- Names that a text lists, which are read behind those of the words.
-use Rattle.std.proofs.Common.{◌≡◌, inl, inr, ℕ, suc, List, [], ◌∷◌, ◌++◌, length, map, Some, None, refl, sym, subst, ap, ◌∙◌, append-nil}
+use Rattle.std.proofs.Common.{◌≡◌, inl, inr, ℕ, suc, List, [], ◌∷◌, ◌++◌, length, map, None, refl, sym, subst, ap, ◌∙◌, append-nil}
 use Rattle.std.proofs.lemmas.List.{length-map}
 use Rattle.shelf_io.specs.Shelf.{ShelfView}
 use Rattle.command_words.specs.Command.{PlainCommand, mix_command, check_mix_command, Named, named, reads}
-use Rattle.mix_text.specs.Lines.{plain_input, names_of, broken_at, mix_lines, TellsBroken}
+use Rattle.mix_text.specs.Lines.{plain_input, broken_at, mix_lines, TellsBroken}
 use Rattle.mix_text.specs.declared.parts.MixInput.{MixInput}
 use Rattle.mix_text.specs.declared.parts.MixFault.{MixFault}
 use Rattle.mix_text.specs.declared.parts.MixFault.TheVariants as mix

@@ -1,5 +1,5 @@
 -- The results of the commands on a mix, put together.
-use Rattle.std.proofs.Common.{◌≡◌, inl, inr, ℕ, List, [], ◌∷◌, ◌++◌, ◌≤◌, length, map, get_or, Some, None, Vec, refl, sym, subst, ap, ◌∙◌, arith}
+use Rattle.std.proofs.Common.{◌≡◌, inl, inr, ℕ, List, [], ◌∷◌, ◌≤◌, length, map, get_or, Some, None, Vec, refl, sym, subst, ap, ◌∙◌, arith}
 use Rattle.std.proofs.lemmas.List.{length-map}
 use Rattle.std.specs.Global.{Global}
 use Rattle.shelf_io.specs.Shelf.{ShelfView}
@@ -14,7 +14,6 @@ use Rattle.command_line.specs.Meaning.{RejectsInputs, mix_first, check_mix_first
 use Rattle.command_line.specs.Performing.{RejectsPreparingOf, listed_fail, inputs_fail}
 use Rattle.command_line.specs.declared.mix_inputs.ListedTexts.{ListedTexts}
 use Rattle.command_faults.specs.declared.faults.CommandFault.{CommandFault}
-use Rattle.command_faults.specs.declared.faults.CommandFault.TheVariants as command_fault
 use Rattle.command_line.proofs.MixedRuns.{some_inputs}
 
 -- ---- the texts of the words

@@ -1,11 +1,10 @@
 -- Runs of a program on several inputs.
-use Rattle.std.proofs.Common.{◌≡◌, inl, inr, ℕ, suc, ◌≤◌, ℤ, pos, ◌≤ℤ◌, List, [], ◌∷◌, ◌++◌, length, All, Some, None, refl, sym, subst, ap, arith}
+use Rattle.std.proofs.Common.{◌≡◌, inl, inr, ℕ, suc, ◌≤◌, List, [], ◌∷◌, length, All, None, refl, subst, ap, arith}
 use Rattle.std.proofs.lemmas.List.Elements.{All-nil, All-cons, All-head, All-tail}
 use Rattle.elf_reader.specs.File.{PlainView, plain_view, view_in}
 use Rattle.board_config.specs.declared.board.Board.{Board}
 use Rattle.object_graph.specs.declared.parts.Graph.{Graph}
 use Rattle.object_graph.specs.Graphs.{IsGraph}
-use Rattle.object_machine.specs.declared.events.Outcome.TheVariants.{AddressFault}
 use Rattle.result_setups.specs.HomeLaws.{program_in, source_start}
 use Rattle.placement_programme.specs.Plain.{PlainProgramme}
 use Rattle.profile_runner.specs.Transition.{Transition}
@@ -16,14 +15,13 @@ use Rattle.profile_mix.specs.Mixed.{WeightedRun}
 use Rattle.relinking.specs.MixOfRuns.{WeightedInput, AreRunsOn, StatesTogether, AreSomeInputs, FaultsFirst}
 use Rattle.relinking.specs.ProgrammeOfRun.{RunsOn}
 use Rattle.mix_text.specs.Lines.{MixLine, broken_at, mix_lines}
-use Rattle.mix_text.specs.Laws.{IsMixLine, Spells}
+use Rattle.mix_text.specs.Laws.{IsMixLine}
 use Rattle.mix_text.proofs.LawLemmas.{spelling}
-use Rattle.relinking.specs.Runs.{RunsProgram}
 use Rattle.relinking.proofs.Analysed.{findings}
 use Rattle.command_faults.specs.FaultLine.{parts_of, profile_command_fault}
 use Rattle.command_line.specs.Analysed.{Accepts, IsOpened, RejectsAnalysed}
 use Rattle.command_line.specs.CheckFile.{RejectsText}
-use Rattle.command_line.specs.MixFile.{inputs_of, StatesOfAll, RunsWell, ReportsRuns, of_files, of_run, of_none, ReportsCheckedRuns, of_inputs, of_certificate, RejectsRuns, RejectsCheckedRuns}
+use Rattle.command_line.specs.MixFile.{inputs_of, StatesOfAll, RunsWell, ReportsRuns, of_files, of_run, of_none, of_inputs, of_certificate, RejectsRuns, RejectsCheckedRuns}
 use Rattle.command_line.specs.declared.opening.Opened.{Opened}
 use Rattle.command_line.proofs.Analysing.{opened_view}
 use Rattle.command_line.proofs.Profiling.{fault_run}

@@ -1,5 +1,5 @@
 -- What `paid` tells, of what its parts do.
-use Rattle.std.proofs.Common.{◌≡◌, ◌⊎◌, ◌∙◌, inl, inr, ℕ, ℤ, pos, ◌<◌, ◌≤◌, ◌==◌, ◌&&◌, not, ◌++◌, Bool, true, false, List, length, get_or, Some, option_map, refl, sym, ap, subst, arith}
+use Rattle.std.proofs.Common.{◌≡◌, ◌⊎◌, ◌∙◌, inl, inr, ℕ, pos, ◌<◌, ◌≤◌, ◌==◌, ◌&&◌, not, ◌++◌, Bool, true, false, List, length, get_or, Some, option_map, refl, sym, ap, subst, arith}
 use Rattle.std.proofs.lemmas.Grind.{get_or_default_zero}
 use Rattle.std.proofs.lemmas.List.{length-map}
 use Rattle.elf_reader.specs.File.{PlainView, plain_view, view_in}
@@ -36,7 +36,7 @@ use Rattle.result_placements.specs.Choices.{IsChoiceFor}
 use Rattle.relink_core.specs.Choices.{IsAnalysisOf}
 use Rattle.printed_lines.specs.Endings.{IsAddressFault}
 use Rattle.paid_energy.specs.FlatRuns.{PaysRun}
-use Rattle.paid_energy.specs.Inward.{inward_calls, counted_inward}
+use Rattle.paid_energy.specs.Inward.{counted_inward}
 use Rattle.relink_core.proofs.KeepsLemmas.{passes}
 use Rattle.relink_core.proofs.ResultsRead.{results_are_read}
 use Rattle.paid_energy.proofs.InwardLemmas.{inward_counted}
@@ -47,7 +47,7 @@ use Rattle.elf_reader.specs.declared.fault.ElfFault.TheVariants as elf
 use Rattle.command_line.proofs.ComparingFiles.{elf_told}
 use Rattle.command_faults.specs.FaultLine.{elf_parts, elf_command_fault, parts_of}
 use Rattle.command_faults.specs.declared.faults.CommandFault.{CommandFault}
-use Rattle.command_line.specs.Analysed.{Accepts, IsOpened}
+use Rattle.command_line.specs.Analysed.{IsOpened}
 use Rattle.command_line.specs.ProgramRun.{StatesOf}
 use Rattle.command_line.specs.CheckFile.{AcceptsChoice, RejectsChecked}
 use Rattle.command_line.specs.PaidFile.{paid_text, modelled_text, MakesOf, Pays, WhereExited, PaysTo, of_check, of_result, RejectsPaid, CountsFor, RunsMade, MakesLines, RejectsMade}

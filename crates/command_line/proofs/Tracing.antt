@@ -1,5 +1,5 @@
 -- What `trace` tells, of what its parts do.
-use Rattle.std.proofs.Common.{◌≡◌, ◌⊎◌, ◌∙◌, inl, inr, ℕ, ◌<◌, ◌≤◌, min, Bool, true, false, List, [], length, take, Some, None, refl, sym, ap, subst, arith}
+use Rattle.std.proofs.Common.{◌≡◌, ◌⊎◌, ◌∙◌, inl, inr, ℕ, ◌<◌, min, Bool, true, false, List, [], length, take, None, refl, sym, ap, subst, arith}
 use Rattle.std.specs.List.{AllPairs}
 use Rattle.std.proofs.Math.Nat.{min-le_right}
 use Rattle.elf_reader.specs.File.{PlainView, plain_view, view_in}
@@ -12,7 +12,7 @@ use Rattle.loaded_file.proofs.WordLemmas.{same_view}
 use Rattle.object_graph.specs.declared.parts.Graph.{Graph}
 use Rattle.code_blocks.specs.declared.parts.Code.{Code}
 use Rattle.cell_values.specs.Stands.{Places}
-use Rattle.object_machine.specs.Program.{Program, program_of}
+use Rattle.object_machine.specs.Program.{Program}
 use Rattle.object_machine.specs.Start.{start_of}
 use Rattle.object_machine.specs.State.{SourceState}
 use Rattle.object_machine.specs.Runs.{Steps}
@@ -25,7 +25,6 @@ use Rattle.rv_decode.proofs.Meaning.{same_instruction}
 use Rattle.placement_programme.specs.Plain.{PlainProgramme, PlainChoice}
 use Rattle.placement_programme.specs.Views.{plain_programme}
 use Rattle.result_setups.specs.HomeLaws.{program_in, source_start, file_start}
-use Rattle.result_setups.specs.ResultLaws.{most_steps}
 use Rattle.placed_results.specs.Walks.{IsNoFault}
 use Rattle.relink_core.specs.Choices.{IsAnalysisOf}
 use Rattle.relink_core.specs.Placed.{Taken, taken_of, Realises}
@@ -35,11 +34,9 @@ use Rattle.relink_core.specs.declared.unit_forms.UnitAt.{UnitAt}
 use Rattle.relink_core.proofs.RealiseLemmas.{prepared}
 use Rattle.compare_runner.specs.Laws.{IsPairedRun}
 use Rattle.relinking.specs.declared.stating.MeasuredProgramme.{MeasuredProgramme}
-use Rattle.address_trace.specs.Comings.{IsAtForm}
-use Rattle.address_trace.specs.Seeking.{StartsWithin}
 use Rattle.address_trace.specs.Marks.{trace_text}
 use Rattle.address_trace.specs.Telling.{TellsTrace}
-use Rattle.address_trace.specs.Tracing.{traced_of, region_in, IsTrace}
+use Rattle.address_trace.specs.Tracing.{traced_of}
 use Rattle.address_trace.specs.Laws.{traced_in, TracesFiles, AreAtPlaces, made_places, homes_of, IsTraceable, IsTracedWhole, MovedIsTraced, UnmovedIsTraced, ResultsStart}
 use Rattle.address_trace.specs.declared.marks.TracedStep.{TracedStep}
 use Rattle.address_trace.specs.declared.tracing.TraceText.{TraceText}

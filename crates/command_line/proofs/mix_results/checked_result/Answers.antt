@@ -1,4 +1,4 @@
-use Rattle.std.proofs.Common.{◌∷◌, [], ◌++◌, ℕ, List, map, refl, sym, subst, ap, ◌∙◌, string_bytes}
+use Rattle.std.proofs.Common.{[], ◌++◌, ℕ, List, map, refl, sym, subst, ap, ◌∙◌, string_bytes}
 use Rattle.mix_text.specs.Lines.{plain_input}
 use Rattle.relinking.specs.MixOfRuns.{WeightedInput}
 use Rattle.relinking.specs.MixOfRuns as together

@@ -1,6 +1,6 @@
-use Rattle.std.proofs.Common.{◌≡◌, ◌∷◌, [], ℕ, List, sym, subst, ◌∙◌, arith}
+use Rattle.std.proofs.Common.{◌∷◌, [], ℕ, List, sym, subst, ◌∙◌, arith}
 use Rattle.std.proofs.lemmas.List.{length-map}
-use Rattle.command_line.specs.Listing.{listed_names, third, RejectsListed}
+use Rattle.command_line.specs.Listing.{listed_names, RejectsListed}
 use Rattle.command_line.specs.ListedTexts.{Lists}
 use Rattle.command_line.specs.Performing.{inputs_fail}
 use Rattle.command_line.specs.Reading.{contents, HoldsAll}

@@ -1,4 +1,3 @@
-use Rattle.std.proofs.Common.{string_bytes}
 use Rattle.elf_reader.specs.File.{segments_of}
 use Rattle.board_config.specs.Board.{mapped_ranges}
 use Rattle.flat_machine.specs.Start.{start_of}

@@ -1,8 +1,7 @@
-use Rattle.std.proofs.Common.{◌≡◌, ◌∙◌, ◌⊎◌, ℕ, List, Some, None, string_bytes, sym, subst}
+use Rattle.std.proofs.Common.{◌≡◌, ℕ, List, None, string_bytes, sym, subst}
 use Rattle.std.proofs.lemmas.Result.{err_from_is_err_and}
-use Rattle.elf_reader.specs.File.{PlainView, plain_view, IsFile}
+use Rattle.elf_reader.specs.File.{PlainView, IsFile}
 use Rattle.elf_reader.specs.Faults.{first_fault}
-use Rattle.elf_reader.specs.declared.fault.ElfFault.TheVariants as elf
 use Rattle.board_config.specs.Board.{mapped_ranges}
 use Rattle.flat_machine.specs.Start.{start_of}
 use Rattle.loaded_file.proofs.WordLemmas.{same_view}

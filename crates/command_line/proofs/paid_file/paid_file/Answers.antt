@@ -1,6 +1,4 @@
-use Rattle.std.proofs.Common.{subst, sym}
 use Rattle.std.proofs.lemmas.Result.{err_from_is_err_and}
-use Rattle.command_line.specs.PaidFile.{PaysTo}
 use Rattle.command_line.proofs.Analysing.{profiled_rejected}
 use Rattle.command_line.proofs.Profiling.{counts_rejected, measures_to}
 use Rattle.command_line.proofs.Certificates.{run_rejected_first}
