@@ -189,12 +189,13 @@ fn exited_lines(
     let limit = enough_steps(&opened.board, nothing, measured.profile.steps);
     let run = paid(&mut machine, &opened.board, limit)?;
     let calls = inward(
+        alloc,
         &measured.profile,
         &opened.analysis,
         &opened.board,
         &measured.programme,
         choice,
-    );
+    )?;
     match paid_lines(alloc, &run, calls) {
         Ok(lines) => Ok(lines),
         Err(error) => Err(error),

@@ -1,5 +1,5 @@
 -- The pieces of which a choice copies blocks, and their entries.
-use Rattle.std.proofs.Common.{◌≡◌, ◌∙◌, ◌⊎◌, inl, inr, ℕ, zero, suc, ◌+◌, ◌<◌, ◌≤◌, ◌==◌, Bool, true, false, ◌&&◌, if◌then◌else◌, List, [], ◌∷◌, map, drop, length, get_or, Option, Some, None, IsSomeAnd, IfSome, refl, sym, ap, subst, arith}
+use Rattle.std.proofs.Common.{◌≡◌, ◌∙◌, ◌⊎◌, inl, inr, ℕ, zero, suc, ◌+◌, ◌<◌, ◌==◌, Bool, true, false, ◌&&◌, if◌then◌else◌, List, [], ◌∷◌, map, drop, length, get_or, Option, Some, None, IsSomeAnd, IfSome, refl, sym, ap, subst, arith}
 use Rattle.std.specs.List.{All, list_any}
 use Rattle.std.specs.List.Sorted.{IsStrictlyIncreasing}
 use Rattle.std.proofs.lemmas.Bool.Decides.{nat_tests}
@@ -20,13 +20,14 @@ use Rattle.block_splitter.specs.Pieces.{is_entry, range_of, is_range_of, IsPiece
 use Rattle.placement_programme.specs.Bounds.{AscendWithin}
 use Rattle.placement_programme.specs.Plain.{PlainVar, PlainSide, PlainProgramme, PlainChoice}
 use Rattle.placement_programme.specs.Programme.{Fits, side_for}
+use Rattle.placement_programme.specs.declared.variables.VarName.{VarName}
 use Rattle.placement_programme.specs.Rows.{Part, Candidate, static_data, static_code, overlay_data, overlay_code, kept_data, name_of}
 use Rattle.energy_model.specs.Energy.{piece_in, covering, piece_of}
 use Rattle.placement_candidates.specs.Adding.{no_kept, kept_name}
 use Rattle.overlay_candidates.specs.Whole.{names_of, taken_of as names_taken}
 use Rattle.result_placements.specs.Choices.{IsOfPiece, IsCandidateFor, IsVarFor, IsSideFor, IsChoiceFor}
 use Rattle.relink_core.proofs.BlockOrder.{collected_are}
-use Rattle.paid_energy.specs.Inward.{IsListed}
+use Rattle.paid_energy.specs.Inward.{IsListed, ArePiecesOf, AreByBlock}
 
 -- ---- entries
 
@@ -65,28 +66,16 @@ any_of pieces range (piece, (listed, same)) =
 abbrev after : List PlainVar → List ℕ → ℕ → Option BlockRange
 after vars take b = piece_of (map (kept_name vars) take) b
 
--- a variable that copies the block not leaves it to those behind
-pub passed_on : (vars : List PlainVar) (take : List ℕ) (k d b : ℕ) → k < length take
-    → ((other : Option BlockRange) → covering b (piece_in (kept_name vars (get_or take k d))) other ≡ other)
-    → after vars (drop k take) b ≡ after vars (drop (k + 1) take) b
-passed_on vars [] k d b below keeps = absurd (omega (arith, below))
-passed_on vars (n ∷ ns) zero d b below keeps = keeps (after vars ns b)
-passed_on vars (n ∷ ns) (suc k) d b below keeps =
-    let order : suc (k + 1) ≡ suc k + 1 = omega arith in
-    passed_on vars ns k d b (omega (arith, below)) keeps ∙ ap (λ j. after vars (drop j (n ∷ ns)) b) order
+-- one variable more before those behind
+pub one_before : (vars : List PlainVar) (take : List ℕ) (k d b : ℕ) → k < length take
+    → after vars (drop k take) b ≡ covering b (piece_in (kept_name vars (get_or take k d))) (after vars (drop (suc k) take) b)
+one_before vars [] k d b below = absurd (omega (arith, below))
+one_before vars (n ∷ ns) zero d b below = refl
+one_before vars (n ∷ ns) (suc k) d b below = one_before vars ns k d b (omega (arith, below))
 
-pub found_there : (vars : List PlainVar) (take : List ℕ) (k d b : ℕ) (range : BlockRange) → k < length take
-    → ((other : Option BlockRange) → covering b (piece_in (kept_name vars (get_or take k d))) other ≡ Some range)
-    → after vars (drop k take) b ≡ Some range
-found_there vars [] k d b range below covers = absurd (omega (arith, below))
-found_there vars (n ∷ ns) zero d b range below covers = covers (after vars ns b)
-found_there vars (n ∷ ns) (suc k) d b range below covers = found_there vars ns k d b range (omega (arith, below)) covers
-
-pub none_left : (vars : List PlainVar) (take : List ℕ) (k b : ℕ) → length take ≤ k → after vars (drop k take) b ≡ None
-none_left vars [] zero b all = refl
-none_left vars [] (suc k) b all = refl
-none_left vars (n ∷ ns) zero b all = absurd (omega (arith, all))
-none_left vars (n ∷ ns) (suc k) b all = none_left vars ns k b (omega (arith, all))
+pub none_left : (vars : List PlainVar) (take : List ℕ) (b : ℕ) → after vars (drop (length take) take) b ≡ None
+none_left vars [] b = refl
+none_left vars (n ∷ ns) b = none_left vars ns b
 
 -- ---- it is one of the pieces of the program
 
@@ -135,14 +124,16 @@ module _ (board : Board) (g : Graph) (c : Code) (t : RegionTable) (pieces : List
   listed_on on None take b range is fits found = absurd is
   listed_on on (Some side) take b range is fits found = side_listed on side.vars 0 take b range is.vars fits.numbers found
 
--- the blocks among which a choice copies a block are those of a piece
-pub piece_listed : (board : Board) (g : Graph) (c : Code) (t : RegionTable) (pieces : List Piece) (p : PlainProgramme) (choice : PlainChoice) (b : ℕ) (range : BlockRange)
-    → IsChoiceFor board g c t pieces p choice → piece_of (names_taken p choice).names b ≡ Some range → IsListed pieces range
-piece_listed board g c t pieces p choice b range is found =
+-- what a choice copies are pieces
+pub are_pieces : (board : Board) (g : Graph) (c : Code) (t : RegionTable) (pieces : List Piece) (p : PlainProgramme) (choice : PlainChoice)
+    → IsChoiceFor board g c t pieces p choice → ArePiecesOf pieces (names_taken p choice).names
+are_pieces board g c t pieces p choice is b range found =
     listed_on board g c t pieces choice.on (side_for p choice.on) choice.take b range is.side is.feasible found
 
--- if the block is copied
-pub some_listed : (board : Board) (g : Graph) (c : Code) (t : RegionTable) (pieces : List Piece) (p : PlainProgramme) (choice : PlainChoice) (b : ℕ) (found : Option BlockRange)
-    → IsChoiceFor board g c t pieces p choice → found ≡ piece_of (names_taken p choice).names b → IfSome found (IsListed pieces)
-some_listed board g c t pieces p choice b None is same = tt
-some_listed board g c t pieces p choice b (Some range) is same = piece_listed board g c t pieces p choice b range is (sym same)
+-- the blocks among which block `b` is copied are those of a piece, if there are some
+pub some_listed : (pieces : List Piece) (names : List VarName) (b : ℕ) (found : Option BlockRange) → ArePiecesOf pieces names → found ≡ piece_of names b → IfSome found (IsListed pieces)
+some_listed pieces names b None are same = tt
+some_listed pieces names b (Some range) are same = are b range (sym same)
+
+pub same_table : (m n : ℕ) (names : List VarName) (xs ys : List (Option BlockRange)) → AreByBlock m names xs → m ≡ n → ys ≡ xs → AreByBlock n names ys
+same_table m n names xs ys are count same = subst (λ k. AreByBlock k names ys) count (subst (AreByBlock m names) (sym same) are)

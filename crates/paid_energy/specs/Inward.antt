@@ -1,6 +1,6 @@
 -- Calls that stay in a copied piece of code and find no pad. The copy of a call leads home, and there the block runs in main
 -- memory, though the energy of the choice counts it in the copy.
-use Rattle.std.specs.Prelude.{◌≡◌, ℕ, Bool, true, false, not, ◌&&◌, if◌then◌else◌, List, length, Option, Some, None, Contains}
+use Rattle.std.specs.Prelude.{◌≡◌, ℕ, ◌<◌, Bool, true, false, not, ◌&&◌, if◌then◌else◌, List, length, slice_index_or, Option, Some, None, Contains}
 use Rattle.list_checks.specs.Sorted.{count_below}
 use Rattle.std.specs.List.{sum_by}
 use Rattle.elf_reader.specs.declared.view.ElfView.{ElfView}
@@ -16,6 +16,7 @@ use Rattle.block_splitter.specs.declared.block_range.BlockRange.{BlockRange}
 use Rattle.block_splitter.specs.Forms.{holds_block}
 use Rattle.block_splitter.specs.declared.piece.Piece.{Piece}
 use Rattle.block_splitter.specs.Pieces.{is_entry, range_of}
+use Rattle.placement_programme.specs.declared.variables.VarName.{VarName}
 use Rattle.profile_runner.specs.Transition.{Transition, transition_at}
 use Rattle.profile_runner.specs.Standing.{number_of, block_of}
 use Rattle.profile_runner.specs.declared.counts.Edge.{Edge}
@@ -75,3 +76,12 @@ InwardIsCounted =
 -- there is a piece of these blocks
 abbrev pub IsListed : List Piece → BlockRange → Type 0
 IsListed pieces range = (piece : Piece) × (Contains pieces piece × (range_of piece ≡ range))
+
+-- where these names are taken, what is copied are pieces
+abbrev pub ArePiecesOf : List Piece → List VarName → Type 0
+ArePiecesOf pieces names = (b : ℕ) (range : BlockRange) → piece_of names b ≡ Some range → IsListed pieces range
+
+-- a table that has for each of so many blocks those among which it is copied, if it is, where these names are taken
+pub record AreByBlock (blocks : ℕ) (names : List VarName) (table : List (Option BlockRange)) : Type 0 where
+  pub len : length table ≡ blocks
+  pub are : (b : ℕ) → b < blocks → slice_index_or table b None ≡ piece_of names b

@@ -1,4 +1,4 @@
-ghost use Rattle.std.specs.Prelude.{◌≡◌, ℕ, ◌<◌, true, false, not, ◌&&◌, List, map, length, slice_index_or, Option, Some, IfSome, MatchOption};
+ghost use Rattle.std.specs.Prelude.{◌≡◌, ℕ, ◌<◌, true, false, not, ◌&&◌, List, map, length, slice_index_or, Option, Some, None, IfSome, IfOk};
 ghost use Rattle.std.specs.List.{AllPairs};
 ghost use Rattle.std.specs.List.Sorted.{IsPartitionPoint};
 ghost use Rattle.object_graph.specs.declared.parts.Graph.{Graph};
@@ -12,12 +12,13 @@ ghost use Rattle.block_splitter.specs.Forms.{holds_block};
 ghost use Rattle.block_splitter.specs.Pieces.{is_entry, range_of, IsPiece, ComesBefore, ArePieces};
 ghost use Rattle.energy_model.specs.Energy.{piece_in, covering, piece_of};
 ghost use Rattle.energy_model.specs.Scenes.{scene_of, AreOfSameFile};
+ghost use Rattle.energy_model.specs.Together.{taken};
 ghost use Rattle.placement_candidates.specs.Adding.{kept_name};
 ghost use Rattle.overlay_candidates.specs.Whole.{taken_of as names_taken};
 ghost use Rattle.result_placements.specs.Choices.{IsChoiceFor};
 ghost use Rattle.copied_result.specs.Copies.{comes_before};
 ghost use Rattle.relink_core.specs.Choices.{IsAnalysisOf};
-ghost use Rattle.paid_energy.specs.Inward.{calls, is_within, is_inward, inward_count, counted_inward, IsListed};
+ghost use Rattle.paid_energy.specs.Inward.{calls, is_within, is_inward, inward_count, counted_inward, IsListed, AreByBlock, ArePiecesOf};
 
 use block_splitter::{BlockRange, Piece};
 use board_config::Board;
@@ -29,6 +30,7 @@ use profile_runner::{Edge, Profile};
 use region_former::RegionTable;
 use relink_core::Analysis;
 use rv_decode::one_instruction;
+use std::alloc::{AllocError, Global};
 
 /// Whether a block ends in a call that names where it leads, or in one that doesn't come back.
 fn calls(end: &End) -> bool
@@ -52,18 +54,39 @@ fn block_calls(code: &Code, b: u32) -> bool
     calls(&code.blocks[b as usize].end)
 }
 
-/// The blocks that a variable copies, if block `b` is among them.
-fn copied_with(name: VarName, b: u32) -> Option<BlockRange>
-    ensures { MatchOption result ((other : Option BlockRange) → covering b (piece_in name) other ≡ other) (λ range. (other : Option BlockRange) → covering b (piece_in name) other ≡ Some range) }
+/// The blocks that a variable copies, if it copies some.
+fn piece_in(name: VarName) -> Option<BlockRange>
+    ensures { result ≡ piece_in name }
 {
     match name {
         VarName::StaticCode { first, last } | VarName::OverlayCode { first, last, .. } => {
-            let range = BlockRange { first, last };
-            if holds(&range, b) { Some(range) } else { None }
+            Some(BlockRange { first, last })
         }
         VarName::StaticData { .. } | VarName::OverlayData { .. } | VarName::KeptData { .. } => {
             None
         }
+    }
+}
+
+/// Notes at each of these blocks that they are copied together, as far as the table reaches.
+fn fill_blocks(table: &mut [Option<BlockRange>], range: BlockRange)
+    ensures len { length table.new ≡ length table.old }
+    ensures filled { (b : ℕ) → b < length table.old → slice_index_or table.new b None ≡ covering b (Some range) (slice_index_or table.old b None) }
+{
+    let end = table.len().min(range.last as usize + 1);
+    for b in range.first as usize..end {
+        table[b] = Some(range);
+    }
+}
+
+/// Notes what a variable copies.
+fn fill_piece(table: &mut [Option<BlockRange>], name: VarName)
+    ensures len { length table.new ≡ length table.old }
+    ensures filled { (b : ℕ) → b < length table.old → slice_index_or table.new b None ≡ covering b (piece_in name) (slice_index_or table.old b None) }
+{
+    match piece_in(name) {
+        Some(range) => fill_blocks(table, range),
+        None => {}
     }
 }
 
@@ -75,32 +98,52 @@ fn name_of(vars: &[Var], number: u32) -> VarName
     vars[number as usize].name
 }
 
-/// The blocks among which block `b` is copied, if it is, where these variables are taken.
-fn piece_in_side(vars: &[Var], take: &[u32], b: u32) -> Option<BlockRange>
-    requires { AscendWithin 0 (length vars.now) take.now }
-    ensures { result ≡ piece_of (map (kept_name (map plain_var vars.now)) take.now) b }
+/// Notes what these variables copy. The first that copies a block counts, so it is noted last.
+fn fill_side(table: &mut [Option<BlockRange>], vars: &[Var], take: &[u32])
+    requires empty { (b : ℕ) → b < length table.old → slice_index_or table.old b None ≡ None }
+    requires numbers { AscendWithin 0 (length vars.now) take.now }
+    ensures len { length table.new ≡ length table.old }
+    ensures filled { (b : ℕ) → b < length table.old → slice_index_or table.new b None ≡ piece_of (map (kept_name (map plain_var vars.now)) take.now) b }
 {
-    for k in 0..take.len() {
-        match copied_with(name_of(vars, take[k]), b) {
-            Some(range) => return Some(range),
-            None => {}
-        }
+    for k in (0..take.len()).rev() {
+        fill_piece(table, name_of(vars, take[k]));
     }
-    None
 }
 
-/// The same for what a choice takes.
-fn piece_of(p: &Programme, c: &Choice, b: u32) -> Option<BlockRange>
-    requires { IsFeasible (plain_programme p.now) (plain_choice c.now) }
-    ensures { result ≡ piece_of (names_taken (plain_programme p.now) (plain_choice c.now)).names b }
+/// Notes what a choice copies.
+fn fill_taken(table: &mut [Option<BlockRange>], p: &Programme, c: &Choice)
+    requires empty { (b : ℕ) → b < length table.old → slice_index_or table.old b None ≡ None }
+    requires feasible { IsFeasible (plain_programme p.now) (plain_choice c.now) }
+    ensures len { length table.new ≡ length table.old }
+    ensures filled { (b : ℕ) → b < length table.old → slice_index_or table.new b None ≡ piece_of (names_taken (plain_programme p.now) (plain_choice c.now)).names b }
 {
     if !c.on {
-        return piece_in_side(&p.off.vars, &c.take, b);
+        fill_side(table, &p.off.vars, &c.take);
+        return;
     }
     match &p.on {
-        Some(side) => piece_in_side(&side.vars, &c.take, b),
-        None => None,
+        Some(side) => fill_side(table, &side.vars, &c.take),
+        None => {}
     }
+}
+
+/// For each of so many blocks those among which it is copied, if it is, by what a choice takes. It fails only where no memory
+/// was left.
+///
+/// The time grows with the number of blocks and with that of the variables that the choice takes: the pieces that a feasible
+/// choice takes share no block, so each block is noted once.
+fn pieces_by_block(
+    alloc: Global,
+    p: &Programme,
+    c: &Choice,
+    blocks: usize,
+) -> Result<Vec<Option<BlockRange>>, AllocError>
+    requires { IsFeasible (plain_programme p.now) (plain_choice c.now) }
+    ensures { IfOk result (λ table. AreByBlock blocks (names_taken (plain_programme p.now) (plain_choice c.now)).names table.items) }
+{
+    let mut table = vec![in alloc; None; blocks]?;
+    fill_taken(&mut table, p, c);
+    Ok(table)
 }
 
 /// Whether a piece comes before these blocks: by first block, and then by last.
@@ -156,34 +199,38 @@ fn is_checked(regions: &RegionTable, on: bool, b: u32) -> bool
     on && regions.border[b as usize]
 }
 
-/// Whether an edge leads to a block of the piece that a choice takes of the one that it leaves, and no pad stands there.
-fn is_unpadded(a: &Analysis, p: &Programme, c: &Choice, edge: &Edge) -> bool
-    requires analysis { (file : List ℕ) × ((board : Board) × (IsAnalysisOf file board a.now × IsChoiceFor board a.now.graph a.now.code a.now.regions a.now.pieces.items (plain_programme p.now) (plain_choice c.now))) }
+/// Whether an edge leads to a block of the piece that is taken of the one that it leaves, and no pad stands there.
+fn is_unpadded(a: &Analysis, table: &[Option<BlockRange>], on: bool, edge: &Edge) -> bool
+    requires analysis { (file : List ℕ) × ((board : Board) × IsAnalysisOf file board a.now) }
+    requires table { (names : List VarName) × (AreByBlock (length a.now.code.blocks.items) names table.now × ArePiecesOf a.now.pieces.items names) }
+    requires from { edge.now.from < length a.now.code.blocks.items }
     requires to { edge.now.to < length a.now.code.blocks.items }
-    ensures { result ≡ (is_within a.now.code (piece_of (names_taken (plain_programme p.now) (plain_choice c.now)).names edge.now.from) edge.now.to && not (c.now.on && slice_index_or a.now.regions.border.items edge.now.to false)) }
+    ensures { (names : List VarName) → AreByBlock (length a.now.code.blocks.items) names table.now → result ≡ (is_within a.now.code (piece_of names edge.now.from) edge.now.to && not (on && slice_index_or a.now.regions.border.items edge.now.to false)) }
 {
-    let piece = piece_of(p, c, edge.from);
-    is_within(&a.pieces, &piece, edge.to) && !is_checked(&a.regions, c.on, edge.to)
+    let piece = &table[edge.from as usize];
+    is_within(&a.pieces, piece, edge.to) && !is_checked(&a.regions, on, edge.to)
 }
 
 /// Whether an edge is an inward call.
-fn is_inward(a: &Analysis, p: &Programme, c: &Choice, edge: &Edge) -> bool
-    requires analysis { (file : List ℕ) × ((board : Board) × (IsAnalysisOf file board a.now × IsChoiceFor board a.now.graph a.now.code a.now.regions a.now.pieces.items (plain_programme p.now) (plain_choice c.now))) }
+fn is_inward(a: &Analysis, table: &[Option<BlockRange>], on: bool, edge: &Edge) -> bool
+    requires analysis { (file : List ℕ) × ((board : Board) × IsAnalysisOf file board a.now) }
+    requires table { (names : List VarName) × (AreByBlock (length a.now.code.blocks.items) names table.now × ArePiecesOf a.now.pieces.items names) }
     requires from { edge.now.from < length a.now.code.blocks.items }
     requires to { edge.now.to < length a.now.code.blocks.items }
-    ensures { (board : Board) → result ≡ is_inward (scene_of a.now.graph a.now.code a.now.regions board) a.now.code (names_taken (plain_programme p.now) (plain_choice c.now)) edge.now.from edge.now.to }
+    ensures { (board : Board) (names : List VarName) → AreByBlock (length a.now.code.blocks.items) names table.now → result ≡ is_inward (scene_of a.now.graph a.now.code a.now.regions board) a.now.code (taken on names) edge.now.from edge.now.to }
 {
-    block_calls(&a.code, edge.from) && is_unpadded(a, p, c, edge)
+    block_calls(&a.code, edge.from) && is_unpadded(a, table, on, edge)
 }
 
 /// How often an edge was taken, if it is an inward call, and else 0.
-fn inward_count(a: &Analysis, p: &Programme, c: &Choice, edge: &Edge) -> u64
-    requires analysis { (file : List ℕ) × ((board : Board) × (IsAnalysisOf file board a.now × IsChoiceFor board a.now.graph a.now.code a.now.regions a.now.pieces.items (plain_programme p.now) (plain_choice c.now))) }
+fn inward_count(a: &Analysis, table: &[Option<BlockRange>], on: bool, edge: &Edge) -> u64
+    requires analysis { (file : List ℕ) × ((board : Board) × IsAnalysisOf file board a.now) }
+    requires table { (names : List VarName) × (AreByBlock (length a.now.code.blocks.items) names table.now × ArePiecesOf a.now.pieces.items names) }
     requires from { edge.now.from < length a.now.code.blocks.items }
     requires to { edge.now.to < length a.now.code.blocks.items }
-    ensures { (board : Board) → result ≡ inward_count (scene_of a.now.graph a.now.code a.now.regions board) a.now.code (names_taken (plain_programme p.now) (plain_choice c.now)) edge.now }
+    ensures { (board : Board) (names : List VarName) → AreByBlock (length a.now.code.blocks.items) names table.now → result ≡ inward_count (scene_of a.now.graph a.now.code a.now.regions board) a.now.code (taken on names) edge.now }
 {
-    if is_inward(a, p, c, edge) {
+    if is_inward(a, table, on, edge) {
         edge.count
     } else {
         0
@@ -192,20 +239,28 @@ fn inward_count(a: &Analysis, p: &Programme, c: &Choice, edge: &Edge) -> u64
 
 /// How many calls of the profiled run are inward: those that stay in a piece that a choice takes and find no pad where they
 /// lead. Their copies lead home, and there the block runs in main memory, though the energy of the choice counts it in the
-/// copy.
+/// copy. It fails only where no memory was left.
 ///
-/// The time grows with the number of edges, and for each edge that is a call with the number of variables that the choice
-/// takes and with the logarithm of the number of pieces.
-pub fn inward(profile: &Profile, a: &Analysis, board: &Board, p: &Programme, c: &Choice) -> u64
+/// The time grows with the number of blocks, with that of the variables that the choice takes, and with the number of edges,
+/// for an edge that is a call times the logarithms of the numbers of pieces and of a piece's entries.
+pub fn inward(
+    alloc: Global,
+    profile: &Profile,
+    a: &Analysis,
+    board: &Board,
+    p: &Programme,
+    c: &Choice,
+) -> Result<u64, AllocError>
     requires same { (transitions : List Transition) × AreOfSameFile a.now.view board.now a.now.graph a.now.code a.now.regions profile.now transitions }
     requires analysis { (file : List ℕ) × IsAnalysisOf file board.now a.now }
     requires choice { IsChoiceFor board.now a.now.graph a.now.code a.now.regions a.now.pieces.items (plain_programme p.now) (plain_choice c.now) }
-    ensures { result ≡ counted_inward (scene_of a.now.graph a.now.code a.now.regions board.now) a.now.code (names_taken (plain_programme p.now) (plain_choice c.now)) profile.now }
+    ensures { IfOk result (λ calls. calls ≡ counted_inward (scene_of a.now.graph a.now.code a.now.regions board.now) a.now.code (names_taken (plain_programme p.now) (plain_choice c.now)) profile.now) }
 {
     one_instruction();
+    let table = pieces_by_block(alloc, p, c, a.code.blocks.len())?;
     let mut total = 0;
     for j in 0..profile.edges.len() {
-        total += inward_count(a, p, c, &profile.edges[j]);
+        total += inward_count(a, &table, c.on, &profile.edges[j]);
     }
-    total
+    Ok(total)
 }
