@@ -19,7 +19,7 @@ use Rattle.code_blocks.specs.declared.parts.Code.{Code}
 use Rattle.reach_graph.specs.Reaching.{HasMark}
 use Rattle.code_blocks.specs.Leads.{IsBlockOf, LeadsOn, units_at}
 use Rattle.liveness.specs.Summaries.{PassesOver}
-use Rattle.liveness.specs.Flows.{OneEdge, ListEdges, DirectEdges, HubEdges, MaskEdges, LeadsBack, BlockEdges, ArrivalEdges}
+use Rattle.liveness.specs.Flows.{OneEdge, ListEdges, DirectEdges, HubEdges, MaskEdges, LeadsBack, BlockEdges, BackEdges, ArrivalEdges}
 
 -- ---- lists of numbers
 
@@ -172,6 +172,26 @@ blocks_more c hub b mask over f t x low = (
           edge = subst (λ (u : ℕ). LeadsBack c hub u f) (sym back.0) back.1;
           over = subst (λ (u : ℕ). PassesOver (units_at c u) x) (sym back.0) ((over x low).0 back.2);
         }
+  ],
+)
+
+pub no_back : (c : Code) (hub f t x : ℕ) → BackEdges c hub 0 f t x → ⊥
+no_back c hub f t x one = let below = one.below in omega (arith, below)
+
+pub back_more : (c : Code) (hub b mask : ℕ) → ((x : ℕ) → x < 32 → HasMark mask x) → (f t x : ℕ) → x < 32
+    → BackEdges c hub (b + 1) f t x ↔ (BackEdges c hub b f t x ⊎ MaskEdges c hub b mask f t x)
+back_more c hub b mask all f t x low = (
+  λ one. elim (cases_eq t b) [
+    | inl same ↦
+        inr (subst (λ (u : ℕ). MaskEdges c hub b mask f u x) (sym same)
+        (to_back c hub b mask f x (subst (λ (u : ℕ). LeadsBack c hub u f) same one.edge) (all x low)))
+    | inr other ↦ inl (record { below = let below = one.below in omega (arith, below, other); edge = one.edge })
+  ],
+  λ has. elim has [
+    | inl old ↦ record { below = let below = old.below in omega (arith, below); edge = old.edge }
+    | inr new ↦
+        let back = back_of c hub b mask f t x new in
+        record { below = let is = back.0 in omega (arith, is); edge = subst (λ (u : ℕ). LeadsBack c hub u f) (sym back.0) back.1 }
   ],
 )
 

@@ -1,14 +1,10 @@
 -- Words of marks: of both, of what is in both, of what is left, and of all.
-use Rattle.std.proofs.Common.{◌≡◌, ◌⊎◌, inl, inr, ℕ, zero, suc, ◌-◌, ◌<◌, ◌^◌, bit_or, bit_and, refl, ◌∙◌, arith}
+use Rattle.std.proofs.Common.{◌≡◌, ℕ, zero, suc, ◌-◌, ◌<◌, ◌^◌, bit_and, refl, ◌∙◌, arith}
 use Rattle.std.specs.Prelude.{◌↔◌}
 use Rattle.std.specs.Int.{bit_at, bit_not, w64}
 use Rattle.std.proofs.lemmas.Nat.Bits.{bit_at_not, bit_at-lt, bit_at_ones}
 use Rattle.reach_graph.specs.Reaching.{HasMark}
-use Rattle.reach_graph.proofs.MarkLemmas.{or_left, or_right, or_cases, and_both, and_first, and_second}
-
-pub marks_joined : (a b x : ℕ) → HasMark (bit_or a b) x ↔ (HasMark a x ⊎ HasMark b x)
-marks_joined a b x =
-    (or_cases a b x, λ has. elim has [ inl one ↦ or_left a b x one | inr other ↦ or_right a b x other ])
+use Rattle.reach_graph.proofs.MarkLemmas.{and_both, and_first, and_second}
 
 pub marks_among : (a b x : ℕ) → HasMark (bit_and a b) x ↔ (HasMark a x × HasMark b x)
 marks_among a b x = (λ has. (and_first a b x has, and_second a b x has), λ both. and_both a b x both.0 both.1)

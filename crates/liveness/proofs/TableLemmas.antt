@@ -17,7 +17,7 @@ use Rattle.reach_graph.proofs.MarkLemmas.{none_in_zero, none_in_zeros}
 use Rattle.code_blocks.specs.Leads.{units_in, units_at, IsBlockOf}
 use Rattle.liveness.specs.Live.{LiveAt, Live}
 use Rattle.liveness.specs.Summaries.{UsedFirst}
-use Rattle.liveness.specs.Flows.{Lets, Adds, BlockEdges, ArrivalEdges, AreEdges, AreMarks, HasNone}
+use Rattle.liveness.specs.Flows.{Lets, Adds, BlockEdges, BackEdges, ArrivalEdges, AreBackEdges, AreEdges, AreMarks, HasNone}
 use Rattle.liveness.specs.Marks.{ReportsClear}
 use Rattle.liveness.specs.Tables.{AreLive, IsFree, IsLeastDead}
 use Rattle.liveness.proofs.EdgeLemmas.{is_start, one_start}
@@ -122,6 +122,25 @@ pub program_edges : (c : Code) (hub : ℕ) (none back all : List (List Edge)) �
     → Adds (ArrivalEdges c hub (length c.indirect.items)) back all → AreEdges c hub all
 program_edges c hub none back all bare one other =
     record {
+      edges = λ f t x low. (
+        λ l. elim ((other.edges f t x low).0 l) [
+          | inl before ↦ elim ((one.edges f t x low).0 before) [ inl old ↦ absurd (no_edge_in none f t x bare old) | inr first ↦ inl first ]
+          | inr second ↦ inr second
+        ],
+        λ has. elim has [
+          | inl first ↦ (other.edges f t x low).1 (inl ((one.edges f t x low).1 (inr first)))
+          | inr second ↦ (other.edges f t x low).1 (inr second)
+        ],
+      );
+      inside = other.inside (one.inside (none_inside none bare));
+    }
+
+-- the edges against the flow of control
+pub whole_back : (c : Code) (hub : ℕ) (none back all : List (List Edge)) → length none ≡ hub + 1 → HasNone none → Adds (BackEdges c hub hub) none back
+    → Adds (ArrivalEdges c hub (length c.indirect.items)) back all → AreBackEdges c hub all
+whole_back c hub none back all count bare one other =
+    record {
+      size = other.size ∙ one.size ∙ count;
       edges = λ f t x low. (
         λ l. elim ((other.edges f t x low).0 l) [
           | inl before ↦ elim ((one.edges f t x low).0 before) [ inl old ↦ absurd (no_edge_in none f t x bare old) | inr first ↦ inl first ]

@@ -1,6 +1,6 @@
 -- The graph along which liveness spreads, against the flow of control: node `b` is the beginning of block `b`, and
 -- behind the blocks one more node stands for every jump to an address in a register.
-use Rattle.std.specs.Prelude.{◌≡◌, ◌⊎◌, ◌↔◌, ℕ, ◌<◌, true, List, [], length, slice_index_or}
+use Rattle.std.specs.Prelude.{◌≡◌, ◌⊎◌, ◌↔◌, ℕ, ◌<◌, ◌+◌, true, List, [], length, slice_index_or}
 use Rattle.reach_graph.specs.Reaching.{HasMark, word_at, edges_of, edge_at, AreInside}
 use Rattle.reach_graph.specs.declared.edges.Edge.{Edge}
 use Rattle.code_blocks.specs.Edges.{is_indirect_end}
@@ -73,7 +73,18 @@ pub record ArrivalEdges (c : Code) (hub count f t x : ℕ) : Type 0 where
   pub starts : slice_index_or c.indirect.items i 0 ≡ start_at c f
   pub to : t ≡ hub
 
+-- to the first `count` blocks, all registers
+pub record BackEdges (c : Code) (hub count f t x : ℕ) : Type 0 where
+  pub below : t < count
+  pub edge : LeadsBack c hub t f
+
 -- ---- the whole
+
+-- all edges against the flow of control, along which all registers pass
+pub record AreBackEdges (c : Code) (hub : ℕ) (rows : List (List Edge)) : Type 0 where
+  pub size : length rows ≡ hub + 1
+  pub edges : (f t x : ℕ) → x < 32 → Lets rows f t x ↔ (BackEdges c hub hub f t x ⊎ ArrivalEdges c hub (length c.indirect.items) f t x)
+  pub inside : AreInside rows (length rows)
 
 -- the edges of a program
 pub record AreEdges (c : Code) (hub : ℕ) (rows : List (List Edge)) : Type 0 where

@@ -31,7 +31,7 @@ pub fn live(alloc: Global, code: &Code) -> Result<LiveTable, AllocError>
 }
 
 /// The number of the node of the indirect jumps: that of the blocks.
-fn hub_of(code: &Code) -> Result<u32, AllocError>
+pub(crate) fn hub_of(code: &Code) -> Result<u32, AllocError>
     ensures { IfOk result (λ hub. hub ≡ length code.now.blocks.items) }
 {
     match u32::try_from(code.blocks.len()) {
@@ -41,7 +41,7 @@ fn hub_of(code: &Code) -> Result<u32, AllocError>
 }
 
 /// A row without edges for each block and one for the indirect jumps.
-fn no_edges(alloc: Global, hub: u32) -> Result<Vec<Vec<Edge>>, AllocError>
+pub(crate) fn no_edges(alloc: Global, hub: u32) -> Result<Vec<Vec<Edge>>, AllocError>
     ensures size { IfOk result (λ rows. length rows.items ≡ hub + 1) }
     ensures bare { IfOk result (λ rows. HasNone (plain_rows rows.items)) }
 {

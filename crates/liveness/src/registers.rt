@@ -1,5 +1,5 @@
 // The registers of a unit, and words of marks of which bit `k` is register `k`.
-ghost use Rattle.std.specs.Prelude.{◌≡◌, ◌↔◌, ◌⊎◌, ◌<◌, ℕ, true};
+ghost use Rattle.std.specs.Prelude.{◌≡◌, ◌↔◌, ◌<◌, ℕ, true};
 ghost use Rattle.rv_decode.specs.RegSet.{IsIn, HasExactly};
 ghost use Rattle.reach_graph.specs.Reaching.{HasMark};
 ghost use Rattle.liveness.specs.Live.{uses_of, defs_of};
@@ -25,13 +25,6 @@ pub(crate) fn defs_of(instr: Option<Instr>) -> RegSet
         Some(instr) => defs(&instr),
         None => RegSet { bits: 0 },
     }
-}
-
-/// The marks of both words.
-pub(crate) fn joined(first: u64, second: u64) -> u64
-    ensures { (x : ℕ) → HasMark result x ↔ (HasMark first x ⊎ HasMark second x) }
-{
-    first | second
 }
 
 /// The marks of a word that are registers of a set.

@@ -4,8 +4,9 @@ ghost use Rattle.code_blocks.specs.Leads.{units_in};
 ghost use Rattle.liveness.specs.Live.{Uses, Defines};
 ghost use Rattle.liveness.specs.Summaries.{NoneDefines, UsedFirst, PassesOver};
 
-use crate::registers::{among, defs_of, joined, uses_of, without};
+use crate::registers::{among, defs_of, uses_of, without};
 use code_blocks::{Block, Unit};
+use reach_graph::joined;
 
 /// What some units do with the registers: bit `k` of a word is register `k`.
 #[derive(Clone, Copy)]

@@ -1,7 +1,8 @@
 ghost use Rattle.std.specs.Prelude.{◌≤◌, length};
 ghost use Rattle.std.specs.List.Sorted.{IsStrictlyIncreasing};
 
-use crate::registers::{has, joined, lowest_clear};
+use crate::registers::{has, lowest_clear};
+use reach_graph::joined;
 use rv_decode::RegSet;
 
 /// The registers that are live where each block of a program begins.

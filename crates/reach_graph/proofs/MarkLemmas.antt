@@ -1,8 +1,10 @@
 -- Marks of words, and of tables of them.
-use Rattle.std.proofs.Common.{◌≡◌, ◌⊎◌, inl, inr, ℕ, zero, suc, ◌<◌, max, min, bit_or, bit_and, List, replicate, sym, ◌∙◌, ap, subst, arith}
+use Rattle.std.proofs.Common.{◌≡◌, ◌⊎◌, inl, inr, ℕ, zero, suc, ◌*◌, ◌%◌, ◌^◌, ◌<◌, max, min, bit_or, bit_and, List, replicate, sym, ◌∙◌, ap, subst, arith}
+use Rattle.std.specs.Prelude.{◌↔◌}
 use Rattle.std.specs.Int.{bit_at}
-use Rattle.std.proofs.lemmas.Nat.Bits.{bit_at_or, bit_at_and}
-use Rattle.std.proofs.lemmas.Bool.{cases_lt}
+use Rattle.std.proofs.lemmas.Nat.{one_shl}
+use Rattle.std.proofs.lemmas.Nat.Bits.{bit_at_or, bit_at_and, bit_at-pow_same, bit_at-pow_other}
+use Rattle.std.proofs.lemmas.Bool.{cases_eq, cases_lt}
 use Rattle.std.proofs.lemmas.List.{get_or_past, get_or-replicate, length-replicate}
 use Rattle.reach_graph.specs.Reaching.{HasMark, word_at}
 
@@ -48,6 +50,23 @@ and_first a b k has = first_one (bit_at a k) (bit_at b k) (sym (bit_at_and a b k
 
 pub and_second : (a b k : ℕ) → HasMark (bit_and a b) k → HasMark b k
 and_second a b k has = second_one (bit_at a k) (bit_at b k) (sym (bit_at_and a b k) ∙ has) (bit_small b k)
+
+pub marks_joined : (a b k : ℕ) → HasMark (bit_or a b) k ↔ (HasMark a k ⊎ HasMark b k)
+marks_joined a b k = (or_cases a b k, λ has. elim has [ inl one ↦ or_left a b k one | inr other ↦ or_right a b k other ])
+
+-- a word of one mark, in any width
+pub one_bit : (width m k : ℕ) → m < width → HasMark (1 * 2 ^ m % 2 ^ width) k ↔ (k ≡ m)
+one_bit width m k low =
+    let e : 1 * 2 ^ m % 2 ^ width ≡ 2 ^ m = one_shl m width low in (
+      λ has. elim (cases_eq k m) [
+        | inl same ↦ same
+        | inr other ↦
+            let none = bit_at-pow_other m k other in
+            let at : bit_at (2 ^ m) k ≡ 1 = subst (λ (v : ℕ). HasMark v k) e has in
+            absurd (omega (arith, none, at))
+      ],
+      λ same. subst (λ (v : ℕ). HasMark v k) (sym e) (ap (bit_at (2 ^ m)) same ∙ bit_at-pow_same m),
+    )
 
 -- 0 has no mark
 pub none_in_zero : (k : ℕ) → HasMark 0 k → ⊥

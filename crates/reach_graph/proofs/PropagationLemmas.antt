@@ -42,7 +42,7 @@ not_both : (b c : Bool) → b ≡ true → c ≡ true → b ≡ false → ⊥
 not_both b c on also off = absurd (cc)
 
 -- a node that waits no more at the end did not before
-off_before : (waits waits' : List Bool) (n : ℕ) → ((m : ℕ) → waits_at waits m ≡ true → waits_at waits' m ≡ true) → waits_at waits' n ≡ false
+pub off_before : (waits waits' : List Bool) (n : ℕ) → ((m : ℕ) → waits_at waits m ≡ true → waits_at waits' m ≡ true) → waits_at waits' n ≡ false
     → (b : Bool) → waits_at waits n ≡ b → waits_at waits n ≡ false
 off_before waits waits' n still off true is = let on = still n is in absurd (cc)
 off_before waits waits' n still off false is = is
@@ -214,7 +214,7 @@ module _ (rows : List (List Edge)) (first marks waiting : List ℕ) (waits : Lis
   pub propagation_less : missing m' + length w' < missing marks + length waiting
   propagation_less = let a = propagate.goes_on.less in let b = taken.1.0 in omega (arith, a, b)
 
-none_waits : (waiting : List ℕ) (waits : List Bool) → waiting ≡ [] → IsQueue waiting waits → (n : ℕ) (b : Bool) → waits_at waits n ≡ b → waits_at waits n ≡ false
+pub none_waits : (waiting : List ℕ) (waits : List Bool) → waiting ≡ [] → IsQueue waiting waits → (n : ℕ) (b : Bool) → waits_at waits n ≡ b → waits_at waits n ≡ false
 none_waits waiting waits none q n false is = is
 none_waits waiting waits none q n true is =
     let has = q.listed n is in let below = has.1 in let empty = ap length none in absurd (omega (arith, below, empty))

@@ -1,8 +1,9 @@
-ghost use Rattle.std.specs.Prelude.{◌≡◌, ◌<◌, ◌↔◌, ℕ, length, bit_or, OnOk};
+ghost use Rattle.std.specs.Prelude.{◌≡◌, ◌<◌, ◌↔◌, ℕ, length, OnOk};
 ghost use Rattle.reach_graph.specs.Reaching.{HasMark, word_at, edge_in, plain_rows, AreInside, Reaches};
 ghost use Rattle.reach_graph.specs.Propagation.{IsGrown, IsPropagated, IsRow};
 
 use crate::edges::Edge;
+use crate::marks::joined;
 use crate::queue::Queue;
 use std::alloc::{AllocError, Global};
 
@@ -43,7 +44,9 @@ fn propagate_row(
 }
 
 /// Adds marks to those of a node, which waits then if one of them is new.
-fn grow(marks: &mut [u64], queue: &mut Queue, node: usize, by: u64) -> Result<(), AllocError>
+///
+/// It fails only where no memory was left.
+pub fn grow(marks: &mut [u64], queue: &mut Queue, node: usize, by: u64) -> Result<(), AllocError>
     requires node { node < length marks.old }
     requires sizes { length queue.old.waits.items ≡ length marks.old }
     ensures { OnOk result (IsGrown node by marks.old queue.old.waiting.items queue.old.waits.items marks.new queue.new.waiting.items queue.new.waits.items) }
@@ -55,12 +58,4 @@ fn grow(marks: &mut [u64], queue: &mut Queue, node: usize, by: u64) -> Result<()
         marks[node] = grown;
     }
     Ok(())
-}
-
-/// The marks of two words.
-fn joined(one: u64, other: u64) -> u64
-    ensures both { result ≡ bit_or one other }
-    ensures fits { result < 18446744073709551616 }
-{
-    one | other
 }

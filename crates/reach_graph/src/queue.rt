@@ -2,11 +2,11 @@ use std::alloc::{AllocError, Global};
 
 /// Nodes that wait, each once.
 #[derive(Drop)]
-pub(crate) struct Queue {
+pub struct Queue {
     /// The nodes, of which the last is next.
-    pub(crate) waiting: Vec<usize>,
+    pub waiting: Vec<usize>,
     /// Whether each node waits.
-    pub(crate) waits: Vec<bool>,
+    pub waits: Vec<bool>,
 }
 
 impl Queue {
@@ -14,8 +14,8 @@ impl Queue {
     ghost use Rattle.reach_graph.specs.Reaching.{word_at};
     ghost use Rattle.reach_graph.specs.Queues.{IsQueue, IsAdded, IsTaken, StartsWith};
 
-    /// The nodes that have a mark.
-    pub(crate) fn of_marked(alloc: Global, marks: &[u64]) -> Result<Queue, AllocError>
+    /// The nodes that have a mark. It fails only where no memory was left.
+    pub fn of_marked(alloc: Global, marks: &[u64]) -> Result<Queue, AllocError>
         ensures { IfOk result (λ q. StartsWith marks.now (length marks.now) q.waiting.items q.waits.items) }
     {
         let nodes = marks.len();
@@ -53,7 +53,7 @@ impl Queue {
     }
 
     /// Takes a node that waits, if one does.
-    pub(crate) fn take(&mut self) -> Option<usize>
+    pub fn take(&mut self) -> Option<usize>
         requires { IsQueue self.old.waiting.items self.old.waits.items }
         ensures { IsTaken self.old.waiting.items self.old.waits.items result self.new.waiting.items self.new.waits.items }
     {

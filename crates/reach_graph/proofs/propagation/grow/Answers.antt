@@ -7,7 +7,7 @@ use Rattle.reach_graph.proofs.propagation.grow.Goals as goal
 pub returns-in_ok-add : goal.returns-in_ok-add
 returns-in_ok-add c =
     let marks = c.args.marks.now in
-    let both = c.joined-grown.ensures.both in
+    let both = c.joined-grown.ensures.is in
     let more = le_or_l (word_at marks c.args.node) c.args.by in
     rw both
     (grown_some c.args.node c.args.by marks c.args.queue.now.waiting.items c.args.queue.now.waits.items c.add.new.self.waiting.items c.add.new.self.waits.items
