@@ -9,7 +9,7 @@ use rv_decode::{A7, BranchKind, CALL_READ, Instr, decode, takes};
 use std::alloc::AllocError;
 
 // Each kind of step has a copy of its own of what performs instructions, by one of these types: LLVM inlines what has one
-// caller, and a step took half as many instructions more where a copy had two.
+// caller, and a run took two fifths more time where a copy had two.
 
 /// A step of a run.
 pub(crate) struct Running;
