@@ -1,13 +1,10 @@
 -- Nodes and their marks, in lists that grow at their ends.
-use Rattle.std.proofs.Common.{◌≡◌, ◌≢◌, inl, inr, ℕ, zero, suc, ◌+◌, ◌-◌, ◌*◌, ◌%◌, ◌^◌, min, ◌<◌, ◌≤◌, ◌==◌, true, false, if◌then◌else◌, List, [], ◌∷◌, ◌++◌, length, slice_index_or, slice_set, refl, sym, ◌∙◌, ap, subst, arith}
+use Rattle.std.proofs.Common.{◌≡◌, ◌≢◌, inl, inr, ℕ, zero, suc, ◌+◌, ◌-◌, ◌*◌, min, ◌<◌, ◌≤◌, ◌==◌, true, false, if◌then◌else◌, List, [], ◌∷◌, ◌++◌, length, slice_index_or, slice_set, refl, sym, ◌∙◌, ap, subst, arith}
 use Rattle.std.specs.Prelude.{◌↔◌, IsTrue}
 use Rattle.std.specs.List.{AllPairs, list_any}
 use Rattle.std.specs.List.Sorted.{IsStrictlyIncreasing}
 use Rattle.std.proofs.lemmas.Bool.{cases_eq, cases_lt, eq-eqb}
 use Rattle.std.proofs.lemmas.Bool.Decides.{nat_tests}
-use Rattle.std.specs.Int.{bit_at}
-use Rattle.std.proofs.lemmas.Nat.{one_shl}
-use Rattle.std.proofs.lemmas.Nat.Bits.{bit_at-pow_same, bit_at-pow_other}
 use Rattle.std.proofs.lemmas.List.{get_or_append_left, get_or_push, length_push, get_or-set_same, get_or-set_other}
 use Rattle.std.proofs.lemmas.List.Kept.{AllPairs-from_increasing}
 use Rattle.std.proofs.lemmas.List.Quantifiers.{all_pairs_push}
@@ -160,20 +157,6 @@ begun_more first k w marks inside one begins =
             subst (λ (v : ℕ). HasMark v j) (sym at) (begins.there j (omega (arith, low, other)))
       ];
     }
-
--- a word of one mark, in any width
-pub one_bit : (width m k : ℕ) → m < width → HasMark (1 * 2 ^ m % 2 ^ width) k ↔ (k ≡ m)
-one_bit width m k low =
-    let e : 1 * 2 ^ m % 2 ^ width ≡ 2 ^ m = one_shl m width low in (
-      λ has. elim (cases_eq k m) [
-        | inl same ↦ same
-        | inr other ↦
-            let none = bit_at-pow_other m k other in
-            let at : bit_at (2 ^ m) k ≡ 1 = subst (λ (v : ℕ). HasMark v k) e has in
-            absurd (omega (arith, none, at))
-      ],
-      λ same. subst (λ (v : ℕ). HasMark v k) (sym e) (ap (bit_at (2 ^ m)) same ∙ bit_at-pow_same m),
-    )
 
 -- one more group
 pub groups_more : (rows : List (List Edge)) (n objects j : ℕ) (groups : List Kept) (kept : Kept) → IsReached rows n (object_node n (64 * j)) (min 64 (objects - 64 * j)) kept → AreGroups rows n objects j groups

@@ -12,7 +12,6 @@ pub mod FactLemmas
 pub mod QueryLemmas
 pub mod SweepLemmas
 pub mod OverlaidLemmas
-pub mod AskedLemmas
 pub mod WaitLemmas
 pub mod LayoutLemmas
 pub mod RowLemmas

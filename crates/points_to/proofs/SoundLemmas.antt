@@ -132,7 +132,7 @@ module _ (c : Code) (g : Graph) (o : ℕ) where
             ])
       ]
 
-  unit_next : (u : Unit) (us : List Unit) (b k : ℕ) → drop k (units_at c b) ≡ u ∷ us → (k < length (units_at c b)) × (u ≡ unit_of c b k) × (drop (suc k) (units_at c b) ≡ us)
+  pub unit_next : (u : Unit) (us : List Unit) (b k : ℕ) → drop k (units_at c b) ≡ u ∷ us → (k < length (units_at c b)) × (u ≡ unit_of c b k) × (drop (suc k) (units_at c b) ≡ us)
   unit_next u us b k is =
       let left = length-drop k (units_at c b) in
       let long : length (drop k (units_at c b)) ≡ suc (length us) = ap length is in
@@ -143,11 +143,11 @@ module _ (c : Code) (g : Graph) (o : ℕ) where
       (inside, unit, rest)
 
   -- where a block leads from a register that holds an address
-  record Comes (b y : ℕ) : Type 0 where
-    register : 0 < y → Derives c g o (Held b (length (units_at c b)) y)
-    escapes : y ≡ 0 → Derives c g o Escaped
+  pub record Comes (b y : ℕ) : Type 0 where
+    pub register : 0 < y → Derives c g o (Held b (length (units_at c b)) y)
+    pub escapes : y ≡ 0 → Derives c g o Escaped
 
-  comes : (us : List Unit) (b k x y : ℕ) → k ≤ length (units_at c b) → drop k (units_at c b) ≡ us → IsHolder x → Leads g.sites.items us x y → Derives c g o (Held b k x) → Comes b y
+  pub comes : (us : List Unit) (b k x y : ℕ) → k ≤ length (units_at c b) → drop k (units_at c b) ≡ us → IsHolder x → Leads g.sites.items us x y → Derives c g o (Held b k x) → Comes b y
   comes [] b k x y within is holder leads held =
       let left = length-drop k (units_at c b) in
       let none : length (drop k (units_at c b)) ≡ 0 = ap length is in

@@ -1,9 +1,8 @@
 -- What marks reach along the edges of a program is what is derived.
-use Rattle.std.proofs.Common.{◌≡◌, ◌⊎◌, inl, inr, ℕ, ◌+◌, ◌<◌, List, [], ◌++◌, take, length, replicate, refl, sym, ◌∙◌, ap, subst, arith}
+use Rattle.std.proofs.Common.{◌≡◌, ◌⊎◌, inl, inr, ℕ, ◌+◌, ◌<◌, List, [], length, replicate, refl, sym, ◌∙◌, ap, subst, arith}
 use Rattle.std.specs.Prelude.{◌↔◌}
-use Rattle.std.proofs.Math.Seq.{take-length}
 use Rattle.std.proofs.lemmas.Bool.{cases_lt}
-use Rattle.std.proofs.lemmas.List.{take-append-le, get_or-replicate, get_or_past, length-replicate}
+use Rattle.std.proofs.lemmas.List.{get_or-replicate, get_or_past, length-replicate}
 use Rattle.std.proofs.lemmas.Nat.Bits.{bit_at_ones}
 use Rattle.object_graph.specs.declared.parts.Graph.{Graph}
 use Rattle.code_blocks.specs.declared.parts.Code.{Code}
@@ -17,10 +16,6 @@ use Rattle.points_to.proofs.CompleteLemmas.{IsClosed, complete}
 use Rattle.points_to.proofs.SoundLemmas.{Reports, told_entry, told_memory, edge_sound}
 
 -- ---- the edges of a program
-
-pub taken_whole : {X : Type 0} (n : ℕ) (xs rest : List X) → length xs ≡ n → take n (xs ++ rest) ≡ xs
-taken_whole n xs rest same =
-    take-append-le n xs rest (omega (arith, same)) ∙ ap (λ (k : ℕ). take k xs) (sym same) ∙ take-length xs
 
 none_of : (count f : ℕ) → edges_of (replicate count []) f ≡ []
 none_of count f =

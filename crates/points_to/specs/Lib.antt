@@ -11,4 +11,3 @@ pub mod Layouts
 pub mod Rows
 pub mod Sweeps
 pub mod Tables
-pub mod Asked

@@ -2,7 +2,6 @@
 //! stand in memory.
 #![tactic(auto)]
 
-mod asked;
 mod blocks;
 mod clearing;
 mod edges;
@@ -26,3 +25,4 @@ pub use laws::words_escape;
 pub use pointing::points;
 pub use reached::Reached;
 pub use table::PointsTable;
+pub use units::{first_source, made, second_source, stored, written};

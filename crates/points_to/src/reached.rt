@@ -1,10 +1,9 @@
 ghost use Rattle.std.specs.Prelude.{◌≡◌, length};
 ghost use Rattle.std.specs.List.Sorted.{IsStrictlyIncreasing};
 
-use crate::asked::with_asked;
-use crate::marks::{has_mark, keep_block};
+use crate::marks::keep_block;
 use crate::ordering::Order;
-use rv_decode::RegSet;
+use reach_graph::has_mark;
 use std::alloc::{AllocError, Global};
 
 /// Which marks reached the registers at the beginning of blocks, and memory.
@@ -25,7 +24,6 @@ impl Reached {
     ghost use Rattle.reach_graph.specs.Reaching.{HasMark};
     ghost use Rattle.points_to.specs.Nodes.{node_count};
     ghost use Rattle.points_to.specs.Tables.{plain, kept_word, Keeps};
-    ghost use Rattle.points_to.specs.Asked.{ReachedAsked};
     ghost use Rattle.points_to.specs.Sweeps.{AreNoted};
 
     /// What is kept of the marks of all nodes, where each that has one is of a word of units of which one has waited.
@@ -69,16 +67,5 @@ impl Reached {
         ensures { IsTrue result ↔ HasMark self.now.memory mark }
     {
         has_mark(self.memory, mark)
-    }
-
-    /// The marks that reached a register that is asked of its block.
-    pub(crate) fn marks_of(&self, asked: &[RegSet]) -> u64
-        ensures { (k : ℕ) → HasMark result k ↔ ReachedAsked asked.now (plain self.now) k }
-    {
-        let mut marks = 0;
-        for place in 0..self.nodes.len() {
-            marks = with_asked(marks, asked, self.nodes[place], self.words[place]);
-        }
-        marks
     }
 }

@@ -8,12 +8,12 @@ ghost use Rattle.points_to.specs.Tables.{Begins, IsReached, Keeps, Kept, plain};
 ghost use Rattle.points_to.specs.Sweeps.{AreBare, AreBegun, AreNoted, HasRoom};
 
 use crate::clearing::{clear, forget};
-use crate::marks::one_mark;
 use crate::ordering::Order;
 use crate::reached::Reached;
 use crate::rows::EdgeRows;
 use crate::sweeping::spread;
 use crate::waiting::add;
+use reach_graph::one_mark;
 use std::alloc::{AllocError, Global};
 
 /// Some nodes, one behind the other.

@@ -1,9 +1,7 @@
 ghost use Rattle.std.specs.Prelude.{◌≤◌, length};
 ghost use Rattle.std.specs.List.Sorted.{IsStrictlyIncreasing};
 
-use crate::marks::{has_mark, joined};
 use crate::reached::Reached;
-use rv_decode::RegSet;
 
 /// Which registers may hold addresses of each object where the blocks of a program begin, and which objects escape.
 #[derive(Drop)]
@@ -19,13 +17,12 @@ pub struct PointsTable {
 }
 
 impl PointsTable {
-    ghost use Rattle.std.specs.Prelude.{◌≡◌, ◌⊎◌, ◌+◌, ◌*◌, ◌%◌, ◌<◌, ◌≤◌, ◌↔◌, ℕ, IsTrue, length, map};
+    ghost use Rattle.std.specs.Prelude.{◌%◌, ◌↔◌, IsTrue, map};
     ghost use Rattle.object_graph.specs.declared.parts.Graph.{Graph};
     ghost use Rattle.code_blocks.specs.declared.parts.Code.{Code};
     ghost use Rattle.reach_graph.specs.Reaching.{HasMark};
     ghost use Rattle.points_to.specs.Points.{MayHold, Escapes};
     ghost use Rattle.points_to.specs.Tables.{IsTableOf, plain, group_of, kept_word, Holds};
-    ghost use Rattle.points_to.specs.Asked.{ReachedAsked, HoldsAsked, IsHeld};
 
     /// Whether register `reg` may hold an address of object `obj` where the block at `leader` begins. Where no block
     /// begins none does, and x0 never does.
@@ -46,41 +43,6 @@ impl PointsTable {
         ensures { (c : Code) (g : Graph) → IsTableOf c g self.now → IsTrue result ↔ Escapes c g obj }
     {
         self.is_stored(obj)
-    }
-
-    /// The objects of a group of 64 of which some register that is asked may hold an address where its block begins:
-    /// mark `k` is object `64 * group + k`. A set of registers is asked for each block, by its number.
-    ///
-    /// The time grows with the number of registers that hold an address of some object of the group, and, where one of
-    /// these stands in memory, with the number of registers that hold what was loaded.
-    pub fn held(&self, asked: &[RegSet], group: usize) -> u64
-        ensures { (c : Code) (g : Graph) → IsTableOf c g self.now → length asked.now ≤ length c.blocks.items → (k : ℕ) → k < 64 → HasMark result k ↔ IsHeld c g asked.now (64 * group + k) }
-    {
-        match self.groups.get(group) {
-            Some(reached) => self.held_of(asked, reached),
-            None => 0,
-        }
-    }
-
-    /// The marks of a group of which a register that is asked may hold an address.
-    fn held_of(&self, asked: &[RegSet], group: &Reached) -> u64
-        ensures { (k : ℕ) → HasMark result k ↔ HoldsAsked asked.now (plain self.now.loads) (plain group.now) k }
-    {
-        joined(group.marks_of(asked), self.loaded_of(asked, group.memory))
-    }
-
-    /// The marks of memory, if a register that is asked may hold what was loaded.
-    fn loaded_of(&self, asked: &[RegSet], stored: u64) -> u64
-        ensures { (k : ℕ) → HasMark result k ↔ (HasMark stored k × ReachedAsked asked.now (plain self.now.loads) 0) }
-    {
-        if stored == 0 {
-            return 0;
-        }
-        if has_mark(self.loads.marks_of(asked), 0) {
-            stored
-        } else {
-            0
-        }
     }
 
     /// Whether the node of a register is reached from an object, or by what is loaded and the object reaches memory.

@@ -7,7 +7,7 @@ use object_graph::{Site, SiteKind};
 use rv_decode::{ImmKind, Instr, LoadKind, RegKind};
 
 /// The register that an instruction writes; 0 where it writes none. ECALL writes x10.
-pub(crate) fn written(instr: Option<Instr>) -> u8
+pub fn written(instr: Option<Instr>) -> u8
     ensures { result ≡ written instr }
 {
     match instr {
@@ -73,7 +73,7 @@ pub(crate) fn is_sum(kind: RegKind) -> bool
 
 /// The first register of which an instruction makes what may be an address; 0 for none. At a site it makes the
 /// address anew.
-pub(crate) fn first_source(site: Option<Site>, instr: Option<Instr>) -> u8
+pub fn first_source(site: Option<Site>, instr: Option<Instr>) -> u8
     ensures { result ≡ first_source site instr }
 {
     match instr {
@@ -88,7 +88,7 @@ pub(crate) fn first_source(site: Option<Site>, instr: Option<Instr>) -> u8
 }
 
 /// The second one; 0 for none.
-pub(crate) fn second_source(instr: Option<Instr>) -> u8
+pub fn second_source(instr: Option<Instr>) -> u8
     ensures { result ≡ second_source instr }
 {
     match instr {
@@ -106,7 +106,7 @@ fn chosen(wanted: bool, register: u8) -> u8
 }
 
 /// The register that an instruction stores, in any width; 0 for none.
-pub(crate) fn stored(instr: Option<Instr>) -> u8
+pub fn stored(instr: Option<Instr>) -> u8
     ensures { result ≡ stored instr }
 {
     match instr {
@@ -117,7 +117,7 @@ pub(crate) fn stored(instr: Option<Instr>) -> u8
 }
 
 /// The object of whose address an instruction makes a part, at its site.
-pub(crate) fn made(site: Option<Site>, instr: Option<Instr>) -> Option<u32>
+pub fn made(site: Option<Site>, instr: Option<Instr>) -> Option<u32>
     ensures { result ≡ made site instr }
 {
     match site {

@@ -3,8 +3,8 @@ ghost use Rattle.std.specs.Prelude.{◌≡◌, ◌⊎◌, ◌+◌, ◌*◌, ◌/
 ghost use Rattle.reach_graph.specs.Reaching.{HasMark, word_at};
 ghost use Rattle.points_to.specs.Sweeps.{HasRoom, IsAdded, IsTaken};
 
-use crate::marks::{joined, one_mark};
 use crate::ordering::Order;
+use reach_graph::{joined, one_mark};
 
 /// Lets a unit wait.
 pub(crate) fn add(order: &Order, waiting: &mut [u64], unit: u32)

@@ -1,7 +1,8 @@
 use Rattle.std.proofs.Common.{◌≡◌, ℕ, List, Vec, drop, length, sym, ap, subst, arith}
 use Rattle.std.specs.Global.{Global}
 use Rattle.points_to.specs.Nodes.{Adds, AllEdges, AreEdges, full_rows}
-use Rattle.points_to.proofs.TableLemmas.{taken_whole, edges_are}
+use Rattle.reach_graph.proofs.ListLemmas.{taken_whole}
+use Rattle.points_to.proofs.TableLemmas.{edges_are}
 use Rattle.points_to.proofs.blocks.edges_of.Goals as goal
 
 pub returns : goal.returns

@@ -13,6 +13,6 @@ returns c =
     let size = c.args.order.now.inverse.size in
     let inside : place / 64 < length c.args.waiting.now = omega (arith, is, low, size, c.requires.room) in
     added_unit places c.args.waiting.now unit place c.joined.result c.requires.unit is inside c.joined.type_inv (λ k. (
-      λ has. elim ((c.joined.ensures k).0 has) [ inl old ↦ inl old | inr new ↦ inr ((c.one_mark.ensures k).0 new) ],
-      λ has. (c.joined.ensures k).1 (elim has [ inl old ↦ inl old | inr new ↦ inr ((c.one_mark.ensures k).1 new) ]),
+      λ has. elim ((c.joined.ensures.marks k).0 has) [ inl old ↦ inl old | inr new ↦ inr ((c.one_mark.ensures k).0 new) ],
+      λ has. (c.joined.ensures.marks k).1 (elim has [ inl old ↦ inl old | inr new ↦ inr ((c.one_mark.ensures k).1 new) ]),
     ))
