@@ -1,5 +1,5 @@
 -- What is marked on the way to the objects that may be overlaid tells which they are.
-use Rattle.std.proofs.Common.{◌≡◌, ◌∙◌, ◌⊎◌, inl, inr, ℕ, ◌+◌, ◌*◌, ◌/◌, ◌%◌, ◌^◌, ◌<◌, ◌≤◌, ◌&&◌, Bool, true, false, List, [], ◌∷◌, ◌++◌, bit_or, length, Result, Ok, Err, Vec, slice_index_or, refl, sym, ap, subst, arith}
+use Rattle.std.proofs.Common.{not, ◌≡◌, ◌∙◌, ◌⊎◌, inl, inr, ℕ, ◌+◌, ◌*◌, ◌%◌, ◌^◌, ◌<◌, ◌≤◌, ◌&&◌, Bool, true, false, List, [], ◌∷◌, ◌++◌, bit_or, length, Result, Ok, Err, Vec, slice_index_or, refl, sym, ap, subst, arith}
 use Rattle.std.specs.Prelude.{◌↔◌, IfOk}
 use Rattle.std.specs.Global.{Global}
 use Rattle.std.specs.declared.alloc.AllocError.{AllocError}
@@ -17,20 +17,19 @@ use Rattle.object_graph.specs.declared.parts.Graph.{Graph}
 use Rattle.code_blocks.specs.Blocks.{start_of}
 use Rattle.code_blocks.specs.declared.parts.Block.{Block}
 use Rattle.code_blocks.specs.declared.parts.Code.{Code}
-use Rattle.reach_graph.specs.Reaching.{HasMark, word_at}
-use Rattle.reach_graph.proofs.MarkLemmas.{or_left, or_right, or_cases, none_in_zero}
+use Rattle.reach_graph.specs.Reaching.{HasMark}
+use Rattle.reach_graph.proofs.MarkLemmas.{or_left, or_right, or_cases, none_in_zero, one_bit}
 use Rattle.liveness.specs.Live.{LiveAt, Live}
 use Rattle.liveness.specs.Tables.{IsTableOf}
 use Rattle.liveness.specs.declared.table.LiveTable.{LiveTable}
 use Rattle.liveness.proofs.TableLemmas.{found_live}
 use Rattle.points_to.specs.Points.{Held}
-use Rattle.points_to.specs.Asked.{no_registers, IsAsked, IsHeld}
+use Rattle.address_exposure.specs.Exposed.{no_registers, IsAsked, IsHeld, IsExposed, mark_at}
 use Rattle.points_to.specs.Overlaid.{is_border, IsHeldAtBorder, MayBeOverlaid, AreOverlaid}
 use Rattle.points_to.proofs.FactLemmas.{of_register, of_block}
-use Rattle.points_to.proofs.KeptLemmas.{one_bit}
 use Rattle.points_to.proofs.OverlaidLemmas.{words_escape}
 use Rattle.overlay_candidates.specs.Overlaid.{Lives}
-use Rattle.overlay_candidates.specs.Found.{mark_at, AreLiveAtBorders, AreHeld, IsFree, AreFree}
+use Rattle.overlay_candidates.specs.Found.{AreLiveAtBorders, IsSited, IsFree, AreFree}
 use Rattle.placement_candidates.proofs.SideLemmas.{AreNumbers, are_numbers}
 
 -- ---- registers that are live
@@ -104,30 +103,6 @@ borders_more c live borders b block border old set table inside is test told are
       ];
     }
 
--- ---- objects that are held
-
-pub no_groups : (c : Code) (g : Graph) (asked : List RegSet) (held : List ℕ) → held ≡ [] → AreHeld c g asked 0 held
-no_groups c g asked held empty = record {
-  size = ap (λ (ws : List ℕ). length ws) empty;
-  each = λ o below. absurd (omega (arith, below));
-}
-
-pub held_more : (c : Code) (g : Graph) (asked : List RegSet) (j word : ℕ) (held : List ℕ) → ((k : ℕ) → k < 64 → HasMark word k ↔ IsHeld c g asked (64 * j + k)) → AreHeld c g asked j held → AreHeld c g asked (j + 1) (held ++ word ∷ [])
-held_more c g asked j word held told are =
-    let size = are.size in
-    let longer = length_push held word in record {
-      size = omega (arith, size, longer);
-      each = λ o below. elim (cases_eq (o / 64) j) [
-        | inl same ↦
-            let at : word_at (held ++ word ∷ []) (o / 64) ≡ word = get_or_push held word 0 (o / 64) (omega (arith, same, size)) in
-            let is : 64 * j + o % 64 ≡ o = omega (arith, same) in
-            subst (λ (w : ℕ). HasMark w (o % 64) ↔ IsHeld c g asked o) (sym at) (subst (λ (n : ℕ). HasMark word (o % 64) ↔ IsHeld c g asked n) is (told (o % 64) (omega arith)))
-        | inr other ↦
-            let before : o / 64 < length held = omega (arith, below, other, size) in
-            subst (λ (w : ℕ). HasMark w (o % 64) ↔ IsHeld c g asked o) (sym (get_or_append_left held (word ∷ []) 0 (o / 64) before)) (are.each o (omega (arith, below, other)))
-      ];
-    }
-
 -- ---- objects that may be overlaid
 
 pub none_free : (c : Code) (g : Graph) (regions : List ℕ) (asked : List RegSet) (marks : List Bool) → marks ≡ [] → AreFree c g regions asked 0 marks
@@ -150,6 +125,14 @@ free_more c g regions asked n marks mark told are =
             subst (λ (m : Bool). (m ≡ true) ↔ IsFree c g regions asked o) (sym (get_or_append_left marks (mark ∷ []) false o before)) (are.each o (omega (arith, below, other)))
       ];
     }
+
+-- one is sited and isn't exposed
+pub is_free : (c : Code) (g : Graph) (regions : List ℕ) (asked : List RegSet) (o : ℕ) (sited exposed : Bool) → (sited ≡ true) ↔ IsSited c g regions o → (exposed ≡ true) ↔ IsExposed c g asked o
+    → (sited && not exposed ≡ true) ↔ IsFree c g regions asked o
+is_free c g regions asked o true false sites exposes =
+    (λ on. record { sited = sites.0 refl; hidden = λ is. let on = exposes.1 is in absurd cc }, λ free. refl)
+is_free c g regions asked o true true sites exposes = (λ on. absurd cc, λ free. absurd (free.hidden (exposes.0 refl)))
+is_free c g regions asked o false exposed sites exposes = (λ on. absurd cc, λ free. sites.1 free.sited)
 
 module _ (c : Code) (g : Graph) (regions : List ℕ) (borders : List Bool) (asked : List RegSet) (live : AreLiveAtBorders c borders (length c.blocks.items) asked) where
   asked_below : (b x : ℕ) → IsAsked asked b x → b < length c.blocks.items
@@ -179,18 +162,17 @@ module _ (c : Code) (g : Graph) (regions : List ℕ) (borders : List Bool) (aske
   overlaid : (o : ℕ) → o < length g.objects.items → IsFree c g regions asked o → MayBeOverlaid (Lives c) c g regions borders o
   overlaid o below free = record {
     moves = below;
-    kept_out = free.kept_out;
-    no_word = words_escape c g o free.kept_out;
+    kept_out = λ escapes. free.hidden (inl escapes);
+    no_word = words_escape c g o (λ escapes. free.hidden (inl escapes));
     has_site = free.sited.has_site;
     in_regions = free.sited.in_regions;
-    free = λ held. free.free (held_there o held);
+    free = λ held. free.hidden (inr (held_there o held));
   }
 
   free_of : (o : ℕ) → MayBeOverlaid (Lives c) c g regions borders o → IsFree c g regions asked o
   free_of o may = record {
     sited = record { has_site = may.has_site; in_regions = may.in_regions };
-    kept_out = may.kept_out;
-    free = λ held. may.free (at_border o held);
+    hidden = λ exposed. elim exposed [ inl escapes ↦ may.kept_out escapes | inr held ↦ may.free (at_border o held) ];
   }
 
   pub overlaid_are : (marks : List Bool) (objects : List ℕ) → AreFree c g regions asked (length g.objects.items) marks → objects ≡ collected (mark_at marks) (λ o. o) (length marks) → AreOverlaid (Lives c) c g regions borders objects

@@ -17,7 +17,8 @@ use Rattle.code_blocks.specs.declared.parts.Code.{Code}
 use Rattle.points_to.specs.Points.{unit_of}
 use Rattle.points_to.proofs.CompleteLemmas.{unit_in_block}
 use Rattle.points_to.specs.Overlaid.{region_in, site_means, IsInRegion}
-use Rattle.overlay_candidates.specs.Found.{stands_at, HasAddress, StandsInRegion, mark_at, strays, IsSited, AreSited}
+use Rattle.address_exposure.specs.Exposed.{mark_at}
+use Rattle.overlay_candidates.specs.Found.{stands_at, HasAddress, StandsInRegion, strays, IsSited, AreSited}
 
 two : (b : Bool) → (b ≡ true) ⊎ (b ≡ false)
 two true = inl refl

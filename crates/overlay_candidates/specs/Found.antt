@@ -1,8 +1,7 @@
 -- What is marked on the way to the objects that may be overlaid.
-use Rattle.std.specs.Prelude.{◌≡◌, ◌↔◌, ℕ, ◌/◌, ◌%◌, ◌<◌, ◌==◌, Bool, true, false, not, ◌&&◌, List, length, slice_index_or}
+use Rattle.std.specs.Prelude.{◌≡◌, ◌↔◌, ℕ, ◌<◌, ◌==◌, Bool, true, not, ◌&&◌, List, length}
 use Rattle.std.specs.List.{All, list_any}
 use Rattle.list_checks.specs.Sorted.{is_number}
-use Rattle.reach_graph.specs.Reaching.{HasMark, word_at}
 use Rattle.rv_decode.specs.declared.instructions.RegSet.{RegSet}
 use Rattle.object_graph.specs.declared.parts.Site.{Site}
 use Rattle.object_graph.specs.declared.parts.Graph.{Graph}
@@ -10,8 +9,7 @@ use Rattle.code_blocks.specs.Leads.{units_at}
 use Rattle.code_blocks.specs.declared.parts.Unit.{Unit}
 use Rattle.code_blocks.specs.declared.parts.Code.{Code}
 use Rattle.liveness.specs.Live.{LiveAt}
-use Rattle.points_to.specs.Points.{Escapes}
-use Rattle.points_to.specs.Asked.{IsAsked, IsHeld}
+use Rattle.address_exposure.specs.Exposed.{IsAsked, IsExposed, mark_at}
 use Rattle.points_to.specs.Overlaid.{region_in, is_border, site_means, IsInRegion}
 
 -- ---- addresses of units
@@ -30,9 +28,6 @@ pub record StandsInRegion (c : Code) (regions : List ℕ) (count a : ℕ) : Type
   pub region : 0 < region_in regions block
 
 -- ---- objects with sites
-
-abbrev pub mark_at : List Bool → ℕ → Bool
-mark_at marks o = slice_index_or marks o false
 
 -- a site of object `o` stands at none of the addresses
 abbrev pub strays : List ℕ → ℕ → Site → Bool
@@ -54,18 +49,12 @@ pub record AreLiveAtBorders (c : Code) (borders : List Bool) (count : ℕ) (aske
   pub size : length asked ≡ count
   pub each : (b x : ℕ) → b < count → x < 32 → IsAsked asked b x ↔ ((is_border borders b ≡ true) × LiveAt c x b 0)
 
--- the objects of the first groups of 64 that they may hold, object `o` by mark `o % 64`
-pub record AreHeld (c : Code) (g : Graph) (asked : List RegSet) (count : ℕ) (held : List ℕ) : Type 0 where
-  pub size : length held ≡ count
-  pub each : (o : ℕ) → o / 64 < count → HasMark (word_at held (o / 64)) (o % 64) ↔ IsHeld c g asked o
-
 -- ---- objects that may be overlaid
 
--- object `o` is sited, does not escape, and is not held
+-- object `o` is sited, and is not exposed
 pub record IsFree (c : Code) (g : Graph) (regions : List ℕ) (asked : List RegSet) (o : ℕ) : Type 0 where
   pub sited : IsSited c g regions o
-  pub kept_out : Escapes c g o → ⊥
-  pub free : IsHeld c g asked o → ⊥
+  pub hidden : IsExposed c g asked o → ⊥
 
 pub record AreFree (c : Code) (g : Graph) (regions : List ℕ) (asked : List RegSet) (count : ℕ) (marks : List Bool) : Type 0 where
   pub size : length marks ≡ count

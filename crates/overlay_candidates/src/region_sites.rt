@@ -4,7 +4,8 @@ ghost use Rattle.std.specs.List.{list_any};
 ghost use Rattle.list_checks.specs.Sorted.{IsSorted, is_number};
 ghost use Rattle.code_blocks.specs.Leads.{units_in};
 ghost use Rattle.points_to.specs.Overlaid.{region_in, site_means};
-ghost use Rattle.overlay_candidates.specs.Found.{stands_at, HasAddress, StandsInRegion, mark_at, strays, AreSited};
+ghost use Rattle.overlay_candidates.specs.Found.{stands_at, HasAddress, StandsInRegion, strays, AreSited};
+ghost use Rattle.address_exposure.specs.Exposed.{mark_at};
 
 use code_blocks::{Block, Code, Unit};
 use list_checks::{arrange, has};

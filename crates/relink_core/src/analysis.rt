@@ -107,8 +107,8 @@ pub fn analyse<'a>(
     }
 }
 
-/// Which registers may hold addresses of an object where blocks begin, and which objects escape. It takes most of the
-/// time of all analyses, so a command that doesn't read it doesn't make it. It fails only where no memory was left.
+/// Which registers may hold addresses of an object where blocks begin, and which objects escape. No command reads this table:
+/// it answers for each object and each register of each block. It fails only where no memory was left.
 pub fn points_of(alloc: Global, analysis: &Analysis) -> Result<PointsTable, AllocError>
     requires ascending { IsStrictlyIncreasing (starts_of analysis.now.code) }
     requires graph { IsSomeGraph analysis.now.graph }

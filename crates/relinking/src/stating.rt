@@ -14,7 +14,7 @@ use overlay_candidates::{Measured, overlaid_objects, whole_full};
 use placement_candidates::select;
 use placement_programme::{Full, Programme};
 use profile_runner::{Profile, ProfileFault};
-use relink_core::{Analysis, points_of};
+use relink_core::Analysis;
 use std::alloc::{AllocError, Global};
 
 /// What a run states.
@@ -33,13 +33,11 @@ pub(crate) fn objects_of(alloc: Global, analysis: &Analysis<'_>) -> Result<Vec<u
     requires { (file : List ℕ) × ((board : Board) × IsAnalysisOf file board analysis.now) }
     ensures { IfOk result (λ objects. AreOverlaidObjects analysis.now.code analysis.now.graph analysis.now.regions objects.items) }
 {
-    let points = points_of(alloc, analysis)?;
     overlaid_objects(
         alloc,
         &analysis.code,
         &analysis.graph,
         &analysis.live,
-        &points,
         &analysis.regions,
     )
 }

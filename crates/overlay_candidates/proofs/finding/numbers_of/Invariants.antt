@@ -1,6 +1,6 @@
 use Rattle.std.proofs.Common.{◌≡◌}
 use Rattle.list_checks.specs.Sorted.{collected}
-use Rattle.overlay_candidates.specs.Found.{mark_at}
+use Rattle.address_exposure.specs.Exposed.{mark_at}
 use Rattle.overlay_candidates.proofs.finding.numbers_of.Given as goal
 
 abbrev pub invariant-loop-object : goal.invariant-loop-object

@@ -1,5 +1,4 @@
-use Rattle.std.proofs.Common.{ℕ, ◌≤◌, length, sym, subst, arith}
-use Rattle.overlay_candidates.specs.Found.{AreHeld}
+use Rattle.std.proofs.Common.{length}
 use Rattle.overlay_candidates.proofs.FoundLemmas.{found}
 use Rattle.overlay_candidates.proofs.finding.overlaid_objects.Goals as goal
 
@@ -11,11 +10,6 @@ returns c =
     let sited = c.in_ok-sited.ensures in
     let borders = c.in_ok-asked.ensures in
     let asked = c.in_ok-asked.asked.items in
-    let words = c.in_ok-held.held.items in
-    let table = c.requires.points in
-    let size = borders.size in
-    let few : length asked ≤ length code.blocks.items = omega (arith, size) in
-    let held = (rw c.deref.ensures.value at c.in_ok-held.ensures) code graph table few in
-    let whole = subst (λ (n : ℕ). AreHeld code graph asked n words) (sym held.size) held in
-    let free = (rw (c.deref-2.ensures.value, c.deref-3.ensures.value) at c.in_ok-free.ensures) code graph regions asked table sited whole in
+    let exposed = rw c.deref.ensures.value at c.in_ok-exposed.ensures in
+    let free = (rw (c.deref-2.ensures.value, c.deref-3.ensures.value) at c.in_ok-free.ensures) code graph regions asked sited exposed in
     found code graph regions c.args.regions.now.border.items asked borders c.in_ok-free.free.items c.deref-4.result.now (length c.in_ok-sited.sited.items) c.numbers_of.result free sited.size c.deref-4.ensures.value c.numbers_of.ensures

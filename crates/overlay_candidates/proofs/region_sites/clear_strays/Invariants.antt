@@ -1,6 +1,7 @@
 use Rattle.std.proofs.Common.{◌≡◌, ℕ, ◌<◌, not, ◌&&◌, take, length}
 use Rattle.std.specs.List.{list_any}
-use Rattle.overlay_candidates.specs.Found.{mark_at, strays}
+use Rattle.address_exposure.specs.Exposed.{mark_at}
+use Rattle.overlay_candidates.specs.Found.{strays}
 use Rattle.overlay_candidates.proofs.region_sites.clear_strays.Given as goal
 
 abbrev pub invariant-loop-k : goal.invariant-loop-k

@@ -1,7 +1,7 @@
 use Rattle.std.proofs.Common.{◌≡◌, ℕ, ◌<◌, ◌||◌, take, length}
 use Rattle.std.specs.List.{list_any}
 use Rattle.points_to.specs.Overlaid.{site_means}
-use Rattle.overlay_candidates.specs.Found.{mark_at}
+use Rattle.address_exposure.specs.Exposed.{mark_at}
 use Rattle.overlay_candidates.proofs.region_sites.mark_all.Given as goal
 
 abbrev pub invariant-loop-k : goal.invariant-loop-k

@@ -1,5 +1,5 @@
 use Rattle.std.proofs.Common.{◌≡◌, Bool, List, drop, length, sym, ap, subst, arith}
-use Rattle.points_to.proofs.TableLemmas.{taken_whole}
+use Rattle.reach_graph.proofs.ListLemmas.{taken_whole}
 use Rattle.overlay_candidates.specs.Found.{AreSited}
 use Rattle.overlay_candidates.proofs.SitedLemmas.{are_sited}
 use Rattle.overlay_candidates.proofs.region_sites.sited_objects.Goals as goal

@@ -1,0 +1,11 @@
+pub use Rattle.reach_graph.specs.Reaching
+pub use Rattle.rv_decode.specs.RegSet
+pub use Rattle.object_graph.specs.Lookups
+pub use Rattle.code_blocks.specs.Edges
+pub use Rattle.code_blocks.specs.Numbers
+pub use Rattle.points_to.specs.Points
+pub use Rattle.points_to.specs.Flows
+pub use Rattle.points_to.specs.Sweeps
+pub mod Exposed
+pub mod Transfers
+pub mod Spreading
