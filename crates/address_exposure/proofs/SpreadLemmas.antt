@@ -2,7 +2,7 @@
 use Rattle.std.proofs.Common.{◌≡◌, ◌≢◌, ◌⊎◌, inl, inr, ℕ, ◌+◌, ◌<◌, ◌≤◌, Bool, false, List, [], length, map, slice_set, slice_index_or, Some, refl, sym, ◌∙◌, ap, subst, arith}
 use Rattle.std.specs.Prelude.{◌↔◌}
 use Rattle.std.proofs.lemmas.Bool.{cases_eq, cases_lt}
-use Rattle.std.proofs.lemmas.List.{get_or-set_same, get_or-set_other, get_or_past, get_or_default, length-map}
+use Rattle.std.proofs.lemmas.List.{get_or-set_other, get_or_past, get_or_default, length-map}
 use Rattle.rv_decode.specs.declared.instructions.RegSet.{RegSet}
 use Rattle.object_graph.specs.declared.parts.Site.{Site}
 use Rattle.object_graph.specs.declared.parts.Graph.{Graph}
@@ -13,24 +13,15 @@ use Rattle.reach_graph.specs.Reaching.{HasMark, word_at, edges_of, edge_at}
 use Rattle.reach_graph.specs.declared.edges.Edge.{Edge}
 use Rattle.reach_graph.specs.Queues.{waits_at, IsQueue, StartsWith, IsTaken}
 use Rattle.reach_graph.specs.Propagation.{GoesOn, IsGrown}
-use Rattle.reach_graph.proofs.MarkLemmas.{or_right, or_cases, none_in_zero}
+use Rattle.reach_graph.proofs.MarkLemmas.{or_right, or_cases, none_in_zero, word_here, word_there}
 use Rattle.reach_graph.proofs.PropagationLemmas.{off_before, none_waits}
 use Rattle.liveness.specs.Flows.{Lets, BackEdges, ArrivalEdges, AreBackEdges}
 use Rattle.points_to.specs.Points.{IsHolder, Held, Derives}
 use Rattle.points_to.specs.Flows.{Leads}
-use Rattle.points_to.specs.Sweeps.{PassedUpto, PassedOn}
 use Rattle.points_to.proofs.SoundLemmas.{comes}
 use Rattle.address_exposure.specs.Exposed.{IsExposed}
 use Rattle.address_exposure.specs.Transfers.{LeadsInto, AreBefore}
-use Rattle.address_exposure.specs.Spreading.{AreWords, IsLed, HeldBefore, HeldBehind, Exposes, ExposesBehind, AreSound, IsStep, AreMore, MeansAlong, ArePassed}
-
--- ---- words in a table
-
-word_here : (words : List ℕ) (m v : ℕ) → m < length words → word_at (slice_set words m v) m ≡ v
-word_here words m v inside = get_or-set_same words m v 0 inside
-
-word_there : (words : List ℕ) (m j v : ℕ) → j ≢ m → word_at (slice_set words m v) j ≡ word_at words j
-word_there words m j v other = get_or-set_other words m j v 0 other
+use Rattle.address_exposure.specs.Spreading.{AreWords, IsLed, HeldBefore, HeldBehind, Exposes, ExposesBehind, AreSound, IsStep, AreMore, MeansAlong, PassedUpto, PassedOn, ArePassed}
 
 -- behind the blocks there are no units
 pub no_units : (c : Code) (m : ℕ) → length c.blocks.items ≤ m → units_at c m ≡ []

@@ -5,7 +5,6 @@ pub use Rattle.code_blocks.specs.Edges
 pub use Rattle.code_blocks.specs.Numbers
 pub use Rattle.points_to.specs.Points
 pub use Rattle.points_to.specs.Flows
-pub use Rattle.points_to.specs.Sweeps
 pub mod Exposed
 pub mod Transfers
 pub mod Spreading

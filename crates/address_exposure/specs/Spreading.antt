@@ -9,11 +9,10 @@ use Rattle.code_blocks.specs.Edges.{is_indirect_end}
 use Rattle.code_blocks.specs.Numbers.{end_at}
 use Rattle.code_blocks.specs.Leads.{IsBlockOf, units_at}
 use Rattle.code_blocks.specs.declared.parts.Code.{Code}
-use Rattle.reach_graph.specs.Reaching.{HasMark, word_at, edge_at}
+use Rattle.reach_graph.specs.Reaching.{HasMark, word_at, edges_of, edge_at}
 use Rattle.reach_graph.specs.declared.edges.Edge.{Edge}
 use Rattle.reach_graph.specs.Queues.{waits_at}
 use Rattle.points_to.specs.Points.{IsHolder, Held, Derives}
-use Rattle.points_to.specs.Sweeps.{PassedOn}
 use Rattle.address_exposure.specs.Exposed.{IsAsked, IsExposed}
 use Rattle.address_exposure.specs.Transfers.{LeadsInto}
 
@@ -73,6 +72,15 @@ AreMore behind behind' = (m k : ℕ) → HasMark (word_at behind m) k → HasMar
 abbrev pub MeansAlong : Code → Graph → List RegSet → List Edge → ℕ → Type 0
 MeansAlong c g asked row by =
     (i x : ℕ) → i < length row → HasMark by x → HasMark (edge_at row i).mask x → ExposesBehind c g asked (edge_at row i).to x
+
+-- the marks `by` passed along the first `count` edges of a row
+abbrev pub PassedUpto : List Edge → ℕ → ℕ → List ℕ → Type 0
+PassedUpto row count by marks =
+    (i k : ℕ) → i < count → HasMark by k → HasMark (edge_at row i).mask k → HasMark (word_at marks (edge_at row i).to) k
+
+-- along all edges of node `m`
+abbrev pub PassedOn : List (List Edge) → ℕ → List ℕ → ℕ → Type 0
+PassedOn rows by marks m = PassedUpto (edges_of rows m) (length (edges_of rows m)) by marks
 
 -- ---- all nodes
 

@@ -26,8 +26,7 @@ impl Exposure {
     ghost use Rattle.reach_graph.specs.Reaching.{edge_at, plain_rows};
     ghost use Rattle.reach_graph.specs.Propagation.{GoesOn, IsRow};
     ghost use Rattle.liveness.specs.Flows.{AreBackEdges};
-    ghost use Rattle.points_to.specs.Sweeps.{PassedUpto};
-    ghost use Rattle.address_exposure.specs.Spreading.{AreMore, AreSound, AreSpread, AreWords, IsStep, MeansAlong};
+    ghost use Rattle.address_exposure.specs.Spreading.{AreMore, AreSound, AreSpread, AreWords, IsStep, MeansAlong, PassedUpto};
 
     /// Lets the registers before all nodes spread along the edges, as far as they come.
     ///

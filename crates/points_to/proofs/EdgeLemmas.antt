@@ -1,15 +1,15 @@
 -- Sets of edges that are added.
-use Rattle.std.proofs.Common.{◌≡◌, ◌≢◌, ◌⊎◌, inl, inr, ℕ, ◌+◌, ◌<◌, List, [], ◌∷◌, map, length, refl, sym, ◌∙◌, ap, subst, arith}
+use Rattle.std.proofs.Common.{◌≡◌, ◌≢◌, ◌⊎◌, inl, inr, ℕ, ◌+◌, ◌<◌, List, [], ◌∷◌, length, refl, sym, ◌∙◌, ap, subst, arith}
 use Rattle.std.specs.Prelude.{◌↔◌, Vec}
 use Rattle.std.specs.Global.{Global}
 use Rattle.std.proofs.Common.{set, get_or, ◌++◌}
 use Rattle.std.proofs.lemmas.Bool.{cases_eq}
-use Rattle.std.proofs.lemmas.List.{get_or-set_same, get_or-set_other, get_or_append_left, get_or_push, map-append, map-set, length-map, get_or-map, length-append}
+use Rattle.std.proofs.lemmas.List.{get_or-set_same, get_or-set_other, get_or_append_left, get_or_push, map-set, length-map, get_or-map, length-append}
 use Rattle.std.proofs.Math.ListN.{length-set}
 use Rattle.points_to.specs.Flows.{Has, row}
-use Rattle.reach_graph.specs.Reaching.{edges_of, edge_at, no_edge}
+use Rattle.reach_graph.specs.Reaching.{edges_of, edge_at, no_edge, row_items, plain_rows}
 use Rattle.points_to.specs.declared.flows.Places.{Places}
-use Rattle.points_to.specs.Nodes.{HasEdge, all_marks, Adds, Upto, OneEdge, PlaceEdge, RegisterEdge, RowEdge, entry, end_of, full_edge, full_row, full_rows}
+use Rattle.points_to.specs.Nodes.{HasEdge, all_marks, Adds, Upto, OneEdge, PlaceEdge, RegisterEdge, RowEdge, entry, end_of}
 use Rattle.reach_graph.specs.declared.edges.Edge.{Edge}
 
 pub adds_none : (S : ℕ → ℕ → Type 0) (a : List (List Edge)) → ((f t : ℕ) → S f t → ⊥) → Adds S a a
@@ -153,16 +153,14 @@ adds_one rows from a inside mask = record {
   ];
 }
 
-pub push_one : (rows : List (Vec ℕ Global)) (from to : ℕ) (old new : Vec ℕ Global) → from < length rows → new.items ≡ (get_or rows from old).items ++ to ∷ [] → Adds (OneEdge from to) (full_rows rows) (full_rows (set rows from new))
-push_one rows from to old new inside pushed =
-    let count = length-map rows full_row in
-    let before : List ℕ = (get_or rows from old).items in
-    let there : edges_of (full_rows rows) from ≡ map full_edge before = get_or-map full_row rows from old [] inside in
-    let more : full_row new ≡ edges_of (full_rows rows) from ++ full_edge to ∷ [] =
-    ap (map full_edge) pushed ∙ map-append full_edge before (to ∷ []) ∙ ap (λ (es : List Edge). es ++ full_edge to ∷ []) (sym {A = List Edge} there) in
-    let whole : full_rows (set rows from new) ≡ set (full_rows rows) from (edges_of (full_rows rows) from ++ full_edge to ∷ []) =
-    map-set full_row rows from new ∙ ap (set (full_rows rows) from) more in
-    subst (Adds (OneEdge from to) (full_rows rows)) (sym whole) (adds_one (full_rows rows) from (full_edge to) (omega (arith, inside, count)) refl)
+pub push_one : (rows : List (Vec Edge Global)) (from : ℕ) (a : Edge) (old new : Vec Edge Global) → from < length rows → new.items ≡ (get_or rows from old).items ++ a ∷ [] → a.mask ≡ all_marks → Adds (OneEdge from a.to) (plain_rows rows) (plain_rows (set rows from new))
+push_one rows from a old new inside pushed mask =
+    let count = length-map rows row_items in
+    let there : edges_of (plain_rows rows) from ≡ (get_or rows from old).items = get_or-map row_items rows from old [] inside in
+    let more : new.items ≡ edges_of (plain_rows rows) from ++ a ∷ [] = pushed ∙ ap (λ (es : List Edge). es ++ a ∷ []) (sym {A = List Edge} there) in
+    let whole : plain_rows (set rows from new) ≡ set (plain_rows rows) from (edges_of (plain_rows rows) from ++ a ∷ []) =
+    map-set row_items rows from new ∙ ap (set (plain_rows rows) from) more in
+    subst (Adds (OneEdge from a.to) (plain_rows rows)) (sym whole) (adds_one (plain_rows rows) from a (omega (arith, inside, count)) mask)
 
 pub place_one : (from base : ℕ) (places : Places) (y f t : ℕ) → Has places y → PlaceEdge from base places y f t ↔ OneEdge from (base + y) f t
 place_one from base places y f t has = (λ (_, leaves, comes). (leaves, comes), λ (leaves, comes). (has, leaves, comes))

@@ -1,20 +1,20 @@
 -- Nodes and their marks, in lists that grow at their ends.
-use Rattle.std.proofs.Common.{◌≡◌, ◌≢◌, inl, inr, ℕ, zero, suc, ◌+◌, ◌-◌, ◌*◌, min, ◌<◌, ◌≤◌, ◌==◌, true, false, if◌then◌else◌, List, [], ◌∷◌, ◌++◌, length, slice_index_or, slice_set, refl, sym, ◌∙◌, ap, subst, arith}
+use Rattle.std.proofs.Common.{◌≡◌, ◌≢◌, inl, inr, ℕ, zero, suc, ◌+◌, ◌-◌, ◌*◌, min, ◌<◌, ◌==◌, true, false, if◌then◌else◌, List, [], ◌∷◌, ◌++◌, length, slice_index_or, slice_set, refl, sym, ◌∙◌, ap, subst, arith}
 use Rattle.std.specs.Prelude.{◌↔◌, IsTrue}
 use Rattle.std.specs.List.{AllPairs, list_any}
 use Rattle.std.specs.List.Sorted.{IsStrictlyIncreasing}
-use Rattle.std.proofs.lemmas.Bool.{cases_eq, cases_lt, eq-eqb}
+use Rattle.std.proofs.lemmas.Bool.{cases_eq, eq-eqb}
 use Rattle.std.proofs.lemmas.Bool.Decides.{nat_tests}
 use Rattle.std.proofs.lemmas.List.{get_or_append_left, get_or_push, length_push, get_or-set_same, get_or-set_other}
 use Rattle.std.proofs.lemmas.List.Kept.{AllPairs-from_increasing}
 use Rattle.std.proofs.lemmas.List.Quantifiers.{all_pairs_push}
 use Rattle.list_checks.proofs.TestLemmas.{neither}
 use Rattle.code_leaders.specs.Early.{has}
-use Rattle.reach_graph.specs.Reaching.{HasMark, word_at}
+use Rattle.reach_graph.specs.Reaching.{HasMark, word_at, Reaches}
 use Rattle.reach_graph.specs.declared.edges.Edge.{Edge}
 use Rattle.reach_graph.proofs.MarkLemmas.{none_in_zero}
-use Rattle.points_to.specs.Nodes.{object_node}
-use Rattle.points_to.specs.Tables.{word_of, Kept, AreKept, Begins, IsReached, AreGroups, group_at, none_kept}
+use Rattle.points_to.specs.Nodes.{memory, object_node}
+use Rattle.points_to.specs.Tables.{word_of, Kept, AreKept, Keeps, AreBare, Begins, IsReached, AreGroups, group_at, none_kept}
 
 -- ---- one more node
 
@@ -66,20 +66,6 @@ kept_none word end w nodes words is none are = record {
   exact = λ m low. elim (cases_eq m end) [
     | inl same ↦ ap (word_of nodes words) same ∙ absent nodes words end are.below ∙ sym none ∙ is ∙ ap word (sym same)
     | inr other ↦ are.exact m (omega (arith, low, other))
-  ];
-}
-
--- nodes that have no mark
-pub kept_skip : (word : ℕ → ℕ) (end to : ℕ) (nodes words : List ℕ) → end ≤ to → ((m : ℕ) → end ≤ m → m < to → word m ≡ 0) → AreKept word end nodes words → AreKept word to nodes words
-kept_skip word end to nodes words order none are = record {
-  ascending = are.ascending;
-  below = λ k d inside. let less = are.below k d inside in omega (arith, less, order);
-  one_each = are.one_each;
-  exact = λ m low. elim (cases_lt m end) [
-    | inl before ↦ are.exact m before
-    | inr past ↦
-        absent nodes words m (λ k d inside. let less = are.below k d inside in omega (arith, less, past))
-        ∙ sym (none m (omega (arith, past)) low)
   ];
 }
 
@@ -137,6 +123,12 @@ no_mark w k none = (λ never. absurd cc, λ mark. absurd (none_in_zero k (subst 
 
 -- ---- marks to begin with
 
+pub begins_none : (first : ℕ) (marks : List ℕ) → AreBare marks → Begins first 0 marks
+begins_none first marks bare = record {
+  only = λ m k has. absurd (none_in_zero k (subst (λ (w : ℕ). HasMark w k) (bare m) has));
+  there = λ k low. absurd (omega (arith, low));
+}
+
 pub begun_more : (first k w : ℕ) (marks : List ℕ) → first + k < length marks → ((j : ℕ) → HasMark w j ↔ (j ≡ k)) → Begins first k marks → Begins first (k + 1) (slice_set marks (first + k) w)
 begun_more first k w marks inside one begins =
     let here : word_at (slice_set marks (first + k) w) (first + k) ≡ w = get_or-set_same marks (first + k) w 0 inside in record {
@@ -157,6 +149,17 @@ begun_more first k w marks inside one begins =
             subst (λ (v : ℕ). HasMark v j) (sym at) (begins.there j (omega (arith, low, other)))
       ];
     }
+
+-- ---- what they reach
+
+pub keeps_reached : (rows : List (List Edge)) (n first count : ℕ) (start marks : List ℕ) (kept : Kept) → Begins first count start → ((m k : ℕ) → HasMark (word_at marks m) k ↔ Reaches rows start m k) → Keeps marks n kept
+    → IsReached rows n first count kept
+keeps_reached rows n first count start marks kept begins reached keeps = record {
+  start = start;
+  begins = begins;
+  entries = λ m k low. subst (λ (w : ℕ). HasMark w k ↔ Reaches rows start m k) (sym (keeps.entries m low)) (reached m k);
+  in_memory = λ k. subst (λ (w : ℕ). HasMark w k ↔ Reaches rows start (memory n) k) (sym keeps.in_memory) (reached (memory n) k);
+}
 
 -- one more group
 pub groups_more : (rows : List (List Edge)) (n objects j : ℕ) (groups : List Kept) (kept : Kept) → IsReached rows n (object_node n (64 * j)) (min 64 (objects - 64 * j)) kept → AreGroups rows n objects j groups

@@ -10,10 +10,4 @@ pub mod TableLemmas
 pub mod KeptLemmas
 pub mod FactLemmas
 pub mod QueryLemmas
-pub mod SweepLemmas
 pub mod OverlaidLemmas
-pub mod WaitLemmas
-pub mod LayoutLemmas
-pub mod RowLemmas
-pub mod SpreadLemmas
-pub mod FreeLemmas

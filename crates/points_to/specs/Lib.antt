@@ -7,7 +7,4 @@ pub mod Points
 pub mod Overlaid
 pub mod Flows
 pub mod Nodes
-pub mod Layouts
-pub mod Rows
-pub mod Sweeps
 pub mod Tables

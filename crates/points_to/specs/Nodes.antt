@@ -1,7 +1,6 @@
 -- The graph along whose edges addresses go: its nodes are registers at the beginning and at the end of blocks,
 -- registers on the way to any indirect leader, memory, what is loaded from it, and the objects.
-use Rattle.std.specs.Prelude.{◌≡◌, ◌⊎◌, ◌↔◌, ℕ, ◌+◌, ◌*◌, ◌<◌, true, List, [], ◌∷◌, map, length, slice_index_or, Vec}
-use Rattle.std.specs.Global.{Global}
+use Rattle.std.specs.Prelude.{◌≡◌, ◌⊎◌, ◌↔◌, ℕ, ◌+◌, ◌*◌, ◌<◌, true, List, [], ◌∷◌, length, slice_index_or}
 use Rattle.object_graph.specs.declared.parts.Site.{Site}
 use Rattle.object_graph.specs.declared.parts.DataWord.{DataWord}
 use Rattle.object_graph.specs.declared.parts.Graph.{Graph}
@@ -45,15 +44,9 @@ node_count n objects = 64 * n + 34 + objects
 unfoldable pub all_marks : ℕ
 all_marks = 18446744073709551615
 
--- an edge that does, and the rows of edges that lead to the nodes of some lists
+-- an edge that does
 abbrev pub full_edge : ℕ → Edge
 full_edge to = record { to = to; mask = all_marks }
-
-abbrev pub full_row : Vec ℕ Global → List Edge
-full_row row = map full_edge row.items
-
-abbrev pub full_rows : List (Vec ℕ Global) → List (List Edge)
-full_rows rows = map full_row rows
 
 abbrev pub HasEdge : List (List Edge) → ℕ → ℕ → Type 0
 HasEdge rows f t = (i : ℕ) × (i < length (edges_of rows f)) × ((edge_in rows f i).to ≡ t)

@@ -9,7 +9,6 @@ use Rattle.reach_graph.specs.declared.edges.Edge.{Edge}
 use Rattle.code_blocks.specs.Leads.{IsBlockOf}
 use Rattle.points_to.specs.Points.{Before, Escapes}
 use Rattle.points_to.specs.Nodes.{entry, memory, object_node}
-use Rattle.points_to.specs.Layouts.{laid_word}
 use Rattle.points_to.specs.declared.reached.Reached.{Reached}
 use Rattle.points_to.specs.declared.table.PointsTable.{PointsTable}
 
@@ -40,12 +39,16 @@ pub record AreKept (word : ℕ → ℕ) (end : ℕ) (nodes words : List ℕ) : T
   pub one_each : length words ≡ length nodes
   pub exact : (m : ℕ) → m < end → word_of nodes words m ≡ word m
 
--- of the marks of the registers at the beginning of `n` blocks, which are laid by their numbers, and of memory
-pub record Keeps (numbers marks : List ℕ) (n : ℕ) (kept : Kept) : Type 0 where
-  pub entries : (m : ℕ) → m < 32 * n → kept_word kept m ≡ laid_word n numbers marks m
+-- of the marks of the registers at the beginning of `n` blocks, and of memory
+pub record Keeps (marks : List ℕ) (n : ℕ) (kept : Kept) : Type 0 where
+  pub entries : (m : ℕ) → m < 32 * n → kept_word kept m ≡ word_at marks m
   pub in_memory : kept.stored ≡ word_at marks (memory n)
 
 -- ---- marks that spread
+
+-- no node has a mark
+abbrev pub AreBare : List ℕ → Type 0
+AreBare marks = (m : ℕ) → word_at marks m ≡ 0
 
 -- mark `k` stands at the `k`-th of `count` nodes from `first` on, and no other does
 pub record Begins (first count : ℕ) (marks : List ℕ) : Type 0 where

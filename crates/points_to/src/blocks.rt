@@ -4,7 +4,8 @@ ghost use Rattle.std.specs.List.Sorted.{IsStrictlyIncreasing};
 ghost use Rattle.object_graph.specs.Lookups.{IsSomeGraph};
 ghost use Rattle.code_blocks.specs.Edges.{is_indirect_end};
 ghost use Rattle.code_blocks.specs.Numbers.{starts_of, end_at};
-ghost use Rattle.points_to.specs.Nodes.{Adds, AreEdges, Upto, StepEdge, NextEdges, LeaveEdges, BlockEdges, ArrivalEdge, WordEdge, AllEdges, node_count, full_rows};
+ghost use Rattle.reach_graph.specs.Reaching.{plain_rows};
+ghost use Rattle.points_to.specs.Nodes.{Adds, AreEdges, Upto, StepEdge, NextEdges, LeaveEdges, BlockEdges, ArrivalEdge, WordEdge, AllEdges, node_count};
 
 use crate::edges::{push, push_registers, push_rows};
 use crate::flows::{NO_PLACES, Places};
@@ -12,11 +13,12 @@ use crate::nodes::Nodes;
 use crate::sources::push_units;
 use code_blocks::{Code, End};
 use object_graph::Graph;
+use reach_graph::Edge;
 use std::alloc::{AllocError, Global};
 
 /// Adds the edges from the end of a block to the beginning of each of some blocks.
 fn push_steps(
-    graph_edges: &mut [Vec<u32>],
+    graph_edges: &mut [Vec<Edge>],
     nodes: Nodes,
     block: u32,
     numbers: &[u32],
@@ -24,7 +26,7 @@ fn push_steps(
     requires room { length graph_edges.old ≡ node_count nodes.blocks nodes.objects }
     requires block { block < nodes.blocks }
     requires numbers { All (λ d. d < nodes.blocks) numbers.now }
-    ensures { OnOk result (Adds (Upto (length numbers.now) (StepEdge nodes.blocks block numbers.now)) (full_rows graph_edges.old) (full_rows graph_edges.new)) }
+    ensures { OnOk result (Adds (Upto (length numbers.now) (StepEdge nodes.blocks block numbers.now)) (plain_rows graph_edges.old) (plain_rows graph_edges.new)) }
 {
     for i in 0..numbers.len() {
         push_registers(graph_edges, nodes.end(block), nodes.entry(numbers[i]))?;
@@ -34,7 +36,7 @@ fn push_steps(
 
 /// Adds those along the direct edges of a block.
 fn push_next(
-    graph_edges: &mut [Vec<u32>],
+    graph_edges: &mut [Vec<Edge>],
     nodes: Nodes,
     code: &Code,
     block: u32,
@@ -43,7 +45,7 @@ fn push_next(
     requires block { block < nodes.blocks }
     requires blocks { nodes.blocks ≡ length code.now.blocks.items }
     requires ascending { IsStrictlyIncreasing (starts_of code.now) }
-    ensures { OnOk result (Adds (NextEdges code.now nodes.blocks block) (full_rows graph_edges.old) (full_rows graph_edges.new)) }
+    ensures { OnOk result (Adds (NextEdges code.now nodes.blocks block) (plain_rows graph_edges.old) (plain_rows graph_edges.new)) }
 {
     let numbers = code.successors(block);
     push_steps(graph_edges, nodes, block, numbers.as_slice())?;
@@ -51,7 +53,7 @@ fn push_next(
 }
 
 /// Whether an end leads to an address in a register.
-pub(crate) fn is_indirect(end: &End) -> bool
+fn is_indirect(end: &End) -> bool
     ensures { result ≡ is_indirect_end end.now }
 {
     match end {
@@ -67,7 +69,7 @@ pub(crate) fn is_indirect(end: &End) -> bool
 
 /// Adds those from the end of a block to the way to any indirect leader, if it may lead there.
 fn push_leaving(
-    graph_edges: &mut [Vec<u32>],
+    graph_edges: &mut [Vec<Edge>],
     nodes: Nodes,
     code: &Code,
     block: u32,
@@ -75,7 +77,7 @@ fn push_leaving(
     requires room { length graph_edges.old ≡ node_count nodes.blocks nodes.objects }
     requires block { block < nodes.blocks }
     requires blocks { nodes.blocks ≡ length code.now.blocks.items }
-    ensures { OnOk result (Adds (LeaveEdges code.now nodes.blocks block) (full_rows graph_edges.old) (full_rows graph_edges.new)) }
+    ensures { OnOk result (Adds (LeaveEdges code.now nodes.blocks block) (plain_rows graph_edges.old) (plain_rows graph_edges.new)) }
 {
     if is_indirect(&code.blocks[block as usize].end) {
         push_registers(graph_edges, nodes.end(block), nodes.hub())?;
@@ -86,7 +88,7 @@ fn push_leaving(
 
 /// Adds all edges that begin in a block. `rows` is a table to work in.
 fn push_block(
-    graph_edges: &mut [Vec<u32>],
+    graph_edges: &mut [Vec<Edge>],
     nodes: Nodes,
     code: &Code,
     graph: &Graph,
@@ -100,7 +102,7 @@ fn push_block(
     requires ascending { IsStrictlyIncreasing (starts_of code.now) }
     requires graph { IsSomeGraph graph.now }
     requires whole { length rows.old ≡ 32 }
-    ensures { OnOk result (Adds (BlockEdges code.now graph.now nodes.blocks block) (full_rows graph_edges.old) (full_rows graph_edges.new)) }
+    ensures { OnOk result (Adds (BlockEdges code.now graph.now nodes.blocks block) (plain_rows graph_edges.old) (plain_rows graph_edges.new)) }
 {
     push_units(
         graph_edges,
@@ -119,7 +121,7 @@ fn push_block(
 
 /// Adds those of all blocks.
 fn push_blocks(
-    graph_edges: &mut [Vec<u32>],
+    graph_edges: &mut [Vec<Edge>],
     nodes: Nodes,
     code: &Code,
     graph: &Graph,
@@ -129,7 +131,7 @@ fn push_blocks(
     requires objects { nodes.objects ≡ length graph.now.objects.items }
     requires ascending { IsStrictlyIncreasing (starts_of code.now) }
     requires graph { IsSomeGraph graph.now }
-    ensures { OnOk result (Adds (Upto (length code.now.blocks.items) (BlockEdges code.now graph.now nodes.blocks)) (full_rows graph_edges.old) (full_rows graph_edges.new)) }
+    ensures { OnOk result (Adds (Upto (length code.now.blocks.items) (BlockEdges code.now graph.now nodes.blocks)) (plain_rows graph_edges.old) (plain_rows graph_edges.new)) }
 {
     let mut rows = [NO_PLACES; 32];
     for block in 0..nodes.blocks {
@@ -140,7 +142,7 @@ fn push_blocks(
 
 /// Adds the edges from the way to any indirect leader to the block at an address.
 fn push_arrival(
-    graph_edges: &mut [Vec<u32>],
+    graph_edges: &mut [Vec<Edge>],
     nodes: Nodes,
     code: &Code,
     i: usize,
@@ -149,7 +151,7 @@ fn push_arrival(
     requires i { i < length code.now.indirect.items }
     requires blocks { nodes.blocks ≡ length code.now.blocks.items }
     requires ascending { IsStrictlyIncreasing (starts_of code.now) }
-    ensures { OnOk result (Adds (ArrivalEdge code.now nodes.blocks i) (full_rows graph_edges.old) (full_rows graph_edges.new)) }
+    ensures { OnOk result (Adds (ArrivalEdge code.now nodes.blocks i) (plain_rows graph_edges.old) (plain_rows graph_edges.new)) }
 {
     if let Some(block) = code.block_at(code.indirect[i]) {
         push_registers(graph_edges, nodes.hub(), nodes.entry(block))?;
@@ -159,11 +161,11 @@ fn push_arrival(
 }
 
 /// Adds those to all indirect leaders.
-fn push_arrivals(graph_edges: &mut [Vec<u32>], nodes: Nodes, code: &Code) -> Result<(), AllocError>
+fn push_arrivals(graph_edges: &mut [Vec<Edge>], nodes: Nodes, code: &Code) -> Result<(), AllocError>
     requires room { length graph_edges.old ≡ node_count nodes.blocks nodes.objects }
     requires blocks { nodes.blocks ≡ length code.now.blocks.items }
     requires ascending { IsStrictlyIncreasing (starts_of code.now) }
-    ensures { OnOk result (Adds (Upto (length code.now.indirect.items) (ArrivalEdge code.now nodes.blocks)) (full_rows graph_edges.old) (full_rows graph_edges.new)) }
+    ensures { OnOk result (Adds (Upto (length code.now.indirect.items) (ArrivalEdge code.now nodes.blocks)) (plain_rows graph_edges.old) (plain_rows graph_edges.new)) }
 {
     for i in 0..code.indirect.len() {
         push_arrival(graph_edges, nodes, code, i)?;
@@ -172,11 +174,11 @@ fn push_arrivals(graph_edges: &mut [Vec<u32>], nodes: Nodes, code: &Code) -> Res
 }
 
 /// Adds an edge to memory from the object of each word of data.
-fn push_words(graph_edges: &mut [Vec<u32>], nodes: Nodes, graph: &Graph) -> Result<(), AllocError>
+fn push_words(graph_edges: &mut [Vec<Edge>], nodes: Nodes, graph: &Graph) -> Result<(), AllocError>
     requires room { length graph_edges.old ≡ node_count nodes.blocks nodes.objects }
     requires objects { nodes.objects ≡ length graph.now.objects.items }
     requires graph { IsSomeGraph graph.now }
-    ensures { OnOk result (Adds (Upto (length graph.now.data_words.items) (WordEdge graph.now nodes.blocks)) (full_rows graph_edges.old) (full_rows graph_edges.new)) }
+    ensures { OnOk result (Adds (Upto (length graph.now.data_words.items) (WordEdge graph.now nodes.blocks)) (plain_rows graph_edges.old) (plain_rows graph_edges.new)) }
 {
     for i in 0..graph.data_words.len() {
         push(
@@ -190,7 +192,7 @@ fn push_words(graph_edges: &mut [Vec<u32>], nodes: Nodes, graph: &Graph) -> Resu
 
 /// Adds all edges of a program.
 fn push_all(
-    graph_edges: &mut [Vec<u32>],
+    graph_edges: &mut [Vec<Edge>],
     nodes: Nodes,
     code: &Code,
     graph: &Graph,
@@ -200,7 +202,7 @@ fn push_all(
     requires objects { nodes.objects ≡ length graph.now.objects.items }
     requires ascending { IsStrictlyIncreasing (starts_of code.now) }
     requires graph { IsSomeGraph graph.now }
-    ensures { OnOk result (Adds (AllEdges code.now graph.now nodes.blocks) (full_rows graph_edges.old) (full_rows graph_edges.new)) }
+    ensures { OnOk result (Adds (AllEdges code.now graph.now nodes.blocks) (plain_rows graph_edges.old) (plain_rows graph_edges.new)) }
 {
     push_blocks(graph_edges, nodes, code, graph)?;
     push_arrivals(graph_edges, nodes, code)?;
@@ -208,9 +210,9 @@ fn push_all(
     Ok(())
 }
 
-/// As many nodes without edges. All marks pass along those that are added, so only where they lead is told.
-fn no_edges(alloc: Global, count: u32) -> Result<Vec<Vec<u32>>, AllocError>
-    ensures { IfOk result (λ rows. full_rows rows.items ≡ replicate count []) }
+/// As many nodes without edges.
+fn no_edges(alloc: Global, count: u32) -> Result<Vec<Vec<Edge>>, AllocError>
+    ensures { IfOk result (λ rows. plain_rows rows.items ≡ replicate count []) }
 {
     let mut rows = Vec::new(alloc);
     for _ in 0..count {
@@ -225,12 +227,12 @@ pub(crate) fn edges_of(
     nodes: Nodes,
     code: &Code,
     graph: &Graph,
-) -> Result<Vec<Vec<u32>>, AllocError>
+) -> Result<Vec<Vec<Edge>>, AllocError>
     requires blocks { nodes.blocks ≡ length code.now.blocks.items }
     requires objects { nodes.objects ≡ length graph.now.objects.items }
     requires ascending { IsStrictlyIncreasing (starts_of code.now) }
     requires graph { IsSomeGraph graph.now }
-    ensures { IfOk result (λ rows. AreEdges code.now graph.now nodes.blocks nodes.objects (full_rows rows.items)) }
+    ensures { IfOk result (λ rows. AreEdges code.now graph.now nodes.blocks nodes.objects (plain_rows rows.items)) }
 {
     let mut rows = no_edges(alloc, nodes.count())?;
     push_all(&mut rows, nodes, code, graph)?;

@@ -3,23 +3,17 @@
 #![tactic(auto)]
 
 mod blocks;
-mod clearing;
 mod edges;
 mod flows;
 mod laws;
 mod marks;
 mod nodes;
-mod ordering;
 mod pointing;
 mod reached;
-mod rows;
-mod searching;
 mod sources;
 mod starting;
-mod sweeping;
 mod table;
 mod units;
-mod waiting;
 
 pub use laws::words_escape;
 pub use pointing::points;

@@ -21,9 +21,8 @@ pub(crate) struct Nodes {
 }
 
 impl Nodes {
-    ghost use Rattle.std.specs.Prelude.{◌≡◌, ◌+◌, ◌*◌, ◌/◌, ◌≤◌, ◌<◌, ℕ, min, length, IfOk};
+    ghost use Rattle.std.specs.Prelude.{◌≡◌, ◌<◌, length, IfOk};
     ghost use Rattle.points_to.specs.Nodes.{entry, end_of, hub, memory, loaded, object_node, node_count};
-    ghost use Rattle.points_to.specs.Sweeps.{IsFromTo, IsOfUnit};
 
     /// The nodes for a program, if they have numbers.
     pub(crate) fn of(code: &Code, graph: &Graph) -> Result<Nodes, AllocError>
@@ -91,56 +90,5 @@ impl Nodes {
         ensures { result ≡ object_node self.blocks object }
     {
         64 * self.blocks + 34 + object
-    }
-
-    /// The unit of a node.
-    pub(crate) fn unit(self, node: u32) -> u32
-        requires { node < node_count self.blocks self.objects }
-        ensures unit { IsOfUnit self.blocks node result }
-        ensures low { result < self.blocks + self.objects / 64 + 2 }
-    {
-        if node < 32 * self.blocks {
-            node / 32
-        } else if node < 64 * self.blocks {
-            (node - 32 * self.blocks) / 32
-        } else if node < 64 * self.blocks + 34 {
-            self.blocks
-        } else {
-            self.blocks + 1 + (node - (64 * self.blocks + 34)) / 64
-        }
-    }
-
-    /// How many words have a bit for each unit.
-    pub(crate) fn pages(self) -> usize
-        ensures room { self.blocks + self.objects / 64 + 2 ≤ 64 * result }
-        ensures few { result ≤ 67108864 }
-    {
-        ((self.blocks + self.objects / 64) / 64 + 2) as usize
-    }
-
-    /// The objects of a unit behind those of the blocks: the node of the first, and that behind the last.
-    pub(crate) fn group(self, unit: u32) -> (u32, u32)
-        requires { self.blocks < unit }
-        ensures high { result.1 ≤ node_count self.blocks self.objects }
-        ensures whole { (m : ℕ) → m < node_count self.blocks self.objects → IsOfUnit self.blocks m unit → IsFromTo result.0 result.1 m }
-    {
-        let objects = u64::from(self.objects);
-        let first = (u64::from(unit - self.blocks - 1) * 64).min(objects);
-        let behind = (first + 64).min(objects);
-        let base = 64 * self.blocks + 34;
-        (base + first as u32, base + behind as u32)
-    }
-
-    /// The registers at the beginning of 64 blocks: the node of the first, and that behind the last.
-    pub(crate) fn page(self, page: usize) -> (u32, u32)
-        requires { page < 67108864 }
-        ensures from { result.0 ≡ min (2048 * page) (32 * self.blocks) }
-        ensures to { result.1 ≡ min (2048 * (page + 1)) (32 * self.blocks) }
-    {
-        let end = 32 * self.blocks as usize;
-        (
-            (2048 * page).min(end) as u32,
-            (2048 * (page + 1)).min(end) as u32,
-        )
     }
 }

@@ -1,8 +1,8 @@
 ghost use Rattle.std.specs.Prelude.{◌≡◌, length};
 ghost use Rattle.std.specs.List.Sorted.{IsStrictlyIncreasing};
 
-use crate::marks::keep_block;
-use crate::ordering::Order;
+use crate::marks::keep;
+use crate::nodes::Nodes;
 use reach_graph::has_mark;
 use std::alloc::{AllocError, Global};
 
@@ -20,33 +20,25 @@ pub struct Reached {
 }
 
 impl Reached {
-    ghost use Rattle.std.specs.Prelude.{◌≡◌, ◌*◌, ◌<◌, ◌↔◌, ℕ, length, IfOk, IsTrue};
+    ghost use Rattle.std.specs.Prelude.{◌≡◌, ◌<◌, ◌↔◌, length, IfOk, IsTrue};
     ghost use Rattle.reach_graph.specs.Reaching.{HasMark};
     ghost use Rattle.points_to.specs.Nodes.{node_count};
     ghost use Rattle.points_to.specs.Tables.{plain, kept_word, Keeps};
-    ghost use Rattle.points_to.specs.Sweeps.{AreNoted};
 
-    /// What is kept of the marks of all nodes, where each that has one is of a word of units of which one has waited.
-    pub(crate) fn of(
-        alloc: Global,
-        order: &Order,
-        marks: &[u64],
-        touched: &[bool],
-    ) -> Result<Reached, AllocError>
-        requires size { length marks.now ≡ node_count order.now.nodes.blocks order.now.nodes.objects }
-        requires pages { 64 * length touched.now ≡ length order.now.places.items }
-        requires noted { AreNoted order.now.nodes.blocks touched.now marks.now }
-        ensures { IfOk result (λ r. Keeps order.now.numbers.items marks.now order.now.nodes.blocks (plain r)) }
+    /// What is kept of the marks of all nodes.
+    pub(crate) fn of(alloc: Global, nodes: Nodes, marks: &[u64]) -> Result<Reached, AllocError>
+        requires { length marks.now ≡ node_count nodes.blocks nodes.objects }
+        ensures { IfOk result (λ r. Keeps marks.now nodes.blocks (plain r)) }
     {
         let mut reached = Vec::new(alloc);
         let mut words = Vec::new(alloc);
-        for block in 0..order.nodes.blocks {
-            keep_block(&mut reached, &mut words, order, marks, touched, block)?;
+        for node in 0..32 * nodes.blocks {
+            keep(&mut reached, &mut words, node, marks[node as usize])?;
         }
         Ok(Reached {
             nodes: reached,
             words,
-            memory: marks[order.nodes.memory() as usize],
+            memory: marks[nodes.memory() as usize],
         })
     }
 

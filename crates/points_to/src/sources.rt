@@ -4,7 +4,8 @@ ghost use Rattle.object_graph.specs.declared.parts.Site.{Site};
 ghost use Rattle.code_blocks.specs.declared.parts.Unit.{Unit};
 ghost use Rattle.points_to.specs.Points.{site_at};
 ghost use Rattle.points_to.specs.Flows.{AreRows};
-ghost use Rattle.points_to.specs.Nodes.{Adds, SourceEdges, UnitEdges, node_count, full_rows};
+ghost use Rattle.reach_graph.specs.Reaching.{plain_rows};
+ghost use Rattle.points_to.specs.Nodes.{Adds, SourceEdges, UnitEdges, node_count};
 
 use crate::edges::push_places;
 use crate::flows::{Places, begin, go_back};
@@ -12,11 +13,12 @@ use crate::nodes::Nodes;
 use crate::units::{loads, made, written};
 use code_blocks::Unit;
 use object_graph::{Graph, Site};
+use reach_graph::Edge;
 use std::alloc::AllocError;
 
 /// Adds the edges of what a unit makes or loads, where the rows tell where the units behind it lead.
 fn push_sources(
-    graph_edges: &mut [Vec<u32>],
+    graph_edges: &mut [Vec<Edge>],
     nodes: Nodes,
     block: u32,
     unit: &Unit,
@@ -27,7 +29,7 @@ fn push_sources(
     requires block { block < nodes.blocks }
     requires object { IfSome site (λ s. s.object < nodes.objects) }
     requires whole { length rows.now ≡ 32 }
-    ensures { (sites : List Site) (us : List Unit) → site_at sites unit.now.at ≡ site → AreRows sites us rows.now → OnOk result (Adds (SourceEdges nodes.blocks block sites unit.now us) (full_rows graph_edges.old) (full_rows graph_edges.new)) }
+    ensures { (sites : List Site) (us : List Unit) → site_at sites unit.now.at ≡ site → AreRows sites us rows.now → OnOk result (Adds (SourceEdges nodes.blocks block sites unit.now us) (plain_rows graph_edges.old) (plain_rows graph_edges.new)) }
 {
     let to = written(unit.instr);
     if to == 0 || to > 31 {
@@ -56,7 +58,7 @@ fn push_sources(
 
 /// Adds the edges of what the units of a block make or load, and leaves in `rows` where the units lead.
 pub(crate) fn push_units(
-    graph_edges: &mut [Vec<u32>],
+    graph_edges: &mut [Vec<Edge>],
     nodes: Nodes,
     graph: &Graph,
     block: u32,
@@ -68,7 +70,7 @@ pub(crate) fn push_units(
     requires graph { IsSomeGraph graph.now }
     requires objects { nodes.objects ≡ length graph.now.objects.items }
     requires whole { length rows.old ≡ 32 }
-    ensures edges { OnOk result (Adds (UnitEdges nodes.blocks block graph.now.sites.items units.now) (full_rows graph_edges.old) (full_rows graph_edges.new)) }
+    ensures edges { OnOk result (Adds (UnitEdges nodes.blocks block graph.now.sites.items units.now) (plain_rows graph_edges.old) (plain_rows graph_edges.new)) }
     ensures rows { OnOk result (AreRows graph.now.sites.items units.now rows.new) }
 {
     begin(rows);

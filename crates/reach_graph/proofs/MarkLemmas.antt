@@ -1,11 +1,11 @@
 -- Marks of words, and of tables of them.
-use Rattle.std.proofs.Common.{◌≡◌, ◌⊎◌, inl, inr, ℕ, zero, suc, ◌*◌, ◌%◌, ◌^◌, ◌<◌, max, min, bit_or, bit_and, List, replicate, sym, ◌∙◌, ap, subst, arith}
+use Rattle.std.proofs.Common.{◌≡◌, ◌≢◌, ◌⊎◌, inl, inr, ℕ, zero, suc, ◌*◌, ◌%◌, ◌^◌, ◌<◌, max, min, bit_or, bit_and, List, length, slice_set, replicate, sym, ◌∙◌, ap, subst, arith}
 use Rattle.std.specs.Prelude.{◌↔◌}
 use Rattle.std.specs.Int.{bit_at}
 use Rattle.std.proofs.lemmas.Nat.{one_shl}
 use Rattle.std.proofs.lemmas.Nat.Bits.{bit_at_or, bit_at_and, bit_at-pow_same, bit_at-pow_other}
 use Rattle.std.proofs.lemmas.Bool.{cases_eq, cases_lt}
-use Rattle.std.proofs.lemmas.List.{get_or_past, get_or-replicate, length-replicate}
+use Rattle.std.proofs.lemmas.List.{get_or-set_same, get_or-set_other, get_or_past, get_or-replicate, length-replicate}
 use Rattle.reach_graph.specs.Reaching.{HasMark, word_at}
 
 one_left : (x y : ℕ) → x ≡ 1 → y < 2 → max x y ≡ 1
@@ -83,3 +83,11 @@ zero_there n b =
 pub none_in_zeros : (n b k : ℕ) (marks : List ℕ) → marks ≡ replicate n 0 → HasMark (word_at marks b) k → ⊥
 none_in_zeros n b k marks bare has =
     none_in_zero k (subst (λ (w : ℕ). HasMark w k) (ap (λ (ws : List ℕ). word_at ws b) bare ∙ zero_there n b) has)
+
+-- ---- a word of a table that is changed
+
+pub word_here : (marks : List ℕ) (node v : ℕ) → node < length marks → word_at (slice_set marks node v) node ≡ v
+word_here marks node v inside = get_or-set_same marks node v 0 inside
+
+pub word_there : (marks : List ℕ) (node n v : ℕ) → n ≢ node → word_at (slice_set marks node v) n ≡ word_at marks n
+word_there marks node n v other = get_or-set_other marks node n v 0 other

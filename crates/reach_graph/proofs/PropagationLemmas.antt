@@ -1,21 +1,15 @@
 -- Marks that spread: along one edge, along those of a node, and until no node waits.
-use Rattle.std.proofs.Common.{◌≡◌, ◌≢◌, ◌⊎◌, inl, inr, ℕ, zero, suc, ◌+◌, ◌<◌, ◌≤◌, Bool, true, false, List, [], ◌∷◌, length, slice_set, slice_index_or, bit_or, bit_and, Some, Vec, refl, sym, subst, ap, ◌∙◌, arith, ◌↔◌}
+use Rattle.std.proofs.Common.{◌≡◌, ◌≢◌, ◌⊎◌, inl, inr, ℕ, zero, suc, ◌+◌, ◌<◌, ◌≤◌, Bool, true, false, List, [], ◌∷◌, length, length-append, slice_set, slice_index_or, bit_or, bit_and, Some, Vec, refl, sym, subst, ap, ◌∙◌, arith, ◌↔◌}
 use Rattle.std.specs.Global.{Global}
 use Rattle.std.proofs.lemmas.Bool.{cases_eq, cases_lt}
-use Rattle.std.proofs.lemmas.List.{get_or-set_same, get_or-set_other, get_or_past, get_or-map, length-set}
+use Rattle.std.proofs.lemmas.List.{get_or-set_other, get_or_past, get_or-map, length-set}
 use Rattle.reach_graph.specs.declared.edges.Edge.{Edge}
 use Rattle.reach_graph.specs.Reaching.{HasMark, word_at, edges_of, edge_at, edge_in, row_items, plain_rows, AreInside, Reaches, stands, passes}
 use Rattle.reach_graph.specs.Queues.{waits_at, IsQueue, StartsWith, IsAdded, IsTaken}
 use Rattle.reach_graph.specs.Propagation.{missing, IsRow, GoesOn, IsGrown, PassesTo, IsPropagated, IsClosed, IsPropagating}
-use Rattle.reach_graph.proofs.MarkLemmas.{or_left, or_right, or_cases, and_both, and_first, and_second, none_in_zero}
+use Rattle.reach_graph.proofs.MarkLemmas.{or_left, or_right, or_cases, and_both, and_first, and_second, none_in_zero, word_here, word_there}
 
--- ---- a word of marks in a table
-
-word_here : (marks : List ℕ) (node v : ℕ) → node < length marks → word_at (slice_set marks node v) node ≡ v
-word_here marks node v inside = get_or-set_same marks node v 0 inside
-
-word_there : (marks : List ℕ) (node n v : ℕ) → n ≢ node → word_at (slice_set marks node v) n ≡ word_at marks n
-word_there marks node n v other = get_or-set_other marks node n v 0 other
+-- ---- how much may come still
 
 pub missing_set : (marks : List ℕ) (node v : ℕ) → node < length marks → word_at marks node < v → v < 18446744073709551616
     → missing (slice_set marks node v) + 1 ≤ missing marks
@@ -212,7 +206,7 @@ module _ (rows : List (List Edge)) (first marks waiting : List ℕ) (waits : Lis
       }
 
   pub propagation_less : missing m' + length w' < missing marks + length waiting
-  propagation_less = let a = propagate.goes_on.less in let b = taken.1.0 in omega (arith, a, b)
+  propagation_less = let a = propagate.goes_on.less in let b = ap length taken.1.0 in omega (arith, a, b, length-append rest (node ∷ []))
 
 pub none_waits : (waiting : List ℕ) (waits : List Bool) → waiting ≡ [] → IsQueue waiting waits → (n : ℕ) (b : Bool) → waits_at waits n ≡ b → waits_at waits n ≡ false
 none_waits waiting waits none q n false is = is

@@ -58,7 +58,7 @@ taken_some waiting rest waits node q is =
     let below = q.inside node (subst (λ xs. Contains xs node) (sym is) (contains_last rest node)) in (
       below,
       (
-        rw is (omega (arith, length-append rest (node ∷ []))),
+        is,
         (
           refl,
           record {

@@ -1,5 +1,5 @@
 -- Nodes that wait, each once.
-use Rattle.std.specs.Prelude.{◌≡◌, ℕ, ◌<◌, ◌+◌, Bool, true, false, List, [], length, slice_index_or, slice_set, Contains, Option, Some, None}
+use Rattle.std.specs.Prelude.{◌≡◌, ℕ, ◌<◌, ◌+◌, Bool, true, false, List, [], ◌∷◌, ◌++◌, length, slice_index_or, slice_set, Contains, Option, Some, None}
 use Rattle.reach_graph.specs.Reaching.{word_at}
 
 -- node `n` is said to wait
@@ -25,8 +25,8 @@ pub record IsAdded (node : ℕ) (waiting : List ℕ) (waits : List Bool) (waitin
   pub here : waits_at waits' node ≡ true
   pub others : (n : ℕ) → waits_at waits n ≡ true → waits_at waits' n ≡ true
 
--- no node waited, or one that did waits no more
+-- no node waited, or the last one waits no more
 abbrev pub IsTaken : List ℕ → List Bool → Option ℕ → List ℕ → List Bool → Type 0
 IsTaken waiting waits None waiting' waits' = (waiting ≡ []) × ((waiting' ≡ waiting) × (waits' ≡ waits))
 IsTaken waiting waits (Some node) waiting' waits' =
-    (node < length waits) × ((length waiting ≡ length waiting' + 1) × ((waits' ≡ slice_set waits node false) × IsQueue waiting' waits'))
+    (node < length waits) × ((waiting ≡ waiting' ++ node ∷ []) × ((waits' ≡ slice_set waits node false) × IsQueue waiting' waits'))

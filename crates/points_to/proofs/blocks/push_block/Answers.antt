@@ -1,8 +1,9 @@
 use Rattle.std.proofs.Common.{◌≡◌, ◌∙◌, ℕ, List, sym, subst, arith}
 use Rattle.code_blocks.specs.declared.parts.Unit.{Unit}
 use Rattle.code_blocks.specs.Leads.{IsBlockOf, units_at}
+use Rattle.reach_graph.specs.Reaching.{plain_rows}
 use Rattle.points_to.specs.Flows.{AreRows}
-use Rattle.points_to.specs.Nodes.{Adds, OneEdge, UnitEdges, end_of, full_rows}
+use Rattle.points_to.specs.Nodes.{Adds, OneEdge, UnitEdges, end_of}
 use Rattle.points_to.proofs.BlockLemmas.{units_are, block_adds}
 use Rattle.points_to.proofs.blocks.push_block.Goals as goal
 
@@ -14,12 +15,12 @@ returns c =
     let g = c.args.graph.now in
     let sites = g.sites.items in
     let rows = c.push_units.new.rows in
-    let r0 = full_rows c.args.graph_edges.now in
-    let r1 = full_rows c.push_units.new.graph_edges in
-    let r2 = full_rows c.push_rows.new.graph_edges in
-    let r3 = full_rows c.push_next.new.graph_edges in
-    let r4 = full_rows c.push_leaving.new.graph_edges in
-    let r5 = full_rows c.push.new.graph_edges in
+    let r0 = plain_rows c.args.graph_edges.now in
+    let r1 = plain_rows c.push_units.new.graph_edges in
+    let r2 = plain_rows c.push_rows.new.graph_edges in
+    let r3 = plain_rows c.push_next.new.graph_edges in
+    let r4 = plain_rows c.push_leaving.new.graph_edges in
+    let r5 = plain_rows c.push.new.graph_edges in
     let below : IsBlockOf code b = omega (arith, c.requires.block, c.requires.blocks) in
     let e : c.deref.result.now ≡ units_at code b = c.deref.ensures.value ∙ sym (units_are code b c.index.result.now below c.index.ensures) in
     let units = subst (λ (us : List Unit). Adds (UnitEdges n b sites us) r0 r1) e c.in_ok-push_units.ensures.edges in

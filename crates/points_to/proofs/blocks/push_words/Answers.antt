@@ -3,7 +3,8 @@ use Rattle.std.proofs.lemmas.List.{get_or_default}
 use Rattle.object_graph.specs.Lookups.{IsSomeGraph}
 use Rattle.object_graph.specs.declared.parts.Graph.{Graph}
 use Rattle.object_graph.specs.declared.parts.DataWord.{DataWord}
-use Rattle.points_to.specs.Nodes.{Adds, Upto, OneEdge, WordEdge, no_word, object_node, memory, full_rows}
+use Rattle.reach_graph.specs.Reaching.{plain_rows}
+use Rattle.points_to.specs.Nodes.{Adds, Upto, OneEdge, WordEdge, no_word, object_node, memory}
 use Rattle.points_to.proofs.EdgeLemmas.{adds_more}
 use Rattle.points_to.proofs.SiteLemmas.{word_inside}
 use Rattle.points_to.proofs.blocks.push_words.Goals as goal
@@ -31,17 +32,17 @@ loop-i-preserved c =
     let g = c.args.graph.now in
     let i = c.loop-i.i in
     let o = (slice_index_or g.data_words.items i no_word).object in
-    let now = full_rows c.loop-i.graph_edges in
-    let new = full_rows c.push.new.graph_edges in
+    let now = plain_rows c.loop-i.graph_edges in
+    let new = plain_rows c.push.new.graph_edges in
     let inside : i < length g.data_words.items = omega arith in
     let w = c.index.result.now in
     let object : w.object ≡ o = ap (λ (d : DataWord). d.object) (c.index.ensures ∙ get_or_default g.data_words.items i w no_word inside) in
     let one = subst (λ (q : ℕ). Adds (OneEdge q c.memory.result) now new) c.object.ensures c.in_ok-push.ensures in
     let two = subst (λ (q : ℕ). Adds (OneEdge (object_node n w.object) q) now new) c.memory.ensures one in
     let three = subst (λ (q : ℕ). Adds (OneEdge (object_node n q) (memory n)) now new) object two in
-    adds_more i (WordEdge g n) (full_rows c.args.graph_edges.now) now new c.loop-i.invariant three
+    adds_more i (WordEdge g n) (plain_rows c.args.graph_edges.now) now new c.loop-i.invariant three
 
 pub returns : goal.returns
 returns c =
     let all : c.loop-i.i ≡ length c.args.graph.now.data_words.items = omega arith in
-    subst (λ (m : ℕ). Adds (Upto m (WordEdge c.args.graph.now c.args.nodes.blocks)) (full_rows c.args.graph_edges.now) (full_rows c.loop-i.graph_edges)) all c.loop-i.invariant
+    subst (λ (m : ℕ). Adds (Upto m (WordEdge c.args.graph.now c.args.nodes.blocks)) (plain_rows c.args.graph_edges.now) (plain_rows c.loop-i.graph_edges)) all c.loop-i.invariant

@@ -1,5 +1,6 @@
 use Rattle.std.proofs.Common.{◌≡◌, ℕ, ◌+◌, ◌<◌, subst, arith}
-use Rattle.points_to.specs.Nodes.{Adds, Upto, OneEdge, RegisterEdge, full_rows}
+use Rattle.reach_graph.specs.Reaching.{plain_rows}
+use Rattle.points_to.specs.Nodes.{Adds, Upto, OneEdge, RegisterEdge}
 use Rattle.points_to.proofs.EdgeLemmas.{adds_same, adds_more, register_one}
 use Rattle.points_to.proofs.edges.push_registers.Goals as goal
 
@@ -14,4 +15,4 @@ loop-y-preserved c =
 pub returns : goal.returns
 returns c =
     let all : c.loop-y.y ≡ 32 = omega arith in
-    subst (λ (m : ℕ). Adds (Upto m (RegisterEdge c.args.from c.args.to)) (full_rows c.args.graph_edges.now) (full_rows c.loop-y.graph_edges)) all c.loop-y.invariant
+    subst (λ (m : ℕ). Adds (Upto m (RegisterEdge c.args.from c.args.to)) (plain_rows c.args.graph_edges.now) (plain_rows c.loop-y.graph_edges)) all c.loop-y.invariant

@@ -1,5 +1,6 @@
-use Rattle.points_to.specs.Nodes.{Adds, Upto, RegisterEdge, full_rows}
+use Rattle.reach_graph.specs.Reaching.{plain_rows}
+use Rattle.points_to.specs.Nodes.{Adds, Upto, RegisterEdge}
 use Rattle.points_to.proofs.edges.push_registers.Given as goal
 
 abbrev pub invariant-loop-y : goal.invariant-loop-y
-invariant-loop-y l = Adds (Upto l.y (RegisterEdge l.from l.to)) (full_rows l.fn.graph_edges) (full_rows l.graph_edges)
+invariant-loop-y l = Adds (Upto l.y (RegisterEdge l.from l.to)) (plain_rows l.fn.graph_edges) (plain_rows l.graph_edges)

@@ -1,5 +1,6 @@
 use Rattle.std.proofs.Common.{◌≡◌, ℕ, ◌<◌, refl, subst, arith}
-use Rattle.points_to.specs.Nodes.{Adds, Upto, PlaceEdge, RowEdge, entry, end_of, full_rows}
+use Rattle.reach_graph.specs.Reaching.{plain_rows}
+use Rattle.points_to.specs.Nodes.{Adds, Upto, PlaceEdge, RowEdge, entry, end_of}
 use Rattle.points_to.specs.Flows.{row}
 use Rattle.points_to.proofs.EdgeLemmas.{adds_same, adds_more, row_one}
 use Rattle.points_to.proofs.edges.push_rows.Goals as goal
@@ -16,4 +17,4 @@ loop-x-preserved c =
 pub returns : goal.returns
 returns c =
     let all : c.loop-x.x ≡ 32 = omega arith in
-    subst (λ (m : ℕ). Adds (Upto m (RowEdge c.args.nodes.blocks c.args.block c.args.rows.now)) (full_rows c.args.graph_edges.now) (full_rows c.loop-x.graph_edges)) all c.loop-x.invariant
+    subst (λ (m : ℕ). Adds (Upto m (RowEdge c.args.nodes.blocks c.args.block c.args.rows.now)) (plain_rows c.args.graph_edges.now) (plain_rows c.loop-x.graph_edges)) all c.loop-x.invariant

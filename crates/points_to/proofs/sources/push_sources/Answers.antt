@@ -1,8 +1,9 @@
 use Rattle.std.proofs.Common.{◌≡◌, ◌∙◌, ℕ, true, Some, sym, ap, subst, arith, Option}
 use Rattle.object_graph.specs.declared.parts.Site.{Site}
+use Rattle.reach_graph.specs.Reaching.{plain_rows}
 use Rattle.points_to.specs.Points.{IsHolder, site_at}
 use Rattle.points_to.specs.Flows.{written, made, loads, row}
-use Rattle.points_to.specs.Nodes.{Adds, Upto, PlaceEdge, end_of, object_node, loaded, full_rows}
+use Rattle.points_to.specs.Nodes.{Adds, Upto, PlaceEdge, end_of, object_node, loaded}
 use Rattle.points_to.proofs.SourceLemmas.{makes_one, gains_one, adds_flow}
 use Rattle.points_to.proofs.sources.push_sources.Goals as goal
 
@@ -12,8 +13,8 @@ returns-in-Some c sites us at are =
     let b = c.args.block in
     let u = c.args.unit.now in
     let rows = c.args.rows.now in
-    let old = full_rows c.args.graph_edges.now in
-    let new = full_rows c.push_places.new.graph_edges in
+    let old = plain_rows c.args.graph_edges.now in
+    let new = plain_rows c.push_places.new.graph_edges in
     let e = c.written-to.ensures in
     let holder : IsHolder (written u.instr) = (omega (arith, e, c.if-to-eq0.false), omega (arith, e, c.if-to-gt31.false)) in
     let o = c.in-Some.object in
@@ -29,8 +30,8 @@ returns-then-loads c sites us at are =
     let b = c.args.block in
     let u = c.args.unit.now in
     let rows = c.args.rows.now in
-    let old = full_rows c.args.graph_edges.now in
-    let new = full_rows c.push_places-then-loads.new.graph_edges in
+    let old = plain_rows c.args.graph_edges.now in
+    let new = plain_rows c.push_places-then-loads.new.graph_edges in
     let e = c.written-to.ensures in
     let holder : IsHolder (written u.instr) = (omega (arith, e, c.if-to-eq0.false), omega (arith, e, c.if-to-gt31.false)) in
     let is : loads u.instr ≡ true = sym c.loads.ensures ∙ c.if-loads.true in

@@ -1,6 +1,5 @@
 use Rattle.points_to.specs.Tables.{Begins}
-use Rattle.points_to.specs.Sweeps.{AreBegun}
 use Rattle.points_to.proofs.starting.begin_marks.Given as goal
 
 abbrev pub invariant-loop-k : goal.invariant-loop-k
-invariant-loop-k l = Begins l.first l.k l.marks × AreBegun l.order.places.items l.order.nodes.blocks l.first l.k l.marks l.waiting
+invariant-loop-k l = Begins l.first l.k l.marks

@@ -2,7 +2,7 @@ use Rattle.std.proofs.Common.{◌≡◌, inr, ◌<◌, ℕ, length, bit_and, sub
 use Rattle.reach_graph.specs.Reaching.{edge_at}
 use Rattle.reach_graph.proofs.MarkLemmas.{and_both, and_first, and_second}
 use Rattle.reach_graph.proofs.PropagationLemmas.{goes_further}
-use Rattle.points_to.specs.Sweeps.{PassedUpto}
+use Rattle.address_exposure.specs.Spreading.{PassedUpto}
 use Rattle.address_exposure.proofs.SpreadLemmas.{more_step, passed_more, sound_step}
 use Rattle.address_exposure.proofs.spreading.Exposure.pass_row.Goals as goal
 

@@ -1,8 +1,7 @@
 use Rattle.std.proofs.Common.{List, length}
 use Rattle.rv_decode.specs.declared.instructions.RegSet.{RegSet}
 use Rattle.reach_graph.specs.Propagation.{GoesOn}
-use Rattle.points_to.specs.Sweeps.{PassedUpto}
-use Rattle.address_exposure.specs.Spreading.{AreMore, AreSound, AreWords, MeansAlong}
+use Rattle.address_exposure.specs.Spreading.{AreMore, AreSound, AreWords, MeansAlong, PassedUpto}
 use Rattle.address_exposure.proofs.spreading.Exposure.pass_row.Given as goal
 
 abbrev pub invariant-loop-i : goal.invariant-loop-i

@@ -5,8 +5,7 @@ use Rattle.reach_graph.specs.Reaching.{HasMark, row_items, plain_rows, word_at}
 use Rattle.reach_graph.specs.Propagation.{IsRow}
 use Rattle.reach_graph.specs.declared.edges.Edge.{Edge}
 use Rattle.reach_graph.proofs.PropagationLemmas.{row_is, row_inside}
-use Rattle.points_to.specs.Sweeps.{PassedUpto}
-use Rattle.address_exposure.specs.Spreading.{MeansAlong}
+use Rattle.address_exposure.specs.Spreading.{MeansAlong, PassedUpto}
 use Rattle.address_exposure.proofs.SpreadLemmas.{means_along, passed_next, passed_last}
 use Rattle.address_exposure.proofs.spreading.Exposure.spread.Goals as goal
 
