@@ -1,16 +1,14 @@
 -- The stated list: what is finished, where it splits, and its first entries.
-use Rattle.std.proofs.Common.{◌≡◌, ◌≢◌, ◌∙◌, inl, inr, ℕ, zero, suc, ◌+◌, ◌*◌, ◌<◌, ◌≤◌, Bool, List, [], ◌∷◌, ◌++◌, length, length-append, take, slice_set, sym, ap, refl, subst, arith}
-use Rattle.std.specs.List.{sum_by}
-use Rattle.std.proofs.Math.Nat.{mul-le-mul_left}
+use Rattle.std.proofs.Common.{◌≡◌, inl, inr, ℕ, zero, suc, ◌+◌, ◌<◌, ◌≤◌, List, [], ◌∷◌, ◌++◌, length, take, slice_set, refl, subst, arith}
 use Rattle.std.proofs.lemmas.Bool.{cases_lt}
 use Rattle.placement_programme.specs.Plain.{PlainSide}
-use Rattle.placement_programme.specs.Programme.{gain_at, Fits, taken_gains}
-use Rattle.certificate_checker.specs.Nodes.{PlainTree, branch, over, dual, leaf}
-use Rattle.certificate_checker.specs.Rules.{LeafHolds, DualHolds, Holds}
+use Rattle.placement_programme.specs.Programme.{gain_at}
+use Rattle.certificate_checker.specs.Nodes.{PlainTree}
+use Rattle.certificate_checker.specs.Rules.{Holds}
 use Rattle.certificate_checker.proofs.Duality.{Agrees}
 use Rattle.certificate_checker.proofs.TreeBounds.{tree_bounds}
-use Rattle.branch_bound.specs.Assignments.{taken, FailsEveryLeafRule, IsGreatestFree}
-use Rattle.branch_bound.specs.Entries.{Splits, StatedFrom, alone, split, Each}
+use Rattle.branch_bound.specs.Assignments.{FailsEveryLeafRule, IsGreatestFree}
+use Rattle.branch_bound.specs.Entries.{StatedFrom, alone, split, Each}
 use Rattle.branch_bound.specs.Searching.{EntryBelow}
 use Rattle.certificate_checker.specs.declared.fixings.Fixing.{Fixing}
 use Rattle.certificate_checker.specs.declared.fixings.Fixing.TheVariants.{Zero, One}

@@ -1,16 +1,14 @@
 -- Greedy choices fit, and can't be grown.
-use Rattle.std.proofs.Common.{◌≡◌, ◌≢◌, ◌∙◌, ◌⊎◌, inl, inr, ℕ, zero, suc, ◌+◌, ◌<◌, ◌≤◌, List, [], ◌∷◌, length, get_or, slice_index, slice_set, Option, Some, None, IfSome, sym, ap, refl, subst, arith}
-use Rattle.std.proofs.lemmas.Bool.{cases_eq, cases_lt}
+use Rattle.std.proofs.Common.{◌≡◌, inl, inr, ℕ, zero, suc, ◌<◌, List, length, slice_set, Option, Some, None, IfSome, sym, subst}
 use Rattle.placement_programme.specs.Plain.{PlainSide}
-use Rattle.placement_programme.specs.Programme.{Fits, taken_gains}
-use Rattle.certificate_checker.specs.Rules.{OverHolds}
+use Rattle.placement_programme.specs.Programme.{Fits}
 use Rattle.certificate_checker.specs.Shows.{all_free}
 use Rattle.branch_bound.specs.Assignments.{taken}
-use Rattle.branch_bound.specs.Greatest.{IsGreatestOf, Greatest}
-use Rattle.branch_bound.specs.Greedy.{FitsAlone, IsBestAlone, Tries, Grows, GrowsTo, IsGreedy}
+use Rattle.branch_bound.specs.Greatest.{Greatest}
+use Rattle.branch_bound.specs.Greedy.{IsBestAlone, Tries, Grows, GrowsTo}
 use Rattle.certificate_checker.specs.declared.fixings.Fixing.{Fixing}
-use Rattle.certificate_checker.specs.declared.fixings.Fixing.TheVariants.{Zero, One}
-use Rattle.branch_bound.proofs.OnesLemmas.{over_not_fits, single_taken}
+use Rattle.certificate_checker.specs.declared.fixings.Fixing.TheVariants.{One}
+use Rattle.branch_bound.proofs.OnesLemmas.{single_taken}
 
 pub greatest_inside : (P : ℕ → Type 0) (gain : ℕ → ℕ) (n : ℕ) (best : Option ℕ) → Greatest P gain n best → IfSome best (λ k. k < n)
 greatest_inside P gain n None so_far = tt

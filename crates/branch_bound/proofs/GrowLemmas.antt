@@ -1,26 +1,26 @@
 -- What was grown can't be grown further.
-use Rattle.std.proofs.Common.{◌≡◌, ◌≢◌, ◌∙◌, ◌⊎◌, inl, inr, ℕ, zero, suc, ◌+◌, ◌-◌, ◌<◌, ◌≤◌, pos, ◌≤ℤ◌, Bool, true, false, List, [], ◌∷◌, ◌++◌, length, length-set, slice_index, slice_set, Option, Some, None, IsSomeAnd, sym, ap, refl, subst, arith}
+use Rattle.std.proofs.Common.{◌≡◌, ◌∙◌, ◌⊎◌, inl, inr, ℕ, zero, suc, ◌+◌, ◌<◌, ◌≤◌, pos, ◌≤ℤ◌, Bool, true, false, List, [], ◌∷◌, ◌++◌, length, length-set, slice_set, Option, Some, None, IsSomeAnd, sym, ap, refl, subst, arith}
 use Rattle.std.specs.List.{sum_by}
 use Rattle.std.proofs.lemmas.Bool.{cases_eq, cases_lt}
 use Rattle.std.proofs.lemmas.Bool.Decides.{nat_tests}
 use Rattle.std.proofs.lemmas.Int.{ints}
 use Rattle.std.proofs.lemmas.List.{get_or_past, length-replicate}
 use Rattle.std.proofs.lemmas.List.Sums.{sum_by-cons}
-use Rattle.placement_programme.specs.Plain.{PlainSide, PlainProgramme, PlainChoice}
+use Rattle.placement_programme.specs.Plain.{PlainSide, PlainProgramme}
 use Rattle.placement_programme.specs.Bounds.{AscendWithin}
-use Rattle.placement_programme.specs.Programme.{gain_at, weight_at, Fits, taken_gains, side_for, IsFeasible, gain, nothing}
-use Rattle.placement_programme.specs.Sums.{sum_below, picked, takes}
+use Rattle.placement_programme.specs.Programme.{gain_at, weight_at, Fits, taken_gains, side_for, gain, nothing}
+use Rattle.placement_programme.specs.Sums.{picked, takes}
 use Rattle.placement_programme.proofs.TakeLemmas.{below_same, below_at_most, take_sum, takes_first, takes_other}
 use Rattle.certificate_checker.specs.Rules.{if_one}
 use Rattle.certificate_checker.specs.Shows.{all_free}
 use Rattle.certificate_checker.proofs.Children.{mark_same, mark_other}
 use Rattle.branch_bound.specs.Assignments.{number_if, ones_below, taken}
-use Rattle.branch_bound.specs.Greedy.{FitsAlone, Tries, Grows, GrowsTo, NothingFitsAlone, IsGreedy, greedy_gain}
+use Rattle.branch_bound.specs.Greedy.{FitsAlone, Tries, Grows, GrowsTo, IsGreedy, greedy_gain}
 use Rattle.branch_bound.specs.Growing.{Adds, CannotGrow}
 use Rattle.certificate_checker.specs.Fixings.{fixing_of}
 use Rattle.certificate_checker.specs.declared.fixings.Fixing.{Fixing}
 use Rattle.certificate_checker.specs.declared.fixings.Fixing.TheVariants.{Zero, One, Free}
-use Rattle.branch_bound.proofs.OnesLemmas.{ones_sum, ones_ascend, fits_from, gains_are, single_taken}
+use Rattle.branch_bound.proofs.OnesLemmas.{ones_sum, ones_ascend, fits_from, single_taken}
 
 -- who is fixed to one stays so
 abbrev pub MoreOnes : List Fixing → List Fixing → Type 0

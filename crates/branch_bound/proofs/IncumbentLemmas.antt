@@ -1,9 +1,8 @@
 -- Incumbents of a programme.
-use Rattle.std.proofs.Common.{◌≡◌, ◌∙◌, ℕ, ◌+◌, ◌-◌, ◌<◌, ◌≤◌, pos, ◌-ℤ◌, ◌≤ℤ◌, max, Bool, true, false, List, [], ◌∷◌, length, Option, Some, None, IsSomeAnd, sym, ap, refl, subst, arith}
+use Rattle.std.proofs.Common.{◌≡◌, ℕ, ◌+◌, ◌-◌, ◌<◌, ◌≤◌, pos, max, Bool, true, false, List, [], ◌∷◌, length, Option, Some, None, IsSomeAnd, sym, ap, subst, arith}
 use Rattle.std.proofs.lemmas.Int.{ints}
 use Rattle.placement_programme.specs.Plain.{PlainSide, PlainProgramme}
-use Rattle.placement_programme.specs.Programme.{Fits, taken_gains, side_for, IsFeasible, gain, gain_on, net_gain}
-use Rattle.certificate_checker.specs.Shows.{IsAccepted}
+use Rattle.placement_programme.specs.Programme.{Fits, taken_gains, side_for, gain, gain_on, net_gain}
 use Rattle.branch_bound.specs.Assignments.{taken}
 use Rattle.branch_bound.specs.Entries.{takes_on}
 use Rattle.branch_bound.specs.Searching.{EntryBelow, IsIncumbent, KeepsIncumbent}

@@ -1,5 +1,5 @@
 -- Each side has a stated list, which is no longer than all its partial assignments on one way of splitting.
-use Rattle.std.proofs.Common.{◌≡◌, ◌≢◌, ◌∙◌, ◌⊎◌, inl, inr, ℕ, zero, suc, ◌+◌, ◌*◌, ◌^◌, ◌<◌, ◌≤◌, nat_le, List, [], ◌∷◌, ◌++◌, length, length-append, slice_index, slice_set, Option, Some, None, sym, ap, refl, subst, arith}
+use Rattle.std.proofs.Common.{◌≡◌, ◌⊎◌, inl, inr, ℕ, zero, suc, ◌+◌, ◌*◌, ◌^◌, ◌<◌, ◌≤◌, List, [], ◌∷◌, ◌++◌, length, length-append, slice_index, slice_set, Option, Some, None, sym, refl, subst, arith}
 use Rattle.std.specs.List.{count_by}
 use Rattle.std.proofs.Math.Nat.{pow-succ'}
 use Rattle.std.proofs.lemmas.Bool.{cases_lt}
@@ -10,11 +10,11 @@ use Rattle.placement_programme.specs.Programme.{gain_at, weight_at}
 use Rattle.placement_programme.specs.Sums.{sum_below}
 use Rattle.certificate_checker.specs.Nodes.{PlainCertificate}
 use Rattle.certificate_checker.specs.Shows.{all_free}
-use Rattle.certificate_checker.specs.Rules.{if_one, bound, kept_at, moved_at, OverHolds, LeafHolds, DualHolds}
+use Rattle.certificate_checker.specs.Rules.{if_one, bound, kept_at, moved_at, OverHolds, DualHolds}
 use Rattle.certificate_checker.proofs.Children.{zero_not_free}
 use Rattle.branch_bound.specs.Greatest.{Greatest, GainsMore}
 use Rattle.branch_bound.specs.Assignments.{FailsEveryLeafRule, IsGreatestFree}
-use Rattle.branch_bound.specs.Entries.{Splits, StatedFrom, alone, split, StatedOn, IsStated, vars_on, all_vars}
+use Rattle.branch_bound.specs.Entries.{Splits, StatedFrom, alone, split, StatedOn, vars_on, all_vars}
 use Rattle.branch_bound.specs.Solving.{EndsWithin, Certifies}
 use Rattle.branch_bound.specs.declared.outcomes.Status.{Status}
 use Rattle.branch_bound.specs.declared.outcomes.Status.TheVariants.{Optimal, BestFound}

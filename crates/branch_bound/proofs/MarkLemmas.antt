@@ -1,16 +1,15 @@
 -- Assignments as selections, and what fixing a variable changes.
-use Rattle.std.proofs.Common.{◌≡◌, ◌≢◌, ◌∙◌, inl, inr, ℕ, zero, suc, ◌+◌, ◌<◌, ◌≤◌, Bool, true, false, nat_le, cond, List, [], ◌∷◌, length, get_or, slice_index, slice_set, sym, ap, refl, subst, arith}
+use Rattle.std.proofs.Common.{◌≡◌, inl, inr, ℕ, suc, ◌+◌, Bool, true, false, cond, List, length, slice_set, sym, ap, refl, subst, arith}
 use Rattle.std.specs.List.{count_by, sum_by}
-use Rattle.std.proofs.lemmas.Bool.{cases_eq, cases_lt}
-use Rattle.std.proofs.lemmas.Bool.Decides.{nat_tests}
+use Rattle.std.proofs.lemmas.Bool.{cases_eq}
 use Rattle.std.proofs.lemmas.List.Sums.{sum_by-set}
 use Rattle.placement_programme.specs.Plain.{PlainSide}
-use Rattle.placement_programme.specs.Programme.{gain_at, weight_at, Fits, taken_gains}
+use Rattle.placement_programme.specs.Programme.{weight_at, Fits}
 use Rattle.placement_programme.specs.Sums.{sum_below, picked}
 use Rattle.placement_programme.proofs.TakeLemmas.{below_same}
 use Rattle.certificate_checker.specs.Rules.{if_one}
 use Rattle.certificate_checker.proofs.Duality.{AgreesAt, Agrees, chosen, FitsRows}
-use Rattle.certificate_checker.proofs.Children.{free_inside, mark_same, mark_other}
+use Rattle.certificate_checker.proofs.Children.{free_inside, mark_other}
 use Rattle.branch_bound.specs.Assignments.{taken}
 use Rattle.certificate_checker.specs.Fixings.{fixing_of, is_free}
 use Rattle.certificate_checker.specs.declared.fixings.Fixing.{Fixing}

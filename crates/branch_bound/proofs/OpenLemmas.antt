@@ -5,7 +5,7 @@ use Rattle.placement_programme.specs.Plain.{PlainSide}
 use Rattle.placement_programme.specs.Programme.{gain_at}
 use Rattle.placement_programme.specs.Sums.{sum_below}
 use Rattle.placement_programme.proofs.TakeLemmas.{below_at_most}
-use Rattle.certificate_checker.specs.Rules.{kept, moved, kept_at, moved_at, DualHolds}
+use Rattle.certificate_checker.specs.Rules.{moved, kept_at, moved_at, DualHolds}
 use Rattle.certificate_checker.specs.Fixings.{fixing_of}
 use Rattle.certificate_checker.specs.declared.fixings.Fixing.{Fixing}
 use Rattle.certificate_checker.specs.declared.fixings.Fixing.TheVariants.{Zero, One, Free}

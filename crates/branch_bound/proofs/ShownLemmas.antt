@@ -1,5 +1,5 @@
 -- A choice that a certificate shows to be best: what any search could find gains no more.
-use Rattle.std.proofs.Common.{◌≡◌, ℕ, ◌-◌, ◌≤◌, pos, ◌≤ℤ◌, false, true, length, List, [], ◌∷◌, take, Some, subst, arith}
+use Rattle.std.proofs.Common.{ℕ, ◌-◌, ◌≤◌, pos, ◌≤ℤ◌, false, true, length, List, [], ◌∷◌, take, Some, subst, arith}
 use Rattle.std.proofs.lemmas.Int.{ints}
 use Rattle.placement_programme.specs.Plain.{PlainProgramme, PlainChoice}
 use Rattle.placement_programme.specs.Programme.{IsFeasible, gain}

@@ -1,12 +1,12 @@
 -- From the searches of both sides to what is answered.
-use Rattle.std.proofs.Common.{◌≡◌, ◌∙◌, ◌⊎◌, inl, inr, ℕ, zero, suc, ◌+◌, ◌-◌, ◌^◌, ◌<◌, ◌≤◌, pos, ◌-ℤ◌, ◌≤ℤ◌, nat_le, Bool, true, false, List, [], ◌∷◌, length, take, Option, Some, None, option_map, IsSomeAnd, MatchOption, Result, Ok, Err, IfOk, sym, ap, refl, subst, arith}
+use Rattle.std.proofs.Common.{◌≡◌, ◌∙◌, ◌⊎◌, inl, inr, ℕ, suc, ◌+◌, ◌-◌, ◌^◌, ◌<◌, ◌≤◌, pos, ◌≤ℤ◌, Bool, true, false, List, [], ◌∷◌, length, take, Option, Some, None, option_map, IsSomeAnd, MatchOption, Result, Ok, Err, IfOk, sym, ap, refl, subst, arith}
 use Rattle.std.specs.List.{count_by}
 use Rattle.std.proofs.lemmas.Int.{ints}
 use Rattle.std.proofs.lemmas.List.{length-replicate}
 use Rattle.std.proofs.lemmas.List.Sums.{count_by-le-length}
 use Rattle.placement_programme.specs.Plain.{PlainSide, PlainProgramme, PlainChoice}
 use Rattle.placement_programme.specs.Bounds.{AscendWithin}
-use Rattle.placement_programme.specs.Programme.{Fits, taken_gains, side_for, IsFeasible, gain, gain_on, net_gain, nothing}
+use Rattle.placement_programme.specs.Programme.{Fits, taken_gains, side_for, gain, gain_on, net_gain, nothing}
 use Rattle.placement_programme.proofs.AscendLemmas.{count_within}
 use Rattle.certificate_checker.specs.Nodes.{PlainTree}
 use Rattle.certificate_checker.specs.Shows.{all_free, ShownBy, Shows, IsAccepted}

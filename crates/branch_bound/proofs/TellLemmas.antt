@@ -1,5 +1,5 @@
 -- The ways in which the search of a subtree ends.
-use Rattle.std.proofs.Common.{◌≡◌, ◌∙◌, ℕ, zero, suc, ◌+◌, ◌^◌, ◌<◌, ◌≤◌, nat_le, List, [], ◌∷◌, ◌++◌, length, length-append, take, slice_index, slice_set, Option, Some, None, sym, ap, refl, subst, arith}
+use Rattle.std.proofs.Common.{◌≡◌, ℕ, zero, suc, ◌+◌, ◌^◌, ◌<◌, ◌≤◌, List, ◌∷◌, ◌++◌, length, length-append, take, slice_set, Option, Some, None, sym, ap, refl, subst, arith}
 use Rattle.std.specs.List.{count_by}
 use Rattle.placement_programme.specs.Plain.{PlainSide}
 use Rattle.certificate_checker.specs.Nodes.{PlainTree, branch, over, dual, leaf}
@@ -10,7 +10,7 @@ use Rattle.certificate_checker.specs.declared.trees.Tree.{Tree}
 use Rattle.branch_bound.specs.declared.visiting.Visit.{Visit}
 use Rattle.branch_bound.specs.declared.visiting.Visit.TheVariants.{Open}
 use Rattle.branch_bound.specs.Assignments.{FailsEveryLeafRule, IsGreatestFree}
-use Rattle.branch_bound.specs.Entries.{StatedFrom, Each}
+use Rattle.branch_bound.specs.Entries.{Each}
 use Rattle.branch_bound.specs.Searching.{EntryBelow, Reports, Visits, HasLevels}
 use Rattle.certificate_checker.specs.Fixings.{fixing_of, is_free}
 use Rattle.certificate_checker.specs.declared.fixings.Fixing.{Fixing}
@@ -18,7 +18,7 @@ use Rattle.certificate_checker.specs.declared.fixings.Fixing.TheVariants.{Zero, 
 use Rattle.side_search.proofs.Greater.{holds_more}
 use Rattle.branch_bound.proofs.MarkLemmas.{fewer_free}
 use Rattle.branch_bound.proofs.VisitLemmas.{zero_marks}
-use Rattle.branch_bound.proofs.EntryLemmas.{entry_more, each_more, each_first, each_second, finished, some_entry, TwoLists, two_lists}
+use Rattle.branch_bound.proofs.EntryLemmas.{entry_more, each_first, each_second, finished, some_entry, two_lists}
 
 -- no budget
 pub tells_out : (s : PlainSide) (start : ℕ) (marks : List Fixing) (best left after : ℕ) → left ≡ 0 → Reports s start marks best left after None

@@ -1,11 +1,11 @@
 -- How a node is closed or opened.
-use Rattle.std.proofs.Common.{◌≡◌, ◌∙◌, inl, inr, ℕ, zero, suc, ◌+◌, ◌-◌, ◌*◌, ◌^◌, ◌<◌, ◌≤◌, max, List, [], ◌∷◌, ◌++◌, length, slice_index, slice_set, sym, ap, refl, subst, arith}
+use Rattle.std.proofs.Common.{◌≡◌, ◌∙◌, inl, inr, ℕ, zero, suc, ◌+◌, ◌-◌, ◌*◌, ◌<◌, ◌≤◌, max, List, [], ◌++◌, length, slice_index, slice_set, sym, ap, refl, subst, arith}
 use Rattle.std.specs.List.{count_by}
 use Rattle.placement_programme.specs.Plain.{PlainSide}
 use Rattle.placement_programme.specs.Programme.{gain_at, weight_at, Fits, taken_gains}
 use Rattle.placement_programme.specs.Sums.{sum_below}
 use Rattle.placement_programme.proofs.TakeLemmas.{below_at_most}
-use Rattle.certificate_checker.specs.Rules.{if_one, kept, kept_at, moved_at, OverHolds, LeafHolds, DualHolds}
+use Rattle.certificate_checker.specs.Rules.{if_one, kept, kept_at, OverHolds, LeafHolds, DualHolds}
 use Rattle.certificate_checker.specs.Shows.{all_free}
 use Rattle.certificate_checker.proofs.Failures.{set_twice}
 use Rattle.std.proofs.lemmas.Bool.{cases_eq, cases_lt}

@@ -1,6 +1,6 @@
 -- Partial assignments of a side: a mark a variable, as in the nodes of a certificate. What those fixed to one take, and
 -- which assignments no rule of a leaf closes.
-use Rattle.std.specs.Prelude.{ℕ, zero, suc, ◌<◌, ◌≤◌, ◌≡◌, List, [], ◌∷◌, ◌++◌, length}
+use Rattle.std.specs.Prelude.{ℕ, zero, suc, ◌<◌, ◌≡◌, List, [], ◌∷◌, ◌++◌, length}
 use Rattle.placement_programme.specs.Plain.{PlainSide}
 use Rattle.placement_programme.specs.Programme.{gain_at}
 use Rattle.branch_bound.specs.Greatest.{IsGreatestOf}

@@ -1,12 +1,11 @@
 -- The list of assignments that plain branch and bound goes through: by the start alone, without running bests and without
 -- multipliers.
-use Rattle.std.specs.Prelude.{ℕ, ◌+◌, ◌-◌, ◌^◌, ◌<◌, ◌≤◌, pos, ◌≤ℤ◌, ◌≡◌, ◌⊎◌, Bool, true, false, List, [], ◌∷◌, ◌++◌, length, slice_set, Option, Some, None}
+use Rattle.std.specs.Prelude.{ℕ, ◌+◌, ◌-◌, ◌≤◌, pos, ◌≤ℤ◌, ◌≡◌, Bool, true, false, List, [], ◌∷◌, ◌++◌, length, slice_set, Option, Some, None}
 use Rattle.std.proofs.Common.{take}
-use Rattle.placement_programme.specs.Plain.{PlainSide, PlainProgramme, PlainChoice}
+use Rattle.placement_programme.specs.Plain.{PlainSide, PlainProgramme}
 use Rattle.placement_programme.specs.Programme.{IsFeasible, gain}
 use Rattle.certificate_checker.specs.Shows.{all_free}
 use Rattle.branch_bound.specs.Assignments.{taken, IsFull, FailsEveryLeafRule, IsGreatestFree}
-use Rattle.branch_bound.specs.Greedy.{IsStart}
 use Rattle.certificate_checker.specs.declared.fixings.Fixing.{Fixing}
 use Rattle.certificate_checker.specs.declared.fixings.Fixing.TheVariants.{Zero, One}
 

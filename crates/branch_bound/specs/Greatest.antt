@@ -1,5 +1,5 @@
 -- The number of greatest gain among those below n of which a fact holds, the lowest on a tie.
-use Rattle.std.specs.Prelude.{◌≡◌, ℕ, ◌<◌, ◌≤◌, Option, Some, None}
+use Rattle.std.specs.Prelude.{ℕ, ◌<◌, ◌≤◌, Option, Some, None}
 
 pub record IsGreatestOf (P : ℕ → Type 0) (gain : ℕ → ℕ) (n j : ℕ) : Type 0 where
   pub inside : j < n

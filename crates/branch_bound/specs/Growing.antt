@@ -1,5 +1,5 @@
 -- When a choice can be grown.
-use Rattle.std.specs.Prelude.{ℕ, ◌≤ℤ◌, ◌≡◌, Bool, false, List, ◌∷◌}
+use Rattle.std.specs.Prelude.{ℕ, ◌≤ℤ◌, ◌≡◌, false, List, ◌∷◌}
 use Rattle.placement_programme.specs.Plain.{PlainProgramme, PlainChoice}
 use Rattle.placement_programme.specs.Programme.{IsFeasible, gain}
 use Rattle.placement_programme.specs.Sums.{takes}

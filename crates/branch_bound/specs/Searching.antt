@@ -1,10 +1,9 @@
 -- What the search of a subtree and what the visit of a node tell.
-use Rattle.std.specs.Prelude.{◌≡◌, ℕ, suc, ◌+◌, ◌<◌, ◌≤◌, Bool, List, length, Option, Some, None, IsSomeAnd}
+use Rattle.std.specs.Prelude.{◌≡◌, ℕ, ◌+◌, ◌<◌, ◌≤◌, Bool, List, length, Option, Some, None, IsSomeAnd}
 use Rattle.std.proofs.Common.{take}
 use Rattle.placement_programme.specs.Plain.{PlainSide, PlainProgramme, PlainChoice}
 use Rattle.placement_programme.specs.Programme.{side_for, taken_gains, Fits}
-use Rattle.certificate_checker.specs.Nodes.{PlainTree}
-use Rattle.certificate_checker.specs.Rules.{Holds, DualHolds}
+use Rattle.certificate_checker.specs.Rules.{Holds}
 use Rattle.certificate_checker.specs.Shows.{IsAccepted}
 use Rattle.certificate_checker.specs.Spelling.{IsTreeInRange}
 use Rattle.certificate_checker.specs.Views.{plain_tree}

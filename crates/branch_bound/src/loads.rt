@@ -22,13 +22,13 @@ fn add_weights(loads: &mut [u64], weights: &[(u32, u64)])
     }
 }
 
-/// Sets the loads of the rows to what the variables weigh that are fixed to one.
+/// Adds to the loads of the rows, which are 0, what the variables weigh that are fixed to one.
 fn load_ones(side: &Side, marks: &[Fixing], loads: &mut [u64])
     requires marked { length (plain_side side.now).vars ≤ length marks.now }
     requires room { length loads.old ≡ length (plain_side side.now).rows }
+    requires bare { (row : ℕ) → slice_index loads.old row ≡ 0 }
     ensures { (row : ℕ) → slice_index loads.new row ≡ sum_below (length (plain_side side.now).vars) (λ j. if_one (fixing_of marks.now j) (weight_at (plain_side side.now).vars row j)) }
 {
-    loads.fill(0);
     for number in 0..var_count(side) {
         if is_one(marks, number) {
             add_weights(loads, weights_of_var(side, number));
@@ -53,6 +53,7 @@ fn first_exceeded(rows: &[u64], loads: &[u64]) -> Option<u32>
 fn exceeded_in(side: &Side, marks: &[Fixing], loads: &mut [u64]) -> Option<u32>
     requires marked { length (plain_side side.now).vars ≤ length marks.now }
     requires room { length loads.old ≡ length (plain_side side.now).rows }
+    requires bare { (row : ℕ) → slice_index loads.old row ≡ 0 }
     ensures { MatchOption result (Fits (plain_side side.now) (taken (plain_side side.now) marks.now)) (OverHolds (plain_side side.now) marks.now) }
 {
     load_ones(side, marks, loads);

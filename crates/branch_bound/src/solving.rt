@@ -23,9 +23,6 @@ use placement_programme::{Choice, Programme, Side};
 use side_search::certify;
 use std::alloc::{AllocError, Global};
 
-/// How many nodes the first search may visit: where it can't come to its end, more of them only take time.
-const MOST_FIRST_NODES: u64 = 10_000;
-
 /// Searches a side.
 fn search_side(
     alloc: Global,
@@ -165,8 +162,8 @@ fn shown(alloc: Global, certificate: Certificate) -> Result<Found, AllocError>
 
 /// The best choice of a programme that branch and bound finds within a budget of nodes, which is at least 1.
 ///
-/// First it tries a search that a bound guides, with at most so many nodes. Where that comes to its end, the choice is the
-/// best there is. Else it searches in the order of the stated list, with the whole budget.
+/// First it tries a search that a bound guides, with at most so many nodes a side. Where that comes to its end, the choice is
+/// the best there is. Else it searches in the order of the stated list, with the whole budget.
 ///
 /// It fails only where no memory was left.
 pub fn solve(alloc: Global, p: &Programme, nodes: u64) -> Result<Found, AllocError>
@@ -180,7 +177,7 @@ pub fn solve(alloc: Global, p: &Programme, nodes: u64) -> Result<Found, AllocErr
     ensures status { IfOk result (λ f. Certifies (plain_programme p.now) nodes (plain_certificate f.certificate) f.status) }
     ensures enough { IfOk result (λ f. 2 ^ (all_vars (plain_programme p.now) + 1) ≤ nodes → f.status ≡ Optimal) }
 {
-    match certify(alloc, p, nodes.min(MOST_FIRST_NODES))? {
+    match certify(alloc, p, nodes)? {
         Some(certificate) => {
             let start = begin(alloc, p)?;
             let found = shown(alloc, certificate)?;

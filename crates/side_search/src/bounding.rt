@@ -13,7 +13,7 @@ use std::alloc::{AllocError, Global};
 pub(crate) struct DualBound {
     /// None where the side's gains are too large for it: then it bounds nothing.
     layout: Option<Layout>,
-    /// The multipliers of the last node, from which the next one's begin.
+    /// The multipliers of the last node, from which the next one's begin, of each row up to the last knapsack row.
     multipliers: Vec<u64>,
 }
 
@@ -56,7 +56,9 @@ fn scaled_target(side: &Side, layout: &Layout, best: u128) -> u64 {
 fn add_steps(multipliers: &mut [u64], layout: &Layout, dual_problem: &LagrangianDual) {
     for row in 0..layout.rows.numbers.len() {
         if !is_set(&layout.rows.is_knapsack, row) {
-            let step = dual_problem.relaxation.step(&dual_problem.live, row);
+            let step = dual_problem
+                .relaxation
+                .step(layout, &dual_problem.live, row);
             put(multipliers, row, step);
         }
     }
@@ -66,7 +68,7 @@ fn add_steps(multipliers: &mut [u64], layout: &Layout, dual_problem: &Lagrangian
 fn bar(multipliers: &mut [u64], node: &Node, packing: &[u32], gain: u64) {
     for row in packing {
         let place = *row as usize;
-        if number_at(&node.slack, place) == 0 {
+        if is_set(&node.full, place) {
             put(multipliers, place, number_at(multipliers, place).max(gain));
             return;
         }
@@ -109,6 +111,7 @@ fn dual_solution(
     dual_problem: &LagrangianDual,
 ) -> Result<DualSolution, AllocError> {
     let mut multipliers = copy_of(alloc, &dual_problem.multipliers)?;
+    multipliers.resize(layout.rows.numbers.len(), 0)?;
     add_steps(&mut multipliers, layout, dual_problem);
     bar_all(&mut multipliers, layout, dual_problem);
     Ok(DualSolution {
@@ -159,7 +162,7 @@ impl DualBound {
     pub(crate) fn new(alloc: Global, side: &Side) -> Result<DualBound, AllocError> {
         let layout = Layout::of(alloc, side)?;
         let rows = match &layout {
-            Some(layout) => layout.rows.numbers.len(),
+            Some(layout) => layout.knapsack_end,
             None => 0,
         };
         let multipliers = zeros(alloc, rows)?;

@@ -21,8 +21,38 @@ use std::alloc::{AllocError, Global};
 
 /// How many levels the text of a certificate's tree may have, the root being one.
 const MOST_LEVELS: u32 = 4097;
-/// How many nodes of a side the first round may visit.
-const FIRST_NODES: u64 = 1_000;
+
+/// How far a round of searches may go.
+#[derive(Clone, Copy, Drop)]
+struct RoundLimit {
+    /// How many nodes of a side it may visit.
+    nodes: u64,
+    /// How many variables of a side it may look at, in all these nodes together: the time of a node grows with them.
+    vars: u64,
+}
+
+/// The first round finds something to compare with.
+const FIRST_ROUND: RoundLimit = RoundLimit {
+    nodes: 1_000,
+    vars: 1_000_000,
+};
+/// Where the second one can't come to its end, more nodes only take time.
+const SECOND_ROUND: RoundLimit = RoundLimit {
+    nodes: 10_000,
+    vars: 8_000_000,
+};
+
+impl RoundLimit {
+    /// How many nodes of a side of a programme, at most so many.
+    fn nodes_of(self, p: &Programme, most: u64) -> u64 {
+        let on = match &p.on {
+            Some(side) => side.vars.len(),
+            None => 0,
+        };
+        let vars = p.off.vars.len().max(on) as u64;
+        most.min(self.nodes).min(self.vars / vars.max(1))
+    }
+}
 
 #[tactic(auto, unfolding(certificate_checker::specs::Reading::most_levels))]
 fn search_from(
@@ -140,8 +170,29 @@ fn search_both(
     Ok(finish_round(p, off, on, best))
 }
 
+/// Searches both sides with at most `nodes` nodes each, the second one only where the first one comes to its end: else
+/// there is no certificate, whatever the second one finds.
+fn search_to_end(
+    alloc: Global,
+    p: &Programme,
+    nodes: u64,
+    mut best: Incumbent,
+) -> Result<Round, AllocError>
+    requires sound { IsSound (plain_programme p.now) best }
+    ensures { IfOk result (IsRound (plain_programme p.now)) }
+{
+    best.left = nodes;
+    let Some(off) = search_side(alloc, p, &p.off, false, &mut best)? else {
+        return Ok(Round::Unfinished(best));
+    };
+    best.left = nodes;
+    let on = search_on(alloc, p, &mut best)?;
+    Ok(finish_round(p, Some(off), on, best))
+}
+
 /// A certificate that shows its choice to be best, if a search of at most `nodes` nodes on each side comes to its end. It is
-/// within the ranges of its text.
+/// within the ranges of its text. The search visits no more than 10,000 nodes of a side, and fewer where a side has more
+/// than 800 variables.
 ///
 /// A first round with few nodes finds a good choice of either side, which then closes most of the other one.
 pub fn certify(alloc: Global, p: &Programme, nodes: u64) -> Result<Option<Certificate>, AllocError>
@@ -149,11 +200,11 @@ pub fn certify(alloc: Global, p: &Programme, nodes: u64) -> Result<Option<Certif
     ensures range { IfOk result (λ found. IfSome found (λ c. IsInRange (plain_certificate c))) }
 {
     let best = first_incumbent(alloc);
-    let best = match search_both(alloc, p, nodes.min(FIRST_NODES), best)? {
+    let best = match search_both(alloc, p, FIRST_ROUND.nodes_of(p, nodes), best)? {
         Round::Certified(certificate) => return Ok(Some(certificate)),
         Round::Unfinished(best) => best,
     };
-    match search_both(alloc, p, nodes, best)? {
+    match search_to_end(alloc, p, SECOND_ROUND.nodes_of(p, nodes), best)? {
         Round::Certified(certificate) => Ok(Some(certificate)),
         Round::Unfinished(_) => Ok(None),
     }

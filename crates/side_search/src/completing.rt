@@ -9,8 +9,10 @@ use std::alloc::{AllocError, Global};
 /// greatest gain first and the lowest number on a tie.
 #[derive(Drop)]
 pub(crate) struct Completion {
-    /// What the choice leaves of each row.
+    /// What the choice leaves of each row up to the last knapsack row.
     slack: Vec<u64>,
+    /// Whether it takes a packing row.
+    full: Vec<bool>,
     /// Which variables are taken.
     taken: Vec<bool>,
     /// Their scaled gains.
@@ -20,20 +22,6 @@ pub(crate) struct Completion {
 /// Whether a row has room for a weight.
 fn has_room(slack: &[u64], entry: &(u32, u64)) -> bool {
     number_at(slack, entry.0 as usize) >= entry.1
-}
-
-fn fits(slack: &[u64], column: &Column) -> bool {
-    for entry in &column.knapsack {
-        if !has_room(slack, entry) {
-            return false;
-        }
-    }
-    for row in &column.packing {
-        if number_at(slack, *row as usize) == 0 {
-            return false;
-        }
-    }
-    true
 }
 
 fn use_slack(slack: &mut [u64], row: u32, weight: u64) {
@@ -49,8 +37,19 @@ impl Completion {
             use_slack(&mut self.slack, *row, *weight);
         }
         for row in &column.packing {
-            use_slack(&mut self.slack, *row, 1);
+            set(&mut self.full, *row as usize);
         }
+    }
+
+    fn has_room_for(&self, column: &Column) -> bool {
+        column
+            .knapsack
+            .iter()
+            .all(|entry| has_room(&self.slack, entry))
+            && column
+                .packing
+                .iter()
+                .all(|row| !is_set(&self.full, *row as usize))
     }
 
     /// Takes what a relaxation takes, whose sums are known.
@@ -62,7 +61,7 @@ impl Completion {
         for (column, is_taken) in layout.columns.iter().zip(relaxation.taken.iter()) {
             if *is_taken {
                 for row in &column.packing {
-                    use_slack(&mut self.slack, *row, 1);
+                    set(&mut self.full, *row as usize);
                 }
             }
         }
@@ -77,7 +76,7 @@ impl Completion {
             if place >= layout.columns.len() || is_set(&self.taken, place) {
                 continue;
             }
-            if is_set(&node.free, place) && fits(&self.slack, &layout.columns[place]) {
+            if is_set(&node.free, place) && self.has_room_for(&layout.columns[place]) {
                 self.take(&layout.columns[place], place);
             }
         }
@@ -92,6 +91,7 @@ impl Completion {
     ) -> Result<Completion, AllocError> {
         let mut completion = Completion {
             slack: copy_of(alloc, &node.slack)?,
+            full: Vec::from_slice(alloc, &node.full)?,
             taken: Vec::from_slice(alloc, &relaxation.taken)?,
             gain: node.gained.saturating_add(relaxation.gain),
         };

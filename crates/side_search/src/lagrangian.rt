@@ -125,7 +125,7 @@ pub(crate) enum BoundStatus {
 pub(crate) struct LagrangianDual {
     pub node: Node,
     pub live: LiveVars,
-    /// Of each row; 0 where it isn't a knapsack row.
+    /// Of each row up to the last knapsack row; 0 where it isn't one.
     pub multipliers: Vec<u64>,
     pub relaxation: LagrangianRelaxation,
     /// The best choice that was met, where it gains more than the target.
@@ -133,8 +133,13 @@ pub(crate) struct LagrangianDual {
 }
 
 impl LagrangianDual {
-    /// Completes what the relaxation takes to a candidate where that gains more than the target, which it becomes.
+    /// Completes what the relaxation takes to a candidate where that gains more than the target, which it becomes. What
+    /// was completed before would give the same again.
     fn complete(&mut self, alloc: Global, layout: &Layout) -> Result<(), AllocError> {
+        if !self.relaxation.has_changed {
+            return Ok(());
+        }
+        self.relaxation.has_changed = false;
         let completion = Completion::of(alloc, layout, &self.node, &self.relaxation)?;
         if completion.gain > self.node.target {
             self.node.target = completion.gain;
@@ -146,7 +151,7 @@ impl LagrangianDual {
     /// Finds the bound at the multipliers, and what it shows.
     fn evaluate(&mut self, alloc: Global, layout: &Layout) -> Result<BoundStatus, AllocError> {
         self.relaxation
-            .relax(layout, &self.node, &self.live, &self.multipliers);
+            .relax(alloc, layout, &self.node, &self.live, &self.multipliers)?;
         if self.relaxation.value <= self.node.goal() {
             return Ok(BoundStatus::Fathomed);
         }

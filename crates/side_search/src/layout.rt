@@ -1,6 +1,6 @@
 use crate::columns::{Column, columns_of, scale_for};
 use crate::named_rows::NamedRows;
-use crate::numbers::{flagged, numbered};
+use crate::numbers::{flagged, number_at, numbered};
 use placement_programme::Side;
 use std::alloc::{AllocError, Global};
 use std::cmp::Reverse;
@@ -13,6 +13,14 @@ pub(crate) struct Ranked {
     pub last: (u32, u64),
 }
 
+/// A variable with packing rows.
+#[derive(Clone, Copy, Drop)]
+pub(crate) struct Tied {
+    pub number: u32,
+    /// How many of these end before its first packing row.
+    pub from: usize,
+}
+
 /// What the bound reads of a side, made once.
 #[derive(Drop)]
 pub(crate) struct Layout {
@@ -22,65 +30,67 @@ pub(crate) struct Layout {
     pub columns: Vec<Column>,
     /// The knapsack rows.
     pub knapsack: Vec<u32>,
-    /// For each packing row, the variables of which it is the last one.
-    pub ending: Vec<Vec<u32>>,
+    /// How many rows there are up to the last knapsack row.
+    pub knapsack_end: usize,
+    /// The variables with packing rows, by their last ones and then by their numbers.
+    pub tied: Vec<Tied>,
+    /// Of each row, and behind the last, how many of these end before it.
+    pub ended: Vec<u64>,
     /// The variables without packing rows.
     pub loose: Vec<u32>,
     /// The variables, the greatest gain first and the lowest number on a tie.
     pub by_gain: Vec<Ranked>,
 }
 
-fn empty_lists(alloc: Global, count: usize) -> Result<Vec<Vec<u32>>, AllocError> {
-    let mut lists = Vec::new(alloc);
-    for _ in 0..count {
-        lists.push(Vec::new(alloc))?;
+/// The variables without packing rows.
+fn loose_of(alloc: Global, columns: &[Column]) -> Result<Vec<u32>, AllocError> {
+    let mut loose = Vec::new(alloc);
+    for number in 0..columns.len() {
+        if columns[number].span().is_none() {
+            loose.push(numbered(number))?;
+        }
     }
-    Ok(lists)
+    Ok(loose)
 }
 
-fn push_at(lists: &mut [Vec<u32>], place: usize, number: u32) -> Result<(), AllocError> {
-    if place < lists.len() {
-        lists[place].push(number)?;
+/// The variables with packing rows, behind the last of these, ascending.
+fn sorted_ends(alloc: Global, columns: &[Column]) -> Result<Vec<(usize, u32)>, AllocError> {
+    let mut ends = Vec::new(alloc);
+    for number in 0..columns.len() {
+        if let Some(span) = columns[number].span() {
+            ends.push((span.last, numbered(number)))?;
+        }
     }
-    Ok(())
+    ends.sort_unstable();
+    Ok(ends)
 }
 
-/// Enters a variable where the bound looks for it: by the last of its packing rows.
-fn sort_in(layout: &mut Layout, number: u32) -> Result<(), AllocError> {
-    let place = number as usize;
-    if place >= layout.columns.len() {
-        return Ok(());
+/// Of each of so many rows, and behind the last, how many variables end before it.
+fn ended_of(alloc: Global, ends: &[(usize, u32)], rows: usize) -> Result<Vec<u64>, AllocError> {
+    let mut ended = Vec::with_capacity(alloc, rows.saturating_add(1))?;
+    for row in 0..rows {
+        ended.push(ends.partition_point(|end| end.0 < row) as u64)?;
     }
-    match layout.columns[place].span() {
-        Some(span) => push_at(&mut layout.ending, span.last, number)?,
-        None => layout.loose.push(number)?,
-    }
-    Ok(())
+    ended.push(ends.len() as u64)?;
+    Ok(ended)
 }
 
-/// The layout of a side, into which no variable is sorted yet.
-fn unsorted(alloc: Global, side: &Side, scale: u32) -> Result<Layout, AllocError> {
-    let rows = NamedRows::of(alloc, side)?;
-    let columns = columns_of(alloc, side, scale, &rows)?;
-    let by_gain = ranking_of(alloc, &columns)?;
-    let knapsack = flagged(alloc, &rows.is_knapsack)?;
-    let ending = empty_lists(alloc, rows.numbers.len())?;
-    Ok(Layout {
-        scale,
-        rows,
-        columns,
-        knapsack,
-        ending,
-        loose: Vec::new(alloc),
-        by_gain,
-    })
-}
-
-fn sort_all(layout: &mut Layout) -> Result<(), AllocError> {
-    for number in 0..numbered(layout.columns.len()) {
-        sort_in(layout, number)?;
+fn tied_of(
+    alloc: Global,
+    columns: &[Column],
+    ends: &[(usize, u32)],
+    ended: &[u64],
+) -> Result<Vec<Tied>, AllocError> {
+    let mut tied = Vec::with_capacity(alloc, ends.len())?;
+    for (_, number) in ends {
+        if let Some(column) = columns.get(*number as usize) {
+            tied.push(Tied {
+                number: *number,
+                from: number_at(ended, column.first_row()) as usize,
+            })?;
+        }
     }
-    Ok(())
+    Ok(tied)
 }
 
 /// The variables behind their scaled gains, the greatest gain first and the lowest number on a tie.
@@ -116,17 +126,38 @@ fn ranking_of(alloc: Global, columns: &[Column]) -> Result<Vec<Ranked>, AllocErr
     Ok(ranking)
 }
 
-fn sorted(alloc: Global, side: &Side, scale: u32) -> Result<Layout, AllocError> {
-    let mut layout = unsorted(alloc, side, scale)?;
-    sort_all(&mut layout)?;
-    Ok(layout)
+/// The layout of a side whose gains are multiplied so.
+fn scaled_layout(alloc: Global, side: &Side, scale: u32) -> Result<Layout, AllocError> {
+    let rows = NamedRows::of(alloc, side)?;
+    let columns = columns_of(alloc, side, scale, &rows)?;
+    let ends = sorted_ends(alloc, &columns)?;
+    let ended = ended_of(alloc, &ends, rows.numbers.len())?;
+    Ok(Layout {
+        scale,
+        knapsack: flagged(alloc, &rows.is_knapsack)?,
+        knapsack_end: rows.knapsack_end(),
+        tied: tied_of(alloc, &columns, &ends, &ended)?,
+        ended,
+        loose: loose_of(alloc, &columns)?,
+        by_gain: ranking_of(alloc, &columns)?,
+        rows,
+        columns,
+    })
 }
 
 impl Layout {
+    /// The first knapsack row, 0 where there is none.
+    pub(crate) fn first_knapsack(&self) -> u32 {
+        match self.knapsack.first() {
+            Some(row) => *row,
+            None => 0,
+        }
+    }
+
     /// Of a side, None where its gains are too large for the bound.
     pub(crate) fn of(alloc: Global, side: &Side) -> Result<Option<Layout>, AllocError> {
         match scale_for(side) {
-            Some(scale) => Ok(Some(sorted(alloc, side, scale)?)),
+            Some(scale) => Ok(Some(scaled_layout(alloc, side, scale)?)),
             None => Ok(None),
         }
     }

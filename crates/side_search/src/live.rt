@@ -1,5 +1,5 @@
 use crate::columns::Column;
-use crate::layout::Layout;
+use crate::layout::{Layout, Tied};
 use crate::node::Node;
 use crate::numbers::{number_at, numbered};
 use std::alloc::{AllocError, Global};
@@ -25,23 +25,26 @@ fn left_of(gain: u64, price: u128) -> u64 {
     u64::try_from(u128::from(gain).saturating_sub(price)).unwrap_or(0)
 }
 
-/// The multiplied weights of a variable.
-fn priced(column: &Column, multipliers: &[u64]) -> u128 {
+/// The multiplied weights of a variable, but for that in a row.
+fn priced_but(column: &Column, multipliers: &[u64], but: u32) -> u128 {
     let mut price: u128 = 0;
     for (row, weight) in &column.knapsack {
-        let multiplier = number_at(multipliers, *row as usize);
-        price = price.wrapping_add(product(*weight, multiplier));
+        if *row != but {
+            let multiplier = number_at(multipliers, *row as usize);
+            price = price.wrapping_add(product(*weight, multiplier));
+        }
     }
     price
 }
 
 impl LiveVar {
-    fn of(column: &Column, number: u32, from: u32, price: u128) -> LiveVar {
+    /// A variable, where a row is sought; `rest` are the multiplied weights in all others.
+    fn of(column: &Column, number: u32, from: u32, row: u32, rest: u128) -> LiveVar {
         LiveVar {
             number,
             from,
-            left: left_of(column.gain, price),
-            weight: 0,
+            left: left_of(column.gain, rest),
+            weight: column.knapsack_weight(row),
         }
     }
 
@@ -81,13 +84,14 @@ pub(crate) struct LiveVars {
     /// The multiplied weights of those without packing rows, and of the others, but for the row that is sought.
     loose_prices: Vec<u128>,
     tied_prices: Vec<u128>,
-    /// Of each row, and behind the last, how many of these end before it.
-    ended: Vec<u64>,
+    /// Of each variable of the side with packing rows, by its last one, how many before it live; and behind the last.
+    before: Vec<u64>,
+    /// The row that is sought, at first the first knapsack row.
     row: u32,
 }
 
 impl LiveVars {
-    /// Those of a node, with no row sought.
+    /// Those of a node.
     pub(crate) fn of(
         alloc: Global,
         layout: &Layout,
@@ -99,17 +103,17 @@ impl LiveVars {
             tied: Vec::new(alloc),
             loose_prices: Vec::new(alloc),
             tied_prices: Vec::new(alloc),
-            ended: Vec::with_capacity(alloc, layout.ending.len().saturating_add(1))?,
-            row: 0,
+            before: Vec::with_capacity(alloc, layout.tied.len().saturating_add(1))?,
+            row: layout.first_knapsack(),
         };
         for number in &layout.loose {
             live.push_loose(layout, node, multipliers, *number)?;
         }
-        for ending in &layout.ending {
-            live.ended.push(live.tied.len() as u64)?;
-            live.push_ending(layout, node, multipliers, ending)?;
+        for tied in &layout.tied {
+            live.before.push(live.tied.len() as u64)?;
+            live.push_tied(layout, node, multipliers, *tied)?;
         }
-        live.ended.push(live.tied.len() as u64)?;
+        live.before.push(live.tied.len() as u64)?;
         Ok(live)
     }
 
@@ -123,37 +127,49 @@ impl LiveVars {
         let place = number as usize;
         if place < layout.columns.len() && node.is_live(number) {
             let column = &layout.columns[place];
-            let price = priced(column, multipliers);
-            self.loose.push(LiveVar::of(column, number, 0, price))?;
-            self.loose_prices.push(price)?;
+            let rest = priced_but(column, multipliers, self.row);
+            self.loose
+                .push(LiveVar::of(column, number, 0, self.row, rest))?;
+            self.loose_prices.push(rest)?;
         }
         Ok(())
     }
 
-    /// Adds those that end at the next row.
-    fn push_ending(
+    fn push_tied(
         &mut self,
         layout: &Layout,
         node: &Node,
         multipliers: &[u64],
-        ending: &[u32],
+        tied: Tied,
     ) -> Result<(), AllocError> {
-        for number in ending {
-            let place = *number as usize;
-            if place < layout.columns.len() && node.is_live(*number) {
-                let column = &layout.columns[place];
-                let from = numbered(self.ended_before(column.first_row()));
-                let price = priced(column, multipliers);
-                self.tied.push(LiveVar::of(column, *number, from, price))?;
-                self.tied_prices.push(price)?;
-            }
+        let place = tied.number as usize;
+        if place < layout.columns.len() && node.is_live(tied.number) {
+            let column = &layout.columns[place];
+            let from = numbered(self.live_before(tied.from));
+            let rest = priced_but(column, multipliers, self.row);
+            self.tied
+                .push(LiveVar::of(column, tied.number, from, self.row, rest))?;
+            self.tied_prices.push(rest)?;
         }
         Ok(())
     }
 
+    /// How many of the first variables with packing rows live.
+    fn live_before(&self, count: usize) -> usize {
+        number_at(&self.before, count) as usize
+    }
+
     /// How many of those with packing rows end before a row.
-    pub(crate) fn ended_before(&self, row: usize) -> usize {
-        number_at(&self.ended, row) as usize
+    pub(crate) fn ended_before(&self, layout: &Layout, row: usize) -> usize {
+        self.live_before(number_at(&layout.ended, row) as usize)
+    }
+
+    /// The number of a variable with packing rows, by its place among those that live.
+    pub(crate) fn tied_number(&self, place: u32) -> usize {
+        match self.tied.get(place as usize) {
+            Some(var) => var.number as usize,
+            None => usize::MAX,
+        }
     }
 
     /// The multiplier of the row that is sought.
@@ -163,6 +179,9 @@ impl LiveVars {
 
     /// Seeks the multiplier of a row from now on.
     pub(crate) fn seek(&mut self, layout: &Layout, multipliers: &[u64], row: u32) {
+        if self.row == row {
+            return;
+        }
         let change = RowChange {
             row,
             before: self.multiplier(multipliers),

@@ -77,6 +77,14 @@ impl NamedRows {
         numbered(number_at(&self.places, row as usize) as usize)
     }
 
+    /// How many rows there are up to the last knapsack row: what is kept of knapsack rows needs so many places.
+    pub(crate) fn knapsack_end(&self) -> usize {
+        match self.is_knapsack.iter().rposition(|is| *is) {
+            Some(last) => last.saturating_add(1),
+            None => 0,
+        }
+    }
+
     /// The number on the side of the row at a place.
     pub(crate) fn number_of(&self, place: u32) -> u32 {
         match self.numbers.get(place as usize) {

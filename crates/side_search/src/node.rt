@@ -1,14 +1,16 @@
 use crate::columns::Column;
 use crate::layout::Layout;
-use crate::numbers::{copy_of, is_set, number_at, put, set, unset};
+use crate::numbers::{first_numbers, is_set, number_at, put, set, unset};
 use certificate_checker::{Fixing, is_free, is_one};
 use std::alloc::{AllocError, Global};
 
 /// What is left at a node of the search.
 #[derive(Drop)]
 pub(crate) struct Node {
-    /// Of each row, what the variables that are fixed to one leave of its capacity.
+    /// Of each row up to the last knapsack row, what the variables that are fixed to one leave of its capacity.
     pub slack: Vec<u64>,
+    /// Whether one of them takes a packing row.
+    pub full: Vec<bool>,
     /// A row that they exceed.
     pub exceeded: Option<u32>,
     /// Whether a variable is fixed to one.
@@ -31,19 +33,27 @@ fn use_slack(node: &mut Node, row: u32, weight: u64) {
     }
 }
 
+fn take_row(node: &mut Node, row: u32) {
+    let place = row as usize;
+    if is_set(&node.full, place) {
+        node.exceeded = Some(row);
+    }
+    set(&mut node.full, place);
+}
+
 fn fix_to_one(node: &mut Node, column: &Column) {
     node.gained = node.gained.saturating_add(column.gain);
     for (row, weight) in &column.knapsack {
         use_slack(node, *row, *weight);
     }
     for row in &column.packing {
-        use_slack(node, *row, 1);
+        take_row(node, *row);
     }
 }
 
 fn is_open(node: &Node, column: &Column) -> bool {
     for row in &column.packing {
-        if number_at(&node.slack, *row as usize) == 0 {
+        if is_set(&node.full, *row as usize) {
             return false;
         }
     }
@@ -80,7 +90,8 @@ impl Node {
     ) -> Result<Node, AllocError> {
         let count = layout.columns.len();
         let mut node = Node {
-            slack: copy_of(alloc, &layout.rows.capacities)?,
+            slack: first_numbers(alloc, &layout.rows.capacities, layout.knapsack_end)?,
+            full: unset(alloc, layout.rows.numbers.len())?,
             exceeded: None,
             ones: unset(alloc, count)?,
             free: unset(alloc, count)?,

@@ -33,13 +33,6 @@ pub(crate) fn set(flags: &mut [bool], place: usize) {
     }
 }
 
-/// Writes a flag, and nothing past the end.
-pub(crate) fn put_flag(flags: &mut [bool], place: usize, flag: bool) {
-    if place < flags.len() {
-        flags[place] = flag;
-    }
-}
-
 /// Adds to a number, which stops at its greatest.
 pub(crate) fn add(numbers: &mut [u64], place: usize, more: u64) {
     put(
@@ -81,6 +74,15 @@ pub(crate) fn flagged(alloc: Global, flags: &[bool]) -> Result<Vec<u32>, AllocEr
         }
     }
     Ok(places)
+}
+
+/// The first of some numbers, at most so many.
+pub(crate) fn first_numbers(
+    alloc: Global,
+    numbers: &[u64],
+    most: usize,
+) -> Result<Vec<u64>, AllocError> {
+    Vec::from_slice(alloc, &numbers[..most.min(numbers.len())])
 }
 
 /// A copy of some numbers.

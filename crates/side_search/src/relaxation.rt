@@ -2,8 +2,9 @@ use crate::columns::Column;
 use crate::layout::Layout;
 use crate::live::LiveVars;
 use crate::node::Node;
-use crate::numbers::{add, is_set, number_at, put, put_flag, set, take_off, unset, zeros};
+use crate::numbers::{add, is_set, number_at, numbered, put, set, take_off, unset, zeros};
 use std::alloc::{AllocError, Global};
+use std::mem::replace;
 
 /// What the free variables gain at most where the knapsack rows have multipliers in place of capacities.
 ///
@@ -15,21 +16,25 @@ pub(crate) struct LagrangianRelaxation {
     pub value: u64,
     /// What so many of the live variables with packing rows hold at most, the first ones by their last rows.
     reach: Vec<u64>,
-    /// Whether the next one is taken for that.
-    ends: Vec<bool>,
-    /// Which of the live variables with packing rows it takes.
-    chosen: Vec<bool>,
+    /// How many of these there are up to the last one that is taken for that, 0 where none is.
+    ends: Vec<u64>,
+    /// The places of the live variables with packing rows that it takes, the last one first.
+    chosen: Vec<u32>,
+    /// For each of these the last trial that took it.
+    chosen_by: Vec<u64>,
+    /// How many multipliers were tried at this node.
+    trials: u64,
     /// Which variables it takes. From one trial of multipliers to the next few change, so that only these are added to the
     /// sums or taken off them.
     pub taken: Vec<bool>,
-    /// Of each knapsack row, what they weigh.
+    /// Of each row up to the last knapsack row, what they weigh.
     pub load: Vec<u64>,
     /// Their scaled gains.
     pub gain: u64,
     /// Whether some multipliers that were tried at this node take a variable, and others don't.
     split: Vec<bool>,
-    /// Whether no multipliers were tried yet.
-    is_new: bool,
+    /// Whether it takes other variables than when it was completed last.
+    pub has_changed: bool,
 }
 
 impl LagrangianRelaxation {
@@ -39,16 +44,19 @@ impl LagrangianRelaxation {
         live: &LiveVars,
     ) -> Result<LagrangianRelaxation, AllocError> {
         let vars = layout.columns.len();
+        let tied = live.tied.len();
         Ok(LagrangianRelaxation {
             value: u64::MAX,
-            reach: zeros(alloc, live.tied.len().saturating_add(1))?,
-            ends: unset(alloc, live.tied.len())?,
-            chosen: unset(alloc, live.tied.len())?,
+            reach: zeros(alloc, tied.saturating_add(1))?,
+            ends: zeros(alloc, tied.saturating_add(1))?,
+            chosen: Vec::new(alloc),
+            chosen_by: zeros(alloc, tied)?,
+            trials: 0,
             taken: unset(alloc, vars)?,
-            load: zeros(alloc, layout.rows.numbers.len())?,
+            load: zeros(alloc, layout.knapsack_end)?,
             gain: 0,
             split: unset(alloc, vars)?,
-            is_new: true,
+            has_changed: true,
         })
     }
 
@@ -72,6 +80,7 @@ impl LagrangianRelaxation {
             return;
         }
         let column = &layout.columns[place];
+        self.has_changed = true;
         if self.taken[place] {
             self.taken[place] = false;
             self.leave(column);
@@ -79,7 +88,7 @@ impl LagrangianRelaxation {
             self.taken[place] = true;
             self.take(column);
         }
-        if !self.is_new {
+        if self.trials > 1 {
             set(&mut self.split, place);
         }
     }
@@ -87,40 +96,81 @@ impl LagrangianRelaxation {
     /// What the variables with packing rows hold at most, up to each one.
     fn settle(&mut self, live: &LiveVars, multiplier: u64) {
         let mut best: u64 = 0;
+        let mut end = 0;
         for (place, var) in live.tied.iter().enumerate() {
+            let count = place.saturating_add(1);
             let behind = number_at(&self.reach, var.from as usize);
             let with = behind.saturating_add(var.reduced_gain(multiplier));
-            put_flag(&mut self.ends, place, with > best);
-            best = best.max(with);
-            put(&mut self.reach, place.saturating_add(1), best);
+            if with > best {
+                best = with;
+                end = count as u64;
+            }
+            put(&mut self.reach, count, best);
+            put(&mut self.ends, count, end);
         }
         self.value = self.value.saturating_add(best);
     }
 
     fn choose_loose(&mut self, layout: &Layout, live: &LiveVars, multiplier: u64) {
+        let mut gains: u64 = 0;
         for var in &live.loose {
             let gain = var.reduced_gain(multiplier);
-            self.value = self.value.saturating_add(gain);
+            gains = gains.saturating_add(gain);
             let place = var.number as usize;
             if is_set(&self.taken, place) != (gain > 0) {
                 self.turn(layout, place);
             }
         }
+        self.value = self.value.saturating_add(gains);
     }
 
-    /// Chooses variables with packing rows, from the last one back.
-    fn choose_tied(&mut self, layout: &Layout, live: &LiveVars) {
-        let mut behind = live.tied.len();
-        for place in (0..live.tied.len()).rev() {
-            let takes = place < behind && is_set(&self.ends, place);
-            if takes {
-                behind = live.tied[place].from as usize;
+    /// The places of the variables with packing rows that hold the most together, from the last one back.
+    fn chain(&self, alloc: Global, live: &LiveVars) -> Result<Vec<u32>, AllocError> {
+        let mut places = Vec::new(alloc);
+        let mut count = live.tied.len();
+        for _ in 0..live.tied.len() {
+            let end = number_at(&self.ends, count) as usize;
+            if end == 0 || end > live.tied.len() {
+                return Ok(places);
             }
-            if is_set(&self.chosen, place) != takes {
-                put_flag(&mut self.chosen, place, takes);
-                self.turn(layout, live.tied[place].number as usize);
+            places.push(numbered(end - 1))?;
+            count = live.tied[end - 1].from as usize;
+        }
+        Ok(places)
+    }
+
+    /// Takes variables with packing rows, where they aren't taken yet.
+    fn take_chosen(&mut self, layout: &Layout, live: &LiveVars, places: &[u32]) {
+        for place in places {
+            put(&mut self.chosen_by, *place as usize, self.trials);
+            let number = live.tied_number(*place);
+            if !is_set(&self.taken, number) {
+                self.turn(layout, number);
             }
         }
+    }
+
+    /// Drops those that are not taken any more.
+    fn drop_others(&mut self, layout: &Layout, live: &LiveVars, places: &[u32]) {
+        for place in places {
+            if number_at(&self.chosen_by, *place as usize) != self.trials {
+                self.turn(layout, live.tied_number(*place));
+            }
+        }
+    }
+
+    /// Chooses variables with packing rows.
+    fn choose_tied(
+        &mut self,
+        alloc: Global,
+        layout: &Layout,
+        live: &LiveVars,
+    ) -> Result<(), AllocError> {
+        let places = self.chain(alloc, live)?;
+        self.take_chosen(layout, live, &places);
+        let before = replace(&mut self.chosen, places);
+        self.drop_others(layout, live, &before);
+        Ok(())
     }
 
     /// The multipliers' part of the bound: what the slack of the knapsack rows costs.
@@ -135,24 +185,28 @@ impl LagrangianRelaxation {
     /// Finds the bound at these multipliers.
     pub(crate) fn relax(
         &mut self,
+        alloc: Global,
         layout: &Layout,
         node: &Node,
         live: &LiveVars,
         multipliers: &[u64],
-    ) {
+    ) -> Result<(), AllocError> {
         let multiplier = live.multiplier(multipliers);
+        self.trials = self.trials.saturating_add(1);
         self.value = 0;
         self.add_slack_cost(layout, node, multipliers);
         self.choose_loose(layout, live, multiplier);
         self.settle(live, multiplier);
-        self.choose_tied(layout, live);
-        self.is_new = false;
+        self.choose_tied(alloc, layout, live)
     }
 
     /// What a row adds to what the rows hold at most.
-    pub(crate) fn step(&self, live: &LiveVars, row: usize) -> u64 {
-        let behind = number_at(&self.reach, live.ended_before(row.saturating_add(1)));
-        behind.saturating_sub(number_at(&self.reach, live.ended_before(row)))
+    pub(crate) fn step(&self, layout: &Layout, live: &LiveVars, row: usize) -> u64 {
+        let behind = number_at(
+            &self.reach,
+            live.ended_before(layout, row.saturating_add(1)),
+        );
+        behind.saturating_sub(number_at(&self.reach, live.ended_before(layout, row)))
     }
 
     /// Whether what it takes stays within the slack of the knapsack rows.

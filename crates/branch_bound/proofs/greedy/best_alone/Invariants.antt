@@ -1,4 +1,3 @@
-use Rattle.std.proofs.Common.{length}
 use Rattle.placement_programme.specs.Programme.{gain_at}
 use Rattle.placement_programme.specs.Views.{plain_side}
 use Rattle.branch_bound.specs.Greatest.{Greatest}

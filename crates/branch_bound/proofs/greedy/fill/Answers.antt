@@ -1,5 +1,5 @@
 use Rattle.std.proofs.Common.{◌∙◌, false, None, option_map, ap, refl, sym, subst}
-use Rattle.placement_programme.specs.Views.{plain_side, plain_programme}
+use Rattle.placement_programme.specs.Views.{plain_programme}
 use Rattle.branch_bound.specs.Assignments.{taken}
 use Rattle.branch_bound.specs.Greedy.{IsGreedy}
 use Rattle.branch_bound.specs.Growing.{CannotGrow}

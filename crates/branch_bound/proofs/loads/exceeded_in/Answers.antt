@@ -1,4 +1,3 @@
-use Rattle.std.proofs.Common.{◌≡◌, rules, subst}
 use Rattle.placement_programme.specs.Views.{plain_side}
 use Rattle.branch_bound.proofs.LoadLemmas.{exceeded_is}
 use Rattle.branch_bound.proofs.loads.exceeded_in.Goals as goal

@@ -1,4 +1,3 @@
-use Rattle.std.proofs.Common.{nat_le}
 use Rattle.std.specs.List.{count_by}
 use Rattle.certificate_checker.specs.Fixings.{is_free}
 use Rattle.branch_bound.proofs.searching.+search.Given as goal

@@ -1,6 +1,5 @@
-use Rattle.std.proofs.Common.{None, Some, MatchOption, refl, sym, subst}
+use Rattle.std.proofs.Common.{MatchOption, refl, sym, subst}
 use Rattle.placement_programme.specs.Views.{plain_programme, plain_choice}
-use Rattle.certificate_checker.specs.Shows.{IsAccepted}
 use Rattle.branch_bound.specs.Searching.{choice_of}
 use Rattle.branch_bound.specs.Solving.{EndsWithin, AreTreesOf}
 use Rattle.branch_bound.proofs.SolveLemmas.{range_none, range_trees}

@@ -1,4 +1,4 @@
-use Rattle.std.proofs.Common.{◌≡◌, ◌∙◌, suc, nat_le, subst}
+use Rattle.std.proofs.Common.{◌≡◌, ◌∙◌, suc, subst}
 use Rattle.std.specs.List.{count_by}
 use Rattle.placement_programme.specs.Views.{plain_side}
 use Rattle.certificate_checker.specs.Shows.{all_free}

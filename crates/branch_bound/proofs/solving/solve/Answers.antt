@@ -1,4 +1,4 @@
-use Rattle.std.proofs.Common.{Some, IfSome, sym, subst}
+use Rattle.std.proofs.Common.{IfSome, sym, subst}
 use Rattle.placement_programme.specs.Views.{plain_programme}
 use Rattle.certificate_checker.specs.Shows.{Shows}
 use Rattle.certificate_checker.specs.Views.{plain_certificate}

@@ -1,4 +1,4 @@
-use Rattle.std.proofs.Common.{option_map, ap, refl, sym, subst, arith}
+use Rattle.std.proofs.Common.{option_map, refl, sym, subst, arith}
 use Rattle.placement_programme.specs.Views.{plain_side}
 use Rattle.branch_bound.specs.Greedy.{GreedyGains}
 use Rattle.branch_bound.proofs.starting.begin.Goals as goal

@@ -1,4 +1,4 @@
-use Rattle.std.proofs.Common.{length, ap, arith, ℕ}
+use Rattle.std.proofs.Common.{length, ap, arith}
 use Rattle.std.proofs.lemmas.List.{length-replicate}
 use Rattle.placement_programme.specs.Views.{plain_programme}
 use Rattle.certificate_checker.specs.declared.fixings.Fixing.{Fixing}
