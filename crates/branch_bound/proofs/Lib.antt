@@ -1,6 +1,8 @@
 pub mod OnesLemmas
 pub mod OpenLemmas
 pub mod LoadLemmas
+pub mod TallyLemmas
+pub mod RankingLemmas
 pub mod MarkLemmas
 pub mod EntryLemmas
 pub mod GreatestLemmas
@@ -10,5 +12,6 @@ pub mod GrowLemmas
 pub mod IncumbentLemmas
 pub mod VisitLemmas
 pub mod SolveLemmas
+pub mod ChoiceLemmas
 pub mod ListLemmas
 pub mod ShownLemmas

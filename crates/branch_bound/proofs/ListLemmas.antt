@@ -28,7 +28,7 @@ use Rattle.branch_bound.proofs.MarkLemmas.{fewer_free}
 abbrev Decided : Type 0 → Type 0
 Decided P = P ⊎ (P → ⊥)
 
-one_not_free : One ≡ Free → ⊥
+pub one_not_free : One ≡ Free → ⊥
 one_not_free same = cc
 
 free_decided : (m : Fixing) → Decided (m ≡ Free)

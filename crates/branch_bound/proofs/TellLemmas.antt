@@ -7,17 +7,14 @@ use Rattle.certificate_checker.specs.Rules.{Holds}
 use Rattle.certificate_checker.specs.Spelling.{IsTreeInRange}
 use Rattle.certificate_checker.specs.Views.{plain_tree}
 use Rattle.certificate_checker.specs.declared.trees.Tree.{Tree}
-use Rattle.branch_bound.specs.declared.visiting.Visit.{Visit}
-use Rattle.branch_bound.specs.declared.visiting.Visit.TheVariants.{Open}
 use Rattle.branch_bound.specs.Assignments.{FailsEveryLeafRule, IsGreatestFree}
 use Rattle.branch_bound.specs.Entries.{Each}
-use Rattle.branch_bound.specs.Searching.{EntryBelow, Reports, Visits, HasLevels}
+use Rattle.branch_bound.specs.Searching.{EntryBelow, Reports, HasLevels}
 use Rattle.certificate_checker.specs.Fixings.{fixing_of, is_free}
 use Rattle.certificate_checker.specs.declared.fixings.Fixing.{Fixing}
 use Rattle.certificate_checker.specs.declared.fixings.Fixing.TheVariants.{Zero, One, Free}
 use Rattle.side_search.proofs.Greater.{holds_more}
 use Rattle.branch_bound.proofs.MarkLemmas.{fewer_free}
-use Rattle.branch_bound.proofs.VisitLemmas.{zero_marks}
 use Rattle.branch_bound.proofs.EntryLemmas.{entry_more, each_first, each_second, finished, some_entry, two_lists}
 
 -- no budget
@@ -60,21 +57,21 @@ pub record Children (s : PlainSide) (start : ℕ) (marks : List Fixing) (j best 
   pub by_one : Reports s start (slice_set marks j One) between middle second one
   pub by_zero : Reports s start (slice_set marks j Zero) more second after zero_tree
 
-pub children : (s : PlainSide) (start old : ℕ) (marks kept : List Fixing) (j best between more left middle second after : ℕ) (visit : Visit) (one_read one zero_read zero_tree : Option Tree) → start ≤ old → old ≤ best → visit ≡ Open j → Visits s best marks visit → EntryBelow s best marks → best ≤ between → between ≤ more → left ≡ suc middle → kept ≡ slice_set marks j One
-    → one_read ≡ one → ((n : ℕ) → n ≤ best → Reports s n (slice_set marks j One) between middle second one_read)
-    → zero_read ≡ zero_tree → ((n : ℕ) → n ≤ between → Reports s n (slice_set kept j Zero) more second after zero_read)
-    → Children s start marks j best between more left middle second after one zero_tree
-children s start old marks kept j best between more left middle second after visit one_read one zero_read zero_tree order grown is_open visited here grows grows_on used is_kept one_is one_tells zero_is zero_tells =
-    let visits = subst (λ (v : Visit). Visits s best marks v) is_open visited in
+pub children : (s : PlainSide) (start old : ℕ) (marks first second : List Fixing) (j best between more left middle used after : ℕ) (one_read one zero_read zero_tree : Option Tree) → start ≤ old → old ≤ best → FailsEveryLeafRule s best marks → IsGreatestFree s marks j → EntryBelow s best marks → best ≤ between → between ≤ more → left ≡ suc middle → first ≡ slice_set marks j One → second ≡ slice_set marks j Zero
+    → one_read ≡ one → ((n : ℕ) → n ≤ best → Reports s n first between middle used one_read)
+    → zero_read ≡ zero_tree → ((n : ℕ) → n ≤ between → Reports s n second more used after zero_read)
+    → Children s start marks j best between more left middle used after one zero_tree
+children s start old marks first second j best between more left middle used after one_read one zero_read zero_tree order grown fails greatest here grows grows_on left_is is_first is_second one_is one_tells zero_is zero_tells =
     let from : start ≤ best = omega (arith, order, grown) in
-    let there = subst (λ (m : List Fixing). Reports s start m more second after zero_read) (zero_marks marks kept j is_kept) (zero_tells start (omega (arith, from, grows))) in
+    let by_one = subst (λ (m : List Fixing). Reports s start m between middle used one_read) is_first (one_tells start from) in
+    let by_zero = subst (λ (m : List Fixing). Reports s start m more used after zero_read) is_second (zero_tells start (omega (arith, from, grows))) in
     record {
-      branches = record { from_start = from; fails = visits.0; greatest = visits.1; here = here };
+      branches = record { from_start = from; fails = fails; greatest = greatest; here = here };
       grows = grows;
       grows_on = grows_on;
-      used = used;
-      by_one = subst (λ (o : Option Tree). Reports s start (slice_set marks j One) between middle second o) one_is (one_tells start from);
-      by_zero = subst (λ (o : Option Tree). Reports s start (slice_set marks j Zero) more second after o) zero_is there;
+      used = left_is;
+      by_one = subst (λ (o : Option Tree). Reports s start (slice_set marks j One) between middle used o) one_is by_one;
+      by_zero = subst (λ (o : Option Tree). Reports s start (slice_set marks j Zero) more used after o) zero_is by_zero;
     }
 
 -- it ends under the other child

@@ -1,5 +1,5 @@
 -- How a node is closed or opened.
-use Rattle.std.proofs.Common.{◌≡◌, ◌∙◌, inl, inr, ℕ, zero, suc, ◌+◌, ◌-◌, ◌*◌, ◌<◌, ◌≤◌, max, List, [], ◌++◌, length, slice_index, slice_set, sym, ap, refl, subst, arith}
+use Rattle.std.proofs.Common.{◌≡◌, ◌∙◌, inl, inr, ℕ, zero, suc, ◌+◌, ◌*◌, ◌<◌, ◌≤◌, false, List, [], ◌++◌, length, slice_index, slice_set, sym, ap, refl, subst, arith}
 use Rattle.std.specs.List.{count_by}
 use Rattle.placement_programme.specs.Plain.{PlainSide}
 use Rattle.placement_programme.specs.Programme.{gain_at, weight_at, Fits, taken_gains}
@@ -17,10 +17,6 @@ use Rattle.certificate_checker.specs.declared.fixings.Fixing.{Fixing}
 use Rattle.certificate_checker.specs.declared.fixings.Fixing.TheVariants.{Zero, One, Free}
 use Rattle.branch_bound.proofs.OnesLemmas.{fits_from, over_not_fits, gains_are, nothing_taken}
 use Rattle.branch_bound.proofs.MarkLemmas.{fewer_free}
-
-pub leaf_here : (s : PlainSide) (marks : List Fixing) (old new : ℕ) → ((j : ℕ) → j < length s.vars → fixing_of marks j ≡ Free → ⊥) → new ≡ max old (taken_gains s (taken s marks) - s.fixed) → LeafHolds s new marks
-leaf_here s marks old new full is =
-    record { full = full; gains = let sum = gains_are s marks in omega (arith, sum, is) }
 
 -- marks on the way to the second child
 pub zero_marks : (marks now : List Fixing) (j : ℕ) → now ≡ slice_set marks j One → slice_set now j Zero ≡ slice_set marks j Zero
@@ -47,7 +43,7 @@ zero_below (suc n) marks j unfixed =
     ap (λ ns. ns ++ number_if (fixing_of (slice_set marks j Zero) n) n) rest ∙ ap (λ ns. ones_below n marks ++ ns) here
 
 -- what is taken fits where no row is exceeded
-within_fits : (s : PlainSide) (marks : List Fixing) → ((row : ℕ) → OverHolds s marks row → ⊥) → Fits s (taken s marks)
+pub within_fits : (s : PlainSide) (marks : List Fixing) → ((row : ℕ) → OverHolds s marks row → ⊥) → Fits s (taken s marks)
 within_fits s marks within =
     fits_from s marks (λ row inside.
     elim (cases_lt (slice_index s.rows row) (sum_below (length s.vars) (λ j. if_one (fixing_of marks j) (weight_at s.vars row j)))) [
@@ -56,10 +52,10 @@ within_fits s marks within =
     ])
 
 -- a child that fixes a free variable to zero is tried with its parent
-pub zero_tried : (s : PlainSide) (best more : ℕ) (marks now : List Fixing) (j : ℕ) → FailsEveryLeafRule s best marks → EntryBelow s best marks → best ≤ more → fixing_of marks j ≡ Free → now ≡ slice_set marks j One → IsTried s more (slice_set now j Zero)
-zero_tried s best more marks now j fails below grows unfixed is =
+pub zero_tried : (s : PlainSide) (best more : ℕ) (marks second : List Fixing) (j : ℕ) → FailsEveryLeafRule s best marks → EntryBelow s best marks → best ≤ more → fixing_of marks j ≡ Free → second ≡ slice_set marks j Zero → IsTried s more second
+zero_tried s best more marks second j fails below grows unfixed is =
     let fits = within_fits s marks fails.within in
-    let same : taken s (slice_set now j Zero) ≡ taken s marks = ap (λ m. taken s m) (zero_marks marks now j is) ∙ zero_below (length s.vars) marks j unfixed in
+    let same : taken s second ≡ taken s marks = ap (λ m. taken s m) is ∙ zero_below (length s.vars) marks j unfixed in
     let most = below fits in (
       subst (λ take. Fits s take) (sym same) fits,
       λ any. subst (λ take. taken_gains s take ≤ more + s.fixed) (sym same) (omega (arith, most, grows)),
@@ -85,19 +81,30 @@ leaf_dual s best marks leaf =
     let gains = leaf.gains in
     record { least = omega arith; most = omega arith; rows = tt; sums = omega (arith, less, gains) }
 
+-- nothing is taken at first, so the first entry is tried
+pub first_fits : (s : PlainSide) → Fits s (taken s (all_free s))
+first_fits s =
+    subst (λ take. Fits s take) (sym (nothing_taken s)) record { numbers = tt; rows = λ row inside. omega arith }
+
+pub first_tried : (s : PlainSide) (best : ℕ) (marks : List Fixing) → marks ≡ all_free s → IsTried s best marks
+first_tried s best marks is =
+    let none = ap (λ ms. taken_gains s (taken s ms)) is ∙ ap (λ take. taken_gains s take) (nothing_taken s) in (
+      subst (λ ms. Fits s (taken s ms)) (sym is) (first_fits s),
+      λ any. omega (arith, none),
+    )
+
 -- the first entry fails every leaf rule where the dual rule without multipliers fails
 pub first_fails : (s : PlainSide) (best : ℕ) → (DualHolds s best (all_free s) 1 [] → ⊥) → FailsEveryLeafRule s best (all_free s)
 first_fails s best unbounded =
-    let fits : Fits s (taken s (all_free s)) = subst (λ take. Fits s take) (sym (nothing_taken s)) record { numbers = tt; rows = λ row inside. omega arith } in
     record {
-      within = λ row over. over_not_fits s (all_free s) row over fits;
+      within = λ row over. over_not_fits s (all_free s) row over (first_fits s);
       open_or_better = λ leaf. unbounded (leaf_dual s best (all_free s) leaf);
       unbounded = unbounded;
     }
 
--- marks on the way through the two children
-pub fewer_again : (marks now : List Fixing) (j : ℕ) → fixing_of marks j ≡ Free → now ≡ slice_set marks j One → count_by is_free (slice_set now j Zero) < count_by is_free marks
-fewer_again marks now j unfixed is =
-    let fewer = fewer_free marks j Zero unfixed refl in
-    let same = ap (λ l. count_by is_free l) (zero_marks marks now j is) in
+-- one free variable fewer
+pub fewer_fixed : (marks now : List Fixing) (j : ℕ) (f : Fixing) → fixing_of marks j ≡ Free → is_free f ≡ false → now ≡ slice_set marks j f → count_by is_free now < count_by is_free marks
+fewer_fixed marks now j f unfixed fixed is =
+    let fewer = fewer_free marks j f unfixed fixed in
+    let same = ap (λ l. count_by is_free l) is in
     omega (arith, fewer, same)

@@ -1,8 +1,9 @@
 -- Partial assignments of a side: a mark a variable, as in the nodes of a certificate. What those fixed to one take, and
 -- which assignments no rule of a leaf closes.
-use Rattle.std.specs.Prelude.{ℕ, zero, suc, ◌<◌, ◌≡◌, List, [], ◌∷◌, ◌++◌, length}
+use Rattle.std.specs.Prelude.{ℕ, zero, suc, ◌<◌, ◌≡◌, Bool, true, false, List, [], ◌∷◌, ◌++◌, length}
 use Rattle.placement_programme.specs.Plain.{PlainSide}
 use Rattle.placement_programme.specs.Programme.{gain_at}
+use Rattle.placement_programme.specs.Sums.{takes}
 use Rattle.branch_bound.specs.Greatest.{IsGreatestOf}
 use Rattle.certificate_checker.specs.Rules.{OverHolds, LeafHolds, DualHolds}
 use Rattle.certificate_checker.specs.Fixings.{fixing_of}
@@ -23,6 +24,15 @@ ones_below (suc n) marks = ones_below n marks ++ number_if (fixing_of marks n) n
 -- what an assignment takes
 abbrev pub taken : PlainSide → List Fixing → List ℕ
 taken s marks = ones_below (length s.vars) marks
+
+-- marks of which those are one whose numbers are taken, and the others are free
+abbrev pub mark_if : Bool → Fixing
+mark_if true = One
+mark_if false = Free
+
+pub record AreMarksOf (s : PlainSide) (take : List ℕ) (marks : List Fixing) : Type 0 where
+  pub long : length marks ≡ length s.vars
+  pub exact : (j : ℕ) → j < length s.vars → fixing_of marks j ≡ mark_if (takes take j)
 
 -- all variables are fixed
 abbrev pub IsFull : PlainSide → List Fixing → Type 0

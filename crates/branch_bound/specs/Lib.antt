@@ -8,5 +8,7 @@ pub mod Assignments
 pub mod Greedy
 pub mod Entries
 pub mod Growing
+pub mod Ranking
+pub mod Tallies
 pub mod Searching
 pub mod Solving

@@ -10,6 +10,9 @@ use Rattle.certificate_checker.specs.Views.{plain_tree}
 use Rattle.certificate_checker.specs.declared.trees.Tree.{Tree}
 use Rattle.branch_bound.specs.Assignments.{taken, FailsEveryLeafRule, IsGreatestFree}
 use Rattle.branch_bound.specs.Entries.{StatedFrom, Each, takes_on}
+use Rattle.branch_bound.specs.Ranking.{PassedOver, number_at}
+use Rattle.branch_bound.specs.Tallies.{ExceedsOnlyRowsOf}
+use Rattle.branch_bound.specs.declared.ranking.Ranked.{Ranked}
 use Rattle.branch_bound.specs.declared.incumbents.Incumbent.{Incumbent}
 use Rattle.branch_bound.specs.declared.visiting.Visit.{Visit}
 use Rattle.branch_bound.specs.declared.visiting.Visit.TheVariants.{Closed, Open}
@@ -22,6 +25,12 @@ EntryBelow s best marks = Fits s (taken s marks) → taken_gains s (taken s mark
 -- what an assignment takes fits, and gains at most `best`, the fixed cost taken off
 abbrev pub IsTried : PlainSide → ℕ → List Fixing → Type 0
 IsTried s best marks = Fits s (taken s marks) × EntryBelow s best marks
+
+-- what is known of an assignment before it is visited: it was tried, or no row is exceeded but those of the variable that
+-- was fixed to one last
+abbrev pub IsKnown : PlainSide → ℕ → List Fixing → Option ℕ → Type 0
+IsKnown s best marks None = IsTried s best marks
+IsKnown s best marks (Some j) = (j < length s.vars) × ExceedsOnlyRowsOf s marks j
 
 -- a finished subtree is closed by its tree, and had no more nodes than its stated list has entries; where the budget of
 -- `left` nodes ends within it, none of so many entries of its list gains more than `best`, and there are more of them
@@ -36,10 +45,17 @@ Reports s start marks best left after None =
 abbrev pub Closes : PlainSide → ℕ → List Fixing → Tree → Type 0
 Closes s best marks tree = Holds s best marks (plain_tree tree) × IsTreeInRange 1 (plain_tree tree)
 
--- a node is closed by a tree of one node, or fails every leaf rule and branches on a variable
-abbrev pub Visits : PlainSide → ℕ → List Fixing → Visit → Type 0
-Visits s best marks (Closed tree) = Closes s best marks tree
-Visits s best marks (Open j) = FailsEveryLeafRule s best marks × IsGreatestFree s marks j
+-- a node fails every leaf rule and branches on the variable at a place of the order
+pub record Opens (s : PlainSide) (ranking : List Ranked) (best : ℕ) (marks : List Fixing) (place : ℕ) : Type 0 where
+  pub inside : place < length ranking
+  pub fails : FailsEveryLeafRule s best marks
+  pub greatest : IsGreatestFree s marks (number_at ranking place)
+  pub passed : PassedOver ranking marks place
+
+-- a node is closed by a tree of one node, or opened
+abbrev pub Visits : PlainSide → List Ranked → ℕ → List Fixing → Visit → Type 0
+Visits s ranking best marks (Closed tree) = Closes s best marks tree
+Visits s ranking best marks (Open place) = Opens s ranking best marks place
 
 -- a tree's numbers are in their ranges, and it has at most so many levels
 abbrev pub HasLevels : ℕ → Option Tree → Type 0

@@ -6,6 +6,7 @@ ghost use Rattle.branch_bound.specs.Assignments.{FailsEveryLeafRule};
 ghost use Rattle.branch_bound.specs.Searching.{Closes, HasLevels};
 ghost use Rattle.branch_bound.specs.Solving.{ClosesSide, ClosesOn, LacksTree, AreTreesOf, FailsSome};
 
+use crate::assignments::Assignment;
 use crate::closing::plain_dual;
 use crate::outcomes::Trees;
 use certificate_checker::{Tree, free_marks};
@@ -17,8 +18,8 @@ fn first_tree(alloc: Global, side: &Side, best: u128) -> Result<Option<Tree>, Al
     requires { best ≤ 2 ^ 104 }
     ensures { IfOk result (λ tree. MatchOption tree (FailsEveryLeafRule (plain_side side.now) best (all_free (plain_side side.now))) (Closes (plain_side side.now) best (all_free (plain_side side.now)))) }
 {
-    let marks = free_marks(alloc, side)?;
-    Ok(plain_dual(alloc, side, &marks, best))
+    let root = Assignment::of(alloc, side, free_marks(alloc, side)?)?;
+    Ok(plain_dual(alloc, side, &root, best))
 }
 
 /// The trees of both sides, where the search finished them.

@@ -3,13 +3,15 @@ ghost use Rattle.placement_programme.specs.Sums.{sum_below};
 ghost use Rattle.placement_programme.specs.Views.{plain_side};
 ghost use Rattle.certificate_checker.specs.Rules.{kept_at, DualHolds};
 ghost use Rattle.branch_bound.specs.Searching.{Closes};
+ghost use Rattle.branch_bound.specs.Tallies.{AreTallies};
 
+use crate::assignments::Assignment;
 use certificate_checker::{Fixing, Tree, fixing_of, gain_of_var, var_count};
 use placement_programme::Side;
 use std::alloc::Global;
 
 /// What the variables gain that aren't fixed to zero.
-fn open_gains(side: &Side, marks: &[Fixing]) -> u128
+pub(crate) fn open_gains(side: &Side, marks: &[Fixing]) -> u128
     requires { length (plain_side side.now).vars ≤ length marks.now }
     ensures { result ≡ sum_below (length (plain_side side.now).vars) (kept_at (plain_side side.now) marks.now 1 []) }
 {
@@ -25,21 +27,21 @@ fn open_gains(side: &Side, marks: &[Fixing]) -> u128
 }
 
 /// Whether a dual node of scale 1 without multipliers keeps its rule: without prices its sums are the gains alone.
-fn is_plain_dual(side: &Side, marks: &[Fixing], best: u128) -> bool
+fn is_plain_dual(side: &Side, node: &Assignment, best: u128) -> bool
     requires best { best ≤ 2 ^ 104 }
-    requires marked { length (plain_side side.now).vars ≤ length marks.now }
-    ensures { IsTrue result ↔ DualHolds (plain_side side.now) best marks.now 1 [] }
+    requires tallies { AreTallies (plain_side side.now) node.now }
+    ensures { IsTrue result ↔ DualHolds (plain_side side.now) best node.now.marks.items 1 [] }
 {
-    open_gains(side, marks) <= best + side.fixed
+    node.bound <= best + side.fixed
 }
 
 /// A dual node of scale 1 without multipliers.
-pub(crate) fn plain_dual(alloc: Global, side: &Side, marks: &[Fixing], best: u128) -> Option<Tree>
+pub(crate) fn plain_dual(alloc: Global, side: &Side, node: &Assignment, best: u128) -> Option<Tree>
     requires best { best ≤ 2 ^ 104 }
-    requires marked { length (plain_side side.now).vars ≤ length marks.now }
-    ensures { MatchOption result (DualHolds (plain_side side.now) best marks.now 1 [] → ⊥) (Closes (plain_side side.now) best marks.now) }
+    requires tallies { AreTallies (plain_side side.now) node.now }
+    ensures { MatchOption result (DualHolds (plain_side side.now) best node.now.marks.items 1 [] → ⊥) (Closes (plain_side side.now) best node.now.marks.items) }
 {
-    if is_plain_dual(side, marks, best) {
+    if is_plain_dual(side, node, best) {
         Some(Tree::Dual {
             scale: 1,
             multipliers: Vec::new(alloc),

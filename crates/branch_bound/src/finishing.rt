@@ -4,20 +4,20 @@ ghost use Rattle.placement_programme.specs.Bounds.{AscendWithin};
 ghost use Rattle.placement_programme.specs.Programme.{side_for, taken_gains, Fits};
 ghost use Rattle.placement_programme.specs.Views.{plain_side, plain_programme, plain_choice};
 ghost use Rattle.branch_bound.specs.Assignments.{taken};
-ghost use Rattle.branch_bound.specs.Greedy.{Grows, IsStart};
+ghost use Rattle.branch_bound.specs.Greedy.{IsStart};
 ghost use Rattle.branch_bound.specs.Growing.{CannotGrow};
 ghost use Rattle.branch_bound.specs.Searching.{IsIncumbent, choice_of};
 
+use crate::assignments::Assignment;
 use crate::greedy::grow;
 use crate::incumbents::Incumbent;
-use crate::ones::{ones_gain, ones_of};
+use crate::ones::ones_of;
 use crate::starting::empty_incumbent;
-use certificate_checker::Fixing;
 use placement_programme::{Choice, Programme, Side};
 use std::alloc::{AllocError, Global};
 
 /// A side of a programme, if it is there.
-fn side_of(p: &Programme, on: bool) -> Option<&Side>
+pub(crate) fn side_of(p: &Programme, on: bool) -> Option<&Side>
     ensures { MatchOption result (side_for (plain_programme p.now) on ≡ None) (λ side. side_for (plain_programme p.now) on ≡ Some (plain_side side.now)) }
 {
     if !on {
@@ -27,16 +27,6 @@ fn side_of(p: &Programme, on: bool) -> Option<&Side>
         None => None,
         Some(side) => Some(side),
     }
-}
-
-/// Marks with each variable taken besides, in order, where the choice stays feasible.
-fn grown_marks(alloc: Global, side: &Side, marks: Vec<Fixing>) -> Result<Vec<Fixing>, AllocError>
-    requires { length (plain_side side.now).vars ≤ length marks.items }
-    ensures { IfOk result (λ grown. Grows (plain_side side.now) marks.items (length (plain_side side.now).vars) grown.items) }
-{
-    let mut grown = marks;
-    grow(alloc, side, &mut grown)?;
-    Ok(grown)
 }
 
 /// An incumbent that gains something, with each variable taken besides where it stays feasible.
@@ -50,13 +40,13 @@ fn grown(alloc: Global, side: &Side, best: Incumbent) -> Result<Incumbent, Alloc
     ensures incumbent { IfOk result (λ more. (p : PlainProgramme) → side_for p best.on ≡ Some (plain_side side.now) → IsIncumbent p more) }
     ensures cannot { IfOk result (λ more. (p : PlainProgramme) → side_for p best.on ≡ Some (plain_side side.now) → CannotGrow p (choice_of p more)) }
 {
-    let marks = grown_marks(alloc, side, best.marks)?;
-    let gains = ones_gain(side, &marks);
-    let gain = gains - side.fixed;
+    let mut node = Assignment::of(alloc, side, best.marks)?;
+    grow(side, &mut node);
+    let gain = node.gains - side.fixed;
     Ok(Incumbent {
         on: best.on,
         gain,
-        marks,
+        marks: node.marks,
     })
 }
 

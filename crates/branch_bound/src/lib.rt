@@ -2,6 +2,7 @@
 //! a budget of nodes, and a certificate where it is shown to be best.
 #![tactic(auto)]
 
+mod assignments;
 mod certifying;
 mod closing;
 mod finishing;
@@ -11,6 +12,7 @@ mod incumbents;
 mod loads;
 mod ones;
 mod outcomes;
+mod ranking;
 mod running;
 mod searching;
 mod solving;

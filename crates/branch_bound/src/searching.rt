@@ -1,97 +1,118 @@
-ghost use Rattle.std.specs.Prelude.{◌≡◌, ℕ, suc, ◌+◌, ◌^◌, ◌<◌, ◌≤◌, IsTrue, length, Option, Some, None, IfOk, OnOk};
+ghost use Rattle.std.specs.Prelude.{◌≡◌, ℕ, suc, ◌+◌, ◌^◌, ◌<◌, ◌≤◌, length, Option, Some, None, IfSome, IfOk, OnOk};
 ghost use Rattle.std.specs.List.{count_by};
 ghost use Rattle.placement_programme.specs.Programme.{Fits};
 ghost use Rattle.placement_programme.specs.Views.{plain_side};
 ghost use Rattle.certificate_checker.specs.Fixings.{is_free};
 ghost use Rattle.branch_bound.specs.Assignments.{taken, IsGreatestFree};
-ghost use Rattle.branch_bound.specs.Searching.{EntryBelow, IsTried, Reports, Visits, HasLevels, KeepsIncumbent};
+ghost use Rattle.branch_bound.specs.Ranking.{IsRanking, PassedOver, number_at};
+ghost use Rattle.branch_bound.specs.Tallies.{AreTallies};
+ghost use Rattle.branch_bound.specs.Searching.{EntryBelow, IsKnown, Reports, Visits, HasLevels, KeepsIncumbent};
 
+use crate::assignments::Assignment;
 use crate::closing::plain_dual;
-use crate::greedy::greatest_free;
 use crate::improving::improve;
-use crate::loads::exceeded;
+use crate::ranking::{Ranked, first_free};
 use crate::running::Running;
 use crate::visiting::Visit;
-use certificate_checker::{Fixing, Tree, branch_on, fixing_of};
+use certificate_checker::{Tree, branch_on};
 use placement_programme::Side;
 use std::alloc::{AllocError, Global};
 
-/// Closes a node by the dual rule without multipliers, or branches on its free variable of greatest gain.
-fn close_or_open(alloc: Global, side: &Side, marks: &[Fixing], number: u32, best: u128) -> Visit
-    requires marked { length (plain_side side.now).vars ≤ length marks.now }
-    requires fits { Fits (plain_side side.now) (taken (plain_side side.now) marks.now) }
-    requires greatest { IsGreatestFree (plain_side side.now) marks.now number }
+/// What a search is for: a side of a programme, off or on.
+#[derive(Drop)]
+pub(crate) struct Task<'a> {
+    pub side: &'a Side,
+    pub on: bool,
+    /// Its variables in the order in which the search branches.
+    pub ranking: &'a [Ranked],
+}
+
+/// Closes a node by the dual rule without multipliers, or branches on its free variable of greatest gain, which is at a
+/// place of the order.
+fn close_or_open(alloc: Global, task: &Task, node: &Assignment, place: usize, best: u128) -> Visit
+    requires tallies { AreTallies (plain_side task.now.side.now) node.now }
+    requires fits { Fits (plain_side task.now.side.now) (taken (plain_side task.now.side.now) node.now.marks.items) }
+    requires place { place < length task.now.ranking.now }
+    requires greatest { IsGreatestFree (plain_side task.now.side.now) node.now.marks.items (number_at task.now.ranking.now place) }
+    requires passed { PassedOver task.now.ranking.now node.now.marks.items place }
     requires small { best ≤ 2 ^ 104 }
-    ensures { Visits (plain_side side.now) best marks.now result }
+    ensures { Visits (plain_side task.now.side.now) task.now.ranking.now best node.now.marks.items result }
 {
-    match plain_dual(alloc, side, marks, best) {
+    match plain_dual(alloc, task.side, node, best) {
         Some(tree) => Visit::Closed(tree),
-        None => Visit::Open(number),
+        None => Visit::Open(place),
     }
 }
 
-/// Visits a node of which it is known that what its assignment takes fits, and gains no more than `best`.
-fn visit_known(alloc: Global, side: &Side, marks: &[Fixing], best: u128) -> Visit
-    requires marked { length (plain_side side.now).vars ≤ length marks.now }
-    requires fits { Fits (plain_side side.now) (taken (plain_side side.now) marks.now) }
-    requires below { EntryBelow (plain_side side.now) best marks.now }
+/// Visits a node of which it is known that what its assignment takes fits, and gains no more than `best`. No variable before
+/// a place of the order is free.
+fn visit_known(alloc: Global, task: &Task, node: &Assignment, place: usize, best: u128) -> Visit
+    requires ranking { IsRanking (plain_side task.now.side.now) task.now.ranking.now }
+    requires tallies { AreTallies (plain_side task.now.side.now) node.now }
+    requires passed { PassedOver task.now.ranking.now node.now.marks.items place }
+    requires fits { Fits (plain_side task.now.side.now) (taken (plain_side task.now.side.now) node.now.marks.items) }
+    requires below { EntryBelow (plain_side task.now.side.now) best node.now.marks.items }
     requires small { best ≤ 2 ^ 104 }
-    ensures { Visits (plain_side side.now) best marks.now result }
+    ensures { Visits (plain_side task.now.side.now) task.now.ranking.now best node.now.marks.items result }
 {
-    match greatest_free(side, marks) {
+    match first_free(task.side, task.ranking, &node.marks, place) {
         None => Visit::Closed(Tree::Leaf),
-        Some(number) => close_or_open(alloc, side, marks, number, best),
+        Some(found) => close_or_open(alloc, task, node, found, best),
     }
 }
 
 /// Visits a node that exceeds no row. What its assignment takes may become the incumbent.
 fn visit_fitting(
     alloc: Global,
-    side: &Side,
-    on: bool,
-    marks: &[Fixing],
+    task: &Task,
+    node: &Assignment,
+    place: usize,
     run: &mut Running,
 ) -> Result<Visit, AllocError>
-    requires marked { length (plain_side side.now).vars ≤ length marks.now }
-    requires fits { Fits (plain_side side.now) (taken (plain_side side.now) marks.now) }
+    requires ranking { IsRanking (plain_side task.now.side.now) task.now.ranking.now }
+    requires tallies { AreTallies (plain_side task.now.side.now) node.now }
+    requires passed { PassedOver task.now.ranking.now node.now.marks.items place }
+    requires fits { Fits (plain_side task.now.side.now) (taken (plain_side task.now.side.now) node.now.marks.items) }
     requires small { run.old.best.gain ≤ 2 ^ 104 }
-    ensures visits { IfOk result (Visits (plain_side side.now) run.new.best.gain marks.now) }
-    ensures here { OnOk result (EntryBelow (plain_side side.now) run.new.best.gain marks.now) }
+    ensures visits { IfOk result (Visits (plain_side task.now.side.now) task.now.ranking.now run.new.best.gain node.now.marks.items) }
+    ensures here { OnOk result (EntryBelow (plain_side task.now.side.now) run.new.best.gain node.now.marks.items) }
     ensures grows { OnOk result (run.old.best.gain ≤ run.new.best.gain) }
     ensures small { run.new.best.gain ≤ 2 ^ 104 }
     ensures left { OnOk result (run.new.left ≡ run.old.left) }
-    ensures keeps { OnOk result (KeepsIncumbent on (plain_side side.now) run.old.best run.new.best) }
+    ensures keeps { OnOk result (KeepsIncumbent task.now.on (plain_side task.now.side.now) run.old.best run.new.best) }
 {
-    improve(alloc, side, on, marks, &mut run.best)?;
-    Ok(visit_known(alloc, side, marks, run.best.gain))
+    improve(alloc, task.side, task.on, node, &mut run.best)?;
+    Ok(visit_known(alloc, task, node, place, run.best.gain))
 }
 
-/// Visits a node: closes it, or names the variable on which to branch. `known` tells that what its assignment takes was
-/// tried before.
+/// Visits a node: closes it, or tells where the variable stands in the order on which to branch. `raised` is the variable
+/// that was fixed to one last; None where what the assignment takes was tried before.
 fn visit(
     alloc: Global,
-    side: &Side,
-    on: bool,
-    marks: &[Fixing],
+    task: &Task,
+    node: &Assignment,
+    place: usize,
     run: &mut Running,
-    known: bool,
+    raised: Option<u32>,
 ) -> Result<Visit, AllocError>
-    requires marked { length (plain_side side.now).vars ≤ length marks.now }
+    requires ranking { IsRanking (plain_side task.now.side.now) task.now.ranking.now }
+    requires tallies { AreTallies (plain_side task.now.side.now) node.now }
+    requires passed { PassedOver task.now.ranking.now node.now.marks.items place }
     requires small { run.old.best.gain ≤ 2 ^ 104 }
-    requires known { IsTrue known → IsTried (plain_side side.now) run.old.best.gain marks.now }
-    ensures visits { IfOk result (Visits (plain_side side.now) run.new.best.gain marks.now) }
-    ensures here { OnOk result (EntryBelow (plain_side side.now) run.new.best.gain marks.now) }
+    requires known { IsKnown (plain_side task.now.side.now) run.old.best.gain node.now.marks.items raised }
+    ensures visits { IfOk result (Visits (plain_side task.now.side.now) task.now.ranking.now run.new.best.gain node.now.marks.items) }
+    ensures here { OnOk result (EntryBelow (plain_side task.now.side.now) run.new.best.gain node.now.marks.items) }
     ensures grows { OnOk result (run.old.best.gain ≤ run.new.best.gain) }
     ensures small { run.new.best.gain ≤ 2 ^ 104 }
     ensures left { OnOk result (run.new.left ≡ run.old.left) }
-    ensures keeps { OnOk result (KeepsIncumbent on (plain_side side.now) run.old.best run.new.best) }
+    ensures keeps { OnOk result (KeepsIncumbent task.now.on (plain_side task.now.side.now) run.old.best run.new.best) }
 {
-    if known {
-        return Ok(visit_known(alloc, side, marks, run.best.gain));
-    }
-    match exceeded(alloc, side, marks)? {
-        Some(row) => Ok(Visit::Closed(Tree::Over { row })),
-        None => visit_fitting(alloc, side, on, marks, run),
+    match raised {
+        None => Ok(visit_known(alloc, task, node, place, run.best.gain)),
+        Some(number) => match node.exceeded(task.side, number as usize) {
+            Some(row) => Ok(Visit::Closed(Tree::Over { row })),
+            None => visit_fitting(alloc, task, node, place, run),
+        },
     }
 }
 
@@ -100,48 +121,44 @@ fn visit(
 /// variable to zero takes what its parent takes, which is known then.
 pub(crate) fn search(
     alloc: Global,
-    side: &Side,
-    on: bool,
-    marks: &mut [Fixing],
+    task: &Task,
+    node: &mut Assignment,
+    place: usize,
     run: &mut Running,
-    known: bool,
+    raised: Option<u32>,
 ) -> Result<Option<Tree>, AllocError>
-    requires marked { length (plain_side side.now).vars ≤ length marks.old }
+    requires ranking { IsRanking (plain_side task.now.side.now) task.now.ranking.now }
+    requires tallies { AreTallies (plain_side task.now.side.now) node.old }
+    requires passed { PassedOver task.now.ranking.now node.old.marks.items place }
     requires small { run.old.best.gain ≤ 2 ^ 104 }
-    requires known { IsTrue known → IsTried (plain_side side.now) run.old.best.gain marks.old }
-    ensures kept { OnOk result (marks.new ≡ marks.old) }
+    requires known { IsKnown (plain_side task.now.side.now) run.old.best.gain node.old.marks.items raised }
+    ensures kept { IfOk result (λ tree. IfSome tree (λ t. node.new.marks.items ≡ node.old.marks.items)) }
+    ensures tallies { AreTallies (plain_side task.now.side.now) node.new }
     ensures grows { OnOk result (run.old.best.gain ≤ run.new.best.gain) }
     ensures small { run.new.best.gain ≤ 2 ^ 104 }
-    ensures keeps { OnOk result (KeepsIncumbent on (plain_side side.now) run.old.best run.new.best) }
-    ensures levels { IfOk result (HasLevels (suc (count_by is_free marks.old))) }
-    ensures tells { IfOk result (λ tree. (start : ℕ) → start ≤ run.old.best.gain → Reports (plain_side side.now) start marks.old run.new.best.gain run.old.left run.new.left tree) }
+    ensures keeps { OnOk result (KeepsIncumbent task.now.on (plain_side task.now.side.now) run.old.best run.new.best) }
+    ensures levels { IfOk result (HasLevels (suc (count_by is_free node.old.marks.items))) }
+    ensures tells { IfOk result (λ tree. (start : ℕ) → start ≤ run.old.best.gain → Reports (plain_side task.now.side.now) start node.old.marks.items run.new.best.gain run.old.left run.new.left tree) }
 {
     if run.left == 0 {
         return Ok(None);
     }
     run.left -= 1;
-    let number = match visit(alloc, side, on, marks, run, known)? {
+    let found = match visit(alloc, task, node, place, run, raised)? {
         Visit::Closed(tree) => return Ok(Some(tree)),
-        Visit::Open(number) => number,
+        Visit::Open(found) => found,
     };
-    let place = number as usize;
-    let old = fixing_of(marks, place);
-    marks[place] = Fixing::One;
-    let one = match search(alloc, side, on, marks, run, false)? {
-        None => {
-            marks[place] = old;
-            return Ok(None);
-        }
+    let number = task.ranking[found].number;
+    node.fix_one(task.side, number as usize);
+    let one = match search(alloc, task, node, found + 1, run, Some(number))? {
+        None => return Ok(None),
         Some(tree) => tree,
     };
-    marks[place] = Fixing::Zero;
-    let zero = match search(alloc, side, on, marks, run, true)? {
-        None => {
-            marks[place] = old;
-            return Ok(None);
-        }
+    node.fix_zero(task.side, number as usize);
+    let zero = match search(alloc, task, node, found + 1, run, None)? {
+        None => return Ok(None),
         Some(tree) => tree,
     };
-    marks[place] = old;
+    node.free(task.side, number as usize);
     Ok(Some(branch_on(alloc, number, zero, one)?))
 }

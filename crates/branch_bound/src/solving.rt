@@ -5,22 +5,25 @@ ghost use Rattle.certificate_checker.specs.Shows.{all_free};
 ghost use Rattle.certificate_checker.specs.Spelling.{IsInRange};
 ghost use Rattle.certificate_checker.specs.Reading.{most_levels};
 ghost use Rattle.certificate_checker.specs.Views.{plain_certificate};
+ghost use Rattle.side_search.specs.Incumbents.{IsSound};
 ghost use Rattle.branch_bound.specs.Entries.{all_vars};
 ghost use Rattle.branch_bound.specs.declared.outcomes.Status.TheVariants.{Optimal};
 ghost use Rattle.branch_bound.specs.Growing.{CannotGrow};
 ghost use Rattle.branch_bound.specs.Searching.{Reports, HasLevels, KeepsIncumbent, IsIncumbent, choice_of};
 ghost use Rattle.branch_bound.specs.Solving.{ReportsOn, ReachesFirst, EndsWithin, AreTreesOf, Certifies};
 
+use crate::assignments::Assignment;
 use crate::certifying::trees_of;
 use crate::finishing::{choice_from, finish};
 use crate::incumbents::Incumbent;
 use crate::outcomes::{Found, Outcome, Status, Trees};
+use crate::ranking::ranking;
 use crate::running::Running;
-use crate::searching::search;
-use crate::starting::begin;
+use crate::searching::{Task, search};
+use crate::starting::{begin, better};
 use certificate_checker::{Certificate, free_marks};
 use placement_programme::{Choice, Programme, Side};
-use side_search::certify;
+use side_search::{Round, certify};
 use std::alloc::{AllocError, Global};
 
 /// Searches a side.
@@ -38,9 +41,15 @@ fn search_side(
     ensures levels { IfOk result (λ o. HasLevels most_levels o.tree) }
     ensures tells { IfOk result (λ o. (start : ℕ) → start ≤ best.gain → Reports (plain_side side.now) start (all_free (plain_side side.now)) o.best.gain left o.left o.tree) }
 {
-    let mut marks = free_marks(alloc, side)?;
+    let ranking = ranking(alloc, side)?;
+    let task = Task {
+        side,
+        on,
+        ranking: &ranking,
+    };
+    let mut root = Assignment::of(alloc, side, free_marks(alloc, side)?)?;
     let mut run = Running { best, left };
-    let tree = search(alloc, side, on, &mut marks, &mut run, false)?;
+    let tree = search(alloc, &task, &mut root, 0, &mut run, None)?;
     let Running { best, left } = run;
     Ok(Outcome { best, left, tree })
 }
@@ -111,11 +120,18 @@ fn found(
 
 /// The best choice that branch and bound in the order of the stated list finds within a budget of nodes.
 ///
-/// It begins with the greedy choices of the sides, takes the off side before the on side, branches on the free variable of
+/// It begins with the best of the greedy choices of the sides and of what another search found, takes the off side before the on side, branches on the free variable of
 /// greatest gain, the lowest number on a tie, and takes the child that fixes it to one first. It leaves out what its running
 /// best rules out, so what plain branch and bound finds with as many nodes gains no more.
-fn search_stated(alloc: Global, p: &Programme, nodes: u64) -> Result<Found, AllocError>
-    requires { 1 ≤ nodes }
+fn search_stated(
+    alloc: Global,
+    p: &Programme,
+    nodes: u64,
+    other: &side_search::Incumbent,
+) -> Result<Found, AllocError>
+    requires nodes { 1 ≤ nodes }
+    requires sound { IsSound (plain_programme p.now) other.now }
+    ensures other { IfOk result (λ f. pos other.now.gain ≤ℤ gain (plain_programme p.now) (plain_choice f.choice)) }
     ensures feasible { IfOk result (λ f. IsFeasible (plain_programme p.now) (plain_choice f.choice)) }
     ensures gain { IfOk result (λ f. pos 0 ≤ℤ gain (plain_programme p.now) (plain_choice f.choice)) }
     ensures reach { IfOk result (λ f. ReachesFirst (plain_programme p.now) nodes (plain_choice f.choice)) }
@@ -126,7 +142,8 @@ fn search_stated(alloc: Global, p: &Programme, nodes: u64) -> Result<Found, Allo
     ensures enough { IfOk result (λ f. 2 ^ (all_vars (plain_programme p.now) + 1) ≤ nodes → f.status ≡ Optimal) }
 {
     let start = begin(alloc, p)?;
-    let off = search_side(alloc, &p.off, false, start, nodes)?;
+    let first = better(alloc, p, start, other)?;
+    let off = search_side(alloc, &p.off, false, first, nodes)?;
     let Outcome { best, left, tree } = off;
     let on = search_on(alloc, p, best, left)?;
     let best = finish(alloc, p, on.best)?;
@@ -162,8 +179,9 @@ fn shown(alloc: Global, certificate: Certificate) -> Result<Found, AllocError>
 
 /// The best choice of a programme that branch and bound finds within a budget of nodes, which is at least 1.
 ///
-/// First it tries a search that a bound guides, with at most so many nodes a side. Where that comes to its end, the choice is
-/// the best there is. Else it searches in the order of the stated list, with the whole budget.
+/// First it tries a search that a bound guides, in two rounds of at most so many nodes a side. Where that comes to its end,
+/// the choice is the best there is. Else it searches in the order of the stated list, with the whole budget and from the
+/// best that was found.
 ///
 /// It fails only where no memory was left.
 pub fn solve(alloc: Global, p: &Programme, nodes: u64) -> Result<Found, AllocError>
@@ -178,12 +196,12 @@ pub fn solve(alloc: Global, p: &Programme, nodes: u64) -> Result<Found, AllocErr
     ensures enough { IfOk result (λ f. 2 ^ (all_vars (plain_programme p.now) + 1) ≤ nodes → f.status ≡ Optimal) }
 {
     match certify(alloc, p, nodes)? {
-        Some(certificate) => {
+        Round::Certified(certificate) => {
             let start = begin(alloc, p)?;
             let found = shown(alloc, certificate)?;
             Ok(found)
         }
-        None => match search_stated(alloc, p, nodes) {
+        Round::Unfinished(best) => match search_stated(alloc, p, nodes, &best) {
             Ok(found) => Ok(found),
             Err(error) => Err(error),
         },

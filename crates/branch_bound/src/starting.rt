@@ -1,13 +1,17 @@
-ghost use Rattle.std.specs.Prelude.{◌≡◌, ℕ, ◌^◌, ◌≤◌, max, Some, false, true, IfOk, OnOk};
+ghost use Rattle.std.specs.Prelude.{◌≡◌, ℕ, ◌^◌, ◌≤◌, max, length, Some, false, true, IfOk, OnOk};
+ghost use Rattle.placement_programme.specs.Bounds.{AscendWithin};
 ghost use Rattle.placement_programme.specs.Programme.{nothing};
 ghost use Rattle.placement_programme.specs.Views.{plain_side, plain_programme};
 ghost use Rattle.branch_bound.specs.Greedy.{GreedyGains, IsStart};
+ghost use Rattle.side_search.specs.Incumbents.{IsSound};
+ghost use Rattle.branch_bound.specs.Assignments.{AreMarksOf};
 ghost use Rattle.branch_bound.specs.Searching.{IsIncumbent, KeepsIncumbent, choice_of};
 
+use crate::finishing::side_of;
 use crate::greedy::greedy;
 use crate::improving::improve;
 use crate::incumbents::Incumbent;
-use certificate_checker::free_marks;
+use certificate_checker::{Fixing, free_marks};
 use placement_programme::{Programme, Side};
 use std::alloc::{AllocError, Global};
 
@@ -34,7 +38,7 @@ fn try_greedy(alloc: Global, side: &Side, on: bool, best: &mut Incumbent) -> Res
 {
     match greedy(alloc, side)? {
         None => Ok(()),
-        Some(marks) => improve(alloc, side, on, &marks, best),
+        Some(node) => improve(alloc, side, on, &node, best),
     }
 }
 
@@ -52,5 +56,45 @@ pub(crate) fn begin(alloc: Global, p: &Programme) -> Result<Incumbent, AllocErro
             try_greedy(alloc, side, true, &mut best)?;
             Ok(best)
         }
+    }
+}
+
+/// Marks of which those are one whose variables are taken, and the others are free.
+fn marks_of(alloc: Global, side: &Side, take: &[u32]) -> Result<Vec<Fixing>, AllocError>
+    requires { AscendWithin 0 (length (plain_side side.now).vars) take.now }
+    ensures { IfOk result (λ marks. AreMarksOf (plain_side side.now) take.now marks.items) }
+{
+    let mut marks = free_marks(alloc, side)?;
+    for number in take {
+        marks[*number as usize] = Fixing::One;
+    }
+    Ok(marks)
+}
+
+/// The better one of an incumbent and of what another search found.
+pub(crate) fn better(
+    alloc: Global,
+    p: &Programme,
+    start: Incumbent,
+    found: &side_search::Incumbent,
+) -> Result<Incumbent, AllocError>
+    requires incumbent { IsIncumbent (plain_programme p.now) start }
+    requires small { start.gain ≤ 2 ^ 104 }
+    requires sound { IsSound (plain_programme p.now) found.now }
+    ensures grows { IfOk result (λ best. start.gain ≤ best.gain) }
+    ensures reaches { IfOk result (λ best. found.now.gain ≤ best.gain) }
+    ensures small { IfOk result (λ best. best.gain ≤ 2 ^ 104) }
+    ensures incumbent { IfOk result (IsIncumbent (plain_programme p.now)) }
+{
+    if found.gain <= start.gain {
+        return Ok(start);
+    }
+    match side_of(p, found.choice.on) {
+        None => Ok(start),
+        Some(side) => Ok(Incumbent {
+            on: found.choice.on,
+            gain: found.gain,
+            marks: marks_of(alloc, side, &found.choice.take)?,
+        }),
     }
 }

@@ -5,6 +5,6 @@ use certificate_checker::Tree;
 pub(crate) enum Visit {
     /// Nothing below gains more, as this tree of one node shows.
     Closed(Tree),
-    /// The search branches on this variable.
-    Open(u32),
+    /// The search branches on the variable at this place of the order.
+    Open(usize),
 }

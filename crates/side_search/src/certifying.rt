@@ -29,17 +29,22 @@ struct RoundLimit {
     nodes: u64,
     /// How many variables of a side it may look at, in all these nodes together: the time of a node grows with them.
     vars: u64,
+    /// Whether it leaves out the side with overlay where the search of the other one doesn't come to its end: there is no
+    /// certificate then, whatever it would find.
+    needs_off: bool,
 }
 
 /// The first round finds something to compare with.
 const FIRST_ROUND: RoundLimit = RoundLimit {
     nodes: 1_000,
     vars: 1_000_000,
+    needs_off: false,
 };
 /// Where the second one can't come to its end, more nodes only take time.
 const SECOND_ROUND: RoundLimit = RoundLimit {
     nodes: 10_000,
     vars: 8_000_000,
+    needs_off: true,
 };
 
 impl RoundLimit {
@@ -153,59 +158,40 @@ fn finish_round(p: &Programme, off: Option<Tree>, on: OnSide, best: Incumbent) -
     }
 }
 
-/// Searches both sides with at most `nodes` nodes each.
-fn search_both(
+/// Searches both sides, with at most `most` nodes each.
+fn search_round(
     alloc: Global,
     p: &Programme,
-    nodes: u64,
+    limit: RoundLimit,
+    most: u64,
     mut best: Incumbent,
 ) -> Result<Round, AllocError>
     requires sound { IsSound (plain_programme p.now) best }
     ensures { IfOk result (IsRound (plain_programme p.now)) }
 {
+    let nodes = limit.nodes_of(p, most);
     best.left = nodes;
     let off = search_side(alloc, p, &p.off, false, &mut best)?;
+    if off.is_none() && limit.needs_off {
+        return Ok(Round::Unfinished(best));
+    }
     best.left = nodes;
     let on = search_on(alloc, p, &mut best)?;
     Ok(finish_round(p, off, on, best))
 }
 
-/// Searches both sides with at most `nodes` nodes each, the second one only where the first one comes to its end: else
-/// there is no certificate, whatever the second one finds.
-fn search_to_end(
-    alloc: Global,
-    p: &Programme,
-    nodes: u64,
-    mut best: Incumbent,
-) -> Result<Round, AllocError>
-    requires sound { IsSound (plain_programme p.now) best }
+/// A certificate that shows its choice to be best, if a search of at most `nodes` nodes on each side comes to its end, and
+/// else the best choice that was found. A certificate is within the ranges of its text.
+///
+/// There are two rounds. The first one, of at most 1,000 nodes of a side, finds a good choice of either side, which then
+/// closes most of the other one in the second round, of at most 10,000. Where a side has more than 800 variables, both
+/// visit fewer nodes of each.
+pub fn certify(alloc: Global, p: &Programme, nodes: u64) -> Result<Round, AllocError>
     ensures { IfOk result (IsRound (plain_programme p.now)) }
 {
-    best.left = nodes;
-    let Some(off) = search_side(alloc, p, &p.off, false, &mut best)? else {
-        return Ok(Round::Unfinished(best));
-    };
-    best.left = nodes;
-    let on = search_on(alloc, p, &mut best)?;
-    Ok(finish_round(p, Some(off), on, best))
-}
-
-/// A certificate that shows its choice to be best, if a search of at most `nodes` nodes on each side comes to its end. It is
-/// within the ranges of its text. The search visits no more than 10,000 nodes of a side, and fewer where a side has more
-/// than 800 variables.
-///
-/// A first round with few nodes finds a good choice of either side, which then closes most of the other one.
-pub fn certify(alloc: Global, p: &Programme, nodes: u64) -> Result<Option<Certificate>, AllocError>
-    ensures shows { IfOk result (λ found. IfSome found (λ c. Shows (plain_programme p.now) (plain_certificate c))) }
-    ensures range { IfOk result (λ found. IfSome found (λ c. IsInRange (plain_certificate c))) }
-{
     let best = first_incumbent(alloc);
-    let best = match search_both(alloc, p, FIRST_ROUND.nodes_of(p, nodes), best)? {
-        Round::Certified(certificate) => return Ok(Some(certificate)),
-        Round::Unfinished(best) => best,
-    };
-    match search_to_end(alloc, p, SECOND_ROUND.nodes_of(p, nodes), best)? {
-        Round::Certified(certificate) => Ok(Some(certificate)),
-        Round::Unfinished(_) => Ok(None),
+    match search_round(alloc, p, FIRST_ROUND, nodes, best)? {
+        Round::Certified(certificate) => Ok(Round::Certified(certificate)),
+        Round::Unfinished(best) => search_round(alloc, p, SECOND_ROUND, nodes, best),
     }
 }

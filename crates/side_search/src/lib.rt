@@ -21,3 +21,5 @@ mod searching;
 mod visiting;
 
 pub use certifying::certify;
+pub use incumbents::Incumbent;
+pub use visiting::Round;

@@ -24,7 +24,7 @@ pub(crate) enum OnSide {
 
 /// What a round of searches of both sides finds.
 #[derive(Drop)]
-pub(crate) enum Round {
+pub enum Round {
     /// A certificate that shows its choice to be best.
     Certified(Certificate),
     /// The nodes that are left don't suffice; the best choice so far.

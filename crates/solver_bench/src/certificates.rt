@@ -6,7 +6,7 @@ use certificate_checker::{
 };
 use num_traits::Num;
 use placement_programme::Programme;
-use side_search::certify;
+use side_search::{Round, certify};
 use std::alloc::{AllocError, Global};
 
 /// Appends what a word spells: a byte in hexadecimal, or `BYTES*N` for bytes without spaces between them N times.
@@ -50,11 +50,11 @@ pub(crate) fn tell_searched(
     nodes: u64,
 ) -> Result<()> {
     match certify(rt.alloc(), p, nodes)? {
-        Some(c) => {
+        Round::Certified(c) => {
             let (on, take) = (c.choice.on, &c.choice.take);
             println!(rt; "{nodes} nodes: on {on} {take:?}, {:?}", verdict(p, &c))?;
         }
-        None => println!(rt; "{nodes} nodes: nothing")?,
+        Round::Unfinished(_) => println!(rt; "{nodes} nodes: nothing")?,
     }
     Ok(())
 }

@@ -11,6 +11,6 @@ pub returns : goal.returns
 returns c =
     let s = plain_side c.args.side.now in
     let best = c.args.best in
-    let is : c.deref.result.now ≡ all_free s = c.deref.ensures.value ∙ c.in_ok-marks.ensures in
+    let is : c.in_ok-root.root.marks.items ≡ all_free s = c.in_ok-root.ensures.marks ∙ c.in_ok-free_marks.ensures in
     let there = subst (λ m. MatchOption c.plain_dual.result (DualHolds s best m 1 [] → ⊥) (Closes s best m)) is c.plain_dual.ensures in
     match_more (Closes s best (all_free s)) c.plain_dual.result (first_fails s best) there

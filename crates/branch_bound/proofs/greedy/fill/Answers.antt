@@ -9,12 +9,12 @@ use Rattle.branch_bound.proofs.greedy.fill.Goals as goal
 pub returns-in-None-clause-grown : goal.returns-in-None-clause-grown
 returns-in-None-clause-grown c =
     let p = plain_programme c.args.p.now in
-    let greedy = subst (λ o. IsGreedy p.off (option_map (λ m. taken p.off m.items) o)) c.in-None.is c.in_ok-greedy.ensures.greedy in
+    let greedy = subst (λ o. IsGreedy p.off (option_map (λ m. taken p.off m.marks.items) o)) c.in-None.is c.in_ok-greedy.ensures.greedy in
     subst (λ choice. CannotGrow p choice) (sym c.nothing.ensures) (nothing_cannot p None greedy refl)
 
 pub returns-in_ok-take-in-Some-clause-grown : goal.returns-in_ok-take-in-Some-clause-grown
 returns-in_ok-take-in-Some-clause-grown c =
     let p = plain_programme c.args.p.now in
-    let greedy = subst (λ o. IsGreedy p.off (option_map (λ m. taken p.off m.items) o)) c.in-Some.is c.in_ok-greedy.ensures.greedy in
+    let greedy = subst (λ o. IsGreedy p.off (option_map (λ m. taken p.off m.marks.items) o)) c.in-Some.is c.in_ok-greedy.ensures.greedy in
     let same = c.in_ok-take-in-Some.ensures ∙ ap (λ m. taken p.off m) c.deref.ensures.value in
-    subst (λ t. CannotGrow p record { on = false; take = t }) (sym same) (some_cannot p (taken p.off c.in-Some.marks.items) greedy)
+    subst (λ t. CannotGrow p record { on = false; take = t }) (sym same) (some_cannot p (taken p.off c.in-Some.node.marks.items) greedy)

@@ -1,5 +1,7 @@
-use Rattle.std.proofs.Common.{ℕ, ◌<◌, ◌≤◌, slice_index}
+use Rattle.std.proofs.Common.{ℕ, ◌<◌, ◌≤◌, get_or, slice_index}
+use Rattle.placement_programme.specs.Bounds.{row_of}
 use Rattle.branch_bound.proofs.loads.first_exceeded.Given as goal
 
-abbrev pub invariant-loop-row : goal.invariant-loop-row
-invariant-loop-row l = (k : ℕ) → k < l.row → slice_index l.loads k ≤ slice_index l.rows k
+abbrev pub invariant-loop-entry : goal.invariant-loop-entry
+invariant-loop-entry l =
+    (k : ℕ) → k < l.entry-index → slice_index l.loads (row_of (get_or l.weights k (0, 0))) ≤ slice_index l.rows (row_of (get_or l.weights k (0, 0)))

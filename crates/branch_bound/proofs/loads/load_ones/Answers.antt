@@ -15,12 +15,12 @@ loop-number-preserved c =
           record {
             values = λ row.
                 let is = ap (λ l. slice_index l row) w.loads-is in
-                let added = w.add_weights.ensures row in
+                let added = w.add_weights.ensures.values row in
                 let weight = ap (λ ws. weight_in ws row) w.weights_of_var.ensures.value in
                 sum_one (weight_at s.vars row) c.args.marks.now n (n + 1) (slice_index c.loop-number.loads row) (slice_index c.if-is_one.loads row) (omega arith) (c.is_one.ensures.0 w.if-is_one.true) (c.loop-number.invariant.values row) (omega (arith, is, added, weight));
             small = λ row.
                 let is = ap (λ l. slice_index l row) w.loads-is in
-                let added = w.add_weights.ensures row in
+                let added = w.add_weights.ensures.values row in
                 let few = weight_small (2 ^ 32) w.weights_of_var.result.now row (omega arith) w.weights_of_var.ensures.rows.small in
                 let so_far = c.loop-number.invariant.small row in
                 omega (arith, is, added, few, so_far);

@@ -6,8 +6,9 @@ use Rattle.branch_bound.specs.Assignments.{taken}
 use Rattle.branch_bound.proofs.OnesLemmas.{over_not_fits}
 use Rattle.branch_bound.proofs.searching.visit.Goals as goal
 
-pub returns-in-Some-clause-here : goal.returns-in-Some-clause-here
-returns-in-Some-clause-here c =
-    let s = plain_side c.args.side.now in
-    let over = subst (λ o. MatchOption o (Fits s (taken s c.args.marks.now)) (OverHolds s c.args.marks.now)) c.in-Some.is c.in_ok-row.ensures in
-    λ fits. absurd (over_not_fits s c.args.marks.now c.in-Some.row over fits)
+pub returns-in-Some-exceeded-clause-here : goal.returns-in-Some-exceeded-clause-here
+returns-in-Some-exceeded-clause-here c =
+    let s = plain_side c.args.task.now.side.now in
+    let marks = c.args.node.now.marks.items in
+    let over = subst (λ o. MatchOption o (Fits s (taken s marks)) (OverHolds s marks)) c.in-Some-exceeded.is c.exceeded.ensures in
+    λ fits. absurd (over_not_fits s marks c.in-Some-exceeded.row over fits)

@@ -1,4 +1,5 @@
 use Rattle.std.proofs.Common.{◌≤◌, ◌≤ℤ◌, ℕ, pos, sym, subst, arith}
+use Rattle.std.proofs.lemmas.Int.{ints}
 use Rattle.placement_programme.specs.Plain.{PlainProgramme}
 use Rattle.placement_programme.specs.Programme.{IsFeasible, gain}
 use Rattle.placement_programme.specs.Views.{plain_programme}
@@ -15,34 +16,36 @@ use Rattle.branch_bound.proofs.solving.search_stated.Goals as goal
 
 pub finish-requires-clause-start : goal.finish-requires-clause-start
 finish-requires-clause-start c =
+    let raised = c.in_ok-first.ensures.grows in
     let first = c.in_ok-off.ensures.grows in
     let second = c.in_ok-on.ensures.grows in
-    (c.in_ok-start.start.gain, (c.in_ok-start.ensures.start, omega (arith, first, second)))
+    (c.in_ok-start.start.gain, (c.in_ok-start.ensures.start, omega (arith, raised, first, second)))
 
 pub trees_of-requires-clause-off : goal.trees_of-requires-clause-off
 trees_of-requires-clause-off c =
     let second = c.in_ok-on.ensures.grows in
     let last = c.in_ok-best.ensures.grows in
-    closes_side (plain_programme c.args.p.now).off c.in_ok-start.start.gain c.in_ok-off.off.best.gain c.in_ok-best.best.gain c.args.nodes c.in_ok-off.off.left c.in_ok-off.off.tree (omega (arith, second, last)) (c.in_ok-off.ensures.tells c.in_ok-start.start.gain (omega arith))
+    closes_side (plain_programme c.args.p.now).off c.in_ok-start.start.gain c.in_ok-off.off.best.gain c.in_ok-best.best.gain c.args.nodes c.in_ok-off.off.left c.in_ok-off.off.tree (omega (arith, second, last)) (c.in_ok-off.ensures.tells c.in_ok-start.start.gain c.in_ok-first.ensures.grows)
 
 pub trees_of-requires-clause-on : goal.trees_of-requires-clause-on
 trees_of-requires-clause-on c =
+    let raised = c.in_ok-first.ensures.grows in
     let first = c.in_ok-off.ensures.grows in
-    closes_on (plain_programme c.args.p.now).on c.in_ok-start.start.gain c.in_ok-on.on.best.gain c.in_ok-best.best.gain c.in_ok-off.off.left c.in_ok-on.on.left c.in_ok-on.on.tree c.in_ok-best.ensures.grows (c.in_ok-on.ensures.tells c.in_ok-start.start.gain first)
+    closes_on (plain_programme c.args.p.now).on c.in_ok-start.start.gain c.in_ok-on.on.best.gain c.in_ok-best.best.gain c.in_ok-off.off.left c.in_ok-on.on.left c.in_ok-on.on.tree c.in_ok-best.ensures.grows (c.in_ok-on.ensures.tells c.in_ok-start.start.gain (omega (arith, raised, first)))
 
 -- what both searches tell
-searched_in : (p : PlainProgramme) (nodes start best : ℕ) (off on : Outcome) → IsStart p start → start ≤ off.best.gain → off.best.gain ≤ on.best.gain → on.best.gain ≤ best
-    → ((s : ℕ) → s ≤ start → Reports p.off s (all_free p.off) off.best.gain nodes off.left off.tree)
+searched_in : (p : PlainProgramme) (nodes start first best : ℕ) (off on : Outcome) → IsStart p start → start ≤ first → first ≤ off.best.gain → off.best.gain ≤ on.best.gain → on.best.gain ≤ best
+    → ((s : ℕ) → s ≤ first → Reports p.off s (all_free p.off) off.best.gain nodes off.left off.tree)
     → ((s : ℕ) → s ≤ off.best.gain → ReportsOn p.on s on.best.gain off.left on.left on.tree)
     → Searched p nodes start off.best.gain on.best.gain best off.left on.left off.tree on.tree
-searched_in p nodes start best off on is first second last by_off by_on =
+searched_in p nodes start first best off on is raised by_off_grows by_on_grows last by_off by_on =
     record {
       is_start = is;
-      from = omega (arith, first, second, last);
-      off_order = omega (arith, second, last);
+      from = omega (arith, raised, by_off_grows, by_on_grows, last);
+      off_order = omega (arith, by_on_grows, last);
       on_order = last;
-      by_off = by_off start (omega arith);
-      by_on = by_on start first;
+      by_off = by_off start raised;
+      by_on = by_on start (omega (arith, raised, by_off_grows));
     }
 
 pub found-requires-clause-trees : goal.found-requires-clause-trees
@@ -51,7 +54,7 @@ found-requires-clause-trees c =
     let off = c.in_ok-off.off in
     let on = c.in_ok-on.on in
     let best = c.in_ok-best.best in
-    let searched = searched_in p c.args.nodes c.in_ok-start.start.gain best.gain off on c.in_ok-start.ensures.start c.in_ok-off.ensures.grows c.in_ok-on.ensures.grows c.in_ok-best.ensures.grows c.in_ok-off.ensures.tells c.in_ok-on.ensures.tells in
+    let searched = searched_in p c.args.nodes c.in_ok-start.start.gain c.in_ok-first.first.gain best.gain off on c.in_ok-start.ensures.start c.in_ok-first.ensures.grows c.in_ok-off.ensures.grows c.in_ok-on.ensures.grows c.in_ok-best.ensures.grows c.in_ok-off.ensures.tells c.in_ok-on.ensures.tells in
     match_more (AreTreesOf p best.gain) c.in_ok-trees.trees (λ both. ends_within p c.args.nodes c.in_ok-start.start.gain off.best.gain on.best.gain best.gain off.left on.left off.tree on.tree (choice_of p best) searched c.in_ok-best.ensures.incumbent.accepted.gains both.0 both.1) c.in_ok-trees.ensures
 
 pub returns-clause-feasible : goal.returns-clause-feasible
@@ -71,7 +74,7 @@ returns-clause-reach c =
     let off = c.in_ok-off.off in
     let on = c.in_ok-on.on in
     let best = c.in_ok-best.best in
-    let searched = searched_in p c.args.nodes c.in_ok-start.start.gain best.gain off on c.in_ok-start.ensures.start c.in_ok-off.ensures.grows c.in_ok-on.ensures.grows c.in_ok-best.ensures.grows c.in_ok-off.ensures.tells c.in_ok-on.ensures.tells in
+    let searched = searched_in p c.args.nodes c.in_ok-start.start.gain c.in_ok-first.first.gain best.gain off on c.in_ok-start.ensures.start c.in_ok-first.ensures.grows c.in_ok-off.ensures.grows c.in_ok-on.ensures.grows c.in_ok-best.ensures.grows c.in_ok-off.ensures.tells c.in_ok-on.ensures.tells in
     subst (λ choice. ReachesFirst p c.args.nodes choice) (sym c.in_ok-answer.ensures.choice)
     (reaches_first p c.args.nodes c.in_ok-start.start.gain off.best.gain on.best.gain best.gain off.left on.left off.tree on.tree (choice_of p best) searched c.in_ok-best.ensures.incumbent.accepted.gains)
 
@@ -83,3 +86,14 @@ returns-clause-grown c =
 pub returns-clause-enough : goal.returns-clause-enough
 returns-clause-enough c =
     enough_nodes (plain_programme c.args.p.now) c.args.nodes (plain_certificate c.in_ok-answer.answer.certificate) c.in_ok-answer.answer.status c.in_ok-answer.ensures.status
+
+pub returns-clause-other : goal.returns-clause-other
+returns-clause-other c =
+    let p = plain_programme c.args.p.now in
+    let best = c.in_ok-best.best in
+    let gains = c.in_ok-best.ensures.incumbent.accepted.gains in
+    let reaches = c.in_ok-first.ensures.reaches in
+    let first = c.in_ok-off.ensures.grows in
+    let second = c.in_ok-on.ensures.grows in
+    let last = c.in_ok-best.ensures.grows in
+    subst (λ choice. pos c.args.other.now.gain ≤ℤ gain p choice) (sym c.in_ok-answer.ensures.choice) (omega (arith, ints, gains, reaches, first, second, last))

@@ -1,6 +1,6 @@
 use Rattle.placement_programme.specs.Views.{plain_side}
 use Rattle.side_search.proofs.Certified.{shown_more}
-use Rattle.side_search.proofs.certifying.search_both.Goals as goal
+use Rattle.side_search.proofs.certifying.search_round.Goals as goal
 
 pub finish_round-requires-clause-off : goal.finish_round-requires-clause-off
 finish_round-requires-clause-off c =

@@ -1,0 +1,23 @@
+use Rattle.std.proofs.Common.{◌∙◌, sym, ap, refl, arith}
+use Rattle.placement_programme.specs.Views.{plain_side}
+use Rattle.certificate_checker.specs.Fixings.{fixing_of}
+use Rattle.certificate_checker.specs.declared.fixings.Fixing.TheVariants.{Zero, Free}
+use Rattle.branch_bound.proofs.TallyLemmas.{tallies_set, bound_term}
+use Rattle.branch_bound.proofs.assignments.Assignment.fix_zero.Goals as goal
+
+pub overflow_sub-self : goal.overflow_sub-self
+overflow_sub-self c =
+    let term = bound_term (plain_side c.args.side.now) c.args.self.now c.args.number Free c.requires.number c.requires.tallies (ap (λ ms. fixing_of ms c.args.number) (sym c.deref.ensures.value) ∙ (sym c.fixing_of.ensures ∙ c.in-Free.is)) in
+    let gain = c.gain_of_var.ensures in
+    omega (arith, term, gain)
+
+pub returns-in-Zero-clause-tallies : goal.returns-in-Zero-clause-tallies
+returns-in-Zero-clause-tallies c =
+    tallies_set (plain_side c.args.side.now) c.args.self.now _ c.args.number Zero Zero c.requires.number c.requires.tallies (ap (λ ms. fixing_of ms c.args.number) (sym c.deref.ensures.value) ∙ (sym c.fixing_of.ensures ∙ c.in-Zero.is)) refl refl (λ row. refl) refl refl
+
+pub returns-in-Free-clause-tallies : goal.returns-in-Free-clause-tallies
+returns-in-Free-clause-tallies c =
+    let is = ap (λ ms. fixing_of ms c.args.number) (sym c.deref.ensures.value) ∙ (sym c.fixing_of.ensures ∙ c.in-Free.is) in
+    let term = bound_term (plain_side c.args.side.now) c.args.self.now c.args.number Free c.requires.number c.requires.tallies is in
+    let gain = c.gain_of_var.ensures in
+    tallies_set (plain_side c.args.side.now) c.args.self.now _ c.args.number Free Zero c.requires.number c.requires.tallies is refl refl (λ row. refl) refl (omega (arith, term, gain))

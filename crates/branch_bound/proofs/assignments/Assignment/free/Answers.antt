@@ -1,0 +1,26 @@
+use Rattle.std.proofs.Common.{◌∙◌, slice_set, ap, refl, arith}
+use Rattle.placement_programme.specs.Views.{plain_side}
+use Rattle.certificate_checker.specs.declared.fixings.Fixing.TheVariants.{Zero, Free}
+use Rattle.certificate_checker.proofs.Failures.{set_twice}
+use Rattle.branch_bound.proofs.TallyLemmas.{tallies_set, zero_there, bound_small, gain_bounded}
+use Rattle.branch_bound.proofs.assignments.Assignment.free.Goals as goal
+
+pub overflow_add-self : goal.overflow_add-self
+overflow_add-self c =
+    let s = plain_side c.args.side.now in
+    let so_far = bound_small s c.fix_zero.new.self c.args.side.now.bounds c.fix_zero.ensures.tallies in
+    let more = gain_bounded s c.args.number c.requires.number c.args.side.now.bounds in
+    let gain = c.gain_of_var.ensures in
+    omega (arith, so_far, more, gain)
+
+pub returns-clause-tallies : goal.returns-clause-tallies
+returns-clause-tallies c =
+    let s = plain_side c.args.side.now in
+    let gain = c.gain_of_var.ensures in
+    tallies_set s c.fix_zero.new.self _ c.args.number Zero Free c.requires.number c.fix_zero.ensures.tallies
+    (zero_there s c.args.self.now.marks.items c.fix_zero.new.self.marks.items c.args.number c.requires.number c.requires.tallies.marked c.fix_zero.ensures.marks)
+    refl refl (λ row. refl) refl (omega (arith, gain))
+
+pub returns-clause-marks : goal.returns-clause-marks
+returns-clause-marks c =
+    ap (λ ms. slice_set ms c.args.number Free) c.fix_zero.ensures.marks ∙ set_twice c.args.self.now.marks.items c.args.number Zero Free
