@@ -85,8 +85,9 @@ fn visit_fitting(
     Ok(visit_known(alloc, task, node, place, run.best.gain))
 }
 
-/// Visits a node: closes it, or tells where the variable stands in the order on which to branch. `raised` is the variable
-/// that was fixed to one last; None where what the assignment takes was tried before.
+/// Visits a node: closes it, or tells where the variable stands in the order on which to branch. None of those before
+/// `place` is free. `raised` is the variable that was fixed to one last; None where what the assignment takes was tried
+/// before.
 fn visit(
     alloc: Global,
     task: &Task,
@@ -118,7 +119,8 @@ fn visit(
 
 /// Searches below some fixings, depth first and one before zero, for what gains more than the incumbent; None where the
 /// budget ends before everything is closed. The depth is at most the number of free variables. A child that fixes a
-/// variable to zero takes what its parent takes, which is known then.
+/// variable to zero takes what its parent takes, which is known then. Where there is a tree the assignment is as it was
+/// before; where there is none the search is over, and it isn't set back.
 pub(crate) fn search(
     alloc: Global,
     task: &Task,

@@ -120,9 +120,10 @@ fn found(
 
 /// The best choice that branch and bound in the order of the stated list finds within a budget of nodes.
 ///
-/// It begins with the best of the greedy choices of the sides and of what another search found, takes the off side before the on side, branches on the free variable of
-/// greatest gain, the lowest number on a tie, and takes the child that fixes it to one first. It leaves out what its running
-/// best rules out, so what plain branch and bound finds with as many nodes gains no more.
+/// It begins with the best of the greedy choices of the sides and of what another search found. It takes the off side
+/// before the on side, branches on the free variable of greatest gain, the lowest number on a tie, and takes the child that
+/// fixes it to one first. It leaves out what its running best rules out, so what plain branch and bound finds with as many
+/// nodes gains no more.
 fn search_stated(
     alloc: Global,
     p: &Programme,

@@ -71,7 +71,7 @@ fn marks_of(alloc: Global, side: &Side, take: &[u32]) -> Result<Vec<Fixing>, All
     Ok(marks)
 }
 
-/// The better one of an incumbent and of what another search found.
+/// The better one of an incumbent and of what another search found; the incumbent where they gain as much.
 pub(crate) fn better(
     alloc: Global,
     p: &Programme,

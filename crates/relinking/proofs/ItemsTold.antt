@@ -1,9 +1,9 @@
 -- What is taken stands where a result tells.
-use Rattle.std.proofs.Common.{◌≡◌, ◌∙◌, ◌⊎◌, inl, inr, ℕ, zero, suc, ◌+◌, ◌-◌, ◌*◌, ◌/◌, ◌%◌, ◌<◌, ◌≤◌, ◌==◌, Bool, true, false, ◌&&◌, if◌then◌else◌, List, [], ◌∷◌, ◌++◌, take, length, map, slice_index_or, Option, Some, None, refl, sym, ap, subst, arith}
+use Rattle.std.proofs.Common.{◌≡◌, ◌∙◌, ℕ, zero, suc, ◌+◌, ◌-◌, ◌*◌, ◌/◌, ◌%◌, ◌<◌, ◌≤◌, ◌==◌, Bool, true, false, ◌&&◌, if◌then◌else◌, List, [], ◌∷◌, ◌++◌, take, length, map, slice_index_or, Some, refl, sym, ap, subst, arith}
 use Rattle.std.specs.List.{All}
 use Rattle.std.proofs.lemmas.List.Elements.{All-map}
 use Rattle.std.proofs.lemmas.Bool.Decides.{nat_tests}
-use Rattle.std.proofs.lemmas.List.{get_or_default, get_or-map, length-map, map-append, take_more}
+use Rattle.std.proofs.lemmas.List.{get_or-map, length-map, map-append, take_more}
 use Rattle.board_config.specs.declared.board.Board.{Board}
 use Rattle.object_graph.specs.declared.parts.Graph.{Graph}
 use Rattle.code_blocks.specs.Numbers.{start_at}
@@ -15,13 +15,12 @@ use Rattle.block_splitter.specs.Pieces.{IsRange, IsCopied}
 use Rattle.block_splitter.proofs.CopySizeLemmas.{range_is}
 use Rattle.cell_values.specs.Objects.{object_of}
 use Rattle.placement_programme.specs.Plain.{PlainProgramme, PlainChoice}
-use Rattle.placement_programme.specs.Rows.{first_twin}
 use Rattle.placement_programme.specs.declared.variables.VarName.{VarName}
 use Rattle.placement_programme.specs.declared.variables.VarName.TheVariants.{StaticData, StaticCode, OverlayData, OverlayCode, KeptData}
 use Rattle.relocator.specs.declared.slots.Slot.{Slot}
 use Rattle.relocator.specs.declared.places.Places.{Places}
-use Rattle.relocator.specs.Slots.{pair_of, is_code, code_slots}
-use Rattle.relocator.specs.Placing.{puts, rows_of, place_at, chosen_slots}
+use Rattle.relocator.specs.Slots.{is_code, code_slots}
+use Rattle.relocator.specs.Placing.{puts, place_at, chosen_slots}
 use Rattle.relocator.specs.SiteWords.{row_length}
 use Rattle.relocator.specs.Laws.{CanLayOut, no_slot, slot_at}
 use Rattle.relocator.proofs.OwnLemmas.{objects_in_slots}

@@ -1,13 +1,12 @@
-use Rattle.std.proofs.Common.{◌≡◌, ◌∙◌, ◌⊎◌, inl, inr, ℕ, ◌+◌, ◌*◌, ◌-◌, ◌<◌, true, Bool, List, length, slice_index_or, refl, sym, ap, subst, arith}
+use Rattle.std.proofs.Common.{◌≡◌, ◌∙◌, ◌⊎◌, inl, inr, ℕ, ◌*◌, ◌-◌, ◌<◌, true, List, length, slice_index_or, refl, sym, subst, arith}
 use Rattle.std.proofs.lemmas.List.{get_or_default}
 use Rattle.placement_programme.specs.Views.{plain_programme, plain_choice}
 use Rattle.placement_programme.specs.declared.variables.VarName.{VarName}
-use Rattle.placement_programme.specs.declared.variables.VarName.TheVariants.{StaticData, StaticCode, OverlayData, OverlayCode, KeptData}
+use Rattle.placement_programme.specs.declared.variables.VarName.TheVariants.{StaticCode, OverlayCode}
 use Rattle.relocator.specs.Slots.{is_code}
-use Rattle.copied_result.specs.declared.placed_copy.PlacedCopy.{PlacedCopy}
 use Rattle.result_placements.specs.Laws.{regions_on}
 use Rattle.relink_core.specs.Standing.{IsKnownName}
-use Rattle.relinking.specs.TakenItems.{CanTell, copy_item}
+use Rattle.relinking.specs.TakenItems.{CanTell}
 use Rattle.relinking.proofs.ItemsTold.{known, row_there, static_item, overlay_item, kept_item, code_item, code_there}
 use Rattle.relinking.proofs.taking.item.Goals as goal
 

@@ -1,4 +1,4 @@
-use Rattle.std.proofs.Common.{◌≡◌, ◌∙◌, ℕ, ◌+◌, ◌<◌, ◌≤◌, suc, List, ◌++◌, ◌∷◌, [], length, take, refl, sym, ap, subst, arith}
+use Rattle.std.proofs.Common.{◌≡◌, ◌∙◌, ℕ, ◌+◌, ◌<◌, suc, ◌++◌, ◌∷◌, [], length, sym, ap, arith}
 use Rattle.placement_programme.specs.Views.{plain_programme, plain_choice}
 use Rattle.placement_programme.specs.declared.variables.VarName.{VarName}
 use Rattle.relocator.specs.Placing.{chosen_slots}
