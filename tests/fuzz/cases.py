@@ -53,7 +53,7 @@ class Seeds:
     """What the cases are drawn from: files of the repository."""
 
     def __init__(self) -> None:
-        self.elf = contents("crates/case_runner/data/*.elf") + contents("crates/analysis_listing/data/*.elf")
+        self.elf = contents("crates/case_runner/data/*.elf") + contents("crates/listings/data/*.elf")
         self.small = [file for file in self.elf if len(file) < 4096]
         self.boards = contents("examples/*.toml") + [text.encode() for text in BOARDS + LAYOUTS]
         self.known = [known_program(*known) for known in KNOWN]

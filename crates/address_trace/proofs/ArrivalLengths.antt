@@ -9,18 +9,18 @@ use Rattle.flat_machine.specs.declared.events.FlatAccess.{FlatAccess}
 use Rattle.object_graph.specs.declared.parts.Graph.{Graph}
 use Rattle.object_machine.specs.State.{SourceState}
 use Rattle.code_blocks.specs.declared.parts.Code.{Code}
-use Rattle.overlay_stubs.specs.Start.{start_run}
-use Rattle.overlay_stubs.specs.Serving.{ServingStub, test_bytes}
-use Rattle.overlay_stubs.specs.Overlay.{OverlayPlan, serving_place}
-use Rattle.overlay_stubs.specs.Served.{body_at}
-use Rattle.overlay_jobs.specs.JobLaws.{room_left}
-use Rattle.result_setups.specs.ResultLaws.{most_steps}
-use Rattle.result_placements.specs.ChosenPlacement.{ChosenPlacement, slots_in, images_in}
-use Rattle.result_placements.specs.PlacedView.{HasBody, ToCopy, Displaced}
-use Rattle.placed_results.specs.Laws.{IsPlacedResult}
-use Rattle.placed_results.specs.PlacedForms.{ArrivesAt, AtForm, AtItsHome, BehindCopy, BehindStub}
-use Rattle.placed_results.specs.Walks.{address_in, AreEvents, leaving_fetched, StubPasses, Unchecked, Current, Switches, body_fetched, BlockEntered, Bare, ByStub, Enters, ArrivalRuns}
-use Rattle.placed_results.proofs.Keeping.{can_switch, start_few}
+use Rattle.patch_code.specs.Start.{start_run}
+use Rattle.patch_code.specs.Serving.{ServingStub, test_bytes}
+use Rattle.patch_code.specs.Overlay.{OverlayPlan, serving_place}
+use Rattle.patch_code.specs.Served.{body_at}
+use Rattle.result_laws.specs.JobLaws.{room_left}
+use Rattle.result_laws.specs.ResultLaws.{most_steps}
+use Rattle.result_laws.specs.ChosenPlacement.{ChosenPlacement, slots_in, images_in}
+use Rattle.result_laws.specs.PlacedView.{HasBody, ToCopy, Displaced}
+use Rattle.result_laws.specs.PlacedLaws.{IsPlacedResult}
+use Rattle.result_laws.specs.PlacedForms.{ArrivesAt, AtForm, AtItsHome, BehindCopy, BehindStub}
+use Rattle.result_laws.specs.Walks.{address_in, AreEvents, leaving_fetched, StubPasses, Unchecked, Current, Switches, body_fetched, BlockEntered, Bare, ByStub, Enters, ArrivalRuns}
+use Rattle.result_laws.proofs.Keeping.{can_switch, start_few}
 
 count_of : (fetched : List ℕ) (told : List FlatAccess) (es : List FlatEvent) → AreEvents fetched told es → length es ≡ length fetched
 count_of fetched told es are = let count = ap (λ (xs : List ℕ). length xs) are.addresses in let same = length-map es address_in in omega (arith, count, same)

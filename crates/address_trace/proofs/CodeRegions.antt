@@ -5,7 +5,7 @@ use Rattle.elf_reader.specs.File.{view_in}
 use Rattle.board_config.specs.declared.board.Board.{Board}
 use Rattle.object_graph.specs.declared.parts.Graph.{Graph}
 use Rattle.code_blocks.specs.declared.parts.Code.{Code}
-use Rattle.points_to.specs.Overlaid.{region_in}
+use Rattle.dataflow.specs.Overlaid.{region_in}
 use Rattle.block_splitter.specs.Forms.{holds_block}
 use Rattle.cell_values.specs.Objects.{object_of}
 use Rattle.placement_programme.specs.declared.variables.VarName.{VarName}
@@ -15,13 +15,13 @@ use Rattle.relocator.specs.Placing.{puts, place_in}
 use Rattle.relocator.specs.Slots.{is_code}
 use Rattle.relocator.specs.Laws.{IsPresent, slot_at}
 use Rattle.relocator.proofs.WeightLemmas.{IsAmong}
-use Rattle.overlay_jobs.specs.ChosenJobs.{next_code, code_number}
-use Rattle.overlay_jobs.proofs.Chosen.{among}
-use Rattle.held_addresses.specs.Entries.{RunsIn}
-use Rattle.result_placements.specs.ChosenPlacement.{ChosenPlacement, slots_in, places_in, piece_of, NamesRange}
-use Rattle.placed_results.specs.Laws.{IsPlacedResult}
-use Rattle.placed_results.proofs.Standing.{HasSlot, laid}
-use Rattle.placed_results.proofs.Standing as standing
+use Rattle.result_laws.specs.ChosenJobs.{next_code, code_number}
+use Rattle.result_laws.proofs.JobChosen.{among}
+use Rattle.result_laws.specs.Entries.{RunsIn}
+use Rattle.result_laws.specs.ChosenPlacement.{ChosenPlacement, slots_in, places_in, piece_of, NamesRange}
+use Rattle.result_laws.specs.PlacedLaws.{IsPlacedResult}
+use Rattle.result_laws.proofs.Standing.{HasSlot, laid}
+use Rattle.result_laws.proofs.Standing as standing
 use Rattle.relink_core.specs.Names.{name_of_slot}
 use Rattle.relink_core.specs.UnitMaps.{region_named, regions_named, piece_region}
 

@@ -9,20 +9,20 @@ use Rattle.code_blocks.specs.Numbers.{end_at}
 use Rattle.code_blocks.specs.declared.parts.Code.{Code}
 use Rattle.block_splitter.specs.Forms.{body_at, holds_block, fall_out_size}
 use Rattle.block_splitter.specs.Copies.{Copy, is_inside, kind_in, place_of, address_of}
-use Rattle.copied_code.specs.Copied.{unit_words}
-use Rattle.copied_code.specs.Laws.{falls_to, place_behind}
-use Rattle.copied_code.proofs.Falls.{fall_size}
+use Rattle.result_laws.specs.Copied.{unit_words}
+use Rattle.result_laws.specs.CopyLaws.{falls_to, place_behind}
+use Rattle.result_laws.proofs.Falls.{fall_size}
 use Rattle.relocator.specs.Laws.{IsPresent, slot_at}
-use Rattle.overlay_jobs.specs.ChosenJobs.{code_number}
-use Rattle.overlay_jobs.proofs.Chosen.{same_slot}
-use Rattle.overlay_stubs.specs.Overlay.{OverlayPlan}
-use Rattle.result_setups.specs.LiveUnits.{StandsThere}
-use Rattle.held_addresses.specs.Entries.{RunsIn}
-use Rattle.result_placements.specs.ChosenPlacement.{ChosenPlacement, slots_in, piece_of, copy_in}
-use Rattle.placed_results.specs.Laws.{IsPlacedResult}
-use Rattle.placed_results.proofs.CopyWays as ways
-use Rattle.placed_results.proofs.Standing.{HasSlot, laid, slot, piece_here}
-use Rattle.placed_results.proofs.Units.{copy_some}
+use Rattle.result_laws.specs.ChosenJobs.{code_number}
+use Rattle.result_laws.proofs.JobChosen.{same_slot}
+use Rattle.patch_code.specs.Overlay.{OverlayPlan}
+use Rattle.result_laws.specs.LiveUnits.{StandsThere}
+use Rattle.result_laws.specs.Entries.{RunsIn}
+use Rattle.result_laws.specs.ChosenPlacement.{ChosenPlacement, slots_in, piece_of, copy_in}
+use Rattle.result_laws.specs.PlacedLaws.{IsPlacedResult}
+use Rattle.result_laws.proofs.CopyWays as ways
+use Rattle.result_laws.proofs.Standing.{HasSlot, laid, slot, piece_here}
+use Rattle.result_laws.proofs.PlacedUnits.{copy_some}
 use Rattle.relink_core.specs.UnitMaps.{IsUnitAt}
 use Rattle.relink_core.specs.declared.unit_forms.UnitAt.{UnitAt}
 use Rattle.address_trace.proofs.CopyPlaces.{unit_count, BeginsNone, words_stand, none_behind_first, none_behind_block}

@@ -6,10 +6,10 @@ use Rattle.block_splitter.specs.declared.unit_kind.UnitKind.{UnitKind}
 use Rattle.block_splitter.specs.declared.unit_kind.UnitKind.TheVariants.{Plain, Upper, Branch, Jump, Call, Tail, Indirect, Linking, Halt}
 use Rattle.block_splitter.specs.Forms.{body_at, holds_block, copy_size, fall_out_size}
 use Rattle.block_splitter.specs.Copies.{Copy, is_inside, kind_in, words_before, place_of}
-use Rattle.copied_code.specs.Copied.{unit_words}
-use Rattle.copied_code.specs.Laws.{place_behind}
-use Rattle.copied_code.proofs.Places.{sum_holds, size_at, next_place}
-use Rattle.placed_results.proofs.Units.{copy_some}
+use Rattle.result_laws.specs.Copied.{unit_words}
+use Rattle.result_laws.specs.CopyLaws.{place_behind}
+use Rattle.result_laws.proofs.Places.{sum_holds, size_at, next_place}
+use Rattle.result_laws.proofs.PlacedUnits.{copy_some}
 
 -- no more words of a unit's copy run than stand there
 run_or_stand : (taken inside : Bool) → (if taken && not inside then 3 else 1) ≤ (if inside then 1 else 3)

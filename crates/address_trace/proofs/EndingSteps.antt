@@ -1,11 +1,11 @@
 -- A step by which a program ends in no fault is that of one word: a call of the environment, EBREAK, or a word without a meaning.
 use Rattle.std.proofs.Common.{◌≡◌, ℕ, ◌+◌, ◌*◌, ◌/◌, ◌%◌, Bool, true, false, if◌then◌else◌, Option, Some, None, refl, subst, ℤ}
 use Rattle.std.proofs.lemmas.Bool.{cond_both}
-use Rattle.word_bits.specs.Words.{offset, plus}
-use Rattle.rv_decode.specs.declared.instructions.Instr.{Instr}
-use Rattle.rv_decode.specs.declared.instructions.Instr.TheVariants.{Lui, Auipc, Jal, Jalr, Branch, Load, Store, OpImm, OpReg, Fence, FenceI, Ecall, Ebreak}
-use Rattle.rv_decode.specs.declared.instructions.ImmKind.TheVariants.{Addi}
-use Rattle.rv_decode.specs.Fields.{rd_of}
+use Rattle.rv32im.specs.Words.{offset, plus}
+use Rattle.rv32im.specs.declared.instructions.Instr.{Instr}
+use Rattle.rv32im.specs.declared.instructions.Instr.TheVariants.{Lui, Auipc, Jal, Jalr, Branch, Load, Store, OpImm, OpReg, Fence, FenceI, Ecall, Ebreak}
+use Rattle.rv32im.specs.declared.instructions.ImmKind.TheVariants.{Addi}
+use Rattle.rv32im.specs.Fields.{rd_of}
 use Rattle.cell_values.specs.Operations.{op_imm, op_reg}
 use Rattle.cell_values.specs.Comparisons.{compare}
 use Rattle.cell_values.specs.declared.values.Val.{Val}

@@ -6,7 +6,7 @@ use Rattle.board_config.specs.declared.board.Board.{Board}
 use Rattle.board_config.specs.declared.board.Range.{Range}
 use Rattle.flat_machine.specs.Mapping.{in_range}
 use Rattle.flat_machine.specs.declared.events.FlatEvent.{FlatEvent}
-use Rattle.placed_results.specs.Walks.{address_in}
+use Rattle.result_laws.specs.Walks.{address_in}
 use Rattle.address_trace.specs.Comings.{EndsInPatch}
 
 -- an address between a range's bounds

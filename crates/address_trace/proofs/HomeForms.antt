@@ -4,20 +4,20 @@ use Rattle.std.proofs.lemmas.Bool.{both_ways}
 use Rattle.elf_reader.specs.File.{PlainView, view_in}
 use Rattle.board_config.specs.declared.board.Board.{Board}
 use Rattle.object_graph.specs.declared.parts.Graph.{Graph}
-use Rattle.code_leaders.specs.Leaders.{is_call_pair, is_leader}
-use Rattle.code_leaders.proofs.PairLemmas.{pair_is_code}
+use Rattle.code_blocks.specs.Leaders.{is_call_pair, is_leader}
+use Rattle.code_blocks.proofs.PairLemmas.{pair_is_code}
 use Rattle.code_blocks.specs.Blocks.{IsCode}
 use Rattle.code_blocks.specs.Numbers.{start_at}
 use Rattle.code_blocks.specs.declared.parts.Code.{Code}
-use Rattle.liveness.specs.Live.{IsUnitOf}
+use Rattle.dataflow.specs.Live.{IsUnitOf}
 use Rattle.object_machine.proofs.FollowLemmas.{goes_further}
-use Rattle.result_setups.specs.HomeLaws.{IsAccepted}
-use Rattle.result_setups.specs.LiveUnits.{StandsThere}
-use Rattle.result_setups.proofs.CodeUnits as units
-use Rattle.result_setups.proofs.Loaded.{IsKept}
-use Rattle.result_placements.specs.ChosenPlacement.{ChosenPlacement}
-use Rattle.overlay_stubs.specs.Overlay.{OverlayPlan}
-use Rattle.placed_results.specs.Laws.{IsPlacedResult}
+use Rattle.result_laws.specs.HomeLaws.{IsAccepted}
+use Rattle.result_laws.specs.LiveUnits.{StandsThere}
+use Rattle.result_laws.proofs.CodeUnits as units
+use Rattle.result_laws.proofs.Loaded.{IsKept}
+use Rattle.result_laws.specs.ChosenPlacement.{ChosenPlacement}
+use Rattle.patch_code.specs.Overlay.{OverlayPlan}
+use Rattle.result_laws.specs.PlacedLaws.{IsPlacedResult}
 use Rattle.relink_core.specs.UnitMaps.{IsAtHome, IsUnitAt}
 use Rattle.relink_core.specs.declared.unit_forms.UnitAt.{UnitAt}
 use Rattle.address_trace.proofs.Ranges.{pair_off, only_home}

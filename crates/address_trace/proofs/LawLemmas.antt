@@ -2,8 +2,8 @@
 use Rattle.std.proofs.Common.{◌≡◌, ◌⊎◌, inl, inr, ℕ, zero, suc, ◌<◌, ◌≤◌, Bool, true, false, List, [], ◌∷◌, length, Option, Some, None, All, refl, sym, ◌∙◌, ap, subst, arith}
 use Rattle.std.proofs.lemmas.Bool.{cases_lt}
 use Rattle.std.proofs.lemmas.List.Elements.{All-nil, All-cons}
-use Rattle.rv_decode.specs.Table.{OneInstruction}
-use Rattle.rv_decode.specs.declared.instructions.Instr.{Instr}
+use Rattle.rv32im.specs.Table.{OneInstruction}
+use Rattle.rv32im.specs.declared.instructions.Instr.{Instr}
 use Rattle.flat_machine.specs.State.{State}
 use Rattle.flat_machine.specs.Step as flat_step
 use Rattle.flat_machine.specs.Runs.{Does, Steps}
@@ -19,7 +19,7 @@ use Rattle.object_machine.specs.Runs.{HasEnded}
 use Rattle.object_machine.proofs.RunLemmas.{one_reading}
 use Rattle.profile_runner.specs.Transition.{Transition}
 use Rattle.profile_runner.specs.Transitions.{transition_of, Transitions, TransitionsFrom}
-use Rattle.result_setups.specs.ResultLaws.{most_steps}
+use Rattle.result_laws.specs.ResultLaws.{most_steps}
 use Rattle.address_trace.specs.declared.marks.TracedStep.{TracedStep}
 use Rattle.address_trace.specs.Comings.{StopsFirst, first_access, IsAtForm}
 use Rattle.address_trace.specs.Tracing.{TracedProgram, region_in, ComesAlong, told_access, CanTell, IsTracedStep, IsLostStep, makes_no_access, comes_nowhere, Traces, Done, Ended, Lost, Goes}

@@ -3,8 +3,8 @@
 use Rattle.std.proofs.Common.{◌≡◌, ◌∙◌, ◌⊎◌, inl, inr, ℕ, ◌+◌, ◌<◌, false, List, [], ◌∷◌, ◌++◌, length, refl, sym, subst, arith}
 use Rattle.std.specs.Prelude.{Contains}
 use Rattle.std.proofs.lemmas.Bool.{cases_eq, both_ways}
-use Rattle.rv_decode.specs.Sequences.{jump_absolute, MeanAll}
-use Rattle.rv_decode.proofs.SequenceLemmas.{mean_count}
+use Rattle.rv32im.specs.Sequences.{jump_absolute, MeanAll}
+use Rattle.rv32im.proofs.SequenceLemmas.{mean_count}
 use Rattle.board_config.specs.declared.board.Board.{Board}
 use Rattle.flat_machine.specs.State.{State}
 use Rattle.flat_machine.specs.declared.events.FlatEvent.{FlatEvent}
@@ -14,18 +14,18 @@ use Rattle.code_blocks.specs.Numbers.{start_at}
 use Rattle.code_blocks.specs.declared.parts.Code.{Code}
 use Rattle.block_splitter.specs.Forms.{holds_block}
 use Rattle.block_splitter.specs.Copies.{place_of, address_of}
-use Rattle.held_addresses.specs.Entries.{RunsIn}
-use Rattle.overlay_stubs.specs.Serving.{StubBody, ServingStub, jumps_to, test_bytes, IsBody}
-use Rattle.overlay_stubs.specs.Overlay.{OverlayPlan, serving_place}
-use Rattle.overlay_stubs.specs.Served.{body_at}
-use Rattle.result_setups.specs.LiveUnits.{StandsThere}
-use Rattle.result_setups.proofs.CodeUnits.{first, units_stand}
-use Rattle.result_placements.specs.ChosenPlacement.{ChosenPlacement, piece_of, copy_in}
-use Rattle.result_placements.specs.PlacedView.{IsUncopied, HasBody, ToCopy, Displaced}
-use Rattle.placed_results.specs.Laws.{IsPlacedResult}
-use Rattle.placed_results.specs.PlacedForms.{StandsAs, AtHome, InCopy, InStub, MayRun, IsFormOf, ArrivesAt, AtForm, AtItsHome, BehindCopy, BehindStub}
-use Rattle.placed_results.specs.Walks.{AreEvents, body_fetched, BlockEntered, Bare, ByStub, Enters, ArrivalRuns}
-use Rattle.placed_results.proofs.StubBodies.{HasBodyWords, body_words}
+use Rattle.result_laws.specs.Entries.{RunsIn}
+use Rattle.patch_code.specs.Serving.{StubBody, ServingStub, jumps_to, test_bytes, IsBody}
+use Rattle.patch_code.specs.Overlay.{OverlayPlan, serving_place}
+use Rattle.patch_code.specs.Served.{body_at}
+use Rattle.result_laws.specs.LiveUnits.{StandsThere}
+use Rattle.result_laws.proofs.CodeUnits.{first, units_stand}
+use Rattle.result_laws.specs.ChosenPlacement.{ChosenPlacement, piece_of, copy_in}
+use Rattle.result_laws.specs.PlacedView.{IsUncopied, HasBody, ToCopy, Displaced}
+use Rattle.result_laws.specs.PlacedLaws.{IsPlacedResult}
+use Rattle.result_laws.specs.PlacedForms.{StandsAs, AtHome, InCopy, InStub, MayRun, IsFormOf, ArrivesAt, AtForm, AtItsHome, BehindCopy, BehindStub}
+use Rattle.result_laws.specs.Walks.{AreEvents, body_fetched, BlockEntered, Bare, ByStub, Enters, ArrivalRuns}
+use Rattle.result_laws.proofs.StubBodies.{HasBodyWords, body_words}
 use Rattle.relink_core.specs.declared.unit_forms.UnitAt.{UnitAt}
 use Rattle.relink_core.specs.UnitMaps.{IsUnitAt, AreUnitsAt, piece_region}
 use Rattle.relink_core.specs.UnitMaps as maps

@@ -1,8 +1,8 @@
 -- A step is traced, by its events.
 use Rattle.std.proofs.Common.{◌≡◌, ℕ, ◌<◌, ◌≤◌, List, length, refl, sym, subst, arith}
 use Rattle.std.specs.Prelude.{Option}
-use Rattle.rv_decode.specs.Table.{OneInstruction}
-use Rattle.rv_decode.specs.declared.instructions.Instr.{Instr}
+use Rattle.rv32im.specs.Table.{OneInstruction}
+use Rattle.rv32im.specs.declared.instructions.Instr.{Instr}
 use Rattle.flat_machine.specs.State.{State}
 use Rattle.flat_machine.specs.Runs as flat_runs
 use Rattle.flat_machine.specs.declared.events.FlatEvent.{FlatEvent}
@@ -11,7 +11,7 @@ use Rattle.object_machine.specs.declared.events.Outcome.TheVariants.{GoesOn, Exi
 use Rattle.object_machine.specs.State.{SourceState}
 use Rattle.object_machine.specs.Step.{next_state, access_of}
 use Rattle.object_machine.specs.Runs.{HasEnded}
-use Rattle.result_setups.specs.ResultLaws.{most_steps}
+use Rattle.result_laws.specs.ResultLaws.{most_steps}
 use Rattle.address_trace.specs.declared.marks.TracedStep.{TracedStep}
 use Rattle.address_trace.specs.Comings.{StopsFirst, first_access, IsAtForm}
 use Rattle.address_trace.specs.Tracing.{TracedProgram, region_in, ComesBy, ComesAlong, told_access, CanTell, IsTracedStep}

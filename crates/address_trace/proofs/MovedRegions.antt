@@ -4,19 +4,19 @@ use Rattle.std.proofs.lemmas.Bool.{cases_Bool}
 use Rattle.elf_reader.specs.File.{view_in}
 use Rattle.board_config.specs.declared.board.Board.{Board}
 use Rattle.object_graph.specs.declared.parts.Graph.{Graph}
-use Rattle.code_leaders.specs.Early.{has}
+use Rattle.code_blocks.specs.Early.{has}
 use Rattle.code_blocks.specs.Blocks.{IsCode}
 use Rattle.code_blocks.specs.Numbers.{starts_of}
 use Rattle.code_blocks.specs.declared.parts.Code.{Code}
 use Rattle.region_former.specs.declared.table.RegionTable.{RegionTable}
-use Rattle.points_to.specs.Overlaid.{region_in}
+use Rattle.dataflow.specs.Overlaid.{region_in}
 use Rattle.profile_runner.specs.Standing.{number_of, entered}
 use Rattle.profile_runner.proofs.FindLemmas.{block_found}
-use Rattle.result_setups.specs.HomeLaws.{IsAccepted}
-use Rattle.result_setups.proofs.CodeUnits.{block_of}
-use Rattle.result_placements.specs.Laws.{regions_on}
-use Rattle.result_placements.specs.ChosenPlacement.{ChosenPlacement}
-use Rattle.placed_results.specs.Walks.{BecomesCurrent}
+use Rattle.result_laws.specs.HomeLaws.{IsAccepted}
+use Rattle.result_laws.proofs.CodeUnits.{block_of}
+use Rattle.result_laws.specs.PlacementLaws.{regions_on}
+use Rattle.result_laws.specs.ChosenPlacement.{ChosenPlacement}
+use Rattle.result_laws.specs.Walks.{BecomesCurrent}
 use Rattle.relink_core.specs.Placed.{Taken, IsPlacementFor}
 use Rattle.relink_core.specs.Sides.{blocks_on}
 use Rattle.address_trace.specs.Comings.{region_behind}

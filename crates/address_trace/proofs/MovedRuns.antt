@@ -1,7 +1,7 @@
 -- Beside a run of its program a result with moved items is traced to the end.
 use Rattle.std.proofs.Common.{◌≡◌, ◌∙◌, inl, inr, ℕ, suc, List, [], ◌++◌, Option, refl, sym, subst, arith}
-use Rattle.word_bits.specs.Memory.{word_at}
-use Rattle.rv_decode.specs.declared.instructions.Instr.{Instr}
+use Rattle.rv32im.specs.Memory.{word_at}
+use Rattle.rv32im.specs.declared.instructions.Instr.{Instr}
 use Rattle.board_config.specs.declared.board.Board.{Board}
 use Rattle.flat_machine.specs.State.{State}
 use Rattle.flat_machine.specs.Runs.{Does}
@@ -16,11 +16,11 @@ use Rattle.object_machine.specs.State.{SourceState}
 use Rattle.object_machine.specs.Step.{Reads, next_state}
 use Rattle.simulation.specs.Laws.{EndsAlike}
 use Rattle.simulation.proofs.Unnamed.{next_same}
-use Rattle.overlay_stubs.specs.Overlay.{OverlayPlan}
-use Rattle.result_setups.specs.HomeLaws.{program_in, unnamed_in}
-use Rattle.result_placements.specs.ChosenPlacement.{ChosenPlacement, places_in}
-use Rattle.placed_results.specs.Laws.{IsPlacedResult}
-use Rattle.placed_results.specs.Walks.{IsNoFault, StepRuns, On, Ends, Walks, NoSteps, Ended, Step}
+use Rattle.patch_code.specs.Overlay.{OverlayPlan}
+use Rattle.result_laws.specs.HomeLaws.{program_in, unnamed_in}
+use Rattle.result_laws.specs.ChosenPlacement.{ChosenPlacement, places_in}
+use Rattle.result_laws.specs.PlacedLaws.{IsPlacedResult}
+use Rattle.result_laws.specs.Walks.{IsNoFault, StepRuns, On, Ends, Walks, NoSteps, Ended, Step}
 use Rattle.relink_core.specs.declared.unit_forms.UnitAt.{UnitAt}
 use Rattle.relink_core.specs.UnitMaps.{IsUnitAt, AreUnitsAt}
 use Rattle.address_trace.specs.Tracing.{TracedProgram, region_in}

@@ -1,6 +1,6 @@
 -- From its start a result comes to a form of the entry, and no other word is fetched there before: so its trace is whole.
 use Rattle.std.proofs.Common.{◌∙◌, inl, inr, ℕ, ◌≤◌, false, List, ◌++◌, length, refl, sym, subst}
-use Rattle.rv_decode.proofs.Meaning.{same_instruction}
+use Rattle.rv32im.proofs.Meaning.{same_instruction}
 use Rattle.elf_reader.specs.Loadable.{AreBytes}
 use Rattle.board_config.specs.declared.board.Board.{Board}
 use Rattle.flat_machine.specs.State.{State}
@@ -10,13 +10,13 @@ use Rattle.flat_machine.proofs.Runs.{does_joined}
 use Rattle.object_graph.specs.declared.parts.Graph.{Graph}
 use Rattle.code_blocks.specs.declared.parts.Code.{Code}
 use Rattle.object_machine.specs.State.{SourceState}
-use Rattle.overlay_stubs.specs.Overlay.{OverlayPlan}
-use Rattle.result_setups.specs.HomeLaws.{source_start, file_start}
-use Rattle.result_setups.specs.ResultLaws.{most_steps}
-use Rattle.result_placements.specs.ChosenPlacement.{ChosenPlacement, places_in}
-use Rattle.placed_results.specs.Laws.{IsPlacedResult}
-use Rattle.placed_results.specs.Walks.{IsNoFault, PlacedWalk}
-use Rattle.placed_results.proofs.Walking.{placed_walks}
+use Rattle.patch_code.specs.Overlay.{OverlayPlan}
+use Rattle.result_laws.specs.HomeLaws.{source_start, file_start}
+use Rattle.result_laws.specs.ResultLaws.{most_steps}
+use Rattle.result_laws.specs.ChosenPlacement.{ChosenPlacement, places_in}
+use Rattle.result_laws.specs.PlacedLaws.{IsPlacedResult}
+use Rattle.result_laws.specs.Walks.{IsNoFault, PlacedWalk}
+use Rattle.result_laws.proofs.Walking.{placed_walks}
 use Rattle.relink_core.specs.declared.unit_forms.UnitAt.{UnitAt}
 use Rattle.relink_core.specs.UnitMaps.{IsUnitAt, AreUnitsAt}
 use Rattle.address_trace.specs.Comings.{StopsFirst, IsAtForm}

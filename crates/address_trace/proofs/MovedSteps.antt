@@ -1,9 +1,9 @@
 -- A step of a program beside a result with moved items is traced.
 use Rattle.std.proofs.Common.{◌≡◌, ◌∙◌, inl, inr, ℕ, ◌+◌, ◌<◌, ◌≤◌, List, [], ◌++◌, length, Option, Some, None, sym, ap, subst, arith, append-nil}
 use Rattle.std.proofs.lemmas.List.{length-append}
-use Rattle.word_bits.specs.Memory.{word_at}
-use Rattle.rv_decode.specs.declared.instructions.Instr.{Instr}
-use Rattle.rv_decode.proofs.Meaning.{same_instruction}
+use Rattle.rv32im.specs.Memory.{word_at}
+use Rattle.rv32im.specs.declared.instructions.Instr.{Instr}
+use Rattle.rv32im.proofs.Meaning.{same_instruction}
 use Rattle.board_config.specs.declared.board.Board.{Board}
 use Rattle.flat_machine.specs.State.{State}
 use Rattle.flat_machine.specs.Runs.{Does}
@@ -21,12 +21,12 @@ use Rattle.object_machine.specs.Program.{Program}
 use Rattle.object_machine.specs.State.{SourceState}
 use Rattle.object_machine.specs.Step.{Reads, next_state, access_of}
 use Rattle.simulation.proofs.Unnamed.{next_same}
-use Rattle.overlay_stubs.specs.Overlay.{OverlayPlan}
-use Rattle.result_setups.specs.HomeLaws.{program_in, unnamed_in}
-use Rattle.result_setups.specs.ResultLaws.{most_steps}
-use Rattle.result_placements.specs.ChosenPlacement.{ChosenPlacement, places_in}
-use Rattle.placed_results.specs.Laws.{IsPlacedResult}
-use Rattle.placed_results.specs.Walks.{IsNoFault, UnitRuns, ArrivalRuns}
+use Rattle.patch_code.specs.Overlay.{OverlayPlan}
+use Rattle.result_laws.specs.HomeLaws.{program_in, unnamed_in}
+use Rattle.result_laws.specs.ResultLaws.{most_steps}
+use Rattle.result_laws.specs.ChosenPlacement.{ChosenPlacement, places_in}
+use Rattle.result_laws.specs.PlacedLaws.{IsPlacedResult}
+use Rattle.result_laws.specs.Walks.{IsNoFault, UnitRuns, ArrivalRuns}
 use Rattle.relink_core.specs.declared.unit_forms.UnitAt.{UnitAt}
 use Rattle.relink_core.specs.UnitMaps.{IsUnitAt, AreUnitsAt}
 use Rattle.address_trace.specs.declared.marks.TracedStep.{TracedStep}

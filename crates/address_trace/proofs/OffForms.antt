@@ -2,23 +2,23 @@
 use Rattle.std.proofs.Common.{◌≡◌, ◌∙◌, ◌⊎◌, ℕ, ◌<◌, List, [], ◌∷◌, ◌++◌, length, Option, sym, ap, arith}
 use Rattle.std.specs.Prelude.{Contains}
 use Rattle.std.proofs.lemmas.List.{append-nil}
-use Rattle.rv_decode.specs.Table.{OneInstruction}
-use Rattle.rv_decode.specs.declared.instructions.Instr.{Instr}
+use Rattle.rv32im.specs.Table.{OneInstruction}
+use Rattle.rv32im.specs.declared.instructions.Instr.{Instr}
 use Rattle.board_config.specs.declared.board.Board.{Board}
 use Rattle.flat_machine.specs.State.{State}
 use Rattle.flat_machine.specs.Runs.{Does}
 use Rattle.flat_machine.specs.declared.events.FlatEvent.{FlatEvent}
 use Rattle.object_graph.specs.declared.parts.Graph.{Graph}
 use Rattle.code_blocks.specs.declared.parts.Code.{Code}
-use Rattle.copy_jobs.specs.Told.{Way, jobs_accesses}
+use Rattle.patch_code.specs.Told.{Way, jobs_accesses}
 use Rattle.object_machine.specs.declared.events.Outcome.TheVariants.{GoesOn}
 use Rattle.object_machine.specs.State.{SourceState}
 use Rattle.object_machine.specs.Step.{Reads, next_state}
-use Rattle.overlay_stubs.specs.Start.{start_at as stub_start, start_bytes, start_run}
-use Rattle.result_setups.specs.HomeLaws.{unnamed_in, source_start, file_start}
-use Rattle.result_placements.specs.ChosenPlacement.{ChosenPlacement}
-use Rattle.placed_results.specs.Laws.{IsPlacedResult}
-use Rattle.placed_results.specs.Walks.{UnitRuns, ArrivalRuns}
+use Rattle.patch_code.specs.Start.{start_at as stub_start, start_bytes, start_run}
+use Rattle.result_laws.specs.HomeLaws.{unnamed_in, source_start, file_start}
+use Rattle.result_laws.specs.ChosenPlacement.{ChosenPlacement}
+use Rattle.result_laws.specs.PlacedLaws.{IsPlacedResult}
+use Rattle.result_laws.specs.Walks.{UnitRuns, ArrivalRuns}
 use Rattle.relink_core.specs.UnitMaps.{IsUnitAt, AreUnitsAt}
 use Rattle.relink_core.specs.declared.unit_forms.UnitAt.{UnitAt}
 use Rattle.address_trace.specs.Comings.{StopsFirst, EndsInPatch, IsAtForm}

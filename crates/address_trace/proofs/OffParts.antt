@@ -9,7 +9,7 @@ use Rattle.board_config.specs.declared.board.Board.{Board}
 use Rattle.flat_machine.specs.Lines.{words_from}
 use Rattle.flat_machine.specs.Mapping.{in_range}
 use Rattle.flat_machine.specs.declared.events.FlatEvent.{FlatEvent}
-use Rattle.placed_results.specs.Walks.{address_in}
+use Rattle.result_laws.specs.Walks.{address_in}
 use Rattle.relink_core.specs.declared.unit_forms.UnitAt.{UnitAt}
 use Rattle.address_trace.specs.Comings.{EndsInPatch}
 

@@ -1,6 +1,6 @@
 -- Outcomes of a program that meets no fault, and where a run of the flat machine leads.
 use Rattle.std.proofs.Common.{◌≡◌, ◌⊎◌, inl, inr, List, length, refl, sym, subst}
-use Rattle.rv_decode.proofs.Meaning.{same_instruction}
+use Rattle.rv32im.proofs.Meaning.{same_instruction}
 use Rattle.flat_machine.specs.State.{State}
 use Rattle.flat_machine.specs.Runs.{Does}
 use Rattle.flat_machine.specs.Runs as flat_runs
@@ -11,7 +11,7 @@ use Rattle.object_machine.specs.declared.events.Outcome.TheVariants.{GoesOn, Exi
 use Rattle.object_machine.specs.State.{SourceState}
 use Rattle.object_machine.specs.Runs.{HasEnded}
 use Rattle.simulation.specs.Laws.{EndsAlike}
-use Rattle.placed_results.specs.Walks.{IsNoFault}
+use Rattle.result_laws.specs.Walks.{IsNoFault}
 use Rattle.address_trace.proofs.EndingSteps.{IsOver}
 
 -- ---- outcomes

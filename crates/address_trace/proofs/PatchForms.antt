@@ -5,41 +5,41 @@ use Rattle.std.specs.Prelude.{All, Contains}
 use Rattle.std.proofs.lemmas.Bool.{both_ways, cases_lt}
 use Rattle.std.proofs.lemmas.List.Elements.{All-nil, All-cons, All-append, All-contains}
 use Rattle.list_checks.proofs.TestLemmas.{any_at}
-use Rattle.rv_decode.specs.Sequences.{load_immediate, distance}
-use Rattle.rv_decode.specs.declared.instructions.Instr.TheVariants as instr
-use Rattle.rv_decode.proofs.SequenceLemmas.{mean_count}
+use Rattle.rv32im.specs.Sequences.{load_immediate, distance}
+use Rattle.rv32im.specs.declared.instructions.Instr.TheVariants as instr
+use Rattle.rv32im.proofs.SequenceLemmas.{mean_count}
 use Rattle.board_config.specs.declared.board.Board.{Board}
 use Rattle.elf_reader.specs.File.{PlainView, view_in}
 use Rattle.flat_machine.specs.declared.events.FlatEvent.{FlatEvent}
 use Rattle.object_graph.specs.Sites.{in_range}
 use Rattle.object_graph.specs.declared.parts.Graph.{Graph}
-use Rattle.code_leaders.proofs.LeaderLemmas.{both_pass}
+use Rattle.code_blocks.proofs.LeaderLemmas.{both_pass}
 use Rattle.code_blocks.specs.Numbers.{start_at}
 use Rattle.code_blocks.specs.declared.parts.Code.{Code}
 use Rattle.code_blocks.specs.declared.parts.Unit.{Unit}
-use Rattle.liveness.proofs.EdgeLemmas.{one_start}
+use Rattle.dataflow.proofs.EdgeLemmas.{one_start}
 use Rattle.block_splitter.specs.declared.unit_kind.UnitKind.{UnitKind}
 use Rattle.block_splitter.specs.declared.unit_kind.UnitKind.TheVariants.{Plain, Upper, Branch, Jump, Call, Tail, Indirect, Linking, Halt}
 use Rattle.block_splitter.specs.Forms.{holds_block, is_site, kind_of, body_at as body_of}
 use Rattle.block_splitter.specs.Copies.{Patch, IsDisplaced}
-use Rattle.copied_code.specs.Laws.{unit_at}
-use Rattle.copy_jobs.specs.Told.{IsFrom}
-use Rattle.overlay_stubs.specs.Start.{start_at as stub_start, start_bytes}
-use Rattle.overlay_stubs.specs.Serving.{ServingStub, jumps_to, body_bytes, serving_size, served_before, test_bytes}
-use Rattle.overlay_stubs.specs.Overlay.{OverlayPlan, serving_place}
-use Rattle.overlay_stubs.specs.Served.{body_at}
-use Rattle.result_setups.specs.LiveUnits.{StandsThere}
-use Rattle.result_setups.proofs.CodeUnits.{first, units_stand}
-use Rattle.result_setups.proofs.Loaded.{IsKept}
-use Rattle.result_setups.proofs.Numbers.{same_number}
-use Rattle.result_placements.specs.ChosenPlacement.{ChosenPlacement, piece_of}
-use Rattle.result_placements.specs.PlacedView.{is_served, is_padded, IsUncopied, HasBody, ToCopy, Displaced, Serves, ServesSome}
-use Rattle.placed_results.specs.Laws.{IsPlacedResult}
-use Rattle.placed_results.specs.Walks.{StubPasses, body_fetched, BlockEntered, Bare, ByStub, own_fetched}
-use Rattle.placed_results.proofs.Apart.{before_fits}
-use Rattle.placed_results.proofs.Spared.{spared}
-use Rattle.placed_results.proofs.StubBodies.{stub_inside}
-use Rattle.placed_results.proofs.StubWords as stubs
+use Rattle.result_laws.specs.CopyLaws.{unit_at}
+use Rattle.patch_code.specs.Told.{IsFrom}
+use Rattle.patch_code.specs.Start.{start_at as stub_start, start_bytes}
+use Rattle.patch_code.specs.Serving.{ServingStub, jumps_to, body_bytes, serving_size, served_before, test_bytes}
+use Rattle.patch_code.specs.Overlay.{OverlayPlan, serving_place}
+use Rattle.patch_code.specs.Served.{body_at}
+use Rattle.result_laws.specs.LiveUnits.{StandsThere}
+use Rattle.result_laws.proofs.CodeUnits.{first, units_stand}
+use Rattle.result_laws.proofs.Loaded.{IsKept}
+use Rattle.result_laws.proofs.HomeNumbers.{same_number}
+use Rattle.result_laws.specs.ChosenPlacement.{ChosenPlacement, piece_of}
+use Rattle.result_laws.specs.PlacedView.{is_served, is_padded, IsUncopied, HasBody, ToCopy, Displaced, Serves, ServesSome}
+use Rattle.result_laws.specs.PlacedLaws.{IsPlacedResult}
+use Rattle.result_laws.specs.Walks.{StubPasses, body_fetched, BlockEntered, Bare, ByStub, own_fetched}
+use Rattle.result_laws.proofs.Apart.{before_fits}
+use Rattle.result_laws.proofs.Spared.{spared}
+use Rattle.result_laws.proofs.StubBodies.{stub_inside}
+use Rattle.result_laws.proofs.StubWords as stubs
 use Rattle.address_trace.proofs.OffParts.{each_address}
 use Rattle.address_trace.proofs.Ranges.{IsOff, stands_as, StandsInStub, home_off, plan_in_patch, stub_in_patch, only_stub, only_home}
 

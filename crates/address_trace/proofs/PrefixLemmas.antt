@@ -4,8 +4,8 @@ use Rattle.std.proofs.Common.{◌≡◌, ◌⊎◌, ℕ, ◌<◌, ◌≤◌, Boo
 use Rattle.std.specs.Prelude.{Contains}
 use Rattle.std.proofs.lemmas.List.{append-nil}
 use Rattle.std.specs.Bool.{MatchBool}
-use Rattle.rv_decode.specs.Table.{OneInstruction}
-use Rattle.rv_decode.specs.declared.instructions.Instr.{Instr}
+use Rattle.rv32im.specs.Table.{OneInstruction}
+use Rattle.rv32im.specs.declared.instructions.Instr.{Instr}
 use Rattle.board_config.specs.declared.board.Board.{Board}
 use Rattle.flat_machine.specs.Mapping.{can_access}
 use Rattle.flat_machine.specs.State.{State, trap}

@@ -7,34 +7,34 @@ use Rattle.elf_reader.specs.File.{PlainView, view_in}
 use Rattle.board_config.specs.declared.board.Board.{Board}
 use Rattle.object_graph.specs.Sites.{in_range}
 use Rattle.object_graph.specs.declared.parts.Graph.{Graph}
-use Rattle.code_leaders.specs.Leaders.{is_call_pair}
-use Rattle.code_leaders.proofs.PairLemmas.{pair_is_code}
+use Rattle.code_blocks.specs.Leaders.{is_call_pair}
+use Rattle.code_blocks.proofs.PairLemmas.{pair_is_code}
 use Rattle.code_blocks.specs.Numbers.{end_at}
 use Rattle.code_blocks.specs.declared.parts.Code.{Code}
 use Rattle.block_splitter.specs.Forms.{holds_block, copy_size}
 use Rattle.block_splitter.specs.Copies.{Copy, is_inside, kind_in, place_of, address_of}
-use Rattle.copied_code.specs.Laws.{falls_to, place_behind}
-use Rattle.copied_code.proofs.Places.{unit_fits}
-use Rattle.copied_code.proofs.CopiedUnits.{held_below}
-use Rattle.overlay_stubs.specs.Start.{start_at as stub_start, start_bytes}
-use Rattle.overlay_stubs.specs.Serving.{ServingStub, serving_size}
-use Rattle.overlay_stubs.specs.Overlay.{OverlayPlan, serving_place, rest_bytes}
-use Rattle.overlay_stubs.specs.Served.{body_at}
-use Rattle.result_setups.specs.LiveUnits.{StandsThere}
-use Rattle.result_setups.proofs.Kept.{code_kept}
-use Rattle.result_setups.proofs.Loaded.{IsKept}
-use Rattle.result_setups.proofs.Ranges.{lies_in_range, patch_off_spm}
-use Rattle.held_addresses.specs.Entries.{RunsIn}
-use Rattle.result_placements.specs.ChosenPlacement.{ChosenPlacement, piece_of, copy_in}
-use Rattle.result_placements.specs.PlacedView.{is_padded, IsUncopied, Serves}
-use Rattle.placed_results.specs.Laws.{IsPlacedResult}
-use Rattle.placed_results.specs.PlacedForms as forms
-use Rattle.placed_results.specs.PlacedForms.{StandsAs}
-use Rattle.placed_results.proofs.Apart.{home_kept, body_in_patch, copy_in_spm}
-use Rattle.placed_results.proofs.Coming.{jump_fits}
-use Rattle.placed_results.proofs.CopyWays as ways
-use Rattle.placed_results.proofs.Standing.{copy_inside}
-use Rattle.placed_results.proofs.StubBodies.{stub_inside}
+use Rattle.result_laws.specs.CopyLaws.{falls_to, place_behind}
+use Rattle.result_laws.proofs.Places.{unit_fits}
+use Rattle.result_laws.proofs.CopiedUnits.{held_below}
+use Rattle.patch_code.specs.Start.{start_at as stub_start, start_bytes}
+use Rattle.patch_code.specs.Serving.{ServingStub, serving_size}
+use Rattle.patch_code.specs.Overlay.{OverlayPlan, serving_place, rest_bytes}
+use Rattle.patch_code.specs.Served.{body_at}
+use Rattle.result_laws.specs.LiveUnits.{StandsThere}
+use Rattle.result_laws.proofs.Kept.{code_kept}
+use Rattle.result_laws.proofs.Loaded.{IsKept}
+use Rattle.result_laws.proofs.Ranges.{lies_in_range, patch_off_spm}
+use Rattle.result_laws.specs.Entries.{RunsIn}
+use Rattle.result_laws.specs.ChosenPlacement.{ChosenPlacement, piece_of, copy_in}
+use Rattle.result_laws.specs.PlacedView.{is_padded, IsUncopied, Serves}
+use Rattle.result_laws.specs.PlacedLaws.{IsPlacedResult}
+use Rattle.result_laws.specs.PlacedForms as forms
+use Rattle.result_laws.specs.PlacedForms.{StandsAs}
+use Rattle.result_laws.proofs.Apart.{home_kept, body_in_patch, copy_in_spm}
+use Rattle.result_laws.proofs.Coming.{jump_fits}
+use Rattle.result_laws.proofs.CopyWays as ways
+use Rattle.result_laws.proofs.Standing.{copy_inside}
+use Rattle.result_laws.proofs.StubBodies.{stub_inside}
 use Rattle.relink_core.specs.UnitMaps.{piece_region, IsAtHome, IsUnitAt, AtHome, InCopy, InStub}
 use Rattle.relink_core.specs.declared.unit_forms.UnitAt.{UnitAt}
 

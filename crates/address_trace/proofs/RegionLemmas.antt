@@ -1,6 +1,6 @@
 -- The region that is current.
 use Rattle.std.proofs.Common.{◌≡◌, ◌∙◌, ℕ, true, List, sym, ap}
-use Rattle.code_leaders.specs.Early.{has}
+use Rattle.code_blocks.specs.Early.{has}
 use Rattle.profile_runner.specs.Standing.{number_of, region_of, entered}
 use Rattle.address_trace.specs.Comings.{region_behind}
 

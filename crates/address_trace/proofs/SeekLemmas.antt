@@ -1,7 +1,7 @@
 -- Steps of the flat machine up to the first behind which something holds.
 use Rattle.std.proofs.Common.{◌≡◌, inl, inr, ℕ, suc, ◌+◌, ◌<◌, ◌≤◌, Bool, List, [], ◌∷◌, ◌++◌, length, refl, sym, ◌∙◌, ap, subst, arith, length-append}
 use Rattle.std.proofs.lemmas.Bool.{cases_lt}
-use Rattle.rv_decode.specs.Table.{OneInstruction}
+use Rattle.rv32im.specs.Table.{OneInstruction}
 use Rattle.board_config.specs.declared.board.Range.{Range}
 use Rattle.flat_machine.specs.Mapping.{in_range}
 use Rattle.flat_machine.specs.State.{State}
@@ -15,7 +15,7 @@ use Rattle.address_trace.specs.declared.seeking.Came.{Came}
 use Rattle.address_trace.specs.declared.seeking.LastStep.{LastStep}
 use Rattle.address_trace.specs.declared.seeking.Next.{Next}
 use Rattle.address_trace.specs.Comings.{StopsNever}
-use Rattle.address_trace.specs.Seeking.{IsThere, patched_behind, Finds, Comes, StopsAfter, StopsNotBelow, StartsWithin, CameBy}
+use Rattle.address_trace.specs.Seeking.{IsThere, patched_behind, Finds, Comes, StopsAfter, StopsNotBelow, CameBy}
 
 -- ---- the patch range
 
@@ -96,13 +96,6 @@ module _ (one : OneInstruction) (patch : Range) (next : Next) (before : Bool) (s
 
   pub sought_nowhere : (k : ℕ) (t : State) (last : LastStep) → SeekSoFar patch next before s k t last → StopsNotBelow (Finds patch next before) k s
   sought_nowhere k t last r es m below does found = r.none es m below does found
-
--- ---- from a start
-
--- it is somewhere where it is said to be
-pub is_somewhere : (Stops : List FlatEvent → State → Type 0) (most : ℕ) (s : State) → StartsWithin Stops most s → StopsNotBelow Stops (most + 1) s → ⊥
-is_somewhere Stops most s starts nowhere =
-    let few = starts.few in nowhere starts.events starts.last (omega (arith, few)) starts.first.does starts.first.stops
 
 -- ---- behind one step and more
 

@@ -6,9 +6,9 @@ use Rattle.object_graph.specs.declared.parts.Graph.{Graph}
 use Rattle.code_blocks.specs.declared.parts.Code.{Code}
 use Rattle.region_former.specs.declared.table.RegionTable.{RegionTable}
 use Rattle.cell_values.specs.Stands.{Places}
-use Rattle.result_setups.specs.HomeLaws.{source_start, file_start}
-use Rattle.result_setups.specs.ResultLaws.{most_steps}
-use Rattle.result_placements.specs.ChosenPlacement.{places_in}
+use Rattle.result_laws.specs.HomeLaws.{source_start, file_start}
+use Rattle.result_laws.specs.ResultLaws.{most_steps}
+use Rattle.result_laws.specs.ChosenPlacement.{places_in}
 use Rattle.relink_core.specs.Placed.{Taken}
 use Rattle.relink_core.specs.UnitMaps.{MakesWithUnits, hands_on, moves}
 use Rattle.relink_core.specs.declared.unit_forms.UnitAt.{UnitAt}

@@ -1,7 +1,7 @@
 -- What is told of a step.
 use Rattle.std.proofs.Common.{◌≡◌, ℕ, List, [], ◌∷◌, Option, Some, None, refl, sym, ◌∙◌, ap, subst}
 use Rattle.std.specs.Prelude.{MatchOption}
-use Rattle.rv_decode.specs.declared.instructions.Instr.{Instr}
+use Rattle.rv32im.specs.declared.instructions.Instr.{Instr}
 use Rattle.board_config.specs.declared.board.Range.{Range}
 use Rattle.flat_machine.specs.State.{State}
 use Rattle.flat_machine.specs.declared.events.FlatAccess.{FlatAccess}
@@ -11,7 +11,7 @@ use Rattle.object_machine.specs.declared.events.Event.{Event}
 use Rattle.object_machine.specs.declared.events.Outcome.{Outcome}
 use Rattle.object_machine.specs.State.{SourceState}
 use Rattle.object_machine.specs.Step.{next_state, access_of, Performs}
-use Rattle.result_setups.specs.ResultLaws.{most_steps}
+use Rattle.result_laws.specs.ResultLaws.{most_steps}
 use Rattle.address_trace.specs.declared.forms.Sought.{Sought}
 use Rattle.address_trace.specs.declared.marks.TracedStep.{TracedStep}
 use Rattle.address_trace.specs.declared.seeking.Came.{Came}

@@ -2,8 +2,8 @@
 use Rattle.std.proofs.Common.{◌≡◌, ◌∙◌, ◌⊎◌, inl, inr, ℕ, true, List, length, Option, refl, sym, ap, subst}
 use Rattle.std.specs.Prelude.{Contains}
 use Rattle.std.proofs.lemmas.List.{length-map}
-use Rattle.rv_decode.specs.declared.instructions.Instr.{Instr}
-use Rattle.rv_decode.proofs.Meaning.{same_instruction}
+use Rattle.rv32im.specs.declared.instructions.Instr.{Instr}
+use Rattle.rv32im.proofs.Meaning.{same_instruction}
 use Rattle.board_config.specs.declared.board.Board.{Board}
 use Rattle.flat_machine.specs.Runs.{Does}
 use Rattle.flat_machine.specs.Runs as flat
@@ -22,30 +22,30 @@ use Rattle.object_machine.specs.Program.{Program}
 use Rattle.object_machine.specs.State.{SourceState}
 use Rattle.object_machine.specs.Step.{Reads, next_state}
 use Rattle.object_machine.specs.Paired.{at_start, origins_after, is_paired_step}
-use Rattle.overlay_stubs.specs.Serving.{ServingStub}
-use Rattle.overlay_stubs.specs.Overlay.{OverlayPlan}
-use Rattle.overlay_stubs.specs.Served.{body_at}
+use Rattle.patch_code.specs.Serving.{ServingStub}
+use Rattle.patch_code.specs.Overlay.{OverlayPlan}
+use Rattle.patch_code.specs.Served.{body_at}
 use Rattle.simulation.specs.Setups.{Setup}
 use Rattle.simulation.specs.Relation.{After, Tells, LeadsTold}
 use Rattle.simulation.proofs.AnyForms.{form_leads}
 use Rattle.simulation.proofs.OneUnit.{Before}
 use Rattle.simulation.proofs.Resets.{all_made}
 use Rattle.simulation.proofs.Unnamed.{paired}
-use Rattle.result_setups.specs.HomeLaws.{program_in, unnamed_in}
-use Rattle.result_setups.specs.LiveUnits.{StandsThere, live_at}
-use Rattle.result_setups.proofs.CodeUnits.{units_stand}
-use Rattle.result_setups.proofs.LiveUnits.{liveness_keeps}
-use Rattle.held_addresses.specs.Entries.{RunsIn}
-use Rattle.result_placements.specs.ChosenPlacement.{ChosenPlacement}
-use Rattle.result_placements.specs.PlacedView.{IsUncopied, Serves}
-use Rattle.placed_results.specs.Laws.{IsPlacedResult, setup_of}
-use Rattle.placed_results.specs.PlacedForms.{StandsAs, AtHome, InCopy, InStub, MayRun}
-use Rattle.placed_results.specs.Walks.{address_in, unit_fetched, UnitRuns}
-use Rattle.placed_results.proofs.Apart.{jump_in_patch}
-use Rattle.placed_results.proofs.Chosen.{sound}
-use Rattle.placed_results.proofs.Fetches.{FormOver}
-use Rattle.placed_results.proofs.StubForms as stubs
-use Rattle.placed_results.proofs.UnitEvents as events
+use Rattle.result_laws.specs.HomeLaws.{program_in, unnamed_in}
+use Rattle.result_laws.specs.LiveUnits.{StandsThere, live_at}
+use Rattle.result_laws.proofs.CodeUnits.{units_stand}
+use Rattle.result_laws.proofs.LiveUnits.{liveness_keeps}
+use Rattle.result_laws.specs.Entries.{RunsIn}
+use Rattle.result_laws.specs.ChosenPlacement.{ChosenPlacement}
+use Rattle.result_laws.specs.PlacedView.{IsUncopied, Serves}
+use Rattle.result_laws.specs.PlacedLaws.{IsPlacedResult, setup_of}
+use Rattle.result_laws.specs.PlacedForms.{StandsAs, AtHome, InCopy, InStub, MayRun}
+use Rattle.result_laws.specs.Walks.{address_in, unit_fetched, UnitRuns}
+use Rattle.result_laws.proofs.Apart.{jump_in_patch}
+use Rattle.result_laws.proofs.PlacedChosen.{sound}
+use Rattle.result_laws.proofs.Fetches.{FormOver}
+use Rattle.result_laws.proofs.StubForms as stubs
+use Rattle.result_laws.proofs.UnitEvents as events
 
 -- what is told of a unit behind which the program goes on
 going_told : (o : Outcome) (tells : List FlatEvent → Type 0) (es : List FlatEvent) → o ≡ GoesOn → Tells o tells es → tells es

@@ -1,13 +1,13 @@
 -- The access of a unit is told at the place of its object.
 use Rattle.std.proofs.Common.{◌≡◌, ◌∙◌, ℕ, ◌+◌, Bool, true, false, if◌then◌else◌, List, [], ◌∷◌, ◌++◌, length, slice_index_or, Option, Some, None, refl, sym, ap, arith, append-nil, ℤ}
-use Rattle.rv_decode.specs.Acts.{load_width, store_width}
-use Rattle.rv_decode.specs.declared.instructions.Instr.{Instr}
-use Rattle.rv_decode.specs.declared.instructions.Instr.TheVariants.{Load, Store}
+use Rattle.rv32im.specs.Acts.{load_width, store_width}
+use Rattle.rv32im.specs.declared.instructions.Instr.{Instr}
+use Rattle.rv32im.specs.declared.instructions.Instr.TheVariants.{Load, Store}
 use Rattle.flat_machine.specs.declared.events.FlatAccess.{FlatAccess}
 use Rattle.flat_machine.specs.declared.events.FlatEvent.{FlatEvent}
 use Rattle.cell_values.specs.Stands.{Places}
-use Rattle.copy_jobs.specs.Told.{accesses}
-use Rattle.copy_jobs.specs.Told.{access_in as flat_access_in}
+use Rattle.patch_code.specs.Told.{accesses}
+use Rattle.patch_code.specs.Told.{access_in as flat_access_in}
 use Rattle.object_machine.specs.declared.events.Access.{Access}
 use Rattle.object_machine.specs.declared.events.Outcome.{Outcome}
 use Rattle.object_machine.specs.declared.events.Outcome.TheVariants.{GoesOn, Exited, Trapped, AddressFault}
@@ -18,8 +18,8 @@ use Rattle.object_machine.specs.Program.{Program, Target}
 use Rattle.object_machine.specs.State.{SourceState, value}
 use Rattle.simulation.specs.Unnamed.{unnamed}
 use Rattle.object_machine.specs.Step.{access_in, access_by, access_of, load_place, store_place}
-use Rattle.placed_results.specs.Walks.{accesses_at, word_accesses, unit_accesses}
-use Rattle.placed_results.proofs.UnitEvents.{accesses_first}
+use Rattle.result_laws.specs.Walks.{accesses_at, word_accesses, unit_accesses}
+use Rattle.result_laws.proofs.UnitEvents.{accesses_first}
 use Rattle.address_trace.specs.Comings.{first_access}
 use Rattle.address_trace.specs.Laws.{IsAtPlace}
 use Rattle.address_trace.specs.Tracing.{told_access, CanTell}

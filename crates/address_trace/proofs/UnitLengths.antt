@@ -2,10 +2,10 @@
 use Rattle.std.proofs.Common.{◌≡◌, ◌∙◌, ◌⊎◌, inl, inr, ℕ, ◌+◌, ◌≤◌, Bool, true, false, not, ◌&&◌, if◌then◌else◌, List, [], ◌∷◌, length, Option, Some, refl, sym, ap, subst, arith, ℤ}
 use Rattle.std.proofs.lemmas.Bool.{both_ways}
 use Rattle.std.proofs.lemmas.List.{length-map}
-use Rattle.rv_decode.specs.Acts.{Registers}
-use Rattle.rv_decode.specs.Table.{Means}
-use Rattle.rv_decode.specs.declared.instructions.Instr.{Instr}
-use Rattle.rv_decode.specs.declared.instructions.Instr.TheVariants as instr
+use Rattle.rv32im.specs.Acts.{Registers}
+use Rattle.rv32im.specs.Table.{Means}
+use Rattle.rv32im.specs.declared.instructions.Instr.{Instr}
+use Rattle.rv32im.specs.declared.instructions.Instr.TheVariants as instr
 use Rattle.elf_reader.specs.File.{PlainView, view_in}
 use Rattle.board_config.specs.declared.board.Board.{Board}
 use Rattle.loaded_file.specs.Code.{image_word}
@@ -15,30 +15,30 @@ use Rattle.object_graph.specs.declared.parts.Graph.{Graph}
 use Rattle.object_machine.specs.Program.{Program}
 use Rattle.object_machine.specs.State.{SourceState}
 use Rattle.object_machine.specs.Step.{Reads}
-use Rattle.code_leaders.specs.Leaders.{is_call_pair}
+use Rattle.code_blocks.specs.Leaders.{is_call_pair}
 use Rattle.code_blocks.specs.declared.parts.Unit.{Unit}
 use Rattle.code_blocks.specs.declared.parts.Code.{Code}
 use Rattle.block_splitter.specs.declared.unit_kind.UnitKind.{UnitKind}
 use Rattle.block_splitter.specs.declared.unit_kind.UnitKind.TheVariants.{Plain, Upper, Branch, Jump, Call, Tail, Indirect, Linking, Halt}
 use Rattle.block_splitter.specs.Forms.{body_at, is_site, kind_of}
 use Rattle.block_splitter.specs.Copies.{is_inside, kind_in, place_of, address_of}
-use Rattle.copied_code.specs.Copied.{unit_words}
-use Rattle.copied_code.specs.Kinds.{takes}
-use Rattle.copied_code.specs.Laws.{unit_at}
-use Rattle.copied_code.proofs.CopiedUnits.{held_below}
-use Rattle.copied_code.proofs.Counts.{runs_count}
-use Rattle.copied_code.proofs.FirstUnits.{Halts}
-use Rattle.copied_code.proofs.KindFacts.{CallsBack, IsKindBy, FallsLast, kinds_so}
-use Rattle.overlay_stubs.specs.Overlay.{OverlayPlan}
-use Rattle.overlay_stubs.specs.Served.{body_at as stub_body}
-use Rattle.result_setups.specs.HomeLaws.{unnamed_in}
-use Rattle.result_placements.specs.ChosenPlacement.{ChosenPlacement, piece_of, copy_in}
-use Rattle.placed_results.specs.Laws.{IsPlacedResult}
-use Rattle.placed_results.specs.PlacedForms.{StandsAs, AtHome, InCopy, InStub}
-use Rattle.placed_results.specs.Walks.{address_in, own_fetched, unit_fetched, UnitRuns}
-use Rattle.placed_results.proofs.CopyWays as ways
-use Rattle.placed_results.proofs.StubWords as stubs
-use Rattle.placed_results.proofs.UnitEvents.{one_reading}
+use Rattle.result_laws.specs.Copied.{unit_words}
+use Rattle.result_laws.specs.Kinds.{takes}
+use Rattle.result_laws.specs.CopyLaws.{unit_at}
+use Rattle.result_laws.proofs.CopiedUnits.{held_below}
+use Rattle.result_laws.proofs.Counts.{runs_count}
+use Rattle.result_laws.proofs.FirstUnits.{Halts}
+use Rattle.result_laws.proofs.KindFacts.{CallsBack, IsKindBy, FallsLast, kinds_so}
+use Rattle.patch_code.specs.Overlay.{OverlayPlan}
+use Rattle.patch_code.specs.Served.{body_at as stub_body}
+use Rattle.result_laws.specs.HomeLaws.{unnamed_in}
+use Rattle.result_laws.specs.ChosenPlacement.{ChosenPlacement, piece_of, copy_in}
+use Rattle.result_laws.specs.PlacedLaws.{IsPlacedResult}
+use Rattle.result_laws.specs.PlacedForms.{StandsAs, AtHome, InCopy, InStub}
+use Rattle.result_laws.specs.Walks.{address_in, own_fetched, unit_fetched, UnitRuns}
+use Rattle.result_laws.proofs.CopyWays as ways
+use Rattle.result_laws.proofs.StubWords as stubs
+use Rattle.result_laws.proofs.UnitEvents.{one_reading}
 use Rattle.address_trace.proofs.EndingSteps.{IsAlone}
 
 -- ---- few words

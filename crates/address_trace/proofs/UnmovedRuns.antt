@@ -5,7 +5,7 @@ use Rattle.elf_reader.specs.Loadable.{AreBytes}
 use Rattle.board_config.specs.declared.board.Board.{Board}
 use Rattle.flat_machine.specs.State.{State}
 use Rattle.object_graph.specs.declared.parts.Graph.{Graph}
-use Rattle.code_leaders.specs.Leaders.{is_call_pair}
+use Rattle.code_blocks.specs.Leaders.{is_call_pair}
 use Rattle.code_blocks.specs.Blocks.{IsCode}
 use Rattle.code_blocks.specs.declared.parts.Code.{Code}
 use Rattle.code_blocks.proofs.EntryLemmas.{entry_leads}
@@ -16,11 +16,11 @@ use Rattle.object_machine.specs.State.{SourceState}
 use Rattle.object_machine.specs.Step.{next_state}
 use Rattle.object_machine.specs.Paired.{Origins, at_start, PairedFrom, PairedSteps}
 use Rattle.simulation.proofs.AtHome.{made_at_start}
-use Rattle.result_setups.specs.HomeLaws.{IsAccepted, program_in, source_start, file_start}
-use Rattle.result_setups.specs.LiveUnits.{StandsThere}
-use Rattle.result_setups.proofs.HomeStart.{alike_at_start, entry_unit}
-use Rattle.result_setups.proofs.CodeUnits.{first, block_of}
-use Rattle.placed_results.specs.Walks.{IsNoFault}
+use Rattle.result_laws.specs.HomeLaws.{IsAccepted, program_in, source_start, file_start}
+use Rattle.result_laws.specs.LiveUnits.{StandsThere}
+use Rattle.result_laws.proofs.HomeStart.{alike_at_start, entry_unit}
+use Rattle.result_laws.proofs.CodeUnits.{first, block_of}
+use Rattle.result_laws.specs.Walks.{IsNoFault}
 use Rattle.relink_core.specs.declared.unit_forms.UnitAt.{UnitAt}
 use Rattle.region_former.specs.declared.table.RegionTable.{RegionTable}
 use Rattle.relocator.specs.declared.items.Item.{Item}

@@ -1,15 +1,15 @@
 -- Where nothing is moved, a file is traced beside each paired run of its program: a step.
 use Rattle.std.proofs.Common.{◌≡◌, ◌∙◌, inl, ℕ, suc, ◌+◌, ◌<◌, ◌≤◌, Bool, true, false, if◌then◌else◌, List, [], ◌∷◌, ◌++◌, length, map, slice_index_or, Option, refl, sym, ap, subst, arith, append-nil}
 use Rattle.std.proofs.lemmas.List.{length-map, length-append}
-use Rattle.rv_decode.specs.declared.instructions.Instr.{Instr}
-use Rattle.rv_decode.proofs.Meaning.{same_instruction}
+use Rattle.rv32im.specs.declared.instructions.Instr.{Instr}
+use Rattle.rv32im.proofs.Meaning.{same_instruction}
 use Rattle.elf_reader.specs.File.{view_in}
 use Rattle.board_config.specs.declared.board.Board.{Board}
 use Rattle.flat_machine.specs.State.{State}
 use Rattle.flat_machine.specs.Runs.{Does}
 use Rattle.flat_machine.specs.declared.events.FlatEvent.{FlatEvent}
 use Rattle.object_graph.specs.declared.parts.Graph.{Graph}
-use Rattle.code_leaders.specs.Leaders.{is_call_pair}
+use Rattle.code_blocks.specs.Leaders.{is_call_pair}
 use Rattle.code_blocks.specs.Blocks.{IsCode}
 use Rattle.code_blocks.specs.Numbers.{starts_of}
 use Rattle.code_blocks.specs.declared.parts.Code.{Code}
@@ -30,15 +30,15 @@ use Rattle.simulation.proofs.AnyForms.{form_leads, home_words}
 use Rattle.simulation.proofs.MadeSteps.{next_made}
 use Rattle.simulation.proofs.OneUnit.{Before}
 use Rattle.simulation.proofs.Unnamed.{next_same}
-use Rattle.result_setups.specs.HomeLaws.{IsAccepted, program_in, unnamed_in, setup_in}
-use Rattle.result_setups.specs.LiveUnits.{StandsThere, ComesNext}
-use Rattle.result_setups.specs.ResultLaws.{most_steps}
-use Rattle.result_setups.proofs.HomeSound.{sound_home}
-use Rattle.result_setups.proofs.HomeUnits.{units_are_home}
-use Rattle.result_setups.proofs.LiveUnits.{steps_lead_on}
-use Rattle.placed_results.specs.Walks.{address_in, IsNoFault}
-use Rattle.placed_results.proofs.Fetches.{WordsFetch}
-use Rattle.placed_results.proofs.UnitEvents as events
+use Rattle.result_laws.specs.HomeLaws.{IsAccepted, program_in, unnamed_in, setup_in}
+use Rattle.result_laws.specs.LiveUnits.{StandsThere, ComesNext}
+use Rattle.result_laws.specs.ResultLaws.{most_steps}
+use Rattle.result_laws.proofs.HomeSound.{sound_home}
+use Rattle.result_laws.proofs.HomeUnits.{units_are_home}
+use Rattle.result_laws.proofs.LiveUnits.{steps_lead_on}
+use Rattle.result_laws.specs.Walks.{address_in, IsNoFault}
+use Rattle.result_laws.proofs.Fetches.{WordsFetch}
+use Rattle.result_laws.proofs.UnitEvents as events
 use Rattle.relink_core.specs.declared.unit_forms.UnitAt.{UnitAt}
 use Rattle.relink_core.specs.UnitMaps.{IsAtHome, AreUnitsAt}
 use Rattle.address_trace.specs.declared.marks.TracedStep.{TracedStep}

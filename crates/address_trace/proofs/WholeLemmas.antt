@@ -1,7 +1,7 @@
 -- A trace that isn't lost, step by step: what is left to show of each step of a run.
 use Rattle.std.proofs.Common.{◌≡◌, ℕ, zero, suc, false, List, [], ◌∷◌, Option, refl, sym, subst}
 use Rattle.std.proofs.lemmas.List.Elements.{All-nil, All-cons}
-use Rattle.rv_decode.specs.declared.instructions.Instr.{Instr}
+use Rattle.rv32im.specs.declared.instructions.Instr.{Instr}
 use Rattle.flat_machine.specs.State.{State}
 use Rattle.cell_values.specs.Stands.{Places}
 use Rattle.object_machine.specs.declared.events.Outcome.{Outcome}

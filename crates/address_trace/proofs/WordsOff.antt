@@ -4,8 +4,8 @@ use Rattle.std.proofs.Common.{◌≡◌, ◌∙◌, ◌⊎◌, inl, inr, ℕ, �
 use Rattle.std.specs.Prelude.{All, Contains}
 use Rattle.std.proofs.lemmas.Bool.{both_ways}
 use Rattle.std.proofs.lemmas.List.Elements.{All-nil, All-cons, All-weaker}
-use Rattle.rv_decode.specs.Acts.{Registers}
-use Rattle.rv_decode.specs.declared.instructions.Instr.{Instr}
+use Rattle.rv32im.specs.Acts.{Registers}
+use Rattle.rv32im.specs.declared.instructions.Instr.{Instr}
 use Rattle.elf_reader.specs.File.{PlainView, view_in}
 use Rattle.board_config.specs.declared.board.Board.{Board}
 use Rattle.flat_machine.specs.Lines.{words_from}
@@ -14,30 +14,30 @@ use Rattle.flat_machine.specs.State.{State}
 use Rattle.flat_machine.specs.declared.events.FlatEvent.{FlatEvent}
 use Rattle.object_graph.specs.Sites.{in_range}
 use Rattle.object_graph.specs.declared.parts.Graph.{Graph}
-use Rattle.code_leaders.specs.Leaders.{is_call_pair}
+use Rattle.code_blocks.specs.Leaders.{is_call_pair}
 use Rattle.code_blocks.specs.Numbers.{start_at, end_at}
 use Rattle.code_blocks.specs.declared.parts.Code.{Code}
 use Rattle.block_splitter.specs.Forms.{holds_block, is_site, kind_of, body_at as body_of}
 use Rattle.block_splitter.specs.Copies.{Copy, is_inside, kind_in, place_of, address_of}
-use Rattle.copied_code.specs.Copied.{unit_words}
-use Rattle.copied_code.specs.Kinds.{takes}
-use Rattle.copied_code.specs.Laws.{falls_to, place_behind}
-use Rattle.copy_jobs.specs.Told.{IsFrom}
+use Rattle.result_laws.specs.Copied.{unit_words}
+use Rattle.result_laws.specs.Kinds.{takes}
+use Rattle.result_laws.specs.CopyLaws.{falls_to, place_behind}
+use Rattle.patch_code.specs.Told.{IsFrom}
 use Rattle.object_machine.specs.Program.{Program}
 use Rattle.object_machine.specs.State.{SourceState}
 use Rattle.object_machine.specs.Step.{Reads, next_state}
-use Rattle.overlay_stubs.specs.Start.{start_at as stub_start, start_bytes}
-use Rattle.overlay_stubs.specs.Overlay.{OverlayPlan}
-use Rattle.overlay_stubs.specs.Served.{body_at}
-use Rattle.result_setups.specs.HomeLaws.{unnamed_in, source_start}
-use Rattle.result_setups.specs.LiveUnits.{StandsThere}
-use Rattle.result_setups.proofs.CodeUnits.{first, units_stand}
-use Rattle.result_setups.proofs.Loaded.{refuted}
-use Rattle.held_addresses.specs.Entries.{RunsIn}
-use Rattle.result_placements.specs.ChosenPlacement.{ChosenPlacement, piece_of, copy_in}
-use Rattle.placed_results.specs.Laws.{IsPlacedResult}
-use Rattle.placed_results.specs.PlacedForms.{StandsAs, AtHome, InCopy, InStub, MayRun, ArrivesAt, AtForm, AtItsHome, BehindCopy, BehindStub}
-use Rattle.placed_results.specs.Walks.{address_in, unit_fetched, UnitRuns, leaving_fetched, Enters, BlockEntered, ArrivalRuns}
+use Rattle.patch_code.specs.Start.{start_at as stub_start, start_bytes}
+use Rattle.patch_code.specs.Overlay.{OverlayPlan}
+use Rattle.patch_code.specs.Served.{body_at}
+use Rattle.result_laws.specs.HomeLaws.{unnamed_in, source_start}
+use Rattle.result_laws.specs.LiveUnits.{StandsThere}
+use Rattle.result_laws.proofs.CodeUnits.{first, units_stand}
+use Rattle.result_laws.proofs.Loaded.{refuted}
+use Rattle.result_laws.specs.Entries.{RunsIn}
+use Rattle.result_laws.specs.ChosenPlacement.{ChosenPlacement, piece_of, copy_in}
+use Rattle.result_laws.specs.PlacedLaws.{IsPlacedResult}
+use Rattle.result_laws.specs.PlacedForms.{StandsAs, AtHome, InCopy, InStub, MayRun, ArrivesAt, AtForm, AtItsHome, BehindCopy, BehindStub}
+use Rattle.result_laws.specs.Walks.{address_in, unit_fetched, UnitRuns, leaving_fetched, Enters, BlockEntered, ArrivalRuns}
 use Rattle.relink_core.specs.UnitMaps.{IsUnitAt, AreUnitsAt}
 use Rattle.relink_core.specs.declared.unit_forms.UnitAt.{UnitAt}
 use Rattle.address_trace.proofs.CopyForms.{copy_free, fall_free}

@@ -6,7 +6,7 @@ use Rattle.flat_machine.specs.State.{State}
 use Rattle.flat_machine.specs.Runs.{Does}
 use Rattle.flat_machine.specs.declared.events.FlatAccess.{FlatAccess}
 use Rattle.flat_machine.specs.declared.events.FlatEvent.{FlatEvent}
-use Rattle.code_leaders.specs.Early.{has}
+use Rattle.code_blocks.specs.Early.{has}
 use Rattle.profile_runner.specs.Standing.{number_of, region_of, entered}
 use Rattle.relink_core.specs.declared.unit_forms.UnitAt.{UnitAt}
 

@@ -15,10 +15,10 @@ use Rattle.object_machine.specs.Paired.{at_start, PairedSteps}
 use Rattle.region_former.specs.declared.table.RegionTable.{RegionTable}
 use Rattle.profile_runner.specs.Transition.{Transition}
 use Rattle.profile_runner.specs.Transitions.{Transitions}
-use Rattle.result_setups.specs.HomeLaws.{IsAccepted, program_in, source_start, file_start}
-use Rattle.result_setups.specs.ResultLaws.{most_steps}
-use Rattle.placed_results.specs.Walks.{IsNoFault}
-use Rattle.result_placements.specs.ChosenPlacement.{places_in}
+use Rattle.result_laws.specs.HomeLaws.{IsAccepted, program_in, source_start, file_start}
+use Rattle.result_laws.specs.ResultLaws.{most_steps}
+use Rattle.result_laws.specs.Walks.{IsNoFault}
+use Rattle.result_laws.specs.ChosenPlacement.{places_in}
 use Rattle.relink_core.specs.Placed.{Taken}
 use Rattle.relink_core.specs.Regions.{AreRegions}
 use Rattle.relink_core.specs.UnitMaps.{MovesWithUnits, MakesWithUnits, hands_on, moves}

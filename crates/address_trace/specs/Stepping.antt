@@ -2,7 +2,7 @@
 use Rattle.std.specs.Prelude.{◌≡◌, ℕ, length, Option, MatchOption}
 use Rattle.std.specs.List.{AllPairs}
 use Rattle.std.specs.List.Sorted.{IsStrictlyIncreasing}
-use Rattle.rv_decode.specs.declared.instructions.Instr.{Instr}
+use Rattle.rv32im.specs.declared.instructions.Instr.{Instr}
 use Rattle.flat_machine.specs.State.{State}
 use Rattle.code_blocks.specs.Numbers.{starts_of}
 use Rattle.object_machine.specs.declared.events.Event.{Event}

@@ -2,7 +2,7 @@
 use Rattle.std.specs.Prelude.{◌≡◌, ℕ, suc, ◌<◌, ◌≤◌, Bool, true, false, List, [], ◌∷◌, length, Option, Some, None}
 use Rattle.elf_reader.specs.File.{PlainView}
 use Rattle.board_config.specs.declared.board.Board.{Board}
-use Rattle.rv_decode.specs.declared.instructions.Instr.{Instr}
+use Rattle.rv32im.specs.declared.instructions.Instr.{Instr}
 use Rattle.flat_machine.specs.State.{State}
 use Rattle.flat_machine.specs.Step as flat_step
 use Rattle.flat_machine.specs.Runs as flat_runs
@@ -19,7 +19,7 @@ use Rattle.object_machine.specs.Program.{Program, program_of}
 use Rattle.object_machine.specs.State.{SourceState}
 use Rattle.object_machine.specs.Step.{Reads, next_state, access_of}
 use Rattle.object_machine.specs.Runs.{HasEnded}
-use Rattle.result_setups.specs.ResultLaws.{most_steps}
+use Rattle.result_laws.specs.ResultLaws.{most_steps}
 use Rattle.relink_core.specs.declared.unit_forms.UnitAt.{UnitAt}
 use Rattle.address_trace.specs.Comings.{StopsFirst, StopsNever, first_access, IsAtForm, region_behind}
 use Rattle.address_trace.specs.declared.marks.TracedAccess.{TracedAccess}

@@ -5,14 +5,14 @@ ghost use Rattle.address_trace.specs.Laws.{OneTrace, TracesAreWhole, TracedSteps
 pub fn one_trace()
     ensures { OneTrace }
 {
-    rv_decode::one_instruction();
+    rv32im::one_instruction();
 }
 
 /// A trace that isn't lost has a step for each of the program's, and any other has fewer.
 pub fn traces_are_whole()
     ensures { TracesAreWhole }
 {
-    rv_decode::one_instruction();
+    rv32im::one_instruction();
 }
 
 /// Each traced step takes few in the flat machine.

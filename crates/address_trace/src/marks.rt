@@ -1,7 +1,7 @@
 //! What is told of a step.
 
 /// An access of an object.
-#[derive(Clone, Copy, Debug, PartialEq, Eq)]
+#[derive(Clone, Copy)]
 pub struct TracedAccess {
     /// The number of the object.
     pub object: u32,
@@ -14,7 +14,7 @@ pub struct TracedAccess {
 }
 
 /// A step of a program beside its result.
-#[derive(Clone, Copy, Debug, PartialEq, Eq)]
+#[derive(Clone, Copy)]
 pub struct TracedStep {
     /// The address of its unit in the program.
     pub home: u32,

@@ -10,7 +10,7 @@ use crate::forms::{Sought, is_at_form};
 use board_config::Range;
 use flat_machine::{Flat, FlatAccess, FlatEvent, FlatOutcome};
 use paged_store::ByteStore;
-use rv_decode::one_instruction;
+use rv32im::one_instruction;
 use std::alloc::AllocError;
 
 /// Where control of a result is looked for.

@@ -5,7 +5,7 @@ ghost use Rattle.code_blocks.specs.Numbers.{starts_of};
 ghost use Rattle.object_machine.specs.Program.{Program};
 ghost use Rattle.object_machine.specs.Machine.{state_of, IsProgram};
 ghost use Rattle.profile_runner.specs.Standing.{entered};
-ghost use Rattle.result_setups.specs.ResultLaws as result_laws;
+ghost use Rattle.result_laws.specs.ResultLaws as result_laws;
 ghost use Rattle.address_trace.specs.Comings.{region_behind};
 ghost use Rattle.address_trace.specs.Tracing.{told_access, CanTell};
 ghost use Rattle.address_trace.specs.Seeking.{next_by};

@@ -1,9 +1,9 @@
 -- Words that are added to a list, a word or a piece at a time.
 use Rattle.std.proofs.Common.{◌≡◌, ◌∙◌, ℕ, ◌+◌, ◌<◌, List, [], ◌∷◌, ◌++◌, length, take, get_or, sym, ap, subst, append_assoc, append-nil, add-one}
-use Rattle.rv_decode.specs.declared.instructions.Instr.{Instr}
-use Rattle.rv_decode.specs.Table.{Means}
-use Rattle.rv_decode.specs.Sequences.{jump_absolute, MeanAll}
-use Rattle.rv_decode.proofs.SequenceLemmas.{mean_more}
+use Rattle.rv32im.specs.declared.instructions.Instr.{Instr}
+use Rattle.rv32im.specs.Table.{Means}
+use Rattle.rv32im.specs.Sequences.{jump_absolute, MeanAll}
+use Rattle.rv32im.proofs.SequenceLemmas.{mean_more}
 use Rattle.code_blocks.specs.declared.parts.Code.{Code}
 use Rattle.block_splitter.specs.Pieces.{IsTemporary}
 use Rattle.block_splitter.specs.Copies.{JumpsOut}

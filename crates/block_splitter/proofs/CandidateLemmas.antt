@@ -76,28 +76,6 @@ some_is x y same = cc
 no_some : (x : ℕ) → None ≡ Some x → ⊥
 no_some x same = cc
 
-pub singles : (c : Code) (b f : ℕ) → b < block_count c → owner_at c b ≡ Some f → IsOnly (StartsSingle c b) (Some b)
-singles c b f below owner k = (
-  (λ starts. ap Some (sym (starts.1.single))),
-  λ same.
-      let here : b ≡ k = some_is b k same in (
-        f,
-        record {
-          is_range = record { ordered = omega (arith, here); below = below };
-          single = sym here;
-          inside = subst (λ (j : ℕ). is_of c f j ≡ true) here (is_owner c f b owner);
-        },
-      ),
-)
-
-pub no_single : (c : Code) (b : ℕ) → owner_at c b ≡ None → IsOnly (StartsSingle c b) None
-no_single c b owner k = (
-  (λ starts.
-      let mine = subst (λ (j : ℕ). is_of c starts.0 j ≡ true) starts.1.single starts.1.inside in
-      absurd (no_some starts.0 (sym owner ∙ owner_is c starts.0 b mine))),
-  λ same. absurd (no_some k same),
-)
-
 one_of : (x a : ℕ) → Contains (x ∷ []) a → x ≡ a
 one_of x a (zero, below, here) = here
 one_of x a (suc k, below, here) = absurd (omega (arith, below))

@@ -7,7 +7,7 @@ use Rattle.std.proofs.lemmas.Bool.{cond_both}
 use Rattle.std.proofs.lemmas.Bool.Decides.{nat_tests}
 use Rattle.list_checks.proofs.SumLemmas.{sum_zero, sum_rises, sum_stays}
 use Rattle.list_checks.specs.Sorted.{collected}
-use Rattle.rv_decode.proofs.SequenceLemmas.{mean_count}
+use Rattle.rv32im.proofs.SequenceLemmas.{mean_count}
 use Rattle.code_blocks.specs.declared.parts.Unit.{Unit}
 use Rattle.code_blocks.specs.declared.parts.Code.{Code}
 use Rattle.code_blocks.specs.declared.ends.End.{End}

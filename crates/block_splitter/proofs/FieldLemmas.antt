@@ -6,19 +6,19 @@ use Rattle.std.proofs.lemmas.List.{length-map, get_or_default}
 use Rattle.list_checks.specs.First.{◌or_else◌, unless, first_below}
 use Rattle.list_checks.specs.Tests.{any_below, lies_in}
 use Rattle.list_checks.proofs.TestLemmas.{both, either}
-use Rattle.rv_decode.specs.Table.{Means, MeansNothing}
-use Rattle.rv_decode.specs.declared.instructions.Instr.{Instr}
-use Rattle.rv_decode.specs.declared.instructions.Instr.TheVariants as instr
-use Rattle.rv_decode.proofs.Meaning.{in_range}
+use Rattle.rv32im.specs.Table.{Means, MeansNothing}
+use Rattle.rv32im.specs.declared.instructions.Instr.{Instr}
+use Rattle.rv32im.specs.declared.instructions.Instr.TheVariants as instr
+use Rattle.rv32im.proofs.Meaning.{in_range}
 use Rattle.elf_reader.specs.File.{PlainView}
 use Rattle.elf_reader.specs.Loaded.{section_at}
 use Rattle.loaded_file.specs.Code.{is_code_range, holds_code, is_code_word, image_word}
 use Rattle.loaded_file.proofs.WordLemmas.{lies_to}
-use Rattle.code_leaders.specs.Early.{has}
-use Rattle.code_leaders.specs.Leaders.{is_early, is_leader}
-use Rattle.code_leaders.specs.Words.{links, is_branch, is_jal, is_jalr}
-use Rattle.code_leaders.specs.Meanings.{is_ebreak, has_meaning}
-use Rattle.code_leaders.specs.Leaders.{is_call_pair}
+use Rattle.code_blocks.specs.Early.{has}
+use Rattle.code_blocks.specs.Leaders.{is_early, is_leader}
+use Rattle.code_blocks.specs.Words.{links, is_branch, is_jal, is_jalr}
+use Rattle.code_blocks.specs.Meanings.{is_ebreak, has_meaning}
+use Rattle.code_blocks.specs.Leaders.{is_call_pair}
 use Rattle.code_blocks.specs.Ends.{pair_end, jal_end, jalr_end, jump_end, end_or, end_from, range_at, words_left_in, words_left}
 use Rattle.code_blocks.specs.Blocks.{start_of, unit_at, unit_addresses, IsBlock, IsCode}
 use Rattle.code_blocks.specs.Numbers.{starts_of, ending_of, end_at}

@@ -3,13 +3,13 @@ use Rattle.std.proofs.Common.{◌≡◌, ◌∙◌, ℕ, zero, suc, ◌+◌, ◌
 use Rattle.std.specs.List.{All}
 use Rattle.std.proofs.lemmas.List.{get_or-map}
 use Rattle.list_checks.proofs.TestLemmas.{both, not_true}
-use Rattle.rv_decode.specs.Fields.{rd_of}
+use Rattle.rv32im.specs.Fields.{rd_of}
 use Rattle.elf_reader.specs.File.{PlainView}
 use Rattle.loaded_file.specs.Code.{image_word}
-use Rattle.code_leaders.specs.Words.{is_branch, is_jal, is_jalr, links, branch_target, jal_target, pair_target}
-use Rattle.code_leaders.specs.Meanings.{is_ebreak, has_meaning}
-use Rattle.code_leaders.specs.Leaders.{is_call_pair, is_leader}
-use Rattle.code_leaders.specs.Early.{has}
+use Rattle.code_blocks.specs.Words.{is_branch, is_jal, is_jalr, links, branch_target, jal_target, pair_target}
+use Rattle.code_blocks.specs.Meanings.{is_ebreak, has_meaning}
+use Rattle.code_blocks.specs.Leaders.{is_call_pair, is_leader}
+use Rattle.code_blocks.specs.Early.{has}
 use Rattle.code_blocks.specs.Ends.{pair_end, jal_end, jalr_end, jump_end, end_or, end_from}
 use Rattle.code_blocks.specs.Blocks.{IsBlock, IsCode}
 use Rattle.code_blocks.specs.Edges.{successors}

@@ -6,17 +6,17 @@ use Rattle.std.proofs.lemmas.Bool.Decides.{nat_tests}
 use Rattle.std.proofs.lemmas.List.{length-map}
 use Rattle.list_checks.specs.Sorted.{collected}
 use Rattle.list_checks.proofs.TestLemmas.{both, any_found, any_at}
-use Rattle.rv_decode.specs.declared.instructions.Instr.{Instr}
-use Rattle.rv_decode.specs.declared.instructions.Instr.TheVariants as instr
-use Rattle.code_leaders.specs.Early.{has}
-use Rattle.code_leaders.proofs.LeaderLemmas.{both_pass}
+use Rattle.rv32im.specs.declared.instructions.Instr.{Instr}
+use Rattle.rv32im.specs.declared.instructions.Instr.TheVariants as instr
+use Rattle.code_blocks.specs.Early.{has}
+use Rattle.code_blocks.proofs.LeaderLemmas.{both_pass}
 use Rattle.code_blocks.specs.Blocks.{start_of}
 use Rattle.code_blocks.specs.Numbers.{starts_of, start_at, end_at}
 use Rattle.code_blocks.specs.declared.parts.Unit.{Unit}
 use Rattle.code_blocks.specs.declared.parts.Code.{Code}
 use Rattle.code_blocks.specs.declared.ends.End.{End}
 use Rattle.code_blocks.specs.declared.ends.End.TheVariants as end
-use Rattle.liveness.proofs.EdgeLemmas.{is_start, one_start}
+use Rattle.dataflow.proofs.EdgeLemmas.{is_start, one_start}
 use Rattle.block_splitter.specs.declared.block_range.BlockRange.{BlockRange}
 use Rattle.block_splitter.specs.declared.copy_plan.CopyPlan.{CopyPlan}
 use Rattle.block_splitter.specs.Forms.{Body, is_site, body_at, unit_in, is_last, straight_kind, branch_kind, tail_kind, indirect_kind, last_kind, kind_of, holds_block, begins_in}

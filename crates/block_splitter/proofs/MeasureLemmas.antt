@@ -7,7 +7,7 @@ use Rattle.std.proofs.lemmas.List.{length-map, get_or_default}
 use Rattle.std.proofs.lemmas.List.Folds.{Any-from_list_any}
 use Rattle.list_checks.specs.Tests.{any_below}
 use Rattle.list_checks.proofs.TestLemmas.{both, same_tests, any_at, any_found}
-use Rattle.code_leaders.specs.Early.{has}
+use Rattle.code_blocks.specs.Early.{has}
 use Rattle.code_blocks.specs.Blocks.{start_of}
 use Rattle.code_blocks.specs.Edges.{successors}
 use Rattle.code_blocks.specs.Numbers.{starts_of, start_at, ending_of, end_at}

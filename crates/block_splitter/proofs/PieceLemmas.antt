@@ -119,14 +119,6 @@ pieces_more c g ranges k n range old new candidates below next is of (inr (p, sa
 
 -- ---- all of them
 
-pub pieces_none : (c : Code) (g : Graph) (ranges : List BlockRange) → ArePiecesOf c g ranges 0 []
-pieces_none c g ranges = record {
-  ordered = λ i j d lower below. absurd (omega (arith, below));
-  before = λ k d from within j e below. absurd (omega (arith, below));
-  each = λ k d below. absurd (omega (arith, below));
-  whole = λ k d lower copied. absurd (omega (arith, lower));
-}
-
 pub are_pieces : (c : Code) (g : Graph) (ranges : List BlockRange) (n : ℕ) (pieces : List Piece) → AreCandidates c ranges → length ranges ≤ n → ArePiecesOf c g ranges n pieces → ArePieces c g pieces
 are_pieces c g ranges n pieces candidates all of = record {
   ordered = of.ordered;

@@ -3,14 +3,13 @@ use Rattle.std.proofs.Common.{◌≡◌, ◌∙◌, ℕ, ◌+◌, ◌*◌, ◌%�
 use Rattle.std.specs.Prelude.{◌↔◌, All, IfOk}
 use Rattle.std.specs.Bool.{MatchBool}
 use Rattle.std.specs.Int.{cast_signed, w32}
-use Rattle.std.proofs.lemmas.List.Elements.{All-cons}
-use Rattle.word_bits.specs.Words.{minus}
-use Rattle.rv_decode.specs.declared.instructions.Instr.{Instr}
-use Rattle.rv_decode.specs.declared.instructions.Instr.TheVariants as instr
-use Rattle.rv_decode.specs.declared.instructions.BranchKind.{BranchKind}
-use Rattle.rv_decode.specs.Table.{IsInRange, IsEvenWithin}
-use Rattle.rv_decode.specs.Sequences.{distance, inverse, MeanAll}
-use Rattle.rv_decode.proofs.SequenceLemmas.{in_reach, one_in_range}
+use Rattle.rv32im.specs.Words.{minus}
+use Rattle.rv32im.specs.declared.instructions.Instr.{Instr}
+use Rattle.rv32im.specs.declared.instructions.Instr.TheVariants as instr
+use Rattle.rv32im.specs.declared.instructions.BranchKind.{BranchKind}
+use Rattle.rv32im.specs.Table.{IsInRange, IsEvenWithin}
+use Rattle.rv32im.specs.Sequences.{distance, inverse, MeanAll}
+use Rattle.rv32im.proofs.SequenceLemmas.{in_reach, one_in_range}
 use Rattle.block_splitter.specs.declared.copy_plan.CopyPlan.{CopyPlan}
 use Rattle.block_splitter.specs.declared.unit_kind.UnitKind.{UnitKind}
 use Rattle.block_splitter.specs.declared.unit_kind.UnitKind.TheVariants.{Plain, Upper, Branch, Jump, Call, Tail, Indirect, Linking, Halt}
@@ -22,14 +21,8 @@ use Rattle.block_splitter.proofs.LookupLemmas.{at_inside}
 
 -- ---- distances are modulo 2 ^ 32
 
-minus_from : (at to : ℕ) → minus to (at % 4294967296) ≡ minus to at
-minus_from at to = omega arith
-
 minus_to : (at to : ℕ) → minus (to % 4294967296) at ≡ minus to at
 minus_to at to = omega arith
-
-pub distance_from : (at to : ℕ) → distance (at % 4294967296) to ≡ distance at to
-distance_from at to = ap (λ (n : ℕ). cast_signed w32 n) (minus_from at to)
 
 pub distance_to : (at to : ℕ) → distance at (to % 4294967296) ≡ distance at to
 distance_to at to = ap (λ (n : ℕ). cast_signed w32 n) (minus_to at to)
@@ -151,9 +144,3 @@ falls_inside x next old inside = appends_none old (FallsTo x next) (if_inside (i
 pub ok_more : {T E : Type 0} (r : Result T E) (P Q : Type 0) → IfOk r (λ x. P) → (P → Q) → IfOk r (λ x. Q)
 ok_more (Ok x) P Q is more = more is
 ok_more (Err e) P Q is more = tt
-
--- ---- sequences of three
-
-pub three_in_range : (i j k : Instr) → IsInRange i → IsInRange j → IsInRange k → All IsInRange (i ∷ j ∷ k ∷ [])
-three_in_range i j k first second third =
-    All-cons IsInRange i (j ∷ k ∷ []) first (All-cons IsInRange j (k ∷ []) second (one_in_range k third))

@@ -2,8 +2,8 @@
 use Rattle.std.proofs.Common.{◌≡◌, ◌∙◌, ℕ, zero, suc, ◌+◌, ◌<◌, ◌≤◌, ◌==◌, Bool, true, false, if◌then◌else◌, length, Option, Some, None, refl, sym, ap, arith}
 use Rattle.std.proofs.lemmas.Bool.{eq-eqb}
 use Rattle.std.proofs.lemmas.Bool.Decides.{nat_tests}
-use Rattle.rv_decode.specs.declared.instructions.Instr.{Instr}
-use Rattle.rv_decode.specs.declared.instructions.Instr.TheVariants as instr
+use Rattle.rv32im.specs.declared.instructions.Instr.{Instr}
+use Rattle.rv32im.specs.declared.instructions.Instr.TheVariants as instr
 use Rattle.code_blocks.specs.declared.parts.Unit.{Unit}
 use Rattle.code_blocks.specs.declared.ends.End.{End}
 use Rattle.code_blocks.specs.declared.ends.End.TheVariants as end
@@ -28,10 +28,6 @@ straight_same : (inside is : ℕ → Bool) (at : ℕ) (o : Option Instr) → cop
 straight_same inside is at None = refl
 straight_same inside is at (Some (instr.Auipc rd imm)) = upper_same inside (is at) rd _
 straight_same inside is at (Some i) = refl
-
-upper_none : (site : Bool) (rd value : ℕ) → leaving_words (if site then kind.Plain else kind.Upper rd value) ≡ 0
-upper_none true rd value = refl
-upper_none false rd value = refl
 
 -- ---- the last unit
 

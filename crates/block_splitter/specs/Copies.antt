@@ -5,11 +5,11 @@ use Rattle.std.specs.Bool.{MatchBool}
 use Rattle.std.specs.List.{list_any}
 use Rattle.std.specs.List.Sorted.{IsStrictlyIncreasing}
 use Rattle.list_checks.specs.Sorted.{collected}
-use Rattle.rv_decode.specs.Table.{Means, IsEvenWithin}
-use Rattle.rv_decode.specs.Sequences.{load_immediate, jump_absolute, distance, inverse, MeanAll}
-use Rattle.rv_decode.specs.declared.instructions.BranchKind.{BranchKind}
-use Rattle.rv_decode.specs.declared.instructions.Instr.{Instr}
-use Rattle.rv_decode.specs.declared.instructions.Instr.TheVariants as instr
+use Rattle.rv32im.specs.Table.{Means, IsEvenWithin}
+use Rattle.rv32im.specs.Sequences.{load_immediate, jump_absolute, distance, inverse, MeanAll}
+use Rattle.rv32im.specs.declared.instructions.BranchKind.{BranchKind}
+use Rattle.rv32im.specs.declared.instructions.Instr.{Instr}
+use Rattle.rv32im.specs.declared.instructions.Instr.TheVariants as instr
 use Rattle.object_graph.specs.declared.parts.Graph.{Graph}
 use Rattle.code_blocks.specs.Numbers.{starts_of, start_at, end_at}
 use Rattle.code_blocks.specs.declared.parts.Unit.{Unit}

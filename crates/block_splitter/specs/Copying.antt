@@ -1,7 +1,7 @@
 -- What the steps by which copies are made rely on.
 use Rattle.std.specs.Prelude.{◌≡◌, ℕ, suc, ◌*◌, ◌%◌, ◌<◌, true, false, List, ◌++◌, length}
 use Rattle.list_checks.specs.Sorted.{collected}
-use Rattle.rv_decode.specs.Table.{IsWithin}
+use Rattle.rv32im.specs.Table.{IsWithin}
 use Rattle.elf_reader.specs.File.{PlainView}
 use Rattle.object_graph.specs.Lookups.{IsSomeGraph}
 use Rattle.code_blocks.specs.Blocks.{IsCode}
@@ -9,7 +9,7 @@ use Rattle.code_blocks.specs.Numbers.{start_at}
 use Rattle.code_blocks.specs.declared.parts.Code.{Code}
 use Rattle.code_blocks.specs.declared.ends.End.{End}
 use Rattle.code_blocks.specs.declared.ends.End.TheVariants as end
-use Rattle.liveness.specs.Tables.{IsTableOf}
+use Rattle.dataflow.specs.Tables.{IsTableOf}
 use Rattle.block_splitter.specs.declared.copy_plan.CopyPlan.{CopyPlan}
 use Rattle.block_splitter.specs.declared.unit_kind.UnitKind.{UnitKind}
 use Rattle.block_splitter.specs.declared.unit_kind.UnitKind.TheVariants.{Plain, Upper, Branch, Jump, Call, Tail, Indirect, Linking, Halt}

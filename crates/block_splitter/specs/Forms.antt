@@ -4,9 +4,9 @@ use Rattle.std.specs.Prelude.{ℕ, suc, ◌+◌, ◌*◌, ◌==◌, nat_le, Bool
 use Rattle.std.specs.List.{list_any}
 use Rattle.list_checks.specs.Tests.{any_below}
 use Rattle.list_checks.specs.Sorted.{sum_below}
-use Rattle.word_bits.specs.Words.{plus}
-use Rattle.rv_decode.specs.declared.instructions.Instr.{Instr}
-use Rattle.rv_decode.specs.declared.instructions.Instr.TheVariants as instr
+use Rattle.rv32im.specs.Words.{plus}
+use Rattle.rv32im.specs.declared.instructions.Instr.{Instr}
+use Rattle.rv32im.specs.declared.instructions.Instr.TheVariants as instr
 use Rattle.object_graph.specs.Lookups.{stands_at}
 use Rattle.object_graph.specs.declared.parts.Graph.{Graph}
 use Rattle.code_blocks.specs.Blocks.{start_of}

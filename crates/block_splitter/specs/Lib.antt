@@ -1,6 +1,6 @@
-pub use Rattle.rv_decode.specs.Sequences
+pub use Rattle.rv32im.specs.Sequences
 pub use Rattle.code_blocks.specs.Leads
-pub use Rattle.liveness.specs.Tables
+pub use Rattle.dataflow.specs.Tables
 pub mod Forms
 pub mod Pieces
 pub mod Copies

@@ -3,8 +3,8 @@ use Rattle.std.specs.Prelude.{◌≡◌, ◌⊎◌, ℕ, ◌*◌, ◌^◌, ◌<�
 use Rattle.std.specs.List.{All, AllPairs, list_any}
 use Rattle.list_checks.specs.Tests.{any_below}
 use Rattle.list_checks.specs.Sorted.{collected}
-use Rattle.rv_decode.specs.declared.instructions.RegSet.{RegSet}
-use Rattle.code_leaders.specs.Early.{has}
+use Rattle.rv32im.specs.declared.instructions.RegSet.{RegSet}
+use Rattle.code_blocks.specs.Early.{has}
 use Rattle.code_blocks.specs.Edges.{successors}
 use Rattle.code_blocks.specs.Numbers.{starts_of, start_at, end_at}
 use Rattle.code_blocks.specs.Leads.{units_at, links_base, is_of, leads_to}
@@ -12,7 +12,7 @@ use Rattle.code_blocks.specs.declared.parts.Code.{Code}
 use Rattle.code_blocks.specs.declared.ends.End.{End}
 use Rattle.code_blocks.specs.declared.ends.End.TheVariants.{Fall, Branch, Jump, Call, Stop}
 use Rattle.object_graph.specs.declared.parts.Graph.{Graph}
-use Rattle.liveness.specs.Tables.{IsLeastFree}
+use Rattle.dataflow.specs.Tables.{IsLeastFree}
 use Rattle.block_splitter.specs.declared.block_range.BlockRange.{BlockRange}
 use Rattle.block_splitter.specs.declared.piece.Piece.{Piece}
 use Rattle.block_splitter.specs.Forms.{is_site, holds_block, begins_in, copy_words}

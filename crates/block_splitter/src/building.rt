@@ -1,19 +1,18 @@
 ghost use Rattle.std.specs.Prelude.{◌≡◌, ℕ, ◌<◌, false, length, slice_index_or, IfOk};
 ghost use Rattle.std.specs.List.Sorted.{IsStrictlyIncreasing};
-ghost use Rattle.code_leaders.specs.Early.{has};
+ghost use Rattle.code_blocks.specs.Early.{has};
 ghost use Rattle.code_blocks.specs.Blocks.{IsSomeCode};
 ghost use Rattle.code_blocks.specs.Numbers.{start_at};
 ghost use Rattle.object_graph.specs.Lookups.{IsSomeGraph};
-ghost use Rattle.liveness.specs.Tables.{IsTableOf};
+ghost use Rattle.dataflow.specs.Tables.{IsTableOf};
 ghost use Rattle.block_splitter.specs.Facts.{block_count, form_at, IsFormAt, IsTable};
 
 use crate::block_form::BlockForm;
 use crate::forms::form_of;
 use crate::sources::all_sources;
 use crate::table::Table;
-use code_blocks::Code;
-use code_leaders::has_address;
-use liveness::LiveTable;
+use code_blocks::{Code, has_address};
+use dataflow::LiveTable;
 use object_graph::Graph;
 use std::alloc::{AllocError, Global};
 

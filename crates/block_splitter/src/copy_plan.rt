@@ -1,6 +1,6 @@
 use crate::block_range::BlockRange;
 use code_blocks::Code;
-use liveness::LiveTable;
+use dataflow::LiveTable;
 use object_graph::Graph;
 
 /// What is copied, to which address, and what is known of it.

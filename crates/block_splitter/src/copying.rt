@@ -1,6 +1,6 @@
 ghost use Rattle.std.specs.Prelude.{◌≡◌, ◌+◌, ◌%◌, ◌≤◌, true, length, IfOk};
 ghost use Rattle.code_blocks.specs.Blocks.{IsSomeCode};
-ghost use Rattle.liveness.specs.Tables.{IsTableOf};
+ghost use Rattle.dataflow.specs.Tables.{IsTableOf};
 ghost use Rattle.object_graph.specs.Lookups.{IsSomeGraph};
 ghost use Rattle.block_splitter.specs.Forms.{holds_block};
 ghost use Rattle.block_splitter.specs.Pieces.{IsPiece, range_of};
@@ -15,7 +15,7 @@ use crate::copy_starts::copy_starts;
 use crate::piece::Piece;
 use crate::unit_copies::{push_jump_out, push_unit};
 use code_blocks::{Code, End};
-use liveness::LiveTable;
+use dataflow::LiveTable;
 use object_graph::Graph;
 use std::alloc::{AllocError, Global};
 

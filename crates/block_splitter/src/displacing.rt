@@ -1,6 +1,6 @@
 ghost use Rattle.std.specs.Prelude.{◌≡◌, ◌+◌, ◌%◌, ◌<◌, ◌∷◌, [], length, map, pos, IfOk};
 ghost use Rattle.std.specs.List.Sorted.{IsStrictlyIncreasing};
-ghost use Rattle.rv_decode.specs.Sequences.{distance, MeanAll};
+ghost use Rattle.rv32im.specs.Sequences.{distance, MeanAll};
 ghost use Rattle.code_blocks.specs.Blocks.{IsSomeCode};
 ghost use Rattle.object_graph.specs.Lookups.{IsSomeGraph};
 ghost use Rattle.block_splitter.specs.Forms.{is_site, body_at, unit_in, kind_of};
@@ -13,7 +13,7 @@ use crate::unit_kind::UnitKind;
 use crate::words::word_of_unit;
 use code_blocks::{Code, Unit};
 use object_graph::Graph;
-use rv_decode::{BranchKind, Instr, encode, encode_all, jump};
+use rv32im::{BranchKind, Instr, encode, encode_all, jump};
 use std::alloc::{AllocError, Global};
 
 /// The words of the first unit of a block where it is displaced to `at`, with these words at sites: they run as it

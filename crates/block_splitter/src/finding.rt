@@ -4,7 +4,7 @@ ghost use Rattle.code_blocks.specs.Blocks.{IsSomeCode};
 ghost use Rattle.code_blocks.specs.Numbers.{Ascends};
 ghost use Rattle.object_graph.specs.Lookups.{IsSomeGraph};
 ghost use Rattle.object_graph.specs.declared.parts.Graph.{Graph};
-ghost use Rattle.liveness.specs.Tables.{IsTableOf};
+ghost use Rattle.dataflow.specs.Tables.{IsTableOf};
 ghost use Rattle.block_splitter.specs.declared.block_range.BlockRange.{BlockRange};
 ghost use Rattle.block_splitter.specs.Forms.{holds_block};
 ghost use Rattle.block_splitter.specs.Pieces.{IsRange, is_entry, HasShape, ArePieces};
@@ -18,7 +18,7 @@ use crate::piece::Piece;
 use crate::sources::number_of;
 use crate::table::Table;
 use code_blocks::Code;
-use liveness::LiveTable;
+use dataflow::LiveTable;
 use object_graph::Graph;
 use std::alloc::{AllocError, Global};
 

@@ -1,12 +1,12 @@
 ghost use Rattle.std.specs.Prelude.{◌≡◌, ◌<◌, ◌↔◌, min, true, false, length};
 ghost use Rattle.std.specs.List.{All};
-ghost use Rattle.code_leaders.specs.Early.{has};
+ghost use Rattle.code_blocks.specs.Early.{has};
 ghost use Rattle.code_blocks.specs.Blocks.{IsSomeCode};
 ghost use Rattle.code_blocks.specs.Edges.{successors};
 ghost use Rattle.code_blocks.specs.Numbers.{starts_of, Ascends};
 ghost use Rattle.code_blocks.specs.declared.parts.Code.{Code};
 ghost use Rattle.object_graph.specs.Lookups.{IsSomeGraph};
-ghost use Rattle.liveness.specs.Tables.{IsTableOf};
+ghost use Rattle.dataflow.specs.Tables.{IsTableOf};
 ghost use Rattle.block_splitter.specs.Forms.{body_of, kind_of};
 ghost use Rattle.block_splitter.specs.Pieces.{HasTemporary, CanCall, is_stop, IsCopyable};
 ghost use Rattle.block_splitter.specs.Facts.{block_count, may_copy, leaving_words, last_leaving, target_of, next_of, full_size, LinksRegister, IsExit, IsFormAt};
@@ -17,7 +17,7 @@ use crate::measuring::MOST_WORDS;
 use crate::registers::has_temporary;
 use crate::unit_kind::UnitKind;
 use code_blocks::{Block, Code, End, Unit};
-use liveness::LiveTable;
+use dataflow::LiveTable;
 use object_graph::Graph;
 
 /// What the pieces that hold block `b` depend on, if a piece may hold it.

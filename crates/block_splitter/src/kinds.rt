@@ -1,5 +1,5 @@
 ghost use Rattle.std.specs.Prelude.{◌≡◌, ◌*◌, ◌<◌, if◌then◌else◌, length};
-ghost use Rattle.word_bits.specs.Words.{plus};
+ghost use Rattle.rv32im.specs.Words.{plus};
 ghost use Rattle.block_splitter.specs.declared.unit_kind.UnitKind.TheVariants.{Plain, Upper};
 ghost use Rattle.object_graph.specs.Lookups.{IsSomeGraph};
 ghost use Rattle.block_splitter.specs.Forms.{is_site, body_of, kind_of, straight_kind, branch_kind, tail_kind, indirect_kind, last_kind, copy_size, fall_out_size, displaced_size};
@@ -7,7 +7,7 @@ ghost use Rattle.block_splitter.specs.Forms.{is_site, body_of, kind_of, straight
 use crate::unit_kind::UnitKind;
 use code_blocks::{Block, End, Unit};
 use object_graph::Graph;
-use rv_decode::Instr;
+use rv32im::Instr;
 
 /// What unit `place` of a block is.
 pub fn kind_of(graph: &Graph, block: &Block, place: usize) -> UnitKind

@@ -8,7 +8,7 @@ use crate::kinds::kind_of;
 use crate::unit_kind::UnitKind;
 use code_blocks::Code;
 use object_graph::Graph;
-use rv_decode::distance;
+use rv32im::distance;
 
 /// Whether the first unit of a block may be displaced to `at`: whether JAL reaches from its words there to where the
 /// unit leads.

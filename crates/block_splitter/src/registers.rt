@@ -1,10 +1,10 @@
 ghost use Rattle.std.specs.Prelude.{◌≡◌, ◌<◌, ◌↔◌, true};
 ghost use Rattle.code_blocks.specs.declared.parts.Code.{Code};
-ghost use Rattle.liveness.specs.Tables.{IsTableOf};
+ghost use Rattle.dataflow.specs.Tables.{IsTableOf};
 ghost use Rattle.block_splitter.specs.Pieces.{only, HasTemporary};
 
-use liveness::LiveTable;
-use rv_decode::RegSet;
+use dataflow::LiveTable;
+use rv32im::RegSet;
 
 /// The set of one register.
 pub(crate) fn only(register: u8) -> RegSet

@@ -1,11 +1,11 @@
 //! Sequences of instructions that stand for one unit.
 
 ghost use Rattle.std.specs.Prelude.{◌≡◌, ◌++◌, ◌∷◌, [], ◌<◌, ◌+◌, All};
-ghost use Rattle.rv_decode.specs.Table.{IsWithin, IsInRange};
-ghost use Rattle.rv_decode.specs.Sequences.{load_immediate, distance};
+ghost use Rattle.rv32im.specs.Table.{IsWithin, IsInRange};
+ghost use Rattle.rv32im.specs.Sequences.{load_immediate, distance};
 ghost use Rattle.block_splitter.specs.Copies.{Reaches};
 
-use rv_decode::{BranchKind, Instr, distance, jump, load_immediate};
+use rv32im::{BranchKind, Instr, distance, jump, load_immediate};
 
 /// A branch at an address to another.
 pub(crate) fn branch(kind: BranchKind, rs1: u8, rs2: u8, at: u32, to: u32) -> Instr

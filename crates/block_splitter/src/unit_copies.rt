@@ -1,8 +1,8 @@
 //! The words of one unit's copy.
 
 ghost use Rattle.std.specs.Prelude.{◌≡◌, ◌<◌, true, length, All, IfOk};
-ghost use Rattle.rv_decode.specs.Table.{IsInRange};
-ghost use Rattle.rv_decode.specs.Sequences.{load_immediate};
+ghost use Rattle.rv32im.specs.Table.{IsInRange};
+ghost use Rattle.rv32im.specs.Sequences.{load_immediate};
 ghost use Rattle.block_splitter.specs.Forms.{holds_block};
 ghost use Rattle.block_splitter.specs.Pieces.{HasTemporary};
 ghost use Rattle.block_splitter.specs.Copies.{address_of, place_of, IsUnitCopy, JumpsOut, IsBranchCopy, IsJumpCopy};
@@ -15,7 +15,7 @@ use crate::sequences::{branch, link_and_jump};
 use crate::unit_kind::UnitKind;
 use crate::words::{push_code, push_word, word_of_unit};
 use code_blocks::Unit;
-use rv_decode::{BranchKind, Instr, inverse, jump, jump_absolute, load_immediate};
+use rv32im::{BranchKind, Instr, inverse, jump, jump_absolute, load_immediate};
 use std::alloc::AllocError;
 
 /// Adds the words of unit `k` of block `b`.

@@ -1,4 +1,4 @@
-use rv_decode::BranchKind;
+use rv32im::BranchKind;
 
 /// What of a unit its forms depend on: the words that do the same wherever they stand. Addresses are those of homes.
 #[derive(Clone, Copy)]

@@ -12,7 +12,7 @@ use Rattle.branch_bound.specs.Entries.{StatedFrom, alone, split, Each}
 use Rattle.branch_bound.specs.Searching.{EntryBelow}
 use Rattle.certificate_checker.specs.declared.fixings.Fixing.{Fixing}
 use Rattle.certificate_checker.specs.declared.fixings.Fixing.TheVariants.{Zero, One}
-use Rattle.side_search.proofs.Greater.{leaf_more, dual_more}
+use Rattle.branch_bound.proofs.Greater.{leaf_more, dual_more}
 use Rattle.branch_bound.proofs.MarkLemmas.{picks, chosen_is, picks_fit, agrees_self, agrees_back}
 
 pub fails_less : (s : PlainSide) (less best : ℕ) (marks : List Fixing) → less ≤ best → FailsEveryLeafRule s best marks → FailsEveryLeafRule s less marks
@@ -77,10 +77,6 @@ finished s start best marks t es holds stated =
     let gains = chosen_is s e (gain_at s.vars) in
     omega (arith, bounded, gains))
     (entries_agree s start marks es stated)
-
-pub some_entry : (s : PlainSide) (start : ℕ) (marks : List Fixing) (es : List (List Fixing)) → StatedFrom s start marks es → 0 < length es
-some_entry s start marks es (alone none) = omega arith
-some_entry s start marks es (split splits greatest by_one by_zero) = omega arith
 
 pub one_greatest : (s : PlainSide) (marks : List Fixing) (j k : ℕ) → IsGreatestFree s marks j → IsGreatestFree s marks k → j ≡ k
 one_greatest s marks j k first second =

@@ -241,10 +241,6 @@ off_gain : (p : PlainProgramme) (take : List ℕ) → taken_gains p.off take ≤
 off_gain p [] poor = omega (arith, ints)
 off_gain p (k ∷ ks) poor = omega (arith, ints, poor)
 
-pub off_pays : (p : PlainProgramme) (take : List ℕ) → p.off.fixed ≤ taken_gains p.off take → pos 0 ≤ℤ gain p record { on = false; take = take }
-off_pays p [] pays = omega (arith, ints)
-off_pays p (k ∷ ks) pays = omega (arith, ints, pays)
-
 pub nothing_cannot : (p : PlainProgramme) (choice : Option (List ℕ)) → IsGreedy p.off choice → greedy_gain p.off choice ≡ 0 → CannotGrow p nothing
 nothing_cannot p choice greedy poor k more adds fits =
     let inside = (single_sum (gain_at p.off.vars) (length p.off.vars) k more fits.numbers adds).0 in

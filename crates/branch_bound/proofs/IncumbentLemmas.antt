@@ -1,13 +1,12 @@
 -- Incumbents of a programme.
-use Rattle.std.proofs.Common.{◌≡◌, ℕ, ◌+◌, ◌-◌, ◌<◌, ◌≤◌, pos, max, Bool, true, false, List, [], ◌∷◌, length, Option, Some, None, IsSomeAnd, sym, ap, subst, arith}
+use Rattle.std.proofs.Common.{◌≡◌, ℕ, ◌+◌, ◌-◌, ◌<◌, ◌≤◌, pos, Bool, true, false, List, [], ◌∷◌, length, Option, Some, None, IsSomeAnd, sym, ap, subst, arith}
 use Rattle.std.proofs.lemmas.Int.{ints}
 use Rattle.placement_programme.specs.Plain.{PlainSide, PlainProgramme}
 use Rattle.placement_programme.specs.Programme.{Fits, taken_gains, side_for, gain, gain_on, net_gain}
 use Rattle.branch_bound.specs.Assignments.{taken}
 use Rattle.branch_bound.specs.Entries.{takes_on}
-use Rattle.branch_bound.specs.Searching.{EntryBelow, IsIncumbent, KeepsIncumbent}
+use Rattle.branch_bound.specs.Searching.{IsIncumbent, KeepsIncumbent}
 use Rattle.branch_bound.specs.declared.incumbents.Incumbent.{Incumbent}
-use Rattle.certificate_checker.specs.declared.fixings.Fixing.{Fixing}
 
 side_or : Option PlainSide → PlainSide → PlainSide
 side_or None s = s
@@ -41,16 +40,6 @@ new_incumbent p s best is fits sum some long =
       marked = subst (λ side. IsSomeAnd side (λ t. length t.vars ≤ length best.marks.items)) (sym is) long;
     }
 
-pub keeps_same : (on : Bool) (s : PlainSide) (best : Incumbent) → KeepsIncumbent on s best best
-keeps_same on s best p is holds = holds
-
-pub keeps_both : (on : Bool) (s : PlainSide) (first second third : Incumbent) → KeepsIncumbent on s first second → KeepsIncumbent on s second third → KeepsIncumbent on s first third
-keeps_both on s first second third before after p is holds = after p is (before p is holds)
-
 pub keeps_new : (on : Bool) (s : PlainSide) (old best : Incumbent) → best.on ≡ on → Fits s (taken s best.marks.items) → taken_gains s (taken s best.marks.items) ≡ best.gain + s.fixed → 0 < best.gain → length s.vars ≤ length best.marks.items → KeepsIncumbent on s old best
 keeps_new on s old best same fits sum some long p is holds =
     new_incumbent p s best (subst (λ b. side_for p b ≡ Some s) (sym same) is) fits sum some long
-
--- an entry that was compared gains no more
-pub entry_compared : (s : PlainSide) (marks : List Fixing) (old new : ℕ) → new ≡ max old (taken_gains s (taken s marks) - s.fixed) → EntryBelow s new marks
-entry_compared s marks old new is fits = omega (arith, is)

@@ -1,3 +1,7 @@
+pub mod Greater
+pub mod Branches
+pub mod Ranges
+pub mod Certified
 pub mod OnesLemmas
 pub mod OpenLemmas
 pub mod LoadLemmas

@@ -31,11 +31,6 @@ ones_sum f (suc n) marks =
     let here = number_sum f (fixing_of marks n) n in
     omega (arith, rest, both, here)
 
-ascend_number : (m : Fixing) (n : ℕ) → AscendWithin 0 (suc n) (number_if m n)
-ascend_number Zero n = tt
-ascend_number One n = (omega arith, omega arith, tt)
-ascend_number Free n = tt
-
 ascend_join : (low n : ℕ) (m : Fixing) (ns : List ℕ) → low ≤ n → AscendWithin low n ns → AscendWithin low (suc n) (ns ++ number_if m n)
 ascend_join low n Zero [] order all = tt
 ascend_join low n One [] order all = (order, omega arith, tt)

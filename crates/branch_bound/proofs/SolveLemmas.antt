@@ -9,7 +9,7 @@ use Rattle.placement_programme.specs.Bounds.{AscendWithin}
 use Rattle.placement_programme.specs.Programme.{Fits, taken_gains, side_for, gain, gain_on, net_gain, nothing}
 use Rattle.placement_programme.proofs.AscendLemmas.{count_within}
 use Rattle.certificate_checker.specs.Nodes.{PlainTree}
-use Rattle.certificate_checker.specs.Shows.{all_free, ShownBy, Shows, IsAccepted}
+use Rattle.certificate_checker.specs.Shows.{all_free, ShownBy, IsAccepted}
 use Rattle.certificate_checker.specs.Spelling.{IsTreeInRange, AreTreesInRange, IsInRange}
 use Rattle.certificate_checker.specs.Reading.{most_levels}
 use Rattle.certificate_checker.specs.Views.{plain_tree}
@@ -25,7 +25,7 @@ use Rattle.branch_bound.specs.declared.incumbents.Incumbent.{Incumbent}
 use Rattle.certificate_checker.specs.Fixings.{is_free}
 use Rattle.certificate_checker.specs.declared.fixings.Fixing.{Fixing}
 use Rattle.certificate_checker.specs.declared.fixings.Fixing.TheVariants.{Free}
-use Rattle.side_search.proofs.Greater.{holds_more}
+use Rattle.branch_bound.proofs.Greater.{holds_more}
 use Rattle.branch_bound.proofs.OnesLemmas.{nothing_taken}
 use Rattle.branch_bound.proofs.EntryLemmas.{entry_more, each_more, each_less, each_fewer, finished}
 use Rattle.branch_bound.proofs.GreedyLemmas.{grows_fit}
@@ -133,21 +133,6 @@ gain_back p false s take g is gains some =
 gain_back p true s take g is gains some =
     on_back s take g (subst (λ side. gain_on side take ≡ pos g) is gains)
 
-pub incumbent_fits : (p : PlainProgramme) (s : PlainSide) (best : Incumbent) → side_for p best.on ≡ Some s → IsIncumbent p best → Fits s (taken s best.marks.items)
-incumbent_fits p s best is holds =
-    subst (λ side. IsSomeAnd side (λ t. Fits t (takes_on side best.marks.items))) is holds.accepted.feasible
-
-pub incumbent_sum : (p : PlainProgramme) (s : PlainSide) (best : Incumbent) → side_for p best.on ≡ Some s → IsIncumbent p best → 0 < best.gain → taken_gains s (taken s best.marks.items) ≡ best.gain + s.fixed
-incumbent_sum p s best is holds some =
-    let gains = subst (λ side. gain p record { on = best.on; take = takes_on side best.marks.items } ≡ pos best.gain) is holds.accepted.gains in
-    gain_back p best.on s (taken s best.marks.items) best.gain is gains some
-
-pub incumbent_marked : (p : PlainProgramme) (s : PlainSide) (best : Incumbent) → side_for p best.on ≡ Some s → IsIncumbent p best → length s.vars ≤ length best.marks.items
-incumbent_marked p s best is holds = subst (λ side. IsSomeAnd side (λ t. length t.vars ≤ length best.marks.items)) is holds.marked
-
-pub incumbent_side : (p : PlainProgramme) (best : Incumbent) → side_for p best.on ≡ None → IsIncumbent p best → ⊥
-incumbent_side p best is holds = subst (λ side. IsSomeAnd side (λ t. length t.vars ≤ length best.marks.items)) is holds.marked
-
 -- levels of a tree from the root
 pub root_levels : (s : PlainSide) (tree : Option Tree) → length s.vars ≤ 4000 → HasLevels (suc (count_by is_free (all_free s))) tree → HasLevels most_levels tree
 unfolding most_levels
@@ -240,7 +225,3 @@ range_trees p gain choice trees all closes =
 pub range_none : (choice : PlainChoice) → AscendWithin 0 4000 choice.take → IsInRange record { choice = choice; off = None; on = None }
 range_none choice all =
     record { few = few_taken choice.take all; numbers = ascend_wider 0 4000 (2 ^ 32) choice.take (omega arith) all; trees = tt }
-
-pub shows_trees : (p : PlainProgramme) (gain : ℕ) (choice : PlainChoice) (trees : Trees) → IsAccepted p choice gain → AreTreesOf p gain trees → Shows p record { choice = choice; off = Some (plain_tree trees.off); on = option_map plain_tree trees.on }
-shows_trees p gain choice trees accepted closes =
-    (gain, record { accepted = accepted; off = closes.off; on = closes.on })

@@ -13,20 +13,9 @@ use Rattle.branch_bound.specs.Searching.{EntryBelow, Reports, HasLevels}
 use Rattle.certificate_checker.specs.Fixings.{fixing_of, is_free}
 use Rattle.certificate_checker.specs.declared.fixings.Fixing.{Fixing}
 use Rattle.certificate_checker.specs.declared.fixings.Fixing.TheVariants.{Zero, One, Free}
-use Rattle.side_search.proofs.Greater.{holds_more}
+use Rattle.branch_bound.proofs.Greater.{holds_more}
 use Rattle.branch_bound.proofs.MarkLemmas.{fewer_free}
-use Rattle.branch_bound.proofs.EntryLemmas.{entry_more, each_first, each_second, finished, some_entry, two_lists}
-
--- no budget
-pub tells_out : (s : PlainSide) (start : ℕ) (marks : List Fixing) (best left after : ℕ) → left ≡ 0 → Reports s start marks best left after None
-tells_out s start marks best left after none entries stated =
-    let some = some_entry s start marks entries stated in
-    subst (λ n. Each (EntryBelow s best) (take n entries) × (n < length entries)) (sym none) (tt, some)
-
--- a node that is closed
-pub tells_closed : (s : PlainSide) (start : ℕ) (marks : List Fixing) (best left after : ℕ) (tree : Tree) → left ≤ after + 1 → Holds s best marks (plain_tree tree) → Reports s start marks best left after (Some tree)
-tells_closed s start marks best left after tree used holds =
-    (holds, λ entries stated. let some = some_entry s start marks entries stated in omega (arith, used, some))
+use Rattle.branch_bound.proofs.EntryLemmas.{entry_more, each_first, each_second, finished, two_lists}
 
 -- what is known where a node branches
 pub record Branches (s : PlainSide) (start : ℕ) (marks : List Fixing) (j best : ℕ) : Type 0 where

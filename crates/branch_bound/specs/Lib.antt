@@ -1,8 +1,13 @@
-pub use Rattle.certificate_checker.specs.Fixings
+pub use Rattle.placement_programme.specs.Plain
+pub use Rattle.certificate_checker.specs.Nodes
 pub use Rattle.certificate_checker.specs.Rules
 pub use Rattle.certificate_checker.specs.Shows
 pub use Rattle.certificate_checker.specs.Spelling
+pub use Rattle.certificate_checker.specs.Fixings
 pub use Rattle.certificate_checker.specs.Reading
+pub mod Incumbents
+pub mod Visits
+pub mod Rounds
 pub mod Greatest
 pub mod Assignments
 pub mod Greedy

@@ -5,7 +5,7 @@ ghost use Rattle.certificate_checker.specs.Shows.{all_free};
 ghost use Rattle.certificate_checker.specs.Spelling.{IsInRange};
 ghost use Rattle.certificate_checker.specs.Reading.{most_levels};
 ghost use Rattle.certificate_checker.specs.Views.{plain_certificate};
-ghost use Rattle.side_search.specs.Incumbents.{IsSound};
+ghost use Rattle.branch_bound.specs.Incumbents.{IsSound};
 ghost use Rattle.branch_bound.specs.Entries.{all_vars};
 ghost use Rattle.branch_bound.specs.declared.outcomes.Status.TheVariants.{Optimal};
 ghost use Rattle.branch_bound.specs.Growing.{CannotGrow};
@@ -20,10 +20,11 @@ use crate::outcomes::{Found, Outcome, Status, Trees};
 use crate::ranking::ranking;
 use crate::running::Running;
 use crate::searching::{Task, search};
+use crate::side_certifying::certify;
+use crate::side_visiting::Round;
 use crate::starting::{begin, better};
 use certificate_checker::{Certificate, free_marks};
 use placement_programme::{Choice, Programme, Side};
-use side_search::{Round, certify};
 use std::alloc::{AllocError, Global};
 
 /// Searches a side.
@@ -128,7 +129,7 @@ fn search_stated(
     alloc: Global,
     p: &Programme,
     nodes: u64,
-    other: &side_search::Incumbent,
+    other: &crate::side_incumbents::Incumbent,
 ) -> Result<Found, AllocError>
     requires nodes { 1 ≤ nodes }
     requires sound { IsSound (plain_programme p.now) other.now }

@@ -3,7 +3,7 @@ ghost use Rattle.placement_programme.specs.Bounds.{AscendWithin};
 ghost use Rattle.placement_programme.specs.Programme.{nothing};
 ghost use Rattle.placement_programme.specs.Views.{plain_side, plain_programme};
 ghost use Rattle.branch_bound.specs.Greedy.{GreedyGains, IsStart};
-ghost use Rattle.side_search.specs.Incumbents.{IsSound};
+ghost use Rattle.branch_bound.specs.Incumbents.{IsSound};
 ghost use Rattle.branch_bound.specs.Assignments.{AreMarksOf};
 ghost use Rattle.branch_bound.specs.Searching.{IsIncumbent, KeepsIncumbent, choice_of};
 
@@ -76,7 +76,7 @@ pub(crate) fn better(
     alloc: Global,
     p: &Programme,
     start: Incumbent,
-    found: &side_search::Incumbent,
+    found: &crate::side_incumbents::Incumbent,
 ) -> Result<Incumbent, AllocError>
     requires incumbent { IsIncumbent (plain_programme p.now) start }
     requires small { start.gain ≤ 2 ^ 104 }

@@ -2,10 +2,10 @@
 use Rattle.std.proofs.Common.{◌≡◌, ℕ, ◌+◌, ◌<◌, ◌==◌, nat_lt, nat_le, Bool, true, false, not, ◌&&◌, Some, refl, subst, arith}
 use Rattle.std.proofs.lemmas.Bool.{cond_both, eqb-true, eqb-false}
 use Rattle.std.proofs.lemmas.Bool.Decides.{nat_tests}
-use Rattle.word_bits.specs.Words.{plus}
-use Rattle.rv_decode.specs.Acts.{is_taken}
-use Rattle.rv_decode.specs.declared.instructions.BranchKind.{BranchKind}
-use Rattle.rv_decode.specs.declared.instructions.BranchKind.TheVariants.{Beq, Bne, Blt, Bge, Bltu, Bgeu}
+use Rattle.rv32im.specs.Words.{plus}
+use Rattle.rv32im.specs.Acts.{is_taken}
+use Rattle.rv32im.specs.declared.instructions.BranchKind.{BranchKind}
+use Rattle.rv32im.specs.declared.instructions.BranchKind.TheVariants.{Beq, Bne, Blt, Bge, Bltu, Bgeu}
 use Rattle.cell_values.specs.Objects.{Objects}
 use Rattle.cell_values.specs.Comparisons.{known_if, within, same_object, other_object, above_zero, zero_below, compare}
 use Rattle.cell_values.specs.Laws.{HoldsWord}

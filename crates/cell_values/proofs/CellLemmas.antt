@@ -3,13 +3,13 @@ use Rattle.std.proofs.Common.{◌≡◌, ◌∙◌, inl, inr, ℕ, ◌+◌, ◌<
 use Rattle.std.proofs.lemmas.Bool.{cases_eq}
 use Rattle.std.proofs.lemmas.Bool.Decides.{nat_tests}
 use Rattle.std.proofs.lemmas.List.{get_or_default}
-use Rattle.word_bits.specs.Words.{plus, byte_of, half_of}
-use Rattle.word_bits.specs.Memory.{Memory, zeros, put, put_half, put_word, half_at, word_at}
+use Rattle.rv32im.specs.Words.{plus, byte_of}
+use Rattle.rv32im.specs.Memory.{Memory, zeros, put, put_half, put_word, word_at}
 use Rattle.cell_values.specs.declared.values.Cell.{Cell}
 use Rattle.cell_values.specs.declared.values.Cell.TheVariants.{Byte, Mist}
 use Rattle.cell_values.specs.declared.values.Val.TheVariants.{Int}
 use Rattle.cell_values.specs.Cells.{put_at, put_cells, bytes_of, join}
-use Rattle.cell_values.specs.Marks.{AreMarked, mark_of, half_of_cells}
+use Rattle.cell_values.specs.Marks.{AreMarked, mark_of}
 use Rattle.cell_values.specs.declared.store.CellStore.{CellStore}
 use Rattle.cell_values.specs.Stored.{cell_or, cells_over, HasPlace}
 
@@ -79,13 +79,6 @@ byte_there table mem a none = ap (λ o. cell_or o (mem a)) none
 
 pub plain_byte : (table : ℕ → Option Cell) (mem : Memory) (at : ℕ) → HasNone table at 1 → Byte (mem at) ≡ cells_over table mem at
 plain_byte table mem at none = sym (byte_there table mem at (none_first table at 1 (omega arith) none))
-
-pub plain_half : (table : ℕ → Option Cell) (mem : Memory) (at : ℕ) → at + 2 ≤ 4294967296 → HasNone table at 2 → Some (half_at mem at) ≡ half_of_cells (cells_over table mem at) (cells_over table mem (at + 1))
-plain_half table mem at within none =
-    let second : plus at 1 ≡ at + 1 = omega (arith, within) in
-    let cell_0 = byte_there table mem at (none_first table at 2 (omega arith) none) in
-    let cell_1 = byte_there table mem (at + 1) (none 1 (omega arith)) in
-    sym ((λ z. half_of_cells (cell_0 z) (cell_1 z)) ∙ ap (λ (a : ℕ). Some (half_of (mem at) (mem a))) (sym second))
 
 pub plain_word : (table : ℕ → Option Cell) (mem : Memory) (at : ℕ) → at + 4 ≤ 4294967296 → HasNone table at 4 → Int (word_at mem at) ≡ join (cells_over table mem at) (cells_over table mem (at + 1)) (cells_over table mem (at + 2)) (cells_over table mem (at + 3))
 plain_word table mem at within none =

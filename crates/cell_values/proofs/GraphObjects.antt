@@ -8,7 +8,7 @@ use Rattle.elf_reader.specs.File.{PlainView}
 use Rattle.board_config.specs.declared.board.Board.{Board}
 use Rattle.loaded_file.specs.Records.{symbol_at}
 use Rattle.loaded_file.proofs.RangeLemmas.{byte_range_of}
-use Rattle.movable_ranges.specs.Fixed.{is_movable}
+use Rattle.object_graph.specs.Fixed.{is_movable}
 use Rattle.object_graph.specs.Graphs.{is_object_of, IsObjects}
 use Rattle.object_graph.specs.declared.parts.Object.{Object}
 use Rattle.object_graph.specs.declared.parts.Graph.{Graph}

@@ -1,13 +1,13 @@
 -- Operations with immediates are those with registers that hold them.
 use Rattle.std.proofs.Common.{◌≡◌, ℕ, ◌<◌, false, ℤ, refl}
 use Rattle.std.specs.Int.{cast_unsigned, w32}
-use Rattle.rv_decode.specs.Table.{IsImmInRange}
-use Rattle.rv_decode.specs.Acts.{imm_value, reg_value}
-use Rattle.rv_decode.specs.declared.instructions.ImmKind.{ImmKind}
-use Rattle.rv_decode.specs.declared.instructions.ImmKind.TheVariants.{Slti}
-use Rattle.rv_decode.proofs.Words.{fitting, imm_fits}
+use Rattle.rv32im.specs.Table.{IsImmInRange}
+use Rattle.rv32im.specs.Acts.{imm_value, reg_value}
+use Rattle.rv32im.specs.declared.instructions.ImmKind.{ImmKind}
+use Rattle.rv32im.specs.declared.instructions.ImmKind.TheVariants.{Slti}
+use Rattle.rv32im.proofs.WordLemmas.{fitting, imm_fits}
 use Rattle.cell_values.specs.Objects.{Objects}
-use Rattle.rv_decode.specs.Operations.{operation_of}
+use Rattle.rv32im.specs.Operations.{operation_of}
 use Rattle.cell_values.specs.Operations.{op_reg}
 use Rattle.cell_values.specs.declared.values.Val.{Val}
 use Rattle.cell_values.specs.declared.values.Val.TheVariants.{Int}

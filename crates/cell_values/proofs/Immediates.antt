@@ -2,11 +2,11 @@
 use Rattle.std.proofs.Common.{◌≡◌, ℕ, ℤ, pos, negsuc, w32, FitsSigned, ◌<◌, ap, refl, arith}
 use Rattle.std.specs.Int.{cast_unsigned}
 use Rattle.std.proofs.lemmas.Int.{to_z-of_z}
-use Rattle.rv_decode.specs.Acts.{imm_value, reg_value}
-use Rattle.rv_decode.specs.declared.instructions.ImmKind.{ImmKind}
-use Rattle.rv_decode.specs.declared.instructions.ImmKind.TheVariants.{Addi, Slti}
+use Rattle.rv32im.specs.Acts.{imm_value, reg_value}
+use Rattle.rv32im.specs.declared.instructions.ImmKind.{ImmKind}
+use Rattle.rv32im.specs.declared.instructions.ImmKind.TheVariants.{Addi, Slti}
 use Rattle.cell_values.specs.Laws.{ImmediatesAreNumbers}
-use Rattle.rv_decode.specs.Operations.{operation_of}
+use Rattle.rv32im.specs.Operations.{operation_of}
 use Rattle.cell_values.specs.declared.values.Val.TheVariants.{Int}
 
 pub immediate_word : (imm : ℤ) → FitsSigned w32 imm → cast_unsigned w32 imm < 4294967296

@@ -1,7 +1,7 @@
 -- Values hold words after sites, stores and loads.
 use Rattle.std.proofs.Common.{ℕ, ◌<◌, ◌==◌, if◌then◌else◌, Bool, true, false, ◌&&◌, slice_index_or, arith}
 use Rattle.std.proofs.lemmas.Bool.Decides.{nat_tests}
-use Rattle.word_bits.specs.Words.{byte_of, sign_extended}
+use Rattle.rv32im.specs.Words.{byte_of, sign_extended}
 use Rattle.cell_values.specs.Objects.{home_address}
 use Rattle.cell_values.specs.Operations.{same_chunk}
 use Rattle.cell_values.specs.Cells.{split, is_part, whole_word, join, byte_value, half_value}

@@ -3,7 +3,7 @@ use Rattle.std.proofs.Common.{◌≡◌, inl, inr, ℕ, ◌%◌, ◌<◌, ◌==�
 use Rattle.std.proofs.lemmas.Bool.{cond_both, eqb-true}
 use Rattle.std.proofs.lemmas.Bool.Decides.{nat_tests}
 use Rattle.list_checks.proofs.TestLemmas.{both}
-use Rattle.word_bits.specs.Words.{word_of, byte_of, sign_extended}
+use Rattle.rv32im.specs.Words.{word_of, byte_of, sign_extended}
 use Rattle.cell_values.specs.Objects.{Objects}
 use Rattle.cell_values.specs.Cells.{is_part, whole_word, join}
 use Rattle.cell_values.specs.declared.values.Cell.{Cell}

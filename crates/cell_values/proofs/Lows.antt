@@ -1,14 +1,14 @@
 -- What is known of values modulo the grain, and of operations on them.
 use Rattle.std.proofs.Common.{◌≡◌, ℕ, ◌%◌, Bool, true, false, ◌&&◌, ◌||◌, Option, Some, None, refl}
 use Rattle.std.proofs.Math.Nat.{mod-mod}
-use Rattle.rv_decode.specs.Acts.{reg_value}
-use Rattle.rv_decode.specs.declared.instructions.RegKind.{RegKind}
-use Rattle.rv_decode.specs.declared.instructions.RegKind.TheVariants.{Add, Sub, Xor, Or, And}
+use Rattle.rv32im.specs.Acts.{reg_value}
+use Rattle.rv32im.specs.declared.instructions.RegKind.{RegKind}
+use Rattle.rv32im.specs.declared.instructions.RegKind.TheVariants.{Add, Sub, Xor, Or, And}
 use Rattle.cell_values.specs.Objects.{Objects, IsGrain, low_of}
 use Rattle.cell_values.specs.Operations.{of_lows, by_lows}
 use Rattle.cell_values.specs.declared.values.Val.{Val}
 use Rattle.cell_values.specs.declared.values.Val.TheVariants.{Int, Addr, Hi, Low, Piece, Unknown}
-use Rattle.rv_decode.specs.Operations.{takes_low_bits}
+use Rattle.rv32im.specs.Operations.{takes_low_bits}
 use Rattle.cell_values.specs.Origins.{Origin, ByLui, ByAuipc, Mixed, is_by_auipc, is_known, takes_low}
 use Rattle.cell_values.specs.Stands.{Places, Fit, Uppers, MakesByLui, Is, Stands, address_word}
 use Rattle.cell_values.proofs.Bits.{LowReports, and_low, or_low, xor_low}

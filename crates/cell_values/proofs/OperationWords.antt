@@ -3,17 +3,17 @@ use Rattle.std.proofs.Common.{◌≡◌, ℕ, ◌+◌, ◌-◌, ◌%◌, ◌<◌
 use Rattle.std.proofs.Math.Nat.{mod-le}
 use Rattle.std.proofs.lemmas.Bool.{cond_both, eqb-true, ltb-true, leb-true}
 use Rattle.std.proofs.lemmas.Nat.{and_comm, or_comm, xor_comm, or_lt, xor_lt}
-use Rattle.word_bits.specs.Words.{plus, minus}
-use Rattle.rv_decode.specs.Acts.{flag, reg_value}
-use Rattle.rv_decode.specs.declared.instructions.BranchKind.TheVariants.{Bltu}
-use Rattle.rv_decode.specs.declared.instructions.RegKind.{RegKind}
-use Rattle.rv_decode.specs.declared.instructions.RegKind.TheVariants.{Add, Sub, Sltu, Xor, Or, And}
+use Rattle.rv32im.specs.Words.{plus, minus}
+use Rattle.rv32im.specs.Acts.{flag, reg_value}
+use Rattle.rv32im.specs.declared.instructions.BranchKind.TheVariants.{Bltu}
+use Rattle.rv32im.specs.declared.instructions.RegKind.{RegKind}
+use Rattle.rv32im.specs.declared.instructions.RegKind.TheVariants.{Add, Sub, Sltu, Xor, Or, And}
 use Rattle.cell_values.specs.Objects.{Objects, home_address, low_of}
 use Rattle.cell_values.specs.Operations.{by_lows, added, subtracted, kept_bits, masked_low, cleared_bits, masked_address, masked, changed_address, changed, flagged, numbered, op_reg}
 use Rattle.cell_values.specs.Comparisons.{compare}
 use Rattle.cell_values.specs.declared.values.Val.{Val}
 use Rattle.cell_values.specs.declared.values.Val.TheVariants.{Int, Addr}
-use Rattle.rv_decode.specs.Operations.{takes_low_bits}
+use Rattle.rv32im.specs.Operations.{takes_low_bits}
 use Rattle.cell_values.specs.Origins.{Origin, is_by_auipc, is_known, takes_low}
 use Rattle.cell_values.specs.Stands.{Places, Fit, Uppers, MakesByLui, Stands, address_word}
 use Rattle.cell_values.specs.WordLaws.{OperationsStand}

@@ -1,7 +1,7 @@
 -- Words that are stored and loaded again.
 use Rattle.std.proofs.Common.{◌≡◌, ℕ, ap, arith}
 use Rattle.std.proofs.lemmas.Bool.Decides.{nat_tests}
-use Rattle.word_bits.specs.Words.{BytesRebuild}
+use Rattle.rv32im.specs.Words.{BytesRebuild}
 use Rattle.cell_values.specs.Cells.{split}
 use Rattle.cell_values.specs.Laws.{joined, SplitJoins}
 use Rattle.cell_values.specs.declared.values.Val.TheVariants.{Int, Addr, Hi}

@@ -2,7 +2,7 @@
 use Rattle.std.proofs.Common.{◌≡◌, ℕ, ◌/◌, ◌==◌, sym, subst, arith}
 use Rattle.std.proofs.lemmas.Bool.{cond_both, eqb-true}
 use Rattle.list_checks.proofs.TestLemmas.{both}
-use Rattle.word_bits.specs.Words.{offset, lower_half}
+use Rattle.rv32im.specs.Words.{offset, lower_half}
 use Rattle.cell_values.specs.Objects.{Objects, home_address}
 use Rattle.cell_values.specs.Operations.{same_chunk, low_site}
 use Rattle.cell_values.specs.declared.values.Val.TheVariants.{Hi}

@@ -1,6 +1,6 @@
 -- The cells that stores put stand for the bytes of the word.
 use Rattle.std.proofs.Common.{◌≡◌, ℕ, zero, suc, ◌%◌, ◌<◌, Option, Some, None, refl, arith, slice_index_or}
-use Rattle.word_bits.specs.Words.{byte_of}
+use Rattle.rv32im.specs.Words.{byte_of}
 use Rattle.cell_values.specs.Objects.{Objects}
 use Rattle.cell_values.specs.Cells.{split}
 use Rattle.cell_values.specs.declared.values.Val.{Val}

@@ -1,7 +1,7 @@
 -- Sums and differences of words modulo a grain, and upper parts.
 use Rattle.std.proofs.Common.{◌≡◌, ℕ, ◌*◌, ◌/◌, ◌%◌, ◌<◌, arith}
 use Rattle.std.proofs.lemmas.Bool.Decides.{nat_tests}
-use Rattle.word_bits.specs.Words.{plus, minus, offset, upper_half, lower_half}
+use Rattle.rv32im.specs.Words.{plus, minus, offset, upper_half, lower_half}
 use Rattle.cell_values.specs.Objects.{IsGrain}
 use Rattle.cell_values.proofs.Bits.{at_grain, LowReports}
 

@@ -2,18 +2,18 @@
 use Rattle.std.proofs.Common.{ℕ, ◌<◌, Bool, true, false, Option, Some, None, subst, sym, arith, if◌then◌else◌}
 use Rattle.std.specs.Prelude.{nat_lt, nat_le, ◌==◌, ◌-◌, ◌%◌}
 use Rattle.std.specs.Int.{cast_unsigned, w32}
-use Rattle.rv_decode.specs.declared.instructions.BranchKind.TheVariants.{Bltu}
+use Rattle.rv32im.specs.declared.instructions.BranchKind.TheVariants.{Bltu}
 use Rattle.std.proofs.lemmas.Bool.Decides.{nat_tests}
 use Rattle.std.proofs.lemmas.Nat.{and_le_r}
-use Rattle.word_bits.specs.Memory.{put, zeros}
-use Rattle.word_bits.specs.Words.{minus}
-use Rattle.rv_decode.specs.Acts.{reg_value, Hart, HoldsWords, ActsKeepsWords}
-use Rattle.rv_decode.specs.declared.instructions.Instr.TheVariants.{OpReg}
-use Rattle.rv_decode.specs.declared.instructions.RegKind.{RegKind}
-use Rattle.rv_decode.specs.declared.instructions.RegKind.TheVariants.{Add, Sub, Sltu, Xor, Or, And}
+use Rattle.rv32im.specs.Memory.{put, zeros}
+use Rattle.rv32im.specs.Words.{minus}
+use Rattle.rv32im.specs.Acts.{reg_value, Hart, HoldsWords, ActsKeepsWords}
+use Rattle.rv32im.specs.declared.instructions.Instr.TheVariants.{OpReg}
+use Rattle.rv32im.specs.declared.instructions.RegKind.{RegKind}
+use Rattle.rv32im.specs.declared.instructions.RegKind.TheVariants.{Add, Sub, Sltu, Xor, Or, And}
 use Rattle.cell_values.specs.Objects.{Objects, IsGrain, low_of}
 use Rattle.cell_values.specs.Comparisons.{compare}
-use Rattle.rv_decode.specs.Operations.{operation_of}
+use Rattle.rv32im.specs.Operations.{operation_of}
 use Rattle.cell_values.specs.Operations.{of_lows, by_lows, added, subtracted, kept_bits, masked_low, masked_address, masked, changed_address, changed, flagged, numbered}
 use Rattle.cell_values.specs.Laws.{HoldsWord, RegistersKeepWords, ImmediatesKeepWords, OperationsKeepWords}
 use Rattle.cell_values.specs.declared.values.Val.{Val}

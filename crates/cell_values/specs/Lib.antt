@@ -1,4 +1,4 @@
-pub use Rattle.rv_decode.specs.Acts
+pub use Rattle.rv32im.specs.Acts
 pub mod Objects
 pub mod Operations
 pub mod Comparisons

@@ -1,6 +1,6 @@
 -- Marks of the words that have other cells than bytes.
 use Rattle.std.specs.Prelude.{◌≡◌, ◌⊎◌, ℕ, ◌/◌, ◌%◌, ◌<◌, false, List, length, slice_index, is_some, Option, Some, None}
-use Rattle.word_bits.specs.Words.{half_of}
+use Rattle.rv32im.specs.Words.{half_of}
 use Rattle.cell_values.specs.declared.values.Cell.{Cell}
 use Rattle.cell_values.specs.declared.values.Cell.TheVariants.{Byte}
 

@@ -1,6 +1,6 @@
 -- What the operations on values ask of the objects that may move.
 use Rattle.std.specs.Prelude.{◌≡◌, ◌⊎◌, ℕ, ◌%◌, ◌<◌, Bool, false, List, [], length, slice_index_or, Option, Some, None}
-use Rattle.word_bits.specs.Words.{plus}
+use Rattle.rv32im.specs.Words.{plus}
 use Rattle.board_config.specs.declared.board.Board.{Board}
 use Rattle.object_graph.specs.declared.parts.Object.{Object}
 use Rattle.object_graph.specs.declared.parts.Graph.{Graph}

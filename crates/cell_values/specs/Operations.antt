@@ -3,13 +3,13 @@
 -- of other values it is known at most what they are modulo the grain.
 use Rattle.std.specs.Prelude.{ℕ, ◌-◌, ◌/◌, ◌%◌, ◌==◌, nat_lt, nat_le, Bool, ◌&&◌, bit_and, Option, Some, None, ℤ, if◌then◌else◌}
 use Rattle.std.specs.Int.{cast_unsigned, w32}
-use Rattle.word_bits.specs.Words.{plus, minus}
-use Rattle.rv_decode.specs.Operations.{operation_of}
-use Rattle.rv_decode.specs.Acts.{flag, imm_value, reg_value}
-use Rattle.rv_decode.specs.declared.instructions.BranchKind.TheVariants.{Bltu}
-use Rattle.rv_decode.specs.declared.instructions.ImmKind.{ImmKind}
-use Rattle.rv_decode.specs.declared.instructions.RegKind.{RegKind}
-use Rattle.rv_decode.specs.declared.instructions.RegKind.TheVariants.{Add, Sub, Sltu, Xor, Or, And}
+use Rattle.rv32im.specs.Words.{plus, minus}
+use Rattle.rv32im.specs.Operations.{operation_of}
+use Rattle.rv32im.specs.Acts.{flag, imm_value, reg_value}
+use Rattle.rv32im.specs.declared.instructions.BranchKind.TheVariants.{Bltu}
+use Rattle.rv32im.specs.declared.instructions.ImmKind.{ImmKind}
+use Rattle.rv32im.specs.declared.instructions.RegKind.{RegKind}
+use Rattle.rv32im.specs.declared.instructions.RegKind.TheVariants.{Add, Sub, Sltu, Xor, Or, And}
 use Rattle.cell_values.specs.Objects.{Objects, home_address, low_of}
 use Rattle.cell_values.specs.Comparisons.{compare}
 use Rattle.cell_values.specs.declared.values.Val.{Val}

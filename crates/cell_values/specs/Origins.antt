@@ -1,8 +1,8 @@
 -- Beside each upper part of an address: what made it. It decides nothing of a run; it tells alone which word
 -- the upper part is where an AUIPC keeps its own.
 use Rattle.std.specs.Prelude.{ℕ, ◌==◌, Bool, true, false, not, ◌&&◌, ◌||◌, Option, Some, None, if◌then◌else◌}
-use Rattle.rv_decode.specs.Operations.{takes_low_bits}
-use Rattle.rv_decode.specs.declared.instructions.RegKind.{RegKind}
+use Rattle.rv32im.specs.Operations.{takes_low_bits}
+use Rattle.rv32im.specs.declared.instructions.RegKind.{RegKind}
 use Rattle.cell_values.specs.Objects.{Objects, low_of}
 use Rattle.cell_values.specs.declared.values.Val.{Val}
 use Rattle.cell_values.specs.declared.values.Val.TheVariants.{Hi}

@@ -1,6 +1,6 @@
 -- Which words a value may be, where the objects stand at some places.
 use Rattle.std.specs.Prelude.{◌≡◌, ◌⊎◌, ℕ, ◌+◌, ◌*◌, ◌%◌, ◌<◌, Bool, true, false, Option, Some, None}
-use Rattle.word_bits.specs.Words.{plus, minus, upper_half, byte_of}
+use Rattle.rv32im.specs.Words.{plus, minus, upper_half, byte_of}
 use Rattle.cell_values.specs.Objects.{Objects, IsGrain}
 use Rattle.cell_values.specs.declared.values.Val.{Val}
 use Rattle.cell_values.specs.declared.values.Val.TheVariants.{Int, Addr, Hi, Low, Piece, Unknown}

@@ -1,13 +1,13 @@
 -- Operations on values say of the words what the flat machine makes of these, wherever the objects stand.
 use Rattle.std.specs.Prelude.{◌≡◌, ℕ, ◌<◌, Bool, false, slice_index_or, Some, ℤ}
-use Rattle.word_bits.specs.Words.{minus, offset, half_of, word_of, byte_of, lower_half, sign_extended}
-use Rattle.rv_decode.specs.Table.{IsImmInRange}
-use Rattle.rv_decode.specs.Acts.{imm_value, reg_value, is_taken}
-use Rattle.rv_decode.specs.declared.instructions.BranchKind.{BranchKind}
-use Rattle.rv_decode.specs.declared.instructions.ImmKind.{ImmKind}
-use Rattle.rv_decode.specs.declared.instructions.RegKind.{RegKind}
+use Rattle.rv32im.specs.Words.{minus, offset, half_of, word_of, byte_of, lower_half, sign_extended}
+use Rattle.rv32im.specs.Table.{IsImmInRange}
+use Rattle.rv32im.specs.Acts.{imm_value, reg_value, is_taken}
+use Rattle.rv32im.specs.declared.instructions.BranchKind.{BranchKind}
+use Rattle.rv32im.specs.declared.instructions.ImmKind.{ImmKind}
+use Rattle.rv32im.specs.declared.instructions.RegKind.{RegKind}
 use Rattle.cell_values.specs.Objects.{Objects}
-use Rattle.rv_decode.specs.Operations.{operation_of}
+use Rattle.rv32im.specs.Operations.{operation_of}
 use Rattle.cell_values.specs.Operations.{op_imm, op_reg, low_site}
 use Rattle.cell_values.specs.Comparisons.{compare}
 use Rattle.cell_values.specs.Cells.{split, join, byte_value, half_value}

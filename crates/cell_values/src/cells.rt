@@ -6,7 +6,7 @@ ghost use Rattle.cell_values.specs.Objects.{IsOfGraph};
 ghost use Rattle.cell_values.specs.Cells.{IsCellOfGraph, split, join, is_part, whole_word, bytes_of, parts_of};
 
 use crate::values::{Cell, Val};
-use word_bits::{bytes4, word4};
+use rv32im::{bytes4, word4};
 
 /// The four cells that a word fills, least byte first; a narrower store fills the first of them.
 pub fn split(v: &Val) -> [Cell; 4]

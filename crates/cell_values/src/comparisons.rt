@@ -4,7 +4,7 @@ ghost use Rattle.cell_values.specs.Comparisons.{compare, known_if, within, same_
 
 use crate::values::Val;
 use object_graph::Graph;
-use rv_decode::{BranchKind, takes};
+use rv32im::{BranchKind, takes};
 
 // Each branch of a machine asks this, so it is inlined there; the rarer comparisons stay calls.
 

@@ -5,7 +5,7 @@ ghost use Rattle.cell_values.specs.Laws.{SplitJoins, ImmediatesAreNumbers, Opera
 pub fn split_joins()
     ensures { SplitJoins }
 {
-    word_bits::bytes_rebuild();
+    rv32im::bytes_rebuild();
 }
 
 /// An operation with an immediate does what the one on registers does with the immediate as a number.
@@ -17,5 +17,5 @@ pub fn immediates_are_numbers()
 pub fn operations_keep_words()
     ensures { OperationsKeepWords }
 {
-    rv_decode::acts_keeps_words();
+    rv32im::acts_keeps_words();
 }

@@ -1,13 +1,13 @@
 ghost use Rattle.std.specs.Prelude.{◌≡◌, ◌<◌, length};
 ghost use Rattle.cell_values.specs.Objects.{IsGrain, IsOfGraph, objects_of};
-ghost use Rattle.rv_decode.specs.Operations.{operation_of};
+ghost use Rattle.rv32im.specs.Operations.{operation_of};
 ghost use Rattle.cell_values.specs.Operations.{op_imm, op_reg, by_lows, added, subtracted, masked, masked_low, masked_address, cleared_bits, changed, changed_address, flagged, numbered};
 
 use crate::comparisons::compare;
 use crate::places::{home_address, low_of};
 use crate::values::Val;
 use object_graph::Graph;
-use rv_decode::{BranchKind, ImmKind, RegKind, imm_result, reg_result};
+use rv32im::{BranchKind, ImmKind, RegKind, imm_result, reg_result};
 
 // A machine does an operation in each step, so these are inlined in it, where they have several callers and would else stay
 // calls, which pass values by way of the stack. What numbers and sums of an address and a number need not is left to cold

@@ -25,10 +25,6 @@ root_fails s best marks (over row) broken = (broken, refl, refl)
 root_fails s best marks (dual scale ms) broken = (broken, refl, refl)
 root_fails s best marks leaf broken = (broken, refl, refl)
 
-pub fails_here : (s : PlainSide) (best : ℕ) (marks : List Fixing) (t : PlainTree) (node depth : ℕ) (f : Failing) → (KeepsRule s best marks t → ⊥) → node < 2 ^ 32 → depth < 2 ^ 32 → f.node ≡ node → f.depth ≡ depth → FailsIn s best marks t node depth f
-fails_here s best marks t node depth f broken small_node small_depth is_node is_depth =
-    (0, (0, (root_fails s best marks t broken, (is_node ∙ number_here node small_node, is_depth ∙ number_here depth small_depth))))
-
 pub zero_fails : (s : PlainSide) (best : ℕ) (marks : List Fixing) (j : ℕ) (l r : PlainTree) (node depth next below : ℕ) (f : Failing) → BranchHolds s marks j → next ≡ in_32_bits (node + 1) → below ≡ in_32_bits (depth + 1) → FailsIn s best (slice_set marks j Zero) l next below f → FailsIn s best marks (branch j l r) node depth f
 zero_fails s best marks j l r node depth next below f rule is_next is_below fails =
     let n = fails.0 in

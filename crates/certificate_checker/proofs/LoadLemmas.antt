@@ -1,9 +1,8 @@
 -- One more row of a dual node, in the prices.
-use Rattle.std.proofs.Common.{◌≡◌, ◌≢◌, inl, inr, ℕ, zero, suc, ◌+◌, ◌*◌, ◌^◌, ◌<◌, ◌≤◌, List, [], ◌∷◌, ◌++◌, length, take, get_or, slice_index, replicate, Result, Ok, Err, sym, subst, ap, refl, arith}
+use Rattle.std.proofs.Common.{◌≡◌, ◌≢◌, inl, inr, ℕ, zero, suc, ◌+◌, ◌*◌, ◌^◌, ◌<◌, ◌≤◌, List, [], ◌∷◌, ◌++◌, length, take, get_or, slice_index, Result, Ok, Err, sym, subst, ap, refl, arith}
 use Rattle.std.specs.List.{sum_by}
-use Rattle.std.proofs.lemmas.Bool.{cases_eq, cases_lt}
+use Rattle.std.proofs.lemmas.Bool.{cases_eq}
 use Rattle.std.proofs.lemmas.Bool.Decides.{nat_tests}
-use Rattle.std.proofs.lemmas.List.{get_or-replicate, get_or_past, length-replicate}
 use Rattle.std.proofs.lemmas.List.Sums.{sum_by-cons, sum_by-append}
 use Rattle.placement_programme.specs.Plain.{PlainSide}
 use Rattle.placement_programme.specs.Bounds.{RowsWithin, row_of, value_of}
@@ -69,13 +68,6 @@ loaded_none s prices zeroes = record {
   low = λ j. let none = zeroes j in omega (arith, none);
   lowest = λ j. let none = zeroes j in omega (arith, none);
 }
-
-pub zeroes_at : (n row : ℕ) → slice_index (replicate n 0) row ≡ 0
-zeroes_at n row =
-    elim (cases_lt row n) [
-      | inl inside ↦ get_or-replicate n row 0 0 inside
-      | inr past ↦ let len : length (replicate n 0) ≡ n = length-replicate {A = ℕ} n 0 in get_or_past (replicate n 0) row 0 (omega (arith, len, past))
-    ]
 
 -- a row that there isn't
 pub loaded_past : (s : PlainSide) (prices : List ℕ) (row_end bound row m next : ℕ) (ms : List (ℕ × ℕ)) → IsLoaded s prices row_end bound ms → row_end ≤ row → length s.rows ≤ row → next ≡ row + 1 → IsLoaded s prices next bound (ms ++ (row, m) ∷ [])

@@ -5,13 +5,11 @@ use Rattle.std.proofs.lemmas.Bool.{ne_eqb}
 use Rattle.placement_programme.specs.Plain.{PlainSide, PlainProgramme, PlainChoice}
 use Rattle.placement_programme.specs.Bounds.{AscendWithin}
 use Rattle.placement_programme.specs.Programme.{Fits, side_for}
-use Rattle.certificate_checker.specs.declared.fault.CertFault.{CertFault}
-use Rattle.certificate_checker.specs.declared.fault.CertFault.TheVariants.{Trailing}
 use Rattle.certificate_checker.specs.declared.fields.Part.TheVariants.{Head}
 use Rattle.certificate_checker.specs.declared.walking.Failing.{Failing}
 use Rattle.certificate_checker.specs.Nodes.{PlainTree, PlainCertificate}
 use Rattle.certificate_checker.specs.Shows.{IsAccepted, in_32_bits, Answers}
-use Rattle.certificate_checker.specs.Reading.{◌>>=◌, place, number_in, vars_at, flag_at, choice_at, tree_at, most_levels, PlainTrees, second_at, trees_at, trees_for, body_at}
+use Rattle.certificate_checker.specs.Reading.{◌>>=◌, number_in, vars_at, flag_at, choice_at, tree_at, most_levels, PlainTrees, second_at, trees_at, trees_for, body_at}
 use Rattle.certificate_checker.specs.Spelling.{has_tree}
 use Rattle.certificate_checker.specs.Walks.{SideAnswers}
 use Rattle.certificate_checker.specs.Rooms.{AreTaken, vars_of, IsBest, used, verdict_for, KeepsChoice}
@@ -29,9 +27,6 @@ ascend_push low high (n ∷ ks) k order all past =
 ascend_last : (low high : ℕ) (ks : List ℕ) (k : ℕ) → AscendWithin low high (ks ++ k ∷ []) → k < high
 ascend_last low high [] k all = all.1
 ascend_last low high (n ∷ ks) k all = ascend_last (suc n) high ks k all.2
-
-pub taken_none : (limit : ℕ) → AreTaken limit 0 [] []
-taken_none limit = record { ascending = tt; tight = λ high all. omega arith; all = λ within. refl; few = omega arith; room = omega arith }
 
 pub taken_past : (limit row_end k next : ℕ) (taken ks : List ℕ) → AreTaken limit row_end taken ks → row_end ≤ k → limit ≤ k → next ≡ k + 1 → AreTaken limit next taken (ks ++ k ∷ [])
 taken_past limit row_end k next taken ks so_far past out is =
@@ -60,10 +55,6 @@ pub choice_read : (total : ℕ) (bytes : List ℕ) (on : Bool) (r0 : List ℕ) (
 unfolding choice_at
 choice_read total bytes on r0 count r1 ks r2 a b c = rw (a, b, c) refl
 
-pub choice_broken : (total : ℕ) (bytes : List ℕ) (on : Bool) (r0 : List ℕ) (count : ℕ) (r1 : List ℕ) (e : CertFault) → flag_at total bytes ≡ Ok (on, r0) → number_in Head 0 4294967295 total r0 ≡ Ok (count, r1) → vars_at total count 0 r1 ≡ Err e → choice_at total bytes ≡ Err e
-unfolding choice_at
-choice_broken total bytes on r0 count r1 e a b c = rw (a, b, c) refl
-
 far_misfits : (side : Option PlainSide) (limit row_end : ℕ) (taken ks : List ℕ) → AreTaken limit row_end taken ks → limit ≡ vars_of side → limit < row_end → IsSomeAnd side (λ s. Fits s ks) → ⊥
 far_misfits None limit row_end taken ks all is far fits = fits
 far_misfits (Some s) limit row_end taken ks all is far fits =
@@ -85,16 +76,6 @@ one_tree total bytes count r0 t r1 a b is =
 pub two_trees : (total : ℕ) (bytes : List ℕ) (count : ℕ) (r0 : List ℕ) (t : PlainTree) (r1 : List ℕ) (u : PlainTree) (r2 : List ℕ) → number_in Head 1 2 total bytes ≡ Ok (count, r0) → tree_at total most_levels r0 ≡ Ok (t, r1) → (count ≡ 1 → ⊥) → tree_at total most_levels r1 ≡ Ok (u, r2) → trees_at total bytes ≡ Ok ((Some t, Some u), r2)
 unfolding trees_at
 two_trees total bytes count r0 t r1 u r2 a b other c =
-    let test = ne_eqb count 1 other in
-    rw (a, b, test, c) refl
-
-pub off_broken : (total : ℕ) (bytes : List ℕ) (count : ℕ) (r0 : List ℕ) (e : CertFault) → number_in Head 1 2 total bytes ≡ Ok (count, r0) → tree_at total most_levels r0 ≡ Err e → trees_at total bytes ≡ Err e
-unfolding trees_at
-off_broken total bytes count r0 e a b = rw (a, b) refl
-
-pub on_broken : (total : ℕ) (bytes : List ℕ) (count : ℕ) (r0 : List ℕ) (t : PlainTree) (r1 : List ℕ) (e : CertFault) → number_in Head 1 2 total bytes ≡ Ok (count, r0) → tree_at total most_levels r0 ≡ Ok (t, r1) → (count ≡ 1 → ⊥) → tree_at total most_levels r1 ≡ Err e → trees_at total bytes ≡ Err e
-unfolding trees_at
-on_broken total bytes count r0 t r1 e a b other c =
     let test = ne_eqb count 1 other in
     rw (a, b, test, c) refl
 
@@ -144,18 +125,6 @@ verdict_right p c kept (Some g) true (Ok u) (Ok v) is has none a b =
 pub body_read : (total : ℕ) (bytes : List ℕ) (claimed : Bool) (r0 : List ℕ) (c : PlainChoice) (r1 : List ℕ) (ts : PlainTrees) (r2 : List ℕ) → flag_at total bytes ≡ Ok (claimed, r0) → choice_at total r0 ≡ Ok (c, r1) → trees_for claimed total r1 ≡ Ok (ts, r2) → length r2 ≡ 0 → body_at total bytes ≡ Ok (record { choice = c; off = ts.0; on = ts.1 })
 unfolding body_at
 body_read total bytes claimed r0 c r1 ts r2 x y z none = rw (x, y, z, none) refl
-
-pub body_trailing : (total : ℕ) (bytes : List ℕ) (claimed : Bool) (r0 : List ℕ) (c : PlainChoice) (r1 : List ℕ) (ts : PlainTrees) (r2 : List ℕ) → flag_at total bytes ≡ Ok (claimed, r0) → choice_at total r0 ≡ Ok (c, r1) → trees_for claimed total r1 ≡ Ok (ts, r2) → (length r2 ≡ 0 → ⊥) → body_at total bytes ≡ Err (Trailing (place total r2))
-unfolding body_at
-body_trailing total bytes claimed r0 c r1 ts r2 x y z some = let test = ne_eqb (length r2) 0 some in rw (x, y, z, test) refl
-
-pub trees_broken : (total : ℕ) (bytes : List ℕ) (claimed : Bool) (r0 : List ℕ) (c : PlainChoice) (r1 : List ℕ) (e : CertFault) → flag_at total bytes ≡ Ok (claimed, r0) → choice_at total r0 ≡ Ok (c, r1) → trees_for claimed total r1 ≡ Err e → body_at total bytes ≡ Err e
-unfolding body_at
-trees_broken total bytes claimed r0 c r1 e x y z = rw (x, y, z) refl
-
-pub choice_fails : (total : ℕ) (bytes : List ℕ) (claimed : Bool) (r0 : List ℕ) (e : CertFault) → flag_at total bytes ≡ Ok (claimed, r0) → choice_at total r0 ≡ Err e → body_at total bytes ≡ Err e
-unfolding body_at
-choice_fails total bytes claimed r0 e x y = rw (x, y) refl
 
 -- a missing tree fails at its node 0
 pub missing_first : (s : PlainSide) (best : ℕ) (r : Result (Unit {0}) Failing) → r ≡ Err record { node = 0; depth = 0 } → SideAnswers (Some s) best None r

@@ -124,13 +124,6 @@ rows_entered vars n next high old new ws is_next is are same so_far entered row 
     subst (λ k. IsRowOf vars k row (row_at new row)) (sym is_next)
     (subst (λ es. IsRowOf vars (suc n) row es) (sym (entered row before)) (row_entered vars n row high (row_at old row) ws is are (so_far row before)))
 
-pub no_vars : (vars : List PlainVar) (rows : List (List (ℕ × ℕ))) → ((row : ℕ) → row_at rows row ≡ []) → AreRowsOf vars 0 rows
-no_vars vars rows bare row inside =
-    subst (λ es. IsRowOf vars 0 row es) (sym (bare row)) (record {
-      weights = record { ascending = tt; small = λ k d below. absurd (omega (arith, below)) };
-      values = λ j below. absurd (omega (arith, below));
-    })
-
 -- ---- rows without weights
 
 pub bare_more : (rows : List (Vec (ℕ × ℕ) Global)) (row : Vec (ℕ × ℕ) Global) → row.items ≡ [] → ((r : ℕ) → row_at (plain_rows rows) r ≡ []) → (r : ℕ) → row_at (plain_rows (rows ++ row ∷ [])) r ≡ []

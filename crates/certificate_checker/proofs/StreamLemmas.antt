@@ -1,24 +1,17 @@
 -- A walk over the text of a tree.
-use Rattle.std.proofs.Common.{◌≡◌, ◌∙◌, ◌↔◌, IsTrue, ℕ, zero, suc, ◌-◌, ◌+◌, ◌<◌, ◌≤◌, Bool, List, [], ◌∷◌, length, slice_index, slice_set, Result, Ok, Err, refl, sym, ap, subst, arith}
-use Rattle.std.specs.Result.{OnOk}
+use Rattle.std.proofs.Common.{◌≡◌, ◌∙◌, ◌↔◌, IsTrue, ℕ, zero, suc, ◌-◌, ◌≤◌, Bool, List, [], ◌∷◌, length, slice_index, Ok, Err, refl, sym, ap, arith}
 use Rattle.placement_programme.specs.Plain.{PlainSide}
 use Rattle.placement_programme.proofs.RowLemmas.{rows_higher}
 use Rattle.certificate_checker.specs.declared.fault.CertFault.{CertFault}
 use Rattle.certificate_checker.specs.declared.fields.Part.TheVariants.{Node}
-use Rattle.certificate_checker.specs.declared.walking.Failing.{Failing}
-use Rattle.certificate_checker.specs.Nodes.{PlainTree, branch, over, dual, leaf}
-use Rattle.certificate_checker.specs.Rules.{kept, BranchHolds, KeepsRule, DualHolds}
-use Rattle.certificate_checker.specs.Shows.{in_32_bits}
+use Rattle.certificate_checker.specs.Nodes.{PlainTree, branch, over, dual}
+use Rattle.certificate_checker.specs.Rules.{DualHolds}
 use Rattle.certificate_checker.specs.Parts.{SumsHold}
 use Rattle.certificate_checker.specs.Digits.{number_at}
 use Rattle.certificate_checker.specs.declared.fields.Part.{Part}
 use Rattle.certificate_checker.specs.Reading.{number_in, entries_at, over_at, dual_at, tree_at, cut_off, below_all}
-use Rattle.certificate_checker.specs.Walks.{FailsIn, Walks}
-use Rattle.certificate_checker.specs.Loading.{IsLoaded, IsSingle, behind_of, both_of}
-use Rattle.certificate_checker.specs.Fixings.{fixing_of}
+use Rattle.certificate_checker.specs.Loading.{IsLoaded}
 use Rattle.certificate_checker.specs.declared.fixings.Fixing.{Fixing}
-use Rattle.certificate_checker.specs.declared.fixings.Fixing.TheVariants.{Zero, One}
-use Rattle.certificate_checker.proofs.Failures.{zero_fails, one_fails, both_hold, marks_one, marks_back}
 use Rattle.certificate_checker.proofs.FieldLaws.{ranged_take}
 use Rattle.certificate_checker.proofs.Pricing.{dual_tested}
 
@@ -27,53 +20,14 @@ pub var_broken : (total levels : ℕ) (bytes : List ℕ) (e : CertFault) → num
 unfolding tree_at
 var_broken total levels bytes e a = rw a refl
 
-pub first_broken : (total levels : ℕ) (bytes : List ℕ) (var : ℕ) (r0 : List ℕ) (e : CertFault) → number_in Node 0 4294967295 total bytes ≡ Ok (var, r0) → tree_at total levels r0 ≡ Err e → tree_at total (suc levels) (0 ∷ bytes) ≡ Err e
-unfolding tree_at
-first_broken total levels bytes var r0 e a b = rw (a, b) refl
-
-pub second_broken : (total levels : ℕ) (bytes : List ℕ) (var : ℕ) (r0 : List ℕ) (l : PlainTree) (r1 : List ℕ) (e : CertFault) → number_in Node 0 4294967295 total bytes ≡ Ok (var, r0) → tree_at total levels r0 ≡ Ok (l, r1) → tree_at total levels r1 ≡ Err e → tree_at total (suc levels) (0 ∷ bytes) ≡ Err e
-unfolding tree_at
-second_broken total levels bytes var r0 l r1 e a b c = rw (a, b, c) refl
-
 pub branch_read : (total levels : ℕ) (bytes : List ℕ) (var : ℕ) (r0 : List ℕ) (l : PlainTree) (r1 : List ℕ) (r : PlainTree) (r2 : List ℕ) → number_in Node 0 4294967295 total bytes ≡ Ok (var, r0) → tree_at total levels r0 ≡ Ok (l, r1) → tree_at total levels r1 ≡ Ok (r, r2) → tree_at total (suc levels) (0 ∷ bytes) ≡ Ok (branch var l r, r2)
 unfolding tree_at
 branch_read total levels bytes var r0 l r1 r r2 a b c = rw (a, b, c) refl
-
--- two children's answers make the branch's
-pub joined_walks : (s : PlainSide) (best : ℕ) (marks m1 : List Fixing) (var : ℕ) (l r : PlainTree) (node depth next below : ℕ) (first second : Result ℕ Failing) → BranchHolds s marks var → next ≡ in_32_bits (node + 1) → below ≡ in_32_bits (depth + 1) → Walks s best (slice_set marks var Zero) l next below first → OnOk first (m1 ≡ slice_set marks var Zero) → Walks s best (slice_set m1 var One) r (behind_of first) below second → Walks s best marks (branch var l r) node depth (both_of first second)
-joined_walks s best marks m1 var l r node depth next below (Err f) second rule is_next is_below left kept right =
-    zero_fails s best marks var l r node depth next below f rule is_next is_below left
-joined_walks s best marks m1 var l r node depth next below (Ok middle) (Ok end) rule is_next is_below left kept right =
-    let ones = marks_one marks m1 var kept in
-    both_hold s best marks var l r node depth next below middle end rule is_next left
-    (subst (λ m. Walks s best m r middle below (Ok end)) ones right)
-joined_walks s best marks m1 var l r node depth next below (Ok middle) (Err f) rule is_next is_below left kept right =
-    let ones = marks_one marks m1 var kept in
-    one_fails s best marks var l r node depth next below middle f rule left.0 is_next is_below left.1
-    (subst (λ m. FailsIn s best m r middle below f) ones right)
-
-pub joined_kept : (marks m1 m2 : List Fixing) (var : ℕ) (old : Fixing) (first second : Result ℕ Failing) → OnOk first (m1 ≡ slice_set marks var Zero) → OnOk second (m2 ≡ slice_set m1 var One) → old ≡ fixing_of marks var → OnOk (both_of first second) (slice_set m2 var old ≡ marks)
-joined_kept marks m1 m2 var old (Err f) second a b is = tt
-joined_kept marks m1 m2 var old (Ok middle) (Err f) a b is = tt
-joined_kept marks m1 m2 var old (Ok middle) (Ok end) a b is = marks_back marks m1 m2 var old a b is
-
--- a single node's answer
-pub single_holds : (s : PlainSide) (best : ℕ) (marks : List Fixing) (t : PlainTree) (node depth next : ℕ) → IsSingle t → KeepsRule s best marks t → next ≡ in_32_bits (node + 1) → Walks s best marks t node depth (Ok next)
-single_holds s best marks (branch j l r) node depth next single rule is = absurd single
-single_holds s best marks (over row) node depth next single rule is = (rule, is)
-single_holds s best marks (dual scale ms) node depth next single rule is = (rule, is)
-single_holds s best marks leaf node depth next single rule is = (rule, is)
 
 -- a dual node's rule, by the prices that its rows make and their reach
 pub listed_tested : (s : PlainSide) (best : ℕ) (marks : List Fixing) (prices : List ℕ) (scale row_end total : ℕ) (ms : List (ℕ × ℕ)) (b : Bool) → IsLoaded s prices row_end total ms → row_end ≤ length s.rows → 1 ≤ scale → scale ≤ 65536 → (IsTrue b ↔ SumsHold s best marks scale total (λ j. slice_index prices j)) → (IsTrue b ↔ DualHolds s best marks scale ms)
 listed_tested s best marks prices scale row_end total ms b loaded within least most test =
     dual_tested s best marks scale total (λ j. slice_index prices j) ms b (rows_higher 0 row_end (length s.rows) ms within loaded.ascending) (loaded.values within) least most (loaded.bound within) test
-
--- where rows reach past those of the side, the rule is broken
-pub reach_breaks : (s : PlainSide) (best : ℕ) (marks : List Fixing) (prices : List ℕ) (scale row_end total : ℕ) (ms : List (ℕ × ℕ)) → IsLoaded s prices row_end total ms → length s.rows < row_end → DualHolds s best marks scale ms → ⊥
-reach_breaks s best marks prices scale row_end total ms loaded past holds =
-    let within = loaded.tight (length s.rows) holds.rows in
-    omega (arith, within, past)
 
 -- a number is no less than the least
 pub number_from : (part : Part) (least most total : ℕ) (bytes : List ℕ) (n : ℕ) (rest : List ℕ) → number_in part least most total bytes ≡ Ok (n, rest) → least ≤ n

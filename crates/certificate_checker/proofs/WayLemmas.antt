@@ -261,14 +261,6 @@ at_root s best total levels bytes path marks unfixed =
       so_far = record { written = tt; fixed = unfixed; number = number_flat 0 (omega arith); held = tt };
     }
 
-pub whole_read : (x : TreeText) (path : List PathStep) (marks : List Fixing) (depth : ℕ) (o : Result ℕ Failing) (rest : List ℕ) → depth ≡ 0 → IsBehind x path marks depth o rest → (t : PlainTree) × ((tree_at x.total x.levels x.bytes ≡ Ok (t, rest)) × Walks x.side x.best (all_free x.side) t 0 0 o)
-whole_read x path marks depth o rest none b = at b.way b.tree b.long b.read o b.so_far
-  where
-    at : (way : List Step) (t : PlainTree) → length way ≡ depth → resumed x.total x.levels way (Ok (t, rest)) ≡ tree_at x.total x.levels x.bytes → (o : Result ℕ Failing) → Behind x.side x.best way t path marks o → (t : PlainTree) × ((tree_at x.total x.levels x.bytes ≡ Ok (t, rest)) × Walks x.side x.best (all_free x.side) t 0 0 o)
-    at (step ∷ way) t long read o b = absurd (omega (arith, long, none))
-    at [] t long read (Ok next) b = (t, (sym read, (b.tree, b.number)))
-    at [] t long read (Err f) b = (t, (sym read, b.1 t refl))
-
 -- a step forward can be taken as long as the walk isn't done
 pub can_advance : (x : TreeText) (path : List PathStep) (marks : List Fixing) (depth : ℕ) (ended : Bool) (o : Result ℕ Failing) (rest : List ℕ) → length x.side.vars ≤ length marks → ((ended ≡ true) × (depth ≡ 0) → ⊥) → StandsAt x path marks depth ended o rest → IfEnded ended (CanRise path marks depth o)
 can_advance x path marks depth false o rest wide going b = tt

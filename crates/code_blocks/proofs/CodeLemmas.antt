@@ -6,9 +6,9 @@ use Rattle.std.proofs.lemmas.List.{map-append, take_more}
 use Rattle.std.proofs.lemmas.List.Elements.{All-push}
 use Rattle.list_checks.specs.First.{◌or_else◌}
 use Rattle.elf_reader.specs.File.{PlainView}
-use Rattle.code_leaders.specs.Early.{has}
-use Rattle.code_leaders.specs.AllLeaders.{IsLeaders}
-use Rattle.code_leaders.specs.declared.lists.Leaders.{Leaders}
+use Rattle.code_blocks.specs.Early.{has}
+use Rattle.code_blocks.specs.AllLeaders.{IsLeaders}
+use Rattle.code_blocks.specs.declared.lists.Leaders.{Leaders}
 use Rattle.code_blocks.specs.Blocks.{start_of, IsBlock, IsCode}
 use Rattle.code_blocks.specs.Kept.{AreKept}
 use Rattle.code_blocks.specs.declared.fault.CodeFault.{CodeFault}

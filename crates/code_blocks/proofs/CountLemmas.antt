@@ -6,14 +6,14 @@ use Rattle.std.proofs.lemmas.Bool.{eqb-true}
 use Rattle.std.proofs.lemmas.Bool.Decides.{nat_tests}
 use Rattle.std.proofs.lemmas.List.Kept.{AllPairs-from_increasing}
 use Rattle.std.proofs.lemmas.List.Folds.{list_any_none}
-use Rattle.code_leaders.specs.Early.{has}
+use Rattle.code_blocks.specs.Early.{has}
 use Rattle.elf_reader.specs.File.{plain_view}
 use Rattle.elf_reader.specs.declared.view.ElfView.{ElfView}
 use Rattle.loaded_file.specs.Read.{IsRead}
-use Rattle.code_leaders.specs.Leaders.{is_leader}
-use Rattle.code_leaders.specs.AllLeaders.{IsLeaders}
-use Rattle.code_leaders.specs.declared.lists.Leaders.{Leaders}
-use Rattle.code_leaders.proofs.LeaderLemmas.{leader_is_code}
+use Rattle.code_blocks.specs.Leaders.{is_leader}
+use Rattle.code_blocks.specs.AllLeaders.{IsLeaders}
+use Rattle.code_blocks.specs.declared.lists.Leaders.{Leaders}
+use Rattle.code_blocks.proofs.LeaderLemmas.{leader_is_code}
 use Rattle.code_blocks.specs.Blocks.{count_below, address_count, block_count}
 use Rattle.code_blocks.proofs.RangeLemmas.{code_fits}
 use Rattle.code_blocks.proofs.ListLemmas.{has_first, has_later}

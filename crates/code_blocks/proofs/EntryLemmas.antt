@@ -6,8 +6,8 @@ use Rattle.list_checks.proofs.FirstLemmas.{both_none, holds}
 use Rattle.list_checks.specs.Tests.{any_below}
 use Rattle.elf_reader.specs.File.{PlainView}
 use Rattle.loaded_file.specs.Code.{is_code_word}
-use Rattle.code_leaders.specs.Words.{any_code_word}
-use Rattle.code_leaders.specs.Leaders.{is_function_at, makes_address, goes_to, comes_back, pair_goes_to, pair_comes_back, is_leader}
+use Rattle.code_blocks.specs.Words.{any_code_word}
+use Rattle.code_blocks.specs.Leaders.{is_function_at, makes_address, goes_to, comes_back, pair_goes_to, pair_comes_back, is_leader}
 use Rattle.code_blocks.specs.Blocks.{is_any, code_fault}
 use Rattle.code_blocks.specs.declared.fault.CodeFault.TheVariants.{NoText, EntryNotLeader}
 

@@ -11,7 +11,7 @@ use Rattle.list_checks.specs.Tests.{ranges_overlap}
 use Rattle.list_checks.proofs.TestLemmas.{both}
 use Rattle.elf_reader.specs.File.{PlainView}
 use Rattle.loaded_file.specs.Records.{symbol_at}
-use Rattle.code_leaders.specs.Early.{has}
+use Rattle.code_blocks.specs.Early.{has}
 use Rattle.code_blocks.specs.Functions.{comes_before, functions_overlap, keeps_out}
 use Rattle.code_blocks.specs.Blocks.{name_of, IsFunction}
 use Rattle.code_blocks.specs.Kept.{AreDisjoint}

@@ -21,8 +21,8 @@ use Rattle.loaded_file.specs.Code.{is_code_range}
 use Rattle.loaded_file.specs.Records.{symbol_at}
 use Rattle.loaded_file.specs.Read.{IsRead}
 use Rattle.loaded_file.proofs.WordLemmas.{range_ends, lies_to}
-use Rattle.code_leaders.specs.Early.{has}
-use Rattle.code_leaders.proofs.LeaderLemmas.{both_pass}
+use Rattle.code_blocks.specs.Early.{has}
+use Rattle.code_blocks.proofs.LeaderLemmas.{both_pass}
 use Rattle.code_blocks.specs.Functions.{lies_in_range, is_function, comes_before}
 use Rattle.code_blocks.specs.Kept.{key_of, name_in, key_at, passes_key, AreKeys}
 use Rattle.code_blocks.proofs.ListLemmas.{any_map, has_at}

@@ -1,3 +1,8 @@
+pub mod LeaderLemmas
+pub mod MeaningLemmas
+pub mod EarlyLemmas
+pub mod SearchLemmas
+pub mod PairLemmas
 pub mod ListLemmas
 pub mod RangeLemmas
 pub mod StepLemmas

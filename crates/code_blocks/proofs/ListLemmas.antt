@@ -4,8 +4,8 @@ use Rattle.std.specs.List.{list_any}
 use Rattle.std.proofs.lemmas.Bool.{eqb-true, eq-eqb}
 use Rattle.std.proofs.lemmas.List.Folds.{list_any_at}
 use Rattle.list_checks.proofs.TestLemmas.{either}
-use Rattle.code_leaders.specs.Early.{has}
-use Rattle.code_leaders.proofs.LeaderLemmas.{left_passes, right_passes}
+use Rattle.code_blocks.specs.Early.{has}
+use Rattle.code_blocks.proofs.LeaderLemmas.{left_passes, right_passes}
 
 -- a list passes a test where the list that it is made from passes the test of what is made
 pub any_map : {A B : Type 0} (f : A → B) (test : B → Bool) (xs : List A) → list_any test (map f xs) ≡ list_any (λ x. test (f x)) xs

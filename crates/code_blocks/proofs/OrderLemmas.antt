@@ -8,7 +8,7 @@ use Rattle.list_checks.specs.Tests.{any_below, ranges_overlap}
 use Rattle.list_checks.proofs.TestLemmas.{both, not_true}
 use Rattle.elf_reader.specs.File.{PlainView}
 use Rattle.loaded_file.specs.Records.{symbol_at}
-use Rattle.code_leaders.specs.Early.{has}
+use Rattle.code_blocks.specs.Early.{has}
 use Rattle.code_blocks.specs.Functions.{is_function, lies_in_range, comes_before, keeps_out, IsKept}
 use Rattle.code_blocks.specs.Blocks.{name_of, IsCode}
 use Rattle.code_blocks.specs.declared.parts.Code.{Code}

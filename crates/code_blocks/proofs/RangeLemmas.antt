@@ -15,7 +15,7 @@ use Rattle.loaded_file.specs.Code.{is_code_range, holds_code, is_code_word}
 use Rattle.loaded_file.specs.Read.{IsRead}
 use Rattle.loaded_file.proofs.DisjointSections.{one_range}
 use Rattle.loaded_file.proofs.WordLemmas.{word_fits, range_below, range_ends, lies_from, lies_to}
-use Rattle.code_leaders.proofs.LeaderLemmas.{both_pass}
+use Rattle.code_blocks.proofs.LeaderLemmas.{both_pass}
 use Rattle.code_blocks.specs.Ends.{range_at}
 
 -- a range that holds the word is found

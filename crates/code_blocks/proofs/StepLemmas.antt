@@ -3,16 +3,16 @@ use Rattle.std.proofs.Common.{◌≡◌, ◌∙◌, ℕ, suc, ◌+◌, ◌*◌, 
 use Rattle.std.specs.List.{All}
 use Rattle.std.proofs.lemmas.List.{map-append}
 use Rattle.std.proofs.lemmas.List.Elements.{All-nil, All-push}
-use Rattle.rv_decode.specs.Table.{Means, MeansNothing}
+use Rattle.rv32im.specs.Table.{Means, MeansNothing}
 use Rattle.list_checks.specs.First.{◌or_else◌, first_below}
 use Rattle.elf_reader.specs.File.{PlainView}
 use Rattle.loaded_file.specs.Code.{image_word}
-use Rattle.code_leaders.specs.Words.{is_branch, is_jal, is_jalr, branch_target}
-use Rattle.code_leaders.specs.Meanings.{is_ebreak, has_meaning}
-use Rattle.code_leaders.specs.Leaders.{is_call_pair, is_leader}
-use Rattle.code_leaders.specs.Early.{has}
-use Rattle.code_leaders.specs.AllLeaders.{IsLeaders}
-use Rattle.code_leaders.specs.declared.lists.Leaders.{Leaders}
+use Rattle.code_blocks.specs.Words.{is_branch, is_jal, is_jalr, branch_target}
+use Rattle.code_blocks.specs.Meanings.{is_ebreak, has_meaning}
+use Rattle.code_blocks.specs.Leaders.{is_call_pair, is_leader}
+use Rattle.code_blocks.specs.Early.{has}
+use Rattle.code_blocks.specs.AllLeaders.{IsLeaders}
+use Rattle.code_blocks.specs.declared.lists.Leaders.{Leaders}
 use Rattle.code_blocks.specs.Ends.{pair_end, jal_end, jalr_end, jump_end, end_or, end_from, range_at, words_left_in, words_left}
 use Rattle.code_blocks.specs.Blocks.{goes_on, unit_addresses, unit_at, IsUnit}
 use Rattle.code_blocks.specs.Steps.{fall_end, end_behind, IsWalk}

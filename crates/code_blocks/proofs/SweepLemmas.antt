@@ -7,8 +7,8 @@ use Rattle.elf_reader.specs.File.{PlainView, plain_symbol, plain_view}
 use Rattle.elf_reader.specs.declared.view.ElfView.{ElfView}
 use Rattle.loaded_file.specs.Records.{symbol_at}
 use Rattle.loaded_file.specs.Read.{IsRead}
-use Rattle.code_leaders.specs.Early.{has}
-use Rattle.code_leaders.proofs.SearchLemmas.{has_found}
+use Rattle.code_blocks.specs.Early.{has}
+use Rattle.code_blocks.proofs.SearchLemmas.{has_found}
 use Rattle.code_blocks.specs.Functions.{comes_before, keeps_out}
 use Rattle.code_blocks.specs.Blocks.{name_of}
 use Rattle.code_blocks.specs.Kept.{name_in, AreKeys, AreKept}

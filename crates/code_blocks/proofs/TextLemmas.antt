@@ -7,8 +7,8 @@ use Rattle.elf_reader.specs.File.{PlainSection, PlainView}
 use Rattle.elf_reader.specs.Loaded.{section_at}
 use Rattle.loaded_file.specs.Code.{is_code_range}
 use Rattle.loaded_file.proofs.WordLemmas.{lies_to}
-use Rattle.code_leaders.specs.Words.{first_word, code_word, passes_at, passes_in}
-use Rattle.code_leaders.proofs.LeaderLemmas.{both_pass}
+use Rattle.code_blocks.specs.Words.{first_word, code_word, passes_at, passes_in}
+use Rattle.code_blocks.proofs.LeaderLemmas.{both_pass}
 use Rattle.code_blocks.specs.Blocks.{is_any}
 
 made : (base size a : ℕ) → base ≤ a → a + 4 ≤ base + size → lies_in base size a 4 ≡ true

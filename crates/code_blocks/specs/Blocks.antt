@@ -3,14 +3,14 @@ use Rattle.std.specs.Prelude.{◌≡◌, ℕ, zero, suc, ◌+◌, ◌<◌, nat_l
 use Rattle.std.specs.List.{All, list_any}
 use Rattle.std.specs.List.Sorted.{IsStrictlyIncreasing}
 use Rattle.list_checks.specs.First.{◌or_else◌, unless}
-use Rattle.rv_decode.specs.Table.{Means, MeansNothing}
+use Rattle.rv32im.specs.Table.{Means, MeansNothing}
 use Rattle.elf_reader.specs.File.{PlainView}
 use Rattle.loaded_file.specs.Code.{is_code_word, image_word}
 use Rattle.loaded_file.specs.Records.{symbol_at}
-use Rattle.code_leaders.specs.Words.{is_branch, is_jal, is_jalr, any_code_word}
-use Rattle.code_leaders.specs.Meanings.{is_ebreak, has_meaning}
-use Rattle.code_leaders.specs.Leaders.{is_call_pair, is_leader, is_indirect}
-use Rattle.code_leaders.specs.Early.{has}
+use Rattle.code_blocks.specs.Words.{is_branch, is_jal, is_jalr, any_code_word}
+use Rattle.code_blocks.specs.Meanings.{is_ebreak, has_meaning}
+use Rattle.code_blocks.specs.Leaders.{is_call_pair, is_leader, is_indirect}
+use Rattle.code_blocks.specs.Early.{has}
 use Rattle.code_blocks.specs.Ends.{words_left, end_of}
 use Rattle.code_blocks.specs.Functions.{IsKept}
 use Rattle.code_blocks.specs.declared.parts.Unit.{Unit}

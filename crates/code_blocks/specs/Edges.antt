@@ -2,7 +2,7 @@
 use Rattle.std.specs.Prelude.{ℕ, ◌==◌, Bool, true, false, ◌&&◌, List, [], ◌∷◌}
 use Rattle.std.specs.List.{list_any}
 use Rattle.elf_reader.specs.File.{PlainView}
-use Rattle.code_leaders.specs.Leaders.{is_leader, is_indirect}
+use Rattle.code_blocks.specs.Leaders.{is_leader, is_indirect}
 use Rattle.code_blocks.specs.Ends.{end_of}
 use Rattle.code_blocks.specs.declared.ends.End.{End}
 use Rattle.code_blocks.specs.declared.ends.End.TheVariants.{Fall, Branch, Jump, Call, Tail, Indirect, Stop}

@@ -1,13 +1,13 @@
 -- How a block ends, found by walking through its words.
 use Rattle.std.specs.Prelude.{ℕ, zero, suc, ◌+◌, ◌-◌, ◌/◌, not, if◌then◌else◌, length, Option, Some, None}
 use Rattle.list_checks.specs.First.{unless, first_below}
-use Rattle.rv_decode.specs.Fields.{rd_of}
+use Rattle.rv32im.specs.Fields.{rd_of}
 use Rattle.elf_reader.specs.File.{PlainView}
 use Rattle.elf_reader.specs.Loaded.{section_at}
 use Rattle.loaded_file.specs.Code.{holds_code, image_word}
-use Rattle.code_leaders.specs.Words.{is_branch, is_jal, is_jalr, links, branch_target, jal_target, pair_target}
-use Rattle.code_leaders.specs.Meanings.{is_ebreak, has_meaning}
-use Rattle.code_leaders.specs.Leaders.{is_call_pair, is_leader}
+use Rattle.code_blocks.specs.Words.{is_branch, is_jal, is_jalr, links, branch_target, jal_target, pair_target}
+use Rattle.code_blocks.specs.Meanings.{is_ebreak, has_meaning}
+use Rattle.code_blocks.specs.Leaders.{is_call_pair, is_leader}
 use Rattle.code_blocks.specs.declared.ends.End.{End}
 use Rattle.code_blocks.specs.declared.ends.End.TheVariants.{Fall, Branch, Jump, Call, Tail, Indirect, Stop}
 

@@ -6,7 +6,7 @@ use Rattle.elf_reader.specs.File.{PlainView}
 use Rattle.elf_reader.specs.Loaded.{section_at}
 use Rattle.loaded_file.specs.Code.{is_code_range}
 use Rattle.loaded_file.specs.Records.{symbol_at}
-use Rattle.code_leaders.specs.Early.{has}
+use Rattle.code_blocks.specs.Early.{has}
 
 -- the whole range of symbol `k` lies in code range `j`
 abbrev pub lies_in_range : PlainView → ℕ → ℕ → Bool

@@ -4,8 +4,8 @@ use Rattle.std.specs.List.{All}
 use Rattle.list_checks.specs.First.{◌or_else◌}
 use Rattle.elf_reader.specs.File.{PlainView}
 use Rattle.loaded_file.specs.Code.{image_word}
-use Rattle.code_leaders.specs.Meanings.{has_meaning}
-use Rattle.code_leaders.specs.Leaders.{is_leader}
+use Rattle.code_blocks.specs.Meanings.{has_meaning}
+use Rattle.code_blocks.specs.Leaders.{is_leader}
 use Rattle.code_blocks.specs.Ends.{jump_end, end_from}
 use Rattle.code_blocks.specs.Blocks.{unit_addresses, unit_at, IsUnit}
 use Rattle.code_blocks.specs.declared.ends.End.{End}

@@ -4,17 +4,18 @@ ghost use Rattle.list_checks.specs.First.{◌or_else◌, unless, Reports, Report
 ghost use Rattle.elf_reader.specs.File.{plain_view};
 ghost use Rattle.loaded_file.specs.Code.{is_code_word};
 ghost use Rattle.loaded_file.specs.Read.{IsRead};
-ghost use Rattle.code_leaders.specs.Words.{any_code_word};
-ghost use Rattle.code_leaders.specs.AllLeaders.{IsLeaders};
+ghost use Rattle.code_blocks.specs.Words.{any_code_word};
+ghost use Rattle.code_blocks.specs.AllLeaders.{IsLeaders};
 ghost use Rattle.code_blocks.specs.Blocks.{start_of, IsBlock, IsFunctionOf, IsCode, is_any, block_count, code_fault};
 ghost use Rattle.code_blocks.specs.Kept.{AreKept, AreDisjoint};
 
 use crate::fault::CodeFault;
 use crate::functions_kept::{function_of, kept_functions};
+use crate::lists::Leaders;
 use crate::parts::{Block, Code, Function};
+use crate::strata::leaders;
 use crate::texts::has_text;
 use crate::walking::walk_from;
-use code_leaders::{Leaders, leaders};
 use elf_reader::ElfView;
 use loaded_file::{LoadedFile, is_code_word};
 use std::alloc::{AllocError, Global};

@@ -1,5 +1,5 @@
 use crate::ends::End;
-use rv_decode::Instr;
+use rv32im::Instr;
 
 /// What one step runs: an instruction, a call of two instructions, or a word that means none.
 #[derive(Clone, Copy)]

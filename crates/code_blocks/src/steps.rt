@@ -1,26 +1,25 @@
 ghost use Rattle.std.specs.Prelude.{◌≡◌, ℕ, ◌+◌, ◌^◌, ◌<◌, true, if◌then◌else◌, MatchOption};
 ghost use Rattle.std.specs.List.Sorted.{IsStrictlyIncreasing};
-ghost use Rattle.word_bits.specs.Words.{offset};
-ghost use Rattle.rv_decode.specs.Fields.{rd_of, j_immediate};
-ghost use Rattle.rv_decode.specs.Table.{Means, MeansNothing};
+ghost use Rattle.rv32im.specs.Words.{offset};
+ghost use Rattle.rv32im.specs.Fields.{rd_of, j_immediate};
+ghost use Rattle.rv32im.specs.Table.{Means, MeansNothing};
 ghost use Rattle.elf_reader.specs.File.{plain_view};
 ghost use Rattle.loaded_file.specs.Code.{image_word};
 ghost use Rattle.loaded_file.specs.Read.{IsRead};
-ghost use Rattle.code_leaders.specs.Words.{links};
-ghost use Rattle.code_leaders.specs.Leaders.{is_call_pair};
-ghost use Rattle.code_leaders.specs.Early.{has};
-ghost use Rattle.code_leaders.specs.AllLeaders.{IsLeaders};
+ghost use Rattle.code_blocks.specs.Words.{links};
+ghost use Rattle.code_blocks.specs.Leaders.{is_call_pair};
+ghost use Rattle.code_blocks.specs.Early.{has};
+ghost use Rattle.code_blocks.specs.AllLeaders.{IsLeaders};
 ghost use Rattle.code_blocks.specs.Ends.{pair_end, jump_end};
 ghost use Rattle.code_blocks.specs.Steps.{end_behind};
 
 use crate::ends::End;
+use crate::lists::Leaders;
+use crate::meanings::{has_meaning, is_branch, is_ebreak, is_jal, is_jalr, links};
 use crate::parts::Unit;
-use code_leaders::{
-    Leaders, branch_target, has_meaning, is_branch, is_ebreak, is_jal, is_jalr, jal_target, links,
-    pair_target,
-};
+use crate::targets::{branch_target, jal_target, pair_target};
 use loaded_file::{LoadedFile, word_of_code};
-use rv_decode::{decode, rd};
+use rv32im::{decode, rd};
 
 /// The unit that `word` begins, which stands at `address`.
 pub(crate) fn unit_at(leaders: &Leaders, address: u32, word: u32) -> Unit

@@ -4,15 +4,15 @@ ghost use Rattle.elf_reader.specs.File.{plain_view};
 ghost use Rattle.elf_reader.specs.Loaded.{section_at};
 ghost use Rattle.loaded_file.specs.Code.{holds_code};
 ghost use Rattle.loaded_file.specs.Read.{IsRead};
-ghost use Rattle.code_leaders.specs.AllLeaders.{IsLeaders};
+ghost use Rattle.code_blocks.specs.AllLeaders.{IsLeaders};
 ghost use Rattle.code_blocks.specs.Ends.{words_left};
 ghost use Rattle.code_blocks.specs.Steps.{IsWalk};
 
 use crate::ends::End;
+use crate::lists::Leaders;
 use crate::parts::Unit;
 use crate::ranges::{lowest_range, words_from};
 use crate::steps::{end_behind, unit_at};
-use code_leaders::Leaders;
 use loaded_file::{LoadedFile, word_in};
 use std::alloc::{AllocError, Global};
 

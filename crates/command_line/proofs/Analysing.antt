@@ -11,15 +11,15 @@ use Rattle.loaded_file.proofs.WordLemmas.{same_view}
 use Rattle.relink_core.specs.Faults.{IsFirst}
 use Rattle.relink_core.specs.declared.fault.AnalyseFault.{AnalyseFault}
 use Rattle.relink_core.specs.declared.fault.AnalyseFault.TheVariants as analyse
-use Rattle.command_faults.specs.FaultLine.{parts_of, board_command_fault, analyse_command_fault}
+use Rattle.command_language.specs.FaultLine.{parts_of, board_command_fault, analyse_command_fault}
 use Rattle.command_line.specs.Analysed.{IsOpened, RejectsAnalysed, of_board, of_analysis}
 use Rattle.command_line.specs.ProgramRun.{RejectsProfiled}
 use Rattle.command_line.specs.ProgramRun as program
 use Rattle.command_line.specs.CompareFiles.{RejectsCompared}
 use Rattle.command_line.specs.CompareFiles as compared
 use Rattle.command_line.specs.declared.opening.Opened.{Opened}
-use Rattle.command_faults.specs.declared.faults.CommandFault.{CommandFault}
-use Rattle.command_faults.specs.declared.faults.CommandFault.TheVariants as command_fault
+use Rattle.command_language.specs.declared.faults.CommandFault.{CommandFault}
+use Rattle.command_language.specs.declared.faults.CommandFault.TheVariants as command_fault
 
 -- the view of a file that was opened
 abbrev pub opened_view : (board_text file : List ℕ) (o : Opened) → IsOpened board_text file o → plain_view o.analysis.view ≡ view_in file

@@ -15,7 +15,7 @@ use Rattle.certificate_checker.specs.declared.fault.CertFault.{CertFault}
 use Rattle.certificate_checker.specs.declared.fault.CertFault.TheVariants as cert
 use Rattle.certificate_checker.proofs.Least.{shown_is_least}
 use Rattle.certificate_checker.proofs.TextLaws.{certificate_takes}
-use Rattle.command_faults.specs.FaultLine.{parts_of, cert_command_fault}
+use Rattle.command_language.specs.FaultLine.{parts_of, cert_command_fault}
 use Rattle.command_line.specs.Analysed.{Accepts, IsOpened}
 use Rattle.command_line.specs.ProgramRun.{StatesOf, RejectsProfiled}
 use Rattle.relinking.specs.ProgrammeOfRun.{StatesProgramme}
@@ -23,7 +23,7 @@ use Rattle.relinking.specs.FoundChoice.{IsLeast}
 use Rattle.printed_lines.specs.ReportText.{IsReport}
 use Rattle.command_line.specs.CheckFile.{answer_of, AcceptsChoice, ReportsText, told_of, ReportsCertificate, unspelled, answered, of_run, of_certificate, RejectsChecked, RejectsText}
 use Rattle.command_line.specs.declared.opening.Opened.{Opened}
-use Rattle.command_faults.specs.declared.faults.CommandFault.{CommandFault}
+use Rattle.command_language.specs.declared.faults.CommandFault.{CommandFault}
 use Rattle.relinking.proofs.Analysed.{findings}
 use Rattle.command_line.proofs.Analysing.{opened_view}
 

@@ -1,7 +1,7 @@
 -- The results of the commands, put together.
 use Rattle.std.proofs.Common.{inl, inr, ℕ, List, [], ◌∷◌, Some, refl, sym, subst}
-use Rattle.command_words.specs.Command.{run_command, relink_command, profile_command, compare_command, check_command, paid_command, trace_command, hex_command, hex_check_command, show_command}
-use Rattle.command_faults.specs.FaultLine.{parts_of}
+use Rattle.command_language.specs.Command.{run_command, relink_command, profile_command, compare_command, check_command, paid_command, trace_command, hex_command, hex_check_command, show_command}
+use Rattle.command_language.specs.FaultLine.{parts_of}
 use Rattle.command_line.specs.RunFile.{IsFirstCommandFault}
 use Rattle.command_line.specs.ProgramRun.{RejectsProfiled}
 use Rattle.command_line.specs.Analysed.{RejectsAnalysed}
@@ -10,7 +10,7 @@ use Rattle.command_line.specs.CheckFile.{RejectsChecked}
 use Rattle.command_line.specs.PaidFile.{RejectsPaid}
 use Rattle.command_line.specs.Meaning.{RejectsInputs, RejectsFile, RejectsTexts, memory_wanting, faulty, differing, run_first, relink_first, profile_first, compare_first, check_first, paid_first, trace_first, hex_first, check_fault, check_difference, show_first}
 use Rattle.command_line.specs.ShowFile as show
-use Rattle.command_faults.specs.declared.faults.CommandFault.{CommandFault}
+use Rattle.command_language.specs.declared.faults.CommandFault.{CommandFault}
 
 pub run_rejected : (board file input : List ℕ) (fault : CommandFault) → IsFirstCommandFault board file fault
     → (f b i o : List ℕ) → RejectsInputs (run_command f b i o) (file ∷ board ∷ input ∷ []) fault

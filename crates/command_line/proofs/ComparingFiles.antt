@@ -14,17 +14,17 @@ use Rattle.object_machine.specs.declared.events.Outcome.TheVariants.{GoesOn, Exi
 use Rattle.object_machine.specs.Program.{Program, program_of}
 use Rattle.object_machine.specs.State.{SourceState}
 use Rattle.object_machine.specs.Start.{start_of}
-use Rattle.result_setups.specs.HomeLaws.{program_in, source_start}
+use Rattle.result_laws.specs.HomeLaws.{program_in, source_start}
 use Rattle.compare_runner.specs.Comparing.{Judges, Reports, JudgesRun, Compares}
 use Rattle.compare_runner.specs.declared.comparing.Comparison.{Comparison}
 use Rattle.compare_runner.specs.declared.comparing.Comparison.TheVariants.{Same, Differs, SourceFault}
-use Rattle.command_faults.specs.FaultLine.{elf_parts, parts_of, elf_command_fault}
+use Rattle.command_language.specs.FaultLine.{elf_parts, parts_of, elf_command_fault}
 use Rattle.command_line.specs.Analysed.{Accepts, IsOpened}
 use Rattle.printed_lines.specs.Endings.{IsAddressFault}
 use Rattle.command_line.specs.CompareFiles.{Compared, ComparesTo, HasEnding, AnswersComparison, RejectsComparison, RejectsCompared, of_relinked, of_comparison}
 use Rattle.command_line.specs.declared.opening.Opened.{Opened}
-use Rattle.command_faults.specs.declared.faults.CommandFault.{CommandFault}
-use Rattle.command_faults.specs.declared.faults.CommandFault.TheVariants as command_fault
+use Rattle.command_language.specs.declared.faults.CommandFault.{CommandFault}
+use Rattle.command_language.specs.declared.faults.CommandFault.TheVariants as command_fault
 use Rattle.command_line.proofs.Analysing.{opened_view}
 
 -- the comparison of two views is that of their files

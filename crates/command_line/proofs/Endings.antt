@@ -3,7 +3,7 @@ use Rattle.std.proofs.Common.{◌≡◌, ◌⊎◌, inl, inr, ℕ, List, [], ◌
 use Rattle.std.proofs.lemmas.Fmt.{decimal_digit}
 use Rattle.shelf_io.specs.Shelf.{ShelfView, SetsName, LosesName}
 use Rattle.shelf_io.specs.Sink.{SinkView}
-use Rattle.command_words.specs.Command.{PlainCommand, Named, writes}
+use Rattle.command_language.specs.Command.{PlainCommand, Named, writes}
 use Rattle.command_line.specs.Diagnostic.{IsDiagnosticOf, IsDiagnosticOrMemory}
 use Rattle.command_line.specs.Delivery.{ArePrepared, SetsAll, SetsPrepared, LosesOne, WantsInOne, FailsToWrite, write_fails, wants_memory, DeliversAll, FailsToDeliver, writing_fails, print_fails}
 use Rattle.command_line.specs.Performing.{IsPrepared, RejectsPreparing, Performs, YieldsOf, IsRejectedBy}
@@ -12,8 +12,8 @@ use Rattle.command_line.specs.declared.delivery.Output.{Output}
 use Rattle.command_line.specs.declared.delivery.PreparedResult.{PreparedResult}
 use Rattle.command_line.specs.declared.diagnostic.Diagnostic.{Diagnostic}
 use Rattle.command_line.specs.declared.diagnostic.Diagnostic.TheVariants as diagnostic
-use Rattle.command_faults.specs.declared.faults.CommandFault.{CommandFault}
-use Rattle.command_faults.specs.declared.faults.CommandFault.TheVariants as command_fault
+use Rattle.command_language.specs.declared.faults.CommandFault.{CommandFault}
+use Rattle.command_language.specs.declared.faults.CommandFault.TheVariants as command_fault
 
 -- the line that is kept ready is that of want of memory
 pub memory_prepared : IsDiagnosticOf command_fault.Memory diagnostic.Memory

@@ -6,9 +6,9 @@ use Rattle.shelf_io.specs.Sink.{SinkView}
 use Rattle.elf_reader.specs.File.{entry_of, load_segments}
 use Rattle.hex_image.specs.Runs.{file_map}
 use Rattle.hex_image.specs.Reading as hex
-use Rattle.command_words.specs.Command.{PlainCommand, IsCommand, Named}
-use Rattle.mix_text.specs.Lines.{mix_lines}
-use Rattle.command_faults.specs.FaultLine.{Parts, status_of, fault_line, parts_of, elf_parts}
+use Rattle.command_language.specs.Command.{PlainCommand, IsCommand, Named}
+use Rattle.command_language.specs.Lines.{mix_lines}
+use Rattle.command_language.specs.FaultLine.{Parts, status_of, fault_line, parts_of, elf_parts}
 use Rattle.command_line.specs.Delivery.{LosesOne}
 use Rattle.command_line.specs.Diagnostic.{PutsLine, rejected_status, rejected_line}
 use Rattle.command_line.specs.Listing.{HoldsInputs}
@@ -23,10 +23,9 @@ use Rattle.command_line.specs.MixFile as mixed
 use Rattle.command_line.specs.Meaning.{Compares, IsFirst, run_first, relink_first, profile_first, compare_first, check_first, mix_first, check_mix_first, gen_first, hex_first, check_difference, Yields, runs, relinks, profiles, compares, checks, mixes, checks_mix, generates, writes_hex, agrees, show_first, shows, paid_first, pays, trace_first, traces}
 use Rattle.command_line.specs.Answers.{IsDone, Cause, HasCause, EndsRejected, InputFails, AnswersInputs, AnswersUsage, AnswersCommand, ReportsInputs}
 use Rattle.command_line.specs.declared.diagnostic.Diagnostic.{Diagnostic}
-use Rattle.command_faults.specs.declared.faults.CommandFault.{CommandFault}
-use Rattle.command_faults.specs.declared.faults.CommandFault.TheVariants as command_fault
+use Rattle.command_language.specs.declared.faults.CommandFault.{CommandFault}
+use Rattle.command_language.specs.declared.faults.CommandFault.TheVariants as command_fault
 use Rattle.command_line.proofs.OneCommand.{one_command, one_inputs}
-use Rattle.command_line.proofs.Statuses.{status_positive}
 use Rattle.command_line.proofs.Profiling.{profile_runs}
 use Rattle.command_line.proofs.Stating.{relinked_runs}
 use Rattle.command_line.proofs.Certificates.{nothing_told}
@@ -218,7 +217,3 @@ pub ends_command : (words : List (List ℕ)) (old new : ShelfView) (sink sink' :
     → EndsRejected status words old new sink sink' → AnswersCommand status words old new sink sink'
 ends_command words old new sink sink' status r =
     rejected_command r.fault status words old new sink r.rejected.mid sink' r.status_is r.rejected.cause r.rejected.line
-
-pub ends_positive : (words : List (List ℕ)) (old new : ShelfView) (sink sink' : SinkView) (status : ℕ)
-    → EndsRejected status words old new sink sink' → status ≡ 0 → ⊥
-ends_positive words old new sink sink' status r e = status_positive r.fault (sym r.status_is ∙ e)

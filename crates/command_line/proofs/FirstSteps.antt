@@ -10,7 +10,7 @@ use Rattle.object_machine.specs.State.{SourceState}
 use Rattle.object_machine.specs.Step.{next_state}
 use Rattle.profile_runner.specs.Transition.{Transition}
 use Rattle.profile_runner.specs.Transitions.{Transitions, TransitionsFrom}
-use Rattle.placed_results.specs.Walks.{IsNoFault}
+use Rattle.result_laws.specs.Walks.{IsNoFault}
 use Rattle.printed_lines.specs.Endings.{IsAddressFault}
 
 -- an outcome that is none

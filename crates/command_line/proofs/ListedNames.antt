@@ -2,12 +2,12 @@
 use Rattle.std.proofs.Common.{◌≡◌, inl, inr, ℕ, suc, List, [], ◌∷◌, ◌++◌, length, map, None, refl, sym, subst, ap, ◌∙◌, append-nil}
 use Rattle.std.proofs.lemmas.List.{length-map}
 use Rattle.shelf_io.specs.Shelf.{ShelfView}
-use Rattle.command_words.specs.Command.{PlainCommand, mix_command, check_mix_command, Named, named, reads}
-use Rattle.mix_text.specs.Lines.{plain_input, broken_at, mix_lines, TellsBroken}
-use Rattle.mix_text.specs.declared.parts.MixInput.{MixInput}
-use Rattle.mix_text.specs.declared.parts.MixFault.{MixFault}
-use Rattle.mix_text.specs.declared.parts.MixFault.TheVariants as mix
-use Rattle.command_faults.specs.FaultLine.{mix_command_fault}
+use Rattle.command_language.specs.Command.{PlainCommand, mix_command, check_mix_command, Named, named, reads}
+use Rattle.command_language.specs.Lines.{plain_input, broken_at, mix_lines, TellsBroken}
+use Rattle.command_language.specs.declared.parts.MixInput.{MixInput}
+use Rattle.command_language.specs.declared.parts.MixFault.{MixFault}
+use Rattle.command_language.specs.declared.parts.MixFault.TheVariants as mix
+use Rattle.command_language.specs.FaultLine.{mix_command_fault}
 use Rattle.command_line.specs.Reading.{contents, HoldsAll, RejectsReads, one_fails, memory_wanting}
 use Rattle.command_line.specs.Listing.{listed_name, names_where, listed_names, written_names, third, further_reads, HoldsInputs, RejectsNames, name_fails, names_want_memory, RejectsListed, bad_line, reads_fail}
 use Rattle.command_line.specs.ListedTexts.{IsListed}
@@ -15,7 +15,7 @@ use Rattle.command_line.specs.Meaning.{RejectsInputs}
 use Rattle.command_line.specs.Performing.{IsPreparedFor, IsPreparedOf, RejectsPreparingOf, listed_fail, inputs_fail, IsPrepared, RejectsPreparing}
 use Rattle.command_line.specs.declared.delivery.PreparedResult.{PreparedResult}
 use Rattle.command_line.specs.declared.mix_inputs.ListedTexts.{ListedTexts}
-use Rattle.command_faults.specs.declared.faults.CommandFault.{CommandFault}
+use Rattle.command_language.specs.declared.faults.CommandFault.{CommandFault}
 
 -- ---- names and texts in two parts
 

@@ -3,8 +3,8 @@ use Rattle.std.proofs.Common.{◌≡◌, inl, inr, ℕ, List, [], ◌∷◌, ◌
 use Rattle.std.proofs.lemmas.List.{length-map}
 use Rattle.std.specs.Global.{Global}
 use Rattle.shelf_io.specs.Shelf.{ShelfView}
-use Rattle.command_words.specs.Command.{Named, mix_command, check_mix_command}
-use Rattle.mix_text.specs.Lines.{plain_input, broken_at, mix_lines}
+use Rattle.command_language.specs.Command.{Named, mix_command, check_mix_command}
+use Rattle.command_language.specs.Lines.{plain_input, broken_at, mix_lines}
 use Rattle.relinking.specs.MixOfRuns.{WeightedInput, AreSomeInputs}
 use Rattle.command_line.specs.Reading.{contents, HoldsAll}
 use Rattle.command_line.specs.Listing.{names_where, listed_names, third, RejectsListed, bad_line, reads_fail}
@@ -13,7 +13,7 @@ use Rattle.command_line.specs.MixFile.{inputs_of, of_list, of_runs, of_checked_l
 use Rattle.command_line.specs.Meaning.{RejectsInputs, mix_first, check_mix_first}
 use Rattle.command_line.specs.Performing.{RejectsPreparingOf, listed_fail, inputs_fail}
 use Rattle.command_line.specs.declared.mix_inputs.ListedTexts.{ListedTexts}
-use Rattle.command_faults.specs.declared.faults.CommandFault.{CommandFault}
+use Rattle.command_language.specs.declared.faults.CommandFault.{CommandFault}
 use Rattle.command_line.proofs.MixedRuns.{some_inputs}
 
 -- ---- the texts of the words

@@ -5,27 +5,27 @@ use Rattle.elf_reader.specs.File.{PlainView, plain_view, view_in}
 use Rattle.board_config.specs.declared.board.Board.{Board}
 use Rattle.object_graph.specs.declared.parts.Graph.{Graph}
 use Rattle.object_graph.specs.Graphs.{IsGraph}
-use Rattle.result_setups.specs.HomeLaws.{program_in, source_start}
+use Rattle.result_laws.specs.HomeLaws.{program_in, source_start}
 use Rattle.placement_programme.specs.Plain.{PlainProgramme}
 use Rattle.profile_runner.specs.Transition.{Transition}
 use Rattle.profile_runner.proofs.RunLemmas.{transitions_steps}
 use Rattle.profile_runner.specs.declared.fault.ProfileFault.{ProfileFault}
 use Rattle.profile_runner.specs.declared.fault.ProfileFault.TheVariants.{AddressFault as FaultAt, Memory}
-use Rattle.profile_mix.specs.Mixed.{WeightedRun}
+use Rattle.placement_candidates.specs.Mixed.{WeightedRun}
 use Rattle.relinking.specs.MixOfRuns.{WeightedInput, AreRunsOn, StatesTogether, AreSomeInputs, FaultsFirst}
 use Rattle.relinking.specs.ProgrammeOfRun.{RunsOn}
-use Rattle.mix_text.specs.Lines.{MixLine, broken_at, mix_lines}
-use Rattle.mix_text.specs.Laws.{IsMixLine}
-use Rattle.mix_text.proofs.LawLemmas.{spelling}
+use Rattle.command_language.specs.Lines.{MixLine, broken_at, mix_lines}
+use Rattle.command_language.specs.MixLaws.{IsMixLine}
+use Rattle.command_language.proofs.LawLemmas.{spelling}
 use Rattle.relinking.proofs.Analysed.{findings}
-use Rattle.command_faults.specs.FaultLine.{parts_of, profile_command_fault}
+use Rattle.command_language.specs.FaultLine.{parts_of, profile_command_fault}
 use Rattle.command_line.specs.Analysed.{Accepts, IsOpened, RejectsAnalysed}
 use Rattle.command_line.specs.CheckFile.{RejectsText}
 use Rattle.command_line.specs.MixFile.{inputs_of, StatesOfAll, RunsWell, ReportsRuns, of_files, of_run, of_none, of_inputs, of_certificate, RejectsRuns, RejectsCheckedRuns}
 use Rattle.command_line.specs.declared.opening.Opened.{Opened}
 use Rattle.command_line.proofs.Analysing.{opened_view}
 use Rattle.command_line.proofs.Profiling.{fault_run}
-use Rattle.command_faults.specs.declared.faults.CommandFault.{CommandFault}
+use Rattle.command_language.specs.declared.faults.CommandFault.{CommandFault}
 
 -- ---- the inputs of lines
 

@@ -16,14 +16,14 @@ use Rattle.object_machine.specs.declared.events.Outcome.{Outcome}
 use Rattle.object_machine.specs.declared.events.Outcome.TheVariants.{GoesOn, Exited, Trapped, AddressFault}
 use Rattle.profile_runner.specs.Transitions.{Transitions}
 use Rattle.region_former.specs.declared.table.RegionTable.{RegionTable}
-use Rattle.rv_decode.proofs.Meaning.{same_instruction}
+use Rattle.rv32im.proofs.Meaning.{same_instruction}
 use Rattle.placement_programme.specs.Plain.{PlainProgramme, PlainChoice}
 use Rattle.placement_programme.specs.Programme.{IsFeasible}
 use Rattle.placement_programme.specs.Views.{plain_programme}
 use Rattle.energy_model.specs.Energy.{is_nothing, energy}
 use Rattle.energy_model.specs.Scenes.{scene_of}
-use Rattle.overlay_candidates.specs.Whole.{taken_of as names_taken}
-use Rattle.result_setups.specs.HomeLaws.{file_start}
+use Rattle.placement_candidates.specs.Whole.{taken_of as names_taken}
+use Rattle.result_laws.specs.HomeLaws.{file_start}
 use Rattle.relink_core.specs.Placed.{taken_of, Realises}
 use Rattle.relinking.specs.ProgrammeOfRun.{StatesProgramme}
 use Rattle.relinking.specs.declared.stating.MeasuredProgramme.{MeasuredProgramme}
@@ -32,7 +32,7 @@ use Rattle.relinking.proofs.Relinking.{states_choices}
 use Rattle.relinking.proofs.StatedLemmas.{some_of_all}
 use Rattle.energy_model.proofs.BaseLemmas.{few_transitions}
 use Rattle.placement_candidates.specs.Adding.{kept_name}
-use Rattle.result_placements.specs.Choices.{IsChoiceFor}
+use Rattle.result_laws.specs.Choices.{IsChoiceFor}
 use Rattle.relink_core.specs.Choices.{IsAnalysisOf}
 use Rattle.printed_lines.specs.Endings.{IsAddressFault}
 use Rattle.paid_energy.specs.FlatRuns.{PaysRun}
@@ -40,13 +40,13 @@ use Rattle.paid_energy.specs.Inward.{counted_inward}
 use Rattle.relink_core.proofs.KeepsLemmas.{passes}
 use Rattle.relink_core.proofs.ResultsRead.{results_are_read}
 use Rattle.paid_energy.proofs.InwardLemmas.{inward_counted}
-use Rattle.walked_energy.specs.Laws.{enough_steps, PaidIsModelled}
+use Rattle.paid_energy.specs.Laws.{enough_steps, PaidIsModelled}
 use Rattle.elf_reader.specs.Faults.{first_fault}
 use Rattle.elf_reader.specs.declared.fault.ElfFault.{ElfFault}
 use Rattle.elf_reader.specs.declared.fault.ElfFault.TheVariants as elf
 use Rattle.command_line.proofs.ComparingFiles.{elf_told}
-use Rattle.command_faults.specs.FaultLine.{elf_parts, elf_command_fault, parts_of}
-use Rattle.command_faults.specs.declared.faults.CommandFault.{CommandFault}
+use Rattle.command_language.specs.FaultLine.{elf_parts, elf_command_fault, parts_of}
+use Rattle.command_language.specs.declared.faults.CommandFault.{CommandFault}
 use Rattle.command_line.specs.Analysed.{IsOpened}
 use Rattle.command_line.specs.ProgramRun.{StatesOf}
 use Rattle.command_line.specs.CheckFile.{AcceptsChoice, RejectsChecked}

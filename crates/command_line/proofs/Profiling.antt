@@ -9,7 +9,7 @@ use Rattle.object_machine.specs.declared.events.Outcome.TheVariants.{AddressFaul
 use Rattle.code_blocks.specs.Blocks.{start_of}
 use Rattle.code_blocks.specs.Numbers.{starts_of}
 use Rattle.code_blocks.specs.declared.parts.Code.{Code}
-use Rattle.result_setups.specs.HomeLaws.{program_in, source_start}
+use Rattle.result_laws.specs.HomeLaws.{program_in, source_start}
 use Rattle.region_former.specs.declared.table.RegionTable.{RegionTable}
 use Rattle.profile_runner.proofs.RunLemmas.{transitions_steps}
 use Rattle.profile_runner.specs.declared.counts.Profile.{Profile}
@@ -17,7 +17,7 @@ use Rattle.profile_runner.specs.declared.fault.ProfileFault.{ProfileFault}
 use Rattle.profile_runner.specs.declared.fault.ProfileFault.TheVariants.{AddressFault as FaultAt, Memory}
 use Rattle.relinking.proofs.Analysed.{findings}
 use Rattle.relinking.proofs.Counting.{faulted, unfaulted}
-use Rattle.command_faults.specs.FaultLine.{profile_command_fault}
+use Rattle.command_language.specs.FaultLine.{profile_command_fault}
 use Rattle.command_line.specs.Analysed.{IsOpened}
 use Rattle.command_line.specs.declared.opening.Opened.{Opened}
 use Rattle.command_line.proofs.Analysing.{opened_view}

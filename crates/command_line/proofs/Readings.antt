@@ -6,10 +6,10 @@ use Rattle.std.proofs.lemmas.List.Elements.{Contains-get_or}
 use Rattle.std.proofs.lemmas.List.{get_or-map, length-map}
 use Rattle.std.specs.Global.{Global}
 use Rattle.std.proofs.Common.{Vec}
-use Rattle.command_words.specs.Command.{Named, plain_named}
-use Rattle.command_words.specs.declared.commands.NamedWord.{NamedWord}
+use Rattle.command_language.specs.Command.{Named, plain_named}
+use Rattle.command_language.specs.declared.commands.NamedWord.{NamedWord}
 use Rattle.command_line.specs.Reading.{contents, HoldsAll, RejectsRead, RejectsReads, one_fails, memory_wanting}
-use Rattle.command_faults.specs.declared.faults.CommandFault.{CommandFault}
+use Rattle.command_language.specs.declared.faults.CommandFault.{CommandFault}
 
 -- one more name
 pub holds_more : (shelf : ShelfView) (names : List Named) (texts : List (List ℕ)) (n : Named) (text : List ℕ)

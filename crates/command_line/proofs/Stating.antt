@@ -1,6 +1,6 @@
 -- A program that is relinked was run.
 use Rattle.std.proofs.Common.{ℕ, List, refl}
-use Rattle.result_setups.specs.HomeLaws.{program_in, source_start}
+use Rattle.result_laws.specs.HomeLaws.{program_in, source_start}
 use Rattle.profile_runner.proofs.RunLemmas.{transitions_steps}
 use Rattle.relinking.specs.Runs.{RunsProgram}
 use Rattle.command_line.specs.RelinkFile.{RelinksTo}

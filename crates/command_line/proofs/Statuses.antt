@@ -20,8 +20,8 @@ use Rattle.placement_programme.specs.Plain.{PlainProgramme}
 use Rattle.hex_image.specs.Reading.{hex_fault}
 use Rattle.hex_image.specs.declared.fault.HexFault.{HexFault}
 use Rattle.hex_image.specs.declared.fault.HexFault.TheVariants as hex
-use Rattle.command_words.specs.Command.{PlainCommand}
-use Rattle.command_faults.specs.FaultLine.{Parts, board_parts, elf_parts, graph_parts, code_parts, analyse_parts, address_parts, source_parts, cert_parts, choice_parts, tree_parts, hex_parts, mix_parts, differs_parts, status_of, region_parts}
+use Rattle.command_language.specs.Command.{PlainCommand}
+use Rattle.command_language.specs.FaultLine.{Parts, board_parts, elf_parts, graph_parts, code_parts, analyse_parts, address_parts, source_parts, cert_parts, choice_parts, tree_parts, hex_parts, mix_parts, differs_parts, status_of, region_parts}
 use Rattle.compare_runner.specs.declared.comparing.Comparison.TheVariants.{Same, Differs, SourceFault}
 use Rattle.command_line.specs.Analysed.{ReportsAnalysed, of_board, of_analysis}
 use Rattle.command_line.specs.ProgramRun.{ReportsProfiled, of_run, of_none}
@@ -37,8 +37,8 @@ use Rattle.command_line.specs.MixFile.{ReportsRuns, ReportsMixed, of_list, of_ru
 use Rattle.command_line.specs.MixFile as mixed
 use Rattle.command_line.specs.ShowFile.{ReportsShown}
 use Rattle.command_line.specs.ShowFile as show
-use Rattle.command_faults.specs.declared.faults.CommandFault.{CommandFault}
-use Rattle.command_faults.specs.declared.faults.CommandFault.TheVariants as command_fault
+use Rattle.command_language.specs.declared.faults.CommandFault.{CommandFault}
+use Rattle.command_language.specs.declared.faults.CommandFault.TheVariants as command_fault
 
 -- none of them is that of the words or of the outside
 abbrev pub IsOfInputs : Parts → Type 0
@@ -241,21 +241,3 @@ first_least command inputs told (check_fault f h file text parts is are first e)
     subst IsOfInputs same (both_least elf_parts hex_parts elf_least hex_least (first_fault file) (hex_fault text) parts first)
 first_least command inputs told (check_difference f h file text difference is are none compares e) =
     differs_least difference told (sym e)
-
--- no fault has status 0
-pub status_positive : (fault : CommandFault) → status_of fault ≡ 0 → ⊥
-status_positive command_fault.Usage e = omega arith
-status_positive (command_fault.Read place) e = omega arith
-status_positive (command_fault.Write place) e = omega arith
-status_positive (command_fault.Board fault) e = let low = board_least (plain_fault fault) in omega arith
-status_positive (command_fault.Elf fault) e = let low = elf_least fault in omega arith
-status_positive (command_fault.Analyse fault) e = let low = analyse_least fault in omega arith
-status_positive (command_fault.AddressFault pc why) e = omega arith
-status_positive (command_fault.Certificate fault) e = let low = cert_least fault in omega arith
-status_positive command_fault.BadChoice e = omega arith
-status_positive (command_fault.WrongTree side node) e = omega arith
-status_positive (command_fault.Hex fault) e = let low = hex_least fault in omega arith
-status_positive (command_fault.BadMix at) e = omega arith
-status_positive (command_fault.Differs at) e = omega arith
-status_positive (command_fault.SourceFault pc why) e = omega arith
-status_positive command_fault.Memory e = omega arith

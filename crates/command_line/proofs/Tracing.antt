@@ -21,11 +21,11 @@ use Rattle.simulation.proofs.PairedRuns.{is_run}
 use Rattle.profile_runner.specs.Transition.{Transition}
 use Rattle.profile_runner.proofs.RunLemmas.{transitions_steps, transitions_few}
 use Rattle.region_former.specs.declared.table.RegionTable.{RegionTable}
-use Rattle.rv_decode.proofs.Meaning.{same_instruction}
+use Rattle.rv32im.proofs.Meaning.{same_instruction}
 use Rattle.placement_programme.specs.Plain.{PlainProgramme, PlainChoice}
 use Rattle.placement_programme.specs.Views.{plain_programme}
-use Rattle.result_setups.specs.HomeLaws.{program_in, source_start, file_start}
-use Rattle.placed_results.specs.Walks.{IsNoFault}
+use Rattle.result_laws.specs.HomeLaws.{program_in, source_start, file_start}
+use Rattle.result_laws.specs.Walks.{IsNoFault}
 use Rattle.relink_core.specs.Choices.{IsAnalysisOf}
 use Rattle.relink_core.specs.Placed.{Taken, taken_of, Realises}
 use Rattle.relink_core.specs.Placed as placed

@@ -7,10 +7,10 @@ use Rattle.board_config.specs.declared.board.Board.{Board}
 use Rattle.relink_core.specs.Faults.{IsFaultless, IsFirst}
 use Rattle.relink_core.specs.declared.fault.AnalyseFault.{AnalyseFault}
 use Rattle.relink_core.specs.Choices.{IsAnalysisOf}
-use Rattle.command_faults.specs.FaultLine.{Parts, board_parts, analyse_parts, parts_of}
+use Rattle.command_language.specs.FaultLine.{Parts, board_parts, analyse_parts, parts_of}
 use Rattle.command_line.specs.declared.opening.Opened.{Opened}
-use Rattle.command_faults.specs.declared.faults.CommandFault.{CommandFault}
-use Rattle.command_faults.specs.declared.faults.CommandFault.TheVariants as command_fault
+use Rattle.command_language.specs.declared.faults.CommandFault.{CommandFault}
+use Rattle.command_language.specs.declared.faults.CommandFault.TheVariants as command_fault
 
 -- the text is that of a board for which no check of the file fails
 pub record Accepts (board_text file : List ℕ) (board : Board) : Type 0 where

@@ -1,8 +1,8 @@
 -- What each answer of the top call says of the outside.
 use Rattle.std.specs.Prelude.{◌≡◌, ◌⊎◌, ℕ, List, [], ◌∷◌, Option, Some, None}
 use Rattle.shelf_io.specs.Counts.{Rose}
-use Rattle.command_words.specs.Command.{PlainCommand, IsCommand, Named, writes}
-use Rattle.command_faults.specs.FaultLine.{Parts, fault_line, status_of, parts_of}
+use Rattle.command_language.specs.Command.{PlainCommand, IsCommand, Named, writes}
+use Rattle.command_language.specs.FaultLine.{Parts, fault_line, status_of, parts_of}
 use Rattle.shelf_io.specs.Shelf.{ShelfView, LogsFailed}
 use Rattle.relinking.specs.declared.measuring.MeasuredEnd.{MeasuredEnd}
 use Rattle.shelf_io.specs.Sink.{SinkView, PutAll, PutSome}
@@ -13,8 +13,8 @@ use Rattle.command_line.specs.Performing.{YieldsOf, TellsEndOf}
 use Rattle.command_line.specs.Listing.{all_reads, HoldsInputs, ReadsName}
 use Rattle.command_line.specs.Diagnostic.{IsDiagnosticOf, PutsLine}
 use Rattle.command_line.specs.declared.diagnostic.Diagnostic.{Diagnostic}
-use Rattle.command_faults.specs.declared.faults.CommandFault.{CommandFault}
-use Rattle.command_faults.specs.declared.faults.CommandFault.TheVariants as command_fault
+use Rattle.command_language.specs.declared.faults.CommandFault.{CommandFault}
+use Rattle.command_language.specs.declared.faults.CommandFault.TheVariants as command_fault
 
 -- a command of these words yields outputs and a text of what the shelf holds
 pub record Produces (words : List (List ℕ)) (outputs : List (List ℕ)) (text : List ℕ) (shelf : ShelfView) : Type 0 where

@@ -7,13 +7,13 @@ use Rattle.certificate_checker.specs.Reading.{certificate_of}
 use Rattle.certificate_checker.specs.Spelling.{Spells}
 use Rattle.certificate_checker.specs.Shows.{PlainVerdict, optimal, best_found, bad_choice, wrong, Answers}
 use Rattle.certificate_checker.specs.declared.fault.CertFault.{CertFault}
-use Rattle.command_faults.specs.FaultLine.{Parts, cert_parts, choice_parts, tree_parts, parts_of}
+use Rattle.command_language.specs.FaultLine.{Parts, cert_parts, choice_parts, tree_parts, parts_of}
 use Rattle.command_line.specs.Analysed.{Accepts}
 use Rattle.command_line.specs.ProgramRun.{StatesOf, ReportsProfiled}
 use Rattle.printed_lines.specs.ReportText.{IsReport}
 use Rattle.relinking.specs.FoundChoice.{IsLeast}
-use Rattle.command_faults.specs.declared.faults.CommandFault.{CommandFault}
-use Rattle.command_faults.specs.declared.faults.CommandFault.TheVariants as command_fault
+use Rattle.command_language.specs.declared.faults.CommandFault.{CommandFault}
+use Rattle.command_language.specs.declared.faults.CommandFault.TheVariants as command_fault
 
 -- the answers of which a report is made: that the choice is best, and that no tree says so
 abbrev pub answer_of : Bool → PlainVerdict

@@ -10,11 +10,11 @@ use Rattle.object_machine.specs.declared.events.Outcome.{Outcome}
 use Rattle.compare_runner.specs.Laws.{ComparesFiles}
 use Rattle.compare_runner.specs.declared.comparing.Comparison.{Comparison}
 use Rattle.compare_runner.specs.declared.comparing.Comparison.TheVariants.{Same, Differs, SourceFault}
-use Rattle.command_faults.specs.FaultLine.{Parts, elf_parts, differs_parts, source_parts, parts_of}
+use Rattle.command_language.specs.FaultLine.{Parts, elf_parts, differs_parts, source_parts, parts_of}
 use Rattle.command_line.specs.Analysed.{Accepts, ReportsAnalysed}
 use Rattle.printed_lines.specs.Endings.{IsAddressFault, ending_text}
-use Rattle.command_faults.specs.declared.faults.CommandFault.{CommandFault}
-use Rattle.command_faults.specs.declared.faults.CommandFault.TheVariants as command_fault
+use Rattle.command_language.specs.declared.faults.CommandFault.{CommandFault}
+use Rattle.command_language.specs.declared.faults.CommandFault.TheVariants as command_fault
 
 -- the comparison of both, for the board's steps of the program
 pub record Compared (file relinked : List ℕ) (board : Board) (input : List ℕ) (c : Comparison) : Type 0 where

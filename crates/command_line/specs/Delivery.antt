@@ -2,13 +2,13 @@
 use Rattle.std.specs.Prelude.{◌≡◌, ◌⊎◌, ℕ, List, [], ◌∷◌}
 use Rattle.shelf_io.specs.Shelf.{ShelfView, SetsName, LosesName, WantsMemory}
 use Rattle.shelf_io.specs.Sink.{SinkView, PutAll, PutSome}
-use Rattle.command_words.specs.Command.{Named}
+use Rattle.command_language.specs.Command.{Named}
 use Rattle.command_line.specs.Diagnostic.{IsDiagnosticOf}
 use Rattle.command_line.specs.declared.delivery.Output.{Output}
 use Rattle.command_line.specs.declared.delivery.PreparedResult.{PreparedResult}
 use Rattle.command_line.specs.declared.diagnostic.Diagnostic.{Diagnostic}
 use Rattle.command_line.specs.declared.diagnostic.Diagnostic.TheVariants as diagnostic
-use Rattle.command_faults.specs.declared.faults.CommandFault.TheVariants as command_fault
+use Rattle.command_language.specs.declared.faults.CommandFault.TheVariants as command_fault
 
 -- the outputs were written, one after the other
 abbrev pub SetsAll : List Named → List (List ℕ) → ShelfView → ShelfView → Type 0

@@ -1,9 +1,9 @@
 -- A fault with its line.
 use Rattle.std.specs.Prelude.{◌≡◌, ◌⊎◌, ℕ, List, codes, string_bytes}
 use Rattle.shelf_io.specs.Sink.{SinkView, PutAll, PutSome}
-use Rattle.command_faults.specs.FaultLine.{fault_line, status_of}
-use Rattle.command_faults.specs.declared.faults.CommandFault.{CommandFault}
-use Rattle.command_faults.specs.declared.faults.CommandFault.TheVariants as command_fault
+use Rattle.command_language.specs.FaultLine.{fault_line, status_of}
+use Rattle.command_language.specs.declared.faults.CommandFault.{CommandFault}
+use Rattle.command_language.specs.declared.faults.CommandFault.TheVariants as command_fault
 use Rattle.command_line.specs.declared.diagnostic.Diagnostic.{Diagnostic}
 use Rattle.command_line.specs.declared.diagnostic.Diagnostic.TheVariants as diagnostic
 

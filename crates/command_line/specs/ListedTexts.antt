@@ -1,7 +1,7 @@
 -- What a mix lists, with the texts under its names.
 use Rattle.std.specs.Prelude.{◌≡◌, ℕ, List, length, map, None}
 use Rattle.shelf_io.specs.Shelf.{ShelfView}
-use Rattle.mix_text.specs.Lines.{plain_input, broken_at, mix_lines}
+use Rattle.command_language.specs.Lines.{plain_input, broken_at, mix_lines}
 use Rattle.command_line.specs.Reading.{contents, HoldsAll}
 use Rattle.command_line.specs.Listing.{listed_names}
 use Rattle.command_line.specs.declared.mix_inputs.ListedTexts.{ListedTexts}

@@ -3,10 +3,10 @@ use Rattle.std.specs.Prelude.{◌≡◌, ◌⊎◌, ℕ, List, [], ◌∷◌, �
 use Rattle.std.specs.List.{Contains}
 use Rattle.shelf_io.specs.Shelf.{ShelfView, LogsFailed}
 use Rattle.shelf_io.specs.declared.shelves.CallKind.TheVariants.{Read}
-use Rattle.command_words.specs.Command.{PlainCommand, mix_command, check_mix_command, Named, named, reads, writes}
-use Rattle.mix_text.specs.Lines.{MixLine, broken_at, mix_lines}
-use Rattle.command_faults.specs.declared.faults.CommandFault.{CommandFault}
-use Rattle.command_faults.specs.declared.faults.CommandFault.TheVariants as command_fault
+use Rattle.command_language.specs.Command.{PlainCommand, mix_command, check_mix_command, Named, named, reads, writes}
+use Rattle.command_language.specs.Lines.{MixLine, broken_at, mix_lines}
+use Rattle.command_language.specs.declared.faults.CommandFault.{CommandFault}
+use Rattle.command_language.specs.declared.faults.CommandFault.TheVariants as command_fault
 use Rattle.command_line.specs.Reading.{HoldsAll, RejectsReads}
 
 -- a name that a line lists has the place of the text

@@ -10,9 +10,9 @@ use Rattle.hex_image.specs.Runs.{ByteMap, file_map}
 use Rattle.hex_image.specs.Text.{hex_text, hex_records}
 use Rattle.hex_image.specs.Reading as hex
 use Rattle.hex_image.specs.Difference.{IsDifference}
-use Rattle.command_words.specs.Command.{PlainCommand, run_command, relink_command, profile_command, compare_command, check_command, mix_command, check_mix_command, gen_command, hex_command, hex_check_command, show_command, paid_command, trace_command}
-use Rattle.mix_text.specs.Lines.{broken_at, mix_lines}
-use Rattle.command_faults.specs.FaultLine.{Parts, elf_parts, hex_parts, differs_parts, parts_of}
+use Rattle.command_language.specs.Command.{PlainCommand, run_command, relink_command, profile_command, compare_command, check_command, mix_command, check_mix_command, gen_command, hex_command, hex_check_command, show_command, paid_command, trace_command}
+use Rattle.command_language.specs.Lines.{broken_at, mix_lines}
+use Rattle.command_language.specs.FaultLine.{Parts, elf_parts, hex_parts, differs_parts, parts_of}
 use Rattle.command_line.specs.RunFile.{RunsTo, first_command_fault}
 use Rattle.command_line.specs.ProgramRun.{ReportsProfiled}
 use Rattle.command_line.specs.RelinkFile.{RelinksTo}
@@ -23,8 +23,8 @@ use Rattle.command_line.specs.PaidFile.{PaysTo, ReportsPaid}
 use Rattle.command_line.specs.TraceFile.{TracesTo}
 use Rattle.command_line.specs.MixFile.{inputs_of, MixesTo, ChecksMixTo, ReportsMixed, ReportsMixChecked}
 use Rattle.command_line.specs.ShowFile.{ShowsTo, ReportsShown}
-use Rattle.command_faults.specs.declared.faults.CommandFault.{CommandFault}
-use Rattle.command_faults.specs.declared.faults.CommandFault.TheVariants as command_fault
+use Rattle.command_language.specs.declared.faults.CommandFault.{CommandFault}
+use Rattle.command_language.specs.declared.faults.CommandFault.TheVariants as command_fault
 
 -- `kernels K`, and `records N`
 abbrev pub kernels_text : ℕ → List ℕ

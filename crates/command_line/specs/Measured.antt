@@ -7,7 +7,7 @@ use Rattle.object_graph.specs.declared.parts.Graph.{Graph}
 use Rattle.relinking.specs.MeasuredRuns.{EndsSo}
 use Rattle.relinking.specs.declared.measuring.MeasuredEnd.{MeasuredEnd}
 use Rattle.command_line.specs.Analysed.{Accepts}
-use Rattle.command_words.specs.Command.{PlainCommand, relink_command, profile_command, check_command, paid_command, trace_command}
+use Rattle.command_language.specs.Command.{PlainCommand, relink_command, profile_command, check_command, paid_command, trace_command}
 
 -- the program of a file, run on an input for the steps of a board, ends so
 pub record MeasuresTo (file board_text input : List ℕ) (end : MeasuredEnd) : Type 0 where

@@ -11,12 +11,12 @@ use Rattle.relink_core.specs.Findings.{Findings}
 use Rattle.relinking.specs.Runs.{RunsProgram}
 use Rattle.relinking.specs.Relink.{IsResult}
 use Rattle.relinking.specs.Report.{IsRelinkReport}
-use Rattle.command_faults.specs.FaultLine.{Parts, address_parts, mix_parts, parts_of}
-use Rattle.command_faults.specs.declared.faults.CommandFault.{CommandFault}
-use Rattle.command_faults.specs.declared.faults.CommandFault.TheVariants as command_fault
+use Rattle.command_language.specs.FaultLine.{Parts, address_parts, mix_parts, parts_of}
+use Rattle.command_language.specs.declared.faults.CommandFault.{CommandFault}
+use Rattle.command_language.specs.declared.faults.CommandFault.TheVariants as command_fault
 use Rattle.command_line.specs.Analysed.{Accepts, ReportsAnalysed}
 use Rattle.command_line.specs.CheckFile.{ReportsText, ReportsCertificate}
-use Rattle.mix_text.specs.Lines.{MixLine, broken_at, mix_lines}
+use Rattle.command_language.specs.Lines.{MixLine, broken_at, mix_lines}
 use Rattle.relinking.specs.MixOfRuns.{WeightedInput, StatesTogether}
 
 -- the inputs of the lines, in their order

@@ -14,8 +14,8 @@ use Rattle.placement_programme.specs.Programme.{energy}
 use Rattle.placement_programme.specs.Views.{plain_programme}
 use Rattle.energy_model.specs.Energy.{Taken, is_nothing}
 use Rattle.energy_model.specs.Scenes.{scene_of}
-use Rattle.overlay_candidates.specs.Whole.{taken_of as names_taken}
-use Rattle.result_setups.specs.HomeLaws.{file_start}
+use Rattle.placement_candidates.specs.Whole.{taken_of as names_taken}
+use Rattle.result_laws.specs.HomeLaws.{file_start}
 use Rattle.relink_core.specs.Choices.{KeepsMeaning}
 use Rattle.relink_core.specs.Placed.{taken_of, Realises}
 use Rattle.relink_core.specs.ResultFaults.{IsOfSize}
@@ -24,11 +24,11 @@ use Rattle.relinking.specs.ProgrammeOfRun.{CountsProgramme}
 use Rattle.relinking.specs.declared.stating.MeasuredProgramme.{MeasuredProgramme}
 use Rattle.paid_energy.specs.FlatRuns.{PaysRun}
 use Rattle.paid_energy.specs.Inward.{inward_calls, counted_inward}
-use Rattle.walked_energy.specs.Laws.{enough_steps, IsPairedWhereNothing}
+use Rattle.paid_energy.specs.Laws.{enough_steps, IsPairedWhereNothing}
 use Rattle.printed_lines.specs.Endings.{ending_text}
-use Rattle.command_faults.specs.FaultLine.{Parts, elf_parts, parts_of}
-use Rattle.command_faults.specs.declared.faults.CommandFault.{CommandFault}
-use Rattle.command_faults.specs.declared.faults.CommandFault.TheVariants as command_fault
+use Rattle.command_language.specs.FaultLine.{Parts, elf_parts, parts_of}
+use Rattle.command_language.specs.declared.faults.CommandFault.{CommandFault}
+use Rattle.command_language.specs.declared.faults.CommandFault.TheVariants as command_fault
 use Rattle.command_line.specs.Analysed.{Accepts}
 use Rattle.command_line.specs.declared.opening.Opened.{Opened}
 use Rattle.command_line.specs.ProgramRun.{StatesOf}

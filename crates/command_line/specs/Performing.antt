@@ -3,7 +3,7 @@ use Rattle.std.specs.Prelude.{◌≡◌, ◌⊎◌, ℕ, List, ◌++◌, Option}
 use Rattle.shelf_io.specs.Shelf.{ShelfView}
 use Rattle.relinking.specs.declared.measuring.MeasuredEnd.{MeasuredEnd}
 use Rattle.shelf_io.specs.Sink.{SinkView, PutAll, PutSome}
-use Rattle.command_words.specs.Command.{PlainCommand, writes}
+use Rattle.command_language.specs.Command.{PlainCommand, writes}
 use Rattle.command_line.specs.Reading.{HoldsAll, RejectsReads}
 use Rattle.command_line.specs.Listing.{further_reads, HoldsInputs, RejectsNames}
 use Rattle.command_line.specs.Meaning.{Yields, RejectsInputs}
@@ -12,8 +12,8 @@ use Rattle.command_line.specs.Delivery.{ArePrepared, SetsAll, LosesOne, WantsInO
 use Rattle.command_line.specs.Diagnostic.{IsDiagnosticOf}
 use Rattle.command_line.specs.declared.delivery.PreparedResult.{PreparedResult}
 use Rattle.command_line.specs.declared.diagnostic.Diagnostic.{Diagnostic}
-use Rattle.command_faults.specs.declared.faults.CommandFault.{CommandFault}
-use Rattle.command_faults.specs.declared.faults.CommandFault.TheVariants as command_fault
+use Rattle.command_language.specs.declared.faults.CommandFault.{CommandFault}
+use Rattle.command_language.specs.declared.faults.CommandFault.TheVariants as command_fault
 
 -- the result of a command on these inputs, with the faults of the steps to come
 pub record IsPreparedFor (command : PlainCommand) (inputs : List (List ℕ)) (prepared : PreparedResult) : Type 0 where

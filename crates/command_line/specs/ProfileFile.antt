@@ -4,7 +4,7 @@ use Rattle.elf_reader.specs.File.{view_in}
 use Rattle.board_config.specs.declared.board.Board.{Board}
 use Rattle.code_blocks.specs.Numbers.{starts_of}
 use Rattle.object_machine.specs.State.{SourceState}
-use Rattle.result_setups.specs.HomeLaws.{program_in, source_start}
+use Rattle.result_laws.specs.HomeLaws.{program_in, source_start}
 use Rattle.profile_runner.specs.Transition.{Transition}
 use Rattle.profile_runner.specs.Transitions.{Transitions}
 use Rattle.profile_runner.specs.Counts.{IsProfile}

@@ -9,10 +9,10 @@ use Rattle.relink_core.specs.Findings.{Findings}
 use Rattle.printed_lines.specs.Endings.{IsAddressFault}
 use Rattle.relinking.specs.Runs.{RunsProgram}
 use Rattle.relinking.specs.ProgrammeOfRun.{StatesProgramme}
-use Rattle.command_faults.specs.FaultLine.{Parts, address_parts, parts_of}
+use Rattle.command_language.specs.FaultLine.{Parts, address_parts, parts_of}
 use Rattle.command_line.specs.Analysed.{Accepts, ReportsAnalysed}
-use Rattle.command_faults.specs.declared.faults.CommandFault.{CommandFault}
-use Rattle.command_faults.specs.declared.faults.CommandFault.TheVariants as command_fault
+use Rattle.command_language.specs.declared.faults.CommandFault.{CommandFault}
+use Rattle.command_language.specs.declared.faults.CommandFault.TheVariants as command_fault
 
 -- the run of a file's program on an input states this programme
 pub record StatesOf (file : List ℕ) (board : Board) (input : List ℕ) (p : PlainProgramme) : Type 0 where

@@ -4,9 +4,9 @@ use Rattle.std.specs.List.{Contains}
 use Rattle.std.specs.Global.{Global}
 use Rattle.shelf_io.specs.declared.shelves.CallKind.TheVariants.{Read}
 use Rattle.shelf_io.specs.Shelf.{ShelfView, Holds, LogsFailed}
-use Rattle.command_words.specs.Command.{Named}
-use Rattle.command_faults.specs.declared.faults.CommandFault.{CommandFault}
-use Rattle.command_faults.specs.declared.faults.CommandFault.TheVariants as command_fault
+use Rattle.command_language.specs.Command.{Named}
+use Rattle.command_language.specs.declared.faults.CommandFault.{CommandFault}
+use Rattle.command_language.specs.declared.faults.CommandFault.TheVariants as command_fault
 
 -- the bytes of each text
 abbrev pub contents : List (Vec ℕ Global) → List (List ℕ)

@@ -12,9 +12,9 @@ use Rattle.flat_machine.specs.Start.{start_of}
 use Rattle.flat_machine.specs.Runs.{Steps}
 use Rattle.flat_machine.specs.declared.events.FlatOutcome.{FlatOutcome}
 use Rattle.flat_machine.specs.declared.events.FlatOutcome.TheVariants.{GoesOn, Exited, Trapped}
-use Rattle.command_faults.specs.FaultLine.{Parts, board_parts, elf_parts, parts_of}
-use Rattle.command_faults.specs.declared.faults.CommandFault.{CommandFault}
-use Rattle.command_faults.specs.declared.faults.CommandFault.TheVariants as command_fault
+use Rattle.command_language.specs.FaultLine.{Parts, board_parts, elf_parts, parts_of}
+use Rattle.command_language.specs.declared.faults.CommandFault.{CommandFault}
+use Rattle.command_language.specs.declared.faults.CommandFault.TheVariants as command_fault
 
 -- what is told of the first fault of what a command reads, if there is one: the board comes before the file
 abbrev pub first_command_fault : List ℕ → List ℕ → Option Parts

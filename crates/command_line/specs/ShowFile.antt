@@ -4,7 +4,7 @@ use Rattle.elf_reader.specs.File.{view_in}
 use Rattle.board_config.specs.declared.board.Board.{Board}
 use Rattle.code_blocks.specs.Numbers.{starts_of}
 use Rattle.relink_core.specs.Findings.{Findings}
-use Rattle.command_faults.specs.FaultLine.{Parts}
+use Rattle.command_language.specs.FaultLine.{Parts}
 use Rattle.command_line.specs.Analysed.{Accepts, ReportsAnalysed}
 use Rattle.printed_lines.specs.ShowLines.{show_text}
 

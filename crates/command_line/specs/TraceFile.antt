@@ -13,7 +13,7 @@ use Rattle.placement_programme.specs.Plain.{PlainProgramme, PlainChoice}
 use Rattle.relink_core.specs.Placed.{Taken, taken_of}
 use Rattle.relink_core.specs.UnitMaps.{MakesWithUnits}
 use Rattle.relink_core.specs.declared.unit_forms.UnitAt.{UnitAt}
-use Rattle.result_setups.specs.ResultLaws.{most_steps}
+use Rattle.result_laws.specs.ResultLaws.{most_steps}
 use Rattle.compare_runner.specs.Laws.{IsPairedRun}
 use Rattle.address_trace.specs.Comings.{IsAtForm}
 use Rattle.address_trace.specs.Seeking.{StartsWithin}

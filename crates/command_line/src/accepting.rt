@@ -1,11 +1,11 @@
 ghost use Rattle.std.specs.Prelude.{◌≡◌, Some, IfOk, IfErr};
 ghost use Rattle.placement_programme.specs.Views.{plain_programme, plain_choice};
 ghost use Rattle.certificate_checker.specs.Views.{plain_verdict};
-ghost use Rattle.command_faults.specs.FaultLine.{parts_of};
+ghost use Rattle.command_language.specs.FaultLine.{parts_of};
 ghost use Rattle.command_line.specs.CheckFile.{answer_of, told_of, AcceptsChoice, RejectsText};
 
 use certificate_checker::{Room, Verdict, check_text};
-use command_faults::CommandFault;
+use command_language::CommandFault;
 use placement_programme::{Choice, Programme};
 use std::alloc::Global;
 

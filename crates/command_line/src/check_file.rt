@@ -8,7 +8,7 @@ ghost use Rattle.command_line.specs.CheckFile.{ChecksTo, RejectsChecked, Reports
 use crate::accepting::accepted_choice;
 use crate::measured_text::MeasuredText;
 use crate::opening::open;
-use command_faults::CommandFault;
+use command_language::CommandFault;
 use placement_programme::Programme;
 use printed_lines::choice_report;
 use relinking::programme_of_run;

@@ -4,7 +4,7 @@ ghost use Rattle.command_line.specs.MixFile.{ChecksMixTo, RejectsCheckedRuns};
 
 use crate::check_file::checked;
 use crate::opening::open;
-use command_faults::CommandFault;
+use command_language::CommandFault;
 use relinking::{WeightedBytes, programme_of_runs};
 use std::alloc::Global;
 

@@ -3,7 +3,7 @@ ghost use Rattle.printed_lines.specs.Endings.{IsAddressFault};
 ghost use Rattle.command_line.specs.CompareFiles.{ComparesTo, RejectsCompared, HasEnding, AnswersComparison, RejectsComparison, same_text};
 
 use crate::opening::open;
-use command_faults::CommandFault;
+use command_language::CommandFault;
 use compare_runner::{Comparison, compare};
 use object_machine::Outcome;
 use printed_lines::ending_line;

@@ -1,13 +1,13 @@
 ghost use Rattle.std.specs.Prelude.{◌≡◌, ◌∷◌, [], OnOk, IfOk, IfErr};
-ghost use Rattle.command_words.specs.Command.{named};
+ghost use Rattle.command_language.specs.Command.{named};
 ghost use Rattle.command_line.specs.Diagnostic.{IsDiagnosticOf};
 ghost use Rattle.command_line.specs.Delivery.{ArePrepared, SetsPrepared, FailsToWrite, FailsOnce, DeliversAll, FailsToDeliver};
-ghost use Rattle.command_faults.specs.declared.faults.CommandFault.TheVariants as command_fault;
+ghost use Rattle.command_language.specs.declared.faults.CommandFault.TheVariants as command_fault;
 ghost use Rattle.shelf_io.specs.Shelf.{SetsName};
 
 use crate::diagnostic::Diagnostic;
 use crate::printing::put_piece;
-use command_faults::CommandFault;
+use command_language::CommandFault;
 use relinking::MeasuredEnd;
 use shelf_io::{Shelf, ShelfFault, Sink};
 use std::alloc::{AllocError, Global};
@@ -22,7 +22,7 @@ pub struct Output<'a> {
 
 impl<'a> Output<'a> {
     ghost use Rattle.std.specs.Prelude.{IfOk};
-    ghost use Rattle.command_words.specs.Command.{named};
+    ghost use Rattle.command_language.specs.Command.{named};
     ghost use Rattle.command_line.specs.Delivery.{IsOutput};
 
     /// What is to be written under the name at a place of the command line.
@@ -54,10 +54,10 @@ pub struct PreparedResult<'a> {
 
 impl<'a> PreparedResult<'a> {
     ghost use Rattle.std.specs.Prelude.{◌≡◌, ◌∷◌, [], IfOk};
-    ghost use Rattle.command_words.specs.Command.{named};
+    ghost use Rattle.command_language.specs.Command.{named};
     ghost use Rattle.command_line.specs.Delivery.{ArePrepared};
     ghost use Rattle.command_line.specs.Diagnostic.{IsDiagnosticOf};
-    ghost use Rattle.command_faults.specs.declared.faults.CommandFault.TheVariants as command_fault;
+    ghost use Rattle.command_language.specs.declared.faults.CommandFault.TheVariants as command_fault;
 
     /// A result that is only printed.
     pub fn printed(

@@ -1,5 +1,5 @@
 use crate::printing::put_piece;
-use command_faults::CommandFault;
+use command_language::CommandFault;
 use shelf_io::Sink;
 use std::alloc::{AllocError, Global};
 

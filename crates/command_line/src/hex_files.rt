@@ -6,7 +6,7 @@ ghost use Rattle.hex_image.specs.Reading.{Spells};
 ghost use Rattle.hex_image.specs.Text.{hex_text, hex_records};
 ghost use Rattle.command_line.specs.Meaning.{hex_of, record_count_of, records_text, file_command_fault, texts_command_fault, RejectsFile, RejectsTexts};
 
-use command_faults::CommandFault;
+use command_language::CommandFault;
 use elf_reader::ElfView;
 use hex_image::{first_difference, read_hex, record_count, write_hex};
 use std::alloc::{AllocError, Global};

@@ -3,7 +3,7 @@ ghost use Rattle.relinking.specs.MixOfRuns.{plain_input, AreSomeInputs};
 ghost use Rattle.command_line.specs.MixFile.{MixesTo, RejectsRuns};
 
 use crate::opening::open;
-use command_faults::CommandFault;
+use command_language::CommandFault;
 use relinking::{WeightedBytes, relink_report, relink_runs};
 use std::alloc::Global;
 

@@ -1,6 +1,6 @@
 ghost use Rattle.std.specs.Prelude.{◌≡◌, IfOk, IfErr, length, map};
-ghost use Rattle.command_words.specs.Command.{plain_named};
-ghost use Rattle.mix_text.specs.Lines.{plain_input, names_of};
+ghost use Rattle.command_language.specs.Command.{plain_named};
+ghost use Rattle.command_language.specs.Lines.{plain_input, names_of};
 ghost use Rattle.relinking.specs.MixOfRuns as together;
 ghost use Rattle.command_line.specs.Reading.{contents, HoldsAll, RejectsReads};
 ghost use Rattle.command_line.specs.Listing.{listed_name, RejectsListed};
@@ -8,9 +8,7 @@ ghost use Rattle.command_line.specs.ListedTexts.{IsListed};
 ghost use Rattle.command_line.specs.MixFile.{inputs_of};
 
 use crate::reading::read_all;
-use command_faults::CommandFault;
-use command_words::NamedWord;
-use mix_text::{MixInput, read_mix};
+use command_language::{CommandFault, MixInput, NamedWord, read_mix};
 use relinking::WeightedBytes;
 use shelf_io::Shelf;
 use std::alloc::{AllocError, Global};

@@ -1,5 +1,5 @@
 ghost use Rattle.std.specs.Prelude.{◌≡◌, ◌++◌, ◌∷◌, [], ℕ, List, IfOk, IfErr, length};
-ghost use Rattle.command_words.specs.Command.{mix_command, check_mix_command};
+ghost use Rattle.command_language.specs.Command.{mix_command, check_mix_command};
 ghost use Rattle.command_line.specs.Reading.{contents};
 ghost use Rattle.command_line.specs.Listing.{third};
 ghost use Rattle.command_line.specs.ListedTexts.{Lists};
@@ -10,7 +10,7 @@ use crate::check_mix_file::check_mix_file;
 use crate::delivery::{Output, PreparedResult};
 use crate::mix_file::mix_file;
 use crate::mix_inputs::{ListedTexts, read_listed, weighted_texts};
-use command_faults::CommandFault;
+use command_language::CommandFault;
 use shelf_io::Shelf;
 use std::alloc::Global;
 

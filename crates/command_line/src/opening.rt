@@ -2,7 +2,7 @@ ghost use Rattle.std.specs.Prelude.{IfOk, IfErr};
 ghost use Rattle.command_line.specs.Analysed.{IsOpened, RejectsAnalysed};
 
 use board_config::{Board, read_board};
-use command_faults::CommandFault;
+use command_language::CommandFault;
 use relink_core::{Analysis, analyse};
 use std::alloc::Global;
 

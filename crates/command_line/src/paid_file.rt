@@ -7,7 +7,7 @@ ghost use Rattle.placement_programme.specs.Programme.{IsFeasible};
 ghost use Rattle.placement_programme.specs.Views.{plain_programme, plain_choice};
 ghost use Rattle.printed_lines.specs.Endings.{IsAddressFault};
 ghost use Rattle.relink_core.specs.Choices.{IsAnalysisOf};
-ghost use Rattle.walked_energy.specs.Laws as walked;
+ghost use Rattle.paid_energy.specs.Laws as walked;
 ghost use Rattle.command_line.specs.Analysed.{IsOpened};
 ghost use Rattle.command_line.specs.Measured.{MeasuresTo};
 ghost use Rattle.command_line.specs.PaidFile.{PaysTo, RejectsPaid, CountsFor, WhereExited, RunsMade, TellsRun, MakesLines, RejectsMade, modelled_text, paid_text};
@@ -17,18 +17,17 @@ use crate::measured_text::MeasuredText;
 use crate::opening::{Opened, open};
 use crate::outcomes::outcome_line;
 use board_config::Board;
-use command_faults::CommandFault;
+use command_language::CommandFault;
 use elf_reader::ElfView;
 use flat_machine::Flat;
 use object_machine::Outcome;
 use paged_store::PageStore;
-use paid_energy::{PaidRun, inward, paid};
+use paid_energy::{PaidRun, inward, paid, paid_is_modelled};
 use placement_programme::{Choice, energy};
 use printed_lines::ending_line;
 use relink_core::realise;
 use relinking::{MeasuredProgramme, programme_of_run};
 use std::alloc::{AllocError, Global};
-use walked_energy::paid_is_modelled;
 
 /// Checks a certificate as `check` does, runs the file that realises its choice, and tells in lines what the run of the file's
 /// program costs by the model, and what the file that was made pays.

@@ -1,13 +1,12 @@
 ghost use Rattle.std.specs.Prelude.{OnOk, IfOk, IfErr};
-ghost use Rattle.command_words.specs.Command.{HasNumbers, plain_command};
+ghost use Rattle.command_language.specs.Command.{HasNumbers, plain_command};
 ghost use Rattle.command_line.specs.Performing.{IsPrepared, RejectsPreparing, Performs, TellsEndOf, IsRejectedBy};
 
 use crate::delivery::{PreparedResult, deliver};
 use crate::diagnostic::Diagnostic;
 use crate::reading::read_all;
 use crate::results::prepare_result;
-use command_faults::CommandFault;
-use command_words::Command;
+use command_language::{Command, CommandFault};
 use relinking::MeasuredEnd;
 use shelf_io::{Shelf, Sink};
 use std::alloc::Global;

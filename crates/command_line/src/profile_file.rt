@@ -5,7 +5,7 @@ ghost use Rattle.command_line.specs.Measured.{MeasuresTo};
 
 use crate::measured_text::MeasuredText;
 use crate::opening::open;
-use command_faults::CommandFault;
+use command_language::CommandFault;
 use printed_lines::profile_lines;
 use relinking::measured_run;
 use std::alloc::Global;

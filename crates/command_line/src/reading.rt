@@ -1,10 +1,9 @@
 ghost use Rattle.std.specs.Prelude.{◌≡◌, List, ◌++◌, ◌∷◌, [], map, IfOk, IfErr, OnOk};
 ghost use Rattle.shelf_io.specs.Shelf.{Holds};
-ghost use Rattle.command_words.specs.Command.{Named, plain_named};
+ghost use Rattle.command_language.specs.Command.{Named, plain_named};
 ghost use Rattle.command_line.specs.Reading.{contents, HoldsAll, RejectsRead, RejectsReads};
 
-use command_faults::CommandFault;
-use command_words::NamedWord;
+use command_language::{CommandFault, NamedWord};
 use shelf_io::{Shelf, ShelfFault};
 use std::alloc::Global;
 

@@ -4,7 +4,7 @@ ghost use Rattle.command_line.specs.RelinkFile.{RelinksTo};
 ghost use Rattle.command_line.specs.Measured.{MeasuresTo};
 
 use crate::opening::open;
-use command_faults::CommandFault;
+use command_language::CommandFault;
 use relinking::{MeasuredEnd, relink_analysed, relink_report};
 use std::alloc::Global;
 

@@ -1,5 +1,5 @@
 ghost use Rattle.std.specs.Prelude.{◌≡◌, [], ◌≤◌, ℕ, List, IfOk, IfErr, length, string_bytes, ◌∷◌};
-ghost use Rattle.command_words.specs.Command.{HasNumbers, plain_command, reads, run_command, relink_command, profile_command, compare_command, check_command, gen_command, hex_command, hex_check_command, show_command, paid_command, trace_command};
+ghost use Rattle.command_language.specs.Command.{HasNumbers, plain_command, reads, run_command, relink_command, profile_command, compare_command, check_command, gen_command, hex_command, hex_check_command, show_command, paid_command, trace_command};
 ghost use Rattle.command_line.specs.Reading.{contents};
 ghost use Rattle.command_line.specs.Meaning.{RejectsInputs, kernels_text};
 ghost use Rattle.command_line.specs.Performing.{IsPreparedFor, IsPreparedOf, RejectsPreparingOf};
@@ -15,8 +15,7 @@ use crate::relink_file::relink_file;
 use crate::run_file::run_file;
 use crate::show_file::show_file;
 use crate::trace_file::trace_file;
-use command_faults::CommandFault;
-use command_words::Command;
+use command_language::{Command, CommandFault};
 use shelf_io::Shelf;
 use std::alloc::{AllocError, Global};
 use workload_gen::workload;

@@ -7,7 +7,7 @@ ghost use Rattle.command_line.specs.RunFile.{RunsFrom, RunsTo, IsFirstCommandFau
 
 use crate::outcomes::outcome_line;
 use board_config::{Board, read_board};
-use command_faults::CommandFault;
+use command_language::CommandFault;
 use elf_reader::ElfView;
 use flat_machine::Flat;
 use paged_store::PageStore;

@@ -3,7 +3,7 @@ ghost use Rattle.command_line.specs.Analysed.{RejectsAnalysed};
 ghost use Rattle.command_line.specs.ShowFile.{ShowsTo};
 
 use crate::opening::open;
-use command_faults::CommandFault;
+use command_language::CommandFault;
 use printed_lines::show_lines;
 use std::alloc::Global;
 

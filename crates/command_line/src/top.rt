@@ -1,11 +1,10 @@
 ghost use Rattle.std.specs.Prelude.{◌≡◌, ◌≢◌, None, OnOk, IfOk, IfErr};
-ghost use Rattle.command_words.specs.Command.{texts};
+ghost use Rattle.command_language.specs.Command.{texts};
 ghost use Rattle.command_line.specs.Answers.{IsDone, TellsRun, HasCause, EndsRejected, Answers};
 
 use crate::diagnostic::Diagnostic;
 use crate::performing::perform_command;
-use command_faults::CommandFault;
-use command_words::parse;
+use command_language::{CommandFault, parse};
 use relinking::MeasuredEnd;
 use shelf_io::{Shelf, Sink};
 use std::alloc::Global;

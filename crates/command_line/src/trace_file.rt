@@ -15,7 +15,7 @@ use crate::accepting::accepted_choice;
 use crate::opening::{Opened, open};
 use address_trace::{TracedResult, moved_is_traced, results_start, trace, unmoved_is_traced};
 use board_config::Board;
-use command_faults::CommandFault;
+use command_language::CommandFault;
 use elf_reader::ElfView;
 use placement_programme::Choice;
 use relink_core::{UnitAt, realise_units};

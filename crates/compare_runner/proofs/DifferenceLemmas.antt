@@ -1,7 +1,7 @@
 -- The first place at which two lists differ.
-use Rattle.std.proofs.Common.{◌≡◌, ℕ, ◌<◌, ◌≤◌, inl, inr, List, [], ◌++◌, length, take, drop, slice_index, sym, ◌∙◌, ap, arith, length-append}
+use Rattle.std.proofs.Common.{◌≡◌, ℕ, ◌<◌, ◌≤◌, inl, inr, List, ◌++◌, length, take, drop, slice_index, sym, ◌∙◌, ap, arith, length-append}
 use Rattle.std.proofs.lemmas.Bool.{cases_lt}
-use Rattle.std.proofs.lemmas.List.{append-nil, get_or-take, get_or_append_left, take-append-drop, take_all}
+use Rattle.std.proofs.lemmas.List.{get_or-take, get_or_append_left, take-append-drop, take_all}
 use Rattle.compare_runner.specs.Comparing.{IsFirstDifference}
 
 -- bytes that are the same up to some place are the same before it
@@ -31,13 +31,6 @@ differs_behind xs ys more at is e =
 pub same_lists : (xs ys : List ℕ) (at : ℕ) → IsFirstDifference xs ys at → at ≡ length xs → at ≡ length ys → ys ≡ xs
 same_lists xs ys at is first second =
     sym (take_all at ys (omega (arith, second))) ∙ (sym is.same ∙ take_all at xs (omega (arith, first)))
-
--- and only such lists are
-pub same_ends : (xs ys : List ℕ) (at : ℕ) → IsFirstDifference xs ys at → ys ≡ xs → (at ≡ length xs) × (at ≡ length ys)
-same_ends xs ys at is e =
-    let first = differs_behind xs ys [] at is (e ∙ sym (append-nil xs)) in
-    let long = ap length e in
-    (first, omega (arith, first, long))
 
 not_behind : (xs ys : List ℕ) (at k : ℕ) → IsFirstDifference xs ys at → IsFirstDifference xs ys k → k ≤ at
 not_behind xs ys at k is other =

@@ -1,7 +1,7 @@
 -- What the code sees of a result: what a step tells, and whether it is run far enough.
 use Rattle.std.proofs.Common.{◌≡◌, ℕ, ◌+◌, ◌*◌, Bool, true, false, List, Option, length, refl, sym, ap, subst}
 use Rattle.std.specs.Bool.{MatchBool}
-use Rattle.rv_decode.specs.declared.instructions.Instr.{Instr}
+use Rattle.rv32im.specs.declared.instructions.Instr.{Instr}
 use Rattle.flat_machine.specs.Mapping.{can_access}
 use Rattle.flat_machine.specs.State.{State, trap}
 use Rattle.flat_machine.specs.Step.{Performs, ReadsNothing, StepAt, Step}
@@ -13,7 +13,7 @@ use Rattle.board_config.specs.declared.board.Board.{Board}
 use Rattle.object_machine.specs.declared.events.Outcome.{Outcome}
 use Rattle.object_machine.specs.declared.events.Outcome.TheVariants as source
 use Rattle.object_machine.specs.State.{SourceState}
-use Rattle.result_setups.specs.ResultLaws.{most_steps}
+use Rattle.result_laws.specs.ResultLaws.{most_steps}
 use Rattle.compare_runner.specs.declared.comparing.Comparison.{Comparison}
 use Rattle.compare_runner.specs.Comparing.{RunsUntil, IsEnough, IsFar, Judges, Reports, JudgesRun}
 
@@ -38,10 +38,6 @@ pub told_outcome : (s t : State) (e : FlatEvent) → Step s e t → e.outcome �
 told_outcome s t e q = told_at s.outcome s t e q
 
 -- ---- far enough
-
-pub far_at : (o : Outcome) (written n : ℕ) (other : FlatOutcome) (t : State) → other ≡ t.outcome → n ≡ length t.output → IsEnough o written other n → IsFar o written t
-far_at o written n other t outcome bytes enough =
-    subst (λ (k : ℕ). IsEnough o written t.outcome k) bytes (subst (λ (x : FlatOutcome). IsEnough o written x n) outcome enough)
 
 pub not_far : (o : Outcome) (written n : ℕ) (other : FlatOutcome) (t : State) → other ≡ t.outcome → n ≡ length t.output → (IsEnough o written other n → ⊥) → IsFar o written t → ⊥
 not_far o written n other t outcome bytes short far =

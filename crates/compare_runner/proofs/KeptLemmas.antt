@@ -1,7 +1,7 @@
 -- A result that keeps the meaning of a program is like it where it is looked at.
 use Rattle.std.proofs.Common.{◌≡◌, ℕ, ◌+◌, ◌-◌, ◌*◌, ◌≤◌, ◌⊎◌, inl, inr, List, [], ◌++◌, length, refl, sym, ◌∙◌, ap, subst, arith, length-append}
 use Rattle.std.proofs.lemmas.List.{append-nil, nil_from_length}
-use Rattle.rv_decode.specs.Table.{OneInstruction}
+use Rattle.rv32im.specs.Table.{OneInstruction}
 use Rattle.board_config.specs.declared.board.Board.{Board}
 use Rattle.flat_machine.specs.State.{State}
 use Rattle.flat_machine.specs.Runs as flat_runs
@@ -17,8 +17,8 @@ use Rattle.object_machine.specs.Runs.{Steps}
 use Rattle.object_machine.specs.Paired.{at_start}
 use Rattle.simulation.specs.Laws.{EndsAlike, Keeps}
 use Rattle.simulation.proofs.PairedRuns.{paired_first}
-use Rattle.result_setups.specs.HomeLaws.{program_in, source_start, file_start}
-use Rattle.result_setups.specs.ResultLaws.{most_steps}
+use Rattle.result_laws.specs.HomeLaws.{program_in, source_start, file_start}
+use Rattle.result_laws.specs.ResultLaws.{most_steps}
 use Rattle.compare_runner.specs.declared.comparing.Comparison.{Comparison}
 use Rattle.compare_runner.specs.declared.comparing.Comparison.TheVariants.{Differs}
 use Rattle.compare_runner.specs.Comparing.{RunsUntil, IsFar, AreAlike, Reports, JudgesRun}

@@ -10,7 +10,7 @@ use Rattle.object_machine.specs.declared.events.Outcome.TheVariants.{GoesOn, Exi
 use Rattle.object_machine.specs.Program.{Program}
 use Rattle.object_machine.specs.State.{SourceState}
 use Rattle.object_machine.specs.Runs.{Steps, HasEnded}
-use Rattle.result_setups.specs.ResultLaws.{most_steps}
+use Rattle.result_laws.specs.ResultLaws.{most_steps}
 use Rattle.compare_runner.specs.declared.comparing.Comparison.{Comparison}
 use Rattle.compare_runner.specs.declared.comparing.Comparison.TheVariants.{Same, Differs, SourceFault}
 

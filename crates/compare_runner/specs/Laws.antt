@@ -14,9 +14,9 @@ use Rattle.object_machine.specs.Program.{Program}
 use Rattle.object_machine.specs.State.{SourceState}
 use Rattle.object_machine.specs.Runs.{Steps}
 use Rattle.object_machine.specs.Paired.{at_start, PairedSteps}
-use Rattle.result_setups.specs.HomeLaws.{program_in, source_start, file_start}
-use Rattle.result_setups.specs.Absolute.{IsAbsolute}
-use Rattle.result_setups.specs.ResultLaws.{KeepsRuns}
+use Rattle.result_laws.specs.HomeLaws.{program_in, source_start, file_start}
+use Rattle.result_laws.specs.Absolute.{IsAbsolute}
+use Rattle.result_laws.specs.ResultLaws.{KeepsRuns}
 use Rattle.relink_core.specs.Faults.{analyse_fault}
 use Rattle.relink_core.specs.Keeps.{KeepsPaired}
 use Rattle.compare_runner.specs.declared.comparing.Comparison.{Comparison}

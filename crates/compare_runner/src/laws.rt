@@ -5,21 +5,21 @@ ghost use Rattle.compare_runner.specs.Laws.{OneComparison, KeptNeverDiffers, Kep
 pub fn one_comparison()
     ensures { OneComparison }
 {
-    rv_decode::one_instruction();
+    rv32im::one_instruction();
 }
 
 /// A result that keeps the meaning of a file never differs from it in a paired run.
 pub fn kept_never_differs()
     ensures { KeptNeverDiffers }
 {
-    rv_decode::one_instruction();
+    rv32im::one_instruction();
 }
 
 /// One that keeps it in every run, as one in which objects are moved, never differs from it.
 pub fn kept_runs_never_differ()
     ensures { KeptRunsNeverDiffer }
 {
-    rv_decode::one_instruction();
+    rv32im::one_instruction();
 }
 
 /// A file in which the analysis finds no fault never differs from itself in a paired run, and in none at all where its
@@ -38,12 +38,12 @@ pub fn unmoved_never_differs()
 pub fn kept_goes_on()
     ensures { KeptGoesOn }
 {
-    rv_decode::one_instruction();
+    rv32im::one_instruction();
 }
 
 /// The same of any steps, for a result that keeps the meaning in every run.
 pub fn kept_runs_go_on()
     ensures { KeptRunsGoOn }
 {
-    rv_decode::one_instruction();
+    rv32im::one_instruction();
 }

@@ -10,7 +10,7 @@ ghost use Rattle.compare_runner.specs.Comparing.{RunsUntil, SourceEnds, HasCaugh
 use flat_machine::{Flat, FlatOutcome};
 use object_machine::{Outcome, Source};
 use paged_store::ByteStore;
-use rv_decode::one_instruction;
+use rv32im::one_instruction;
 use std::alloc::AllocError;
 
 /// Takes `n` steps of a program, or fewer where it ends. Tells how many it took.

@@ -57,6 +57,3 @@ none_of_section_names file none some =
 
 pub names_table_held : (file : List ℕ) → sections_fault file ≡ None → HasNamesTable file
 names_table_held file none some = holds _ _ (none_of_section_names file none some).0
-
-pub section_names_held : (file : List ℕ) → sections_fault file ≡ None → HasSectionNames file
-section_names_held file none k below = names_held file (none_of_section_names file none (omega arith)).1 k below

@@ -1,6 +1,6 @@
 -- The memory that a file's segments make when they are loaded at their addresses.
 use Rattle.std.specs.Prelude.{ℕ, ◌+◌, ◌-◌, nat_lt, nat_le, Bool, ◌&&◌, if◌then◌else◌, List, [], ◌∷◌, length, slice_index}
-use Rattle.word_bits.specs.Memory.{Memory, zeros}
+use Rattle.rv32im.specs.Memory.{Memory, zeros}
 use Rattle.elf_reader.specs.File.{PlainSegment}
 
 -- the segment has a byte of the file for this address

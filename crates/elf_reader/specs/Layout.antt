@@ -2,7 +2,7 @@
 -- beginning. A byte past the end reads as 0.
 use Rattle.std.specs.Prelude.{ℕ, ◌+◌, ◌*◌, List, slice_index}
 use Rattle.std.specs.Int.{cast_signed, w32}
-use Rattle.word_bits.specs.Words.{half_of, word_of}
+use Rattle.rv32im.specs.Words.{half_of, word_of}
 use Rattle.elf_reader.specs.declared.records.FileHeader.{FileHeader}
 use Rattle.elf_reader.specs.declared.records.ProgramHeader.{ProgramHeader}
 use Rattle.elf_reader.specs.declared.records.SectionHeader.{SectionHeader}

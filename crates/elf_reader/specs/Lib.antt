@@ -1,6 +1,6 @@
 pub use Rattle.list_checks.specs.First
-pub use Rattle.word_bits.specs.Words
-pub use Rattle.word_bits.specs.Memory
+pub use Rattle.rv32im.specs.Words
+pub use Rattle.rv32im.specs.Memory
 pub use Rattle.list_checks.specs.Tests
 pub mod Layout
 pub mod Sections

@@ -1,7 +1,7 @@
 -- Records that are read from two files in which the same bytes stand.
 use Rattle.std.proofs.Common.{◌≡◌, ◌∙◌, ℕ, ◌+◌, ◌<◌, ◌≤◌, List, slice_index, sym, ap, arith}
 use Rattle.std.specs.Int.{cast_signed, w32}
-use Rattle.word_bits.specs.Words.{half_of, word_of}
+use Rattle.rv32im.specs.Words.{half_of, word_of}
 use Rattle.elf_reader.specs.Layout.{half_in, word_in, program_header_in, section_header_in, relocation_record_in}
 
 -- the bytes of file `f` from `at` on are those of file `g` from `to` on, `n` of them

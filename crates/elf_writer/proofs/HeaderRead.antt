@@ -1,6 +1,6 @@
 -- The ELF header of a written file, read back.
 use Rattle.std.proofs.Common.{◌≡◌, ◌∙◌, ℕ, ◌+◌, ◌<◌, List, slice_index, Option, Some, None, sym, ap, arith}
-use Rattle.word_bits.specs.Words.{byte_of, half_of, word_of}
+use Rattle.rv32im.specs.Words.{byte_of, half_of, word_of}
 use Rattle.elf_reader.specs.Layout.{file_header}
 use Rattle.elf_reader.specs.File.{view_in}
 use Rattle.elf_reader.specs.Faults.{first_fault}

@@ -6,7 +6,7 @@ use Rattle.std.proofs.lemmas.Bool.{ne_eqb}
 use Rattle.std.proofs.lemmas.List.Sums.{take_while-cons}
 use Rattle.std.proofs.Math.Seq.{take-append_seam, drop-append_seam}
 use Rattle.std.specs.List.{take_while}
-use Rattle.word_bits.specs.Words.{byte_of, half_of, word_of}
+use Rattle.rv32im.specs.Words.{byte_of, half_of, word_of}
 use Rattle.elf_reader.specs.Layout.{half_in, word_in}
 use Rattle.elf_reader.specs.Sections.{is_zero, name_in}
 use Rattle.elf_writer.specs.Pieces.{IsWord, IsName, half_bytes, word_bytes, words_bytes, name_size}

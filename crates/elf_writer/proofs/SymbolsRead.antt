@@ -5,7 +5,7 @@ use Rattle.std.proofs.lemmas.Bool.{eqb-true, cases_Bool, cond-true, cond-false}
 use Rattle.std.proofs.lemmas.Bool.Decides.{nat_tests}
 use Rattle.std.proofs.lemmas.List.Elements.{All-head, All-tail}
 use Rattle.list_checks.specs.First.{◌or_else◌, unless}
-use Rattle.word_bits.specs.Words.{half_of, word_of}
+use Rattle.rv32im.specs.Words.{half_of, word_of}
 use Rattle.elf_writer.specs.Pieces.{half_bytes, word_bytes}
 use Rattle.elf_reader.specs.Layout.{section_count, section_header, half_in, word_in, symbol_record_in, symbol_record}
 use Rattle.elf_reader.specs.Sections.{stands_in_file, is_symbol_table, section_content, name_in, symbol_table_below, symbol_table, symbol_count_of, symbol_names}

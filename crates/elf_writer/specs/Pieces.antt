@@ -1,6 +1,6 @@
 -- Numbers, tables of names and padding, as bytes of a file.
 use Rattle.std.specs.Prelude.{ℕ, zero, suc, ◌+◌, ◌-◌, ◌%◌, ◌<◌, ◌≢◌, List, [], ◌∷◌, ◌++◌, length, All}
-use Rattle.word_bits.specs.Words.{byte_of}
+use Rattle.rv32im.specs.Words.{byte_of}
 
 -- a halfword and a word, least byte first; of a greater number the low part
 abbrev pub half_bytes : ℕ → List ℕ

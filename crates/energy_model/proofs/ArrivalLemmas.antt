@@ -8,7 +8,7 @@ use Rattle.list_checks.proofs.TestLemmas.{same_tests}
 use Rattle.list_checks.specs.Sorted.{sum_below}
 use Rattle.board_config.specs.declared.board.Board.{Board}
 use Rattle.object_graph.specs.declared.parts.Graph.{Graph}
-use Rattle.code_leaders.specs.Early.{has}
+use Rattle.code_blocks.specs.Early.{has}
 use Rattle.code_blocks.specs.Blocks.{start_of}
 use Rattle.code_blocks.specs.Numbers.{starts_of, start_at}
 use Rattle.code_blocks.specs.declared.parts.Code.{Code}

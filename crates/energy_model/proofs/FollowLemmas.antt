@@ -4,17 +4,17 @@ use Rattle.std.proofs.Common.{◌≡◌, ◌∙◌, inl, inr, ℕ, zero, suc, �
 use Rattle.std.proofs.lemmas.Bool.{cases_eq, cases_lt}
 use Rattle.std.proofs.lemmas.Bool.Decides.{nat_tests}
 use Rattle.std.proofs.lemmas.List.{length-map, get_or-map}
-use Rattle.rv_decode.specs.declared.instructions.Instr.{Instr}
+use Rattle.rv32im.specs.declared.instructions.Instr.{Instr}
 use Rattle.elf_reader.specs.File.{PlainView, plain_view}
 use Rattle.elf_reader.specs.declared.view.ElfView.{ElfView}
 use Rattle.board_config.specs.declared.board.Board.{Board}
 use Rattle.loaded_file.specs.Code.{is_code_word, image_word}
 use Rattle.loaded_file.specs.Read.{IsRead}
 use Rattle.object_graph.specs.declared.parts.Graph.{Graph}
-use Rattle.code_leaders.specs.Early.{has}
-use Rattle.code_leaders.specs.Leaders.{is_leader}
-use Rattle.code_leaders.proofs.LeaderLemmas.{leader_is_code, indirect_is_leader}
-use Rattle.code_leaders.proofs.SearchLemmas.{has_at}
+use Rattle.code_blocks.specs.Early.{has}
+use Rattle.code_blocks.specs.Leaders.{is_leader}
+use Rattle.code_blocks.proofs.LeaderLemmas.{leader_is_code, indirect_is_leader}
+use Rattle.code_blocks.proofs.SearchLemmas.{has_at}
 use Rattle.code_blocks.specs.Blocks.{start_of, IsBlock, IsCode}
 use Rattle.code_blocks.specs.declared.parts.Block.{Block}
 use Rattle.code_blocks.specs.declared.parts.Function.{Function}

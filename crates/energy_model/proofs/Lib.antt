@@ -20,3 +20,10 @@ pub mod TogetherLemmas
 pub mod ObjectLemmas
 pub mod KeptLemmas
 pub mod OverlaidCode
+pub mod DisplacedLemmas
+pub mod ChangeCounts
+pub mod OverlayCostLemmas
+pub mod SwitchLemmas
+pub mod GainLemmas
+pub mod GainBounds
+pub mod EnteringLemmas

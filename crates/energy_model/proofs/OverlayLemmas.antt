@@ -6,7 +6,7 @@ use Rattle.std.proofs.lemmas.Bool.Decides.{nat_tests}
 use Rattle.list_checks.specs.Sorted.{sum_below}
 use Rattle.list_checks.proofs.SumLemmas.{sum_same}
 use Rattle.list_checks.proofs.TestLemmas.{both}
-use Rattle.rv_decode.specs.Table.{OneInstruction}
+use Rattle.rv32im.specs.Table.{OneInstruction}
 use Rattle.elf_reader.specs.declared.view.ElfView.{ElfView}
 use Rattle.board_config.specs.declared.board.Board.{Board}
 use Rattle.object_graph.specs.declared.parts.Graph.{Graph}

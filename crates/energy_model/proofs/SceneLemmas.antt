@@ -1,14 +1,14 @@
 -- What is known of the transitions of a run, in the terms of its energy.
 use Rattle.std.proofs.Common.{◌≡◌, ◌∙◌, ℕ, suc, ◌<◌, ◌≤◌, ◌==◌, true, List, [], ◌∷◌, length, map, slice_index_or, Option, sym, ap, subst, arith}
 use Rattle.std.proofs.lemmas.List.{get_or-map}
-use Rattle.rv_decode.specs.Table.{OneInstruction}
-use Rattle.rv_decode.specs.declared.instructions.Instr.{Instr}
+use Rattle.rv32im.specs.Table.{OneInstruction}
+use Rattle.rv32im.specs.declared.instructions.Instr.{Instr}
 use Rattle.elf_reader.specs.File.{plain_view}
 use Rattle.elf_reader.specs.declared.view.ElfView.{ElfView}
 use Rattle.board_config.specs.declared.board.Board.{Board}
 use Rattle.object_graph.specs.declared.parts.Graph.{Graph}
-use Rattle.code_leaders.specs.Early.{has}
-use Rattle.code_leaders.specs.Leaders.{is_leader}
+use Rattle.code_blocks.specs.Early.{has}
+use Rattle.code_blocks.specs.Leaders.{is_leader}
 use Rattle.code_blocks.specs.declared.parts.Unit.{Unit}
 use Rattle.code_blocks.specs.declared.parts.Block.{Block}
 use Rattle.code_blocks.specs.declared.parts.Code.{Code}

@@ -4,7 +4,7 @@ use Rattle.std.specs.List.{All, AllPairs}
 use Rattle.std.specs.List.Sorted.{IsStrictlyIncreasing}
 use Rattle.object_graph.specs.Lookups.{IsSomeGraph}
 use Rattle.object_graph.specs.declared.parts.Graph.{Graph}
-use Rattle.code_leaders.specs.Early.{has}
+use Rattle.code_blocks.specs.Early.{has}
 use Rattle.code_blocks.specs.Edges.{successors}
 use Rattle.code_blocks.specs.Numbers.{starts_of, start_at}
 use Rattle.code_blocks.specs.declared.parts.Code.{Code}

@@ -10,3 +10,6 @@ pub mod Copied
 pub mod Counts
 pub mod Together
 pub mod Overlay
+pub mod OverlayCost
+pub mod Entering
+pub mod Gains

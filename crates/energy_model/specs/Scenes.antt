@@ -7,7 +7,7 @@ use Rattle.board_config.specs.declared.board.Board.{Board}
 use Rattle.loaded_file.specs.Read.{IsRead}
 use Rattle.object_graph.specs.Graphs.{IsGraph}
 use Rattle.object_graph.specs.declared.parts.Graph.{Graph}
-use Rattle.code_leaders.specs.Leaders.{is_leader}
+use Rattle.code_blocks.specs.Leaders.{is_leader}
 use Rattle.code_blocks.specs.Blocks.{start_of, IsCode, code_fault}
 use Rattle.code_blocks.specs.declared.parts.Code.{Code}
 use Rattle.object_machine.specs.declared.events.Outcome.TheVariants.{GoesOn}

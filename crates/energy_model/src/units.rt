@@ -7,7 +7,7 @@ ghost use Rattle.energy_model.specs.Base.{body_price, ended_price, part_price};
 use board_config::Prices;
 use code_blocks::{Block, Unit};
 use object_machine::Outcome;
-use rv_decode::Instr;
+use rv32im::Instr;
 
 /// What the access of an instruction costs in main memory, if it is a load or a store.
 fn data_price(instr: &Option<Instr>, prices: &Prices) -> u32

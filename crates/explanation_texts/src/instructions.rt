@@ -1,6 +1,6 @@
 use crate::cures::text_at;
 use crate::notes::{Notes, Piece};
-use rv_decode::i_imm;
+use rv32im::i_imm;
 use std::alloc::AllocError;
 
 /// The names of the registers (RISC-V psABI, "Register Convention").

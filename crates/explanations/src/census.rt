@@ -1,8 +1,7 @@
 use crate::section_map::SectionMap;
 use elf_reader::ElfView;
 use loaded_file::{ByteRange, LoadedFile, counts, object_ranges, symbol_value, target};
-use movable_ranges::is_alias;
-use object_graph::Graph;
+use object_graph::{Graph, is_alias};
 use std::alloc::{AllocError, Global};
 
 /// A label by which a relocation leads into an object.

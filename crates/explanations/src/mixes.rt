@@ -1,6 +1,6 @@
 use crate::inputs::{is_read_once, read_word};
+use command_language::{MixFault, MixInput, read_mix};
 use explanation_texts::{Command, Notes, say_bad_line, say_unread_input};
-use mix_text::{MixFault, MixInput, read_mix};
 use shelf_io::{Shelf, ShelfFault};
 use std::alloc::{AllocError, Global};
 

@@ -4,7 +4,7 @@ use crate::units::{TracedUnit, UnitTable};
 use code_blocks::Code;
 use object_graph::Graph;
 use object_machine::{Outcome, Source};
-use rv_decode::{A0, A1, Instr};
+use rv32im::{A0, A1, Instr};
 use std::alloc::{AllocError, Global};
 
 /// An address fault of a run.

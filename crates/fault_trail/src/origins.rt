@@ -1,5 +1,5 @@
 use object_graph::Site;
-use rv_decode::{ImmKind, RegKind, imm_result, reg_result};
+use rv32im::{ImmKind, RegKind, imm_result, reg_result};
 
 /// How a value was made of an object's address.
 #[derive(Clone, Copy, PartialEq, Eq)]

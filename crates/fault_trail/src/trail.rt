@@ -1,7 +1,7 @@
 use crate::origins::{Origin, Trace, UNKNOWN, Way, combined, number, upper, with_immediate};
 use crate::units::TracedUnit;
 use object_graph::{DataWord, Graph};
-use rv_decode::{A0, Instr, LoadKind, StoreKind};
+use rv32im::{A0, Instr, LoadKind, StoreKind};
 use std::alloc::{AllocError, Global};
 
 /// How many stored words are remembered at most, a power of 2.

@@ -1,7 +1,7 @@
 use crate::origins::Origin;
 use code_blocks::{Code, Unit};
 use object_graph::{Graph, Site};
-use rv_decode::Instr;
+use rv32im::Instr;
 use std::alloc::{AllocError, Global};
 
 /// A unit of code.

@@ -3,7 +3,7 @@ use Rattle.std.proofs.Common.{◌≡◌, ℕ, ◌+◌, ◌-◌, ◌<◌, ◌≤�
 use Rattle.std.proofs.Math.ListN.{get_or-map, length-map}
 use Rattle.std.proofs.Math.Seq.{drop-cons}
 use Rattle.std.proofs.lemmas.Bool.Decides.{nat_tests}
-use Rattle.word_bits.specs.Memory.{Memory, put_bytes}
+use Rattle.rv32im.specs.Memory.{Memory, put_bytes}
 use Rattle.elf_reader.specs.declared.view.Segment.{Segment}
 use Rattle.elf_reader.specs.File.{PlainSegment, plain_segment}
 use Rattle.elf_reader.specs.Loadable.{IsLoadable, AreLoadable}

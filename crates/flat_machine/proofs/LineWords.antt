@@ -1,11 +1,11 @@
 -- Words of lines in memory.
 use Rattle.std.proofs.Common.{◌≡◌, ℕ, zero, suc, ◌+◌, ◌*◌, ◌%◌, ◌<◌, ◌≤◌, true, List, [], ◌∷◌, ◌++◌, length, slice_index, refl, sym, subst, arith}
 use Rattle.std.proofs.lemmas.Bool.Decides.{nat_tests}
-use Rattle.word_bits.specs.Words.{plus}
-use Rattle.word_bits.specs.Memory.{Memory, word_at}
-use Rattle.rv_decode.specs.declared.instructions.Instr.{Instr}
-use Rattle.rv_decode.specs.Table.{Means}
-use Rattle.rv_decode.specs.Sequences.{MeanAll}
+use Rattle.rv32im.specs.Words.{plus}
+use Rattle.rv32im.specs.Memory.{Memory, word_at}
+use Rattle.rv32im.specs.declared.instructions.Instr.{Instr}
+use Rattle.rv32im.specs.Table.{Means}
+use Rattle.rv32im.specs.Sequences.{MeanAll}
 use Rattle.board_config.specs.declared.board.Range.{Range}
 use Rattle.flat_machine.specs.Mapping.{can_access, is_mapped, all_mapped}
 use Rattle.flat_machine.specs.State.{State}

@@ -1,15 +1,13 @@
 -- Straight lines of instructions on the flat machine.
 use Rattle.std.proofs.Common.{◌≡◌, ℕ, suc, ◌+◌, ◌*◌, ◌<◌, Bool, true, List, [], ◌∷◌, ◌++◌, length, refl, sym, ◌∙◌, ap, subst, arith, if◌then◌else◌}
-use Rattle.word_bits.specs.Words.{plus}
-use Rattle.rv_decode.specs.declared.instructions.Instr.{Instr}
-use Rattle.rv_decode.specs.declared.instructions.Instr.TheVariants.{Lui, Auipc, Jal, Jalr, Branch, Load, Store, OpImm, OpReg, Fence, FenceI, Ecall, Ebreak}
-use Rattle.rv_decode.specs.Acts.{Hart, acts, access_of}
-use Rattle.flat_machine.specs.declared.events.FlatOutcome.TheVariants.{GoesOn}
+use Rattle.rv32im.specs.Words.{plus}
+use Rattle.rv32im.specs.declared.instructions.Instr.{Instr}
+use Rattle.rv32im.specs.declared.instructions.Instr.TheVariants.{Lui, Auipc, Jal, Jalr, Branch, Load, Store, OpImm, OpReg, Fence, FenceI, Ecall, Ebreak}
+use Rattle.rv32im.specs.Acts.{Hart, acts, access_of}
 use Rattle.flat_machine.specs.State.{State, trap}
 use Rattle.flat_machine.specs.Step.{may_access, performed, event_of, Step}
-use Rattle.flat_machine.specs.Runs.{Steps}
 use Rattle.flat_machine.specs.Lines.{with_hart, IsOrdinary, Fetches, CodeAt, acted, line_events, Line, LinesRun}
-use Rattle.flat_machine.proofs.Runs.{performs_meaning, steps_of_events}
+use Rattle.flat_machine.proofs.Runs.{performs_meaning}
 
 -- it makes its access and acts on the hart
 does : (s : State) (h : Hart) (i : Instr) → IsOrdinary i → may_access (with_hart s h) (access_of i h.regs) ≡ true → performed (with_hart s h) i ≡ with_hart s (acts i h)
@@ -41,11 +39,6 @@ line_does (i ∷ is) s h going line =
 line_count : (is : List Instr) (s : State) (h : Hart) → length (line_events s is h) ≡ length is
 line_count [] s h = refl
 line_count (i ∷ is) s h = ap suc (line_count is s (acts i h))
-
-pub line_runs : (is : List Instr) (s : State) (h : Hart) → s.outcome ≡ GoesOn → Line s is h → Steps (length is) (with_hart s h) (with_hart s (acted is h))
-line_runs is s h going line =
-    subst (λ n. Steps n (with_hart s h) (with_hart s (acted is h))) (line_count is s h)
-    (steps_of_events (line_events s is h) (with_hart s h) (with_hart s (acted is h)) (line_does is s h going line))
 
 -- ---- instructions that write a register and go to the next word
 

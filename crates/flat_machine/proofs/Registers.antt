@@ -2,8 +2,8 @@
 use Rattle.std.proofs.Common.{◌≡◌, ◌≢◌, ℕ, ◌<◌, List, length, slice_index, slice_set, replicate, zero, suc, arith}
 use Rattle.std.proofs.lemmas.Grind.{common_steps}
 use Rattle.std.proofs.lemmas.Bool.Decides.{nat_tests}
-use Rattle.word_bits.specs.Memory.{put, zeros}
-use Rattle.rv_decode.specs.Acts.{with_register}
+use Rattle.rv32im.specs.Memory.{put, zeros}
+use Rattle.rv32im.specs.Acts.{with_register}
 
 set_at : (regs : List ℕ) (rd value k : ℕ) → rd ≢ 0 → rd < length regs → slice_index (slice_set regs rd value) k ≡ with_register (λ j. slice_index regs j) rd value k
 unfolding put

@@ -2,9 +2,9 @@
 use Rattle.std.proofs.Common.{◌≡◌, ℕ, zero, suc, ◌+◌, List, [], ◌∷◌, ◌++◌, length, refl, sym, ◌∙◌, ap, subst, arith}
 use Rattle.std.specs.Prelude.{Bool, IsTrue, true, false, Option, Some, None}
 use Rattle.std.specs.Bool.{MatchBool}
-use Rattle.word_bits.specs.Memory.{word_at}
-use Rattle.rv_decode.specs.declared.instructions.Instr.{Instr}
-use Rattle.rv_decode.specs.Table.{Means, OneInstruction}
+use Rattle.rv32im.specs.Memory.{word_at}
+use Rattle.rv32im.specs.declared.instructions.Instr.{Instr}
+use Rattle.rv32im.specs.Table.{Means, OneInstruction}
 use Rattle.flat_machine.specs.declared.events.FlatOutcome.{FlatOutcome}
 use Rattle.flat_machine.specs.declared.events.FlatOutcome.TheVariants.{GoesOn, Exited, Trapped}
 use Rattle.flat_machine.specs.declared.events.FlatEvent.{FlatEvent}

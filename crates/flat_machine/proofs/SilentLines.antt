@@ -2,14 +2,14 @@
 use Rattle.std.proofs.Common.{◌≡◌, ℕ, zero, suc, ◌+◌, ◌*◌, ◌/◌, ◌%◌, ◌<◌, List, [], ◌∷◌, map, refl, sym, ◌∙◌, ap, subst, arith}
 use Rattle.std.specs.Prelude.{None}
 use Rattle.std.proofs.lemmas.Bool.Decides.{nat_tests}
-use Rattle.word_bits.specs.Words.{plus, offset, upper_half, lower_half}
-use Rattle.word_bits.specs.Memory.{put, word_at}
-use Rattle.rv_decode.specs.declared.instructions.Instr.{Instr}
-use Rattle.rv_decode.specs.declared.instructions.Instr.TheVariants.{Lui, Auipc, Jal, Jalr, Branch, Load, Store, OpImm, OpReg, Fence, FenceI, Ecall, Ebreak}
-use Rattle.rv_decode.specs.declared.instructions.ImmKind.TheVariants.{Addi}
-use Rattle.rv_decode.specs.Acts.{Hart, Registers, acts, register, with_register}
-use Rattle.rv_decode.specs.Sequences.{load_immediate, jump_absolute}
-use Rattle.rv_decode.proofs.SequenceLemmas.{halves}
+use Rattle.rv32im.specs.Words.{plus, offset, upper_half, lower_half}
+use Rattle.rv32im.specs.Memory.{put, word_at}
+use Rattle.rv32im.specs.declared.instructions.Instr.{Instr}
+use Rattle.rv32im.specs.declared.instructions.Instr.TheVariants.{Lui, Auipc, Jal, Jalr, Branch, Load, Store, OpImm, OpReg, Fence, FenceI, Ecall, Ebreak}
+use Rattle.rv32im.specs.declared.instructions.ImmKind.TheVariants.{Addi}
+use Rattle.rv32im.specs.Acts.{Hart, Registers, acts, register, with_register}
+use Rattle.rv32im.specs.Sequences.{load_immediate, jump_absolute}
+use Rattle.rv32im.proofs.SequenceLemmas.{halves}
 use Rattle.flat_machine.specs.declared.events.FlatOutcome.TheVariants.{GoesOn}
 use Rattle.flat_machine.specs.State.{State}
 use Rattle.flat_machine.specs.Step.{performed, event_of, Step}

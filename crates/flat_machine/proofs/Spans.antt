@@ -32,10 +32,6 @@ part_at (r ∷ map) (suc k) range at n within is h = grind (arith, nat_tests, pa
 pub found_is_part : (map : List Range) (k : ℕ) (range : Range) → k < length map → range ≡ get_or map k range → IsPart range map
 found_is_part map k range within is at n h = part_at map k range at n within is h
 
--- and so does the first
-pub first_is_part : (range : Range) (rest map : List Range) → map ≡ range ∷ rest → IsPart range map
-first_is_part range rest map is at n h = rw is (grind (arith, nat_tests))
-
 -- what a part holds is mapped
 pub part_is_mapped : (range : Range) (map : List Range) (at n : ℕ) → IsPart range map → is_inside_one (range ∷ []) at n ≡ true → all_mapped map at n ≡ true
 part_is_mapped range map at n part h = mapped_inside_one map at n (part at n h)

@@ -5,14 +5,14 @@ use Rattle.std.proofs.lemmas.Grind.{get_or-set_at}
 use Rattle.std.specs.Prelude.{true, false, Option, None, IsTrue}
 use Rattle.std.specs.Bool.{MatchBool}
 use Rattle.std.proofs.lemmas.Bool.Decides.{nat_tests}
-use Rattle.word_bits.specs.Words.{plus}
-use Rattle.word_bits.specs.Memory.{Memory, put, word_at}
-use Rattle.rv_decode.specs.declared.instructions.StoreKind.{StoreKind}
-use Rattle.rv_decode.specs.declared.instructions.StoreKind.TheVariants.{Sb, Sh, Sw}
-use Rattle.rv_decode.specs.Table.{Means, MeansNothing}
-use Rattle.rv_decode.specs.declared.instructions.Instr.{Instr}
-use Rattle.rv_decode.specs.declared.instructions.Instr.TheVariants.{Load, Store, Ecall}
-use Rattle.rv_decode.specs.Acts.{store_width, stored, access_of}
+use Rattle.rv32im.specs.Words.{plus}
+use Rattle.rv32im.specs.Memory.{Memory, put, word_at}
+use Rattle.rv32im.specs.declared.instructions.StoreKind.{StoreKind}
+use Rattle.rv32im.specs.declared.instructions.StoreKind.TheVariants.{Sb, Sh, Sw}
+use Rattle.rv32im.specs.Table.{Means, MeansNothing}
+use Rattle.rv32im.specs.declared.instructions.Instr.{Instr}
+use Rattle.rv32im.specs.declared.instructions.Instr.TheVariants.{Load, Store, Ecall}
+use Rattle.rv32im.specs.Acts.{store_width, stored, access_of}
 use Rattle.board_config.specs.declared.board.Range.{Range}
 use Rattle.flat_machine.specs.declared.events.FlatOutcome.TheVariants.{GoesOn, Trapped}
 use Rattle.flat_machine.specs.declared.events.FlatEvent.{FlatEvent}
@@ -124,10 +124,6 @@ call_after s known other all =
     cond_both (a7 s == 64) (written s) _ (AreKnownOf known)
     (λ _. cond_both (can_move s.map (a1 s) (a2 s)) _ (trap s) (AreKnownOf known) (λ _. all) (λ _. all))
     (λ _. cond_both (a7 s == 63) (read s) (answered s 4294967258) (AreKnownOf known) (λ reads. absurd (other (read_only (a7 s) reads))) (λ _. all)))
-
--- a call other than READ puts nothing in memory
-pub call_kept : (s t : State) (known : List Known) → a7 s ≢ 63 → t ≡ call s → AreKnown s.map s.hart.mem known → AreKnown t.map t.hart.mem known
-call_kept s t known other is all = subst (AreKnownOf known) (sym is) (call_after s known other all)
 
 -- a machine that goes on takes a step: it cannot fetch, or the word means nothing, or it performs what the word means
 pub unfetched : (s : State) → s.outcome ≡ GoesOn → can_access s.map s.hart.pc 4 ≡ false → TellsStep s None (trap s)

@@ -5,12 +5,12 @@ use Rattle.std.specs.Bool.{MatchBool}
 use Rattle.std.proofs.lemmas.Grind.{common_steps}
 use Rattle.std.proofs.lemmas.Bool.Decides.{nat_tests}
 use Rattle.std.proofs.lemmas.List.Elements.{All-take, All-drop, All-head, All-tail}
-use Rattle.word_bits.specs.Memory.{Memory, put, put_bytes}
-use Rattle.rv_decode.specs.declared.instructions.Instr.{Instr}
-use Rattle.rv_decode.specs.declared.instructions.Instr.TheVariants.{Ecall, Ebreak}
-use Rattle.rv_decode.specs.Table.{IsInRange}
-use Rattle.rv_decode.specs.Acts.{HoldsWords, ActsKeepsWords, acts, access_of}
-use Rattle.rv_decode.proofs.Meaning.{in_range}
+use Rattle.rv32im.specs.Memory.{Memory, put, put_bytes}
+use Rattle.rv32im.specs.declared.instructions.Instr.{Instr}
+use Rattle.rv32im.specs.declared.instructions.Instr.TheVariants.{Ecall, Ebreak}
+use Rattle.rv32im.specs.Table.{IsInRange}
+use Rattle.rv32im.specs.Acts.{HoldsWords, ActsKeepsWords, acts, access_of}
+use Rattle.rv32im.proofs.Meaning.{in_range}
 use Rattle.elf_reader.specs.File.{PlainSegment}
 use Rattle.elf_reader.specs.Image.{has_byte, image_of}
 use Rattle.elf_reader.specs.Loadable.{IsByte, AreBytes, IsLoadable, AreLoadable}

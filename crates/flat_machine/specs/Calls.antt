@@ -1,8 +1,8 @@
 -- The calls of the environment: ECALL with the number in a7 and the arguments in a0 to a2
 -- (RISC-V psABI, "Integer Register Convention"; the numbers and the error are those of Linux).
 use Rattle.std.specs.Prelude.{ℕ, ◌%◌, ◌==◌, if◌then◌else◌, min, length, take, drop, ◌++◌}
-use Rattle.word_bits.specs.Memory.{bytes_at, put_bytes}
-use Rattle.rv_decode.specs.Acts.{register, after_write}
+use Rattle.rv32im.specs.Memory.{bytes_at, put_bytes}
+use Rattle.rv32im.specs.Acts.{register, after_write}
 use Rattle.flat_machine.specs.declared.events.FlatOutcome.TheVariants.{Exited}
 use Rattle.flat_machine.specs.Mapping.{can_move}
 use Rattle.flat_machine.specs.State.{State, trap}

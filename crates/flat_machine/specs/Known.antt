@@ -1,9 +1,9 @@
 -- The table of decoded instructions of a run: what words in memory mean, in slots by their addresses.
 use Rattle.std.specs.Prelude.{◌≡◌, ℕ, ◌/◌, ◌%◌, ◌<◌, List, length, slice_index_or, Option, IsTrue}
-use Rattle.word_bits.specs.Memory.{Memory, word_at}
-use Rattle.rv_decode.specs.declared.instructions.Instr.{Instr}
-use Rattle.rv_decode.specs.declared.instructions.Instr.TheVariants.{Ebreak}
-use Rattle.rv_decode.specs.Table.{Means, IsInRange}
+use Rattle.rv32im.specs.Memory.{Memory, word_at}
+use Rattle.rv32im.specs.declared.instructions.Instr.{Instr}
+use Rattle.rv32im.specs.declared.instructions.Instr.TheVariants.{Ebreak}
+use Rattle.rv32im.specs.Table.{Means, IsInRange}
 use Rattle.board_config.specs.declared.board.Range.{Range}
 use Rattle.flat_machine.specs.declared.events.FlatEvent.{FlatEvent}
 use Rattle.flat_machine.specs.declared.events.FlatAccess.{FlatAccess}

@@ -1,6 +1,6 @@
-pub use Rattle.word_bits.specs.Memory
-pub use Rattle.rv_decode.specs.Acts
-pub use Rattle.rv_decode.specs.Table
+pub use Rattle.rv32im.specs.Memory
+pub use Rattle.rv32im.specs.Acts
+pub use Rattle.rv32im.specs.Table
 pub use Rattle.elf_reader.specs.File
 pub use Rattle.elf_reader.specs.Image
 pub use Rattle.elf_reader.specs.Loadable

@@ -1,10 +1,10 @@
 -- Words that stand in memory and run one behind the other.
 use Rattle.std.specs.Prelude.{◌≡◌, ℕ, zero, suc, ◌+◌, ◌*◌, ◌<◌, true, List, [], ◌∷◌, map, length, slice_index, None, IsTrue}
-use Rattle.word_bits.specs.Memory.{Memory, word_at}
-use Rattle.rv_decode.specs.declared.instructions.Instr.{Instr}
-use Rattle.rv_decode.specs.declared.instructions.Instr.TheVariants.{Ecall, Ebreak}
-use Rattle.rv_decode.specs.Table.{Means}
-use Rattle.rv_decode.specs.Acts.{Hart, Registers, acts, access_of}
+use Rattle.rv32im.specs.Memory.{Memory, word_at}
+use Rattle.rv32im.specs.declared.instructions.Instr.{Instr}
+use Rattle.rv32im.specs.declared.instructions.Instr.TheVariants.{Ecall, Ebreak}
+use Rattle.rv32im.specs.Table.{Means}
+use Rattle.rv32im.specs.Acts.{Hart, Registers, acts, access_of}
 use Rattle.board_config.specs.declared.board.Range.{Range}
 use Rattle.flat_machine.specs.declared.events.FlatOutcome.TheVariants.{GoesOn}
 use Rattle.flat_machine.specs.declared.events.FlatEvent.{FlatEvent}

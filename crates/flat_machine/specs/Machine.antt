@@ -1,6 +1,6 @@
 -- The state that a machine of the code stands for.
 use Rattle.std.specs.Prelude.{drop, slice_index}
-use Rattle.word_bits.specs.Memory.{Memory}
+use Rattle.rv32im.specs.Memory.{Memory}
 use Rattle.flat_machine.specs.declared.machine.Flat.{Flat}
 use Rattle.flat_machine.specs.State.{State}
 

@@ -1,6 +1,6 @@
 -- Registers hold words, and memory and input hold bytes, in each state that a program reaches.
 use Rattle.std.specs.Prelude.{ℕ, ◌<◌, List}
-use Rattle.rv_decode.specs.Acts.{HoldsWords}
+use Rattle.rv32im.specs.Acts.{HoldsWords}
 use Rattle.elf_reader.specs.File.{PlainSegment}
 use Rattle.elf_reader.specs.Loadable.{AreBytes, AreLoadable}
 use Rattle.board_config.specs.declared.board.Range.{Range}

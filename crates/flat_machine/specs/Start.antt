@@ -1,6 +1,6 @@
 -- The state in which a program starts.
 use Rattle.std.specs.Prelude.{ℕ, List, []}
-use Rattle.word_bits.specs.Memory.{zeros}
+use Rattle.rv32im.specs.Memory.{zeros}
 use Rattle.elf_reader.specs.File.{PlainSegment}
 use Rattle.elf_reader.specs.Image.{image_of}
 use Rattle.board_config.specs.declared.board.Range.{Range}

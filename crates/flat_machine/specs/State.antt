@@ -1,6 +1,6 @@
 -- The state of the flat machine: one hart, its memory, and the world that its calls see.
 use Rattle.std.specs.Prelude.{ℕ, List}
-use Rattle.rv_decode.specs.Acts.{Hart}
+use Rattle.rv32im.specs.Acts.{Hart}
 use Rattle.board_config.specs.declared.board.Range.{Range}
 use Rattle.flat_machine.specs.declared.events.FlatOutcome.{FlatOutcome}
 use Rattle.flat_machine.specs.declared.events.FlatOutcome.TheVariants.{Trapped}

@@ -2,11 +2,11 @@
 -- alone.
 use Rattle.std.specs.Prelude.{◌≡◌, ℕ, Bool, true, if◌then◌else◌, Option, Some, None, option_map}
 use Rattle.std.specs.Bool.{MatchBool}
-use Rattle.word_bits.specs.Memory.{word_at}
-use Rattle.rv_decode.specs.declared.instructions.Instr.{Instr}
-use Rattle.rv_decode.specs.declared.instructions.Instr.TheVariants.{Ecall, Ebreak}
-use Rattle.rv_decode.specs.Table.{Means, MeansNothing}
-use Rattle.rv_decode.specs.Acts.{Access, acts, access_of}
+use Rattle.rv32im.specs.Memory.{word_at}
+use Rattle.rv32im.specs.declared.instructions.Instr.{Instr}
+use Rattle.rv32im.specs.declared.instructions.Instr.TheVariants.{Ecall, Ebreak}
+use Rattle.rv32im.specs.Table.{Means, MeansNothing}
+use Rattle.rv32im.specs.Acts.{Access, acts, access_of}
 use Rattle.flat_machine.specs.declared.events.FlatOutcome.{FlatOutcome}
 use Rattle.flat_machine.specs.declared.events.FlatOutcome.TheVariants.{GoesOn, Exited, Trapped}
 use Rattle.flat_machine.specs.declared.events.FlatEvent.{FlatEvent}

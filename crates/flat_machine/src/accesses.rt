@@ -1,8 +1,8 @@
 ghost use Rattle.std.specs.Prelude.{◌≡◌, OnOk, OnErr};
-ghost use Rattle.rv_decode.specs.Acts.{load_width, store_width, loaded, stored};
+ghost use Rattle.rv32im.specs.Acts.{load_width, store_width, loaded, stored};
 
 use paged_store::ByteStore;
-use rv_decode::{LoadKind, StoreKind};
+use rv32im::{LoadKind, StoreKind};
 use std::alloc::AllocError;
 
 // These are inlined, since each load and store goes through them, and its kind is known there.

@@ -1,4 +1,4 @@
-use rv_decode::Instr;
+use rv32im::Instr;
 
 /// A decoded instruction, in its slot of a table.
 #[derive(Clone, Copy)]

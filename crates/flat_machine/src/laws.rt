@@ -33,7 +33,7 @@ pub fn ended_stays()
 pub fn is_determined()
     ensures { IsDetermined }
 {
-    rv_decode::one_instruction();
+    rv32im::one_instruction();
 }
 
 /// What was written stays written.
@@ -51,5 +51,5 @@ pub fn lines_run()
 pub fn words_stay()
     ensures { WordsStay }
 {
-    rv_decode::acts_keeps_words();
+    rv32im::acts_keeps_words();
 }

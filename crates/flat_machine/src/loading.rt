@@ -1,5 +1,5 @@
 ghost use Rattle.std.specs.Prelude.{◌≡◌, map, OnOk, IfOk};
-ghost use Rattle.word_bits.specs.Memory.{zeros};
+ghost use Rattle.rv32im.specs.Memory.{zeros};
 ghost use Rattle.elf_reader.specs.File.{plain_segment};
 ghost use Rattle.elf_reader.specs.Image.{image_of};
 ghost use Rattle.elf_reader.specs.Loadable.{AreLoadable};

@@ -17,7 +17,7 @@ use crate::reach::Reach;
 use board_config::{Board, Range};
 use elf_reader::ElfView;
 use paged_store::ByteStore;
-use rv_decode::decode;
+use rv32im::decode;
 use std::alloc::{AllocError, Global};
 
 /// An RV32IM machine with one hart, a flat memory and calls to read, write and exit.
@@ -50,7 +50,7 @@ pub struct Flat<S> {
 
 impl<S: ByteStore + Drop> Flat<S> {
     ghost use Rattle.std.specs.Prelude.{IfOk};
-    ghost use Rattle.word_bits.specs.Memory.{zeros};
+    ghost use Rattle.rv32im.specs.Memory.{zeros};
     ghost use Rattle.elf_reader.specs.File.{segments_of};
     ghost use Rattle.elf_reader.specs.Loadable.{AreLoadable};
     ghost use Rattle.board_config.specs.Board.{mapped_ranges};

@@ -31,10 +31,6 @@ pub record Goes (runs : List PlainRun) (left : List (ℕ × ℕ)) (all : ByteMap
   pub ascends : Ascends reached left
   pub bytes : (address : ℕ) → option_or (map_of runs address) (entry_at left address) ≡ all address
 
-ascends_from : (least other : ℕ) (es : List (ℕ × ℕ)) → other ≤ least → Ascends least es → Ascends other es
-ascends_from least other [] le up = tt
-ascends_from least other (e ∷ es) le up = let here = up.0 in (omega arith, up.1)
-
 ends_from : (least more : ℕ) (runs : List PlainRun) → least ≤ more → AreBelow least runs → AreBelow more runs
 ends_from least more runs le below = record { ends = each_weaker (EndsBy least) (EndsBy more) (λ run ends. omega arith) runs below.ends; filled = below.filled; disjoint = below.disjoint }
 

@@ -6,7 +6,7 @@ use Rattle.std.proofs.lemmas.List.{append_assoc, map-append}
 use Rattle.std.proofs.lemmas.List.Splits.{length-slice_split}
 use Rattle.std.specs.List.{AllByRecursion, count_by, flat_map}
 use Rattle.std.specs.Option.{option_or}
-use Rattle.word_bits.specs.Words.{byte_of, half_of, word_of}
+use Rattle.rv32im.specs.Words.{byte_of, half_of, word_of}
 use Rattle.elf_reader.specs.File.{PlainSegment}
 use Rattle.elf_reader.specs.Loadable.{AreLoadable, AreDisjoint}
 use Rattle.hex_image.specs.Runs.{PlainRun, ByteMap, run_end, run_byte, byte_from, map_of, segment_run, file_map}

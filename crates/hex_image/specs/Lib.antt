@@ -1,5 +1,5 @@
 pub use Rattle.list_checks.specs.First
-pub use Rattle.word_bits.specs.Words
+pub use Rattle.rv32im.specs.Words
 pub use Rattle.elf_reader.specs.File
 pub use Rattle.elf_reader.specs.Loadable
 pub mod Runs

@@ -4,7 +4,7 @@ use Rattle.std.specs.List.{slice_split}
 use Rattle.std.specs.Option.{option_or}
 use Rattle.std.specs.BTreeMap.{BTreeMap, get}
 use Rattle.std.specs.Ordering.{nat_cmp}
-use Rattle.word_bits.specs.Words.{half_of, word_of}
+use Rattle.rv32im.specs.Words.{half_of, word_of}
 use Rattle.list_checks.specs.First.{◌or_else◌, unless}
 use Rattle.hex_image.specs.Runs.{ByteMap, byte_from}
 use Rattle.hex_image.specs.Records.{PlainRecord, bytes_in, record_in}

@@ -1,7 +1,7 @@
 -- The text that is written for a file's segments and its entry.
 use Rattle.std.specs.Prelude.{ℕ, ◌+◌, ◌<◌, ◌-◌, ◌/◌, ◌%◌, ◌==◌, nat_lt, nat_le, Bool, ◌||◌, if◌then◌else◌, List, [], ◌∷◌, ◌++◌, length, map, filter, Option, Some, None}
 use Rattle.std.specs.List.{flat_map}
-use Rattle.word_bits.specs.Words.{byte_of}
+use Rattle.rv32im.specs.Words.{byte_of}
 use Rattle.elf_reader.specs.File.{PlainSegment}
 use Rattle.hex_image.specs.Runs.{PlainRun, run_at, segment_run}
 use Rattle.hex_image.specs.Records.{PlainRecord, line_of}

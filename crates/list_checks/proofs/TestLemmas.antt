@@ -1,6 +1,6 @@
 -- How tests over places are used: what is found, and what holds where nothing is.
 use Rattle.std.proofs.Common.{◌≡◌, ◌⊎◌, inl, inr, ℕ, zero, suc, ◌<◌, Bool, true, false, not, ◌&&◌, ◌||◌, refl, arith}
-use Rattle.list_checks.specs.Tests.{any_below, all_below}
+use Rattle.list_checks.specs.Tests.{any_below}
 
 -- of two tests of which one passes
 pub either : (a b : Bool) → a || b ≡ true → (a ≡ true) ⊎ (b ≡ true)
@@ -62,9 +62,6 @@ any_found test (suc n) found =
       | inl earlier ↦ let (k, below, passes) = any_found test n earlier in (k, omega arith, passes)
       | inr here ↦ (n, omega arith, here)
     ]
-
-pub all_at : (test : ℕ → Bool) (n k : ℕ) → k < n → all_below test n ≡ true → test k ≡ true
-all_at test n k below all = not_not _ (none_at (λ j. not (test j)) n k below (not_true _ all))
 
 -- two tests that answer alike at each place
 pub any_same : (test other : ℕ → Bool) (n : ℕ) → ((k : ℕ) → k < n → test k ≡ other k) → any_below test n ≡ any_below other n

@@ -7,7 +7,7 @@ use Rattle.std.proofs.lemmas.List.{get_or-map, length-map}
 use Rattle.std.proofs.lemmas.List.Elements.{All-nil, All-push}
 use Rattle.list_checks.specs.Tests.{lies_in}
 use Rattle.list_checks.proofs.TestLemmas.{both}
-use Rattle.word_bits.specs.Words.{plus, word_of}
+use Rattle.rv32im.specs.Words.{plus, word_of}
 use Rattle.elf_reader.specs.Layout.{program_header_count, program_header, section_count, section_header}
 use Rattle.elf_reader.specs.Sections.{bit_of, stands_in_file}
 use Rattle.elf_reader.specs.File.{PlainSegment, PlainSection, PlainView, IsFile, plain_section, plain_view, view_in, is_load, segment_of, segments_below, load_segments, section_of}

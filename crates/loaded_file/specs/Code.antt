@@ -1,6 +1,6 @@
 -- The code of a program, and its memory as words.
 use Rattle.std.specs.Prelude.{ℕ, ◌%◌, ◌==◌, Bool, ◌&&◌, length}
-use Rattle.word_bits.specs.Memory.{word_at}
+use Rattle.rv32im.specs.Memory.{word_at}
 use Rattle.list_checks.specs.Tests.{any_below, lies_in}
 use Rattle.elf_reader.specs.Sections.{bit_of}
 use Rattle.elf_reader.specs.File.{PlainView}

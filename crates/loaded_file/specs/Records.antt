@@ -1,6 +1,6 @@
 -- Symbols and relocations of a view by their numbers, and the bytes that a relocation changes.
 use Rattle.std.specs.Prelude.{ℕ, ◌==◌, nat_lt, Bool, ◌&&◌, ◌||◌, if◌then◌else◌, [], length, slice_index_or, pos}
-use Rattle.word_bits.specs.Words.{offset}
+use Rattle.rv32im.specs.Words.{offset}
 use Rattle.elf_reader.specs.File.{PlainSymbol, PlainView}
 use Rattle.elf_reader.specs.Loaded.{is_loaded}
 use Rattle.elf_reader.specs.declared.view.Reloc.{Reloc}

@@ -12,7 +12,7 @@ use Rattle.loaded_file.specs.Records.{symbol_at}
 use Rattle.loaded_file.specs.declared.byte_ranges.ByteRange.{ByteRange}
 use Rattle.loaded_file.specs.Ranges.{has_range, is_symbol_of, is_range}
 use Rattle.loaded_file.specs.ByteRanges.{is_byte_range, no_byte_range, byte_range_at}
-use Rattle.movable_ranges.specs.Fixed.{is_movable}
+use Rattle.object_graph.specs.Fixed.{is_movable}
 use Rattle.object_graph.specs.LayoutFaults.{same_range, names_object, objects_below}
 use Rattle.object_graph.specs.Gathered.{AreMovable, first_symbol}
 use Rattle.object_graph.proofs.CountLemmas.{one_if, count_split, count_once, count_none, count_all}

@@ -10,8 +10,8 @@ use Rattle.elf_reader.specs.declared.view.Reloc.{Reloc}
 use Rattle.loaded_file.specs.Records.{reloc_at, counts, symbol_of}
 use Rattle.loaded_file.specs.declared.byte_ranges.ByteRange.{ByteRange}
 use Rattle.loaded_file.specs.ByteRanges.{byte_range_at}
-use Rattle.rewritable_relocations.specs.Rewritable.{is_meant, displacement, is_rewritable_word, is_rewritable_high, is_rewritable_low, is_rewritable_pair, is_pair_low, names_high, is_rewritable_kind}
-use Rattle.movable_ranges.specs.Fixed.{leads_to}
+use Rattle.object_graph.specs.Rewritable.{is_meant, displacement, is_rewritable_word, is_rewritable_high, is_rewritable_low, is_rewritable_pair, is_pair_low, names_high, is_rewritable_kind}
+use Rattle.object_graph.specs.Fixed.{leads_to}
 use Rattle.object_graph.specs.declared.leads.Lead.{Lead}
 use Rattle.object_graph.specs.declared.parts.SiteKind.{SiteKind}
 use Rattle.object_graph.specs.declared.parts.SiteKind.TheVariants.{Hi, LowI, LowS}

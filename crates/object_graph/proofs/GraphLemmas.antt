@@ -11,8 +11,8 @@ use Rattle.loaded_file.specs.Records.{reloc_at}
 use Rattle.loaded_file.specs.declared.byte_ranges.ByteRange.{ByteRange}
 use Rattle.loaded_file.specs.ByteRanges.{is_byte_range, no_byte_range, byte_range_at}
 use Rattle.loaded_file.proofs.ByteRangeLemmas.{any_map}
-use Rattle.rewritable_relocations.specs.Rewritable.{displacement, is_rewritable_word}
-use Rattle.movable_ranges.specs.Fixed.{leads_to}
+use Rattle.object_graph.specs.Rewritable.{displacement, is_rewritable_word}
+use Rattle.object_graph.specs.Fixed.{leads_to}
 use Rattle.object_graph.specs.declared.fault.GraphFault.{GraphFault}
 use Rattle.object_graph.specs.declared.fault.GraphFault.TheVariants.{TooManyObjects}
 use Rattle.object_graph.specs.declared.parts.Object.{Object}

@@ -15,7 +15,7 @@ use Rattle.loaded_file.specs.Records.{symbol_at}
 use Rattle.board_config.specs.declared.board.Board.{Board}
 use Rattle.board_config.specs.declared.board.Range.{Range}
 use Rattle.loaded_file.specs.Ranges.{has_range, inside, is_symbol_of, is_range}
-use Rattle.movable_ranges.specs.Fixed.{is_movable, is_fixed}
+use Rattle.object_graph.specs.Fixed.{is_movable, is_fixed}
 use Rattle.object_graph.specs.CodeRanges.{section_range, code_ranges_below}
 use Rattle.object_graph.specs.declared.parts.Object.{Object}
 use Rattle.object_graph.specs.Graphs.{is_object_of, has_object, IsObjects}

@@ -4,18 +4,18 @@ use Rattle.std.specs.Int.{cast_unsigned, w32}
 use Rattle.std.proofs.lemmas.Bool.{eqb-true}
 use Rattle.std.proofs.lemmas.Bool.Decides.{nat_tests}
 use Rattle.list_checks.proofs.TestLemmas.{either, both, none_at}
-use Rattle.word_bits.specs.Words.{signed, minus, upper_half, lower_half}
-use Rattle.rv_decode.specs.Fields.{opcode_of, funct3_of}
-use Rattle.rv_decode.specs.Table.{load_funct3, store_funct3}
-use Rattle.rv_decode.specs.declared.instructions.LoadKind.{LoadKind}
-use Rattle.rv_decode.specs.declared.instructions.LoadKind.TheVariants.{Lb, Lh, Lw, Lbu, Lhu}
-use Rattle.rv_decode.specs.declared.instructions.StoreKind.{StoreKind}
-use Rattle.rv_decode.specs.declared.instructions.StoreKind.TheVariants.{Sb, Sh, Sw}
+use Rattle.rv32im.specs.Words.{signed, minus, upper_half, lower_half}
+use Rattle.rv32im.specs.Fields.{opcode_of, funct3_of}
+use Rattle.rv32im.specs.Table.{load_funct3, store_funct3}
+use Rattle.rv32im.specs.declared.instructions.LoadKind.{LoadKind}
+use Rattle.rv32im.specs.declared.instructions.LoadKind.TheVariants.{Lb, Lh, Lw, Lbu, Lhu}
+use Rattle.rv32im.specs.declared.instructions.StoreKind.{StoreKind}
+use Rattle.rv32im.specs.declared.instructions.StoreKind.TheVariants.{Sb, Sh, Sw}
 use Rattle.elf_reader.specs.File.{PlainView}
 use Rattle.loaded_file.specs.Code.{is_code_word, image_word}
 use Rattle.elf_reader.specs.declared.view.Reloc.{Reloc}
 use Rattle.loaded_file.specs.Records.{reloc_at, counts, target}
-use Rattle.rewritable_relocations.specs.Rewritable.{is_addi, is_load_word, is_store_word, i_low, s_low, takes_low_i, takes_low_s, distance, names_high, is_paired, is_unpaired}
+use Rattle.object_graph.specs.Rewritable.{is_addi, is_load_word, is_store_word, i_low, s_low, takes_low_i, takes_low_s, distance, names_high, is_paired, is_unpaired}
 use Rattle.object_graph.specs.Laws.{reach, StoresAtLower, HasLower, IsLowOf, DataWordsLead, HighSitesLead, LowSitesLead, LowStoresLead, PairedSitesLead}
 use Rattle.object_graph.proofs.RewritableLemmas.{given_both, soundly, IsPair, of_two, kind_parts, only_word, only_high, only_low, only_pair}
 

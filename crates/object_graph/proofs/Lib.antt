@@ -1,3 +1,16 @@
+pub mod ListLemmas
+pub mod DataWords
+pub mod CutLemmas
+pub mod ShareLemmas
+pub mod PairKeys
+pub mod RewritableMarks
+pub mod DisjointLemmas
+pub mod NameLemmas
+pub mod AliasLemmas
+pub mod MeaningLeads
+pub mod SharedLemmas
+pub mod UnmarkedLemmas
+pub mod MarkLemmas
 pub mod CodeLemmas
 pub mod ViewLemmas
 pub mod LeadLemmas

@@ -8,7 +8,7 @@ use Rattle.board_config.specs.declared.board.Board.{Board}
 use Rattle.loaded_file.specs.Records.{symbol_at}
 use Rattle.loaded_file.specs.Ranges.{has_range, is_symbol_of, is_range, overlaps_range, is_overlapped}
 use Rattle.loaded_file.proofs.RangeLemmas.{IsOf, of_parts}
-use Rattle.movable_ranges.specs.Fixed.{is_in_zeros, is_listed, is_aliased, is_unrewritable, is_shared, is_fixed, is_movable}
+use Rattle.object_graph.specs.Fixed.{is_in_zeros, is_listed, is_aliased, is_unrewritable, is_shared, is_fixed, is_movable}
 use Rattle.object_graph.specs.Laws.{ObjectsDisjoint}
 
 -- an object that may move: it has a symbol, and no rule fixes it

@@ -10,8 +10,8 @@ use Rattle.board_config.specs.declared.board.Board.{Board}
 use Rattle.loaded_file.specs.Records.{reloc_at, counts, symbol_of, target}
 use Rattle.loaded_file.specs.Ranges.{is_of, inside}
 use Rattle.loaded_file.proofs.RangeLemmas.{of_parts}
-use Rattle.rewritable_relocations.specs.Rewritable.{is_meant, displacement, is_rewritable_high, is_rewritable_low, is_pair_low, names_high, is_rewritable_pair}
-use Rattle.movable_ranges.specs.Fixed.{leads_to, gives_pair, is_site_of, is_movable}
+use Rattle.object_graph.specs.Rewritable.{is_meant, displacement, is_rewritable_high, is_rewritable_low, is_pair_low, names_high, is_rewritable_pair}
+use Rattle.object_graph.specs.Fixed.{leads_to, gives_pair, is_site_of, is_movable}
 use Rattle.object_graph.specs.Sites.{is_site}
 use Rattle.object_graph.specs.Graphs.{gives_directly, gives_low_of, gives_offset}
 use Rattle.object_graph.specs.Laws.{GivesSite, OneObjectASite, OneOffsetASite}

@@ -6,7 +6,7 @@ use Rattle.std.proofs.lemmas.List.Folds.{list_any_at}
 use Rattle.list_checks.specs.Tests.{ranges_overlap}
 use Rattle.list_checks.proofs.TestLemmas.{both}
 use Rattle.std.proofs.lemmas.List.{get_or_default}
-use Rattle.word_bits.specs.Words.{minus}
+use Rattle.rv32im.specs.Words.{minus}
 use Rattle.elf_reader.specs.File.{PlainView, plain_view}
 use Rattle.elf_reader.specs.declared.view.ElfView.{ElfView}
 use Rattle.elf_reader.specs.declared.view.Reloc.{Reloc}
@@ -16,8 +16,8 @@ use Rattle.loaded_file.specs.Ranges.{is_range}
 use Rattle.loaded_file.specs.ByteRanges.{is_byte_range, no_byte_range, byte_range_at}
 use Rattle.loaded_file.proofs.ByteRangeLemmas.{both_made}
 use Rattle.loaded_file.proofs.RangeLemmas.{HasByteRange, byte_range_of}
-use Rattle.rewritable_relocations.specs.Rewritable.{is_meant, displacement}
-use Rattle.movable_ranges.specs.Fixed.{is_fixed, is_movable}
+use Rattle.object_graph.specs.Rewritable.{is_meant, displacement}
+use Rattle.object_graph.specs.Fixed.{is_fixed, is_movable}
 use Rattle.object_graph.specs.Gathered.{AreMovable}
 use Rattle.object_graph.proofs.MovableLemmas.{movable_parts}
 use Rattle.object_graph.proofs.OneSiteLemmas.{meant_both}

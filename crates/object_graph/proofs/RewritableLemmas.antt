@@ -4,8 +4,8 @@ use Rattle.std.proofs.lemmas.Bool.{leb-true, eqb-true}
 use Rattle.std.proofs.lemmas.Bool.Decides.{nat_tests}
 use Rattle.list_checks.specs.Tests.{any_below, lies_in}
 use Rattle.list_checks.proofs.TestLemmas.{either, both, not_true, any_found, none_at, given}
-use Rattle.word_bits.specs.Words.{minus, upper_half}
-use Rattle.rv_decode.specs.Fields.{opcode_of}
+use Rattle.rv32im.specs.Words.{minus, upper_half}
+use Rattle.rv32im.specs.Fields.{opcode_of}
 use Rattle.elf_reader.specs.File.{PlainView}
 use Rattle.elf_reader.specs.Loaded.{section_at, is_loaded}
 use Rattle.loaded_file.specs.Code.{is_code_word, image_word}
@@ -13,8 +13,8 @@ use Rattle.elf_reader.specs.declared.view.Reloc.{Reloc}
 use Rattle.board_config.specs.declared.board.Board.{Board}
 use Rattle.loaded_file.specs.Records.{symbol_at, reloc_at, counts, target, is_hint}
 use Rattle.loaded_file.specs.Ranges.{is_executable}
-use Rattle.rewritable_relocations.specs.Rewritable.{is_meant, displacement, holds_data, cuts_range, changes_word, is_rewritable_word, u_high, takes_low_i, takes_low_s, is_rewritable_high, is_rewritable_low, distance, is_unpaired, is_call_at, is_rewritable_pair, is_rewritable_kind, is_rewritable}
-use Rattle.movable_ranges.specs.Fixed.{is_unrewritable_by, is_movable}
+use Rattle.object_graph.specs.Rewritable.{is_meant, displacement, holds_data, cuts_range, changes_word, is_rewritable_word, u_high, takes_low_i, takes_low_s, is_rewritable_high, is_rewritable_low, distance, is_unpaired, is_call_at, is_rewritable_pair, is_rewritable_kind, is_rewritable}
+use Rattle.object_graph.specs.Fixed.{is_unrewritable_by, is_movable}
 use Rattle.object_graph.specs.Laws.{MeansBy}
 use Rattle.loaded_file.proofs.RangeLemmas.{HasByteRange, byte_range_of}
 use Rattle.object_graph.proofs.MovableLemmas.{movable_parts}

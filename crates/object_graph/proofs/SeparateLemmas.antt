@@ -10,8 +10,8 @@ use Rattle.loaded_file.specs.Code.{image_word}
 use Rattle.loaded_file.specs.Records.{reloc_at, counts, target, is_hint, width_of}
 use Rattle.loaded_file.specs.declared.byte_ranges.ByteRange.{ByteRange}
 use Rattle.loaded_file.specs.ByteRanges.{byte_range_at}
-use Rattle.rewritable_relocations.specs.Rewritable.{is_meant, displacement, changes_word, is_rewritable_word, holds_data, cuts_range}
-use Rattle.movable_ranges.specs.Fixed.{leads_to}
+use Rattle.object_graph.specs.Rewritable.{is_meant, displacement, changes_word, is_rewritable_word, holds_data, cuts_range}
+use Rattle.object_graph.specs.Fixed.{leads_to}
 use Rattle.object_graph.specs.declared.parts.Site.{Site}
 use Rattle.object_graph.specs.declared.parts.DataWord.{DataWord}
 use Rattle.object_graph.specs.Graphs.{makes_part, gives_directly, gives_low_of, gives_offset}

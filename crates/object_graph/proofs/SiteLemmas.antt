@@ -9,8 +9,8 @@ use Rattle.loaded_file.specs.Code.{holds_code, is_code_word}
 use Rattle.board_config.specs.declared.board.Board.{Board}
 use Rattle.loaded_file.specs.Records.{symbol_at, reloc_at, counts}
 use Rattle.loaded_file.specs.Ranges.{has_range}
-use Rattle.rewritable_relocations.specs.Rewritable.{is_rewritable_high, is_rewritable_low, is_rewritable_pair, names_high}
-use Rattle.movable_ranges.specs.Fixed.{leads_to, gives_pair, is_site_of, is_site_by, shares_word, is_shared_by}
+use Rattle.object_graph.specs.Rewritable.{is_rewritable_high, is_rewritable_low, is_rewritable_pair, names_high}
+use Rattle.object_graph.specs.Fixed.{leads_to, gives_pair, is_site_of, is_site_by, shares_word, is_shared_by}
 use Rattle.object_graph.specs.Laws.{GivesSite, SitesDisjoint}
 use Rattle.loaded_file.proofs.RangeLemmas.{IsOf}
 use Rattle.object_graph.proofs.MovableLemmas.{movable_parts}

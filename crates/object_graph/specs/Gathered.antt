@@ -9,9 +9,9 @@ use Rattle.loaded_file.specs.Records.{reloc_at, counts}
 use Rattle.loaded_file.specs.declared.byte_ranges.ByteRange.{ByteRange}
 use Rattle.loaded_file.specs.Ranges.{is_symbol_of}
 use Rattle.loaded_file.specs.ByteRanges.{byte_range_at, has_byte_range_in, IsFilled}
-use Rattle.rewritable_relocations.specs.Rewritable.{displacement, is_rewritable_word}
-use Rattle.movable_ranges.specs.Disjoint.{IsDisjoint}
-use Rattle.movable_ranges.specs.Fixed.{leads_to, is_movable}
+use Rattle.object_graph.specs.Rewritable.{displacement, is_rewritable_word}
+use Rattle.object_graph.specs.Disjoint.{IsDisjoint}
+use Rattle.object_graph.specs.Fixed.{leads_to, is_movable}
 use Rattle.object_graph.specs.declared.leads.Lead.{Lead}
 use Rattle.object_graph.specs.declared.parts.Object.{Object}
 use Rattle.object_graph.specs.declared.parts.Site.{Site}

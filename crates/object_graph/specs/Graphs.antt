@@ -8,8 +8,8 @@ use Rattle.elf_reader.specs.declared.view.Reloc.{Reloc}
 use Rattle.board_config.specs.declared.board.Board.{Board}
 use Rattle.loaded_file.specs.Records.{symbol_at, reloc_at, counts}
 use Rattle.loaded_file.specs.Ranges.{owner_of, is_symbol_of}
-use Rattle.rewritable_relocations.specs.Rewritable.{displacement, is_rewritable_word, is_rewritable_high, is_rewritable_low, is_rewritable_pair}
-use Rattle.movable_ranges.specs.Fixed.{leads_to, gives_pair, is_movable}
+use Rattle.object_graph.specs.Rewritable.{displacement, is_rewritable_word, is_rewritable_high, is_rewritable_low, is_rewritable_pair}
+use Rattle.object_graph.specs.Fixed.{leads_to, gives_pair, is_movable}
 use Rattle.object_graph.specs.CodeRanges.{code_ranges_of}
 use Rattle.object_graph.specs.declared.parts.Object.{Object}
 use Rattle.object_graph.specs.declared.parts.SiteKind.{SiteKind}

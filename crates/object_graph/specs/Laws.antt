@@ -1,20 +1,20 @@
 -- What holds of the objects that may move, in every view, or in that of a file in which no check fails.
 use Rattle.std.specs.Prelude.{◌≡◌, ◌⊎◌, ℕ, ◌+◌, ◌<◌, ◌≤◌, true, false, List, length, None}
-use Rattle.word_bits.specs.Words.{minus, upper_half, lower_half}
+use Rattle.rv32im.specs.Words.{minus, upper_half, lower_half}
 use Rattle.list_checks.specs.Tests.{ranges_overlap}
-use Rattle.rv_decode.specs.Fields.{rd_of, rs1_of, rs2_of}
-use Rattle.rv_decode.specs.Table.{Means}
-use Rattle.rv_decode.specs.declared.instructions.Instr.TheVariants.{Lui, Auipc, Load, Store, OpImm}
-use Rattle.rv_decode.specs.declared.instructions.LoadKind.{LoadKind}
-use Rattle.rv_decode.specs.declared.instructions.StoreKind.{StoreKind}
-use Rattle.rv_decode.specs.declared.instructions.ImmKind.TheVariants.{Addi}
+use Rattle.rv32im.specs.Fields.{rd_of, rs1_of, rs2_of}
+use Rattle.rv32im.specs.Table.{Means}
+use Rattle.rv32im.specs.declared.instructions.Instr.TheVariants.{Lui, Auipc, Load, Store, OpImm}
+use Rattle.rv32im.specs.declared.instructions.LoadKind.{LoadKind}
+use Rattle.rv32im.specs.declared.instructions.StoreKind.{StoreKind}
+use Rattle.rv32im.specs.declared.instructions.ImmKind.TheVariants.{Addi}
 use Rattle.elf_reader.specs.File.{PlainView, view_in}
 use Rattle.elf_reader.specs.Faults.{first_fault}
 use Rattle.loaded_file.specs.Code.{is_code_word, image_word}
 use Rattle.board_config.specs.declared.board.Board.{Board}
 use Rattle.loaded_file.specs.Records.{reloc_at, counts}
-use Rattle.rewritable_relocations.specs.Rewritable.{is_meant, displacement, names_high}
-use Rattle.movable_ranges.specs.Fixed.{is_site_of, is_movable}
+use Rattle.object_graph.specs.Rewritable.{is_meant, displacement, names_high}
+use Rattle.object_graph.specs.Fixed.{is_site_of, is_movable}
 use Rattle.object_graph.specs.Sites.{is_site}
 use Rattle.object_graph.specs.Graphs.{gives_offset}
 

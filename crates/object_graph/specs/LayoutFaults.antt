@@ -9,7 +9,7 @@ use Rattle.loaded_file.specs.Records.{symbol_at}
 use Rattle.board_config.specs.declared.board.Board.{Board}
 use Rattle.board_config.specs.declared.board.Range.{Range}
 use Rattle.loaded_file.specs.Ranges.{has_range}
-use Rattle.movable_ranges.specs.Fixed.{is_movable}
+use Rattle.object_graph.specs.Fixed.{is_movable}
 use Rattle.object_graph.specs.Sites.{no_area}
 use Rattle.object_graph.specs.declared.layout.Reserved.{Reserved}
 use Rattle.object_graph.specs.declared.layout.Reserved.TheVariants.{Scratchpad, Patch}

@@ -9,8 +9,8 @@ use Rattle.loaded_file.specs.Records.{symbol_at, reloc_at}
 use Rattle.board_config.specs.declared.board.Board.{Board}
 use Rattle.board_config.specs.declared.board.Range.{Range}
 use Rattle.loaded_file.specs.Ranges.{has_range, inside}
-use Rattle.rewritable_relocations.specs.Rewritable.{is_rewritable_word}
-use Rattle.movable_ranges.specs.Fixed.{leads_to, is_site_of, is_movable}
+use Rattle.object_graph.specs.Rewritable.{is_rewritable_word}
+use Rattle.object_graph.specs.Fixed.{leads_to, is_site_of, is_movable}
 
 -- relocation `j` gives a site of the object of `n` bytes at `home`, which may move
 abbrev pub is_site : PlainView → Board → ℕ → ℕ → ℕ → Bool

@@ -3,24 +3,24 @@ ghost use Rattle.std.specs.List.{All};
 ghost use Rattle.list_checks.specs.First.{Reports, ReportsUnless, unless};
 ghost use Rattle.elf_reader.specs.File.{plain_view};
 ghost use Rattle.loaded_file.specs.Read.{IsRead};
-ghost use Rattle.rewritable_relocations.specs.Marks.{all_rewritable};
+ghost use Rattle.object_graph.specs.Marks.{all_rewritable};
 ghost use Rattle.object_graph.specs.declared.fault.GraphFault.TheVariants.{TooManyObjects};
 ghost use Rattle.object_graph.specs.LayoutFaults.{capped, too_many_fault, layout_fault};
 ghost use Rattle.object_graph.specs.Graphs.{IsGraph};
 ghost use Rattle.object_graph.specs.Gathered.{AreMovableOf};
 
 use crate::code::code_ranges;
+use crate::data_words::data_words;
 use crate::fault::GraphFault;
 use crate::layout::check_places;
 use crate::objects::objects;
 use crate::parts::Graph;
+use crate::rewritable_marks::rewritable_kinds;
 use crate::sites::sites;
-use crate::words::data_words;
+use crate::top::movable_ranges;
 use board_config::Board;
 use elf_reader::ElfView;
 use loaded_file::{ByteRange, LoadedFile};
-use movable_ranges::movable_ranges;
-use rewritable_relocations::rewritable_kinds;
 use std::alloc::{AllocError, Global};
 
 /// How many objects may move at most.

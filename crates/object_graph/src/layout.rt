@@ -1,5 +1,5 @@
 ghost use Rattle.std.specs.Prelude.{◌≡◌, ℕ, ◌+◌, ◌<◌, ◌≤◌, length};
-ghost use Rattle.list_checks.specs.First.{◌or_else◌, Reports, ReportsUnless, first_below};
+ghost use Rattle.list_checks.specs.First.{◌or_else◌, Reports, first_below};
 ghost use Rattle.list_checks.specs.Tests.{any_below};
 ghost use Rattle.elf_reader.specs.File.{plain_segment, plain_view};
 ghost use Rattle.object_graph.specs.LayoutFaults.{segment_overlaps, overlap_fault, has_code, least_below, greatest_below, span_of, patch_far_fault, spm_overlaps_patch_fault, spm_at_zero_fault, segment_lies_in, lies_in_area, no_area_fault, places_fault};
@@ -10,7 +10,6 @@ use crate::ranges::{end, lies_in, memory_of, overlap};
 use board_config::{Board, Range};
 use elf_reader::{ElfView, Segment};
 use loaded_file::{LoadedFile, is_code_range};
-use std::alloc::Global;
 
 /// How many bytes a jump reaches forwards (RISC-V Unprivileged ISA, "Unconditional Jumps": JAL).
 const MAX_SPAN: u64 = 1024 * 1024;
@@ -20,19 +19,7 @@ const LEAST_SPM_BASE: u32 = 16;
 
 /// Checks that a program and the ranges of a board are disjoint or near, as they must be.
 ///
-/// The error is the first check that fails, in this order: no segment meets the scratchpad (`SpmOverlap`), and
-/// none the patch range (`PatchOverlap`); the code and the patch range span at most 2^20 bytes (`PatchFar`); the
-/// scratchpad and the patch range are disjoint (`SpmOverlapsPatch`); the scratchpad begins at address 16 or above
-/// (`SpmAtZero`); each segment that has memory lies in main or in one area (`NoArea`). `Memory` comes only
-/// where no memory was left.
-pub fn check_layout(alloc: Global, view: &ElfView, board: &Board) -> Result<(), GraphFault>
-    ensures fault { ReportsUnless GraphFault.Memory result (places_fault (plain_view view.now) board.now) }
-{
-    let file = LoadedFile::of(alloc, view)?;
-    check_places(&file, board)
-}
-
-/// The checks, where it is known which sections are loaded.
+/// The error is the first check that fails, in the order that `graph` states.
 pub(crate) fn check_places(file: &LoadedFile, board: &Board) -> Result<(), GraphFault>
     ensures { Reports result (places_fault (plain_view file.now.view.now) board.now) }
 {

@@ -2,8 +2,8 @@ ghost use Rattle.std.specs.Prelude.{◌≡◌, ℕ, ◌<◌, ◌≤◌, length};
 ghost use Rattle.elf_reader.specs.File.{plain_view};
 ghost use Rattle.object_graph.specs.Gathered.{AreMovable, is_lead, leads_by};
 
+use crate::meaning::meant_range;
 use loaded_file::{ByteRange, LoadedFile, counts, target};
-use movable_ranges::meant_range;
 
 /// Where a relocation leads: into an object that may move, or to its end.
 #[derive(Clone, Copy)]

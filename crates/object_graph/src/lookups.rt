@@ -1,21 +1,20 @@
 ghost use Rattle.std.specs.Prelude.{◌≡◌, ℕ, ◌<◌, ◌==◌, true, false, ◌&&◌, length, MatchOption};
 ghost use Rattle.std.specs.List.{list_any};
 ghost use Rattle.object_graph.specs.declared.parts.Site.{Site};
-ghost use Rattle.object_graph.specs.declared.parts.DataWord.{DataWord};
 ghost use Rattle.loaded_file.specs.Ranges.{inside};
-ghost use Rattle.object_graph.specs.Graphs.{object_at, same_site, same_word};
+ghost use Rattle.object_graph.specs.Graphs.{object_at, same_site};
 ghost use Rattle.object_graph.specs.Lookups.{AreLaidOut};
-ghost use Rattle.object_graph.specs.Gathered.{gives, AreInOrder, site_place, word_place};
+ghost use Rattle.object_graph.specs.Gathered.{gives, AreInOrder, site_place};
 
-use crate::parts::{DataWord, Graph, Object, Site};
+use crate::parts::{Graph, Object, Site};
 use crate::placed::find_placed;
 
 impl Graph {
     ghost use Rattle.std.specs.Prelude.{◌≡◌, ℕ, ◌<◌, ◌==◌, true, false, length, MatchOption};
     ghost use Rattle.std.specs.List.{list_any};
     ghost use Rattle.loaded_file.specs.Ranges.{inside};
-    ghost use Rattle.object_graph.specs.Graphs.{object_at, same_site, same_word};
-    ghost use Rattle.object_graph.specs.Lookups.{IsSomeGraph, stands_at, begins_at};
+    ghost use Rattle.object_graph.specs.Graphs.{object_at, same_site};
+    ghost use Rattle.object_graph.specs.Lookups.{IsSomeGraph, stands_at};
 
     /// The number of the object that has the byte at `address`, if one has it.
     pub fn object_at(&self, address: u32) -> Option<u32>
@@ -31,14 +30,6 @@ impl Graph {
         ensures { MatchOption result (list_any (stands_at address) self.now.sites.items ≡ false) (λ s. (list_any (same_site s) self.now.sites.items ≡ true) × (s.at ≡ address)) }
     {
         find_site(&self.sites, address)
-    }
-
-    /// The word of data that begins at `address`, if there is one.
-    pub fn data_word_at(&self, address: u32) -> Option<DataWord>
-        requires { IsSomeGraph self.now }
-        ensures { MatchOption result (list_any (begins_at address) self.now.data_words.items ≡ false) (λ d. (list_any (same_word d) self.now.data_words.items ≡ true) × (d.at ≡ address)) }
-    {
-        find_word(&self.data_words, address)
     }
 }
 
@@ -69,12 +60,4 @@ pub(crate) fn find_site(sites: &[Site], address: u32) -> Option<Site>
     ensures { (s : Site) → gives same_site s result ≡ (list_any (same_site s) sites.now && (s.at == address)) }
 {
     find_placed(sites, address)
-}
-
-/// The word of data at `address`, if there is one. The words stand by address, and no two meet.
-pub(crate) fn find_word(words: &[DataWord], address: u32) -> Option<DataWord>
-    requires { AreInOrder word_place words.now }
-    ensures { (d : DataWord) → gives same_word d result ≡ (list_any (same_word d) words.now && (d.at == address)) }
-{
-    find_placed(words, address)
 }

@@ -8,10 +8,10 @@ ghost use Rattle.loaded_file.specs.ByteRanges.{byte_range_at};
 ghost use Rattle.object_graph.specs.Graphs.{is_writable, IsNamed};
 ghost use Rattle.object_graph.specs.Gathered.{AreMovable, range_of, symbol_if, first_symbol};
 
+use crate::meaning::place_of_symbol;
 use crate::parts::Object;
 use elf_reader::ElfView;
 use loaded_file::{ByteRange, LoadedFile};
-use movable_ranges::place_of_symbol;
 use std::alloc::{AllocError, Global};
 
 /// The objects of these ranges, in their order. It fails only

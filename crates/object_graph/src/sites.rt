@@ -1,20 +1,21 @@
 ghost use Rattle.std.specs.Prelude.{◌≡◌, ◌<◌, ◌≤◌, ◌==◌, true, ◌||◌, length, IfOk};
 ghost use Rattle.elf_reader.specs.File.{plain_view};
 ghost use Rattle.loaded_file.specs.Records.{reloc_at};
-ghost use Rattle.rewritable_relocations.specs.Rewritable.{is_pair_low};
-ghost use Rattle.rewritable_relocations.specs.Marks.{all_rewritable};
+ghost use Rattle.object_graph.specs.Rewritable.{is_pair_low};
+ghost use Rattle.object_graph.specs.Marks.{all_rewritable};
 ghost use Rattle.object_graph.specs.declared.parts.SiteKind.{SiteKind};
 ghost use Rattle.object_graph.specs.declared.parts.Site.{Site};
 ghost use Rattle.object_graph.specs.Graphs.{makes_part, same_part, same_site};
 ghost use Rattle.object_graph.specs.Gathered.{gives, GivesJust, AreMovable, gives_alone, gives_high, gives_low, is_site_in, AreHighs, AreSites};
 
+use crate::kinds::is_pair_low;
 use crate::leads::lead_of;
 use crate::lookups::find_site;
 use crate::parts::{Site, SiteKind};
 use crate::placed::{push_some, sort_placed};
+use crate::rewritable_marks::is_rewritable;
 use elf_reader::R_RISCV_PCREL_HI20;
 use loaded_file::{ByteRange, LoadedFile, counts, symbol_value};
-use rewritable_relocations::{is_pair_low, is_rewritable};
 use std::alloc::{AllocError, Global};
 
 /// The sites of the objects of these ranges, by address. `rewritable` are the marks of the relocations of a rewritable kind. It fails only where no memory was left.

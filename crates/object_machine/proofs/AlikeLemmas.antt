@@ -1,15 +1,15 @@
 -- A step asks of a program its objects, its memory and its blocks, and besides only what is at the pc.
-use Rattle.std.proofs.Common.{◌≡◌, ℕ, zero, suc, ◌+◌, ◌==◌, Bool, true, false, if◌then◌else◌, List, [], ◌∷◌, take, drop, Option, Some, None, ℤ, refl, ◌∙◌, ap}
+use Rattle.std.proofs.Common.{◌≡◌, ℕ, zero, suc, ◌+◌, Bool, true, false, List, [], ◌∷◌, take, drop, Option, Some, None, ℤ, refl, ◌∙◌, ap}
 use Rattle.list_checks.specs.First.{first_below}
-use Rattle.rv_decode.specs.Acts.{load_width, store_width}
-use Rattle.rv_decode.specs.declared.instructions.Instr.{Instr}
-use Rattle.rv_decode.specs.declared.instructions.Instr.TheVariants.{Lui, Auipc, Jal, Jalr, Branch, Load, Store, OpImm, OpReg, Fence, FenceI, Ecall, Ebreak}
-use Rattle.rv_decode.specs.declared.instructions.ImmKind.{ImmKind}
-use Rattle.rv_decode.specs.declared.instructions.ImmKind.TheVariants.{Addi}
+use Rattle.rv32im.specs.Acts.{load_width, store_width}
+use Rattle.rv32im.specs.declared.instructions.Instr.{Instr}
+use Rattle.rv32im.specs.declared.instructions.Instr.TheVariants.{Lui, Auipc, Jal, Jalr, Branch, Load, Store, OpImm, OpReg, Fence, FenceI, Ecall, Ebreak}
+use Rattle.rv32im.specs.declared.instructions.ImmKind.{ImmKind}
+use Rattle.rv32im.specs.declared.instructions.ImmKind.TheVariants.{Addi}
 use Rattle.cell_values.specs.Operations.{op_imm}
 use Rattle.cell_values.specs.Comparisons.{compare}
-use Rattle.rv_decode.specs.declared.instructions.LoadKind.{LoadKind}
-use Rattle.rv_decode.specs.declared.instructions.StoreKind.{StoreKind}
+use Rattle.rv32im.specs.declared.instructions.LoadKind.{LoadKind}
+use Rattle.rv32im.specs.declared.instructions.StoreKind.{StoreKind}
 use Rattle.cell_values.specs.declared.values.Val.{Val}
 use Rattle.cell_values.specs.declared.values.Val.TheVariants.{Int, Addr, Hi, Low, Piece, Unknown}
 use Rattle.cell_values.specs.declared.values.Cell.TheVariants.{Byte}
@@ -17,8 +17,8 @@ use Rattle.object_machine.specs.Program.{Program, Target}
 use Rattle.object_machine.specs.State.{SourceState, value, wrote}
 use Rattle.object_machine.specs.Memory.{cell_at, stored_at}
 use Rattle.object_machine.specs.Places.{Where, InFixed, InObject, Nowhere, located, byte_place, read_fault, write_fault, address_of}
-use Rattle.object_machine.specs.Flow.{falls_on, jumps, jumps_by, branches}
-use Rattle.object_machine.specs.Calls.{answered, a1, a2, a7, and_byte, plain_bytes, unread, appends, writes_from, writes, unwritten, put_input, with_input, reads_into, reads, consumed_count, exits, a0, calls_number, calls_by}
+use Rattle.object_machine.specs.Flow.{falls_on, jumps_by, branches}
+use Rattle.object_machine.specs.Calls.{answered, a1, a2, a7, and_byte, plain_bytes, unread, appends, writes_from, writes, unwritten, put_input, with_input, reads_into, reads, consumed_count, calls_number, calls_by}
 use Rattle.object_machine.specs.Step.{acts, access_by, load_place, store_place, loads_from, stores_to, imm_result, access_in}
 use Rattle.object_machine.specs.Units.{leads_on}
 
@@ -55,10 +55,6 @@ write_alike : (q p : Program) (w : Where) → write_fault (joined q p) w ≡ wri
 write_alike q p (InFixed a) = refl
 write_alike q p (InObject o d) = refl
 write_alike q p (Nowhere why) = refl
-
-address_alike : (q p : Program) (site : Option Target) (x : Val) (imm : ℤ) → address_of (joined q p) site x imm ≡ address_of q site x imm
-address_alike q p None x imm = refl
-address_alike q p (Some t) x imm = refl
 
 load_alike : (q p : Program) (s : SourceState) (kind : LoadKind) (rs1 : ℕ) (imm : ℤ) (site : Option Target) → load_place (joined q p) s kind rs1 imm site ≡ load_place q s kind rs1 imm site
 load_alike q p s kind rs1 imm None = located_alike q p (load_width kind) (address_of q None (value s.regs rs1) imm)

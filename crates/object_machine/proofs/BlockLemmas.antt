@@ -2,8 +2,8 @@
 use Rattle.std.proofs.Common.{◌≡◌, ◌⊎◌, inl, inr, ℕ, suc, ◌+◌, ◌*◌, ◌<◌, nat_lt, Bool, true, false, not, ◌&&◌, ◌||◌, if◌then◌else◌, List, length, map, slice_index_or, is_some, Option, Some, None, MatchOption, refl, sym, ◌∙◌, ap, subst, arith}
 use Rattle.std.proofs.lemmas.Bool.Decides.{nat_tests}
 use Rattle.std.proofs.lemmas.List.{length-map, get_or-map}
-use Rattle.rv_decode.specs.Table.{Means, MeansNothing}
-use Rattle.rv_decode.specs.declared.instructions.Instr.{Instr}
+use Rattle.rv32im.specs.Table.{Means, MeansNothing}
+use Rattle.rv32im.specs.declared.instructions.Instr.{Instr}
 use Rattle.elf_reader.specs.File.{PlainView, plain_view}
 use Rattle.elf_reader.specs.declared.view.ElfView.{ElfView}
 use Rattle.board_config.specs.declared.board.Board.{Board}
@@ -11,11 +11,11 @@ use Rattle.loaded_file.specs.Code.{is_code_word, image_word}
 use Rattle.loaded_file.specs.Read.{IsRead}
 use Rattle.object_graph.specs.declared.parts.Site.{Site}
 use Rattle.object_graph.specs.declared.parts.Graph.{Graph}
-use Rattle.code_leaders.specs.Words.{is_branch, is_jal, is_jalr}
-use Rattle.code_leaders.specs.Meanings.{is_ebreak, has_meaning}
-use Rattle.code_leaders.specs.Leaders.{is_call_pair, is_leader}
-use Rattle.code_leaders.proofs.MeaningLemmas.{passes_test}
-use Rattle.code_leaders.proofs.PairLemmas.{pair_is_code}
+use Rattle.code_blocks.specs.Words.{is_branch, is_jal, is_jalr}
+use Rattle.code_blocks.specs.Meanings.{is_ebreak, has_meaning}
+use Rattle.code_blocks.specs.Leaders.{is_call_pair, is_leader}
+use Rattle.code_blocks.proofs.MeaningLemmas.{passes_test}
+use Rattle.code_blocks.proofs.PairLemmas.{pair_is_code}
 use Rattle.code_blocks.proofs.RangeLemmas.{code_fits}
 use Rattle.code_blocks.specs.Ends.{words_left}
 use Rattle.code_blocks.specs.Blocks.{goes_on, unit_addresses, unit_at, IsUnit, IsBlock}

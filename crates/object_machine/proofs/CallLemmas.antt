@@ -1,5 +1,5 @@
 -- Bytes that calls move.
-use Rattle.std.proofs.Common.{◌≡◌, ◌⊎◌, inl, inr, ℕ, zero, suc, ◌+◌, ◌<◌, ◌≤◌, ◌==◌, nat_lt, Bool, true, false, if◌then◌else◌, List, [], ◌∷◌, ◌++◌, map, take, drop, length, length-take, length-drop, ◌&&◌, Option, Some, None, refl, sym, ◌∙◌, ap, subst, arith}
+use Rattle.std.proofs.Common.{◌≡◌, ◌⊎◌, inl, inr, ℕ, zero, suc, ◌+◌, ◌<◌, ◌≤◌, ◌==◌, nat_lt, Bool, true, false, if◌then◌else◌, List, [], ◌∷◌, take, drop, length, length-take, length-drop, Option, Some, None, refl, ◌∙◌, ap, subst, arith}
 use Rattle.std.proofs.lemmas.Bool.{cases_eq}
 use Rattle.std.specs.List.{All, list_any}
 use Rattle.std.proofs.lemmas.Bool.Decides.{nat_tests}
@@ -34,16 +34,6 @@ and_none : (bytes : List ℕ) (c : Cell) → plain_of c ≡ None → and_byte (S
 and_none bytes (Byte b) none = cc
 and_none bytes (Part hi o d k) none = refl
 and_none bytes Mist none = refl
-
-and_some : (bytes : List ℕ) (c : Cell) (b : ℕ) → plain_of c ≡ Some b → and_byte (Some bytes) c ≡ Some (bytes ++ b ∷ [])
-and_some bytes (Byte n) b some = let same : n ≡ b = cc in ap (λ (k : ℕ). Some (bytes ++ k ∷ [])) same
-and_some bytes (Part hi o d k) b some = cc
-and_some bytes Mist b some = cc
-
-pub plain_more : (p : Program) (s : SourceState) (i b : ℕ) (bytes : List ℕ) → plain_bytes p s i ≡ Some bytes → plain_of (cell_at s (byte_place p (a1 s) i) 0) ≡ Some b → plain_bytes p s (suc i) ≡ Some (bytes ++ b ∷ [])
-plain_more p s i b bytes so_far some =
-    ap (λ (o : Option (List ℕ)). and_byte o (cell_at s (byte_place p (a1 s) i) 0)) so_far
-    ∙ and_some bytes (cell_at s (byte_place p (a1 s) i) 0) b some
 
 none_stays : (p : Program) (s : SourceState) (n i : ℕ) → i < n → plain_bytes p s (suc i) ≡ None → plain_bytes p s n ≡ None
 none_stays p s zero i below none = absurd (omega (arith, below))
@@ -122,9 +112,6 @@ put_twice t o f g q =
       | inl same ↦ rw same (rw (same_number o))
       | inr other ↦ let differs : (q == o) ≡ false = grind (arith, nat_tests, other) in rw differs
     ]
-
-with_cells : SourceState → (ℕ → ℕ → Cell) → SourceState
-with_cells s cells = record s { cells = cells }
 
 object_input : (p : Program) (s : SourceState) (o d i : ℕ) (bytes : List ℕ) → ((j : ℕ) → j < length bytes → write_fault p (byte_place p (Addr o d) (i + j)) ≡ None) → put_input p s (Addr o d) i bytes ≡ stored_at s (InObject o (d + i)) (byte_cells bytes)
 object_input p s o d i [] room = λ z. record s { cells = λ q. put_same s.cells o q z }

@@ -2,18 +2,18 @@
 -- begins where the machine falls there.
 use Rattle.std.proofs.Common.{◌≡◌, ◌∙◌, ◌⊎◌, inl, inr, ℕ, zero, suc, ◌+◌, ◌*◌, ◌<◌, ◌≤◌, nat_lt, Bool, true, false, not, ◌&&◌, ◌||◌, if◌then◌else◌, List, [], ◌∷◌, length, Option, Some, None, MatchOption, refl, ap, subst, arith}
 use Rattle.std.proofs.lemmas.Bool.Decides.{nat_tests}
-use Rattle.rv_decode.specs.Table.{Means, MeansNothing, OneInstruction}
-use Rattle.rv_decode.specs.declared.instructions.Instr.{Instr}
-use Rattle.rv_decode.specs.declared.instructions.Instr.TheVariants.{Lui, Auipc, Jal, Jalr, Branch, Load, Store, OpImm, OpReg, Fence, FenceI, Ecall, Ebreak}
-use Rattle.rv_decode.specs.declared.instructions.BranchKind.TheVariants.{Beq, Bne, Blt, Bge, Bltu, Bgeu}
+use Rattle.rv32im.specs.Table.{Means, MeansNothing, OneInstruction}
+use Rattle.rv32im.specs.declared.instructions.Instr.{Instr}
+use Rattle.rv32im.specs.declared.instructions.Instr.TheVariants.{Lui, Auipc, Jal, Jalr, Branch, Load, Store, OpImm, OpReg, Fence, FenceI, Ecall, Ebreak}
+use Rattle.rv32im.specs.declared.instructions.BranchKind.TheVariants.{Beq, Bne, Blt, Bge, Bltu, Bgeu}
 use Rattle.elf_reader.specs.File.{PlainView}
 use Rattle.board_config.specs.declared.board.Board.{Board}
 use Rattle.loaded_file.specs.Code.{is_code_word, image_word}
 use Rattle.object_graph.specs.declared.parts.Graph.{Graph}
-use Rattle.code_leaders.specs.Words.{is_branch, is_jal, is_jalr}
-use Rattle.code_leaders.specs.Meanings.{is_ebreak, has_meaning}
-use Rattle.code_leaders.specs.Leaders.{is_call_pair, is_leader}
-use Rattle.code_leaders.proofs.MeaningLemmas.{passes_test, row_of}
+use Rattle.code_blocks.specs.Words.{is_branch, is_jal, is_jalr}
+use Rattle.code_blocks.specs.Meanings.{is_ebreak, has_meaning}
+use Rattle.code_blocks.specs.Leaders.{is_call_pair, is_leader}
+use Rattle.code_blocks.proofs.MeaningLemmas.{passes_test, row_of}
 use Rattle.code_blocks.specs.Ends.{words_left}
 use Rattle.code_blocks.specs.Blocks.{goes_on, unit_addresses, IsUnit, IsBlock}
 use Rattle.code_blocks.specs.declared.parts.Unit.{Unit}
@@ -31,10 +31,6 @@ use Rattle.object_machine.proofs.BlockLemmas.{IsNth, nth_unit, unit_count}
 use Rattle.object_machine.proofs.LeadLemmas.{Leads, leads_read, straight, not_ended}
 
 -- ---- units that lead to the next word
-
-on_if : (go b : Bool) (rest : List ℕ) → suc 0 < length (0 ∷ (if go then rest else [])) → go ≡ true
-on_if true b rest more = refl
-on_if false b rest more = absurd (omega (arith, more))
 
 -- a unit that isn't the last of a chain passes its test
 on_after : (rest : List ℕ) (go : ℕ → Bool) (a k : ℕ) (b : Bool) → (suc k < length rest → go ((a + 4) + 4 * k) ≡ true) → suc (suc k) < length (a ∷ (if b then rest else [])) → go (a + 4 * suc k) ≡ true

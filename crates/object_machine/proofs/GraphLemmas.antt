@@ -13,8 +13,8 @@ use Rattle.board_config.specs.declared.board.Board.{Board}
 use Rattle.loaded_file.specs.Records.{symbol_at, reloc_at}
 use Rattle.loaded_file.specs.Ranges.{has_range, inside}
 use Rattle.loaded_file.proofs.RangeLemmas.{HasByteRange, byte_range_of}
-use Rattle.rewritable_relocations.specs.Rewritable.{displacement, is_rewritable_word}
-use Rattle.movable_ranges.specs.Fixed.{leads_to, is_movable}
+use Rattle.object_graph.specs.Rewritable.{displacement, is_rewritable_word}
+use Rattle.object_graph.specs.Fixed.{leads_to, is_movable}
 use Rattle.object_graph.specs.declared.parts.Object.{Object}
 use Rattle.object_graph.specs.declared.parts.DataWord.{DataWord}
 use Rattle.object_graph.specs.declared.parts.Graph.{Graph}

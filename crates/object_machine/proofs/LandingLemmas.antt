@@ -7,7 +7,7 @@ use Rattle.std.proofs.lemmas.List.Folds.{list_any_at}
 use Rattle.list_checks.specs.First.{first_below}
 use Rattle.board_config.specs.declared.board.Range.{Range}
 use Rattle.object_graph.specs.Sites.{in_range}
-use Rattle.code_leaders.specs.Early.{has}
+use Rattle.code_blocks.specs.Early.{has}
 use Rattle.object_machine.specs.declared.units.Prepared.{Prepared}
 use Rattle.object_machine.specs.Landings.{AreLandings}
 use Rattle.object_machine.specs.Units.{unit_in, IsUnitAt}

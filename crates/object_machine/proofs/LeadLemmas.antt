@@ -1,12 +1,12 @@
 -- Where a unit leads: the machine ends, or goes on with the next word, or with a block.
 use Rattle.std.proofs.Common.{◌≡◌, ◌⊎◌, inl, inr, ℕ, ◌+◌, ◌*◌, ◌/◌, ◌%◌, ◌==◌, Bool, true, false, if◌then◌else◌, List, ◌++◌, Option, Some, None, ℤ, refl, sym, subst}
 use Rattle.list_checks.specs.First.{first_below}
-use Rattle.word_bits.specs.Words.{plus, offset}
-use Rattle.rv_decode.specs.declared.instructions.Instr.{Instr}
-use Rattle.rv_decode.specs.declared.instructions.Instr.TheVariants.{Lui, Auipc, Jal, Jalr, Branch, Load, Store, OpImm, OpReg, Fence, FenceI, Ecall, Ebreak}
-use Rattle.rv_decode.specs.declared.instructions.ImmKind.TheVariants.{Addi}
-use Rattle.rv_decode.specs.declared.instructions.LoadKind.{LoadKind}
-use Rattle.rv_decode.specs.declared.instructions.StoreKind.{StoreKind}
+use Rattle.rv32im.specs.Words.{plus, offset}
+use Rattle.rv32im.specs.declared.instructions.Instr.{Instr}
+use Rattle.rv32im.specs.declared.instructions.Instr.TheVariants.{Lui, Auipc, Jal, Jalr, Branch, Load, Store, OpImm, OpReg, Fence, FenceI, Ecall, Ebreak}
+use Rattle.rv32im.specs.declared.instructions.ImmKind.TheVariants.{Addi}
+use Rattle.rv32im.specs.declared.instructions.LoadKind.{LoadKind}
+use Rattle.rv32im.specs.declared.instructions.StoreKind.{StoreKind}
 use Rattle.cell_values.specs.Operations.{op_imm, op_reg}
 use Rattle.cell_values.specs.Comparisons.{compare}
 use Rattle.cell_values.specs.declared.values.Val.{Val}

@@ -1,7 +1,7 @@
 -- A step that the tables tell is one of the program with which they agree.
 use Rattle.std.proofs.Common.{◌≡◌, ℕ, ◌+◌, ◌||◌, nat_lt, Bool, true, if◌then◌else◌, is_some, Option, Some, None, refl, sym, ◌∙◌, ap, subst}
-use Rattle.rv_decode.specs.declared.instructions.Instr.{Instr}
-use Rattle.rv_decode.specs.Fields.{rd_of}
+use Rattle.rv32im.specs.declared.instructions.Instr.{Instr}
+use Rattle.rv32im.specs.Fields.{rd_of}
 use Rattle.cell_values.specs.declared.values.Val.{Val}
 use Rattle.cell_values.specs.declared.values.Val.TheVariants.{Int, Unknown}
 use Rattle.object_machine.specs.declared.events.Access.{Access}

@@ -1,12 +1,12 @@
 -- What words that mean an instruction are, and which of these lead to the next word.
 use Rattle.std.proofs.Common.{◌≡◌, ◌⊎◌, inl, inr, ℕ, ◌<◌, ◌==◌, nat_lt, Bool, true, false, not, ◌&&◌, ◌||◌, Option, Some, None, refl, sym, ◌∙◌, ap, arith}
 use Rattle.std.proofs.lemmas.Bool.Decides.{nat_tests}
-use Rattle.rv_decode.specs.Fields.{opcode_of, funct3_of}
-use Rattle.rv_decode.specs.Table.{Means}
-use Rattle.rv_decode.specs.declared.instructions.Instr.{Instr}
-use Rattle.rv_decode.specs.declared.instructions.Instr.TheVariants.{Lui, Auipc, Jal, Jalr, Branch, Load, Store, OpImm, OpReg, Fence, FenceI, Ecall, Ebreak}
-use Rattle.code_leaders.specs.Words.{is_branch, is_jal, is_jalr}
-use Rattle.code_leaders.specs.Meanings.{is_ebreak}
+use Rattle.rv32im.specs.Fields.{opcode_of, funct3_of}
+use Rattle.rv32im.specs.Table.{Means}
+use Rattle.rv32im.specs.declared.instructions.Instr.{Instr}
+use Rattle.rv32im.specs.declared.instructions.Instr.TheVariants.{Lui, Auipc, Jal, Jalr, Branch, Load, Store, OpImm, OpReg, Fence, FenceI, Ecall, Ebreak}
+use Rattle.code_blocks.specs.Words.{is_branch, is_jal, is_jalr}
+use Rattle.code_blocks.specs.Meanings.{is_ebreak}
 use Rattle.object_machine.specs.Units.{fits, leads_on}
 
 -- registers are below 32

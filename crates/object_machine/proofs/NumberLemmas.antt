@@ -1,8 +1,8 @@
 -- Operations on numbers.
 use Rattle.std.proofs.Common.{◌≡◌, ℕ, refl}
-use Rattle.rv_decode.specs.Acts.{reg_value}
-use Rattle.rv_decode.specs.declared.instructions.RegKind.{RegKind}
-use Rattle.rv_decode.specs.declared.instructions.RegKind.TheVariants.{Add, Sub, Sll, Slt, Sltu, Xor, Srl, Sra, Or, And, Mul, Mulh, Mulhsu, Mulhu, Div, Divu, Rem, Remu}
+use Rattle.rv32im.specs.Acts.{reg_value}
+use Rattle.rv32im.specs.declared.instructions.RegKind.{RegKind}
+use Rattle.rv32im.specs.declared.instructions.RegKind.TheVariants.{Add, Sub, Sll, Slt, Sltu, Xor, Srl, Sra, Or, And, Mul, Mulh, Mulhsu, Mulhu, Div, Divu, Rem, Remu}
 use Rattle.cell_values.specs.Objects.{Objects}
 use Rattle.cell_values.specs.Operations.{op_reg}
 use Rattle.cell_values.specs.declared.values.Val.{Val}

@@ -1,11 +1,9 @@
 -- Where accesses go, and where no memory is.
-use Rattle.std.proofs.Common.{◌≡◌, ◌⊎◌, inl, inr, ℕ, ◌+◌, ◌<◌, ◌≤◌, ◌%◌, nat_le, nat_lt, Bool, true, false, ◌&&◌, List, length, slice_index_or, Option, Some, None, refl, arith, if◌then◌else◌}
+use Rattle.std.proofs.Common.{◌≡◌, ℕ, ◌+◌, ◌<◌, ◌≤◌, nat_le, nat_lt, Bool, true, false, ◌&&◌, List, slice_index_or, Some, None, refl, arith, if◌then◌else◌}
 use Rattle.std.specs.List.{list_any}
 use Rattle.std.proofs.lemmas.Bool.Decides.{nat_tests}
 use Rattle.std.proofs.lemmas.List.Folds.{list_any_none}
 use Rattle.std.proofs.lemmas.List.{get_or_default}
-use Rattle.list_checks.specs.First.{first_below}
-use Rattle.list_checks.proofs.FirstLemmas.{none_at}
 use Rattle.board_config.specs.declared.board.Range.{Range}
 use Rattle.object_graph.specs.declared.parts.Object.{Object}
 use Rattle.cell_values.specs.Objects.{absent_object, object_of}
@@ -14,7 +12,7 @@ use Rattle.object_machine.specs.declared.units.Prepared.{Prepared}
 use Rattle.object_machine.specs.Program.{Program, holds}
 use Rattle.object_machine.specs.Layout.{is_in_some}
 use Rattle.object_machine.specs.Machine.{seen_program}
-use Rattle.object_machine.specs.Places.{byte_fault, fault_from}
+use Rattle.object_machine.specs.Places.{byte_fault}
 
 -- no memory lies at 2 ^ 32 or above
 not_fixed : (ranges : List Range) (a : ℕ) → 4294967296 ≤ a → is_in_some ranges a ≡ false
@@ -47,6 +45,3 @@ byte_of false why none = cc
 
 pub byte_is_fixed : (p : Program) (a : ℕ) → byte_fault p a ≡ None → p.is_fixed a ≡ true
 byte_is_fixed p a none = byte_of (p.is_fixed a) (if p.is_held a then 4 else 3) none
-
-pub bytes_are_fixed : (p : Program) (a n i : ℕ) → i < n → first_below (fault_from p a) n ≡ None → p.is_fixed (a + i) ≡ true
-bytes_are_fixed p a n i below none = byte_is_fixed p (a + i) (none_at (fault_from p a) n i below none)

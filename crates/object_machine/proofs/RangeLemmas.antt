@@ -16,7 +16,7 @@ use Rattle.loaded_file.specs.Code.{is_code_range, holds_code, is_code_word}
 use Rattle.loaded_file.specs.Read.{IsRead}
 use Rattle.loaded_file.proofs.WordLemmas.{same_view}
 use Rattle.code_blocks.specs.Ends.{range_at, words_left_in, words_left}
-use Rattle.code_leaders.proofs.LeaderLemmas.{both_pass}
+use Rattle.code_blocks.proofs.LeaderLemmas.{both_pass}
 use Rattle.code_blocks.proofs.RangeLemmas.{code_held, no_range, word_held, code_fits}
 
 -- ---- one code range

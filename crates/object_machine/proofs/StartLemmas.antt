@@ -6,7 +6,7 @@ use Rattle.std.proofs.lemmas.Bool.{cases_eq, cases_lt}
 use Rattle.std.proofs.lemmas.Bool.Decides.{nat_tests}
 use Rattle.std.proofs.lemmas.List.{length-map, map-append, take_more}
 use Rattle.std.proofs.lemmas.List.Elements.{All-nil, All-cons, All-head, All-tail}
-use Rattle.word_bits.specs.Memory.{Memory, put, put_bytes}
+use Rattle.rv32im.specs.Memory.{Memory, put, put_bytes}
 use Rattle.elf_reader.specs.declared.view.Segment.{Segment}
 use Rattle.elf_reader.specs.File.{PlainSegment, plain_segment}
 use Rattle.elf_reader.specs.Image.{image_of}

@@ -1,5 +1,5 @@
 -- Cells of the store, as cells of fixed memory and of objects.
-use Rattle.std.proofs.Common.{◌≡◌, ◌⊎◌, inl, inr, ℕ, zero, suc, ◌+◌, ◌-◌, ◌<◌, ◌≤◌, ◌==◌, nat_lt, Bool, true, false, List, [], ◌∷◌, length, if◌then◌else◌, Result, Ok, Err, OnOk, OnErr, refl, sym, ◌∙◌, ap, subst, arith}
+use Rattle.std.proofs.Common.{◌≡◌, ◌⊎◌, inl, inr, ℕ, zero, suc, ◌+◌, ◌-◌, ◌<◌, ◌≤◌, ◌==◌, nat_lt, Bool, true, false, List, [], ◌∷◌, length, Result, Ok, Err, OnOk, OnErr, refl, sym, ◌∙◌, ap, subst, arith}
 use Rattle.std.specs.List.{All}
 use Rattle.std.proofs.lemmas.Bool.{both_ways, cases_eq, cases_lt}
 use Rattle.std.proofs.lemmas.Bool.Decides.{nat_tests}
@@ -9,7 +9,7 @@ use Rattle.cell_values.specs.Cells.{IsCellOfGraph, put_at, put_cells}
 use Rattle.cell_values.specs.Objects.{object_of}
 use Rattle.cell_values.specs.declared.values.Cell.{Cell}
 use Rattle.cell_values.specs.declared.values.Cell.TheVariants.{Mist}
-use Rattle.object_machine.specs.declared.spots.Spot.TheVariants.{Fixed, Object}
+use Rattle.object_machine.specs.declared.spots.Spot.TheVariants.{Object}
 use Rattle.object_machine.specs.declared.tables.Tables.{Tables}
 use Rattle.object_machine.specs.Layout.{is_in_some}
 use Rattle.object_machine.specs.Spots.{Spans}
@@ -193,10 +193,6 @@ object_put t old new o d cs is fits = ap (cells_with t) is ∙ (λ z q i. put_ob
 pub store_of_graph : {T E : Type 0} (g : Graph) (r : Result T E) (old new : ℕ → Cell) (k : ℕ) (cs : List Cell) → OnOk r (new ≡ put_cells old k cs) → OnErr r (new ≡ old) → ((a : ℕ) → IsCellOfGraph g (old a)) → All (IsCellOfGraph g) cs → (a : ℕ) → IsCellOfGraph g (new a)
 store_of_graph g (Ok v) old new k cs set err was of a = rw set (cells_of_graph g old k cs was of a)
 store_of_graph g (Err e) old new k cs set err was of a = rw err (was a)
-
--- from a place that spans cells
-pub spans_end : (t : Tables) (a n : ℕ) → 0 < n → Spans t n (Fixed a) → a + n ≤ 4294967296
-spans_end t a n some spans = let last = (spans (n - 1) (omega (arith, some))).0 in omega (arith, some, last)
 
 pub spans_object : (t : Tables) (o d n : ℕ) → 0 < n → Spans t n (Object o d) → (o < length t.graph.objects.items) × (d + n ≤ size t o)
 spans_object t o d n some spans =

@@ -18,9 +18,9 @@ use Rattle.object_graph.specs.declared.parts.Object.{Object}
 use Rattle.object_graph.specs.declared.parts.Graph.{Graph}
 use Rattle.object_graph.specs.Graphs.{IsGraph}
 use Rattle.object_graph.specs.Sites.{no_area, in_range, in_area, in_code_range, in_object, holds_changed_byte, is_fixed_memory}
-use Rattle.code_leaders.specs.Leaders.{is_leader, is_indirect}
-use Rattle.code_leaders.specs.Early.{has}
-use Rattle.code_leaders.proofs.LeaderLemmas.{indirect_is_leader, leader_is_code}
+use Rattle.code_blocks.specs.Leaders.{is_leader, is_indirect}
+use Rattle.code_blocks.specs.Early.{has}
+use Rattle.code_blocks.proofs.LeaderLemmas.{indirect_is_leader, leader_is_code}
 use Rattle.code_blocks.specs.Blocks.{start_of, IsCode}
 use Rattle.code_blocks.specs.declared.parts.Block.{Block}
 use Rattle.code_blocks.specs.declared.parts.Code.{Code}

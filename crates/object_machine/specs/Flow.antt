@@ -1,10 +1,10 @@
 -- Where a unit leads: `s` is the state before it, and `t` the one that it leaves but for the pc. Where it
 -- leads to no block (reason 6), nothing of the step happens.
 use Rattle.std.specs.Prelude.{ℕ, ◌+◌, ◌*◌, ◌/◌, nat_lt, Bool, true, false, if◌then◌else◌, Option, Some, None, ℤ}
-use Rattle.word_bits.specs.Words.{offset}
-use Rattle.rv_decode.specs.Fields.{rd_of}
-use Rattle.rv_decode.specs.declared.instructions.BranchKind.{BranchKind}
-use Rattle.rv_decode.specs.declared.instructions.ImmKind.TheVariants.{Addi}
+use Rattle.rv32im.specs.Words.{offset}
+use Rattle.rv32im.specs.Fields.{rd_of}
+use Rattle.rv32im.specs.declared.instructions.BranchKind.{BranchKind}
+use Rattle.rv32im.specs.declared.instructions.ImmKind.TheVariants.{Addi}
 use Rattle.cell_values.specs.Operations.{op_imm}
 use Rattle.cell_values.specs.declared.values.Val.{Val}
 use Rattle.cell_values.specs.declared.values.Val.TheVariants.{Int, Unknown}

@@ -1,7 +1,7 @@
 -- What a unit asks of memory: its words, and whether it is a load or a store.
 use Rattle.std.specs.Prelude.{ℕ, if◌then◌else◌, Option, Some, None}
-use Rattle.rv_decode.specs.declared.instructions.Instr.{Instr}
-use Rattle.rv_decode.specs.declared.instructions.Instr.TheVariants.{Load, Store}
+use Rattle.rv32im.specs.declared.instructions.Instr.{Instr}
+use Rattle.rv32im.specs.declared.instructions.Instr.TheVariants.{Load, Store}
 use Rattle.object_machine.specs.declared.footprints.AccessKind.{AccessKind}
 use Rattle.object_machine.specs.declared.footprints.AccessKind.TheVariants.{Load as Reading, Store as Writing}
 use Rattle.object_machine.specs.declared.footprints.Footprint.{Footprint}

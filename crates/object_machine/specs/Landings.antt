@@ -1,6 +1,6 @@
 -- Where control lands, as tables of places of units by the address of a word.
 use Rattle.std.specs.Prelude.{◌≡◌, ℕ, ◌<◌, true, List, length, slice_index}
-use Rattle.code_leaders.specs.Early.{has}
+use Rattle.code_blocks.specs.Early.{has}
 use Rattle.object_machine.specs.declared.units.Prepared.{Prepared}
 use Rattle.object_machine.specs.Units.{unit_in}
 

@@ -4,7 +4,7 @@ use Rattle.std.specs.List.{AllPairs, list_any}
 use Rattle.board_config.specs.declared.board.Range.{Range}
 use Rattle.object_graph.specs.declared.parts.Graph.{Graph}
 use Rattle.object_graph.specs.Sites.{in_range}
-use Rattle.code_leaders.specs.Early.{has}
+use Rattle.code_blocks.specs.Early.{has}
 use Rattle.cell_values.specs.Objects.{object_of}
 
 -- an address below 2 ^ 32 lies in one of the ranges

@@ -1,4 +1,4 @@
-pub use Rattle.rv_decode.specs.Acts
+pub use Rattle.rv32im.specs.Acts
 pub use Rattle.cell_values.specs.Objects
 pub mod Program
 pub mod State

@@ -1,8 +1,8 @@
 -- The state that a machine of the code stands for, and the program that it knows.
 use Rattle.std.specs.Prelude.{◌≡◌, ℕ, ◌+◌, ◌<◌, nat_lt, Bool, ◌||◌, if◌then◌else◌, List, drop, length, map, slice_index_or, is_some, Option, Some, None}
 use Rattle.std.specs.List.{list_any}
-use Rattle.rv_decode.specs.declared.instructions.Instr.{Instr}
-use Rattle.code_leaders.specs.Early.{has}
+use Rattle.rv32im.specs.declared.instructions.Instr.{Instr}
+use Rattle.code_blocks.specs.Early.{has}
 use Rattle.cell_values.specs.Stored.{cells_of}
 use Rattle.cell_values.specs.Objects.{Objects, objects_of}
 use Rattle.cell_values.specs.declared.values.Val.{Val}

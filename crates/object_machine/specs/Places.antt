@@ -1,7 +1,7 @@
 -- Where an access goes, or why it can't.
 use Rattle.std.specs.Prelude.{ℕ, ◌+◌, ◌%◌, ◌==◌, nat_le, nat_lt, Bool, if◌then◌else◌, Option, Some, None, ℤ}
 use Rattle.list_checks.specs.First.{first_below}
-use Rattle.rv_decode.specs.declared.instructions.ImmKind.TheVariants.{Addi}
+use Rattle.rv32im.specs.declared.instructions.ImmKind.TheVariants.{Addi}
 use Rattle.cell_values.specs.Objects.{Objects, home_address}
 use Rattle.cell_values.specs.Operations.{op_imm, low_site}
 use Rattle.cell_values.specs.declared.values.Val.{Val}

@@ -1,12 +1,12 @@
 -- How the tables of a program are made.
 use Rattle.std.specs.Prelude.{◌≡◌, ℕ, ◌+◌, ◌<◌, nat_lt, Bool, true, List, map, take, length, slice_index_or, is_some, Option, Some, None}
-use Rattle.rv_decode.specs.Fields.{rd_of}
+use Rattle.rv32im.specs.Fields.{rd_of}
 use Rattle.elf_reader.specs.File.{PlainView}
 use Rattle.board_config.specs.declared.board.Board.{Board}
 use Rattle.loaded_file.specs.Code.{image_word}
 use Rattle.object_graph.specs.declared.parts.Graph.{Graph}
-use Rattle.code_leaders.specs.Words.{pair_target}
-use Rattle.code_leaders.specs.Leaders.{is_call_pair}
+use Rattle.code_blocks.specs.Words.{pair_target}
+use Rattle.code_blocks.specs.Leaders.{is_call_pair}
 use Rattle.code_blocks.specs.Blocks.{start_of}
 use Rattle.code_blocks.specs.declared.parts.Unit.{Unit as CodeUnit}
 use Rattle.code_blocks.specs.declared.parts.Block.{Block}

@@ -8,13 +8,13 @@ use Rattle.board_config.specs.declared.board.Board.{Board}
 use Rattle.loaded_file.specs.Code.{image_word}
 use Rattle.loaded_file.specs.Records.{reloc_at, counts, symbol_of}
 use Rattle.loaded_file.specs.Ranges.{inside}
-use Rattle.rewritable_relocations.specs.Rewritable.{is_pair_low}
+use Rattle.object_graph.specs.Rewritable.{is_pair_low}
 use Rattle.object_graph.specs.Sites.{is_fixed_memory}
 use Rattle.object_graph.specs.declared.parts.Object.{Object}
 use Rattle.object_graph.specs.declared.parts.Site.{Site}
 use Rattle.object_graph.specs.declared.parts.Graph.{Graph}
-use Rattle.code_leaders.specs.Words.{pair_target}
-use Rattle.code_leaders.specs.Leaders.{is_call_pair, is_leader, is_indirect}
+use Rattle.code_blocks.specs.Words.{pair_target}
+use Rattle.code_blocks.specs.Leaders.{is_call_pair, is_leader, is_indirect}
 use Rattle.code_blocks.specs.Ends.{words_left}
 use Rattle.cell_values.specs.Objects.{Objects, objects_of}
 

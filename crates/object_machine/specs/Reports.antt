@@ -1,6 +1,6 @@
 -- What a prepared unit tells of a program.
 use Rattle.std.specs.Prelude.{◌≡◌, ℕ, ◌+◌, nat_lt, Bool, true, ◌||◌, is_some, Option, Some, None}
-use Rattle.rv_decode.specs.Fields.{rd_of}
+use Rattle.rv32im.specs.Fields.{rd_of}
 use Rattle.object_machine.specs.declared.units.Pair.{Pair}
 use Rattle.object_machine.specs.declared.units.Prepared.{Prepared}
 use Rattle.object_machine.specs.Program.{Program}

@@ -1,6 +1,6 @@
 -- Places of accesses as the machine finds them.
 use Rattle.std.specs.Prelude.{◌≡◌, ◌⊎◌, ℕ, ◌+◌, ◌<◌, ◌≤◌, Bool, true, length, slice_index_or, Option, Some, None}
-use Rattle.rv_decode.specs.declared.instructions.LoadKind.{LoadKind}
+use Rattle.rv32im.specs.declared.instructions.LoadKind.{LoadKind}
 use Rattle.cell_values.specs.Objects.{object_of}
 use Rattle.object_machine.specs.declared.events.Access.{Access}
 use Rattle.object_machine.specs.declared.spots.Spot.{Spot}

@@ -1,7 +1,7 @@
 -- The state in which a program starts: at the entry, with all registers 0 and the bytes of the file in
 -- memory, but that words of data hold the addresses they mean.
 use Rattle.std.specs.Prelude.{ℕ, ◌+◌, ◌-◌, ◌==◌, nat_lt, nat_le, Bool, ◌&&◌, if◌then◌else◌, false, List, [], ◌∷◌}
-use Rattle.word_bits.specs.Memory.{Memory}
+use Rattle.rv32im.specs.Memory.{Memory}
 use Rattle.elf_reader.specs.File.{PlainView}
 use Rattle.elf_reader.specs.Image.{image_of}
 use Rattle.object_graph.specs.declared.parts.DataWord.{DataWord}

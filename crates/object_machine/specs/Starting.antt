@@ -1,7 +1,7 @@
 -- How the memory is made with which a program starts.
 use Rattle.std.specs.Prelude.{ℕ, ◌+◌, ◌<◌, ◌≤◌, List, length}
 use Rattle.std.specs.List.{All}
-use Rattle.word_bits.specs.Memory.{Memory}
+use Rattle.rv32im.specs.Memory.{Memory}
 use Rattle.elf_reader.specs.File.{PlainSegment}
 use Rattle.object_graph.specs.declared.parts.DataWord.{DataWord}
 use Rattle.cell_values.specs.declared.values.Cell.{Cell}

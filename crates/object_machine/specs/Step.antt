@@ -1,15 +1,15 @@
 -- One step of the machine: one unit, which is an instruction or a call of two words. What a word means is
 -- said by the instruction table alone.
 use Rattle.std.specs.Prelude.{◌≡◌, ℕ, ◌+◌, ◌*◌, ◌%◌, if◌then◌else◌, true, false, Bool, Option, Some, None, ℤ}
-use Rattle.word_bits.specs.Words.{plus, offset}
-use Rattle.rv_decode.specs.Acts.{load_width, store_width}
-use Rattle.rv_decode.specs.Table.{Means, MeansNothing}
-use Rattle.rv_decode.specs.declared.instructions.Instr.{Instr}
-use Rattle.rv_decode.specs.declared.instructions.Instr.TheVariants.{Lui, Auipc, Jal, Jalr, Branch, Load, Store, OpImm, OpReg, Fence, FenceI, Ecall, Ebreak}
-use Rattle.rv_decode.specs.declared.instructions.ImmKind.{ImmKind}
-use Rattle.rv_decode.specs.declared.instructions.ImmKind.TheVariants.{Addi}
-use Rattle.rv_decode.specs.declared.instructions.LoadKind.{LoadKind}
-use Rattle.rv_decode.specs.declared.instructions.StoreKind.{StoreKind}
+use Rattle.rv32im.specs.Words.{plus, offset}
+use Rattle.rv32im.specs.Acts.{load_width, store_width}
+use Rattle.rv32im.specs.Table.{Means, MeansNothing}
+use Rattle.rv32im.specs.declared.instructions.Instr.{Instr}
+use Rattle.rv32im.specs.declared.instructions.Instr.TheVariants.{Lui, Auipc, Jal, Jalr, Branch, Load, Store, OpImm, OpReg, Fence, FenceI, Ecall, Ebreak}
+use Rattle.rv32im.specs.declared.instructions.ImmKind.{ImmKind}
+use Rattle.rv32im.specs.declared.instructions.ImmKind.TheVariants.{Addi}
+use Rattle.rv32im.specs.declared.instructions.LoadKind.{LoadKind}
+use Rattle.rv32im.specs.declared.instructions.StoreKind.{StoreKind}
 use Rattle.cell_values.specs.Operations.{op_imm, op_reg, low_site}
 use Rattle.cell_values.specs.Comparisons.{compare}
 use Rattle.cell_values.specs.declared.values.Val.{Val}

@@ -7,7 +7,7 @@ ghost use Rattle.cell_values.specs.declared.values.Cell.{Cell};
 ghost use Rattle.object_machine.specs.Memory.{signed_byte, signed_half, same_number};
 
 use cell_values::{Cell, Val};
-use word_bits::sext;
+use rv32im::sext;
 
 /// The value of a byte, extended by its sign.
 #[inline(always)]

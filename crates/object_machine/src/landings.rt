@@ -1,5 +1,5 @@
 ghost use Rattle.std.specs.Prelude.{◌≡◌, ℕ, ◌<◌, ◌≤◌, true, List, set, length, slice_index, IsTrue, IfOk, IfSome};
-ghost use Rattle.code_leaders.specs.Early.{has};
+ghost use Rattle.code_blocks.specs.Early.{has};
 ghost use Rattle.object_machine.specs.Landings.{AreLandings};
 ghost use Rattle.object_machine.specs.Units.{unit_in, IsUnitAt};
 ghost use Rattle.object_machine.specs.declared.units.Prepared.{Prepared};

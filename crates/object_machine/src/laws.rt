@@ -10,7 +10,7 @@ pub fn ended_stays()
 pub fn is_determined()
     ensures { IsDetermined }
 {
-    rv_decode::one_instruction();
+    rv32im::one_instruction();
 }
 
 /// Runs compose by their numbers of steps.

@@ -56,7 +56,7 @@ impl Source {
     ghost use Rattle.board_config.specs.Board.{IsLawful};
     ghost use Rattle.loaded_file.specs.Read.{IsRead};
     ghost use Rattle.object_graph.specs.Graphs.{IsGraph};
-    ghost use Rattle.code_leaders.specs.Leaders.{is_leader};
+    ghost use Rattle.code_blocks.specs.Leaders.{is_leader};
     ghost use Rattle.code_blocks.specs.Blocks.{IsCode};
     ghost use Rattle.cell_values.specs.Objects.{IsGrain};
     ghost use Rattle.object_machine.specs.Program.{program_of};
@@ -103,7 +103,7 @@ impl Source {
 
 impl Source {
     ghost use Rattle.std.specs.Prelude.{Option, MatchBool, IfOk, OnOk, OnErr};
-    ghost use Rattle.rv_decode.specs.declared.instructions.Instr.{Instr};
+    ghost use Rattle.rv32im.specs.declared.instructions.Instr.{Instr};
     ghost use Rattle.object_machine.specs.Program.{Program};
     ghost use Rattle.object_machine.specs.Step.{Step, Reads};
     ghost use Rattle.object_machine.specs.Footprints.{footprint_of};

@@ -9,11 +9,10 @@ ghost use Rattle.code_blocks.specs.Blocks.{IsCode};
 ghost use Rattle.object_machine.specs.Preparing.{IsPairOf, IsPreparedOf, ArePrepared, IsBlockUnits, HasObjects};
 
 use crate::units::{Pair, Prepared};
-use code_blocks::{Code, Unit};
-use code_leaders::{links, pair_target};
+use code_blocks::{Code, Unit, links, pair_target};
 use loaded_file::{LoadedFile, word_of_code};
 use object_graph::Graph;
-use rv_decode::rd;
+use rv32im::rd;
 use std::alloc::{AllocError, Global};
 
 /// The units of blocks one behind the other, and where each block begins.

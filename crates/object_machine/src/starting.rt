@@ -1,7 +1,7 @@
 ghost use Rattle.std.specs.Prelude.{◌≡◌, ℕ, ◌+◌, ◌≤◌, false, length, map, IfOk, OnOk};
 ghost use Rattle.elf_reader.specs.File.{plain_segment};
 ghost use Rattle.elf_reader.specs.Image.{image_of};
-ghost use Rattle.word_bits.specs.Memory.{Memory};
+ghost use Rattle.rv32im.specs.Memory.{Memory};
 ghost use Rattle.cell_values.specs.Cells.{put_cells, parts_of};
 ghost use Rattle.cell_values.specs.declared.values.Cell.TheVariants.{Byte};
 ghost use Rattle.cell_values.specs.Stored.{cells_of};

@@ -49,7 +49,7 @@ pub(crate) struct Tables {
 
 impl Tables {
     ghost use Rattle.std.specs.Prelude.{false, ◌+◌, ◌<◌, ◌≤◌, IsTrue, MatchOption};
-    ghost use Rattle.code_leaders.specs.Early.{has};
+    ghost use Rattle.code_blocks.specs.Early.{has};
     ghost use Rattle.object_machine.specs.Units.{IsUnitAt};
     ghost use Rattle.object_machine.specs.Layout.{is_in_some};
 

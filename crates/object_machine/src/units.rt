@@ -3,7 +3,7 @@ ghost use Rattle.object_machine.specs.Footprints.{access_kind};
 
 use crate::footprints::{AccessKind, Footprint};
 use object_graph::Site;
-use rv_decode::Instr;
+use rv32im::Instr;
 
 /// A call of two instructions, an AUIPC and a JALR, which one step runs.
 #[derive(Clone, Copy)]

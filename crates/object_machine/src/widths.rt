@@ -1,8 +1,8 @@
 ghost use Rattle.std.specs.Prelude.{◌≡◌};
-ghost use Rattle.rv_decode.specs.Acts.{load_width, store_width};
+ghost use Rattle.rv32im.specs.Acts.{load_width, store_width};
 ghost use Rattle.object_machine.specs.Spots.{IsWidth};
 
-use rv_decode::{LoadKind, StoreKind};
+use rv32im::{LoadKind, StoreKind};
 
 /// How many bytes a load takes.
 #[inline(always)]

@@ -5,8 +5,8 @@ use Rattle.std.proofs.lemmas.Grind.{common_steps}
 use Rattle.std.proofs.lemmas.List.{get_or_past}
 use Rattle.std.proofs.lemmas.Bool.{cases_lt}
 use Rattle.std.proofs.lemmas.Bool.Decides.{nat_tests}
-use Rattle.word_bits.specs.Words.{plus}
-use Rattle.word_bits.specs.Memory.{put_bytes}
+use Rattle.rv32im.specs.Words.{plus}
+use Rattle.rv32im.specs.Memory.{put_bytes}
 use Rattle.paged_store.specs.Room.{HasRoom}
 use Rattle.paged_store.proofs.Puts.{put_bytes_before, put_bytes_behind, put_bytes_at}
 use Rattle.paged_store.specs.Pages.{page_of, byte_place, paged_bytes, has_page, with_piece, IsZeroPage, AreDisjoint}

@@ -3,7 +3,7 @@ use Rattle.std.proofs.Common.{◌≡◌, ℕ, ◌<◌, Some, None, List, [], ◌
 use Rattle.std.specs.Prelude.{◌==◌, IsTrue, true, false}
 use Rattle.std.specs.List.{position_or_len}
 use Rattle.std.proofs.lemmas.Bool.Decides.{nat_tests}
-use Rattle.word_bits.specs.Memory.{put}
+use Rattle.rv32im.specs.Memory.{put}
 use Rattle.paged_store.specs.declared.list_store.Entry.{Entry}
 use Rattle.paged_store.specs.Entries.{bytes_of, has_entry, place_of}
 
@@ -63,10 +63,6 @@ has_entry-set es at byte i a h = keeps_found es at byte i a (place_is es at i h)
 push_absent : (es : List Entry) (at byte a : ℕ) → place_of es at ≡ None → bytes_of (es ++ record { at = at; byte = byte } ∷ []) a ≡ (if a == at then byte else bytes_of es a)
 push_absent [] at byte a h = grind (arith, nat_tests)
 push_absent (e ∷ es) at byte a h = grind (arith, nat_tests, push_absent es at byte a)
-
-pub bytes_of-push : (es : List Entry) (at byte : ℕ) → place_of es at ≡ None → bytes_of (es ++ record { at = at; byte = byte } ∷ []) ≡ put (bytes_of es) at byte
-unfolding put
-bytes_of-push es at byte h = λ t a. push_absent es at byte a h t
 
 zero_absent : (es : List Entry) (at a : ℕ) → place_of es at ≡ None → bytes_of (es ++ record { at = at; byte = 0 } ∷ []) a ≡ bytes_of es a
 zero_absent es at a h = grind (arith, nat_tests, push_absent es at 0 a h, absent_byte es at h)

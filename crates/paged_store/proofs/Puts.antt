@@ -3,8 +3,8 @@ use Rattle.std.proofs.Common.{◌≡◌, ℕ, ◌+◌, ◌-◌, ◌/◌, ◌%◌
 use Rattle.std.proofs.lemmas.Grind.{common_steps}
 use Rattle.std.proofs.lemmas.List.{drop-drop, take-append-drop}
 use Rattle.std.proofs.lemmas.Bool.Decides.{nat_tests}
-use Rattle.word_bits.specs.Words.{plus}
-use Rattle.word_bits.specs.Memory.{Memory, put, put_word, put_bytes}
+use Rattle.rv32im.specs.Words.{plus}
+use Rattle.rv32im.specs.Memory.{Memory, put, put_word, put_bytes}
 
 -- an address before or behind them keeps its byte
 pub put_bytes_before : (bytes : List ℕ) (mem : Memory) (at a : ℕ) → a < at → put_bytes mem at bytes a ≡ mem a

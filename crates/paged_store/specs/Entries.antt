@@ -1,7 +1,7 @@
 -- A memory as the list of its bytes with their addresses. The first entry of an address counts.
 use Rattle.std.specs.Prelude.{ℕ, ◌==◌, Bool, Option, List, find, position, is_some}
 use Rattle.std.specs.Option.{option_map_or}
-use Rattle.word_bits.specs.Memory.{Memory}
+use Rattle.rv32im.specs.Memory.{Memory}
 use Rattle.paged_store.specs.declared.list_store.Entry.{Entry}
 
 -- the first entry of an address

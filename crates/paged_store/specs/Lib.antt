@@ -1,5 +1,5 @@
-pub use Rattle.word_bits.specs.Words
-pub use Rattle.word_bits.specs.Memory
+pub use Rattle.rv32im.specs.Words
+pub use Rattle.rv32im.specs.Memory
 pub mod Room
 pub mod Entries
 pub mod Pages

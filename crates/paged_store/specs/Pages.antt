@@ -1,7 +1,7 @@
 -- A memory in pages of 4,096 bytes. The directory has a page's number for each 4,096 addresses, and
 -- the bytes of page p begin at p * 4096. Page 0 holds zeros: addresses without a page share it.
 use Rattle.std.specs.Prelude.{◌≡◌, ◌≢◌, ℕ, ◌+◌, ◌*◌, ◌/◌, ◌%◌, ◌<◌, ◌≤◌, nat_lt, Bool, List, ◌++◌, take, drop, length, slice_index}
-use Rattle.word_bits.specs.Memory.{Memory}
+use Rattle.rv32im.specs.Memory.{Memory}
 
 -- the number of an address's page, 0 where it has none
 abbrev pub page_of : List ℕ → ℕ → ℕ

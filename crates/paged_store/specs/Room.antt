@@ -1,6 +1,6 @@
 -- Addresses that have room: a byte can be put there without taking memory.
 use Rattle.std.specs.Prelude.{ℕ, ◌<◌, Bool, IsTrue}
-use Rattle.word_bits.specs.Words.{plus}
+use Rattle.rv32im.specs.Words.{plus}
 
 -- the `n` addresses from `at`, modulo 2 ^ 32, have room
 abbrev pub HasRoom : (ℕ → Bool) → ℕ → ℕ → Type 0

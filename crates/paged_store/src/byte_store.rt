@@ -1,5 +1,5 @@
 ghost use Rattle.std.specs.Prelude.{◌≡◌, ℕ, ◌+◌, ◌≤◌, ◌<◌, length, Bool, IsTrue, IsOk, OnOk, OnErr};
-ghost use Rattle.word_bits.specs.Memory.{Memory, put, half_at, word_at, put_half, put_word, put_bytes};
+ghost use Rattle.rv32im.specs.Memory.{Memory, put, half_at, word_at, put_half, put_word, put_bytes};
 ghost use Rattle.paged_store.specs.Room.{HasRoom, RoomGrows};
 
 use std::alloc::AllocError;

@@ -5,10 +5,8 @@ mod byte_store;
 mod list_store;
 mod page_store;
 mod spans;
-mod words;
 
 pub use byte_store::ByteStore;
 pub use list_store::ListStore;
 pub use page_store::PageStore;
 pub use spans::append_span;
-pub use words::load4;

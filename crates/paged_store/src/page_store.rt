@@ -1,5 +1,5 @@
 ghost use Rattle.std.specs.Prelude.{◌≡◌, ℕ, ◌+◌, ◌<◌, vec_len, slice_index, IsOk, OnOk, OnErr, ◌≤◌, ◌%◌, ◌/◌, length};
-ghost use Rattle.word_bits.specs.Words.{half_of, word_of};
+ghost use Rattle.rv32im.specs.Words.{half_of, word_of};
 ghost use Rattle.paged_store.specs.Pages.{IsZeroPage, AreInside, AreDisjoint, IsWhole, IsInPages};
 ghost use Rattle.paged_store.specs.Pages.{with_piece};
 
@@ -85,7 +85,7 @@ fn put_piece(bytes: &mut Vec<u8>, place: usize, piece: &[u8])
 
 impl PageStore {
     ghost use Rattle.std.specs.Prelude.{◌≢◌, IsTrue};
-    ghost use Rattle.word_bits.specs.Memory.{zeros, word_at, put, put_bytes, put_half, put_word};
+    ghost use Rattle.rv32im.specs.Memory.{zeros, word_at, put, put_bytes, put_half, put_word};
     ghost use Rattle.paged_store.specs.Room.{HasRoom, RoomGrows};
     ghost use Rattle.paged_store.specs.Pages.{page_of, byte_place, paged_bytes, has_page, PagesStay};
 

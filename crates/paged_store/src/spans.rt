@@ -1,5 +1,5 @@
 ghost use Rattle.std.specs.Prelude.{◌≡◌, ◌+◌, ◌≤◌, ◌++◌, OnOk, OnErr};
-ghost use Rattle.word_bits.specs.Memory.{bytes_at};
+ghost use Rattle.rv32im.specs.Memory.{bytes_at};
 
 use crate::byte_store::ByteStore;
 use std::alloc::AllocError;

@@ -6,7 +6,7 @@ use Rattle.std.proofs.lemmas.List.Sums.{sum_by-append, sum_by-cons, sum_by_push}
 use Rattle.board_config.specs.declared.board.Board.{Board}
 use Rattle.flat_machine.specs.declared.events.FlatAccess.{FlatAccess}
 use Rattle.flat_machine.specs.declared.events.FlatEvent.{FlatEvent}
-use Rattle.copy_jobs.specs.Told.{access_in, accesses}
+use Rattle.patch_code.specs.Told.{access_in, accesses}
 use Rattle.paid_energy.specs.Costs.{fetch_cost, access_cost, told_cost, event_cost, run_cost}
 
 pub run_cost_joined : (board : Board) (es fs : List FlatEvent) → run_cost board (es ++ fs) ≡ run_cost board es + run_cost board fs
@@ -26,9 +26,6 @@ fetches_cost board fetched = sum_by (fetch_cost board) fetched
 
 abbrev pub accesses_cost : Board → List FlatAccess → ℕ
 accesses_cost board told = sum_by (access_cost board) told
-
-pub fetches_joined : (board : Board) (xs ys : List ℕ) → fetches_cost board (xs ++ ys) ≡ fetches_cost board xs + fetches_cost board ys
-fetches_joined board xs ys = sum_by-append (fetch_cost board) xs ys
 
 pub accesses_joined : (board : Board) (xs ys : List FlatAccess) → accesses_cost board (xs ++ ys) ≡ accesses_cost board xs + accesses_cost board ys
 accesses_joined board xs ys = sum_by-append (access_cost board) xs ys

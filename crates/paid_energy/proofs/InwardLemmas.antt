@@ -3,7 +3,7 @@ use Rattle.std.proofs.Common.{◌≡◌, ◌∙◌, ℕ, zero, suc, ◌+◌, ◌
 use Rattle.std.specs.List.{All, sum_by}
 use Rattle.std.proofs.lemmas.List.{length-map}
 use Rattle.std.proofs.lemmas.List.Sums.{sum_by-cons}
-use Rattle.rv_decode.specs.Table.{OneInstruction}
+use Rattle.rv32im.specs.Table.{OneInstruction}
 use Rattle.list_checks.specs.Sorted.{count_below, sum_below}
 use Rattle.list_checks.proofs.SumLemmas.{sum_same, sum_zero}
 use Rattle.elf_reader.specs.declared.view.ElfView.{ElfView}

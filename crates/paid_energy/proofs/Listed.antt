@@ -10,7 +10,7 @@ use Rattle.list_checks.proofs.TestLemmas.{both, same_tests, any_at, any_found}
 use Rattle.list_checks.proofs.SortedLemmas.{any_collected}
 use Rattle.board_config.specs.declared.board.Board.{Board}
 use Rattle.object_graph.specs.declared.parts.Graph.{Graph}
-use Rattle.code_leaders.specs.Early.{has}
+use Rattle.code_blocks.specs.Early.{has}
 use Rattle.code_blocks.specs.declared.parts.Code.{Code}
 use Rattle.region_former.specs.declared.table.RegionTable.{RegionTable}
 use Rattle.block_splitter.specs.declared.block_range.BlockRange.{BlockRange}
@@ -24,8 +24,8 @@ use Rattle.placement_programme.specs.declared.variables.VarName.{VarName}
 use Rattle.placement_programme.specs.Rows.{Part, Candidate, static_data, static_code, overlay_data, overlay_code, kept_data, name_of}
 use Rattle.energy_model.specs.Energy.{piece_in, covering, piece_of}
 use Rattle.placement_candidates.specs.Adding.{no_kept, kept_name}
-use Rattle.overlay_candidates.specs.Whole.{names_of, taken_of as names_taken}
-use Rattle.result_placements.specs.Choices.{IsOfPiece, IsCandidateFor, IsVarFor, IsSideFor, IsChoiceFor}
+use Rattle.placement_candidates.specs.Whole.{names_of, taken_of as names_taken}
+use Rattle.result_laws.specs.Choices.{IsOfPiece, IsCandidateFor, IsVarFor, IsSideFor, IsChoiceFor}
 use Rattle.relink_core.proofs.BlockOrder.{collected_are}
 use Rattle.paid_energy.specs.Inward.{IsListed, ArePiecesOf, AreByBlock}
 

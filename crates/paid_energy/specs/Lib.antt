@@ -1,4 +1,11 @@
 pub use Rattle.energy_model.specs.Energy
+pub use Rattle.relink_core.specs.Walks
 pub mod Costs
 pub mod FlatRuns
 pub mod Inward
+pub mod HomeWalks
+pub mod Leading
+pub mod WalkCosts
+pub mod CountedWalks
+pub mod Laws
+pub mod Counted

@@ -14,22 +14,21 @@ ghost use Rattle.energy_model.specs.Energy.{piece_in, covering, piece_of};
 ghost use Rattle.energy_model.specs.Scenes.{scene_of, AreOfSameFile};
 ghost use Rattle.energy_model.specs.Together.{taken};
 ghost use Rattle.placement_candidates.specs.Adding.{kept_name};
-ghost use Rattle.overlay_candidates.specs.Whole.{taken_of as names_taken};
-ghost use Rattle.result_placements.specs.Choices.{IsChoiceFor};
-ghost use Rattle.copied_result.specs.Copies.{comes_before};
+ghost use Rattle.placement_candidates.specs.Whole.{taken_of as names_taken};
+ghost use Rattle.result_laws.specs.Choices.{IsChoiceFor};
+ghost use Rattle.relink_core.specs.Copies.{comes_before};
 ghost use Rattle.relink_core.specs.Choices.{IsAnalysisOf};
 ghost use Rattle.paid_energy.specs.Inward.{calls, is_within, is_inward, inward_count, counted_inward, IsListed, AreByBlock, ArePiecesOf};
 
 use block_splitter::{BlockRange, Piece};
 use board_config::Board;
-use code_blocks::{Code, End};
-use code_leaders::has_address;
+use code_blocks::{Code, End, has_address};
 use energy_model::holds;
 use placement_programme::{Choice, Programme, Var, VarName};
 use profile_runner::{Edge, Profile};
 use region_former::RegionTable;
 use relink_core::Analysis;
-use rv_decode::one_instruction;
+use rv32im::one_instruction;
 use std::alloc::{AllocError, Global};
 
 /// Whether a block ends in a call that names where it leads, or in one that doesn't come back.

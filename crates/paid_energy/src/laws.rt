@@ -6,7 +6,7 @@ ghost use Rattle.paid_energy.specs.Inward.{InwardIsCounted};
 pub fn one_run_for()
     ensures { OneRunFor }
 {
-    rv_decode::one_instruction();
+    rv32im::one_instruction();
 }
 
 /// A run that ends within one bound is the same within each greater one.
@@ -18,5 +18,5 @@ pub fn ended_runs_for()
 pub fn inward_is_counted()
     ensures { InwardIsCounted }
 {
-    rv_decode::one_instruction();
+    rv32im::one_instruction();
 }

@@ -8,7 +8,7 @@ use crate::costs::step_cost;
 use board_config::Board;
 use flat_machine::{Flat, FlatOutcome, Known};
 use paged_store::ByteStore;
-use rv_decode::one_instruction;
+use rv32im::one_instruction;
 use std::alloc::AllocError;
 
 /// What a run of the flat machine came to.

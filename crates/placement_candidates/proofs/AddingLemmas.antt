@@ -2,7 +2,7 @@
 use Rattle.std.proofs.Common.{◌≡◌, ◌∙◌, ℕ, ◌+◌, ℤ, pos, ◌+ℤ◌, ◌-ℤ◌, List, [], ◌∷◌, arith}
 use Rattle.std.proofs.lemmas.Int.{ints}
 use Rattle.std.proofs.lemmas.List.Sums.{sum_by-cons}
-use Rattle.rv_decode.specs.Table.{OneInstruction}
+use Rattle.rv32im.specs.Table.{OneInstruction}
 use Rattle.placement_programme.specs.declared.variables.VarName.{VarName}
 use Rattle.profile_runner.specs.Transition.{Transition}
 use Rattle.energy_model.specs.Energy.{Scene, steps_energy, start_job, stub_energy, side_energy, nothing_taken}

@@ -11,16 +11,16 @@ use Rattle.loaded_file.specs.Read.{IsRead}
 use Rattle.loaded_file.specs.Code.{is_code_word}
 use Rattle.loaded_file.specs.Records.{symbol_at}
 use Rattle.loaded_file.proofs.RangeLemmas.{HasByteRange, byte_range_of}
-use Rattle.movable_ranges.specs.Fixed.{is_movable}
+use Rattle.object_graph.specs.Fixed.{is_movable}
 use Rattle.board_config.specs.declared.board.Board.{Board}
 use Rattle.object_graph.specs.declared.parts.Object.{Object}
 use Rattle.object_graph.specs.declared.parts.Graph.{Graph}
 use Rattle.object_graph.specs.Graphs.{is_object_of, has_object, IsGraph}
 use Rattle.object_graph.proofs.MovableLemmas.{Movable, movable_parts}
 use Rattle.cell_values.specs.Objects.{absent_object, object_of}
-use Rattle.code_leaders.specs.Words.{any_code_word}
-use Rattle.code_leaders.specs.Leaders.{is_leader}
-use Rattle.code_leaders.proofs.LeaderLemmas.{leader_is_code}
+use Rattle.code_blocks.specs.Words.{any_code_word}
+use Rattle.code_blocks.specs.Leaders.{is_leader}
+use Rattle.code_blocks.proofs.LeaderLemmas.{leader_is_code}
 use Rattle.code_blocks.specs.Blocks.{start_of, IsCode, is_any, address_count, block_count, code_fault}
 use Rattle.code_blocks.specs.declared.fault.CodeFault.{CodeFault}
 use Rattle.code_blocks.specs.declared.fault.CodeFault.TheVariants.{NoText, EntryNotLeader}

@@ -12,7 +12,7 @@ use Rattle.std.proofs.lemmas.Nat.{mul-le}
 use Rattle.list_checks.specs.Sorted.{collected, sum_below}
 use Rattle.list_checks.proofs.SumLemmas.{sum_rises}
 use Rattle.list_checks.proofs.TestLemmas.{both}
-use Rattle.rv_decode.specs.Table.{OneInstruction}
+use Rattle.rv32im.specs.Table.{OneInstruction}
 use Rattle.elf_reader.specs.declared.view.ElfView.{ElfView}
 use Rattle.board_config.specs.Board.{AreLawfulPrices, IsGrain}
 use Rattle.board_config.specs.declared.board.Board.{Board}

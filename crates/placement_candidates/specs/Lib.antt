@@ -6,3 +6,12 @@ pub mod Counted
 pub mod Selected
 pub mod Adding
 pub mod Ranking
+pub mod Found
+pub mod Overlaid
+pub mod OverlayCounted
+pub mod OverlayRows
+pub mod Whole
+pub mod Parts
+pub mod Mixing
+pub mod Mixed
+pub mod MixLaws

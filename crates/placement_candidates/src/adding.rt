@@ -6,19 +6,19 @@ ghost use Rattle.placement_candidates.specs.Adding.{EnergyAddsUp, EnergyIsOfTheR
 pub fn energy_adds_up()
     ensures { EnergyAddsUp }
 {
-    rv_decode::one_instruction();
+    rv32im::one_instruction();
 }
 
 /// The energy of a feasible choice of the programme is that of the run with what it takes.
 pub fn energy_is_of_the_run()
     ensures { EnergyIsOfTheRun }
 {
-    rv_decode::one_instruction();
+    rv32im::one_instruction();
 }
 
 /// A feasible choice saves no more than the energy with nothing taken.
 pub fn gains_are_within_the_base()
     ensures { GainsAreWithinTheBase }
 {
-    rv_decode::one_instruction();
+    rv32im::one_instruction();
 }

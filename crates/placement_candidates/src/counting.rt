@@ -19,7 +19,7 @@ use object_graph::Graph;
 use placement_programme::{Full, FullSide, FullVar};
 use profile_runner::Profile;
 use region_former::RegionTable;
-use rv_decode::one_instruction;
+use rv32im::one_instruction;
 use std::alloc::{AllocError, Global};
 
 /// The patch bytes of the control words and of a start stub that copies nothing.

@@ -1,5 +1,5 @@
 -- The edges of blocks.
-use Rattle.std.proofs.Common.{◌≡◌, ◌⊎◌, inl, inr, ℕ, zero, suc, ◌<◌, Bool, true, false, List, [], ◌∷◌, map, length, slice_index_or, refl, sym, ◌∙◌, ap, subst, arith}
+use Rattle.std.proofs.Common.{◌≡◌, ◌⊎◌, inl, inr, ℕ, ◌<◌, true, false, List, map, length, slice_index_or, sym, ◌∙◌, subst, arith}
 use Rattle.std.specs.Prelude.{◌↔◌}
 use Rattle.std.specs.List.{Contains, filter}
 use Rattle.std.specs.List.Sorted.{IsStrictlyIncreasing}
@@ -8,17 +8,16 @@ use Rattle.std.proofs.lemmas.List.{length-map, get_or-map}
 use Rattle.std.proofs.lemmas.List.Kept.{AllPairs-from_increasing}
 use Rattle.object_graph.specs.declared.parts.Graph.{Graph}
 use Rattle.object_graph.specs.declared.parts.Site.{Site}
-use Rattle.code_leaders.specs.Early.{has}
+use Rattle.code_blocks.specs.Early.{has}
 use Rattle.code_blocks.specs.Edges.{successors, is_indirect_end}
-use Rattle.code_blocks.specs.Numbers.{starts_of, start_at, ending_of, end_at, AreNumbersAt}
-use Rattle.code_blocks.specs.declared.ends.End.TheVariants.{Stop}
-use Rattle.code_blocks.specs.declared.parts.Block.{Block}
+use Rattle.code_blocks.specs.Numbers.{starts_of, start_at, end_at, AreNumbersAt}
 use Rattle.code_blocks.specs.Blocks.{start_of}
 use Rattle.code_blocks.specs.declared.parts.Unit.{Unit}
 use Rattle.code_blocks.specs.declared.parts.Code.{Code}
 use Rattle.code_blocks.proofs.ListLemmas.{has_at}
-use Rattle.code_blocks.specs.Leads.{IsBlockOf, units_in, units_at}
-use Rattle.points_to.specs.Flows.{AreRows}
+use Rattle.dataflow.proofs.ListLemmas.{kept, from_kept}
+use Rattle.code_blocks.specs.Leads.{IsBlockOf, units_at}
+use Rattle.points_to.specs.Rows.{AreRows}
 use Rattle.points_to.specs.Nodes.{Adds, Upto, OneEdge, RegisterEdge, RowEdge, UnitEdges, EntryEdge, StepEdge, NextEdges, LeaveEdges, BlockEdges, ArrivalEdge, WordEdge, AllEdges, entry, end_of, hub, memory}
 use Rattle.points_to.specs.declared.flows.Places.{Places}
 use Rattle.reach_graph.specs.declared.edges.Edge.{Edge}
@@ -37,45 +36,6 @@ same_start c i j ascending one other same =
         | inl before ↦ let less = pairs i j 0 before (omega (arith, other, count)) in absurd (omega (arith, less, same))
         | inr behind ↦ let less = pairs j i 0 behind (omega (arith, one, count)) in absurd (omega (arith, less, same))
       ]
-    ]
-
-pub in_rest : {X : Type 0} (y : X) (xs : List X) (x : X) → Contains xs x → Contains (y ∷ xs) x
-in_rest y xs x (k, below, is) = (suc k, omega (arith, below), is)
-
-pub in_first : {X : Type 0} (x : X) (xs : List X) → Contains (x ∷ xs) x
-in_first x xs = (0, omega arith, refl)
-
-pub in_cons : {X : Type 0} (y : X) (xs : List X) (x : X) → Contains (y ∷ xs) x → (y ≡ x) ⊎ Contains xs x
-in_cons y xs x (zero, below, is) = inl is
-in_cons y xs x (suc k, below, is) = inr (k, omega (arith, below), is)
-
-pub two_truths : (b : Bool) → (b ≡ true) ⊎ (b ≡ false)
-two_truths true = inl refl
-two_truths false = inr refl
-
-pub kept : (p : ℕ → Bool) (xs : List ℕ) (x : ℕ) → Contains xs x → p x ≡ true → Contains (filter p xs) x
-kept p [] x (k, below, is) passes = absurd (omega (arith, below))
-kept p (y ∷ xs) x found passes =
-    elim (two_truths (p y)) [
-      | inl on ↦ rw on (elim (in_cons y xs x found) [
-        | inl same ↦ subst (λ (z : ℕ). Contains (y ∷ filter p xs) z) same (in_first y (filter p xs))
-        | inr rest ↦ in_rest y (filter p xs) x (kept p xs x rest passes)
-      ])
-      | inr off ↦ rw off (elim (in_cons y xs x found) [
-        | inl same ↦ let also : p y ≡ true = ap p same ∙ passes in absurd (cc (also, off))
-        | inr rest ↦ kept p xs x rest passes
-      ])
-    ]
-
-pub from_kept : (p : ℕ → Bool) (xs : List ℕ) (x : ℕ) → Contains (filter p xs) x → Contains xs x
-from_kept p [] x found = found
-from_kept p (y ∷ xs) x found =
-    elim (two_truths (p y)) [
-      | inl on ↦ elim (in_cons y (filter p xs) x (rw on at found)) [
-        | inl same ↦ subst (λ (z : ℕ). Contains (y ∷ xs) z) same (in_first y xs)
-        | inr rest ↦ in_rest y xs x (from_kept p xs x rest)
-      ]
-      | inr off ↦ in_rest y xs x (from_kept p xs x (rw off at found))
     ]
 
 pub starts_there : (c : Code) (d : ℕ) → IsBlockOf c d → has (starts_of c) (start_at c d) ≡ true
@@ -161,12 +121,6 @@ arrival_adds c n i d old new ascending below starts adds =
       λ edges. (d, below, sym starts, edges),
     ))
 
-pub arrival_none : (c : Code) (n i : ℕ) (a : List (List Edge)) → has (starts_of c) (slice_index_or c.indirect.items i 0) ≡ false → Adds (ArrivalEdge c n i) a a
-arrival_none c n i a none =
-    adds_none (ArrivalEdge c n i) a (λ f t (d, there, is, edges).
-    let on : has (starts_of c) (slice_index_or c.indirect.items i 0) ≡ true = ap (has (starts_of c)) is ∙ starts_there c d there in
-    absurd (cc (on, none)))
-
 all_parts : (c : Code) (g : Graph) (n f t : ℕ) → AllEdges c g n f t → ((Upto (length c.blocks.items) (BlockEdges c g n) f t ⊎ Upto (length c.indirect.items) (ArrivalEdge c n) f t) ⊎ Upto (length g.data_words.items) (WordEdge g n) f t)
 all_parts c g n f t (AllEdges.of_block edges) = inl (inl edges)
 all_parts c g n f t (AllEdges.arriving edges) = inl (inr edges)
@@ -182,10 +136,3 @@ all_adds c g n r0 r1 r2 r3 blocks arrivals words =
     let one = joined (Upto (length c.blocks.items) (BlockEdges c g n)) (Upto (length c.indirect.items) (ArrivalEdge c n)) r0 r1 r2 blocks arrivals in
     adds_both (Or (Upto (length c.blocks.items) (BlockEdges c g n)) (Upto (length c.indirect.items) (ArrivalEdge c n))) (Upto (length g.data_words.items) (WordEdge g n)) (AllEdges c g n) r0 r2 r3 one words
     (λ f t. (all_parts c g n f t, all_whole c g n f t))
-
--- what block `b` is
-pub end_is : (c : Code) (b : ℕ) (x : Block) → IsBlockOf c b → x ≡ slice_index_or c.blocks.items b x → end_at c b ≡ x.end
-end_is c b x below is = get_or-map ending_of c.blocks.items b x Stop below ∙ ap ending_of (sym is)
-
-pub units_are : (c : Code) (b : ℕ) (x : Block) → IsBlockOf c b → x ≡ slice_index_or c.blocks.items b x → units_at c b ≡ x.units.items
-units_are c b x below is = get_or-map units_in c.blocks.items b x [] below ∙ ap units_in (sym is)

@@ -1,18 +1,18 @@
 -- What is derived is reached along the edges.
-use Rattle.std.proofs.Common.{◌≡◌, inl, inr, ℕ, zero, suc, ◌+◌, ◌<◌, List, [], ◌∷◌, map, length, drop, slice_index_or, refl, sym, ◌∙◌, ap, subst, arith}
+use Rattle.std.proofs.Common.{◌≡◌, inl, inr, ℕ, zero, suc, ◌+◌, ◌<◌, List, [], ◌∷◌, length, drop, slice_index_or, refl, sym, ◌∙◌, ap, subst, arith}
 use Rattle.std.proofs.Math.Seq.{drop-cons, drop-length}
-use Rattle.std.proofs.lemmas.Bool.{cases_lt}
-use Rattle.std.proofs.lemmas.List.{get_or_past, get_or_default, length-map}
+use Rattle.std.proofs.lemmas.List.{get_or_default}
 use Rattle.object_graph.specs.declared.parts.DataWord.{DataWord}
 use Rattle.object_graph.specs.declared.parts.Graph.{Graph}
 use Rattle.code_blocks.specs.Numbers.{start_at}
 use Rattle.code_blocks.specs.declared.parts.Unit.{Unit}
 use Rattle.code_blocks.specs.declared.parts.Code.{Code}
-use Rattle.code_blocks.specs.Leads.{IsBlockOf, units_in, units_at, no_unit}
-use Rattle.points_to.specs.Points.{IsHolder, unit_of, instr_of, site_of, Fact, Held, Escaped, Derives}
-use Rattle.points_to.specs.Flows.{PassesAt, Leads}
-use Rattle.points_to.specs.Nodes.{SourceEdges, UnitEdges, BlockEdges, AllEdges, no_word, entry, end_of, hub, memory, loaded, object_node}
-use Rattle.points_to.proofs.RuleLemmas.{moves_pass, sums_pass, stores_stored, written_defined}
+use Rattle.code_blocks.specs.Leads.{IsBlockOf, units_at, no_unit}
+use Rattle.dataflow.specs.Points.{IsHolder, unit_of, instr_of, site_of, Fact, Held, Escaped, Derives}
+use Rattle.dataflow.specs.Flows.{PassesAt, Leads, no_word}
+use Rattle.points_to.specs.Nodes.{SourceEdges, UnitEdges, BlockEdges, AllEdges, entry, end_of, hub, memory, loaded, object_node}
+use Rattle.dataflow.proofs.FactLemmas.{unit_in_block}
+use Rattle.dataflow.proofs.RuleLemmas.{moves_pass, sums_pass, stores_stored, written_defined}
 
 -- a set of nodes that the edges close, with an object, and with what is loaded where memory is in it
 pub record IsClosed (c : Code) (g : Graph) (n o : ℕ) (R : ℕ → Type 0) : Type 0 where
@@ -29,17 +29,6 @@ pub record HasHeld (c : Code) (g : Graph) (n b k x : ℕ) (R : ℕ → Type 0) :
 abbrev HasFact : Code → Graph → ℕ → (ℕ → Type 0) → Fact → Type 0
 HasFact c g n R (Held b k x) = HasHeld c g n b k x R
 HasFact c g n R Escaped = R (memory n)
-
-pub unit_in_block : (c : Code) (b k : ℕ) → k < length (units_at c b) → IsBlockOf c b
-unit_in_block c b k inside =
-    let count = length-map c.blocks.items units_in in
-    elim (cases_lt b (length c.blocks.items)) [
-      | inl below ↦ below
-      | inr past ↦
-          let none : units_at c b ≡ [] = get_or_past (map units_in c.blocks.items) b [] (omega (arith, past, count)) in
-          let short : length (units_at c b) ≡ 0 = ap length none in
-          absurd (omega (arith, inside, short))
-    ]
 
 module _ (c : Code) (g : Graph) (n o : ℕ) (R : ℕ → Type 0) (closed : IsClosed c g n o R) where
   -- the edges of one unit are among those of its block

@@ -6,7 +6,7 @@ use Rattle.std.proofs.Common.{set, get_or, ◌++◌}
 use Rattle.std.proofs.lemmas.Bool.{cases_eq}
 use Rattle.std.proofs.lemmas.List.{get_or-set_same, get_or-set_other, get_or_append_left, get_or_push, map-set, length-map, get_or-map, length-append}
 use Rattle.std.proofs.Math.ListN.{length-set}
-use Rattle.points_to.specs.Flows.{Has, row}
+use Rattle.points_to.specs.Rows.{Has, row}
 use Rattle.reach_graph.specs.Reaching.{edges_of, edge_at, no_edge, row_items, plain_rows}
 use Rattle.points_to.specs.declared.flows.Places.{Places}
 use Rattle.points_to.specs.Nodes.{HasEdge, all_marks, Adds, Upto, OneEdge, PlaceEdge, RegisterEdge, RowEdge, entry, end_of}
@@ -76,15 +76,6 @@ adds_more m P a b c one other = adds_both (Upto m P) (P m) (Upto (m + 1) P) a b 
 
 pub adds_first : (P : ℕ → ℕ → ℕ → Type 0) (a : List (List Edge)) → Adds (Upto 0 P) a a
 adds_first P a = adds_none (Upto 0 P) a (λ f t up. let low = up.below in omega (arith, low))
-
--- the first set is empty
-pub adds_second : (P : ℕ → ℕ → ℕ → Type 0) (a : List (List Edge)) → ((f t : ℕ) → P 0 f t → ⊥) → Adds (Upto 1 P) a a
-adds_second P a none =
-    adds_none (Upto 1 P) a
-    (λ f t up.
-    let low = up.below in
-    let first : up.place ≡ 0 = omega (arith, low) in
-    none f t (subst (λ (k : ℕ). P k f t) first up.edge))
 
 -- ---- one edge
 

@@ -7,7 +7,7 @@ use Rattle.std.proofs.lemmas.Bool.Decides.{nat_tests}
 use Rattle.std.proofs.lemmas.List.Folds.{list_any_at}
 use Rattle.list_checks.proofs.TestLemmas.{both}
 use Rattle.list_checks.specs.Tests.{any_below}
-use Rattle.rv_decode.specs.declared.instructions.Instr.{Instr}
+use Rattle.rv32im.specs.declared.instructions.Instr.{Instr}
 use Rattle.object_graph.specs.declared.parts.SiteKind.{SiteKind}
 use Rattle.object_graph.specs.declared.parts.SiteKind.TheVariants.{Hi, LowI, LowS}
 use Rattle.object_graph.specs.declared.parts.Site.{Site}
@@ -15,11 +15,9 @@ use Rattle.object_graph.specs.declared.parts.DataWord.{DataWord}
 use Rattle.object_graph.specs.declared.parts.Graph.{Graph}
 use Rattle.object_graph.specs.Graphs.{same_part, same_site, is_site_of_list, gives_site}
 use Rattle.object_graph.specs.Lookups.{IsSomeGraph}
-use Rattle.code_blocks.specs.Leads.{IsBlockOf}
 use Rattle.code_blocks.specs.declared.parts.Code.{Code}
-use Rattle.points_to.specs.Points.{site_at, unit_of, instr_of, site_of, Makes, Fact, Held, Escaped, Derives}
-use Rattle.points_to.proofs.CompleteLemmas.{unit_in_block}
-use Rattle.points_to.proofs.SiteLemmas.{true_and, word_inside}
+use Rattle.dataflow.specs.Points.{site_at, unit_of, instr_of, site_of, Makes, Fact, Held, Escaped, Derives}
+use Rattle.dataflow.proofs.SiteLemmas.{true_and, word_inside}
 
 same_part_itself : (kind : SiteKind) → same_part kind kind ≡ true
 same_part_itself Hi = refl
@@ -75,35 +73,3 @@ no_facts c g o some past _ (Derives.word d (i, below, is) means) =
 no_facts c g o some past _ (Derives.keep b k x inside kept before) = no_facts c g o some past (Held b k x) before
 no_facts c g o some past _ (Derives.next b d x on before) = no_facts c g o some past (Held b _ x) before
 no_facts c g o some past _ (Derives.anywhere b d x on before) = no_facts c g o some past (Held b _ x) before
-
--- nor of x32 and above
-abbrev IsRegister : Fact → Type 0
-IsRegister (Held b k x) = x < 32
-IsRegister Escaped = Unit
-
-pub of_register : (c : Code) (g : Graph) (o : ℕ) (fact : Fact) → Derives c g o fact → IsRegister fact
-of_register c g o _ (Derives.site b k x inside holder makes) = holder.1
-of_register c g o _ (Derives.move b k x z inside holder moves before) = holder.1
-of_register c g o _ (Derives.sum b k x z inside holder sums before) = holder.1
-of_register c g o _ (Derives.store b k x inside stores before) = tt
-of_register c g o _ (Derives.load b k z inside holder loads escaped) = holder.1
-of_register c g o _ (Derives.word d there means) = tt
-of_register c g o _ (Derives.keep b k x inside kept before) = of_register c g o (Held b k x) before
-of_register c g o _ (Derives.next b d x on before) = of_register c g o (Held b _ x) before
-of_register c g o _ (Derives.anywhere b d x on before) = of_register c g o (Held b _ x) before
-
--- nor of blocks that there aren't
-abbrev IsOfBlock : Code → Fact → Type 0
-IsOfBlock c (Held b k x) = IsBlockOf c b
-IsOfBlock c Escaped = Unit
-
-pub of_block : (c : Code) (g : Graph) (o : ℕ) (fact : Fact) → Derives c g o fact → IsOfBlock c fact
-of_block c g o _ (Derives.site b k x inside holder makes) = unit_in_block c b k inside
-of_block c g o _ (Derives.move b k x z inside holder moves before) = unit_in_block c b k inside
-of_block c g o _ (Derives.sum b k x z inside holder sums before) = unit_in_block c b k inside
-of_block c g o _ (Derives.store b k x inside stores before) = tt
-of_block c g o _ (Derives.load b k z inside holder loads escaped) = unit_in_block c b k inside
-of_block c g o _ (Derives.word d there means) = tt
-of_block c g o _ (Derives.keep b k x inside kept before) = unit_in_block c b k inside
-of_block c g o _ (Derives.next b d x on before) = on.to
-of_block c g o _ (Derives.anywhere b d x on before) = on.to

@@ -1,13 +1,10 @@
 pub mod PlaceLemmas
 pub mod EdgeLemmas
 pub mod SourceLemmas
-pub mod SiteLemmas
 pub mod BlockLemmas
-pub mod RuleLemmas
 pub mod CompleteLemmas
 pub mod SoundLemmas
 pub mod TableLemmas
 pub mod KeptLemmas
 pub mod FactLemmas
 pub mod QueryLemmas
-pub mod OverlaidLemmas

@@ -1,11 +1,10 @@
 -- Sets of places, and tables of them.
-use Rattle.std.proofs.Common.{◌≡◌, ◌≢◌, ◌⊎◌, inl, inr, ℕ, ◌*◌, ◌%◌, ◌^◌, ◌<◌, List, length, set, bit_or, sym, ◌∙◌, subst, arith}
+use Rattle.std.proofs.Common.{◌≡◌, ◌⊎◌, inl, inr, ℕ, ◌*◌, ◌%◌, ◌^◌, ◌<◌, set, bit_or, sym, ◌∙◌, subst, arith}
 use Rattle.std.specs.Prelude.{◌↔◌}
 use Rattle.std.specs.Int.{bit_at, w32}
 use Rattle.std.proofs.lemmas.Bool.{cases_eq}
 use Rattle.std.proofs.lemmas.Nat.Bits.{bit_at_or, bit_at-lt, bit_at-zero, bit_at_set_same, bit_at_set_other}
-use Rattle.std.proofs.lemmas.List.{get_or-set_same, get_or-set_other}
-use Rattle.points_to.specs.Flows.{Has, no_places, row}
+use Rattle.points_to.specs.Rows.{Has, no_places}
 use Rattle.points_to.specs.declared.flows.Places.{Places}
 
 pub in_either : (a b y : ℕ) → (bit_at (bit_or a b) y ≡ 1) ↔ ((bit_at a y ≡ 1) ⊎ (bit_at b y ≡ 1))
@@ -36,11 +35,3 @@ in_none y has = let e = bit_at-zero y in omega (arith, e, has)
 
 pub in_one : (one : Places) (k y : ℕ) → (Has one y ↔ (Has no_places y ⊎ (k ≡ y))) → Has one y ↔ (k ≡ y)
 in_one one k y is = (λ has. elim (is.0 has) [ inl none ↦ absurd (in_none y none) | inr same ↦ same ], λ same. is.1 (inr same))
-
--- ---- tables
-
-pub row_same : (rows : List Places) (x : ℕ) (p : Places) → x < length rows → row (set rows x p) x ≡ p
-row_same rows x p below = get_or-set_same rows x p no_places below
-
-pub row_other : (rows : List Places) (x k : ℕ) (p : Places) → k ≢ x → row (set rows x p) k ≡ row rows k
-row_other rows x k p other = get_or-set_other rows x k p no_places other

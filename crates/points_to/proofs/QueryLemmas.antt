@@ -7,7 +7,7 @@ use Rattle.std.proofs.lemmas.List.{get_or_past, length-map}
 use Rattle.object_graph.specs.declared.parts.Site.{Site}
 use Rattle.object_graph.specs.declared.parts.Graph.{Graph}
 use Rattle.object_graph.specs.Lookups.{IsSomeGraph}
-use Rattle.code_leaders.specs.Early.{has}
+use Rattle.code_blocks.specs.Early.{has}
 use Rattle.code_blocks.specs.Blocks.{start_of}
 use Rattle.code_blocks.specs.Numbers.{starts_of, start_at}
 use Rattle.code_blocks.specs.declared.parts.Unit.{Unit}
@@ -16,13 +16,14 @@ use Rattle.reach_graph.specs.Reaching.{HasMark, edge_in, AreInside}
 use Rattle.reach_graph.specs.declared.edges.Edge.{Edge}
 use Rattle.reach_graph.proofs.MarkLemmas.{none_in_zero}
 use Rattle.code_blocks.specs.Leads.{IsBlockOf, units_at}
-use Rattle.points_to.specs.Points.{Held, Escaped, Derives, Before, MayHold}
+use Rattle.dataflow.specs.Points.{Held, Escaped, Derives, Before, MayHold}
 use Rattle.points_to.specs.Nodes.{SourceEdges, UnitEdges, BlockEdges, AllEdges, AreEdges, entry, memory, loaded, object_node, node_count}
 use Rattle.points_to.specs.Tables.{Kept, kept_word, IsReached, none_kept, AreGroups, group_of, Holds, AreFacts}
 use Rattle.points_to.proofs.BlockLemmas.{same_start, starts_there}
 use Rattle.points_to.proofs.SoundLemmas.{told_entry, told_memory}
 use Rattle.points_to.proofs.TableLemmas.{own_sound, loads_sound, escapes_exact, may_exact}
-use Rattle.points_to.proofs.FactLemmas.{no_facts, of_register}
+use Rattle.points_to.proofs.FactLemmas.{no_facts}
+use Rattle.dataflow.proofs.FactBounds.{of_register}
 
 -- ---- edges lead to nodes
 

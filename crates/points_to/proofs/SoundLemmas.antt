@@ -1,20 +1,18 @@
 -- What is reached along the edges is derived.
-use Rattle.std.proofs.Common.{◌≡◌, ◌⊎◌, inl, inr, ℕ, suc, ◌+◌, ◌<◌, ◌≤◌, true, List, [], ◌∷◌, length, drop, slice_index_or, refl, sym, ◌∙◌, ap, subst, arith}
-use Rattle.std.proofs.Math.Seq.{drop-cons}
+use Rattle.std.proofs.Common.{◌≡◌, ◌⊎◌, inl, inr, ℕ, suc, ◌+◌, ◌<◌, ◌≤◌, true, List, [], ◌∷◌, length, drop, slice_index_or, refl, ◌∙◌, subst, arith}
 use Rattle.std.proofs.lemmas.Bool.{cases_eq}
-use Rattle.std.proofs.lemmas.List.{length-drop, get_or_default}
+use Rattle.std.proofs.lemmas.List.{get_or_default}
 use Rattle.std.proofs.lemmas.List.Elements.{Contains-get_or}
 use Rattle.object_graph.specs.declared.parts.Graph.{Graph}
 use Rattle.code_blocks.specs.Edges.{is_indirect_end}
 use Rattle.code_blocks.specs.Numbers.{start_at, end_at}
 use Rattle.code_blocks.specs.declared.parts.Unit.{Unit}
 use Rattle.code_blocks.specs.declared.parts.Code.{Code}
-use Rattle.code_blocks.specs.Leads.{IsBlockOf, LeadsAnywhere, units_at, no_unit}
-use Rattle.points_to.specs.Points.{IsHolder, unit_of, instr_of, site_of, Makes, Held, Escaped, Derives}
-use Rattle.points_to.specs.Flows.{written, PassesAt, Leads}
-use Rattle.points_to.specs.Flows.{stored as stored_by}
-use Rattle.points_to.specs.Nodes.{SourceEdges, UnitEdges, BlockEdges, AllEdges, no_word, entry, end_of, hub, memory, loaded, object_node}
-use Rattle.points_to.proofs.RuleLemmas.{first_rule, second_rule, stored_stores, defined_written}
+use Rattle.code_blocks.specs.Leads.{IsBlockOf, LeadsAnywhere, units_at}
+use Rattle.dataflow.specs.Points.{IsHolder, unit_of, instr_of, site_of, Makes, Held, Escaped, Derives}
+use Rattle.dataflow.specs.Flows.{no_word}
+use Rattle.points_to.specs.Nodes.{SourceEdges, UnitEdges, BlockEdges, AllEdges, entry, end_of, hub, memory, loaded, object_node}
+use Rattle.dataflow.proofs.FactLemmas.{unit_next, Comes, comes}
 
 -- what a node stands for
 pub data Reports (c : Code) (g : Graph) (o : ℕ) : ℕ → Type 0 where
@@ -114,63 +112,8 @@ module _ (c : Code) (g : Graph) (o : ℕ) where
   told_object m (Reports.from_memory _ escaped is) p at = absurd (omega (arith, is, at))
   told_object m (Reports.begins _ is) p at = omega (arith, is, at)
 
-  -- ---- along units
-
-  passed : (b k x z : ℕ) → k < length (units_at c b) → IsHolder x → IsHolder z → PassesAt g.sites.items (unit_of c b k) x z → Derives c g o (Held b k x) → Derives c g o (Held b (suc k) z)
-  passed b k x z inside from holder passes held =
-      let i = instr_of c b k in
-      elim passes [
-        | inl (same, other) ↦
-            subst (λ (r : ℕ). Derives c g o (Held b (suc k) r)) same (Derives.keep b k x inside (λ defines. other (defined_written i x defines)) held)
-        | inr (to, source) ↦
-            subst (λ (r : ℕ). Derives c g o (Held b (suc k) r)) (sym to) (elim source [
-              | inl first ↦ elim (first_rule (site_of c g b k) i x from.0 first) [
-                | inl moves ↦ Derives.move b k x (written i) inside (subst IsHolder to holder) moves held
-                | inr sums ↦ Derives.sum b k x (written i) inside (subst IsHolder to holder) sums held
-              ]
-              | inr second ↦ Derives.sum b k x (written i) inside (subst IsHolder to holder) (second_rule i x from.0 second) held
-            ])
-      ]
-
-  pub unit_next : (u : Unit) (us : List Unit) (b k : ℕ) → drop k (units_at c b) ≡ u ∷ us → (k < length (units_at c b)) × (u ≡ unit_of c b k) × (drop (suc k) (units_at c b) ≡ us)
-  unit_next u us b k is =
-      let left = length-drop k (units_at c b) in
-      let long : length (drop k (units_at c b)) ≡ suc (length us) = ap length is in
-      let inside : k < length (units_at c b) = omega (arith, left, long) in
-      let parts : unit_of c b k ∷ drop (suc k) (units_at c b) ≡ u ∷ us = sym (drop-cons (units_at c b) k no_unit inside) ∙ is in
-      let unit : u ≡ unit_of c b k = cc parts in
-      let rest : drop (suc k) (units_at c b) ≡ us = cc parts in
-      (inside, unit, rest)
-
-  -- where a block leads from a register that holds an address
-  pub record Comes (b y : ℕ) : Type 0 where
-    pub register : 0 < y → Derives c g o (Held b (length (units_at c b)) y)
-    pub escapes : y ≡ 0 → Derives c g o Escaped
-
-  pub comes : (us : List Unit) (b k x y : ℕ) → k ≤ length (units_at c b) → drop k (units_at c b) ≡ us → IsHolder x → Leads g.sites.items us x y → Derives c g o (Held b k x) → Comes b y
-  comes [] b k x y within is holder leads held =
-      let left = length-drop k (units_at c b) in
-      let none : length (drop k (units_at c b)) ≡ 0 = ap length is in
-      let last : k ≡ length (units_at c b) = omega (arith, within, left, none) in
-      let some = holder.0 in record {
-        register = λ register. subst (λ (r : ℕ). Derives c g o (Held b (length (units_at c b)) r)) leads (subst (λ (m : ℕ). Derives c g o (Held b m x)) last held);
-        escapes = λ zero_place. absurd (omega (arith, some, leads, zero_place));
-      }
-  comes (u ∷ us) b k x y within is holder leads held =
-      let (inside, unit, rest) = unit_next u us b k is in
-      elim leads [
-        | inl (place, stores) ↦
-            let here = subst (λ (v : Unit). x ≡ stored_by v.instr) unit stores in record {
-              register = λ register. absurd (omega (arith, register, place));
-              escapes = λ _. Derives.store b k x inside (stored_stores (instr_of c b k) x holder.0 here) held;
-            }
-        | inr (z, next, passes, onward) ↦
-            comes us b (suc k) z y (omega (arith, inside)) rest next onward
-            (passed b k x z inside holder next (subst (λ (v : Unit). PassesAt g.sites.items v x z) unit passes) held)
-      ]
-
   -- a node at the end of a block
-  arrives : (b y t : ℕ) → IsBlockOf c b → y < 32 → t ≡ end_of n b 0 + y → Comes b y → Reports c g o t
+  arrives : (b y t : ℕ) → IsBlockOf c b → y < 32 → t ≡ end_of n b 0 + y → Comes c g o b y → Reports c g o t
   arrives b y t below low at come =
       elim (cases_eq y 0) [
         | inl none ↦ Reports.stored b t below (come.escapes none) (omega (arith, none, at))
@@ -184,16 +127,16 @@ module _ (c : Code) (g : Graph) (o : ℕ) where
       let (leads, leaves, at) = up.edge in
       let same : p ≡ o = told_object f from p leaves in
       let held = Derives.site b k x inside holder (subst (λ (q : ℕ). Makes (site_of c g b k) (instr_of c b k) q x) same makes) in
-      arrives b up.place t below up.below at (comes us b (suc k) x up.place (omega (arith, inside)) rest holder leads held)
+      arrives b up.place t below up.below at (comes c g o us b (suc k) x up.place (omega (arith, inside)) rest holder leads held)
   source_sound us b k f t below inside rest (SourceEdges.gained x holder loads up) from =
       let (leads, leaves, at) = up.edge in
       let held = Derives.load b k x inside holder loads (told_memory f from (inr leaves)) in
-      arrives b up.place t below up.below at (comes us b (suc k) x up.place (omega (arith, inside)) rest holder leads held)
+      arrives b up.place t below up.below at (comes c g o us b (suc k) x up.place (omega (arith, inside)) rest holder leads held)
 
   unit_sound : (us : List Unit) (b k f t : ℕ) → IsBlockOf c b → k ≤ length (units_at c b) → drop k (units_at c b) ≡ us → UnitEdges n b g.sites.items us f t → Reports c g o f → Reports c g o t
   unit_sound [] b k f t below within is edge from = absurd edge
   unit_sound (u ∷ us) b k f t below within is edge from =
-      let (inside, unit, rest) = unit_next u us b k is in
+      let (inside, unit, rest) = unit_next c g o u us b k is in
       elim edge [
         | inl source ↦ source_sound us b k f t below inside rest (subst (λ (v : Unit). SourceEdges n b g.sites.items v us f t) unit source) from
         | inr later ↦ unit_sound us b (suc k) f t below (omega (arith, inside)) rest later from
@@ -206,7 +149,7 @@ module _ (c : Code) (g : Graph) (o : ℕ) where
       let (register, flow) = up.edge in
       let (leads, leaves, at) = flow.edge in
       let held = told_entry f from b x below up.below leaves in
-      arrives b flow.place t below flow.below at (comes (units_at c b) b 0 x flow.place (omega arith) refl (register, up.below) leads held)
+      arrives b flow.place t below flow.below at (comes c g o (units_at c b) b 0 x flow.place (omega arith) refl (register, up.below) leads held)
   block_sound b f t below (BlockEdges.onward (d, on, up)) from =
       let (register, leaves, at) = up.edge in
       let holder : IsHolder up.place = (register, up.below) in

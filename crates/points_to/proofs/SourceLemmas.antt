@@ -1,43 +1,21 @@
 -- The edges of what units make and load.
-use Rattle.std.proofs.Common.{◌≡◌, ◌⊎◌, inl, inr, ℕ, true, false, List, ◌∷◌, Option, Some, None, refl, ◌∙◌, ap, subst}
+use Rattle.std.proofs.Common.{◌≡◌, ◌⊎◌, inl, inr, ℕ, true, List, ◌∷◌, Option, Some, None, refl, subst}
 use Rattle.std.specs.Prelude.{◌↔◌}
-use Rattle.rv_decode.specs.declared.instructions.Instr.{Instr}
-use Rattle.rv_decode.specs.declared.instructions.Instr.TheVariants.{Lui, Auipc, Load, OpImm}
-use Rattle.rv_decode.specs.declared.instructions.LoadKind.TheVariants.{Lw}
-use Rattle.rv_decode.specs.declared.instructions.ImmKind.TheVariants.{Addi}
+use Rattle.rv32im.specs.declared.instructions.Instr.{Instr}
+use Rattle.rv32im.specs.declared.instructions.Instr.TheVariants.{Load}
+use Rattle.rv32im.specs.declared.instructions.LoadKind.TheVariants.{Lw}
 use Rattle.object_graph.specs.declared.parts.SiteKind.{SiteKind}
 use Rattle.object_graph.specs.declared.parts.SiteKind.TheVariants.{Hi, LowI, LowS}
 use Rattle.object_graph.specs.declared.parts.Site.{Site}
 use Rattle.code_blocks.specs.declared.parts.Unit.{Unit}
-use Rattle.points_to.specs.Points.{IsHolder, site_at, MakesIn, Makes, Loads}
-use Rattle.points_to.specs.Flows.{written, made_in, made, loads, row, AreRows}
+use Rattle.dataflow.specs.Points.{IsHolder, site_at, Loads}
+use Rattle.dataflow.specs.Flows.{written, made_in, made, loads}
+use Rattle.points_to.specs.Rows.{row, AreRows}
+use Rattle.dataflow.proofs.MakingLemmas.{makes_made, made_makes}
 use Rattle.points_to.specs.Nodes.{Adds, Upto, PlaceEdge, FlowEdge, SourceEdges, UnitEdges, object_node, loaded, end_of}
 use Rattle.points_to.specs.declared.flows.Places.{Places}
 use Rattle.reach_graph.specs.declared.edges.Edge.{Edge}
-use Rattle.points_to.proofs.EdgeLemmas.{adds_none, adds_same, upto_same}
-
-makes_in : (kind : SiteKind) (i : Option Instr) (o x : ℕ) → MakesIn kind i x → (made_in kind o i ≡ Some o) × (x ≡ written i)
-makes_in Hi (Some (Lui rd imm)) o x is = (refl, is)
-makes_in Hi (Some (Auipc rd imm)) o x is = (refl, is)
-makes_in LowI (Some (OpImm Addi rd rs1 imm)) o x is = (refl, is)
-makes_in kind i o x is = absurd is
-
-pub makes_made : (s : Option Site) (i : Option Instr) (o x : ℕ) → Makes s i o x → (made s i ≡ Some o) × (x ≡ written i)
-makes_made None i o x makes = absurd makes
-makes_made (Some s) i o x makes =
-    let (is, in_kind) = makes in
-    let (found, register) = makes_in s.kind i s.object x in_kind in
-    (found ∙ ap (λ (k : ℕ). Some k) is, register)
-
-made_makes_in : (kind : SiteKind) (i : Option Instr) (o p : ℕ) → made_in kind o i ≡ Some p → (o ≡ p) × MakesIn kind i (written i)
-made_makes_in Hi (Some (Lui rd imm)) o p is = (cc, refl)
-made_makes_in Hi (Some (Auipc rd imm)) o p is = (cc, refl)
-made_makes_in LowI (Some (OpImm Addi rd rs1 imm)) o p is = (cc, refl)
-made_makes_in kind i o p is = cc
-
-pub made_makes : (s : Option Site) (i : Option Instr) (o : ℕ) → made s i ≡ Some o → Makes s i o (written i)
-made_makes None i o is = cc
-made_makes (Some s) i o is = made_makes_in s.kind i s.object o is
+use Rattle.points_to.proofs.EdgeLemmas.{adds_same, upto_same}
 
 made_no_load_in : (kind : SiteKind) (i : Option Instr) (o p : ℕ) → made_in kind o i ≡ Some p → loads i ≡ true → ⊥
 made_no_load_in Hi (Some (Load Lw rd rs1 imm)) o p is load = cc
@@ -65,19 +43,6 @@ place_flow n b sites us rows x from f t are holder =
       λ (leads, leaves, comes). ((are.exact x y holder below).1 leads, leaves, comes),
       λ (has, leaves, comes). ((are.exact x y holder below).0 has, leaves, comes),
     ))
-
-pub no_holder : (n b : ℕ) (sites : List Site) (u : Unit) (us : List Unit) (f t : ℕ) → (IsHolder (written u.instr) → ⊥) → SourceEdges n b sites u us f t → ⊥
-no_holder n b sites u us f t none (SourceEdges.made x o holder makes flow) =
-    none (subst IsHolder (makes_made (site_at sites u.at) u.instr o x makes).1 holder)
-no_holder n b sites u us f t none (SourceEdges.gained x holder load flow) =
-    none (subst IsHolder (loads_load u.instr x load).1 holder)
-
-pub makes_nothing : (n b : ℕ) (sites : List Site) (u : Unit) (us : List Unit) (f t : ℕ) → ((o : ℕ) → made (site_at sites u.at) u.instr ≡ Some o → ⊥) → loads u.instr ≡ false → SourceEdges n b sites u us f t → ⊥
-makes_nothing n b sites u us f t none off (SourceEdges.made x o holder makes flow) =
-    none o (makes_made (site_at sites u.at) u.instr o x makes).0
-makes_nothing n b sites u us f t none off (SourceEdges.gained x holder load flow) =
-    let on = (loads_load u.instr x load).0 in
-    absurd (cc (on, off))
 
 made_only : (n b : ℕ) (sites : List Site) (u : Unit) (us : List Unit) (o f t : ℕ) → made (site_at sites u.at) u.instr ≡ Some o → SourceEdges n b sites u us f t → Upto 32 (FlowEdge n b sites us (written u.instr) (object_node n o)) f t
 made_only n b sites u us o f t is (SourceEdges.made x p holder makes flow) =
@@ -107,9 +72,6 @@ gains_one n b sites u us f t is holder = (
 )
 
 -- ---- what the code adds
-
-pub adds_nothing : (n b : ℕ) (sites : List Site) (u : Unit) (us : List Unit) (a : List (List Edge)) → ((f t : ℕ) → SourceEdges n b sites u us f t → ⊥) → Adds (SourceEdges n b sites u us) a a
-adds_nothing n b sites u us a none = adds_none (SourceEdges n b sites u us) a none
 
 pub adds_flow : (n b : ℕ) (sites : List Site) (u : Unit) (us : List Unit) (rows : List Places) (x from : ℕ) (old new : List (List Edge)) → AreRows sites us rows → IsHolder x → ((f t : ℕ) → SourceEdges n b sites u us f t ↔ Upto 32 (FlowEdge n b sites us x from) f t) → Adds (Upto 32 (PlaceEdge from (end_of n b 0) (row rows x))) old new → Adds (SourceEdges n b sites u us) old new
 adds_flow n b sites u us rows x from old new are holder is adds =

@@ -9,7 +9,7 @@ use Rattle.code_blocks.specs.declared.parts.Code.{Code}
 use Rattle.reach_graph.specs.Reaching.{HasMark, word_at, edges_of, edge_in, Reaches}
 use Rattle.reach_graph.specs.declared.edges.Edge.{Edge}
 use Rattle.code_blocks.specs.Leads.{IsBlockOf}
-use Rattle.points_to.specs.Points.{Held, Escaped, Derives}
+use Rattle.dataflow.specs.Points.{Held, Escaped, Derives}
 use Rattle.points_to.specs.Nodes.{all_marks, Adds, AllEdges, AreEdges, node_count, entry, memory, loaded, object_node}
 use Rattle.points_to.specs.Tables.{Begins}
 use Rattle.points_to.proofs.CompleteLemmas.{IsClosed, complete}

@@ -1,10 +1,10 @@
 pub use Rattle.reach_graph.specs.Reaching
-pub use Rattle.rv_decode.specs.Acts
+pub use Rattle.rv32im.specs.Acts
 pub use Rattle.object_graph.specs.Lookups
 pub use Rattle.code_blocks.specs.Edges
 pub use Rattle.code_blocks.specs.Numbers
-pub mod Points
-pub mod Overlaid
-pub mod Flows
+pub use Rattle.dataflow.specs.Points
+pub use Rattle.dataflow.specs.Flows
+pub mod Rows
 pub mod Nodes
 pub mod Tables

@@ -2,15 +2,15 @@
 -- registers on the way to any indirect leader, memory, what is loaded from it, and the objects.
 use Rattle.std.specs.Prelude.{◌≡◌, ◌⊎◌, ◌↔◌, ℕ, ◌+◌, ◌*◌, ◌<◌, true, List, [], ◌∷◌, length, slice_index_or}
 use Rattle.object_graph.specs.declared.parts.Site.{Site}
-use Rattle.object_graph.specs.declared.parts.DataWord.{DataWord}
 use Rattle.object_graph.specs.declared.parts.Graph.{Graph}
 use Rattle.code_blocks.specs.Edges.{is_indirect_end}
 use Rattle.code_blocks.specs.Numbers.{start_at, end_at}
 use Rattle.code_blocks.specs.declared.parts.Unit.{Unit}
 use Rattle.code_blocks.specs.declared.parts.Code.{Code}
 use Rattle.code_blocks.specs.Leads.{IsBlockOf, LeadsOn, units_at}
-use Rattle.points_to.specs.Points.{IsHolder, site_at, Makes, Loads}
-use Rattle.points_to.specs.Flows.{Leads, Has, row}
+use Rattle.dataflow.specs.Points.{IsHolder, site_at, Makes, Loads}
+use Rattle.dataflow.specs.Flows.{Leads, no_word}
+use Rattle.points_to.specs.Rows.{Has, row}
 use Rattle.points_to.specs.declared.flows.Places.{Places}
 use Rattle.reach_graph.specs.Reaching.{edges_of, edge_in}
 use Rattle.reach_graph.specs.declared.edges.Edge.{Edge}
@@ -126,9 +126,6 @@ ArrivalEdge c n i f t =
     (d : ℕ) × IsBlockOf c d × (slice_index_or c.indirect.items i 0 ≡ start_at c d) × Upto 32 (RegisterEdge (hub n 0) (entry d 0)) f t
 
 -- from the object of word of data `i` to memory
-abbrev pub no_word : DataWord
-no_word = record { at = 0; object = 0; offset = 0 }
-
 abbrev pub WordEdge : Graph → ℕ → ℕ → ℕ → ℕ → Type 0
 WordEdge g n i f t = OneEdge (object_node n (slice_index_or g.data_words.items i no_word).object) (memory n) f t
 

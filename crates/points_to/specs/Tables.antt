@@ -7,7 +7,7 @@ use Rattle.code_blocks.specs.declared.parts.Code.{Code}
 use Rattle.reach_graph.specs.Reaching.{HasMark, word_at, Reaches}
 use Rattle.reach_graph.specs.declared.edges.Edge.{Edge}
 use Rattle.code_blocks.specs.Leads.{IsBlockOf}
-use Rattle.points_to.specs.Points.{Before, Escapes}
+use Rattle.dataflow.specs.Points.{Before, Escapes}
 use Rattle.points_to.specs.Nodes.{entry, memory, object_node}
 use Rattle.points_to.specs.declared.reached.Reached.{Reached}
 use Rattle.points_to.specs.declared.table.PointsTable.{PointsTable}

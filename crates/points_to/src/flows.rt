@@ -1,11 +1,12 @@
 ghost use Rattle.std.specs.Prelude.{◌≡◌, ◌≢◌, ◌⊎◌, ◌↔◌, ℕ, ◌<◌, List, [], ◌∷◌, length};
-ghost use Rattle.points_to.specs.Points.{IsHolder, site_at};
-ghost use Rattle.points_to.specs.Flows.{Passes, Has, row, AreRows};
+ghost use Rattle.dataflow.specs.Points.{IsHolder, site_at};
+ghost use Rattle.dataflow.specs.Flows.{Passes};
+ghost use Rattle.points_to.specs.Rows.{Has, row, AreRows};
 ghost use Rattle.object_graph.specs.declared.parts.Site.{Site};
 ghost use Rattle.code_blocks.specs.declared.parts.Unit.{Unit};
 
-use crate::units::{first_source, second_source, stored, written};
 use code_blocks::Unit;
+use dataflow::{first_source, second_source, stored, written};
 use object_graph::Site;
 
 /// A set of places: place `k` is in it where bit `k` of `bits` is 1. Places 1 to 31 are registers; place 0 is
@@ -20,7 +21,7 @@ pub(crate) const NO_PLACES: Places = Places { bits: 0 };
 
 impl Places {
     ghost use Rattle.std.specs.Prelude.{◌≡◌, ◌⊎◌, ◌↔◌, ℕ, ◌<◌, true};
-    ghost use Rattle.points_to.specs.Flows.{Has};
+    ghost use Rattle.points_to.specs.Rows.{Has};
 
     /// The places of both sets.
     fn joined(self, other: Places) -> Places

@@ -5,7 +5,6 @@
 mod blocks;
 mod edges;
 mod flows;
-mod laws;
 mod marks;
 mod nodes;
 mod pointing;
@@ -13,10 +12,7 @@ mod reached;
 mod sources;
 mod starting;
 mod table;
-mod units;
 
-pub use laws::words_escape;
 pub use pointing::points;
 pub use reached::Reached;
 pub use table::PointsTable;
-pub use units::{first_source, made, second_source, stored, written};

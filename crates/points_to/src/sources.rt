@@ -2,16 +2,16 @@ ghost use Rattle.std.specs.Prelude.{◌≡◌, ◌<◌, ◌≤◌, List, length,
 ghost use Rattle.object_graph.specs.Lookups.{IsSomeGraph};
 ghost use Rattle.object_graph.specs.declared.parts.Site.{Site};
 ghost use Rattle.code_blocks.specs.declared.parts.Unit.{Unit};
-ghost use Rattle.points_to.specs.Points.{site_at};
-ghost use Rattle.points_to.specs.Flows.{AreRows};
+ghost use Rattle.dataflow.specs.Points.{site_at};
+ghost use Rattle.points_to.specs.Rows.{AreRows};
 ghost use Rattle.reach_graph.specs.Reaching.{plain_rows};
 ghost use Rattle.points_to.specs.Nodes.{Adds, SourceEdges, UnitEdges, node_count};
 
 use crate::edges::push_places;
 use crate::flows::{Places, begin, go_back};
 use crate::nodes::Nodes;
-use crate::units::{loads, made, written};
 use code_blocks::Unit;
+use dataflow::{loads, made, written};
 use object_graph::{Graph, Site};
 use reach_graph::Edge;
 use std::alloc::AllocError;

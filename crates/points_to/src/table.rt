@@ -21,7 +21,7 @@ impl PointsTable {
     ghost use Rattle.object_graph.specs.declared.parts.Graph.{Graph};
     ghost use Rattle.code_blocks.specs.declared.parts.Code.{Code};
     ghost use Rattle.reach_graph.specs.Reaching.{HasMark};
-    ghost use Rattle.points_to.specs.Points.{MayHold, Escapes};
+    ghost use Rattle.dataflow.specs.Points.{MayHold, Escapes};
     ghost use Rattle.points_to.specs.Tables.{IsTableOf, plain, group_of, kept_word, Holds};
 
     /// Whether register `reg` may hold an address of object `obj` where the block at `leader` begins. Where no block

@@ -5,7 +5,7 @@ use Rattle.elf_reader.specs.File.{PlainView}
 use Rattle.loaded_file.specs.Records.{symbol_at}
 use Rattle.object_graph.specs.Graphs.{object_at}
 use Rattle.object_graph.specs.declared.parts.Object.{Object}
-use Rattle.code_leaders.specs.Early.{has}
+use Rattle.code_blocks.specs.Early.{has}
 use Rattle.code_blocks.specs.Blocks.{no_function}
 use Rattle.code_blocks.specs.declared.parts.Function.{Function}
 use Rattle.profile_runner.specs.Standing.{number_of, region_of}

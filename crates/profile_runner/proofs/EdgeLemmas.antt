@@ -68,11 +68,6 @@ are_still low a size most [] are = tt
 are_still low a size most (e ∷ edges) are =
     (is_still a size most e are.0, (are.1.0, are_still (suc e.to) a size most edges are.1.1))
 
-are_higher : (low high a size most : ℕ) (edges : List Edge) → low ≤ high → AreFrom high a size most edges → AreFrom low a size most edges
-are_higher low high a size most [] le are = tt
-are_higher low high a size most (e ∷ edges) le are =
-    let from = are.1.0 in (are.0, (omega (arith, le, from), are.1.1))
-
 pub are_more : (low a size most b : ℕ) (edges : List Edge) → low ≤ b → b < size → AreFrom low a size most edges → AreFrom low a size (suc most) (with_edge edges a b)
 are_more low a size most b [] le within are = (is_new a size most b within, (le, tt))
 are_more low a size most b (e ∷ edges) le within are =

@@ -1,7 +1,7 @@
 -- A run from its first transition to its last.
 use Rattle.std.proofs.Common.{◌≡◌, ◌∙◌, ℕ, ◌+◌, ◌*◌, ◌<◌, ◌≤◌, true, false, List, [], length, Option, Some, None, Ok, Err, refl, sym, subst, arith}
-use Rattle.code_leaders.specs.Early.{has}
-use Rattle.code_leaders.proofs.LeaderLemmas.{indirect_is_leader}
+use Rattle.code_blocks.specs.Early.{has}
+use Rattle.code_blocks.proofs.LeaderLemmas.{indirect_is_leader}
 use Rattle.code_blocks.specs.Numbers.{starts_of}
 use Rattle.code_blocks.specs.declared.parts.Code.{Code}
 use Rattle.object_graph.specs.declared.parts.Graph.{Graph}

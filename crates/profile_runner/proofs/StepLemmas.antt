@@ -1,8 +1,8 @@
 -- A step that was taken and counted, as one transition more.
 use Rattle.std.proofs.Common.{◌≡◌, ◌∙◌, inl, inr, ℕ, zero, suc, ◌+◌, ◌*◌, ◌≤◌, true, List, [], ◌∷◌, ◌++◌, length, Option, Some, None, refl, sym, subst, arith}
 use Rattle.std.specs.List.{All}
-use Rattle.rv_decode.specs.declared.instructions.Instr.{Instr}
-use Rattle.code_leaders.specs.Early.{has}
+use Rattle.rv32im.specs.declared.instructions.Instr.{Instr}
+use Rattle.code_blocks.specs.Early.{has}
 use Rattle.object_machine.specs.declared.events.Event.{Event}
 use Rattle.object_machine.specs.declared.events.Outcome.{Outcome}
 use Rattle.object_machine.specs.declared.events.Outcome.TheVariants.{GoesOn, Exited, Trapped, AddressFault}

@@ -2,7 +2,7 @@
 use Rattle.std.proofs.Common.{◌≡◌, ◌∙◌, inl, inr, ℕ, zero, suc, ◌+◌, ◌<◌, ◌≤◌, ◌==◌, Bool, true, false, ◌&&◌, if◌then◌else◌, List, [], ◌∷◌, ◌++◌, length, set, Option, Some, None, refl, sym, ap, subst, arith, get_or-set_same, get_or-set_other}
 use Rattle.std.proofs.Math.ListN.{length-set}
 use Rattle.std.proofs.lemmas.Bool.{cases_eq}
-use Rattle.code_leaders.specs.Early.{has}
+use Rattle.code_blocks.specs.Early.{has}
 use Rattle.profile_runner.specs.Transition.{Transition}
 use Rattle.profile_runner.specs.Standing.{number_of, region_of, entered, block_of, units_run, current}
 use Rattle.profile_runner.specs.Counts.{plain_rows, count_in, arrivals_of, edges_of, accesses_of, switches_of}

@@ -5,7 +5,7 @@ use Rattle.std.proofs.lemmas.Bool.{cases_eq, eqb-true}
 use Rattle.std.proofs.lemmas.Bool.Decides.{nat_tests}
 use Rattle.list_checks.specs.Sorted.{is_number}
 use Rattle.object_machine.specs.declared.events.Access.{Access}
-use Rattle.code_leaders.specs.Early.{has}
+use Rattle.code_blocks.specs.Early.{has}
 use Rattle.profile_runner.specs.Standing.{number_of, region_of, entered}
 use Rattle.profile_runner.specs.Counts.{same_direction}
 use Rattle.profile_runner.specs.Tallies.{is_entry, is_switch, is_leave, is_enter, is_access_in, IsBlockAt, IsNext, is_coming, is_led, block_now, units_now, region_now}
@@ -71,9 +71,6 @@ other_way false y z is = refl
 
 pub one_access : (write : Bool) (a : Access) (region : ℕ) → same_direction write a.write ≡ true → (o r : ℕ) → is_entry a.object region o r ≡ is_access_in write (Some a) region o r
 one_access write a region same o r = same_way (a.object == o) (region == r) (same_direction write a.write) same
-
-pub no_access : (write : Bool) (a : Access) (region : ℕ) → same_direction write a.write ≡ false → (o r : ℕ) → is_access_in write (Some a) region o r ≡ false
-no_access write a region other o r = other_way (a.object == o) (region == r) (same_direction write a.write) other
 
 -- ---- changes by where they lead, and by where they begin
 

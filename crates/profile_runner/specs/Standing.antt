@@ -1,6 +1,6 @@
 -- In which block and which region the transitions of a run are.
 use Rattle.std.specs.Prelude.{ℕ, zero, suc, ◌==◌, Bool, if◌then◌else◌, List, [], ◌∷◌, slice_index_or}
-use Rattle.code_leaders.specs.Early.{has}
+use Rattle.code_blocks.specs.Early.{has}
 use Rattle.profile_runner.specs.Transition.{Transition, transition_at}
 
 -- the number of the block that begins at an address, by the starts of the blocks

@@ -3,7 +3,7 @@ use Rattle.std.specs.Prelude.{◌≡◌, ℕ, zero, suc, ◌+◌, ◌<◌, ◌�
 use Rattle.std.specs.Global.{Global}
 use Rattle.object_machine.specs.declared.events.Access.{Access}
 use Rattle.profile_runner.specs.Counts.{row_of, entry, is_access_to, count_in}
-use Rattle.code_leaders.specs.Early.{has}
+use Rattle.code_blocks.specs.Early.{has}
 use Rattle.profile_runner.specs.Standing.{number_of, region_of, entered}
 use Rattle.profile_runner.specs.declared.counts.Edge.{Edge}
 

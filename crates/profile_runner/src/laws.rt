@@ -10,7 +10,7 @@ pub fn transitions_are_steps()
 pub fn transitions_are_determined()
     ensures { TransitionsAreDetermined }
 {
-    rv_decode::one_instruction();
+    rv32im::one_instruction();
 }
 
 /// A run has no more transitions than steps.

@@ -1,6 +1,6 @@
 ghost use Rattle.std.specs.Prelude.{◌≡◌, ◌<◌, ℕ, Option, true, length, IfOk, OnOk};
 ghost use Rattle.std.specs.List.Sorted.{IsStrictlyIncreasing};
-ghost use Rattle.code_leaders.specs.Early.{has};
+ghost use Rattle.code_blocks.specs.Early.{has};
 ghost use Rattle.code_blocks.specs.Numbers.{starts_of};
 ghost use Rattle.object_machine.specs.Program.{Program};
 ghost use Rattle.object_machine.specs.Machine.{state_of, IsProgram};

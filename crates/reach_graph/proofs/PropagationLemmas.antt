@@ -90,14 +90,6 @@ module _ (node by : ℕ) (marks waiting : List ℕ) (waits : List Bool) where
 
 -- ---- the edges of a node
 
-pub propagate_nothing : (row : List Edge) (by : ℕ) (marks waiting : List ℕ) (waits : List Bool) → IsPropagated row 0 by marks waiting waits marks waiting waits
-propagate_nothing row by marks waiting waits =
-    record {
-      goes_on = goes_nowhere marks waiting waits;
-      passed = λ n k p. let below = p.below in absurd (omega (arith, below));
-      only = λ n k has. inl has;
-    }
-
 wider : (row : List Edge) (i by n k : ℕ) → PassesTo row i by n k → PassesTo row (i + 1) by n k
 wider row i by n k p =
     record { i = p.i; below = let b = p.below in omega (arith, b); leads = p.leads; marked = p.marked; lets = p.lets }

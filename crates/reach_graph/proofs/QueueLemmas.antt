@@ -4,8 +4,7 @@ use Rattle.std.specs.List.{Contains}
 use Rattle.std.proofs.lemmas.Bool.{cases_eq}
 use Rattle.std.proofs.lemmas.List.{get_or-set_same, get_or-set_other, length-set}
 use Rattle.std.proofs.lemmas.List.Elements.{Contains-append_left, Contains-append_right, Contains-append_cases}
-use Rattle.reach_graph.specs.Reaching.{word_at}
-use Rattle.reach_graph.specs.Queues.{waits_at, IsQueue, StartsWith, IsAdded, IsTaken}
+use Rattle.reach_graph.specs.Queues.{waits_at, IsQueue, IsAdded, IsTaken}
 
 pub contains_last : (xs : List ℕ) (x : ℕ) → Contains (xs ++ x ∷ []) x
 contains_last xs x = Contains-append_right xs (x ∷ []) x (0, omega arith, refl)
@@ -48,10 +47,6 @@ added_new node waiting waits below =
       ];
     }
 
-pub added_same : (node : ℕ) (waiting : List ℕ) (waits : List Bool) → waits_at waits node ≡ true → IsAdded node waiting waits waiting waits
-added_same node waiting waits is =
-    record { size = refl; few = omega arith; queue = λ q. q; here = is; others = λ n on. on }
-
 pub taken_some : (waiting rest : List ℕ) (waits : List Bool) (node : ℕ) → IsQueue waiting waits → waiting ≡ rest ++ node ∷ []
     → IsTaken waiting waits (Some node) rest (slice_set waits node false)
 taken_some waiting rest waits node q is =
@@ -84,42 +79,7 @@ taken_some waiting rest waits node q is =
 
 -- ---- the nodes that wait first
 
-pub starts_empty : (marks : List ℕ) (waits : List Bool) → length waits ≡ length marks → ((n : ℕ) → waits_at waits n ≡ false) → StartsWith marks 0 [] waits
-starts_empty marks waits size none =
-    record {
-      size = size;
-      queue = record {
-        listed = λ n on. let no = none n in absurd (cc);
-        inside = λ n has. let below = has.1 in absurd (omega (arith, below));
-      };
-      marked = λ n below off. absurd (omega (arith, below));
-    }
-
 still_off : (waits waits' : List Bool) (n : ℕ) → ((m : ℕ) → waits_at waits m ≡ true → waits_at waits' m ≡ true) → waits_at waits' n ≡ false
     → (b : Bool) → waits_at waits n ≡ b → waits_at waits n ≡ false
 still_off waits waits' n still off true is = let on = still n is in absurd (cc)
 still_off waits waits' n still off false is = is
-
-pub starts_marked : (marks waiting : List ℕ) (waits : List Bool) (waiting' : List ℕ) (waits' : List Bool) (k : ℕ) → IsAdded k waiting waits waiting' waits'
-    → StartsWith marks k waiting waits → StartsWith marks (k + 1) waiting' waits'
-starts_marked marks waiting waits waiting' waits' k added s =
-    record {
-      size = added.size ∙ s.size;
-      queue = added.queue s.queue;
-      marked = λ n less off. elim (cases_eq n k) [
-        | inl same ↦ let on = subst (λ m. waits_at waits' m ≡ true) (sym same) added.here in absurd (cc)
-        | inr other ↦ s.marked n (omega (arith, less, other)) (still_off waits waits' n added.others off (waits_at waits n) refl)
-      ];
-    }
-
-pub starts_bare : (marks waiting : List ℕ) (waits : List Bool) (k : ℕ) → word_at marks k ≡ 0 → StartsWith marks k waiting waits
-    → StartsWith marks (k + 1) waiting waits
-starts_bare marks waiting waits k none s =
-    record {
-      size = s.size;
-      queue = s.queue;
-      marked = λ n less off. elim (cases_eq n k) [
-        | inl same ↦ subst (λ m. word_at marks m ≡ 0) (sym same) none
-        | inr other ↦ s.marked n (omega (arith, less, other)) off
-      ];
-    }

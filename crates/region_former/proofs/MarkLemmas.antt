@@ -5,7 +5,7 @@ use Rattle.std.proofs.lemmas.Bool.Decides.{nat_tests}
 use Rattle.std.proofs.Math.Seq.{take-append_seam}
 use Rattle.list_checks.specs.Tests.{any_below}
 use Rattle.list_checks.proofs.TestLemmas.{both, any_found}
-use Rattle.code_leaders.specs.Early.{has}
+use Rattle.code_blocks.specs.Early.{has}
 use Rattle.code_blocks.specs.Blocks.{no_function, lies_in_function, count_below}
 use Rattle.code_blocks.specs.Numbers.{end_at}
 use Rattle.code_blocks.specs.declared.parts.Code.{Code}

@@ -1,11 +1,11 @@
 -- How marks spread.
-use Rattle.std.proofs.Common.{◌≡◌, ◌∙◌, ◌⊎◌, inl, inr, ℕ, zero, suc, ◌+◌, ◌<◌, ◌≤◌, ◌==◌, nat_lt, Bool, true, false, ◌||◌, if◌then◌else◌, List, [], ◌∷◌, ◌++◌, set, length, Option, Some, None, MatchOption, Vec, Global, refl, sym, ap, subst, arith}
+use Rattle.std.proofs.Common.{◌≡◌, ◌∙◌, ◌⊎◌, inl, inr, ℕ, zero, suc, ◌+◌, ◌<◌, ◌≤◌, ◌==◌, Bool, true, false, ◌||◌, if◌then◌else◌, List, [], ◌∷◌, ◌++◌, set, length, Option, Some, None, MatchOption, Vec, Global, refl, sym, ap, subst, arith}
 use Rattle.std.proofs.lemmas.Bool.{eqb-true}
 use Rattle.std.proofs.lemmas.Bool.Decides.{nat_tests}
 use Rattle.std.proofs.lemmas.List.{get_or-set_same, get_or-set_other, length-set, length_push}
 use Rattle.std.proofs.lemmas.List.Sums.{sum_by-set}
 use Rattle.list_checks.proofs.TestLemmas.{either}
-use Rattle.code_leaders.specs.Early.{has}
+use Rattle.code_blocks.specs.Early.{has}
 use Rattle.code_blocks.proofs.KeptLemmas.{any_push}
 use Rattle.region_former.specs.Reaching.{Leads, further}
 use Rattle.region_former.specs.Propagation.{covers, raised, raises_left, mark_at, row_of, IsTold, IsRaised, Propagates, PropagatesSoFar, PropagatesOut}
@@ -205,19 +205,6 @@ pub propagates_more : (old : List Reached) (waited ts : List ℕ) (by : Reached)
 propagates_more old waited ts by mid waiting g new left below s is =
     propagates_as old waited ts by mid waiting g (raised (mark_at mid g) by) new left below s refl is
 
-pub propagates_none : (old : List Reached) (waited : List ℕ) (by : Reached) → Propagates old waited [] by old waited
-propagates_none old waited by =
-    record {
-      same_length = refl;
-      grows = λ f k covered. covered;
-      settled = λ f k found covered. cc;
-      waits = λ f found. found;
-      noticed = λ f. inl refl;
-      told = λ root step all told f. all f;
-      lighter = omega arith;
-      only = λ f found. inl found;
-    }
-
 -- ---- the whole
 
 past : (rows : List (Vec ℕ Global)) (f : ℕ) → length rows ≤ f → row_of rows f ≡ []
@@ -233,18 +220,6 @@ row_inside rows f g found =
       | inl below ↦ below
       | inr out ↦ let none = ap (λ (xs : List ℕ). has xs g) (past rows f out) in cc
     ]
-
-pub so_far_none : (old : List Reached) (rows : List (Vec ℕ Global)) (waiting : List ℕ) → length rows ≡ length old → ((f : ℕ) → has waiting f ≡ nat_lt f (length old)) → PropagatesSoFar old rows waiting old
-so_far_none old rows waiting one_each all =
-    record {
-      same_length = refl;
-      below = λ f found. let test = sym (all f) ∙ found in grind (arith, nat_tests, test);
-      grows = λ f k covered. covered;
-      settled = λ f g k found covered.
-          let below = row_inside rows f g found in
-          inr (all f ∙ grind (arith, nat_tests, below, one_each));
-      told = λ root step all steps f. all f;
-    }
 
 pub so_far_more : (old : List Reached) (rows : List (Vec ℕ Global)) (waited : List ℕ) (f : ℕ) (mid new : List Reached) (waiting : List ℕ) → ((g h : ℕ) → has (row_of rows g) h ≡ true → h < length old)
     → PropagatesSoFar old rows (waited ++ f ∷ []) mid → Propagates mid waited (row_of rows f) (mark_at mid f) new waiting → PropagatesSoFar old rows waiting new

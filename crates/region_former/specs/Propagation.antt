@@ -1,7 +1,7 @@
 -- How what is known of the roots that lead to a function spreads along the steps between functions.
 use Rattle.std.specs.Prelude.{◌≡◌, ◌⊎◌, ℕ, ◌+◌, ◌<◌, ◌≤◌, ◌==◌, Bool, true, false, if◌then◌else◌, List, [], ◌∷◌, ◌++◌, map, length, set, slice_index_or, Option, Some, None, Vec}
 use Rattle.std.specs.List.{sum_by}
-use Rattle.code_leaders.specs.Early.{has}
+use Rattle.code_blocks.specs.Early.{has}
 use Rattle.std.specs.Global.{Global}
 use Rattle.region_former.specs.Reaching.{Leads, LeadsAlone}
 use Rattle.region_former.specs.declared.propagation.Reached.{Reached}

@@ -1,6 +1,6 @@
 ghost use Rattle.std.specs.Prelude.{◌≡◌, ℕ, ◌+◌, ◌<◌, ◌≤◌, ◌==◌, ◌&&◌, ◌||◌, not, if◌then◌else◌, length, IfOk};
 ghost use Rattle.std.specs.List.{list_any};
-ghost use Rattle.code_leaders.specs.Early.{has};
+ghost use Rattle.code_blocks.specs.Early.{has};
 ghost use Rattle.code_blocks.specs.Numbers.{start_at, end_at};
 ghost use Rattle.list_checks.specs.Tests.{any_below};
 ghost use Rattle.region_former.specs.Flow.{block_count, IsOrderly};
@@ -9,9 +9,8 @@ ghost use Rattle.region_former.specs.Borders.{region_in, comes_from_outside, is_
 ghost use Rattle.region_former.specs.Rows.{truth_at};
 
 use crate::flow::successors_of;
-use code_blocks::{Code, End, Unit};
-use code_leaders::has_address;
-use rv_decode::Instr;
+use code_blocks::{Code, End, Unit, has_address};
+use rv32im::Instr;
 use std::alloc::{AllocError, Global};
 
 /// The blocks by which control may enter their region.

@@ -1,5 +1,5 @@
 ghost use Rattle.std.specs.Prelude.{◌≡◌, ℕ, ◌<◌, nat_lt, true, length, IfOk, OnOk};
-ghost use Rattle.code_leaders.specs.Early.{has};
+ghost use Rattle.code_blocks.specs.Early.{has};
 ghost use Rattle.region_former.specs.Propagation.{raised, mark_at, row_of, IsRaised, Propagates, PropagatesOut, AreBelow};
 
 use std::alloc::{AllocError, Global};

@@ -6,7 +6,7 @@ ghost use Rattle.region_former.specs.Flow.{block_count, leads_into, IsPlace, IsO
 ghost use Rattle.region_former.specs.Reaching.{is_of_driver, driver_calls, is_root, enters, root_count, root_region, IsReached};
 ghost use Rattle.region_former.specs.Propagation.{row_of, mark_at, first_mark, IsMark, region_by};
 ghost use Rattle.region_former.specs.Rows.{truth_at, leads_there, AreRows};
-ghost use Rattle.code_leaders.specs.Early.{has};
+ghost use Rattle.code_blocks.specs.Early.{has};
 
 use crate::flow::{called_function, owner_of, successors_of};
 use crate::propagation::{Reached, propagate_out};

@@ -15,9 +15,9 @@ use Rattle.object_graph.specs.declared.parts.Graph.{Graph}
 use Rattle.code_blocks.specs.Blocks.{IsCode, start_of}
 use Rattle.code_blocks.specs.Numbers.{starts_of, start_at}
 use Rattle.code_blocks.specs.declared.parts.Code.{Code}
-use Rattle.result_setups.specs.HomeLaws.{IsAccepted, unnamed_in}
-use Rattle.result_setups.specs.LiveUnits.{UnitsStand}
-use Rattle.result_setups.proofs.CodeUnits.{code_units_stand}
+use Rattle.result_laws.specs.HomeLaws.{IsAccepted, unnamed_in}
+use Rattle.result_laws.specs.LiveUnits.{UnitsStand}
+use Rattle.result_laws.proofs.CodeUnits.{code_units_stand}
 
 -- ---- lists
 

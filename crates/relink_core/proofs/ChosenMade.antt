@@ -7,7 +7,7 @@ use Rattle.board_config.specs.declared.board.Board.{Board}
 use Rattle.object_graph.specs.declared.parts.Graph.{Graph}
 use Rattle.code_blocks.specs.Leads.{is_of}
 use Rattle.code_blocks.specs.declared.parts.Code.{Code}
-use Rattle.points_to.specs.Overlaid.{region_in}
+use Rattle.dataflow.specs.Overlaid.{region_in}
 use Rattle.block_splitter.specs.declared.block_range.BlockRange.{BlockRange}
 use Rattle.block_splitter.specs.Forms.{holds_block}
 use Rattle.block_splitter.specs.Pieces.{HasShape}
@@ -24,14 +24,14 @@ use Rattle.relocator.specs.Placing.{chosen_slots}
 use Rattle.relocator.specs.Laws.{CanLayOut, IsLaidOut, slot_at, no_slot}
 use Rattle.relocator.proofs.FitLemmas.{are_laid}
 use Rattle.relocator.proofs.GrainLemmas.{IsTimes}
-use Rattle.overlay_jobs.specs.ChosenJobs.{code_number}
-use Rattle.overlay_jobs.specs.Memories.{IsOfCode}
-use Rattle.result_placements.specs.PlacedPieces.{HaveOtherBlocks}
-use Rattle.result_placements.specs.ChosenPlacement.{ChosenPlacement, piece_of, NamesRange, StandsInSlot, IsChosenPiece, MayMove, AreWordsOfUnits, IsChosenPlacement}
-use Rattle.copied_result.specs.declared.copy_source.CopySource.{CopySource}
-use Rattle.copied_result.specs.declared.placed_copy.PlacedCopy.{PlacedCopy}
-use Rattle.copied_result.specs.Copies.{IsPlacedCopy, range_in, place_in, range_at, no_range, ArePlacedCopies}
-use Rattle.patch_plans.specs.Naming.{placed_pieces}
+use Rattle.result_laws.specs.ChosenJobs.{code_number}
+use Rattle.result_laws.specs.Memories.{IsOfCode}
+use Rattle.result_laws.specs.PlacedPieces.{HaveOtherBlocks}
+use Rattle.result_laws.specs.ChosenPlacement.{ChosenPlacement, piece_of, NamesRange, StandsInSlot, IsChosenPiece, MayMove, AreWordsOfUnits, IsChosenPlacement}
+use Rattle.relink_core.specs.declared.copy_source.CopySource.{CopySource}
+use Rattle.relink_core.specs.declared.placed_copy.PlacedCopy.{PlacedCopy}
+use Rattle.relink_core.specs.Copies.{IsPlacedCopy, range_in, place_in, range_at, no_range, ArePlacedCopies}
+use Rattle.relink_core.specs.Naming.{placed_pieces}
 use Rattle.relink_core.specs.Names.{range_bytes}
 use Rattle.relink_core.proofs.RegionFacts.{AreCodeRegions}
 use Rattle.relink_core.proofs.TakenSlots.{IsNameFor, HaveNoBlock}

@@ -2,13 +2,13 @@
 use Rattle.std.proofs.Common.{◌≡◌, ◌∙◌, ℕ, ◌+◌, ◌*◌, ◌%◌, ◌<◌, ◌≤◌, Bool, true, List, length, sym, ap, subst, arith}
 use Rattle.std.specs.Prelude.{slice_index_or}
 use Rattle.std.proofs.lemmas.List.{length-map}
-use Rattle.rv_decode.proofs.SequenceLemmas.{in_reach}
+use Rattle.rv32im.proofs.SequenceLemmas.{in_reach}
 use Rattle.elf_reader.specs.File.{PlainView, view_in}
 use Rattle.elf_reader.proofs.SegmentLemmas.{none_of_headers, load_segments_loadable}
 use Rattle.board_config.specs.declared.board.Board.{Board}
 use Rattle.loaded_file.specs.Code.{is_code_word}
 use Rattle.object_graph.specs.declared.parts.Graph.{Graph}
-use Rattle.code_leaders.proofs.SearchLemmas.{has_found}
+use Rattle.code_blocks.proofs.SearchLemmas.{has_found}
 use Rattle.code_blocks.specs.Blocks.{IsCode, start_of}
 use Rattle.code_blocks.specs.Leads.{IsBlockOf, units_at, no_unit}
 use Rattle.code_blocks.specs.Numbers.{starts_of, start_at}
@@ -18,15 +18,15 @@ use Rattle.block_splitter.specs.declared.unit_kind.UnitKind.{UnitKind}
 use Rattle.block_splitter.specs.declared.unit_kind.UnitKind.TheVariants.{Plain, Upper, Branch, Jump, Call, Tail, Indirect, Linking, Halt}
 use Rattle.block_splitter.specs.Forms.{is_site, body_at, unit_in, kind_of, displaced_size}
 use Rattle.block_splitter.specs.Copies.{Reaches, ReachesTargets}
-use Rattle.copied_code.specs.Displacing.{CanDisplace}
-use Rattle.copied_code.proofs.FirstUnits.{Halts, first_kinds_so}
-use Rattle.copied_code.proofs.KindFacts.{Begins, IsKindBy}
-use Rattle.result_setups.specs.HomeLaws.{IsAccepted, unnamed_in}
-use Rattle.result_setups.specs.LiveUnits.{UnitsStand}
-use Rattle.result_setups.proofs.CodeUnits.{body_units, code_units_stand}
-use Rattle.result_setups.proofs.Words.{code_below}
+use Rattle.result_laws.specs.Displacing.{CanDisplace}
+use Rattle.result_laws.proofs.FirstUnits.{Halts, first_kinds_so}
+use Rattle.result_laws.proofs.KindFacts.{Begins, IsKindBy}
+use Rattle.result_laws.specs.HomeLaws.{IsAccepted, unnamed_in}
+use Rattle.result_laws.specs.LiveUnits.{UnitsStand}
+use Rattle.result_laws.proofs.CodeUnits.{body_units, code_units_stand}
+use Rattle.result_laws.proofs.Words.{code_below}
 use Rattle.relink_core.proofs.BlockOrder.{start_code}
-use Rattle.patch_plans.proofs.Near.{IsNearTo, is_near, word_near}
+use Rattle.relink_core.proofs.Near.{IsNearTo, is_near, word_near}
 
 -- where a block begins is near the patch range
 begin_near : (file : List ℕ) (board : Board) (g : Graph) (c : Code) (a : ℕ) → IsAccepted file board g → IsCode (view_in file) c → Begins c a → IsNearTo board a

@@ -9,10 +9,10 @@ use Rattle.board_config.specs.declared.board.Board.{Board}
 use Rattle.object_graph.specs.LayoutFaults.{layout_fault}
 use Rattle.code_blocks.specs.Blocks.{code_fault}
 use Rattle.simulation.proofs.Runs.{keeps_within}
-use Rattle.result_setups.specs.HomeLaws.{file_start}
-use Rattle.result_setups.proofs.Absolute.{absolute_runs_are_paired}
-use Rattle.result_setups.proofs.HomeUnits.{file_keeps}
-use Rattle.result_setups.specs.ResultLaws.{most_steps}
+use Rattle.result_laws.specs.HomeLaws.{file_start}
+use Rattle.result_laws.proofs.Absolute.{absolute_runs_are_paired}
+use Rattle.result_laws.proofs.HomeUnits.{file_keeps}
+use Rattle.result_laws.specs.ResultLaws.{most_steps}
 use Rattle.relink_core.specs.declared.fault.AnalyseFault.TheVariants as analyse
 use Rattle.relink_core.specs.Faults.{headers_fault, file_fault, patch_fault, places_fault, view_fault, analyse_fault}
 use Rattle.relink_core.specs.Keeps.{UnmovedFileKeeps, AbsoluteKeepsRuns}

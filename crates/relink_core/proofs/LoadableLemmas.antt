@@ -3,7 +3,7 @@ use Rattle.std.proofs.Common.{ℕ, zero, suc, ◌+◌, ◌<◌, nat_lt, List, []
 use Rattle.std.specs.List.{All}
 use Rattle.std.proofs.lemmas.Bool.{cond_both}
 use Rattle.std.proofs.lemmas.List.Elements.{All-nil, All-cons, All-head, All-tail, All-append, All-map}
-use Rattle.word_bits.specs.Words.{byte_of}
+use Rattle.rv32im.specs.Words.{byte_of}
 use Rattle.elf_reader.specs.File.{PlainSegment, PlainView}
 use Rattle.elf_reader.specs.Loadable.{IsByte, AreBytes, IsLoadable, AreLoadable}
 use Rattle.elf_writer.specs.Pieces.{half_bytes, word_bytes, words_bytes}

@@ -17,7 +17,7 @@ use Rattle.loaded_file.specs.Ranges.{has_byte_range, has_owner, has_range, is_sy
 use Rattle.object_graph.specs.Graphs.{IsGraph}
 use Rattle.object_graph.specs.declared.parts.Graph.{Graph}
 use Rattle.cell_values.specs.Objects.{object_of}
-use Rattle.result_setups.proofs.Lists.{element_found}
+use Rattle.result_laws.proofs.Lists.{element_found}
 use Rattle.cell_values.proofs.GraphObjects.{objects_differ}
 use Rattle.relocator.specs.declared.places.Places.{Places}
 use Rattle.relocator.specs.declared.slots.Slot.{Slot}

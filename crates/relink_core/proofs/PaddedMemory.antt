@@ -4,11 +4,11 @@ use Rattle.std.specs.List.{filter, list_any}
 use Rattle.std.proofs.lemmas.Bool.{eqb-true}
 use Rattle.std.proofs.lemmas.List.{length-append, get_or-append-add}
 use Rattle.std.proofs.lemmas.List.Folds.{list_any-append}
-use Rattle.word_bits.specs.Words.{byte_of}
-use Rattle.word_bits.specs.Memory.{Memory, word_at}
-use Rattle.rv_decode.specs.Table.{Means}
-use Rattle.rv_decode.specs.Sequences.{distance}
-use Rattle.rv_decode.specs.declared.instructions.Instr.TheVariants.{Jal}
+use Rattle.rv32im.specs.Words.{byte_of}
+use Rattle.rv32im.specs.Memory.{Memory, word_at}
+use Rattle.rv32im.specs.Table.{Means}
+use Rattle.rv32im.specs.Sequences.{distance}
+use Rattle.rv32im.specs.declared.instructions.Instr.TheVariants.{Jal}
 use Rattle.list_checks.proofs.TestLemmas.{both}
 use Rattle.list_checks.proofs.StepLemmas.{any_place}
 use Rattle.elf_reader.specs.File.{PlainView, view_in}
@@ -17,10 +17,10 @@ use Rattle.elf_writer.specs.declared.parts.SymbolMove.{SymbolMove}
 use Rattle.elf_writer.specs.Parts.{NewSegment}
 use Rattle.elf_writer.specs.Conditions.{IsWritable}
 use Rattle.board_config.specs.declared.board.Range.{Range}
-use Rattle.code_leaders.specs.Early.{has}
+use Rattle.code_blocks.specs.Early.{has}
 use Rattle.block_splitter.specs.Copies.{Patch}
 use Rattle.relocator.specs.SiteWords.{is_entry, has_entry}
-use Rattle.copied_result.specs.Padding.{is_unpadded, ArePadded}
+use Rattle.relink_core.specs.Padding.{is_unpadded, ArePadded}
 use Rattle.relink_core.specs.Making.{patch_of}
 use Rattle.relink_core.proofs.PatchedMemory as patched
 use Rattle.relink_core.proofs.PatchedMemory.{word_from, AreHeld}

@@ -16,12 +16,12 @@ use Rattle.board_config.specs.declared.board.Board.{Board}
 use Rattle.loaded_file.specs.Code.{is_code_word}
 use Rattle.object_graph.specs.Graphs.{IsGraph}
 use Rattle.object_graph.specs.declared.parts.Graph.{Graph}
-use Rattle.code_leaders.specs.Early.{has}
+use Rattle.code_blocks.specs.Early.{has}
 use Rattle.code_blocks.proofs.ListLemmas.{has_at}
 use Rattle.relocator.specs.declared.places.Places.{Places}
 use Rattle.relocator.specs.SiteWords.{is_entry, AreSiteWords}
-use Rattle.result_setups.proofs.Words.{code_even}
-use Rattle.copied_result.specs.Padding.{is_unpadded, ArePadded}
+use Rattle.result_laws.proofs.Words.{code_even}
+use Rattle.relink_core.specs.Padding.{is_unpadded, ArePadded}
 use Rattle.relink_core.specs.Making.{patch_of}
 use Rattle.relink_core.proofs.BlockOrder.{pairs_append}
 use Rattle.relink_core.proofs.PatchPlaces.{HoldsWord, HoldsNoCode, code_kept, data_kept, sections_differ, patch_stands, stands_loaded, stand_apart, stand_disjoint}

@@ -3,7 +3,7 @@ use Rattle.std.proofs.Common.{◌≡◌, ◌∙◌, inl, inr, ℕ, zero, suc, �
 use Rattle.std.proofs.lemmas.Bool.{cases_eq, eqb-true, eq-eqb, ltb-true, leb-true}
 use Rattle.std.proofs.lemmas.Bool.Decides.{nat_tests}
 use Rattle.std.proofs.lemmas.List.Folds.{list_any_at}
-use Rattle.word_bits.specs.Words.{plus}
+use Rattle.rv32im.specs.Words.{plus}
 use Rattle.list_checks.specs.Tests.{any_below, lies_in, ranges_overlap}
 use Rattle.list_checks.proofs.TestLemmas.{both, any_at, any_found}
 use Rattle.elf_reader.specs.Sections.{bit_of, stands_in_file}
@@ -24,17 +24,17 @@ use Rattle.elf_writer.specs.Conditions.{has_word, PatchesLoadedWord, ArePatchesD
 use Rattle.elf_writer.specs.Images.{StandsAt}
 use Rattle.elf_writer.proofs.FitLemmas.{contents_held}
 use Rattle.board_config.specs.declared.board.Board.{Board}
-use Rattle.rewritable_relocations.specs.Rewritable.{displacement, is_rewritable_word}
-use Rattle.movable_ranges.specs.Fixed.{leads_to}
+use Rattle.object_graph.specs.Rewritable.{displacement, is_rewritable_word}
+use Rattle.object_graph.specs.Fixed.{leads_to}
 use Rattle.object_graph.specs.Graphs.{gives_word, same_word, IsGraph}
 use Rattle.object_graph.specs.declared.parts.Object.{Object}
 use Rattle.object_graph.specs.declared.parts.Graph.{Graph}
 use Rattle.object_graph.proofs.RewritableLemmas.{HoldsData, rewritable_word}
 use Rattle.cell_values.specs.Objects.{object_of}
 use Rattle.cell_values.proofs.GraphObjects.{object_moves}
-use Rattle.result_setups.proofs.Sites.{object_same, leads_means}
-use Rattle.result_setups.proofs.HomeStart.{word_itself}
-use Rattle.result_setups.proofs.Words.{code_range}
+use Rattle.result_laws.proofs.Sites.{object_same, leads_means}
+use Rattle.result_laws.proofs.HomeStart.{word_itself}
+use Rattle.result_laws.proofs.Words.{code_range}
 use Rattle.relocator.specs.SiteWords.{no_word, data_word_at}
 use Rattle.relink_core.specs.Making.{place_in, patch_of}
 use Rattle.relink_core.proofs.RangeLemmas.{ranges_disjoint}

@@ -2,8 +2,8 @@
 use Rattle.std.proofs.Common.{◌≡◌, ◌∙◌, ℕ, ◌+◌, ◌*◌, ◌<◌, ◌≤◌, false, List, map, length, get_or, slice_index, Some, None, sym, ap, subst, arith, inl, inr, zero, suc, [], ◌∷◌, ◌++◌, mod-eq_of_lt, refl}
 use Rattle.std.specs.List.{All}
 use Rattle.std.proofs.lemmas.List.{length-map, get_or-map}
-use Rattle.word_bits.specs.Words.{byte_of, plus, word_of}
-use Rattle.word_bits.specs.Memory.{Memory, word_at}
+use Rattle.rv32im.specs.Words.{byte_of, plus, word_of}
+use Rattle.rv32im.specs.Memory.{Memory, word_at}
 use Rattle.elf_reader.specs.File.{PlainView, view_in}
 use Rattle.elf_reader.specs.Faults.{first_fault}
 use Rattle.elf_reader.specs.Image.{image_of}
@@ -21,7 +21,7 @@ use Rattle.list_checks.specs.Tests.{any_below}
 use Rattle.board_config.specs.declared.board.Range.{Range}
 use Rattle.flat_machine.specs.Lines.{HoldsAt}
 use Rattle.object_graph.specs.Sites.{in_range, holds_changed_byte}
-use Rattle.result_setups.specs.Moved.{IsOffWord}
+use Rattle.result_laws.specs.Moved.{IsOffWord}
 use Rattle.std.proofs.lemmas.Bool.Decides.{nat_tests}
 use Rattle.relink_core.specs.Making.{patch_of}
 use Rattle.relink_core.proofs.PatchPlaces.{HoldsWord, patch_stands}

@@ -13,15 +13,15 @@ use Rattle.object_graph.specs.declared.parts.Graph.{Graph}
 use Rattle.code_blocks.specs.Blocks.{IsCode}
 use Rattle.code_blocks.specs.declared.parts.Code.{Code}
 use Rattle.block_splitter.specs.Copies.{Patch}
-use Rattle.overlay_stubs.specs.declared.plan.Stub.{Stub}
-use Rattle.overlay_stubs.specs.declared.plan.StubPlan.{StubPlan}
-use Rattle.overlay_stubs.specs.Plans.{serving_stub, overlay_plan}
-use Rattle.overlay_stubs.specs.Serving.{serving_home}
-use Rattle.overlay_stubs.specs.Overlay.{serving_place}
+use Rattle.patch_code.specs.declared.stub_plan.Stub.{Stub}
+use Rattle.patch_code.specs.declared.stub_plan.StubPlan.{StubPlan}
+use Rattle.patch_code.specs.StubPlans.{serving_stub, overlay_plan}
+use Rattle.patch_code.specs.Serving.{serving_home}
+use Rattle.patch_code.specs.Overlay.{serving_place}
 use Rattle.relocator.specs.declared.places.Places.{Places}
-use Rattle.copied_result.specs.Padding.{home_of, ReachAll, ArePadded}
-use Rattle.result_placements.specs.ChosenPlacement.{ChosenPlacement}
-use Rattle.result_placements.specs.PlacedView.{IsPlanFor, IsPlacedView}
+use Rattle.relink_core.specs.Padding.{home_of, ReachAll, ArePadded}
+use Rattle.result_laws.specs.ChosenPlacement.{ChosenPlacement}
+use Rattle.result_laws.specs.PlacedView.{IsPlanFor, IsPlacedView}
 use Rattle.relink_core.specs.Making.{patch_of, moves_below}
 use Rattle.relink_core.specs.Extending.{IsExtendable, IsWrittenOf}
 use Rattle.relink_core.specs.Written.{IsPatchSegment, static_objects, IsWrittenFor}

@@ -4,13 +4,13 @@ use Rattle.std.specs.List.{All}
 use Rattle.std.proofs.lemmas.Bool.{cases_Bool, eq-eqb}
 use Rattle.std.proofs.lemmas.List.{get_or-map, get_or_default, length-map}
 use Rattle.list_checks.proofs.TestLemmas.{any_at}
-use Rattle.rv_decode.proofs.SequenceLemmas.{in_reach, mean_count}
+use Rattle.rv32im.proofs.SequenceLemmas.{in_reach, mean_count}
 use Rattle.elf_reader.specs.File.{PlainView, view_in}
 use Rattle.board_config.specs.declared.board.Board.{Board}
 use Rattle.loaded_file.specs.Code.{is_code_word}
 use Rattle.object_graph.specs.declared.parts.Graph.{Graph}
-use Rattle.code_leaders.specs.Early.{has}
-use Rattle.code_leaders.proofs.SearchLemmas.{has_found}
+use Rattle.code_blocks.specs.Early.{has}
+use Rattle.code_blocks.proofs.SearchLemmas.{has_found}
 use Rattle.code_blocks.specs.Blocks.{IsCode}
 use Rattle.code_blocks.specs.Numbers.{start_at}
 use Rattle.code_blocks.specs.declared.parts.Unit.{Unit}
@@ -18,22 +18,22 @@ use Rattle.code_blocks.specs.declared.parts.Code.{Code}
 use Rattle.block_splitter.specs.declared.unit_kind.UnitKind.{UnitKind}
 use Rattle.block_splitter.specs.declared.unit_kind.UnitKind.TheVariants.{Plain, Upper, Branch, Jump, Call, Tail, Indirect, Linking, Halt}
 use Rattle.block_splitter.specs.Copies.{Patch, IsDisplaced}
-use Rattle.points_to.specs.Overlaid.{region_in}
-use Rattle.overlay_stubs.specs.Serving.{ServingStub, StubBody, jumps_to, body_bytes, serving_home}
-use Rattle.overlay_stubs.specs.Overlay.{OverlayPlan, serving_place}
-use Rattle.overlay_stubs.specs.Served.{IsServedInside}
-use Rattle.overlay_stubs.proofs.WholePlaces.{served_inside}
+use Rattle.dataflow.specs.Overlaid.{region_in}
+use Rattle.patch_code.specs.Serving.{ServingStub, StubBody, jumps_to, body_bytes, serving_home}
+use Rattle.patch_code.specs.Overlay.{OverlayPlan, serving_place}
+use Rattle.patch_code.specs.Served.{IsServedInside}
+use Rattle.patch_code.proofs.WholePlaces.{served_inside}
 use Rattle.relocator.specs.SiteWords.{data_word_at}
-use Rattle.result_setups.specs.HomeLaws.{IsAccepted, unnamed_in}
-use Rattle.result_setups.specs.LiveUnits.{UnitsStand}
-use Rattle.result_setups.proofs.CodeUnits.{code_units_stand}
-use Rattle.copied_result.specs.Padding.{ReachAll}
-use Rattle.result_placements.specs.ChosenPlacement.{ChosenPlacement}
-use Rattle.result_placements.specs.PlacedView.{is_served, is_padded, HasBody, ToCopy, Displaced, IsPlanFor, HasRegion, InBlock, Elsewhere}
+use Rattle.result_laws.specs.HomeLaws.{IsAccepted, unnamed_in}
+use Rattle.result_laws.specs.LiveUnits.{UnitsStand}
+use Rattle.result_laws.proofs.CodeUnits.{code_units_stand}
+use Rattle.relink_core.specs.Padding.{ReachAll}
+use Rattle.result_laws.specs.ChosenPlacement.{ChosenPlacement}
+use Rattle.result_laws.specs.PlacedView.{is_served, is_padded, HasBody, ToCopy, Displaced, IsPlanFor, HasRegion, InBlock, Elsewhere}
 use Rattle.relink_core.specs.Extending.{IsExtendable}
 use Rattle.relink_core.proofs.BlockOrder.{start_code}
 use Rattle.relink_core.proofs.PatchPlaces.{data_off_code}
-use Rattle.patch_plans.proofs.Near.{IsNear, IsNearTo, is_near, word_near}
+use Rattle.relink_core.proofs.Near.{IsNear, IsNearTo, is_near, word_near}
 
 -- ---- regions
 
@@ -67,8 +67,6 @@ body_some c g pl at b stub (ToCopy n below holds is) =
 body_some c g pl at b stub (Displaced words none is displaced) =
     let some = displaced_some pl.sites at _ _ words displaced in
     subst (λ (body : StubBody). 0 < body_bytes body) (sym is) (omega (arith, some))
-
--- ---- order
 
 -- ---- homes
 

@@ -9,12 +9,12 @@ use Rattle.code_blocks.specs.Numbers.{start_at}
 use Rattle.code_blocks.specs.declared.parts.Code.{Code}
 use Rattle.block_splitter.proofs.CopySizeLemmas.{collected_at}
 use Rattle.elf_reader.specs.File.{PlainView}
-use Rattle.overlay_stubs.specs.Serving.{ServingStub, jumps_to, serving_home, serving_size, served_before}
-use Rattle.overlay_stubs.specs.Overlay.{OverlayPlan, serving_at}
-use Rattle.overlay_stubs.proofs.Order.{Ascend, ascend_from, first_below, later_below, ascend_behind}
-use Rattle.result_placements.specs.ChosenPlacement.{ChosenPlacement}
-use Rattle.result_placements.specs.PlacedView.{is_served, Serves, AreStubsOf}
-use Rattle.copied_result.specs.Serving.{served_blocks, AreStubsFrom}
+use Rattle.patch_code.specs.Serving.{ServingStub, jumps_to, serving_home, serving_size, served_before}
+use Rattle.patch_code.specs.Overlay.{OverlayPlan, serving_at}
+use Rattle.patch_code.proofs.Order.{Ascend, ascend_from, first_below, later_below, ascend_behind}
+use Rattle.result_laws.specs.ChosenPlacement.{ChosenPlacement}
+use Rattle.result_laws.specs.PlacedView.{is_served, Serves, AreStubsOf}
+use Rattle.relink_core.specs.Serving.{served_blocks, AreStubsFrom}
 use Rattle.relink_core.proofs.BlockOrder.{collected_are, starts_ascend}
 
 -- there is one for each block

@@ -4,11 +4,11 @@ use Rattle.std.specs.List.{All, filter}
 use Rattle.std.proofs.lemmas.List.{get_or-map, get_or_default}
 use Rattle.std.proofs.lemmas.List.Elements.{All-append, All-filter}
 use Rattle.std.proofs.lemmas.List.Folds.{list_any_at}
-use Rattle.word_bits.specs.Words.{plus, byte_of}
-use Rattle.word_bits.specs.Memory.{Memory, word_at}
-use Rattle.rv_decode.specs.Table.{Means}
-use Rattle.rv_decode.specs.Sequences.{distance}
-use Rattle.rv_decode.specs.declared.instructions.Instr.TheVariants.{Jal}
+use Rattle.rv32im.specs.Words.{plus, byte_of}
+use Rattle.rv32im.specs.Memory.{Memory, word_at}
+use Rattle.rv32im.specs.Table.{Means}
+use Rattle.rv32im.specs.Sequences.{distance}
+use Rattle.rv32im.specs.declared.instructions.Instr.TheVariants.{Jal}
 use Rattle.elf_reader.specs.File.{PlainView, view_in}
 use Rattle.elf_reader.specs.Image.{image_of}
 use Rattle.elf_reader.specs.Loadable.{AreLoadable}
@@ -22,23 +22,23 @@ use Rattle.flat_machine.specs.Lines.{HoldsAt}
 use Rattle.loaded_file.specs.Code.{image_word}
 use Rattle.object_graph.specs.declared.parts.Site.{Site}
 use Rattle.object_graph.specs.declared.parts.Graph.{Graph}
-use Rattle.code_leaders.specs.Early.{has}
+use Rattle.code_blocks.specs.Early.{has}
 use Rattle.code_blocks.specs.declared.parts.Code.{Code}
 use Rattle.block_splitter.specs.Copies.{Patch}
 use Rattle.cell_values.specs.Stands.{address_word}
-use Rattle.overlay_stubs.specs.Serving.{ServingStub, serving_home}
-use Rattle.overlay_stubs.specs.Start.{start_at}
-use Rattle.overlay_stubs.specs.Overlay.{OverlayPlan, serving_place}
+use Rattle.patch_code.specs.Serving.{ServingStub, serving_home}
+use Rattle.patch_code.specs.Start.{start_at}
+use Rattle.patch_code.specs.Overlay.{OverlayPlan, serving_place}
 use Rattle.relocator.specs.declared.places.Places.{Places}
 use Rattle.relocator.specs.Placing.{place_at}
 use Rattle.relocator.specs.SiteWords.{no_site, site_at, no_word, data_word_at, is_entry, has_entry, site_address, word_address, IsSiteWord}
-use Rattle.result_setups.specs.HomeLaws.{IsAccepted}
-use Rattle.result_setups.specs.Moved.{IsMovedSite, IsMovedWord, IsOffWord}
-use Rattle.result_setups.proofs.Words.{code_below}
-use Rattle.result_placements.specs.ChosenPlacement.{ChosenPlacement, places_in}
-use Rattle.result_placements.specs.PlacedView.{is_padded, HasRegion, InBlock, Elsewhere, IsUntouched, IsPlacedView}
-use Rattle.points_to.specs.Overlaid.{region_in}
-use Rattle.copied_result.specs.Padding.{is_unpadded, ArePadded}
+use Rattle.result_laws.specs.HomeLaws.{IsAccepted}
+use Rattle.result_laws.specs.Moved.{IsMovedSite, IsMovedWord, IsOffWord}
+use Rattle.result_laws.proofs.Words.{code_below}
+use Rattle.result_laws.specs.ChosenPlacement.{ChosenPlacement, places_in}
+use Rattle.result_laws.specs.PlacedView.{is_padded, HasRegion, InBlock, Elsewhere, IsUntouched, IsPlacedView}
+use Rattle.dataflow.specs.Overlaid.{region_in}
+use Rattle.relink_core.specs.Padding.{is_unpadded, ArePadded}
 use Rattle.relink_core.specs.Making.{patch_of}
 use Rattle.relink_core.proofs.LoadableLemmas.{words_are_bytes, written_loadable}
 use Rattle.relink_core.proofs.PaddedMemory as held_words
@@ -50,7 +50,7 @@ use Rattle.relink_core.proofs.PlacedHomes.{one_region}
 use Rattle.relink_core.proofs.PlacedWritten as made
 use Rattle.relink_core.proofs.PlacedWritten.{IsMadeFor}
 use Rattle.relink_core.proofs.RealiseLemmas.{codes, graphs}
-use Rattle.patch_plans.proofs.Near.{IsNear, is_near}
+use Rattle.relink_core.proofs.Near.{IsNear, is_near}
 use Rattle.relink_core.proofs.WritableLemmas.{entry_itself}
 
 -- the region of an address is one of those that there are

@@ -17,10 +17,10 @@ use Rattle.object_graph.specs.declared.parts.Graph.{Graph}
 use Rattle.code_blocks.specs.Blocks.{IsCode}
 use Rattle.code_blocks.specs.declared.parts.Code.{Code}
 use Rattle.block_splitter.specs.Copies.{Patch}
-use Rattle.overlay_stubs.specs.Start.{StartPlan, start_at}
-use Rattle.overlay_stubs.specs.Serving.{serving_home}
-use Rattle.overlay_stubs.specs.Overlay.{OverlayPlan, AreOverlayWords}
-use Rattle.overlay_stubs.proofs.WholePlaces.{overlay_stands_so}
+use Rattle.patch_code.specs.Start.{StartPlan, start_at}
+use Rattle.patch_code.specs.Serving.{serving_home}
+use Rattle.patch_code.specs.Overlay.{OverlayPlan, AreOverlayWords}
+use Rattle.patch_code.proofs.WholePlaces.{overlay_stands_so}
 use Rattle.placement_programme.specs.declared.variables.VarName.{VarName}
 use Rattle.placement_programme.specs.declared.variables.VarName.TheVariants.{StaticData, StaticCode, OverlayData, OverlayCode, KeptData}
 use Rattle.relocator.specs.declared.places.Places.{Places}
@@ -31,10 +31,10 @@ use Rattle.relocator.specs.SiteWords.{AreSiteWords}
 use Rattle.relocator.proofs.WeightLemmas.{HasRoom, IsSized}
 use Rattle.relocator.proofs.SlotLemmas.{slot_keeps}
 use Rattle.relocator.proofs.PlaceLemmas.{choice_fits}
-use Rattle.result_setups.specs.HomeLaws.{IsAccepted}
-use Rattle.result_placements.specs.ChosenPlacement.{ChosenPlacement, slots_in, places_in, IsChosenPlacement}
-use Rattle.result_placements.specs.PlacedView.{start_plan, IsPlanFor}
-use Rattle.copied_result.specs.Padding.{ArePadded}
+use Rattle.result_laws.specs.HomeLaws.{IsAccepted}
+use Rattle.result_laws.specs.ChosenPlacement.{ChosenPlacement, slots_in, places_in, IsChosenPlacement}
+use Rattle.result_laws.specs.PlacedView.{start_plan, IsPlanFor}
+use Rattle.relink_core.specs.Padding.{ArePadded}
 use Rattle.relink_core.specs.Making.{patch_of, AreOfGraph, moves_below}
 use Rattle.relink_core.specs.Names.{objects_named}
 use Rattle.relink_core.specs.Extending.{IsExtendable}

@@ -13,30 +13,30 @@ use Rattle.placement_programme.specs.Plain.{PlainProgramme, PlainChoice}
 use Rattle.relocator.specs.declared.slots.Slot.{Slot}
 use Rattle.relocator.specs.declared.places.Places.{Places}
 use Rattle.relocator.specs.Placing.{chosen_slots, ArePlaces}
-use Rattle.overlay_jobs.specs.ChosenJobs.{is_static, start_jobs, IsPlanOf}
-use Rattle.overlay_stubs.specs.Homes.{HaveHomes}
-use Rattle.overlay_stubs.specs.Start.{StartPlan, start_at, start_bytes}
-use Rattle.overlay_stubs.specs.Serving.{serving_home}
-use Rattle.overlay_stubs.specs.Overlay.{switching, serving_at, overlay_images_at}
-use Rattle.overlay_stubs.specs.Plans.{serving_stub, overlay_plan}
-use Rattle.overlay_stubs.specs.declared.plan.Stub.{Stub}
-use Rattle.overlay_stubs.specs.declared.plan.StubPlan.{StubPlan}
-use Rattle.overlay_stubs.proofs.WordLemmas.{bytes_are}
-use Rattle.result_placements.specs.PlacedPieces.{piece_bytes}
-use Rattle.result_placements.specs.Laws.{regions_on}
-use Rattle.result_placements.specs.ChosenPlacement.{ChosenPlacement, images_in}
-use Rattle.result_placements.specs.PlacedView.{start_plan, image_in, words_in, IsPlanFor}
-use Rattle.copied_result.specs.declared.placed_copy.PlacedCopy.{PlacedCopy}
-use Rattle.copied_result.specs.Serving.{without_image, piece_with, IsPlacedWith, served_blocks, AreStubsFrom}
-use Rattle.patch_plans.specs.declared.items.PlannedItems.{PlannedItems}
-use Rattle.patch_plans.specs.Counting.{most_bytes}
-use Rattle.patch_plans.specs.Laws.{borders_on, IsPlacementOf}
-use Rattle.patch_plans.specs.Naming.{placed_pieces, images_of, copied_bytes, CanPlan}
-use Rattle.patch_plans.specs.Planning.{pieces_in, IsChosen, IsPlanMade}
-use Rattle.patch_plans.proofs.Chosen as plans
-use Rattle.patch_plans.proofs.Holds.{plans_fit_so}
-use Rattle.patch_plans.proofs.JobCounts.{entering_count}
-use Rattle.patch_plans.proofs.PlanRoom.{pieces_summed, plan_room}
+use Rattle.result_laws.specs.ChosenJobs.{is_static, start_jobs, IsPlanOf}
+use Rattle.patch_code.specs.Homes.{HaveHomes}
+use Rattle.patch_code.specs.Start.{StartPlan, start_at, start_bytes}
+use Rattle.patch_code.specs.Serving.{serving_home}
+use Rattle.patch_code.specs.Overlay.{switching, serving_at, overlay_images_at}
+use Rattle.patch_code.specs.StubPlans.{serving_stub, overlay_plan}
+use Rattle.patch_code.specs.declared.stub_plan.Stub.{Stub}
+use Rattle.patch_code.specs.declared.stub_plan.StubPlan.{StubPlan}
+use Rattle.patch_code.proofs.WordLemmas.{bytes_are}
+use Rattle.result_laws.specs.PlacedPieces.{piece_bytes}
+use Rattle.result_laws.specs.PlacementLaws.{regions_on}
+use Rattle.result_laws.specs.ChosenPlacement.{ChosenPlacement, images_in}
+use Rattle.result_laws.specs.PlacedView.{start_plan, image_in, words_in, IsPlanFor}
+use Rattle.relink_core.specs.declared.placed_copy.PlacedCopy.{PlacedCopy}
+use Rattle.relink_core.specs.Serving.{without_image, piece_with, IsPlacedWith, served_blocks, AreStubsFrom}
+use Rattle.relink_core.specs.declared.items.PlannedItems.{PlannedItems}
+use Rattle.relink_core.specs.Counting.{most_bytes}
+use Rattle.relink_core.specs.PlanLaws.{borders_on, IsPlacementOf}
+use Rattle.relink_core.specs.Naming.{placed_pieces, images_of, copied_bytes, CanPlan}
+use Rattle.relink_core.specs.Planning.{pieces_in, IsChosen, IsPlanMade}
+use Rattle.relink_core.proofs.Chosen as plans
+use Rattle.relink_core.proofs.Holds.{plans_fit_so}
+use Rattle.relink_core.proofs.JobCounts.{entering_count}
+use Rattle.relink_core.proofs.PlanRoom.{pieces_summed, plan_room}
 use Rattle.relink_core.specs.Chosen.{names_of}
 use Rattle.relink_core.specs.Faults.{least_patch}
 use Rattle.relink_core.specs.ResultParts.{ArePartsOf, AreCopiesOf, counts_static, stubs_at, ServeCopies, IsPlanOfParts, IsPlanWith}

@@ -13,7 +13,7 @@ use Rattle.object_graph.specs.Graphs.{IsGraph}
 use Rattle.object_graph.specs.declared.parts.Graph.{Graph}
 use Rattle.code_blocks.specs.Blocks.{code_fault}
 use Rattle.placement_programme.specs.Plain.{PlainProgramme, PlainChoice}
-use Rattle.result_setups.specs.HomeLaws.{IsAccepted}
+use Rattle.result_laws.specs.HomeLaws.{IsAccepted}
 use Rattle.relocator.specs.SiteWords.{site_at, data_word_at}
 use Rattle.relocator.proofs.WordLemmas.{site_listed, code_of, word_here}
 use Rattle.relink_core.specs.declared.analysis.Analysis.{Analysis}
@@ -23,7 +23,7 @@ use Rattle.relink_core.specs.Keeps.{KeepsPaired}
 use Rattle.relink_core.specs.Extending.{IsExtendable}
 use Rattle.relink_core.specs.Choices.{IsAnalysisOf, KeepsFor, KeepsMeaning}
 use Rattle.relink_core.specs.Placed.{taken_of}
-use Rattle.result_setups.specs.ResultLaws.{KeepsRuns}
+use Rattle.result_laws.specs.ResultLaws.{KeepsRuns}
 use Rattle.placement_programme.specs.Programme.{side_for}
 use Rattle.relocator.specs.declared.items.Item.{Item}
 use Rattle.relocator.specs.Slots.{items_in, vars_for, items_of}

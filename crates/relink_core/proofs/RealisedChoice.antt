@@ -9,8 +9,8 @@ use Rattle.loaded_file.proofs.WordLemmas.{same_view}
 use Rattle.object_graph.specs.declared.parts.Graph.{Graph}
 use Rattle.code_blocks.specs.Blocks.{IsCode}
 use Rattle.code_blocks.specs.declared.parts.Code.{Code}
-use Rattle.liveness.specs.Tables.{IsTableOf}
-use Rattle.points_to.specs.Overlaid.{region_in}
+use Rattle.dataflow.specs.Tables.{IsTableOf}
+use Rattle.dataflow.specs.Overlaid.{region_in}
 use Rattle.block_splitter.specs.declared.piece.Piece.{Piece}
 use Rattle.block_splitter.specs.Pieces.{ArePieces}
 use Rattle.block_splitter.proofs.CopySizeLemmas.{range_is}
@@ -25,16 +25,16 @@ use Rattle.relocator.specs.Laws.{no_slot}
 use Rattle.cell_values.specs.Objects.{IsGrain}
 use Rattle.relocator.specs.Placing.{chosen_slots, ArePlaces}
 use Rattle.relocator.specs.SiteWords.{HasPlaces, AreSiteWords}
-use Rattle.result_placements.specs.Choices.{IsChoiceFor}
-use Rattle.result_placements.specs.Laws.{regions_on}
-use Rattle.placed_results.specs.Laws.{IsPlacedResult}
-use Rattle.placed_results.proofs.Keeping.{placed_result_keeps}
-use Rattle.placed_results.proofs.Walking.{placed_walks}
-use Rattle.copied_result.specs.declared.code_regions.CodeRegions.{CodeRegions}
-use Rattle.copied_result.specs.declared.copy_source.CopySource.{CopySource}
-use Rattle.copied_result.specs.declared.placed_copy.PlacedCopy.{PlacedCopy}
-use Rattle.copied_result.specs.Copies.{range_in, place_in}
-use Rattle.patch_plans.specs.Laws.{borders_on}
+use Rattle.result_laws.specs.Choices.{IsChoiceFor}
+use Rattle.result_laws.specs.PlacementLaws.{regions_on}
+use Rattle.result_laws.specs.PlacedLaws.{IsPlacedResult}
+use Rattle.result_laws.proofs.Keeping.{placed_result_keeps}
+use Rattle.result_laws.proofs.Walking.{placed_walks}
+use Rattle.relink_core.specs.declared.code_regions.CodeRegions.{CodeRegions}
+use Rattle.relink_core.specs.declared.copy_source.CopySource.{CopySource}
+use Rattle.relink_core.specs.declared.placed_copy.PlacedCopy.{PlacedCopy}
+use Rattle.relink_core.specs.Copies.{range_in, place_in}
+use Rattle.relink_core.specs.PlanLaws.{borders_on}
 use Rattle.relink_core.specs.Choices.{IsAnalysisOf, KeepsMeaning}
 use Rattle.relink_core.specs.Chosen.{AreRegionsOf, names_of, IsTakenBy, IsSourceOf}
 use Rattle.relink_core.specs.Extending.{IsExtendable}

@@ -12,29 +12,29 @@ use Rattle.list_checks.proofs.TestLemmas.{either, both, neither, not_not, not_tr
 use Rattle.elf_reader.specs.File.{PlainView}
 use Rattle.board_config.specs.Board.{plain_regions}
 use Rattle.board_config.specs.declared.board.Board.{Board}
-use Rattle.rv_decode.specs.RegSet.{IsIn}
+use Rattle.rv32im.specs.RegSet.{IsIn}
 use Rattle.code_blocks.specs.Blocks.{IsCode}
 use Rattle.code_blocks.specs.Numbers.{starts_of, start_at}
 use Rattle.code_blocks.specs.Leads.{owner_of, owner_at, is_some_of, is_of, leads_to, IsBlockOf}
 use Rattle.code_blocks.specs.declared.parts.Code.{Code}
-use Rattle.code_leaders.specs.Early.{has}
-use Rattle.code_leaders.proofs.LeaderLemmas.{left_passes, right_passes, both_pass}
-use Rattle.liveness.specs.Live.{LiveAt, Live}
-use Rattle.liveness.specs.Tables.{IsTableOf, IsFree, NoneFree}
-use Rattle.liveness.specs.declared.table.LiveTable.{LiveTable}
-use Rattle.liveness.proofs.EdgeLemmas.{one_start}
+use Rattle.code_blocks.specs.Early.{has}
+use Rattle.code_blocks.proofs.LeaderLemmas.{left_passes, right_passes, both_pass}
+use Rattle.dataflow.specs.Live.{LiveAt, Live}
+use Rattle.dataflow.specs.Tables.{IsTableOf, IsFree, NoneFree}
+use Rattle.dataflow.specs.declared.table.LiveTable.{LiveTable}
+use Rattle.dataflow.proofs.EdgeLemmas.{one_start}
 use Rattle.reach_graph.specs.Reaching.{word_at}
-use Rattle.points_to.specs.Overlaid.{region_in, is_border}
+use Rattle.dataflow.specs.Overlaid.{region_in, is_border}
 use Rattle.region_former.specs.Borders as regions_of
 use Rattle.region_former.specs.Borders.{comes_from_outside, becomes_none, bars, is_barred}
 use Rattle.region_former.specs.Reaching.{IsReached, by_one, by_none_or_several, root_region}
 use Rattle.region_former.specs.Regions.{IsRegionBy, IsRegionOf, AreFormed}
 use Rattle.region_former.specs.declared.table.RegionTable.{RegionTable}
 use Rattle.block_splitter.specs.Pieces.{only, HasTemporary}
-use Rattle.copied_code.specs.Displacing.{CanDisplace}
-use Rattle.held_addresses.specs.Entries.{TellsBorders}
-use Rattle.held_addresses.proofs.Entries.{regions_tell_borders}
-use Rattle.result_placements.proofs.Displaceable.{can_displace}
+use Rattle.result_laws.specs.Displacing.{CanDisplace}
+use Rattle.result_laws.specs.Entries.{TellsBorders}
+use Rattle.result_laws.proofs.Entries.{regions_tell_borders}
+use Rattle.result_laws.proofs.Displaceable.{can_displace}
 use Rattle.relink_core.specs.Regions.{HasDead, AreRegions}
 
 -- ---- a dead register, and the least one

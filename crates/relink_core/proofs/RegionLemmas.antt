@@ -7,15 +7,15 @@ use Rattle.std.proofs.lemmas.List.{get_or_append_left, get_or_push}
 use Rattle.std.proofs.lemmas.Nat.Bits.{bit_at-zero}
 use Rattle.elf_reader.specs.File.{PlainView, view_in}
 use Rattle.board_config.specs.declared.board.Board.{Board}
-use Rattle.rv_decode.specs.RegSet.{IsIn}
-use Rattle.rv_decode.specs.declared.instructions.RegSet.{RegSet}
+use Rattle.rv32im.specs.RegSet.{IsIn}
+use Rattle.rv32im.specs.declared.instructions.RegSet.{RegSet}
 use Rattle.code_blocks.specs.Blocks.{IsCode}
 use Rattle.code_blocks.specs.Numbers.{starts_of, start_at}
 use Rattle.code_blocks.specs.declared.parts.Code.{Code}
 use Rattle.code_blocks.specs.Leads.{IsBlockOf}
-use Rattle.liveness.specs.Live.{LiveAt}
-use Rattle.liveness.specs.Tables.{IsLeastDead}
-use Rattle.liveness.proofs.EdgeLemmas.{one_start}
+use Rattle.dataflow.specs.Live.{LiveAt}
+use Rattle.dataflow.specs.Tables.{IsLeastDead}
+use Rattle.dataflow.proofs.EdgeLemmas.{one_start}
 use Rattle.region_former.specs.Faults.{plain_fault}
 use Rattle.region_former.specs.Regions.{region_fault}
 use Rattle.relink_core.specs.Faults.{analyse_fault, IsFaultless, IsFirst, of_regions, IsOfRegions}

@@ -12,12 +12,12 @@ use Rattle.block_splitter.specs.Copies.{Patch}
 use Rattle.placement_programme.specs.Plain.{PlainProgramme, PlainChoice}
 use Rattle.relocator.specs.declared.slots.Slot.{Slot}
 use Rattle.relocator.specs.Placing.{chosen_slots, ArePlaces}
-use Rattle.overlay_stubs.specs.declared.plan.Stub.{Stub}
-use Rattle.overlay_stubs.specs.declared.plan.StubPlan.{StubPlan}
-use Rattle.overlay_stubs.specs.Plans.{overlay_plan}
-use Rattle.result_placements.specs.Laws.{regions_on}
-use Rattle.result_placements.specs.ChosenPlacement.{ChosenPlacement, slots_in}
-use Rattle.copied_result.specs.Padding.{home_of, ReachAll, ArePadded}
+use Rattle.patch_code.specs.declared.stub_plan.Stub.{Stub}
+use Rattle.patch_code.specs.declared.stub_plan.StubPlan.{StubPlan}
+use Rattle.patch_code.specs.StubPlans.{overlay_plan}
+use Rattle.result_laws.specs.PlacementLaws.{regions_on}
+use Rattle.result_laws.specs.ChosenPlacement.{ChosenPlacement, slots_in}
+use Rattle.relink_core.specs.Padding.{home_of, ReachAll, ArePadded}
 use Rattle.relink_core.specs.Making.{patch_of, moves_below, HasStarts, AreOfGraph}
 use Rattle.relink_core.specs.Placed.{taken_of, MovesBy}
 use Rattle.relink_core.specs.ResultParts.{ArePartsOf, IsPlanOfParts}

@@ -11,7 +11,7 @@ use Rattle.elf_writer.specs.Laws.{length_fault}
 use Rattle.elf_writer.proofs.WrittenFaults.{written_faults}
 use Rattle.board_config.specs.declared.board.Board.{Board}
 use Rattle.object_graph.specs.declared.parts.Graph.{Graph}
-use Rattle.result_placements.specs.ChosenPlacement.{ChosenPlacement}
+use Rattle.result_laws.specs.ChosenPlacement.{ChosenPlacement}
 use Rattle.relink_core.specs.Written.{placed_segment, IsWrittenFor}
 use Rattle.relink_core.specs.Placed.{hands_on, moves}
 use Rattle.relink_core.specs.ResultFaults.{IsOfSize, no_fault, too_long, too_large, ResultsAreRead}

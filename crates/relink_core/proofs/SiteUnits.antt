@@ -22,9 +22,9 @@ use Rattle.code_blocks.specs.declared.parts.Code.{Code}
 use Rattle.block_splitter.specs.Forms.{is_site, body_at, unit_in}
 use Rattle.block_splitter.specs.Copies.{Patch, address_in, word_of_unit, HasSites}
 use Rattle.relocator.specs.declared.places.Places.{Places}
-use Rattle.result_setups.specs.HomeLaws.{IsAccepted, unnamed_in}
-use Rattle.result_setups.specs.LiveUnits.{UnitsStand}
-use Rattle.result_setups.proofs.CodeUnits.{body_units, code_units_stand}
+use Rattle.result_laws.specs.HomeLaws.{IsAccepted, unnamed_in}
+use Rattle.result_laws.specs.LiveUnits.{UnitsStand}
+use Rattle.result_laws.proofs.CodeUnits.{body_units, code_units_stand}
 use Rattle.relocator.specs.SiteWords.{no_site, site_at, is_entry, has_entry, IsNewAtSite, AreSiteWords}
 use Rattle.relink_core.proofs.PatchPlaces.{data_off_code}
 use Rattle.relink_core.proofs.WritableLemmas.{entry_itself}

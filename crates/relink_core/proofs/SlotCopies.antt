@@ -12,13 +12,13 @@ use Rattle.placement_programme.specs.declared.variables.VarName.TheVariants.{Sta
 use Rattle.relocator.specs.declared.slots.Slot.{Slot}
 use Rattle.relocator.specs.Slots.{code_slots}
 use Rattle.relocator.specs.Laws.{slot_at}
-use Rattle.overlay_jobs.specs.ChosenJobs.{code_number}
-use Rattle.overlay_jobs.specs.Memories.{IsOfCode}
-use Rattle.result_placements.specs.PlacedPieces.{PlacedPiece}
-use Rattle.result_placements.specs.ChosenPlacement.{no_piece}
-use Rattle.copied_result.specs.declared.placed_copy.PlacedCopy.{PlacedCopy}
-use Rattle.copied_result.specs.Copies.{no_range, range_at, CanPlace}
-use Rattle.patch_plans.specs.Naming.{placed_piece, placed_pieces}
+use Rattle.result_laws.specs.ChosenJobs.{code_number}
+use Rattle.result_laws.specs.Memories.{IsOfCode}
+use Rattle.result_laws.specs.PlacedPieces.{PlacedPiece}
+use Rattle.result_laws.specs.ChosenPlacement.{no_piece}
+use Rattle.relink_core.specs.declared.placed_copy.PlacedCopy.{PlacedCopy}
+use Rattle.relink_core.specs.Copies.{no_range, range_at, CanPlace}
+use Rattle.relink_core.specs.Naming.{placed_piece, placed_pieces}
 use Rattle.relink_core.specs.Names.{ranges_named}
 use Rattle.relink_core.proofs.TakenSlots.{HasCopy, IsNameFor, name_has, HaveNoBlock}
 

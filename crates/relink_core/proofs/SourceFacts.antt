@@ -7,7 +7,7 @@ use Rattle.elf_reader.specs.declared.view.ElfView.{ElfView}
 use Rattle.board_config.specs.declared.board.Board.{Board}
 use Rattle.object_graph.specs.declared.parts.Graph.{Graph}
 use Rattle.code_blocks.specs.declared.parts.Code.{Code}
-use Rattle.points_to.specs.Overlaid.{region_in, is_border}
+use Rattle.dataflow.specs.Overlaid.{region_in, is_border}
 use Rattle.region_former.specs.declared.table.RegionTable.{RegionTable}
 use Rattle.block_splitter.specs.declared.block_range.BlockRange.{BlockRange}
 use Rattle.cell_values.specs.Objects.{IsGrain}
@@ -16,16 +16,16 @@ use Rattle.relocator.specs.declared.slots.Slot.{Slot}
 use Rattle.relocator.specs.Slots.{items_of, code_slots}
 use Rattle.relocator.specs.Placing.{chosen_slots}
 use Rattle.relocator.specs.Laws.{CanLayOut, IsLaidOut}
-use Rattle.result_setups.specs.HomeLaws.{IsAccepted}
-use Rattle.result_placements.specs.Laws.{regions_on}
-use Rattle.result_placements.specs.ChosenPlacement.{ChosenPlacement, IsChosenPlacement}
-use Rattle.result_placements.proofs.LayingOut.{choice_lays_out}
-use Rattle.copied_result.specs.declared.code_regions.CodeRegions.{CodeRegions}
-use Rattle.copied_result.specs.declared.copy_source.CopySource.{CopySource}
-use Rattle.copied_result.specs.declared.placed_copy.PlacedCopy.{PlacedCopy}
-use Rattle.copied_result.specs.Copies.{IsSource, IsPlacedCopy, CanPlaceAll, ArePlacedCopies}
-use Rattle.copied_result.specs.StubBlocks.{IsEnteredAt}
-use Rattle.patch_plans.specs.Laws.{borders_on}
+use Rattle.result_laws.specs.HomeLaws.{IsAccepted}
+use Rattle.result_laws.specs.PlacementLaws.{regions_on}
+use Rattle.result_laws.specs.ChosenPlacement.{ChosenPlacement, IsChosenPlacement}
+use Rattle.result_laws.proofs.LayingOut.{choice_lays_out}
+use Rattle.relink_core.specs.declared.code_regions.CodeRegions.{CodeRegions}
+use Rattle.relink_core.specs.declared.copy_source.CopySource.{CopySource}
+use Rattle.relink_core.specs.declared.placed_copy.PlacedCopy.{PlacedCopy}
+use Rattle.relink_core.specs.Copies.{IsSource, IsPlacedCopy, CanPlaceAll, ArePlacedCopies}
+use Rattle.relink_core.specs.StubBlocks.{IsEnteredAt}
+use Rattle.relink_core.specs.PlanLaws.{borders_on}
 use Rattle.relink_core.specs.Sides.{blocks_on}
 use Rattle.relink_core.specs.Chosen.{IsSourceOf}
 use Rattle.relink_core.specs.Standing.{HasBytes, IsCopiedRange}

@@ -1,10 +1,10 @@
 -- Stubs of the copies of a choice have room in the patch range, and displaced units reach their targets from there.
 use Rattle.std.proofs.Common.{◌≡◌, ℕ, ◌+◌, Bool, true, List, subst, arith}
-use Rattle.points_to.specs.Overlaid.{is_border}
+use Rattle.dataflow.specs.Overlaid.{is_border}
 use Rattle.region_former.specs.declared.table.RegionTable.{RegionTable}
 use Rattle.placement_programme.specs.Plain.{PlainProgramme, PlainChoice}
-use Rattle.copied_result.specs.declared.placed_copy.PlacedCopy.{PlacedCopy}
-use Rattle.patch_plans.proofs.Room.{stubs_end}
+use Rattle.relink_core.specs.declared.placed_copy.PlacedCopy.{PlacedCopy}
+use Rattle.relink_core.proofs.Room.{stubs_end}
 use Rattle.relink_core.specs.ResultParts.{ArePartsOf, AreCopiesOf, HaveRoom}
 use Rattle.relink_core.specs.declared.chosen_results.ResultParts.{ResultParts}
 use Rattle.relink_core.proofs.FirstReaches.{first_reaches}

@@ -7,8 +7,8 @@ use Rattle.std.proofs.lemmas.List.{get_or-map, length-map, get_or_append_left, g
 use Rattle.board_config.specs.declared.board.Board.{Board}
 use Rattle.object_graph.specs.declared.parts.Graph.{Graph}
 use Rattle.code_blocks.specs.declared.parts.Code.{Code}
-use Rattle.liveness.specs.Live.{LiveAt}
-use Rattle.points_to.specs.Overlaid.{region_in, MayBeOverlaid}
+use Rattle.dataflow.specs.Live.{LiveAt}
+use Rattle.dataflow.specs.Overlaid.{region_in, MayBeOverlaid}
 use Rattle.region_former.specs.declared.table.RegionTable.{RegionTable}
 use Rattle.block_splitter.specs.declared.block_range.BlockRange.{BlockRange}
 use Rattle.block_splitter.specs.declared.piece.Piece.{Piece}
@@ -30,10 +30,10 @@ use Rattle.relocator.proofs.SlotLemmas.{slot_keeps}
 use Rattle.relocator.proofs.WeightLemmas.{rounded_least, span_of, IsRowOf, candidate_weighs}
 use Rattle.relocator.proofs.LoadLemmas.{weighs, load_held}
 use Rattle.relocator.proofs.OwnLemmas.{two_summed}
-use Rattle.result_placements.specs.Choices.{side_layout, IsOfPiece, IsCandidateFor, IsVarFor, IsSideFor, IsChoiceFor}
-use Rattle.result_placements.specs.Laws.{regions_on}
+use Rattle.result_laws.specs.Choices.{side_layout, IsOfPiece, IsCandidateFor, IsVarFor, IsSideFor, IsChoiceFor}
+use Rattle.result_laws.specs.PlacementLaws.{regions_on}
 use Rattle.relink_core.specs.Names.{range_bytes}
-use Rattle.patch_plans.specs.Laws.{borders_on}
+use Rattle.relink_core.specs.PlanLaws.{borders_on}
 use Rattle.relink_core.specs.Sides.{blocks_on}
 
 -- ---- names

@@ -17,26 +17,26 @@ use Rattle.code_blocks.specs.Leads.{units_at}
 use Rattle.code_blocks.specs.declared.parts.Code.{Code}
 use Rattle.code_blocks.specs.declared.parts.Block.{Block}
 use Rattle.code_blocks.specs.declared.parts.Unit.{Unit}
-use Rattle.points_to.specs.Overlaid.{region_in, is_border}
+use Rattle.dataflow.specs.Overlaid.{region_in, is_border}
 use Rattle.region_former.specs.declared.table.RegionTable.{RegionTable}
 use Rattle.block_splitter.specs.Forms.{holds_block}
 use Rattle.block_splitter.specs.Pieces.{is_entry}
 use Rattle.placement_programme.specs.Plain.{PlainProgramme, PlainChoice}
-use Rattle.overlay_stubs.specs.Serving.{ServingStub, serving_home, test_bytes}
-use Rattle.overlay_stubs.specs.Overlay.{OverlayPlan, serving_place}
-use Rattle.overlay_stubs.specs.Plans.{serving_stub, overlay_plan}
-use Rattle.overlay_stubs.specs.Served.{IsServedInside}
-use Rattle.overlay_stubs.specs.declared.plan.Stub.{Stub}
-use Rattle.overlay_stubs.proofs.WholePlaces.{served_inside}
-use Rattle.result_setups.specs.HomeLaws.{unnamed_in}
-use Rattle.result_setups.specs.LiveUnits.{UnitsStand}
-use Rattle.result_setups.proofs.CodeUnits.{code_units_stand}
-use Rattle.result_placements.specs.ChosenPlacement.{ChosenPlacement, no_piece}
-use Rattle.result_placements.specs.PlacedView.{enters_piece, is_served, IsUncopied, ServesSome}
-use Rattle.copied_result.specs.Copies.{IsSource, IsPlacedCopy}
-use Rattle.copied_result.specs.Padding.{home_of}
-use Rattle.copied_result.specs.declared.copy_source.CopySource.{CopySource}
-use Rattle.copied_result.specs.declared.placed_copy.PlacedCopy.{PlacedCopy}
+use Rattle.patch_code.specs.Serving.{ServingStub, serving_home, test_bytes}
+use Rattle.patch_code.specs.Overlay.{OverlayPlan, serving_place}
+use Rattle.patch_code.specs.StubPlans.{serving_stub, overlay_plan}
+use Rattle.patch_code.specs.Served.{IsServedInside}
+use Rattle.patch_code.specs.declared.stub_plan.Stub.{Stub}
+use Rattle.patch_code.proofs.WholePlaces.{served_inside}
+use Rattle.result_laws.specs.HomeLaws.{unnamed_in}
+use Rattle.result_laws.specs.LiveUnits.{UnitsStand}
+use Rattle.result_laws.proofs.CodeUnits.{code_units_stand}
+use Rattle.result_laws.specs.ChosenPlacement.{ChosenPlacement, no_piece}
+use Rattle.result_laws.specs.PlacedView.{enters_piece, is_served, IsUncopied, ServesSome}
+use Rattle.relink_core.specs.Copies.{IsSource, IsPlacedCopy}
+use Rattle.relink_core.specs.Padding.{home_of}
+use Rattle.relink_core.specs.declared.copy_source.CopySource.{CopySource}
+use Rattle.relink_core.specs.declared.placed_copy.PlacedCopy.{PlacedCopy}
 use Rattle.list_checks.proofs.TestLemmas.{both, either}
 use Rattle.relink_core.specs.Chosen.{names_of}
 use Rattle.relink_core.specs.Placed.{Taken, MovesBy}

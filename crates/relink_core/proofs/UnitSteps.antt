@@ -9,19 +9,19 @@ use Rattle.code_blocks.specs.Leads.{no_unit, IsBlockOf}
 use Rattle.code_blocks.specs.declared.parts.Block.{Block}
 use Rattle.code_blocks.specs.declared.parts.Code.{Code}
 use Rattle.code_blocks.specs.declared.parts.Unit.{Unit}
-use Rattle.points_to.proofs.BlockLemmas.{units_are}
+use Rattle.dataflow.proofs.FactLemmas.{units_are}
 use Rattle.block_splitter.specs.Forms.{Body, body_at, holds_block, copy_size, is_site, units_size}
 use Rattle.block_splitter.specs.Copies.{is_inside, kind_in, address_of, place_of, words_before}
 use Rattle.block_splitter.proofs.CopySizeLemmas.{held}
 use Rattle.block_splitter.proofs.FieldLemmas.{body_is}
-use Rattle.copied_code.proofs.Places.{unit_fits}
-use Rattle.overlay_stubs.specs.Plans.{serving_stub}
-use Rattle.overlay_stubs.specs.Serving.{ServingStub}
-use Rattle.overlay_stubs.specs.declared.plan.Stub.{Stub}
-use Rattle.copied_result.specs.declared.copy_source.CopySource.{CopySource}
-use Rattle.copied_result.specs.declared.placed_copy.PlacedCopy.{PlacedCopy}
-use Rattle.copied_result.specs.Copies.{IsPlacedCopy, copied_in}
-use Rattle.copied_result.proofs.StubsMade.{block_below}
+use Rattle.result_laws.proofs.Places.{unit_fits}
+use Rattle.patch_code.specs.StubPlans.{serving_stub}
+use Rattle.patch_code.specs.Serving.{ServingStub}
+use Rattle.patch_code.specs.declared.stub_plan.Stub.{Stub}
+use Rattle.relink_core.specs.declared.copy_source.CopySource.{CopySource}
+use Rattle.relink_core.specs.declared.placed_copy.PlacedCopy.{PlacedCopy}
+use Rattle.relink_core.specs.Copies.{IsPlacedCopy, copied_in}
+use Rattle.relink_core.proofs.StubsMade.{block_below}
 use Rattle.relink_core.specs.declared.unit_forms.UnitAt.{UnitAt}
 use Rattle.relink_core.specs.UnitSets.{Gains, Upto, IsForm, HomeForm, HomeForms, begins_padded, CopiedForm, BlockForms, HeldForms, PieceForms, CopyForms, runs, StubForm, StubForms, no_stub}
 use Rattle.relink_core.proofs.UnitSetLemmas.{gains_none, gains_same, gains_whole}

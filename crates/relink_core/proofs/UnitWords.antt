@@ -13,8 +13,8 @@ use Rattle.object_graph.specs.declared.parts.Site.{Site}
 use Rattle.object_graph.specs.declared.parts.Graph.{Graph}
 use Rattle.object_machine.specs.Program.{Program}
 use Rattle.code_blocks.specs.Blocks.{start_of, IsCode}
-use Rattle.code_leaders.proofs.LeaderLemmas.{both_pass}
-use Rattle.liveness.proofs.TableLemmas.{block_units}
+use Rattle.code_blocks.proofs.LeaderLemmas.{both_pass}
+use Rattle.dataflow.proofs.TableLemmas.{block_units}
 use Rattle.code_blocks.specs.Leads.{units_at, no_unit, IsBlockOf}
 use Rattle.code_blocks.specs.Numbers.{starts_of, start_at}
 use Rattle.code_blocks.specs.declared.parts.Unit.{Unit}
@@ -23,16 +23,16 @@ use Rattle.code_blocks.specs.declared.parts.Code.{Code}
 use Rattle.block_splitter.specs.Forms.{body_at, unit_in}
 use Rattle.block_splitter.specs.Copies.{Patch, word_of_unit, HasSites}
 use Rattle.cell_values.specs.Stands.{address_word}
-use Rattle.word_bits.specs.Words.{plus}
-use Rattle.points_to.specs.Overlaid.{region_in}
+use Rattle.rv32im.specs.Words.{plus}
+use Rattle.dataflow.specs.Overlaid.{region_in}
 use Rattle.relocator.specs.declared.places.Places.{Places}
 use Rattle.relocator.specs.Placing.{place_at, ArePlaces}
 use Rattle.relocator.specs.SiteWords.{no_site, site_at, site_address, IsSiteWord, AreSiteWords}
-use Rattle.result_setups.specs.HomeLaws.{IsAccepted, unnamed_in}
-use Rattle.result_setups.specs.LiveUnits.{StandsThere, UnitsStand, code_unit}
-use Rattle.result_setups.proofs.CodeUnits.{body_units, code_units_stand}
-use Rattle.result_placements.specs.ChosenPlacement.{ChosenPlacement, slots_in, places_in, AreWordsOfUnits}
-use Rattle.result_placements.specs.PlacedView.{HasRegion, InBlock, Elsewhere}
+use Rattle.result_laws.specs.HomeLaws.{IsAccepted, unnamed_in}
+use Rattle.result_laws.specs.LiveUnits.{StandsThere, UnitsStand, code_unit}
+use Rattle.result_laws.proofs.CodeUnits.{body_units, code_units_stand}
+use Rattle.result_laws.specs.ChosenPlacement.{ChosenPlacement, slots_in, places_in, AreWordsOfUnits}
+use Rattle.result_laws.specs.PlacedView.{HasRegion, InBlock, Elsewhere}
 use Rattle.relink_core.specs.Written.{AreSiteRegions}
 use Rattle.relink_core.proofs.RealiseLemmas.{graphs}
 use Rattle.relink_core.proofs.BlockOrder.{starts_rise}

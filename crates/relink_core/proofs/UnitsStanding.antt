@@ -17,19 +17,19 @@ use Rattle.code_blocks.specs.declared.parts.Code.{Code}
 use Rattle.code_blocks.specs.declared.parts.Unit.{Unit}
 use Rattle.block_splitter.specs.Forms.{holds_block, body_at}
 use Rattle.block_splitter.specs.Copies.{Copy, address_of, place_of}
-use Rattle.overlay_stubs.specs.Serving.{ServingStub, serving_home}
-use Rattle.overlay_stubs.specs.Overlay.{OverlayPlan, serving_place}
-use Rattle.overlay_stubs.specs.Served.{body_at as stub_body_at}
-use Rattle.result_setups.specs.LiveUnits.{StandsThere, UnitsStand, code_unit}
-use Rattle.result_setups.proofs.CodeUnits.{body_units}
-use Rattle.result_placements.specs.PlacedPieces.{PlacedPiece}
-use Rattle.result_placements.specs.ChosenPlacement.{ChosenPlacement, no_piece, piece_of, copy_in}
-use Rattle.result_placements.specs.PlacedView.{is_served, is_padded, IsUncopied, HasBody, ToCopy, Displaced, ServesSome, IsServedBy, AreStubsOf}
-use Rattle.copied_result.specs.declared.code_regions.CodeRegions.{CodeRegions}
-use Rattle.copied_result.specs.declared.copy_source.CopySource.{CopySource}
-use Rattle.copied_result.specs.declared.placed_copy.PlacedCopy.{PlacedCopy}
-use Rattle.copied_result.specs.Copies.{copied_in}
-use Rattle.copied_result.specs.Serving.{without_image, piece_with, IsPlacedWith}
+use Rattle.patch_code.specs.Serving.{ServingStub, serving_home}
+use Rattle.patch_code.specs.Overlay.{OverlayPlan, serving_place}
+use Rattle.patch_code.specs.Served.{body_at as stub_body_at}
+use Rattle.result_laws.specs.LiveUnits.{StandsThere, UnitsStand, code_unit}
+use Rattle.result_laws.proofs.CodeUnits.{body_units}
+use Rattle.result_laws.specs.PlacedPieces.{PlacedPiece}
+use Rattle.result_laws.specs.ChosenPlacement.{ChosenPlacement, no_piece, piece_of, copy_in}
+use Rattle.result_laws.specs.PlacedView.{is_served, is_padded, IsUncopied, HasBody, ToCopy, Displaced, ServesSome, IsServedBy, AreStubsOf}
+use Rattle.relink_core.specs.declared.code_regions.CodeRegions.{CodeRegions}
+use Rattle.relink_core.specs.declared.copy_source.CopySource.{CopySource}
+use Rattle.relink_core.specs.declared.placed_copy.PlacedCopy.{PlacedCopy}
+use Rattle.relink_core.specs.Copies.{copied_in}
+use Rattle.relink_core.specs.Serving.{without_image, piece_with, IsPlacedWith}
 use Rattle.relink_core.specs.declared.unit_forms.UnitAt.{UnitAt}
 use Rattle.relink_core.specs.UnitMaps.{piece_region, IsAtHome, IsUnitAt, AtHome, InCopy, InStub}
 use Rattle.relink_core.specs.UnitSets.{Upto, form_at, HomeForms, begins_padded, CopyForms, StubForms, no_stub, runs}

@@ -21,11 +21,11 @@ use Rattle.board_config.specs.declared.board.Board.{Board}
 use Rattle.loaded_file.specs.Code.{is_code_word}
 use Rattle.object_graph.specs.LayoutFaults.{segment_overlaps, patch_overlap_fault}
 use Rattle.object_graph.specs.declared.parts.Graph.{Graph}
-use Rattle.result_setups.specs.HomeLaws.{IsAccepted}
-use Rattle.result_setups.proofs.Words.{code_range}
+use Rattle.result_laws.specs.HomeLaws.{IsAccepted}
+use Rattle.result_laws.proofs.Words.{code_range}
 use Rattle.relocator.specs.SiteWords.{site_at, is_entry}
 use Rattle.relink_core.specs.Faults.{headers_fault}
-use Rattle.patch_plans.proofs.Near.{entry_is_code, is_near}
+use Rattle.relink_core.proofs.Near.{entry_is_code, is_near}
 use Rattle.relink_core.proofs.RangeLemmas.{segments_off}
 
 -- ---- the new segment

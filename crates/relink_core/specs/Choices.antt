@@ -6,10 +6,10 @@ use Rattle.board_config.specs.Board.{IsLawful}
 use Rattle.board_config.specs.declared.board.Board.{Board}
 use Rattle.object_graph.specs.Graphs.{IsGraph}
 use Rattle.code_blocks.specs.Blocks.{IsCode}
-use Rattle.liveness.specs.Tables.{IsTableOf}
+use Rattle.dataflow.specs.Tables.{IsTableOf}
 use Rattle.block_splitter.specs.Pieces.{ArePieces}
-use Rattle.result_setups.specs.Absolute.{IsAbsolute}
-use Rattle.result_setups.specs.ResultLaws.{KeepsRuns}
+use Rattle.result_laws.specs.Absolute.{IsAbsolute}
+use Rattle.result_laws.specs.ResultLaws.{KeepsRuns}
 use Rattle.relink_core.specs.declared.analysis.Analysis.{Analysis}
 use Rattle.relink_core.specs.Faults.{analyse_fault}
 use Rattle.relink_core.specs.Keeps.{KeepsPaired}

@@ -5,7 +5,7 @@ use Rattle.elf_reader.specs.declared.view.ElfView.{ElfView}
 use Rattle.loaded_file.specs.Read.{IsRead}
 use Rattle.board_config.specs.declared.board.Board.{Board}
 use Rattle.code_blocks.specs.Blocks.{IsCode}
-use Rattle.liveness.specs.Tables.{IsTableOf}
+use Rattle.dataflow.specs.Tables.{IsTableOf}
 use Rattle.region_former.specs.declared.table.RegionTable.{RegionTable}
 use Rattle.block_splitter.specs.Pieces.{ArePieces}
 use Rattle.placement_programme.specs.Plain.{PlainProgramme, PlainChoice}
@@ -13,12 +13,12 @@ use Rattle.placement_programme.specs.declared.variables.VarName.{VarName}
 use Rattle.relocator.specs.declared.places.Places.{Places}
 use Rattle.relocator.specs.Placing.{chosen_slots, ArePlaces}
 use Rattle.relocator.specs.SiteWords.{AreSiteWords}
-use Rattle.result_placements.specs.Choices.{IsChoiceFor}
-use Rattle.result_placements.specs.Laws.{regions_on}
-use Rattle.copied_result.specs.declared.code_regions.CodeRegions.{CodeRegions}
-use Rattle.copied_result.specs.declared.copy_source.CopySource.{CopySource}
+use Rattle.result_laws.specs.Choices.{IsChoiceFor}
+use Rattle.result_laws.specs.PlacementLaws.{regions_on}
+use Rattle.relink_core.specs.declared.code_regions.CodeRegions.{CodeRegions}
+use Rattle.relink_core.specs.declared.copy_source.CopySource.{CopySource}
 use Rattle.relink_core.specs.Regions.{AreRegions}
-use Rattle.patch_plans.specs.Laws.{borders_on}
+use Rattle.relink_core.specs.PlanLaws.{borders_on}
 use Rattle.relink_core.specs.Sides.{blocks_on}
 use Rattle.relink_core.specs.Names.{objects_named, ranges_named}
 use Rattle.relink_core.specs.Extending.{IsExtendable}

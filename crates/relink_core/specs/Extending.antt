@@ -9,7 +9,7 @@ use Rattle.elf_writer.specs.Written.{written}
 use Rattle.elf_writer.specs.View.{written_view}
 use Rattle.elf_writer.specs.Conditions.{HasWords}
 use Rattle.board_config.specs.declared.board.Board.{Board}
-use Rattle.result_setups.specs.HomeLaws.{IsAccepted}
+use Rattle.result_laws.specs.HomeLaws.{IsAccepted}
 use Rattle.relink_core.specs.Faults.{headers_fault, least_patch}
 use Rattle.relink_core.specs.Making.{patch_of}
 

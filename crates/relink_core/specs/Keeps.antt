@@ -10,9 +10,9 @@ use Rattle.object_graph.specs.declared.parts.Graph.{Graph}
 use Rattle.object_machine.specs.State.{SourceState}
 use Rattle.object_machine.specs.Paired.{at_start, PairedSteps}
 use Rattle.simulation.specs.Laws.{Keeps}
-use Rattle.result_setups.specs.HomeLaws.{program_in, source_start, file_start}
-use Rattle.result_setups.specs.Absolute.{IsAbsolute}
-use Rattle.result_setups.specs.ResultLaws.{most_steps, KeepsRuns}
+use Rattle.result_laws.specs.HomeLaws.{program_in, source_start, file_start}
+use Rattle.result_laws.specs.Absolute.{IsAbsolute}
+use Rattle.result_laws.specs.ResultLaws.{most_steps, KeepsRuns}
 use Rattle.relink_core.specs.Faults.{analyse_fault}
 
 -- What a program does on an input in `n` paired steps, its result does in at most `n + 1` times `most_steps` steps, and

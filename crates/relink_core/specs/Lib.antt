@@ -1,3 +1,14 @@
+pub use Rattle.result_laws.specs.PatchLaws
+pub use Rattle.result_laws.specs.PlacedView
+pub mod Copies
+pub mod Entries
+pub mod Padding
+pub mod StubBlocks
+pub mod Serving
+pub mod Counting
+pub mod Naming
+pub mod Planning
+pub mod PlanLaws
 pub mod Faults
 pub mod Keeps
 pub mod Regions

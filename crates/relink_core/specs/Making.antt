@@ -1,6 +1,6 @@
 -- The parts of a result, as they are made of what is read.
 use Rattle.std.specs.Prelude.{ℕ, zero, suc, ◌-◌, ◌<◌, ◌≤◌, ◌==◌, ◌&&◌, if◌then◌else◌, List, [], ◌∷◌, ◌++◌, length, Option, Some, None, All}
-use Rattle.word_bits.specs.Words.{plus}
+use Rattle.rv32im.specs.Words.{plus}
 use Rattle.elf_reader.specs.File.{PlainSegment, PlainSymbol, PlainView}
 use Rattle.elf_reader.specs.Image.{has_byte}
 use Rattle.loaded_file.specs.Records.{symbol_at}

@@ -8,11 +8,11 @@ use Rattle.region_former.specs.declared.table.RegionTable.{RegionTable}
 use Rattle.placement_programme.specs.Plain.{PlainProgramme, PlainChoice}
 use Rattle.relocator.specs.declared.items.Item.{Item}
 use Rattle.relocator.specs.Slots.{items_of}
-use Rattle.overlay_stubs.specs.Overlay.{OverlayPlan}
-use Rattle.result_placements.specs.Laws.{regions_on}
-use Rattle.result_placements.specs.ChosenPlacement.{ChosenPlacement, IsChosenPlacement}
-use Rattle.result_placements.specs.PlacedView.{IsPlacedView}
-use Rattle.patch_plans.specs.Laws.{borders_on}
+use Rattle.patch_code.specs.Overlay.{OverlayPlan}
+use Rattle.result_laws.specs.PlacementLaws.{regions_on}
+use Rattle.result_laws.specs.ChosenPlacement.{ChosenPlacement, IsChosenPlacement}
+use Rattle.result_laws.specs.PlacedView.{IsPlacedView}
+use Rattle.relink_core.specs.PlanLaws.{borders_on}
 use Rattle.relink_core.specs.Sides.{blocks_on}
 use Rattle.relink_core.specs.Written.{IsWrittenFor}
 

@@ -3,7 +3,7 @@ use Rattle.std.specs.Prelude.{◌≡◌, ◌↔◌, ℕ, ◌<◌, ◌≤◌, Boo
 use Rattle.elf_reader.specs.File.{PlainView}
 use Rattle.board_config.specs.declared.board.Board.{Board}
 use Rattle.code_blocks.specs.declared.parts.Code.{Code}
-use Rattle.liveness.specs.Live.{LiveAt, Live}
+use Rattle.dataflow.specs.Live.{LiveAt, Live}
 use Rattle.region_former.specs.Regions.{IsFormed}
 use Rattle.region_former.specs.declared.table.RegionTable.{RegionTable}
 

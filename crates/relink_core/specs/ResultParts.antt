@@ -7,20 +7,20 @@ use Rattle.board_config.specs.declared.board.Board.{Board}
 use Rattle.region_former.specs.declared.table.RegionTable.{RegionTable}
 use Rattle.placement_programme.specs.declared.variables.VarName.{VarName}
 use Rattle.placement_programme.specs.Plain.{PlainProgramme, PlainChoice}
-use Rattle.copy_jobs.specs.Jobs.{fences}
-use Rattle.overlay_jobs.specs.ChosenJobs.{is_static}
-use Rattle.overlay_stubs.specs.Serving.{serving_home}
-use Rattle.overlay_stubs.specs.Plans.{serving_stub, HasLists, overlay_plan}
-use Rattle.overlay_stubs.specs.declared.plan.Stub.{Stub}
-use Rattle.overlay_stubs.specs.declared.plan.StubPlan.{StubPlan}
+use Rattle.patch_code.specs.Jobs.{fences}
+use Rattle.result_laws.specs.ChosenJobs.{is_static}
+use Rattle.patch_code.specs.Serving.{serving_home}
+use Rattle.patch_code.specs.StubPlans.{serving_stub, HasLists, overlay_plan}
+use Rattle.patch_code.specs.declared.stub_plan.Stub.{Stub}
+use Rattle.patch_code.specs.declared.stub_plan.StubPlan.{StubPlan}
 use Rattle.relocator.specs.Slots.{code_slots}
 use Rattle.relocator.specs.Placing.{chosen_slots}
-use Rattle.result_placements.specs.ChosenPlacement.{ChosenPlacement, IsChosenPlacement}
-use Rattle.result_placements.specs.PlacedView.{IsPlanFor}
-use Rattle.copied_result.specs.declared.placed_copy.PlacedCopy.{PlacedCopy}
-use Rattle.copied_result.specs.Copies.{ArePlacedCopies}
-use Rattle.copied_result.specs.Serving.{IsPlacedWith, served_blocks, AreStubsFrom}
-use Rattle.copied_result.specs.StubBlocks.{HasRoomFor, stub_blocks}
+use Rattle.result_laws.specs.ChosenPlacement.{ChosenPlacement, IsChosenPlacement}
+use Rattle.result_laws.specs.PlacedView.{IsPlanFor}
+use Rattle.relink_core.specs.declared.placed_copy.PlacedCopy.{PlacedCopy}
+use Rattle.relink_core.specs.Copies.{ArePlacedCopies}
+use Rattle.relink_core.specs.Serving.{IsPlacedWith, served_blocks, AreStubsFrom}
+use Rattle.relink_core.specs.StubBlocks.{HasRoomFor, stub_blocks}
 use Rattle.relink_core.specs.Chosen.{names_of, IsSourceOf}
 use Rattle.relink_core.specs.Placed.{taken_of, IsPlacementFor}
 use Rattle.relink_core.specs.Names.{ranges_named}

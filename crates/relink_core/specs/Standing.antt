@@ -12,9 +12,9 @@ use Rattle.placement_programme.specs.declared.variables.VarName.{VarName}
 use Rattle.placement_programme.specs.declared.variables.VarName.TheVariants.{StaticData, StaticCode, OverlayData, OverlayCode, KeptData}
 use Rattle.relocator.specs.declared.places.Places.{Places}
 use Rattle.relocator.specs.Placing.{chosen_slots, ArePlaces}
-use Rattle.copied_result.specs.declared.placed_copy.PlacedCopy.{PlacedCopy}
-use Rattle.copied_result.specs.Copies.{range_in, place_in}
-use Rattle.result_placements.specs.Laws.{regions_on}
+use Rattle.relink_core.specs.declared.placed_copy.PlacedCopy.{PlacedCopy}
+use Rattle.relink_core.specs.Copies.{range_in, place_in}
+use Rattle.result_laws.specs.PlacementLaws.{regions_on}
 use Rattle.relink_core.specs.Chosen.{names_of}
 use Rattle.relink_core.specs.Names.{range_bytes, ranges_named}
 

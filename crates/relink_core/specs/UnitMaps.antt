@@ -9,12 +9,12 @@ use Rattle.block_splitter.specs.Forms.{holds_block}
 use Rattle.block_splitter.specs.Copies.{address_of, place_of}
 use Rattle.placement_programme.specs.declared.variables.VarName.{VarName}
 use Rattle.placement_programme.specs.declared.variables.VarName.TheVariants.{StaticData, StaticCode, OverlayData, OverlayCode, KeptData}
-use Rattle.overlay_stubs.specs.Serving.{ServingStub}
-use Rattle.overlay_stubs.specs.Overlay.{OverlayPlan}
-use Rattle.overlay_stubs.specs.Served.{body_at}
-use Rattle.result_setups.specs.LiveUnits.{StandsThere}
-use Rattle.result_placements.specs.ChosenPlacement.{ChosenPlacement, piece_of, copy_in}
-use Rattle.result_placements.specs.PlacedView.{is_padded, IsUncopied, Serves}
+use Rattle.patch_code.specs.Serving.{ServingStub}
+use Rattle.patch_code.specs.Overlay.{OverlayPlan}
+use Rattle.patch_code.specs.Served.{body_at}
+use Rattle.result_laws.specs.LiveUnits.{StandsThere}
+use Rattle.result_laws.specs.ChosenPlacement.{ChosenPlacement, piece_of, copy_in}
+use Rattle.result_laws.specs.PlacedView.{is_padded, IsUncopied, Serves}
 use Rattle.relink_core.specs.Chosen.{names_of}
 use Rattle.relink_core.specs.Placed.{Taken, MovesItems}
 use Rattle.relink_core.specs.declared.unit_forms.UnitAt.{UnitAt}

@@ -8,12 +8,12 @@ use Rattle.code_blocks.specs.declared.parts.Unit.{Unit}
 use Rattle.code_blocks.specs.declared.parts.Code.{Code}
 use Rattle.block_splitter.specs.Forms.{holds_block, body_at}
 use Rattle.block_splitter.specs.Copies.{Copy, address_of, place_of, unit_of}
-use Rattle.overlay_stubs.specs.Plans.{serving_stub}
-use Rattle.overlay_stubs.specs.Serving.{StubBody, jumps_to, runs_words, ServingStub}
-use Rattle.overlay_stubs.specs.declared.plan.Stub.{Stub}
-use Rattle.copied_result.specs.declared.copy_source.CopySource.{CopySource}
-use Rattle.copied_result.specs.declared.placed_copy.PlacedCopy.{PlacedCopy}
-use Rattle.copied_result.specs.Copies.{IsSource, IsPlacedCopy, copied_in}
+use Rattle.patch_code.specs.StubPlans.{serving_stub}
+use Rattle.patch_code.specs.Serving.{StubBody, jumps_to, runs_words, ServingStub}
+use Rattle.patch_code.specs.declared.stub_plan.Stub.{Stub}
+use Rattle.relink_core.specs.declared.copy_source.CopySource.{CopySource}
+use Rattle.relink_core.specs.declared.placed_copy.PlacedCopy.{PlacedCopy}
+use Rattle.relink_core.specs.Copies.{IsSource, IsPlacedCopy, copied_in}
 use Rattle.relink_core.specs.declared.form_sources.FormSources.{FormSources}
 use Rattle.relink_core.specs.declared.unit_forms.UnitAt.{UnitAt}
 

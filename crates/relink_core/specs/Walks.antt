@@ -7,8 +7,8 @@ use Rattle.object_graph.specs.declared.parts.Graph.{Graph}
 use Rattle.object_machine.specs.State.{SourceState}
 use Rattle.object_machine.specs.Runs.{Steps}
 use Rattle.region_former.specs.declared.table.RegionTable.{RegionTable}
-use Rattle.result_setups.specs.HomeLaws.{program_in, source_start}
-use Rattle.placed_results.specs.Walks.{IsNoFault, PlacedWalk}
+use Rattle.result_laws.specs.HomeLaws.{program_in, source_start}
+use Rattle.result_laws.specs.Walks.{IsNoFault, PlacedWalk}
 use Rattle.relink_core.specs.Placed.{Taken, MovesItems}
 
 -- beside each run that meets no address fault a result walks unit by unit: the words of each unit at a form of it, with its

@@ -15,11 +15,11 @@ use Rattle.object_graph.specs.declared.parts.Graph.{Graph}
 use Rattle.cell_values.specs.Objects.{object_of}
 use Rattle.cell_values.specs.Stands.{Places}
 use Rattle.code_blocks.specs.declared.parts.Code.{Code}
-use Rattle.overlay_stubs.specs.Start.{start_at}
-use Rattle.overlay_stubs.specs.Overlay.{OverlayPlan, AreOverlayWords, serving_place}
+use Rattle.patch_code.specs.Start.{start_at}
+use Rattle.patch_code.specs.Overlay.{OverlayPlan, AreOverlayWords, serving_place}
 use Rattle.relocator.specs.SiteWords.{site_at}
-use Rattle.result_placements.specs.ChosenPlacement.{ChosenPlacement, slots_in, places_in}
-use Rattle.result_placements.specs.PlacedView.{start_plan, HasRegion}
+use Rattle.result_laws.specs.ChosenPlacement.{ChosenPlacement, slots_in, places_in}
+use Rattle.result_laws.specs.PlacedView.{start_plan, HasRegion}
 use Rattle.relink_core.specs.Names.{name_of_slot, objects_named}
 use Rattle.relink_core.specs.declared.segments.PatchSegment.{PatchSegment}
 

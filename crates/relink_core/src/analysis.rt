@@ -9,8 +9,7 @@ ghost use Rattle.object_graph.specs.Graphs.{IsGraph};
 ghost use Rattle.object_graph.specs.Lookups.{IsSomeGraph};
 ghost use Rattle.code_blocks.specs.Blocks.{IsCode, code_fault};
 ghost use Rattle.code_blocks.specs.Numbers.{starts_of};
-ghost use Rattle.liveness.specs.Tables.{IsTableOf};
-ghost use Rattle.points_to.specs.Tables.{IsTableOf as IsPointsOf};
+ghost use Rattle.dataflow.specs.Tables.{IsTableOf};
 ghost use Rattle.block_splitter.specs.Pieces.{ArePieces};
 ghost use Rattle.relink_core.specs.declared.fault.AnalyseFault.TheVariants as analyse;
 ghost use Rattle.relink_core.specs.Faults.{IsOutermost, headers_fault, file_fault, least_patch, patch_fault, places_fault, analyse_fault, ReportsAnalysis, ReportsRegions};
@@ -20,12 +19,11 @@ use crate::fault::AnalyseFault;
 use block_splitter::{Piece, pieces};
 use board_config::Board;
 use code_blocks::{Code, blocks};
+use dataflow::{LiveTable, live};
 use elf_reader::{ElfFault, ElfView, read};
-use liveness::{LiveTable, live};
 use object_graph::{Graph, graph};
-use points_to::{PointsTable, points};
 use region_former::{RegionTable, regions};
-use rv_decode::RegSet;
+use rv32im::RegSet;
 use std::alloc::{AllocError, Global};
 
 /// The most program headers of a file that is read. A result has one more than the program, so that many are
@@ -105,16 +103,6 @@ pub fn analyse<'a>(
         }),
         Err(fault) => Err(fault),
     }
-}
-
-/// Which registers may hold addresses of an object where blocks begin, and which objects escape. No command reads this table:
-/// it answers for each object and each register of each block. It fails only where no memory was left.
-pub fn points_of(alloc: Global, analysis: &Analysis) -> Result<PointsTable, AllocError>
-    requires ascending { IsStrictlyIncreasing (starts_of analysis.now.code) }
-    requires graph { IsSomeGraph analysis.now.graph }
-    ensures { IfOk result (IsPointsOf analysis.now.code analysis.now.graph) }
-{
-    points(alloc, &analysis.code, &analysis.graph)
 }
 
 /// The view, the graph and the code of a program.

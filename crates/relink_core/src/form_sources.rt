@@ -1,5 +1,6 @@
-use copied_result::{CopySource, PlacedCopy};
-use overlay_stubs::Stub;
+use crate::copy_source::CopySource;
+use crate::placed_copy::PlacedCopy;
+use patch_code::Stub;
 
 /// Where the units of a code stand: the homes of stubs, where pads are; copies, and the regions in which these stand; and
 /// stubs, and where these stand.

@@ -1,6 +1,6 @@
 //! The patches of a file: where words of memory stand in it.
 ghost use Rattle.std.specs.Prelude.{◌≡◌, ◌-◌, true, map, IfOk};
-ghost use Rattle.word_bits.specs.Words.{plus};
+ghost use Rattle.rv32im.specs.Words.{plus};
 ghost use Rattle.elf_reader.specs.File.{plain_segment, plain_view};
 ghost use Rattle.elf_reader.specs.Image.{has_byte};
 ghost use Rattle.relink_core.specs.Making.{place_in, patch_of};

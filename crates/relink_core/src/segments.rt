@@ -1,12 +1,12 @@
 //! The new segment of a result: the code of its patch range.
 ghost use Rattle.std.specs.Prelude.{◌≡◌, ◌<◌, IfOk, All};
 ghost use Rattle.elf_writer.specs.Pieces.{words_bytes};
-ghost use Rattle.overlay_stubs.specs.Overlay.{CanHold};
-ghost use Rattle.overlay_stubs.specs.Plans.{overlay_plan, HasLists};
+ghost use Rattle.patch_code.specs.Overlay.{CanHold};
+ghost use Rattle.patch_code.specs.StubPlans.{overlay_plan, HasLists};
 ghost use Rattle.relink_core.specs.Written.{IsPatchSegment};
 
 use elf_writer::{SegmentBytes, push_words};
-use overlay_stubs::{StubPlan, stubs};
+use patch_code::{StubPlan, stubs};
 use std::alloc::{AllocError, Global};
 
 /// The new segment, and where each stub of its plan stands.

@@ -5,12 +5,12 @@ ghost use Rattle.elf_reader.specs.File.{PlainView};
 ghost use Rattle.object_machine.specs.Program.{Program};
 ghost use Rattle.code_blocks.specs.Numbers.{starts_of};
 ghost use Rattle.code_blocks.specs.Leads.{no_unit};
-ghost use Rattle.result_setups.specs.LiveUnits.{UnitsStand};
-ghost use Rattle.result_placements.specs.PlacedView.{HasRegion};
+ghost use Rattle.result_laws.specs.LiveUnits.{UnitsStand};
+ghost use Rattle.result_laws.specs.PlacedView.{HasRegion};
 ghost use Rattle.relink_core.specs.Written.{AreSiteRegions};
 
+use crate::code_regions::CodeRegions;
 use code_blocks::{Block, Code};
-use copied_result::CodeRegions;
 use object_graph::Graph;
 use std::alloc::{AllocError, Global};
 

@@ -7,17 +7,18 @@ ghost use Rattle.code_blocks.specs.Numbers.{starts_of, Ascends};
 ghost use Rattle.code_blocks.specs.Leads.{no_unit};
 ghost use Rattle.block_splitter.specs.Copies.{address_of, words_before};
 ghost use Rattle.block_splitter.specs.Forms.{holds_block, begins_in, body_at, is_site, kind_of, copy_size};
-ghost use Rattle.overlay_stubs.specs.Plans.{serving_stub};
-ghost use Rattle.copied_result.specs.Copies.{IsSource, IsPlacedCopy, copied_in};
-ghost use Rattle.copied_result.specs.declared.copy_source.CopySource.{CopySource};
+ghost use Rattle.patch_code.specs.StubPlans.{serving_stub};
+ghost use Rattle.relink_core.specs.Copies.{IsSource, IsPlacedCopy, copied_in};
+ghost use Rattle.relink_core.specs.declared.copy_source.CopySource.{CopySource};
 ghost use Rattle.relink_core.specs.UnitMaps.{StandsBefore};
 ghost use Rattle.relink_core.specs.UnitSets.{Gains, Upto, IsForm, HomeForm, HomeForms, BlockForms, PieceForms, CopyForms, StubForm, StubForms, runs};
 
+use crate::copy_source::CopySource;
+use crate::placed_copy::PlacedCopy;
 use block_splitter::{BlockRange, UnitKind, copy_size, kind_of};
 use code_blocks::{Block, Code};
-use copied_result::{CopySource, PlacedCopy};
 use list_checks::has;
-use overlay_stubs::{Body, Stub};
+use patch_code::{Body, Stub};
 use std::alloc::AllocError;
 
 /// Where a unit of a program stands in a result.

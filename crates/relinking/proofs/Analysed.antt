@@ -12,11 +12,11 @@ use Rattle.loaded_file.proofs.WordLemmas.{same_view}
 use Rattle.object_graph.specs.Graphs.{IsGraph}
 use Rattle.object_graph.specs.LayoutFaults.{layout_fault}
 use Rattle.object_graph.specs.declared.parts.Graph.{Graph}
-use Rattle.code_leaders.specs.Leaders.{is_leader}
+use Rattle.code_blocks.specs.Leaders.{is_leader}
 use Rattle.code_blocks.proofs.EntryLemmas.{entry_leads}
 use Rattle.code_blocks.specs.Blocks.{IsCode, code_fault}
 use Rattle.code_blocks.specs.declared.parts.Code.{Code}
-use Rattle.liveness.specs.Tables.{IsTableOf}
+use Rattle.dataflow.specs.Tables.{IsTableOf}
 use Rattle.block_splitter.specs.Pieces.{ArePieces}
 use Rattle.relink_core.specs.Faults.{IsFaultless, file_fault, least_patch, patch_fault, places_fault, view_fault, analyse_fault}
 use Rattle.relink_core.specs.Findings.{Findings}

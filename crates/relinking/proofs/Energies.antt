@@ -8,7 +8,7 @@ use Rattle.loaded_file.specs.Read.{IsRead}
 use Rattle.object_graph.specs.Graphs.{IsGraph}
 use Rattle.object_graph.specs.declared.parts.Graph.{Graph}
 use Rattle.block_splitter.specs.declared.piece.Piece.{Piece}
-use Rattle.code_leaders.specs.Leaders.{is_leader}
+use Rattle.code_blocks.specs.Leaders.{is_leader}
 use Rattle.code_blocks.specs.Blocks.{IsCode, code_fault}
 use Rattle.code_blocks.specs.Numbers.{starts_of}
 use Rattle.code_blocks.specs.declared.parts.Code.{Code}
@@ -22,15 +22,14 @@ use Rattle.placement_programme.specs.Plain.{PlainProgramme, PlainChoice}
 use Rattle.profile_runner.specs.Transition.{Transition}
 use Rattle.profile_runner.specs.Running.{Profiles}
 use Rattle.profile_runner.specs.declared.counts.Profile.{Profile}
-use Rattle.rv_decode.proofs.Meaning.{same_instruction}
+use Rattle.rv32im.proofs.Meaning.{same_instruction}
 use Rattle.energy_model.specs.Energy.{Scene, energy}
 use Rattle.placement_candidates.specs.Stated.{AreSomePieces}
 use Rattle.energy_model.specs.Scenes.{scene_of, AreOfSameFile}
-use Rattle.overlay_candidates.specs.Overlaid.{AreOverlaidObjects, overlay_layout}
-use Rattle.overlay_candidates.specs.Whole.{whole_stated, taken_of}
-use Rattle.overlay_candidates.proofs.WholeChoices.{whole_of_the_run}
-use Rattle.placement_programme.specs.Rows.{Layout}
-use Rattle.profile_mix.specs.Mixed.{WeightedRun, mixed_energy, EnergiesAreMixed}
+use Rattle.placement_candidates.specs.Overlaid.{AreOverlaidObjects, overlay_layout}
+use Rattle.placement_candidates.specs.Whole.{whole_stated, taken_of}
+use Rattle.placement_candidates.proofs.WholeChoices.{whole_of_the_run}
+use Rattle.placement_candidates.specs.Mixed.{WeightedRun, mixed_energy, EnergiesAreMixed}
 use Rattle.relink_core.specs.Faults.{least_patch}
 use Rattle.relinking.specs.ProgrammeOfRun.{EnergiesAreOf}
 
@@ -89,10 +88,3 @@ within_base w transitions p energies c feasible = at_most_base p.base (gain p c)
 pub mixed_within : (w : Scene) (runs : List WeightedRun) (p : PlainProgramme) → EnergiesAreMixed w runs p
     → (c : PlainChoice) → IsFeasible p c → gain p c ≤ℤ pos p.base
 mixed_within w runs p energies c feasible = at_most_base p.base (gain p c) (mixed_energy w (taken_of p c) runs) (energies c feasible)
-
--- the same programme, of lists that are equal
-pub of_lists : {os os' : List ℕ} {ps ps' : List Piece} (p : PlainProgramme) (w : Scene) (l : Layout) (transitions : List Transition)
-    → os ≡ os' → ps ≡ ps' → p ≡ whole_stated w l os ps transitions → p ≡ whole_stated w l os' ps' transitions
-of_lists {os} {os'} {ps} {ps'} p w l transitions first second is =
-    subst (λ (xs : List Piece). p ≡ whole_stated w l os' xs transitions) second
-    (subst (λ (xs : List ℕ). p ≡ whole_stated w l xs ps transitions) first is)

@@ -9,7 +9,7 @@ use Rattle.board_config.specs.declared.board.Board.{Board}
 use Rattle.loaded_file.specs.declared.byte_ranges.ByteRange.{ByteRange}
 use Rattle.loaded_file.specs.ByteRanges.{is_byte_range, IsFilled}
 use Rattle.loaded_file.proofs.ByteRangeLemmas.{any_map}
-use Rattle.movable_ranges.specs.Disjoint.{IsDisjoint}
+use Rattle.object_graph.specs.Disjoint.{IsDisjoint}
 use Rattle.object_graph.specs.LayoutFaults.{capped, objects_below, places_fault, too_many_fault, layout_fault}
 use Rattle.object_graph.specs.declared.fault.GraphFault.TheVariants.{TooManyObjects}
 use Rattle.object_graph.specs.declared.parts.Object.{Object}

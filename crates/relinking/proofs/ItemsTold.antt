@@ -24,12 +24,12 @@ use Rattle.relocator.specs.Placing.{puts, place_at, chosen_slots}
 use Rattle.relocator.specs.SiteWords.{row_length}
 use Rattle.relocator.specs.Laws.{CanLayOut, no_slot, slot_at}
 use Rattle.relocator.proofs.OwnLemmas.{objects_in_slots}
-use Rattle.copied_result.specs.declared.placed_copy.PlacedCopy.{PlacedCopy}
-use Rattle.copied_result.specs.Copies.{no_range, range_in, place_in}
-use Rattle.overlay_jobs.specs.ChosenJobs.{code_number, next_code}
-use Rattle.overlay_jobs.specs.Memories.{IsOfCode}
-use Rattle.overlay_jobs.proofs.Numbers.{code_numbers_so}
-use Rattle.result_placements.specs.Laws.{regions_on}
+use Rattle.relink_core.specs.declared.placed_copy.PlacedCopy.{PlacedCopy}
+use Rattle.relink_core.specs.Copies.{no_range, range_in, place_in}
+use Rattle.result_laws.specs.ChosenJobs.{code_number, next_code}
+use Rattle.result_laws.specs.Memories.{IsOfCode}
+use Rattle.result_laws.proofs.JobNumbers.{code_numbers_so}
+use Rattle.result_laws.specs.PlacementLaws.{regions_on}
 use Rattle.printed_lines.specs.declared.taken.TakenItem.{TakenItem}
 use Rattle.printed_lines.specs.TakenLines.{object_named, IsListedObject, IsPairName, IsListed}
 use Rattle.relink_core.specs.Names.{name_of_slot, range_named, ranges_named}

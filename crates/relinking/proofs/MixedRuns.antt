@@ -10,7 +10,7 @@ use Rattle.object_graph.specs.declared.parts.Graph.{Graph}
 use Rattle.code_blocks.specs.declared.parts.Code.{Code}
 use Rattle.block_splitter.specs.declared.piece.Piece.{Piece}
 use Rattle.region_former.specs.declared.table.RegionTable.{RegionTable}
-use Rattle.rv_decode.proofs.Meaning.{same_instruction}
+use Rattle.rv32im.proofs.Meaning.{same_instruction}
 use Rattle.placement_programme.specs.Plain.{PlainFull, PlainProgramme}
 use Rattle.placement_programme.specs.Rows.{Layout}
 use Rattle.profile_runner.specs.declared.fault.ProfileFault.{ProfileFault}
@@ -19,12 +19,12 @@ use Rattle.energy_model.specs.Energy.{Scene}
 use Rattle.energy_model.specs.Scenes.{scene_of}
 use Rattle.placement_candidates.specs.Stated.{AreSomePieces}
 use Rattle.placement_candidates.specs.Selected.{selected}
-use Rattle.overlay_candidates.specs.Overlaid.{AreOverlaidObjects, overlay_layout}
-use Rattle.profile_mix.specs.Parts.{PlainPart, IsMix, IsSmallPart, CanMix}
-use Rattle.profile_mix.specs.Mixed.{WeightedRun, mixed_stated, EnergiesAreMixed}
-use Rattle.profile_mix.specs.Laws.{IsOneOf, part_of_run}
-use Rattle.profile_mix.proofs.RunLemmas.{runs_can_mix, mixed_of_the_runs}
-use Rattle.profile_mix.proofs.EnergyLemmas.{energies_are_mixed}
+use Rattle.placement_candidates.specs.Overlaid.{AreOverlaidObjects, overlay_layout}
+use Rattle.placement_candidates.specs.Parts.{PlainPart, IsMix, IsSmallPart, CanMix}
+use Rattle.placement_candidates.specs.Mixed.{WeightedRun, mixed_stated, EnergiesAreMixed}
+use Rattle.placement_candidates.specs.MixLaws.{IsOneOf, part_of_run}
+use Rattle.placement_candidates.proofs.RunLemmas.{runs_can_mix, mixed_of_the_runs}
+use Rattle.placement_candidates.proofs.EnergyLemmas.{energies_are_mixed}
 use Rattle.relinking.specs.Runs.{ReportsCounts}
 use Rattle.relinking.specs.MixOfRuns.{WeightedInput, plain_input, AreSomeInputs, AreRunsOn, IsPartOf, ArePartsOf, StatesTogether, FaultsFirst}
 use Rattle.relinking.specs.declared.mixing.WeightedBytes.{WeightedBytes}

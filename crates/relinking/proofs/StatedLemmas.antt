@@ -12,7 +12,7 @@ use Rattle.block_splitter.specs.declared.piece.Piece.{Piece}
 use Rattle.block_splitter.specs.Forms.{holds_block}
 use Rattle.block_splitter.specs.Pieces.{range_of, ArePieces}
 use Rattle.region_former.specs.declared.table.RegionTable.{RegionTable}
-use Rattle.points_to.specs.Overlaid.{region_in, is_border}
+use Rattle.dataflow.specs.Overlaid.{region_in, is_border}
 use Rattle.profile_runner.specs.Transition.{Transition}
 use Rattle.placement_programme.specs.Plain.{PlainVar, PlainChoice, PlainFullVar, PlainFullSide, PlainSide, PlainProgramme}
 use Rattle.placement_programme.specs.Programme.{Fits, side_for, IsFeasible}
@@ -23,12 +23,12 @@ use Rattle.placement_candidates.specs.Stated.{part_of, AreSomePieces, displaced_
 use Rattle.placement_candidates.specs.Selected.{no_var, var_in, plain_kept, selected_side, has_overlay, selected_on, selected}
 use Rattle.placement_candidates.proofs.ChoiceLemmas.{piece_range}
 use Rattle.placement_candidates.proofs.SideLemmas.{number_at, kept, ns, kept_at_place, number_below, number_order}
-use Rattle.overlay_candidates.specs.Overlaid.{AreOverlaidObjects, is_of_region, displaced_below, overlay_layout, overlay_var, static_candidates, overlay_candidates, on_side, has_on_side, whole_full}
-use Rattle.overlay_candidates.specs.Whole.{whole_stated}
-use Rattle.overlay_candidates.proofs.CandidateLemmas.{static_sides, off_var, off_are}
-use Rattle.overlay_candidates.proofs.EachLemmas.{each_candidate}
-use Rattle.profile_mix.specs.Mixed.{WeightedRun, mixed_var, mixed_side, mixed_full, mixed_stated}
-use Rattle.result_placements.specs.Choices.{border_words, side_layout, IsPartFor, IsOfPiece, IsCandidateFor, IsVarFor, IsSideFor, IsChoiceFor}
+use Rattle.placement_candidates.specs.Overlaid.{AreOverlaidObjects, is_of_region, displaced_below, overlay_layout, overlay_var, static_candidates, overlay_candidates, on_side, has_on_side, whole_full}
+use Rattle.placement_candidates.specs.Whole.{whole_stated}
+use Rattle.placement_candidates.proofs.CandidateLemmas.{static_sides, off_var, off_are}
+use Rattle.placement_candidates.proofs.EachLemmas.{each_candidate}
+use Rattle.placement_candidates.specs.Mixed.{WeightedRun, mixed_var, mixed_side, mixed_full, mixed_stated}
+use Rattle.result_laws.specs.Choices.{border_words, side_layout, IsPartFor, IsOfPiece, IsCandidateFor, IsVarFor, IsSideFor, IsChoiceFor}
 use Rattle.relinking.proofs.StatedNames.{AreTwoItems, statics_differ, candidates_differ}
 
 -- all pieces are some pieces

@@ -12,7 +12,7 @@ use Rattle.placement_programme.specs.declared.variables.VarName.TheVariants.{Sta
 use Rattle.placement_programme.specs.Rows.{Candidate, static_data, static_code, overlay_data, overlay_code, kept_data, name_of, pairs_of}
 use Rattle.energy_model.specs.Energy.{Scene}
 use Rattle.placement_candidates.specs.Stated.{part_of}
-use Rattle.overlay_candidates.specs.Overlaid.{is_of_region, static_objects, static_pieces, objects_in, pieces_in, objects_of_pair, overlaid_objects, overlaid_pieces, kept_objects, static_candidates, overlay_candidates}
+use Rattle.placement_candidates.specs.Overlaid.{is_of_region, static_objects, static_pieces, objects_in, pieces_in, objects_of_pair, overlaid_objects, overlaid_pieces, kept_objects, static_candidates, overlay_candidates}
 use Rattle.relink_core.proofs.BlockOrder.{pairs_append}
 
 -- ---- what tells names apart: the kind of item, its region or pair, and its object or blocks

@@ -12,9 +12,9 @@ use Rattle.placement_programme.specs.Plain.{PlainProgramme}
 use Rattle.profile_runner.specs.declared.counts.Profile.{Profile}
 use Rattle.profile_runner.specs.declared.fault.ProfileFault.{ProfileFault}
 use Rattle.energy_model.specs.Scenes.{scene_of}
-use Rattle.overlay_candidates.specs.Overlaid.{AreOverlaidObjects, overlay_layout}
-use Rattle.profile_mix.specs.Parts.{PlainPart}
-use Rattle.profile_mix.specs.Mixed.{WeightedRun, mixed_stated, EnergiesAreMixed}
+use Rattle.placement_candidates.specs.Overlaid.{AreOverlaidObjects, overlay_layout}
+use Rattle.placement_candidates.specs.Parts.{PlainPart}
+use Rattle.placement_candidates.specs.Mixed.{WeightedRun, mixed_stated, EnergiesAreMixed}
 use Rattle.relinking.specs.Runs.{ReportsCounts}
 use Rattle.relinking.specs.ProgrammeOfRun.{RunsOn, StatesFull}
 use Rattle.relinking.specs.declared.mixing.WeightedBytes.{WeightedBytes}

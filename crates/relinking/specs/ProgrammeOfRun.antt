@@ -17,8 +17,8 @@ use Rattle.profile_runner.specs.Transitions.{Transitions}
 use Rattle.profile_runner.specs.declared.counts.Profile.{Profile}
 use Rattle.energy_model.specs.Energy.{Scene, energy}
 use Rattle.energy_model.specs.Scenes.{scene_of, AreOfSameFile}
-use Rattle.overlay_candidates.specs.Overlaid.{AreOverlaidObjects, overlay_layout, IsWholeFull}
-use Rattle.overlay_candidates.specs.Whole.{whole_stated, taken_of}
+use Rattle.placement_candidates.specs.Overlaid.{AreOverlaidObjects, overlay_layout, IsWholeFull}
+use Rattle.placement_candidates.specs.Whole.{whole_stated, taken_of}
 use Rattle.printed_lines.specs.Endings.{IsAddressFault}
 
 -- the energy of each feasible choice of either side is that of the transitions with what it takes

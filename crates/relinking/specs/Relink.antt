@@ -6,30 +6,20 @@ use Rattle.board_config.specs.declared.board.Board.{Board}
 use Rattle.object_graph.specs.declared.parts.Graph.{Graph}
 use Rattle.code_blocks.specs.declared.parts.Code.{Code}
 use Rattle.block_splitter.specs.declared.piece.Piece.{Piece}
-use Rattle.object_machine.specs.declared.events.Outcome.TheVariants.{AddressFault}
 use Rattle.region_former.specs.declared.table.RegionTable.{RegionTable}
 use Rattle.placement_programme.specs.Plain.{PlainProgramme, PlainChoice}
 use Rattle.placement_programme.specs.Programme.{IsFeasible}
 use Rattle.placement_programme.specs.Views.{plain_programme, plain_choice}
-use Rattle.profile_runner.specs.declared.fault.ProfileFault.{ProfileFault}
-use Rattle.profile_runner.specs.declared.fault.ProfileFault.TheVariants as profile
-use Rattle.result_placements.specs.Choices.{IsChoiceFor}
+use Rattle.result_laws.specs.Choices.{IsChoiceFor}
 use Rattle.relink_core.specs.Choices.{KeepsMeaning}
-use Rattle.relink_core.specs.Faults.{IsFaultless, IsFirst}
-use Rattle.relink_core.specs.Findings.{Findings}
 use Rattle.relink_core.specs.Standing.{AreStanding}
 use Rattle.relink_core.specs.Placed.{taken_of, Realises}
-use Rattle.relink_core.specs.declared.fault.AnalyseFault.{AnalyseFault}
-use Rattle.relink_core.specs.declared.fault.AnalyseFault.TheVariants as analyse
 use Rattle.relinking.specs.FoundChoice.{is_optimal, IsFound}
-use Rattle.relinking.specs.Runs.{RunsProgram}
 use Rattle.relinking.specs.MeasuredRuns.{EndsSo}
 use Rattle.relinking.specs.ProgrammeOfRun.{StatesProgramme}
 use Rattle.relinking.specs.MixOfRuns.{WeightedInput, StatesTogether}
 use Rattle.relinking.specs.declared.making.Relinked.{Relinked}
 use Rattle.relinking.specs.declared.making.RelinkedRun.{RelinkedRun}
-use Rattle.relinking.specs.declared.making.RelinkFault.{RelinkFault}
-use Rattle.relinking.specs.declared.making.RelinkFault.TheVariants as relink
 
 -- A choice that is found of a programme, with its certificate. The result realises the choice and keeps the file's
 -- meaning, on any input; where nothing is taken without overlay it is the file, and only paired runs are spoken of.
@@ -59,26 +49,3 @@ pub record RelinksBy (file : List ℕ) (board : Board) (g : Graph) (c : Code) (t
 pub record RelinksTogether (file : List ℕ) (board : Board) (g : Graph) (c : Code) (t : RegionTable) (pieces : List Piece) (inputs : List WeightedInput) (r : Relinked) : Type 0 where
   pub states : StatesTogether (view_in file) board g c t pieces inputs (plain_programme r.programme)
   pub made : IsRelinkedFor file board g c t pieces r
-
--- a file that has no fault is relinked by its own graph, code, regions and pieces
-pub record Relinks (file : List ℕ) (board : Board) (input : List ℕ) (r : RelinkedRun) : Type 0 where
-  pub no_fault : IsFaultless file board
-  pub found : Findings file board
-  pub relinks : RelinksBy file board found.graph found.code found.regions found.pieces input r
-
--- why a file is not relinked: the first fault of its analysis, or, where that has none, the address fault of its run
-abbrev pub ReportsRelink : List ℕ → Board → List ℕ → RelinkFault → Type 0
-ReportsRelink file board input (relink.Analyse fault) = IsFirst file board fault
-ReportsRelink file board input (relink.Profile (profile.AddressFault pc why)) =
-    IsFaultless file board × RunsProgram file board input (AddressFault pc why)
-ReportsRelink file board input (relink.Profile profile.Memory) = ⊥
-ReportsRelink file board input relink.Memory = Unit {0}
-
--- a part's want of memory is that of relinking
-abbrev pub analyse_relink : AnalyseFault → RelinkFault
-analyse_relink analyse.Memory = relink.Memory
-analyse_relink fault = relink.Analyse fault
-
-abbrev pub profile_relink : ProfileFault → RelinkFault
-profile_relink profile.Memory = relink.Memory
-profile_relink fault = relink.Profile fault

@@ -11,7 +11,7 @@ use Rattle.object_machine.specs.State.{SourceState}
 use Rattle.object_machine.specs.Start.{start_of}
 use Rattle.object_machine.specs.Runs.{Steps}
 use Rattle.object_machine.specs.declared.events.Outcome.{Outcome}
-use Rattle.result_setups.specs.HomeLaws.{program_in, source_start}
+use Rattle.result_laws.specs.HomeLaws.{program_in, source_start}
 use Rattle.region_former.specs.declared.table.RegionTable.{RegionTable}
 use Rattle.profile_runner.specs.Running.{ReportsOfRun}
 use Rattle.profile_runner.specs.declared.counts.Profile.{Profile}

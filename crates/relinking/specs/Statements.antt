@@ -10,10 +10,10 @@ use Rattle.placement_programme.specs.Programme.{IsFeasible}
 use Rattle.profile_runner.specs.Transition.{Transition}
 use Rattle.energy_model.specs.Scenes.{scene_of}
 use Rattle.placement_candidates.specs.Stated.{AreSomePieces}
-use Rattle.overlay_candidates.specs.Overlaid.{AreOverlaidObjects, overlay_layout}
-use Rattle.overlay_candidates.specs.Whole.{whole_stated}
-use Rattle.profile_mix.specs.Mixed.{WeightedRun, mixed_stated}
-use Rattle.result_placements.specs.Choices.{IsChoiceFor}
+use Rattle.placement_candidates.specs.Overlaid.{AreOverlaidObjects, overlay_layout}
+use Rattle.placement_candidates.specs.Whole.{whole_stated}
+use Rattle.placement_candidates.specs.Mixed.{WeightedRun, mixed_stated}
+use Rattle.result_laws.specs.Choices.{IsChoiceFor}
 
 -- a feasible choice of the programme that the moves of a run state for objects, of which these may be overlaid, and for
 -- pieces of the code can be realised: its side has the rows for the graph, the code, its regions and the board, and its

@@ -9,13 +9,13 @@ use Rattle.placement_programme.specs.declared.variables.VarName.{VarName}
 use Rattle.placement_programme.specs.declared.variables.VarName.TheVariants.{StaticData, StaticCode, OverlayData, OverlayCode, KeptData}
 use Rattle.relocator.specs.declared.slots.Slot.{Slot}
 use Rattle.relink_core.specs.Names.{range_bytes}
-use Rattle.copied_result.specs.declared.placed_copy.PlacedCopy.{PlacedCopy}
+use Rattle.relink_core.specs.declared.placed_copy.PlacedCopy.{PlacedCopy}
 use Rattle.printed_lines.specs.declared.taken.TakenItem.{TakenItem}
 use Rattle.std.specs.List.{All}
 use Rattle.board_config.specs.declared.board.Board.{Board}
 use Rattle.placement_programme.specs.Views.{plain_programme, plain_choice}
 use Rattle.relocator.specs.Laws.{CanLayOut}
-use Rattle.result_placements.specs.Laws.{regions_on}
+use Rattle.result_laws.specs.PlacementLaws.{regions_on}
 use Rattle.relink_core.specs.Standing.{AreStanding}
 use Rattle.relink_core.specs.declared.analysis.Analysis.{Analysis}
 use Rattle.relinking.specs.declared.making.Relinked.{Relinked}

@@ -13,7 +13,7 @@ mod taking;
 
 pub use finding::{Solution, find_choice};
 pub use laws::{mixed_is_realisable, stated_is_realisable};
-pub use making::{RelinkFault, Relinked, RelinkedRun, relink, relink_analysed, relink_runs};
+pub use making::{Relinked, RelinkedRun, relink_analysed, relink_runs};
 pub use measuring::{MeasuredEnd, MeasuredRun, measured_run};
 pub use mixing::{WeightedBytes, programme_of_runs};
 pub use reporting::relink_report;

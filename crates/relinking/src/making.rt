@@ -1,10 +1,9 @@
 ghost use Rattle.std.specs.Prelude.{◌≡◌, ℕ, List, map, Err, IfOk, IfErr};
 ghost use Rattle.elf_reader.specs.File.{plain_view};
-ghost use Rattle.board_config.specs.Board.{IsLawful};
 ghost use Rattle.placement_programme.specs.Views.{plain_programme};
 ghost use Rattle.relinking.specs.Runs.{ReportsCounts};
 ghost use Rattle.relinking.specs.MixOfRuns.{plain_input, AreSomeInputs, FaultsFirst};
-ghost use Rattle.relinking.specs.Relink.{IsRelinkedFor, AreChoicesFor, RelinksBy, RelinksTogether, Relinks, ReportsRelink};
+ghost use Rattle.relinking.specs.Relink.{IsRelinkedFor, AreChoicesFor, RelinksBy, RelinksTogether};
 ghost use Rattle.relink_core.specs.Choices.{IsAnalysisOf};
 
 use crate::finding::find_choice;
@@ -15,9 +14,8 @@ use board_config::Board;
 use branch_bound::Found;
 use placement_programme::Programme;
 use profile_runner::ProfileFault;
-use relink_core::{AnalyseFault, Analysis, Realised, analyse, realise};
+use relink_core::{Analysis, Realised, realise};
 use std::alloc::{AllocError, Global};
-use thiserror::Error;
 
 /// A file that was relinked.
 #[derive(Drop)]
@@ -40,71 +38,8 @@ pub struct RelinkedRun {
     pub end: MeasuredEnd,
 }
 
-/// Why a file is not relinked.
-#[derive(Debug, Drop, Error)]
-pub enum RelinkFault {
-    /// It can't be relinked for the board.
-    #[error("{0}")]
-    Analyse(AnalyseFault),
-    /// Its run meets an address fault.
-    #[error("{0}")]
-    Profile(ProfileFault),
-    /// No memory was left.
-    #[error("out of memory")]
-    Memory,
-}
-
-impl From<AnalyseFault> for RelinkFault {
-    ghost use Rattle.std.specs.Prelude.{◌≡◌};
-    ghost use Rattle.relinking.specs.Relink.{analyse_relink};
-
-    ghost from_gives = { λ fault told. told ≡ analyse_relink fault };
-
-    fn from(fault: AnalyseFault) -> RelinkFault {
-        match fault {
-            AnalyseFault::Memory => RelinkFault::Memory,
-            fault => RelinkFault::Analyse(fault),
-        }
-    }
-}
-
-impl From<ProfileFault> for RelinkFault {
-    ghost use Rattle.std.specs.Prelude.{◌≡◌};
-    ghost use Rattle.relinking.specs.Relink.{profile_relink};
-
-    ghost from_gives = { λ fault told. told ≡ profile_relink fault };
-
-    fn from(fault: ProfileFault) -> RelinkFault {
-        match fault {
-            ProfileFault::Memory => RelinkFault::Memory,
-            fault => RelinkFault::Profile(fault),
-        }
-    }
-}
-
-/// Relinks a file for a board: what its run on the input makes worth while, found with the board's budget of nodes,
+/// Relinks a file that is analysed: what its run on the input makes worth while, found with the board's budget of nodes,
 /// stands in the scratchpad. The program is run for the board's steps.
-///
-/// The error is the first fault of the analysis (`Analyse`), or the address fault of the run (`Profile`). `Memory` comes
-/// only where no memory was left.
-pub fn relink(
-    alloc: Global,
-    elf: &[u8],
-    board: &Board,
-    input: &[u8],
-) -> Result<RelinkedRun, RelinkFault>
-    requires lawful { IsLawful board.now }
-    ensures ok { IfOk result (Relinks elf.now board.now input.now) }
-    ensures err { IfErr result (ReportsRelink elf.now board.now input.now) }
-{
-    let analysis = analyse(alloc, elf, board)?;
-    match relink_analysed(alloc, &analysis, board, input) {
-        Ok(relinked) => Ok(relinked),
-        Err(fault) => Err(RelinkFault::from(fault)),
-    }
-}
-
-/// The same of a file that is analysed.
 ///
 /// The error is the address fault of the run. `Memory` comes only where no memory was left.
 pub fn relink_analysed(

@@ -2,7 +2,7 @@ ghost use Rattle.std.specs.Prelude.{ℕ, List, Err, IfOk, IfErr};
 ghost use Rattle.elf_reader.specs.File.{plain_view};
 ghost use Rattle.board_config.specs.declared.board.Board.{Board};
 ghost use Rattle.placement_programme.specs.Views.{plain_full, plain_programme};
-ghost use Rattle.overlay_candidates.specs.Overlaid.{AreOverlaidObjects};
+ghost use Rattle.placement_candidates.specs.Overlaid.{AreOverlaidObjects};
 ghost use Rattle.relink_core.specs.Choices.{IsAnalysisOf};
 ghost use Rattle.relinking.specs.Runs.{ReportsCounts};
 ghost use Rattle.relinking.specs.MeasuredRuns.{EndsSo};
@@ -10,8 +10,7 @@ ghost use Rattle.relinking.specs.ProgrammeOfRun.{CountsProgramme, StatesFull};
 
 use crate::measuring::{MeasuredEnd, measured_run};
 use board_config::Board;
-use overlay_candidates::{Measured, overlaid_objects, whole_full};
-use placement_candidates::select;
+use placement_candidates::{Measured, overlaid_objects, select, whole_full};
 use placement_programme::{Full, Programme};
 use profile_runner::{Profile, ProfileFault};
 use relink_core::Analysis;

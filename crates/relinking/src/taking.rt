@@ -5,19 +5,18 @@ ghost use Rattle.relocator.specs.Laws.{CanLayOut, slot_at};
 ghost use Rattle.cell_values.specs.Objects.{object_of};
 ghost use Rattle.placement_programme.specs.Views.{plain_programme, plain_choice};
 ghost use Rattle.placement_programme.specs.Rows.{first_twin};
-ghost use Rattle.overlay_jobs.specs.ChosenJobs.{code_number, next_code};
-ghost use Rattle.result_placements.specs.Laws.{regions_on};
+ghost use Rattle.result_laws.specs.ChosenJobs.{code_number, next_code};
+ghost use Rattle.result_laws.specs.PlacementLaws.{regions_on};
 ghost use Rattle.relink_core.specs.Standing.{AreStanding};
 ghost use Rattle.relinking.specs.TakenItems.{item_of, items_told, CanTell, copy_item, IsToldOf};
 
 use crate::making::Relinked;
 use board_config::Board;
 use code_blocks::Code;
-use copied_result::PlacedCopy;
 use object_graph::Graph;
 use placement_programme::VarName;
 use printed_lines::TakenItem;
-use relink_core::Analysis;
+use relink_core::{Analysis, PlacedCopy};
 use relocator::Places;
 use std::alloc::{AllocError, Global};
 

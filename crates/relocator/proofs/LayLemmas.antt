@@ -1,9 +1,8 @@
 -- Slots one by one.
 use Rattle.std.proofs.Common.{◌≡◌, ◌∙◌, inl, inr, ℕ, ◌+◌, ◌<◌, ◌==◌, if◌then◌else◌, List, [], ◌∷◌, ◌++◌, drop, length, get_or, get_or-set_same, get_or-set_other, refl, sym, ap, subst, arith}
 use Rattle.std.specs.List.{All}
-use Rattle.std.proofs.Math.ListN.{set, get_or-append}
-use Rattle.std.proofs.Math.Seq.{get_or-append_seam}
-use Rattle.std.proofs.lemmas.Bool.{cases_eq, cases_lt}
+use Rattle.std.proofs.Math.ListN.{set}
+use Rattle.std.proofs.lemmas.Bool.{cases_eq}
 use Rattle.std.proofs.lemmas.Bool.Decides.{nat_tests}
 use Rattle.std.proofs.lemmas.List.{drop_more, get_or_default}
 use Rattle.std.proofs.lemmas.List.Elements.{All-head, All-tail}
@@ -29,18 +28,6 @@ same_slots count f h (i ∷ is) in_lanes agree =
     let rest = same_slots count (moved_on f i) (moved_on h i) is (All-tail (λ (j : Item). lane_of j.name < count) i is in_lanes) (agree_more count f h i agree) in
     ap (λ (a : ℕ). record { name = i.name; at = a; span = i.span } ∷ slots_from (moved_on f i) is) at
     ∙ ap (λ (ss : List Slot). record { name = i.name; at = h (lane_of i.name); span = i.span } ∷ ss) rest
-
--- one lane more
-pub agree_grown : (next more : List ℕ) (f : ℕ → ℕ) (lane at : ℕ) → more ≡ next ++ at ∷ [] → length next ≡ lane → at ≡ f lane → AgreeBelow lane (next_in next) f → AgreeBelow (lane + 1) (next_in more) f
-agree_grown next more f lane at grown long is agree k below =
-    ap (λ (ns : List ℕ). get_or ns k 0) grown
-    ∙ elim (cases_lt k lane) [
-      | inl earlier ↦ get_or-append next (at ∷ []) 0 k (omega (arith, long, earlier)) ∙ agree k earlier
-      | inr behind ↦
-          let here : k ≡ length next = omega (arith, behind, below, long) in
-          let last : k ≡ lane = omega (arith, behind, below) in
-          ap (λ (n : ℕ). get_or (next ++ at ∷ []) n 0) here ∙ get_or-append_seam next at [] 0 ∙ is ∙ ap f (sym last)
-    ]
 
 -- ---- the next slot
 

@@ -1,8 +1,8 @@
 -- Tables of places, a slot at a time.
-use Rattle.std.proofs.Common.{◌≡◌, ◌∙◌, ℕ, ◌+◌, ◌<◌, ◌≤◌, List, [], ◌∷◌, ◌++◌, map, take, drop, replicate, length, get_or, sym, ap, subst, arith, Vec}
+use Rattle.std.proofs.Common.{◌≡◌, ◌∙◌, ℕ, ◌+◌, ◌<◌, ◌≤◌, List, [], ◌∷◌, map, take, drop, replicate, length, get_or, sym, ap, subst, arith, Vec}
 use Rattle.std.specs.declared.alloc.Global.{Global}
 use Rattle.std.proofs.Math.ListN.{set}
-use Rattle.std.proofs.lemmas.List.{get_or-map, length-map, map-set, map-append, take_all, take_more, drop_more, get_or-replicate, length-replicate}
+use Rattle.std.proofs.lemmas.List.{get_or-map, length-map, map-set, take_all, drop_more, get_or-replicate, length-replicate}
 use Rattle.std.proofs.lemmas.List.Elements.{All-map}
 use Rattle.object_graph.specs.declared.parts.Object.{Object}
 use Rattle.object_graph.specs.declared.parts.Graph.{Graph}
@@ -23,14 +23,6 @@ homes_are g regions rows is = subst (λ (rs : List (List ℕ)). IsTable g region
       ap (λ (row : List ℕ). get_or row r 0) (get_or-map (home_row regions) g.objects.items o absent_object [] below)
       ∙ get_or-replicate (regions + 1) r (object_of g o).home 0 (omega (arith, within));
 })
-
-pub home_more : (regions : ℕ) (objects : List Object) (rows more : List (List ℕ)) (row : List ℕ) (i : ℕ) (d : Object) → i < length objects → more ≡ rows ++ row ∷ [] → rows ≡ map (home_row regions) (take i objects) → row ≡ home_row regions (get_or objects i d) → more ≡ map (home_row regions) (take (i + 1) objects)
-home_more regions objects rows more row i d below grown so_far is =
-    grown
-    ∙ ap (λ (rs : List (List ℕ)). rs ++ row ∷ []) so_far
-    ∙ ap (λ (r : List ℕ). map (home_row regions) (take i objects) ++ r ∷ []) is
-    ∙ sym (map-append (home_row regions) (take i objects) (get_or objects i d ∷ []))
-    ∙ ap (λ (os : List Object). map (home_row regions) os) (sym (take_more objects i d below))
 
 -- ---- in vectors
 

@@ -6,16 +6,16 @@ use Rattle.std.proofs.lemmas.List.{get_or_default}
 use Rattle.std.proofs.lemmas.List.Folds.{list_any_at}
 use Rattle.list_checks.specs.Tests.{any_below, ranges_overlap}
 use Rattle.list_checks.proofs.TestLemmas.{either, both, not_true, any_found, none_at}
-use Rattle.rv_decode.specs.Fields.{opcode_of, rd_of, rs1_of, rs2_of, u_immediate}
-use Rattle.word_bits.specs.Words.{lower_half}
-use Rattle.rv_decode.specs.declared.instructions.Instr.TheVariants.{Lui, Auipc, Load, Store, OpImm}
-use Rattle.rv_decode.specs.declared.instructions.ImmKind.TheVariants.{Addi}
+use Rattle.rv32im.specs.Fields.{opcode_of, rd_of, rs1_of, rs2_of, u_immediate}
+use Rattle.rv32im.specs.Words.{lower_half}
+use Rattle.rv32im.specs.declared.instructions.Instr.TheVariants.{Lui, Auipc, Load, Store, OpImm}
+use Rattle.rv32im.specs.declared.instructions.ImmKind.TheVariants.{Addi}
 use Rattle.elf_reader.specs.File.{PlainView}
 use Rattle.elf_reader.specs.declared.view.Reloc.{Reloc}
 use Rattle.loaded_file.specs.Code.{is_code_word, image_word}
 use Rattle.loaded_file.specs.Records.{reloc_at, counts, target, is_hint, width_of}
-use Rattle.rewritable_relocations.specs.Rewritable.{is_meant, displacement, holds_data, cuts_range, changes_word, is_rewritable_word, is_rewritable_high, is_rewritable_low, is_rewritable_pair, distance, names_high}
-use Rattle.movable_ranges.specs.Fixed.{leads_to}
+use Rattle.object_graph.specs.Rewritable.{is_meant, displacement, holds_data, cuts_range, changes_word, is_rewritable_word, is_rewritable_high, is_rewritable_low, is_rewritable_pair, distance, names_high}
+use Rattle.object_graph.specs.Fixed.{leads_to}
 use Rattle.loaded_file.proofs.ByteRangeLemmas.{both_made}
 use Rattle.object_graph.specs.declared.parts.Object.{Object}
 use Rattle.object_graph.specs.declared.parts.SiteKind.{SiteKind}

@@ -1,4 +1,4 @@
-pub use Rattle.rv_decode.specs.Table
+pub use Rattle.rv32im.specs.Table
 pub use Rattle.loaded_file.specs.Code
 pub use Rattle.object_graph.specs.Graphs
 pub use Rattle.object_graph.specs.LayoutFaults

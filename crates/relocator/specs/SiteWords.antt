@@ -1,11 +1,11 @@
 -- The words that make and hold the addresses of objects, for the places at which the objects stand.
 use Rattle.std.specs.Prelude.{◌≡◌, ◌⊎◌, ℕ, ◌+◌, ◌<◌, ◌≤◌, ◌==◌, Bool, true, ◌&&◌, List, [], length, slice_index_or}
 use Rattle.std.specs.List.{AllPairs, list_any}
-use Rattle.word_bits.specs.Words.{plus, upper_half, lower_half}
-use Rattle.rv_decode.specs.Table.{Means}
-use Rattle.rv_decode.specs.declared.instructions.Instr.{Instr}
-use Rattle.rv_decode.specs.declared.instructions.Instr.TheVariants.{Lui, Auipc, Load, Store, OpImm}
-use Rattle.rv_decode.specs.declared.instructions.ImmKind.TheVariants.{Addi}
+use Rattle.rv32im.specs.Words.{plus, upper_half, lower_half}
+use Rattle.rv32im.specs.Table.{Means}
+use Rattle.rv32im.specs.declared.instructions.Instr.{Instr}
+use Rattle.rv32im.specs.declared.instructions.Instr.TheVariants.{Lui, Auipc, Load, Store, OpImm}
+use Rattle.rv32im.specs.declared.instructions.ImmKind.TheVariants.{Addi}
 use Rattle.elf_reader.specs.File.{PlainView}
 use Rattle.loaded_file.specs.Code.{image_word}
 use Rattle.object_graph.specs.declared.parts.SiteKind.{SiteKind}

@@ -1,13 +1,12 @@
 ghost use Rattle.std.specs.Prelude.{◌≡◌, ◌<◌};
-ghost use Rattle.word_bits.specs.Words.{upper_half};
-ghost use Rattle.rv_decode.specs.Table.{IsInRange};
+ghost use Rattle.rv32im.specs.Words.{upper_half};
+ghost use Rattle.rv32im.specs.Table.{IsInRange};
 ghost use Rattle.object_graph.specs.declared.parts.SiteKind.TheVariants.{Hi, LowI, LowS};
 ghost use Rattle.relocator.specs.SiteWords.{IsRewritten, IsSiteWord};
 ghost use Rattle.relocator.specs.Gathering.{CanMake, CanRewrite};
 
 use object_graph::SiteKind;
-use rv_decode::{ImmKind, Instr, decode, encode};
-use word_bits::{hi20, lo12};
+use rv32im::{ImmKind, Instr, decode, encode, hi20, lo12};
 
 /// The word of a site that makes that part of `address`, from the word that the file has there.
 pub(crate) fn new_word(part: SiteKind, word: u32, address: u32) -> u32

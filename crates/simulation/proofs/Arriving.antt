@@ -1,10 +1,10 @@
 -- Ways lead to forms.
 use Rattle.std.proofs.Common.{◌≡◌, ◌∙◌, ℕ, suc, ◌+◌, ◌*◌, ◌/◌, ◌%◌, List, [], ◌∷◌, length, map, ℤ, refl, sym, ap, subst}
 use Rattle.std.proofs.lemmas.List.{length-append, map-append}
-use Rattle.word_bits.specs.Words.{plus, offset}
-use Rattle.rv_decode.specs.Table.{Means}
-use Rattle.rv_decode.specs.Acts.{Registers, register, with_register}
-use Rattle.rv_decode.specs.declared.instructions.Instr.TheVariants.{Lui, Jal, Jalr}
+use Rattle.rv32im.specs.Words.{plus, offset}
+use Rattle.rv32im.specs.Table.{Means}
+use Rattle.rv32im.specs.Acts.{Registers, register, with_register}
+use Rattle.rv32im.specs.declared.instructions.Instr.TheVariants.{Lui, Jal, Jalr}
 use Rattle.flat_machine.specs.Lines.{Ran, fetch_of, went}
 use Rattle.flat_machine.specs.Sizes.{HasWords}
 use Rattle.flat_machine.specs.State.{State}

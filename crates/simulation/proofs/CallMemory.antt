@@ -5,8 +5,8 @@ use Rattle.std.specs.Prelude.{nat_lt}
 use Rattle.std.proofs.lemmas.Bool.{cases_eq}
 use Rattle.std.proofs.lemmas.Bool.Decides.{nat_tests}
 use Rattle.std.proofs.lemmas.List.Elements.{All-head, All-tail}
-use Rattle.word_bits.specs.Words.{plus}
-use Rattle.word_bits.specs.Memory.{Memory, put, put_bytes}
+use Rattle.rv32im.specs.Words.{plus}
+use Rattle.rv32im.specs.Memory.{Memory, put, put_bytes}
 use Rattle.elf_reader.specs.Loadable.{IsByte, AreBytes}
 use Rattle.board_config.specs.declared.board.Range.{Range}
 use Rattle.flat_machine.specs.Mapping.{is_mapped, can_move}

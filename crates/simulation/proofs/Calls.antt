@@ -6,11 +6,11 @@ use Rattle.std.proofs.lemmas.List.{length-take}
 use Rattle.std.proofs.lemmas.List.Elements.{All-take, All-drop}
 use Rattle.list_checks.specs.First.{first_below}
 use Rattle.list_checks.proofs.FirstLemmas.{none_at}
-use Rattle.word_bits.specs.Words.{plus}
-use Rattle.word_bits.specs.Memory.{put_bytes, bytes_at}
-use Rattle.rv_decode.specs.Table.{Means}
-use Rattle.rv_decode.specs.Acts.{register, with_register, used, defined}
-use Rattle.rv_decode.specs.declared.instructions.Instr.TheVariants.{Ecall}
+use Rattle.rv32im.specs.Words.{plus}
+use Rattle.rv32im.specs.Memory.{put_bytes, bytes_at}
+use Rattle.rv32im.specs.Table.{Means}
+use Rattle.rv32im.specs.Acts.{register, with_register, used, defined}
+use Rattle.rv32im.specs.declared.instructions.Instr.TheVariants.{Ecall}
 use Rattle.elf_reader.specs.Loadable.{IsByte, AreBytes}
 use Rattle.flat_machine.specs.declared.events.FlatOutcome as flat_outcome
 use Rattle.flat_machine.specs.Mapping.{can_move}

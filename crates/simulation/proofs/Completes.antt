@@ -1,7 +1,7 @@
 -- Immediates that complete upper parts: where the words of the file stay, and where each site is a LUI.
 use Rattle.std.proofs.Common.{◌≡◌, ℕ, ◌<◌, ◌==◌, true, ◌&&◌, Some, None, ℤ, sym, ◌∙◌, subst}
 use Rattle.std.proofs.lemmas.Bool.{cond_both, eqb-true}
-use Rattle.word_bits.specs.Words.{minus, offset, lower_half}
+use Rattle.rv32im.specs.Words.{minus, offset, lower_half}
 use Rattle.cell_values.specs.Objects.{home_address}
 use Rattle.cell_values.specs.Operations.{same_chunk, low_site}
 use Rattle.cell_values.specs.declared.values.Val.{Val}

@@ -1,11 +1,11 @@
 -- One word that stands for a branch, a jump or an AUIPC that is no site; and what traps.
 use Rattle.std.proofs.Common.{◌≡◌, inl, inr, ℕ, ◌+◌, ◌*◌, ◌<◌, ◌/◌, Bool, true, false, if◌then◌else◌, List, [], ◌∷◌, Some, None, ℤ, refl, sym, ap, subst, arith}
-use Rattle.word_bits.specs.Words.{plus, offset}
-use Rattle.rv_decode.specs.Table.{Means}
-use Rattle.rv_decode.specs.Acts.{Registers, register, with_register, is_taken, acts}
-use Rattle.rv_decode.specs.declared.instructions.Instr.{Instr}
-use Rattle.rv_decode.specs.declared.instructions.Instr.TheVariants.{Auipc, Jal, Jalr, Branch, Ebreak}
-use Rattle.rv_decode.specs.declared.instructions.BranchKind.{BranchKind}
+use Rattle.rv32im.specs.Words.{plus, offset}
+use Rattle.rv32im.specs.Table.{Means}
+use Rattle.rv32im.specs.Acts.{Registers, register, with_register, is_taken, acts}
+use Rattle.rv32im.specs.declared.instructions.Instr.{Instr}
+use Rattle.rv32im.specs.declared.instructions.Instr.TheVariants.{Auipc, Jal, Jalr, Branch, Ebreak}
+use Rattle.rv32im.specs.declared.instructions.BranchKind.{BranchKind}
 use Rattle.flat_machine.specs.declared.events.FlatEvent.{FlatEvent}
 use Rattle.flat_machine.specs.Lines.{Ran, fetch_of}
 use Rattle.flat_machine.specs.State.{State, trap}

@@ -4,14 +4,14 @@ use Rattle.std.proofs.lemmas.Grind.{common_steps}
 use Rattle.std.proofs.lemmas.Bool.{cases_eq, cond_both, eqb-true}
 use Rattle.std.proofs.lemmas.Bool.Decides.{nat_tests}
 use Rattle.list_checks.proofs.TestLemmas.{either}
-use Rattle.word_bits.specs.Words.{byte_of}
-use Rattle.word_bits.specs.Memory.{Memory, word_at}
-use Rattle.rv_decode.specs.Table.{Means, IsInRange}
-use Rattle.rv_decode.specs.Acts.{register}
-use Rattle.rv_decode.specs.declared.instructions.Instr.{Instr}
-use Rattle.rv_decode.specs.declared.instructions.Instr.TheVariants.{Auipc, OpImm, Ecall}
-use Rattle.rv_decode.specs.declared.instructions.ImmKind.TheVariants.{Addi}
-use Rattle.rv_decode.proofs.Meaning.{same_instruction}
+use Rattle.rv32im.specs.Words.{byte_of}
+use Rattle.rv32im.specs.Memory.{Memory, word_at}
+use Rattle.rv32im.specs.Table.{Means, IsInRange}
+use Rattle.rv32im.specs.Acts.{register}
+use Rattle.rv32im.specs.declared.instructions.Instr.{Instr}
+use Rattle.rv32im.specs.declared.instructions.Instr.TheVariants.{Auipc, OpImm, Ecall}
+use Rattle.rv32im.specs.declared.instructions.ImmKind.TheVariants.{Addi}
+use Rattle.rv32im.proofs.Meaning.{same_instruction}
 use Rattle.flat_machine.specs.declared.events.FlatOutcome as flat
 use Rattle.flat_machine.specs.State.{State}
 use Rattle.flat_machine.specs.Mapping.{can_access}

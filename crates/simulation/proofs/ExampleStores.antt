@@ -5,13 +5,13 @@ use Rattle.std.specs.Prelude.{pos}
 use Rattle.std.proofs.lemmas.Bool.{eqb-true}
 use Rattle.std.proofs.lemmas.Bool.Decides.{nat_tests}
 use Rattle.std.proofs.lemmas.List.Elements.{All-nil}
-use Rattle.word_bits.specs.Memory.{Memory, zeros, put, put_word}
-use Rattle.rv_decode.specs.Table.{Means}
-use Rattle.rv_decode.proofs.Meaning.{same_instruction}
-use Rattle.rv_decode.specs.declared.instructions.Instr.{Instr}
-use Rattle.rv_decode.specs.declared.instructions.Instr.TheVariants.{Lui, Load, Store, Ecall}
-use Rattle.rv_decode.specs.declared.instructions.LoadKind.TheVariants.{Lw}
-use Rattle.rv_decode.specs.declared.instructions.StoreKind.TheVariants.{Sw}
+use Rattle.rv32im.specs.Memory.{Memory, zeros, put, put_word}
+use Rattle.rv32im.specs.Table.{Means}
+use Rattle.rv32im.proofs.Meaning.{same_instruction}
+use Rattle.rv32im.specs.declared.instructions.Instr.{Instr}
+use Rattle.rv32im.specs.declared.instructions.Instr.TheVariants.{Lui, Load, Store, Ecall}
+use Rattle.rv32im.specs.declared.instructions.LoadKind.TheVariants.{Lw}
+use Rattle.rv32im.specs.declared.instructions.StoreKind.TheVariants.{Sw}
 use Rattle.elf_reader.specs.Loadable.{IsByte}
 use Rattle.flat_machine.specs.declared.events.FlatOutcome as flat
 use Rattle.flat_machine.specs.State.{State}

@@ -28,3 +28,8 @@ pub mod Completes
 pub mod ExampleRun
 pub mod ExampleStores
 pub mod ExampleCopy
+pub mod Stays
+pub mod Unwritten
+pub mod Homes
+pub mod Switches
+pub mod Example

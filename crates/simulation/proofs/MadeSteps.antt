@@ -2,17 +2,17 @@
 use Rattle.std.proofs.Common.{◌≡◌, inl, inr, ℕ, ◌+◌, ◌*◌, ◌/◌, ◌%◌, ◌==◌, nat_lt, Bool, true, false, if◌then◌else◌, slice_index_or, take, List, [], ◌∷◌, ◌++◌, Option, Some, None, ℤ, refl, sym, subst, arith}
 use Rattle.std.proofs.lemmas.Bool.{cases_eq, cond_both}
 use Rattle.list_checks.specs.First.{first_below}
-use Rattle.word_bits.specs.Words.{plus, offset}
-use Rattle.rv_decode.specs.Fields.{rd_of}
-use Rattle.rv_decode.specs.Table.{Means}
-use Rattle.rv_decode.specs.Acts.{store_width}
-use Rattle.rv_decode.specs.declared.instructions.Instr.{Instr}
-use Rattle.rv_decode.specs.declared.instructions.Instr.TheVariants.{Lui, Auipc, Jal, Jalr, Branch, Load, Store, OpImm, OpReg, Fence, FenceI, Ecall, Ebreak}
-use Rattle.rv_decode.specs.declared.instructions.ImmKind.{ImmKind}
-use Rattle.rv_decode.specs.declared.instructions.ImmKind.TheVariants.{Addi}
-use Rattle.rv_decode.specs.declared.instructions.LoadKind.{LoadKind}
-use Rattle.rv_decode.specs.declared.instructions.LoadKind.TheVariants.{Lb, Lh, Lw, Lbu, Lhu}
-use Rattle.rv_decode.specs.declared.instructions.StoreKind.{StoreKind}
+use Rattle.rv32im.specs.Words.{plus, offset}
+use Rattle.rv32im.specs.Fields.{rd_of}
+use Rattle.rv32im.specs.Table.{Means}
+use Rattle.rv32im.specs.Acts.{store_width}
+use Rattle.rv32im.specs.declared.instructions.Instr.{Instr}
+use Rattle.rv32im.specs.declared.instructions.Instr.TheVariants.{Lui, Auipc, Jal, Jalr, Branch, Load, Store, OpImm, OpReg, Fence, FenceI, Ecall, Ebreak}
+use Rattle.rv32im.specs.declared.instructions.ImmKind.{ImmKind}
+use Rattle.rv32im.specs.declared.instructions.ImmKind.TheVariants.{Addi}
+use Rattle.rv32im.specs.declared.instructions.LoadKind.{LoadKind}
+use Rattle.rv32im.specs.declared.instructions.LoadKind.TheVariants.{Lb, Lh, Lw, Lbu, Lhu}
+use Rattle.rv32im.specs.declared.instructions.StoreKind.{StoreKind}
 use Rattle.cell_values.specs.Operations.{op_imm, op_reg}
 use Rattle.cell_values.specs.Comparisons.{compare}
 use Rattle.cell_values.specs.Cells.{split, put_at, put_cells}

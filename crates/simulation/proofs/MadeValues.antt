@@ -3,13 +3,13 @@ use Rattle.std.proofs.Common.{◌≡◌, inl, inr, ℕ, ◌+◌, ◌-◌, ◌<�
 use Rattle.std.specs.Int.{cast_unsigned, w32}
 use Rattle.std.proofs.lemmas.Bool.{cases_lt, cond_both, eqb-true}
 use Rattle.list_checks.proofs.TestLemmas.{both}
-use Rattle.rv_decode.specs.declared.instructions.BranchKind.TheVariants.{Bltu}
-use Rattle.rv_decode.specs.declared.instructions.ImmKind.{ImmKind}
-use Rattle.rv_decode.specs.declared.instructions.RegKind.{RegKind}
-use Rattle.rv_decode.specs.declared.instructions.RegKind.TheVariants.{Add, Sub, Sltu, Xor, Or, And}
+use Rattle.rv32im.specs.declared.instructions.BranchKind.TheVariants.{Bltu}
+use Rattle.rv32im.specs.declared.instructions.ImmKind.{ImmKind}
+use Rattle.rv32im.specs.declared.instructions.RegKind.{RegKind}
+use Rattle.rv32im.specs.declared.instructions.RegKind.TheVariants.{Add, Sub, Sltu, Xor, Or, And}
 use Rattle.cell_values.specs.Objects.{Objects, home_address, low_of}
 use Rattle.cell_values.specs.Comparisons.{compare}
-use Rattle.rv_decode.specs.Operations.{operation_of}
+use Rattle.rv32im.specs.Operations.{operation_of}
 use Rattle.cell_values.specs.Operations.{of_lows, by_lows, added, subtracted, kept_bits, masked_low, masked_address, masked, changed_address, changed, flagged, numbered, op_reg, op_imm, same_chunk, low_site}
 use Rattle.cell_values.specs.Cells.{split, is_part, whole_word, join, byte_value, half_value}
 use Rattle.cell_values.specs.declared.values.Val.{Val}

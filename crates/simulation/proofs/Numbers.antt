@@ -1,19 +1,19 @@
 -- Operations on registers and immediates, and fences.
 use Rattle.std.proofs.Common.{◌≡◌, ℕ, true, false, not, ◌&&◌, List, Option, Some, None, ℤ, refl, ap, subst, arith, ◌+◌}
 use Rattle.list_checks.proofs.TestLemmas.{both, not_true}
-use Rattle.word_bits.specs.Words.{offset}
-use Rattle.rv_decode.specs.Table.{Means, IsImmInRange}
-use Rattle.rv_decode.specs.Acts.{register, with_register, imm_value, reg_value}
-use Rattle.rv_decode.specs.declared.instructions.Instr.{Instr}
-use Rattle.rv_decode.specs.declared.instructions.Instr.TheVariants.{OpImm, OpReg, Fence, FenceI}
-use Rattle.rv_decode.specs.declared.instructions.ImmKind.{ImmKind}
-use Rattle.rv_decode.specs.declared.instructions.ImmKind.TheVariants.{Addi}
-use Rattle.rv_decode.specs.declared.instructions.RegKind.{RegKind}
-use Rattle.rv_decode.proofs.Words.{keeps_words}
-use Rattle.rv_decode.proofs.Words.{imm_fits}
+use Rattle.rv32im.specs.Words.{offset}
+use Rattle.rv32im.specs.Table.{Means, IsImmInRange}
+use Rattle.rv32im.specs.Acts.{register, with_register, imm_value, reg_value}
+use Rattle.rv32im.specs.declared.instructions.Instr.{Instr}
+use Rattle.rv32im.specs.declared.instructions.Instr.TheVariants.{OpImm, OpReg, Fence, FenceI}
+use Rattle.rv32im.specs.declared.instructions.ImmKind.{ImmKind}
+use Rattle.rv32im.specs.declared.instructions.ImmKind.TheVariants.{Addi}
+use Rattle.rv32im.specs.declared.instructions.RegKind.{RegKind}
+use Rattle.rv32im.proofs.WordLemmas.{keeps_words}
+use Rattle.rv32im.proofs.WordLemmas.{imm_fits}
 use Rattle.flat_machine.specs.declared.events.FlatEvent.{FlatEvent}
 use Rattle.flat_machine.specs.State.{State}
-use Rattle.rv_decode.specs.Operations.{operation_of}
+use Rattle.rv32im.specs.Operations.{operation_of}
 use Rattle.cell_values.specs.Operations.{op_imm, op_reg, low_site}
 use Rattle.cell_values.specs.declared.values.Val.TheVariants.{Int}
 use Rattle.cell_values.proofs.Words.{operations_keep}

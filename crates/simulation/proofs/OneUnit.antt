@@ -1,7 +1,7 @@
 -- What each kind of unit is proved to do, over any choice of the registers that matter, of the places where the flat
 -- machine may arrive, and of what is told of its events.
 use Rattle.std.proofs.Common.{◌≡◌, ℕ, false, true, List, Option, Some}
-use Rattle.rv_decode.specs.declared.instructions.Instr.{Instr}
+use Rattle.rv32im.specs.declared.instructions.Instr.{Instr}
 use Rattle.flat_machine.specs.declared.events.FlatEvent.{FlatEvent}
 use Rattle.flat_machine.specs.State.{State}
 use Rattle.object_machine.specs.Program.{Program}

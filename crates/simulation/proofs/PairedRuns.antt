@@ -1,14 +1,14 @@
 -- Runs of paired steps are runs, and so are their first steps; and where each upper part is a LUI's, all runs are paired.
 use Rattle.std.proofs.Common.{◌≡◌, ◌⊎◌, inl, inr, ℕ, zero, suc, ◌≤◌, true, false, not, ◌&&◌, ◌||◌, Option, Some, None, refl, sym, ◌∙◌, ap, subst, arith}
-use Rattle.rv_decode.specs.Table.{OneInstruction, Means}
-use Rattle.rv_decode.specs.declared.instructions.Instr.{Instr}
-use Rattle.rv_decode.specs.declared.instructions.Instr.TheVariants.{Lui, Load, Store, OpImm, OpReg}
-use Rattle.rv_decode.specs.declared.instructions.RegKind.{RegKind}
+use Rattle.rv32im.specs.Table.{OneInstruction, Means}
+use Rattle.rv32im.specs.declared.instructions.Instr.{Instr}
+use Rattle.rv32im.specs.declared.instructions.Instr.TheVariants.{Lui, Load, Store, OpImm, OpReg}
+use Rattle.rv32im.specs.declared.instructions.RegKind.{RegKind}
 use Rattle.cell_values.specs.Objects.{Objects}
-use Rattle.rv_decode.specs.Operations.{operation_of}
+use Rattle.rv32im.specs.Operations.{operation_of}
 use Rattle.cell_values.specs.declared.values.Val.{Val}
 use Rattle.cell_values.specs.declared.values.Val.TheVariants.{Int, Hi}
-use Rattle.rv_decode.specs.Operations.{takes_low_bits}
+use Rattle.rv32im.specs.Operations.{takes_low_bits}
 use Rattle.cell_values.specs.Origins.{Origin, ByLui, ByAuipc, Mixed, is_by_auipc, takes_low}
 use Rattle.object_machine.specs.declared.events.Event.{Event}
 use Rattle.object_machine.specs.declared.events.Outcome.{Outcome}

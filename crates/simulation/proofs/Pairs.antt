@@ -1,11 +1,11 @@
 -- Calls of two words: in a row, and at home.
 use Rattle.std.proofs.Common.{◌≡◌, ◌⊎◌, inl, inr, ℕ, ◌+◌, ◌*◌, ◌/◌, ◌<◌, nat_lt, if◌then◌else◌, Bool, true, false, List, [], ◌∷◌, map, Option, Some, None, refl, sym, ap, ◌∙◌, subst, arith}
 use Rattle.std.proofs.lemmas.Bool.Decides.{nat_tests}
-use Rattle.word_bits.specs.Words.{plus, offset}
-use Rattle.rv_decode.specs.Fields.{rd_of}
-use Rattle.rv_decode.specs.Acts.{Registers, register, with_register}
-use Rattle.rv_decode.specs.declared.instructions.Instr.{Instr}
-use Rattle.rv_decode.specs.declared.instructions.Instr.TheVariants.{Auipc, Jalr}
+use Rattle.rv32im.specs.Words.{plus, offset}
+use Rattle.rv32im.specs.Fields.{rd_of}
+use Rattle.rv32im.specs.Acts.{Registers, register, with_register}
+use Rattle.rv32im.specs.declared.instructions.Instr.{Instr}
+use Rattle.rv32im.specs.declared.instructions.Instr.TheVariants.{Auipc, Jalr}
 use Rattle.flat_machine.specs.declared.events.FlatEvent.{FlatEvent}
 use Rattle.flat_machine.specs.Lines.{Ran, fetch_of, went}
 use Rattle.flat_machine.specs.Sizes.{HasWords}

@@ -5,13 +5,13 @@ use Rattle.std.proofs.lemmas.Bool.{cond_both, eqb-true}
 use Rattle.std.proofs.lemmas.Bool.Decides.{nat_tests}
 use Rattle.list_checks.specs.First.{first_below}
 use Rattle.list_checks.proofs.FirstLemmas.{none_at}
-use Rattle.word_bits.specs.Words.{plus, offset}
-use Rattle.rv_decode.specs.Acts.{load_width, store_width}
-use Rattle.rv_decode.specs.declared.instructions.ImmKind.TheVariants.{Addi}
-use Rattle.rv_decode.specs.declared.instructions.LoadKind.{LoadKind}
-use Rattle.rv_decode.specs.declared.instructions.LoadKind.TheVariants.{Lb, Lh, Lw, Lbu, Lhu}
-use Rattle.rv_decode.specs.declared.instructions.StoreKind.{StoreKind}
-use Rattle.rv_decode.specs.declared.instructions.StoreKind.TheVariants.{Sb, Sh, Sw}
+use Rattle.rv32im.specs.Words.{plus, offset}
+use Rattle.rv32im.specs.Acts.{load_width, store_width}
+use Rattle.rv32im.specs.declared.instructions.ImmKind.TheVariants.{Addi}
+use Rattle.rv32im.specs.declared.instructions.LoadKind.{LoadKind}
+use Rattle.rv32im.specs.declared.instructions.LoadKind.TheVariants.{Lb, Lh, Lw, Lbu, Lhu}
+use Rattle.rv32im.specs.declared.instructions.StoreKind.{StoreKind}
+use Rattle.rv32im.specs.declared.instructions.StoreKind.TheVariants.{Sb, Sh, Sw}
 use Rattle.board_config.specs.declared.board.Range.{Range}
 use Rattle.flat_machine.specs.Mapping.{is_mapped, all_mapped, can_access}
 use Rattle.flat_machine.proofs.Spans.{aligned_and_mapped}

@@ -2,11 +2,11 @@
 use Rattle.std.proofs.Common.{◌≡◌, ℕ, zero, suc, ◌+◌, ◌%◌, ◌<◌, ◌≤◌, List, [], ◌∷◌, length, slice_index_or, refl, sym, ◌∙◌, subst, arith}
 use Rattle.std.proofs.lemmas.Bool.Decides.{nat_tests}
 use Rattle.std.proofs.lemmas.List.{get_or-take, length-take-le}
-use Rattle.word_bits.specs.Words.{byte_of}
-use Rattle.word_bits.specs.Memory.{Memory, put, put_half, put_word}
-use Rattle.rv_decode.specs.Acts.{stored, store_width}
-use Rattle.rv_decode.specs.declared.instructions.StoreKind.{StoreKind}
-use Rattle.rv_decode.specs.declared.instructions.StoreKind.TheVariants.{Sb, Sh, Sw}
+use Rattle.rv32im.specs.Words.{byte_of}
+use Rattle.rv32im.specs.Memory.{Memory, put, put_half, put_word}
+use Rattle.rv32im.specs.Acts.{stored, store_width}
+use Rattle.rv32im.specs.declared.instructions.StoreKind.{StoreKind}
+use Rattle.rv32im.specs.declared.instructions.StoreKind.TheVariants.{Sb, Sh, Sw}
 use Rattle.cell_values.specs.Cells.{split, put_at, put_cells}
 use Rattle.cell_values.specs.declared.values.Val.{Val}
 use Rattle.cell_values.specs.declared.values.Val.TheVariants.{Int, Addr, Hi, Low, Piece, Unknown}

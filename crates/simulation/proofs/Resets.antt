@@ -12,17 +12,16 @@ use Rattle.object_machine.specs.Program.{Program}
 use Rattle.object_machine.specs.State.{SourceState, value}
 use Rattle.object_machine.specs.Runs.{Steps}
 use Rattle.object_machine.specs.Paired.{Origins, at_start}
-use Rattle.simulation.specs.Setups.{Setup, Sound}
+use Rattle.simulation.specs.Setups.{Setup}
 use Rattle.simulation.specs.Made.{IsMade, CellIsMade, AreMade}
 use Rattle.simulation.specs.Relation.{Alike}
-use Rattle.simulation.specs.Rules.{LiveRules, all_live}
-use Rattle.simulation.specs.Laws.{at_home, IsUnit, AllAtHome, Keeps}
+use Rattle.simulation.specs.Rules.{LiveRules}
+use Rattle.simulation.specs.Laws.{Keeps}
 use Rattle.simulation.specs.Forms.{FormAt}
 use Rattle.simulation.specs.Ways.{AtAny, Arrivals, within}
 use Rattle.simulation.specs.Unnamed.{unnamed}
 use Rattle.simulation.proofs.Steps.{alike_on}
 use Rattle.simulation.proofs.AnyRegions.{runs_keep}
-use Rattle.simulation.proofs.AtHome.{home_form, any_held, home_runs_keep}
 use Rattle.simulation.proofs.Unnamed.{unnamed_paired}
 
 by_lui : (os : Objects) (place : Places) (m : Origin) (x : Val) (w : ℕ) → Stands os place (moved_uppers place) m x w → Stands os place (moved_uppers place) ByLui x w
@@ -95,11 +94,3 @@ pub moved_code_keeps : (p : Program) (l : Setup) (live : ℕ → ℕ → Type 0)
 moved_code_keeps p l live comes form holds most rules forms arrivals moved forgets n s s' t at steps =
     runs_keep (unnamed p) l live comes form holds most (λ m. at_start) rules forms arrivals
     (any_reset (unnamed p) l live form holds moved forgets) n s s' at_start t at (unnamed_paired p n s s' steps)
-
--- where they stand at home, in one or two steps for each
-pub moved_runs_at_home : (p : Program) (l : Setup) (r : ℕ) → Sound (unnamed p) l r → AllAtHome (unnamed p) l r → ((r : ℕ) → l.upper r ≡ moved_uppers (l.place r)) → (n : ℕ) (s s' : SourceState) (t : State) → Alike (unnamed p) l all_live r s.pc s at_start t → at_home s.pc t.hart.pc → IsUnit (unnamed p) s.pc → Steps p n s s' → Keeps n (n * 2) s' t
-moved_runs_at_home p l r sound units moved n s s' t alike at unit steps =
-    home_runs_keep (unnamed p) l (λ m. at_start)
-    (any_reset (unnamed p) l all_live (home_form (unnamed p) l) any_held moved (λ r s m held. held)) n s s' at_start t
-    (record { region = r; sound = sound; held = tt; alike = alike; made = all_made (unnamed p) s; at = (units, (at, unit)) })
-    (unnamed_paired p n s s' steps)

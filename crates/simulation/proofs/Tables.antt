@@ -1,7 +1,7 @@
 -- Memory of both machines stays alike where a place and its address are changed alike.
 use Rattle.std.proofs.Common.{◌≡◌, ◌⊎◌, inl, inr, ℕ, ◌+◌, ◌-◌, ◌<◌, ◌≤◌, Bool, true, false, sym, ◌∙◌, subst, arith}
 use Rattle.std.proofs.lemmas.Bool.{cases_eq, cases_lt}
-use Rattle.word_bits.specs.Memory.{Memory}
+use Rattle.rv32im.specs.Memory.{Memory}
 use Rattle.cell_values.specs.declared.values.Cell.{Cell}
 use Rattle.cell_values.specs.Origins.{Origin}
 use Rattle.cell_values.specs.Stands.{CellStands, CellHoldsWord}

@@ -1,10 +1,10 @@
 -- Instructions that make a number or the upper part of an address: LUI and AUIPC.
 use Rattle.std.proofs.Common.{◌≡◌, inl, inr, ℕ, ◌*◌, ◌%◌, false, List, Option, Some, None, refl, ap, subst, arith, ◌+◌}
-use Rattle.word_bits.specs.Words.{plus}
-use Rattle.rv_decode.specs.Table.{Means}
-use Rattle.rv_decode.specs.Acts.{with_register}
-use Rattle.rv_decode.specs.declared.instructions.Instr.{Instr}
-use Rattle.rv_decode.specs.declared.instructions.Instr.TheVariants.{Lui, Auipc}
+use Rattle.rv32im.specs.Words.{plus}
+use Rattle.rv32im.specs.Table.{Means}
+use Rattle.rv32im.specs.Acts.{with_register}
+use Rattle.rv32im.specs.declared.instructions.Instr.{Instr}
+use Rattle.rv32im.specs.declared.instructions.Instr.TheVariants.{Lui, Auipc}
 use Rattle.flat_machine.specs.declared.events.FlatEvent.{FlatEvent}
 use Rattle.flat_machine.specs.State.{State}
 use Rattle.cell_values.specs.declared.values.Val.TheVariants.{Int, Hi}

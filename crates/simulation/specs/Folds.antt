@@ -1,6 +1,6 @@
 -- What is told of a whole run of the flat machine, folded from what is told of the steps that it keeps.
 use Rattle.std.specs.Prelude.{◌≡◌, ℕ, zero, suc, ◌*◌, ◌≤◌, List, [], ◌++◌, length, Option}
-use Rattle.rv_decode.specs.declared.instructions.Instr.{Instr}
+use Rattle.rv32im.specs.declared.instructions.Instr.{Instr}
 use Rattle.flat_machine.specs.State.{State}
 use Rattle.flat_machine.specs.Runs.{Does}
 use Rattle.flat_machine.specs.declared.events.FlatEvent.{FlatEvent}

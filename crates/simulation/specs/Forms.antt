@@ -2,12 +2,12 @@
 -- of several words that does what the unit does. `live` are the registers that matter at a unit, and `arrive` the
 -- addresses where the flat machine may come to one.
 use Rattle.std.specs.Prelude.{◌≡◌, ◌⊎◌, ℕ, ◌+◌, ◌*◌, ◌<◌, ◌≤◌, true, false, List, [], ◌∷◌, length, map, Option, Some, None, ℤ}
-use Rattle.word_bits.specs.Words.{plus, offset}
-use Rattle.rv_decode.specs.Acts.{Hart, Registers, register, acts}
-use Rattle.rv_decode.specs.Fields.{rd_of}
-use Rattle.rv_decode.specs.Table.{Means, IsInRange}
-use Rattle.rv_decode.specs.declared.instructions.Instr.{Instr}
-use Rattle.rv_decode.specs.declared.instructions.Instr.TheVariants.{Lui, Auipc, Jal, Jalr, Branch, Load, Store, OpImm, Ebreak}
+use Rattle.rv32im.specs.Words.{plus, offset}
+use Rattle.rv32im.specs.Acts.{Hart, Registers, register, acts}
+use Rattle.rv32im.specs.Fields.{rd_of}
+use Rattle.rv32im.specs.Table.{Means, IsInRange}
+use Rattle.rv32im.specs.declared.instructions.Instr.{Instr}
+use Rattle.rv32im.specs.declared.instructions.Instr.TheVariants.{Lui, Auipc, Jal, Jalr, Branch, Load, Store, OpImm, Ebreak}
 use Rattle.flat_machine.specs.declared.events.FlatEvent.{FlatEvent}
 use Rattle.flat_machine.specs.declared.events.FlatOutcome as flat
 use Rattle.flat_machine.specs.Lines.{Ran, fetch_of}

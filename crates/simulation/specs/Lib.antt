@@ -11,3 +11,8 @@ pub mod Laws
 pub mod Folds
 pub mod Ways
 pub mod Unnamed
+pub mod Names
+pub mod Changes
+pub mod Unwritten
+pub mod Switches
+pub mod RegionLaws

@@ -1,7 +1,7 @@
 -- The AUIPC that is kept beside an upper part made this very part: so it is at the start, and after each step.
 use Rattle.std.specs.Prelude.{◌≡◌, ℕ, true, Some}
-use Rattle.rv_decode.specs.Table.{Means}
-use Rattle.rv_decode.specs.declared.instructions.Instr.TheVariants.{Auipc}
+use Rattle.rv32im.specs.Table.{Means}
+use Rattle.rv32im.specs.declared.instructions.Instr.TheVariants.{Auipc}
 use Rattle.cell_values.specs.declared.values.Val.{Val}
 use Rattle.cell_values.specs.declared.values.Val.TheVariants.{Hi, Piece}
 use Rattle.cell_values.specs.declared.values.Cell.{Cell}

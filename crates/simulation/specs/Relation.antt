@@ -1,6 +1,6 @@
 -- Which states of the flat machine are like a state of the machine whose objects have no addresses.
 use Rattle.std.specs.Prelude.{◌≡◌, ℕ, ◌+◌, ◌<◌, ◌≤◌, true, List, length}
-use Rattle.rv_decode.specs.Acts.{register}
+use Rattle.rv32im.specs.Acts.{register}
 use Rattle.flat_machine.specs.State.{State}
 use Rattle.flat_machine.specs.Runs.{Does}
 use Rattle.flat_machine.specs.Sizes.{HasWords}

@@ -1,8 +1,8 @@
 -- What the steps of both machines rest on: which registers matter, and what stands at the homes of units.
 use Rattle.std.specs.Prelude.{◌≡◌, ℕ, ◌+◌, ◌<◌, true, false, Contains, Option, Some}
-use Rattle.rv_decode.specs.Acts.{used, defined}
-use Rattle.rv_decode.specs.Fields.{rd_of}
-use Rattle.rv_decode.specs.declared.instructions.Instr.{Instr}
+use Rattle.rv32im.specs.Acts.{used, defined}
+use Rattle.rv32im.specs.Fields.{rd_of}
+use Rattle.rv32im.specs.declared.instructions.Instr.{Instr}
 use Rattle.object_machine.specs.declared.events.Outcome.TheVariants.{GoesOn}
 use Rattle.object_machine.specs.Program.{Program}
 use Rattle.object_machine.specs.State.{SourceState}

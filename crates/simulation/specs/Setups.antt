@@ -1,7 +1,7 @@
 -- Where the objects and the code stand on the flat machine. A program may keep other things in other places
 -- while it is in another of its regions, so all but the mapped memory is by the number of a region.
 use Rattle.std.specs.Prelude.{◌≡◌, ℕ, ◌+◌, ◌<◌, Bool, true, false, List, Some}
-use Rattle.word_bits.specs.Memory.{Memory}
+use Rattle.rv32im.specs.Memory.{Memory}
 use Rattle.board_config.specs.declared.board.Range.{Range}
 use Rattle.flat_machine.specs.Mapping.{is_mapped}
 use Rattle.cell_values.specs.Stands.{Places, Uppers, Fit, MakesByLui, AreWords, MixesParts}

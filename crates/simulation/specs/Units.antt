@@ -1,12 +1,12 @@
 -- Which instruction of the flat machine stands for a unit at its home. Where the unit makes a part of an
 -- object's address, it makes that of the object's place.
 use Rattle.std.specs.Prelude.{◌≡◌, ◌⊎◌, ℕ, ◌+◌, ◌*◌, ◌%◌, ◌<◌, true, Option, Some, None, ℤ}
-use Rattle.word_bits.specs.Words.{plus, offset}
-use Rattle.word_bits.specs.Memory.{word_at}
-use Rattle.rv_decode.specs.Table.{Means, IsInRange}
-use Rattle.rv_decode.specs.declared.instructions.Instr.{Instr}
-use Rattle.rv_decode.specs.declared.instructions.Instr.TheVariants.{Lui, Auipc, Jalr, Load, Store, OpImm}
-use Rattle.rv_decode.specs.declared.instructions.ImmKind.TheVariants.{Addi}
+use Rattle.rv32im.specs.Words.{plus, offset}
+use Rattle.rv32im.specs.Memory.{word_at}
+use Rattle.rv32im.specs.Table.{Means, IsInRange}
+use Rattle.rv32im.specs.declared.instructions.Instr.{Instr}
+use Rattle.rv32im.specs.declared.instructions.Instr.TheVariants.{Lui, Auipc, Jalr, Load, Store, OpImm}
+use Rattle.rv32im.specs.declared.instructions.ImmKind.TheVariants.{Addi}
 use Rattle.flat_machine.specs.Mapping.{can_access}
 use Rattle.cell_values.specs.Operations.{low_site}
 use Rattle.cell_values.specs.declared.values.Val.{Val}

@@ -1,11 +1,11 @@
 -- How the flat machine comes from where the words of a unit lead to a form of the next unit, and what whole runs over
 -- units at any form rest on.
 use Rattle.std.specs.Prelude.{◌≡◌, ℕ, suc, ◌+◌, ◌*◌, ◌/◌, ◌%◌, ◌≤◌, true, List, [], ◌∷◌, ◌++◌, length, Option, ℤ}
-use Rattle.word_bits.specs.Words.{plus, offset}
-use Rattle.rv_decode.specs.Acts.{Registers, register}
-use Rattle.rv_decode.specs.Table.{Means}
-use Rattle.rv_decode.specs.declared.instructions.Instr.{Instr}
-use Rattle.rv_decode.specs.declared.instructions.Instr.TheVariants.{Lui, Jal, Jalr}
+use Rattle.rv32im.specs.Words.{plus, offset}
+use Rattle.rv32im.specs.Acts.{Registers, register}
+use Rattle.rv32im.specs.Table.{Means}
+use Rattle.rv32im.specs.declared.instructions.Instr.{Instr}
+use Rattle.rv32im.specs.declared.instructions.Instr.TheVariants.{Lui, Jal, Jalr}
 use Rattle.flat_machine.specs.Lines.{Ran}
 use Rattle.flat_machine.specs.State.{State}
 use Rattle.flat_machine.specs.Runs.{Does}

@@ -1,12 +1,12 @@
 ghost use Rattle.certificate_checker.specs.Rooms.{RoomFits};
 
 use anyhow::{Context, Result};
+use branch_bound::{Round, certify};
 use certificate_checker::{
     CertFault, Certificate, Fixing, Room, Verdict, check, check_text, read_tree, write_tree,
 };
 use num_traits::Num;
 use placement_programme::Programme;
-use side_search::{Round, certify};
 use std::alloc::{AllocError, Global};
 
 /// Appends what a word spells: a byte in hexadecimal, or `BYTES*N` for bytes without spaces between them N times.

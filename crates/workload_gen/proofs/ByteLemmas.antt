@@ -1,7 +1,7 @@
 -- Padded bytes, words of which the low 32 bits are known, and pieces that are appended.
 use Rattle.std.proofs.Common.{◌≡◌, ℕ, ◌+◌, ◌%◌, ◌<◌, ◌≤◌, List, [], ◌∷◌, ◌++◌, length, get_or, drop, refl, ap, sym, arith, length-append, append_assoc}
 use Rattle.std.proofs.lemmas.List.{at_drop_more, at_drop_all, append-nil}
-use Rattle.word_bits.specs.Words.{byte_of}
+use Rattle.rv32im.specs.Words.{byte_of}
 use Rattle.elf_writer.specs.Pieces.{word_bytes, padding, padded, ended_names, string_table}
 use Rattle.elf_writer.proofs.ZeroLemmas.{length-zero_bytes}
 

@@ -2,7 +2,7 @@
 -- table of their own some times over. Sizes and counts are drawn from a seed.
 use Rattle.std.specs.Prelude.{ℕ, pos, zero, suc, ◌+◌, ◌-◌, ◌*◌, ◌/◌, ◌%◌, List, [], ◌∷◌, ◌++◌, codes, decimal}
 use Rattle.elf_reader.specs.declared.view.Reloc.{Reloc}
-use Rattle.word_bits.specs.Words.{upper_half}
+use Rattle.rv32im.specs.Words.{upper_half}
 use Rattle.workload_gen.specs.Plan.{SectionPlan, SymbolPlan, FilePlan}
 use Rattle.elf_writer.specs.Pieces.{words_bytes}
 

@@ -2,7 +2,7 @@
 ghost use Rattle.std.specs.Prelude.{◌≡◌, ℕ, ◌<◌, ◌≤◌};
 ghost use Rattle.workload_gen.specs.Workload as word;
 
-use word_bits::hi20;
+use rv32im::hi20;
 
 /// `lui rd, %hi(a)`.
 pub(crate) fn lui(rd: u32, a: u32) -> u32

@@ -2,7 +2,7 @@ use crate::events::FlatOutcome;
 use crate::machine::Flat;
 use crate::mapping::has_move;
 use paged_store::{ByteStore, append_span};
-use rv_decode::{A0, A1, A2, A7, CALL_EXIT, CALL_READ, CALL_WRITE, NO_CALL};
+use rv32im::{A0, A1, A2, A7, CALL_EXIT, CALL_READ, CALL_WRITE, NO_CALL};
 use std::alloc::AllocError;
 
 impl<S: ByteStore> Flat<S> {

@@ -5,7 +5,7 @@ use crate::known::Known;
 use crate::known_table::{forget_all, is_known, kept_at, learn};
 use crate::machine::Flat;
 use paged_store::ByteStore;
-use rv_decode::{A7, BranchKind, CALL_READ, Instr, decode, takes};
+use rv32im::{A7, BranchKind, CALL_READ, Instr, decode, takes};
 use std::alloc::AllocError;
 
 // Each kind of step has a copy of its own of what performs instructions, by one of these types: LLVM inlines what has one
@@ -19,8 +19,8 @@ pub(crate) struct Telling;
 
 impl<S: ByteStore> Flat<S> {
     ghost use Rattle.std.specs.Prelude.{◌≡◌, ℕ, ◌<◌, length, MatchBool, None, IfOk, OnOk, OnErr};
-    ghost use Rattle.rv_decode.specs.declared.instructions.Instr.{Instr};
-    ghost use Rattle.rv_decode.specs.Table.{IsInRange};
+    ghost use Rattle.rv32im.specs.declared.instructions.Instr.{Instr};
+    ghost use Rattle.rv32im.specs.Table.{IsInRange};
     ghost use Rattle.flat_machine.specs.declared.events.FlatOutcome.{FlatOutcome};
     ghost use Rattle.flat_machine.specs.State.{trap};
     ghost use Rattle.flat_machine.specs.Calls.{call};

@@ -6,13 +6,13 @@ use crate::known_table::forget;
 use crate::machine::Flat;
 use crate::mapping::{has_access, is_near, range_around, reach_of};
 use paged_store::ByteStore;
-use rv_decode::{Instr, LoadKind, StoreKind};
+use rv32im::{Instr, LoadKind, StoreKind};
 use std::alloc::AllocError;
 
 impl<S: ByteStore> Flat<S> {
     ghost use Rattle.std.specs.Prelude.{◌≡◌, ◌<◌, ◌≤◌, ℕ, List, length, IsTrue, OnOk, OnErr};
-    ghost use Rattle.rv_decode.specs.declared.instructions.Instr.{Instr};
-    ghost use Rattle.rv_decode.specs.Table.{IsInRange};
+    ghost use Rattle.rv32im.specs.declared.instructions.Instr.{Instr};
+    ghost use Rattle.rv32im.specs.Table.{IsInRange};
     ghost use Rattle.flat_machine.specs.declared.known.Known.{Known};
     ghost use Rattle.flat_machine.specs.Mapping.{can_access};
     ghost use Rattle.flat_machine.specs.Step.{performed, accessed};

@@ -3,14 +3,14 @@ use crate::events::{FlatAccess, FlatOutcome};
 use crate::machine::Flat;
 use crate::mapping::has_access;
 use paged_store::ByteStore;
-use rv_decode::{
+use rv32im::{
     BranchKind, ImmKind, Instr, LoadKind, RegKind, StoreKind, imm_result, reg_result, takes,
 };
 use std::alloc::AllocError;
 
 impl<S: ByteStore> Flat<S> {
     ghost use Rattle.std.specs.Prelude.{◌≡◌, ◌<◌, IfOk, OnOk, OnErr, IfSome};
-    ghost use Rattle.rv_decode.specs.Table.{IsInRange};
+    ghost use Rattle.rv32im.specs.Table.{IsInRange};
     ghost use Rattle.flat_machine.specs.State.{trap};
     ghost use Rattle.flat_machine.specs.Step.{performed, accessed, next_state, next_access};
     ghost use Rattle.flat_machine.specs.Machine.{state_of};

@@ -3,7 +3,7 @@ use paged_store::ByteStore;
 
 impl<S: ByteStore> Flat<S> {
     ghost use Rattle.std.specs.Prelude.{◌≡◌, ◌<◌};
-    ghost use Rattle.rv_decode.specs.Acts.{register, with_register, after_write, after_jump};
+    ghost use Rattle.rv32im.specs.Acts.{register, with_register, after_write, after_jump};
     ghost use Rattle.flat_machine.specs.Machine.{state_of};
 
     // These are inlined: each step goes through them, and they have several callers.

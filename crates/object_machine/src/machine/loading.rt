@@ -4,12 +4,12 @@ use crate::machine::Source;
 use crate::spots::Spot;
 use crate::widths::load_bytes;
 use cell_values::{Cell, Val};
-use rv_decode::LoadKind;
+use rv32im::LoadKind;
 
 impl Source {
     ghost use Rattle.std.specs.Prelude.{◌≡◌, ℕ, ◌+◌, ◌<◌};
-    ghost use Rattle.rv_decode.specs.Acts.{load_width};
-    ghost use Rattle.rv_decode.specs.declared.instructions.Instr.{Instr};
+    ghost use Rattle.rv32im.specs.Acts.{load_width};
+    ghost use Rattle.rv32im.specs.declared.instructions.Instr.{Instr};
     ghost use Rattle.cell_values.specs.Objects.{IsOfGraph};
     ghost use Rattle.cell_values.specs.Cells.{IsCellOfGraph};
     ghost use Rattle.cell_values.specs.Marks.{half_of_cells};

@@ -10,7 +10,7 @@ const UNKNOWN_BRANCH: u32 = 7;
 
 impl Source {
     ghost use Rattle.std.specs.Prelude.{◌≡◌, ◌+◌, ◌<◌, true, false, length, if◌then◌else◌, MatchOption};
-    ghost use Rattle.word_bits.specs.Words.{offset};
+    ghost use Rattle.rv32im.specs.Words.{offset};
     ghost use Rattle.cell_values.specs.Objects.{IsOfGraph};
     ghost use Rattle.object_machine.specs.State.{wrote, trapped, faulted};
     ghost use Rattle.object_machine.specs.Flow.{falls_on, jumps, jumps_by, branches};

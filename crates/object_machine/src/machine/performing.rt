@@ -2,7 +2,7 @@ use crate::events::Access;
 use crate::machine::Source;
 use crate::units::Prepared;
 use cell_values::{Val, compare, low_site, op_imm, op_reg};
-use rv_decode::{BranchKind, ImmKind, Instr, RegKind, imm_result, reg_result};
+use rv32im::{BranchKind, ImmKind, Instr, RegKind, imm_result, reg_result};
 use std::alloc::AllocError;
 
 impl Source {

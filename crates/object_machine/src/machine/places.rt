@@ -3,7 +3,7 @@ use crate::machine::Source;
 use crate::spots::Spot;
 use cell_values::{Val, low_site};
 use object_graph::Site;
-use rv_decode::ImmKind;
+use rv32im::ImmKind;
 
 /// Reasons of an address fault: outside of its object, misaligned, no memory, an object by a number, and neither
 /// a number nor an address.

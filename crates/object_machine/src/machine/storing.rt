@@ -4,14 +4,14 @@ use crate::machine::moving::NO_BLOCK;
 use crate::spots::Spot;
 use crate::widths::store_bytes;
 use cell_values::{Cell, Val};
-use rv_decode::StoreKind;
+use rv32im::StoreKind;
 use std::alloc::AllocError;
 
 impl Source {
     ghost use Rattle.std.specs.Prelude.{◌≡◌, ℕ, ◌+◌, ◌<◌, take, length, IfOk, OnOk, OnErr};
     ghost use Rattle.std.specs.List.{All};
-    ghost use Rattle.rv_decode.specs.Acts.{store_width};
-    ghost use Rattle.rv_decode.specs.declared.instructions.Instr.{Instr};
+    ghost use Rattle.rv32im.specs.Acts.{store_width};
+    ghost use Rattle.rv32im.specs.declared.instructions.Instr.{Instr};
     ghost use Rattle.cell_values.specs.Objects.{IsOfGraph, object_of};
     ghost use Rattle.cell_values.specs.Cells.{IsCellOfGraph, split};
     ghost use Rattle.object_machine.specs.Memory.{stored_at, stored_cells};

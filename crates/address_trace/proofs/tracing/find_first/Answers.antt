@@ -1,6 +1,6 @@
 use Rattle.std.proofs.Common.{ℕ, false, sym, subst}
 use Rattle.flat_machine.specs.Machine.{state_of}
-use Rattle.result_setups.specs.ResultLaws.{most_steps}
+use Rattle.result_laws.specs.ResultLaws.{most_steps}
 use Rattle.address_trace.specs.declared.forms.Sought.{Sought}
 use Rattle.address_trace.specs.declared.seeking.Next.TheVariants.{Form}
 use Rattle.address_trace.specs.Comings.{IsAtForm}

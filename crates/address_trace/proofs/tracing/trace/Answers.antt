@@ -5,7 +5,7 @@ use Rattle.flat_machine.specs.Start as flat_start
 use Rattle.object_machine.specs.State.{SourceState}
 use Rattle.object_machine.specs.Start.{start_of}
 use Rattle.object_machine.specs.Machine.{state_of}
-use Rattle.result_setups.specs.ResultLaws.{most_steps}
+use Rattle.result_laws.specs.ResultLaws.{most_steps}
 use Rattle.address_trace.specs.Comings.{region_behind}
 use Rattle.address_trace.specs.Tracing.{traced_of}
 use Rattle.address_trace.proofs.TraceLemmas.{tells, starts_there}

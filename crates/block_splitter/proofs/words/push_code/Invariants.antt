@@ -1,5 +1,5 @@
 use Rattle.std.proofs.Common.{take}
-use Rattle.rv_decode.specs.Sequences.{MeanAll}
+use Rattle.rv32im.specs.Sequences.{MeanAll}
 use Rattle.block_splitter.specs.Copying.{Appends}
 use Rattle.block_splitter.proofs.words.push_code.Given as goal
 

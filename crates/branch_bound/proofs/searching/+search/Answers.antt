@@ -12,7 +12,7 @@ use Rattle.certificate_checker.specs.Fixings.{is_free}
 use Rattle.certificate_checker.specs.declared.fixings.Fixing.{Fixing}
 use Rattle.certificate_checker.specs.declared.fixings.Fixing.TheVariants.{Zero, One, Free}
 use Rattle.certificate_checker.proofs.Children.{free_inside, zero_not_free}
-use Rattle.side_search.proofs.Branches.{back_once}
+use Rattle.branch_bound.proofs.Branches.{back_once}
 use Rattle.branch_bound.proofs.ListLemmas.{one_not_free}
 use Rattle.branch_bound.proofs.RankingLemmas.{passed_more}
 use Rattle.branch_bound.proofs.TallyLemmas.{one_exceeds}

@@ -1,7 +1,7 @@
 use Rattle.std.proofs.Common.{sym, subst}
 use Rattle.placement_programme.specs.Views.{plain_programme}
-use Rattle.side_search.specs.Rounds.{IsRound}
-use Rattle.side_search.specs.declared.visiting.Round.{Round}
+use Rattle.branch_bound.specs.Rounds.{IsRound}
+use Rattle.branch_bound.specs.declared.side_visiting.Round.{Round}
 use Rattle.certificate_checker.specs.Views.{plain_certificate}
 use Rattle.branch_bound.specs.Growing.{CannotGrow}
 use Rattle.branch_bound.specs.Searching.{choice_of}

@@ -1,6 +1,6 @@
 use Rattle.std.proofs.Common.{◌+◌, arith}
 use Rattle.elf_reader.specs.File.{plain_view}
-use Rattle.code_leaders.proofs.PairLemmas.{pair_is_code}
+use Rattle.code_blocks.proofs.PairLemmas.{pair_is_code}
 use Rattle.code_blocks.proofs.RangeLemmas.{code_fits}
 use Rattle.code_blocks.proofs.steps.pair_end.Goals as goal
 

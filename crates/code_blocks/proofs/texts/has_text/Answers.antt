@@ -1,7 +1,7 @@
 use Rattle.std.proofs.Common.{◌∙◌, sym, arith}
 use Rattle.elf_reader.specs.File.{plain_section, plain_view}
 use Rattle.loaded_file.proofs.LoadedSections.{found_in, none_after}
-use Rattle.code_leaders.specs.Words.{passes_in}
+use Rattle.code_blocks.specs.Words.{passes_in}
 use Rattle.code_blocks.specs.Blocks.{is_any}
 use Rattle.code_blocks.proofs.texts.has_text.Goals as goal
 

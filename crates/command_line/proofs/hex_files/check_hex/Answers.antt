@@ -1,7 +1,7 @@
 use Rattle.std.proofs.Common.{ap}
 use Rattle.command_line.specs.Meaning.{differing}
 use Rattle.command_line.proofs.Comparing.{none_in_texts, compares_image}
-use Rattle.command_faults.specs.declared.faults.CommandFault.TheVariants as command_fault
+use Rattle.command_language.specs.declared.faults.CommandFault.TheVariants as command_fault
 use Rattle.command_line.proofs.hex_files.check_hex.Goals as goal
 
 pub returns-in-Some-clause-err : goal.returns-in-Some-clause-err

@@ -1,6 +1,6 @@
 use Rattle.std.proofs.Common.{◌≡◌, map, take}
-use Rattle.command_words.specs.Command.{plain_named}
-use Rattle.mix_text.specs.Lines.{plain_input}
+use Rattle.command_language.specs.Command.{plain_named}
+use Rattle.command_language.specs.Lines.{plain_input}
 use Rattle.command_line.specs.Listing.{listed_name}
 use Rattle.command_line.proofs.mix_inputs.names_of_lines.Given as goal
 

@@ -1,5 +1,5 @@
 use Rattle.std.proofs.Common.{List, map, ap, subst, ◌∙◌}
-use Rattle.command_words.specs.Command.{Named, plain_named}
+use Rattle.command_language.specs.Command.{Named, plain_named}
 use Rattle.command_line.specs.Reading.{RejectsReads}
 use Rattle.command_line.proofs.mix_inputs.read_lines.Goals as goal
 

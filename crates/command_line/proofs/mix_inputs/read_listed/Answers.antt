@@ -1,6 +1,6 @@
 use Rattle.std.proofs.Common.{List, map, refl, subst}
-use Rattle.mix_text.specs.Lines.{plain_input, names_of}
-use Rattle.mix_text.specs.declared.parts.MixInput.{MixInput}
+use Rattle.command_language.specs.Lines.{plain_input, names_of}
+use Rattle.command_language.specs.declared.parts.MixInput.{MixInput}
 use Rattle.command_line.specs.Listing.{listed_name}
 use Rattle.command_line.specs.Reading.{contents, HoldsAll, RejectsReads}
 use Rattle.command_line.proofs.ListedNames.{is_listed, reads_rejected, list_rejected}

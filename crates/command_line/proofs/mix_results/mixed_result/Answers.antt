@@ -1,8 +1,8 @@
 use Rattle.std.proofs.Common.{◌∷◌, [], ◌++◌, ℕ, List, map, refl, sym, subst, ap, ◌∙◌}
-use Rattle.mix_text.specs.Lines.{plain_input}
+use Rattle.command_language.specs.Lines.{plain_input}
 use Rattle.relinking.specs.MixOfRuns.{WeightedInput}
 use Rattle.relinking.specs.MixOfRuns as together
-use Rattle.command_words.specs.Command.{mix_command}
+use Rattle.command_language.specs.Command.{mix_command}
 use Rattle.command_line.specs.Listing.{third}
 use Rattle.command_line.specs.Measured.{measures_none}
 use Rattle.command_line.specs.Meaning.{RejectsInputs, mixes}

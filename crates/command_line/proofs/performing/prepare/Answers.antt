@@ -1,6 +1,6 @@
 use Rattle.std.proofs.Common.{List, length, ap, inl, map, sym, subst, ◌∙◌}
 use Rattle.std.proofs.lemmas.List.{length-map}
-use Rattle.command_words.specs.Command.{Named, plain_named, plain_command, reads}
+use Rattle.command_language.specs.Command.{Named, plain_named, plain_command, reads}
 use Rattle.command_line.specs.Reading.{contents, HoldsAll, RejectsReads}
 use Rattle.command_line.proofs.ListedNames.{held_size, prepared_from, rejected_from, words_rejected}
 use Rattle.command_line.proofs.performing.prepare.Goals as goal

@@ -1,5 +1,5 @@
 use Rattle.std.proofs.Common.{◌++◌, ◌∷◌, [], sym, ap, subst, ◌∙◌}
-use Rattle.command_words.specs.Command.{plain_named}
+use Rattle.command_language.specs.Command.{plain_named}
 use Rattle.command_line.specs.Reading.{contents, HoldsAll}
 use Rattle.command_line.proofs.Readings.{holds_more, contents_more}
 use Rattle.command_line.proofs.reading.push_text.Goals as goal

@@ -1,5 +1,5 @@
 use Rattle.std.proofs.Common.{map}
-use Rattle.command_words.specs.Command.{plain_named}
+use Rattle.command_language.specs.Command.{plain_named}
 use Rattle.command_line.proofs.Readings.{one_rejected, is_named}
 use Rattle.command_line.proofs.reading.read_all.Goals as goal
 

@@ -1,5 +1,5 @@
 use Rattle.std.proofs.Common.{◌≡◌, map, take}
-use Rattle.command_words.specs.Command.{plain_named}
+use Rattle.command_language.specs.Command.{plain_named}
 use Rattle.command_line.specs.Reading.{contents, HoldsAll}
 use Rattle.command_line.proofs.reading.read_all.Given as goal
 

@@ -1,5 +1,5 @@
 use Rattle.std.proofs.Common.{[], refl, ℕ, List, sym, subst}
-use Rattle.command_words.specs.Command.{check_command}
+use Rattle.command_language.specs.Command.{check_command}
 use Rattle.command_line.specs.Measured.{check_ends}
 use Rattle.command_line.specs.Meaning.{RejectsInputs, checks}
 use Rattle.command_line.proofs.CommandFaults.{certificate_rejected}

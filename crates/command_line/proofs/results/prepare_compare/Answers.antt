@@ -1,5 +1,5 @@
 use Rattle.std.proofs.Common.{[], refl, ℕ, List, sym, subst}
-use Rattle.command_words.specs.Command.{compare_command}
+use Rattle.command_language.specs.Command.{compare_command}
 use Rattle.command_line.specs.Measured.{measures_none}
 use Rattle.command_line.specs.Meaning.{RejectsInputs, compares}
 use Rattle.command_line.proofs.CommandFaults.{compare_rejected}

@@ -1,5 +1,5 @@
 use Rattle.std.proofs.Common.{◌∷◌, [], refl, ap, ℕ, List, sym, subst}
-use Rattle.command_words.specs.Command.{hex_command}
+use Rattle.command_language.specs.Command.{hex_command}
 use Rattle.command_line.specs.Measured.{measures_none}
 use Rattle.command_line.specs.Meaning.{RejectsInputs, writes_hex}
 use Rattle.command_line.proofs.CommandFaults.{hex_rejected}

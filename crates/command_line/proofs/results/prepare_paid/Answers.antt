@@ -1,5 +1,5 @@
 use Rattle.std.proofs.Common.{[], refl, ℕ, List, sym, subst}
-use Rattle.command_words.specs.Command.{paid_command}
+use Rattle.command_language.specs.Command.{paid_command}
 use Rattle.command_line.specs.Measured.{paid_ends}
 use Rattle.command_line.specs.Meaning.{RejectsInputs, pays}
 use Rattle.command_line.proofs.CommandFaults.{paid_rejected}

@@ -1,5 +1,5 @@
 use Rattle.std.proofs.Common.{[], refl, ℕ, List, sym, subst}
-use Rattle.command_words.specs.Command.{profile_command}
+use Rattle.command_language.specs.Command.{profile_command}
 use Rattle.command_line.specs.Measured.{profile_ends}
 use Rattle.command_line.specs.Meaning.{RejectsInputs, profiles}
 use Rattle.command_line.proofs.CommandFaults.{profile_rejected}

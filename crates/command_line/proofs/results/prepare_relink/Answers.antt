@@ -1,5 +1,5 @@
 use Rattle.std.proofs.Common.{◌∷◌, [], refl, ℕ, List, sym, subst}
-use Rattle.command_words.specs.Command.{relink_command}
+use Rattle.command_language.specs.Command.{relink_command}
 use Rattle.command_line.specs.Measured.{relink_ends}
 use Rattle.command_line.specs.Meaning.{RejectsInputs, relinks}
 use Rattle.command_line.proofs.CommandFaults.{relink_rejected}

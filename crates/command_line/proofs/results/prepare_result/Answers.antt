@@ -1,5 +1,5 @@
 use Rattle.std.proofs.Common.{◌≡◌, ℕ, List, length, refl, subst}
-use Rattle.command_words.specs.Command.{gen_command}
+use Rattle.command_language.specs.Command.{gen_command}
 use Rattle.command_line.specs.Performing.{IsPreparedFor}
 use Rattle.command_line.proofs.ListedNames.{unlisted, unlisted_fails}
 use Rattle.command_line.proofs.Readings.{contents_of_none}

@@ -1,5 +1,5 @@
 use Rattle.std.proofs.Common.{[], refl, ℕ, List, sym, subst}
-use Rattle.command_words.specs.Command.{show_command}
+use Rattle.command_language.specs.Command.{show_command}
 use Rattle.command_line.specs.Measured.{measures_none}
 use Rattle.command_line.specs.Meaning.{RejectsInputs, shows}
 use Rattle.command_line.proofs.CommandFaults.{show_rejected}

@@ -1,6 +1,6 @@
 use Rattle.std.proofs.Common.{◌∷◌, [], inl, refl, ℕ, List, sym, subst}
 use Rattle.std.proofs.lemmas.Result.{err_from_is_err_and}
-use Rattle.command_words.specs.Command.{trace_command}
+use Rattle.command_language.specs.Command.{trace_command}
 use Rattle.command_line.specs.Measured.{trace_ends}
 use Rattle.command_line.specs.Meaning.{RejectsInputs, traces}
 use Rattle.command_line.proofs.CommandFaults.{trace_rejected}

@@ -1,7 +1,7 @@
 use Rattle.std.proofs.Common.{◌≡◌, ◌∙◌, Bool, true, false, sym, ap}
 use Rattle.elf_reader.specs.File.{plain_view}
 use Rattle.elf_reader.specs.declared.view.Reloc.{Reloc}
-use Rattle.rewritable_relocations.specs.Rewritable.{is_pair_low}
+use Rattle.object_graph.specs.Rewritable.{is_pair_low}
 use Rattle.object_graph.proofs.GivenLemmas.{low_is_site, alone_is_site}
 use Rattle.object_graph.proofs.RangeLemmas.{reloc_is}
 use Rattle.object_graph.proofs.sites.site_of.Goals as goal

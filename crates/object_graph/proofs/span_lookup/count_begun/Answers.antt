@@ -3,7 +3,7 @@ use Rattle.std.proofs.lemmas.Bool.{leb-true}
 use Rattle.std.proofs.lemmas.List.Sorted.{IsPartitionPoint-from_clause, IsPartitionedBy-leb}
 use Rattle.board_config.specs.declared.board.Range.{Range}
 use Rattle.object_graph.specs.Sites.{no_area}
-use Rattle.movable_ranges.proofs.DisjointLemmas.{by_start, above}
+use Rattle.object_graph.proofs.DisjointLemmas.{by_start, above}
 use Rattle.object_graph.proofs.span_lookup.count_begun.Goals as goal
 
 pub returns-clause-begun : goal.returns-clause-begun

@@ -1,5 +1,5 @@
 use Rattle.std.proofs.Common.{◌≡◌, ℕ, true, sym, subst}
-use Rattle.code_leaders.specs.Early.{has}
+use Rattle.code_blocks.specs.Early.{has}
 use Rattle.object_machine.proofs.landings.add_start.Goals as goal
 
 pub returns-then-is_unit_at : goal.returns-then-is_unit_at

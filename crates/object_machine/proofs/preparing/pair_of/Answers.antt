@@ -1,8 +1,8 @@
 use Rattle.std.proofs.Common.{◌≡◌, ℕ, ◌+◌, ◌*◌, nat_lt, ◌∙◌, ap, arith}
-use Rattle.word_bits.specs.Words.{plus, offset}
-use Rattle.rv_decode.specs.Fields.{rd_of, u_immediate, i_immediate}
+use Rattle.rv32im.specs.Words.{plus, offset}
+use Rattle.rv32im.specs.Fields.{rd_of, u_immediate, i_immediate}
 use Rattle.elf_reader.specs.File.{plain_view}
-use Rattle.code_leaders.proofs.PairLemmas.{pair_is_code}
+use Rattle.code_blocks.proofs.PairLemmas.{pair_is_code}
 use Rattle.object_machine.proofs.BlockLemmas.{pair_room, is_pair_unit, no_pair_of}
 use Rattle.object_machine.proofs.preparing.pair_of.Goals as goal
 

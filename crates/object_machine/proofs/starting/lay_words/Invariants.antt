@@ -1,5 +1,5 @@
 use Rattle.std.proofs.Common.{◌≡◌, drop}
-use Rattle.word_bits.specs.Memory.{Memory}
+use Rattle.rv32im.specs.Memory.{Memory}
 use Rattle.cell_values.specs.Stored.{cells_of}
 use Rattle.object_machine.specs.Start.{first_cell}
 use Rattle.object_machine.specs.Starting.{plain_cells}

@@ -1,6 +1,6 @@
 use Rattle.std.proofs.Common.{◌≡◌, ◌+◌, ◌≤◌, ◌++◌, vec_len}
 use Rattle.std.specs.Vec.{vec_capacity}
-use Rattle.word_bits.specs.Memory.{bytes_at}
+use Rattle.rv32im.specs.Memory.{bytes_at}
 use Rattle.paged_store.proofs.spans.append_span.Given as goal
 
 -- the bytes so far stand at the end, and there is room for the rest

@@ -2,7 +2,7 @@ use Rattle.std.proofs.Common.{◌≡◌, ◌∙◌, ◌<◌, length, slice_index
 use Rattle.std.proofs.lemmas.List.Sums.{sum_by_more, sum_by_more_le}
 use Rattle.placement_programme.specs.Views.{plain_programme, plain_choice}
 use Rattle.energy_model.specs.Scenes.{scene_of}
-use Rattle.overlay_candidates.specs.Whole.{taken_of as names_taken}
+use Rattle.placement_candidates.specs.Whole.{taken_of as names_taken}
 use Rattle.paid_energy.specs.Inward.{inward_count}
 use Rattle.paid_energy.proofs.InwardLemmas.{few_inward, edge_within}
 use Rattle.paid_energy.proofs.Listed.{are_pieces, same_table}

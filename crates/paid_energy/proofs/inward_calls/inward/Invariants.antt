@@ -2,7 +2,7 @@ use Rattle.std.proofs.Common.{◌≡◌, take}
 use Rattle.std.specs.List.{sum_by}
 use Rattle.placement_programme.specs.Views.{plain_programme, plain_choice}
 use Rattle.energy_model.specs.Scenes.{scene_of}
-use Rattle.overlay_candidates.specs.Whole.{taken_of as names_taken}
+use Rattle.placement_candidates.specs.Whole.{taken_of as names_taken}
 use Rattle.paid_energy.specs.Inward.{inward_count}
 use Rattle.paid_energy.proofs.inward_calls.inward.Given as goal
 

@@ -2,7 +2,7 @@ use Rattle.std.proofs.Common.{◌≡◌, ◌∙◌, true, sym, ap, subst}
 use Rattle.block_splitter.specs.declared.block_range.BlockRange.{BlockRange}
 use Rattle.block_splitter.specs.Forms.{holds_block}
 use Rattle.block_splitter.specs.Pieces.{is_entry, range_of, IsPiece}
-use Rattle.copied_result.proofs.PieceSearch.{found_at}
+use Rattle.relink_core.proofs.PieceSearch.{found_at}
 use Rattle.paid_energy.proofs.Listed.{any_of}
 use Rattle.paid_energy.proofs.inward_calls.is_entry.Goals as goal
 

@@ -2,8 +2,8 @@ use Rattle.std.proofs.Common.{rules}
 use Rattle.std.proofs.lemmas.List.Sorted.{IsPartitionPoint-from_clause}
 use Rattle.block_splitter.specs.declared.piece.Piece.{Piece}
 use Rattle.block_splitter.specs.Pieces.{range_of}
-use Rattle.copied_result.specs.Copies.{comes_before}
-use Rattle.copied_result.proofs.PieceSearch.{pieces_rise}
+use Rattle.relink_core.specs.Copies.{comes_before}
+use Rattle.relink_core.proofs.PieceSearch.{pieces_rise}
 use Rattle.paid_energy.proofs.inward_calls.pieces_before.Goals as goal
 
 pub returns : goal.returns

@@ -2,9 +2,10 @@ use Rattle.std.proofs.Common.{◌≡◌, ◌∙◌, ℕ, List, sym, subst, arith
 use Rattle.code_blocks.specs.declared.parts.Unit.{Unit}
 use Rattle.code_blocks.specs.Leads.{IsBlockOf, units_at}
 use Rattle.reach_graph.specs.Reaching.{plain_rows}
-use Rattle.points_to.specs.Flows.{AreRows}
+use Rattle.points_to.specs.Rows.{AreRows}
 use Rattle.points_to.specs.Nodes.{Adds, OneEdge, UnitEdges, end_of}
-use Rattle.points_to.proofs.BlockLemmas.{units_are, block_adds}
+use Rattle.dataflow.proofs.FactLemmas.{units_are}
+use Rattle.points_to.proofs.BlockLemmas.{block_adds}
 use Rattle.points_to.proofs.blocks.push_block.Goals as goal
 
 pub returns : goal.returns

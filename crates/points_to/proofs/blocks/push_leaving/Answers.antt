@@ -4,7 +4,8 @@ use Rattle.code_blocks.specs.Numbers.{end_at}
 use Rattle.code_blocks.specs.Leads.{IsBlockOf}
 use Rattle.reach_graph.specs.Reaching.{plain_rows}
 use Rattle.points_to.specs.Nodes.{Adds, Upto, RegisterEdge, end_of}
-use Rattle.points_to.proofs.BlockLemmas.{end_is, leaving_adds}
+use Rattle.dataflow.proofs.FactLemmas.{end_is}
+use Rattle.points_to.proofs.BlockLemmas.{leaving_adds}
 use Rattle.points_to.proofs.blocks.push_leaving.Goals as goal
 
 pub returns-then-is_indirect : goal.returns-then-is_indirect

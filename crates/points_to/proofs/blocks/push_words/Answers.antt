@@ -4,9 +4,10 @@ use Rattle.object_graph.specs.Lookups.{IsSomeGraph}
 use Rattle.object_graph.specs.declared.parts.Graph.{Graph}
 use Rattle.object_graph.specs.declared.parts.DataWord.{DataWord}
 use Rattle.reach_graph.specs.Reaching.{plain_rows}
-use Rattle.points_to.specs.Nodes.{Adds, Upto, OneEdge, WordEdge, no_word, object_node, memory}
+use Rattle.dataflow.specs.Flows.{no_word}
+use Rattle.points_to.specs.Nodes.{Adds, Upto, OneEdge, WordEdge, object_node, memory}
 use Rattle.points_to.proofs.EdgeLemmas.{adds_more}
-use Rattle.points_to.proofs.SiteLemmas.{word_inside}
+use Rattle.dataflow.proofs.SiteLemmas.{word_inside}
 use Rattle.points_to.proofs.blocks.push_words.Goals as goal
 
 -- the object of a word of the list

@@ -1,7 +1,7 @@
 use Rattle.std.proofs.Common.{◌≡◌, ℕ, ◌<◌, refl, subst, arith}
 use Rattle.reach_graph.specs.Reaching.{plain_rows}
 use Rattle.points_to.specs.Nodes.{Adds, Upto, PlaceEdge, RowEdge, entry, end_of}
-use Rattle.points_to.specs.Flows.{row}
+use Rattle.points_to.specs.Rows.{row}
 use Rattle.points_to.proofs.EdgeLemmas.{adds_same, adds_more, row_one}
 use Rattle.points_to.proofs.edges.push_rows.Goals as goal
 

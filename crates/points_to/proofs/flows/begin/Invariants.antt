@@ -1,6 +1,6 @@
 use Rattle.std.proofs.Common.{◌≡◌, ℕ, ◌<◌, length}
 use Rattle.std.specs.Prelude.{◌↔◌}
-use Rattle.points_to.specs.Flows.{Has, row}
+use Rattle.points_to.specs.Rows.{Has, row}
 use Rattle.points_to.proofs.flows.begin.Given as goal
 
 abbrev pub invariant-loop-x : goal.invariant-loop-x

@@ -1,8 +1,9 @@
 use Rattle.std.proofs.Common.{◌≡◌, ◌∙◌, ℕ, true, Some, sym, ap, subst, arith, Option}
 use Rattle.object_graph.specs.declared.parts.Site.{Site}
 use Rattle.reach_graph.specs.Reaching.{plain_rows}
-use Rattle.points_to.specs.Points.{IsHolder, site_at}
-use Rattle.points_to.specs.Flows.{written, made, loads, row}
+use Rattle.dataflow.specs.Points.{IsHolder, site_at}
+use Rattle.dataflow.specs.Flows.{written, made, loads}
+use Rattle.points_to.specs.Rows.{row}
 use Rattle.points_to.specs.Nodes.{Adds, Upto, PlaceEdge, end_of, object_node, loaded}
 use Rattle.points_to.proofs.SourceLemmas.{makes_one, gains_one, adds_flow}
 use Rattle.points_to.proofs.sources.push_sources.Goals as goal

@@ -4,11 +4,11 @@ use Rattle.std.proofs.Math.Seq.{drop-length}
 use Rattle.code_blocks.specs.declared.parts.Unit.{Unit}
 use Rattle.code_blocks.specs.Leads.{no_unit}
 use Rattle.reach_graph.specs.Reaching.{plain_rows}
-use Rattle.points_to.specs.Flows.{AreRows}
+use Rattle.points_to.specs.Rows.{AreRows}
 use Rattle.points_to.specs.Nodes.{Adds, SourceEdges, UnitEdges}
 use Rattle.points_to.proofs.EdgeLemmas.{adds_none, adds_both}
 use Rattle.points_to.proofs.SourceLemmas.{units_more}
-use Rattle.points_to.proofs.SiteLemmas.{site_found}
+use Rattle.dataflow.proofs.SiteLemmas.{site_found}
 use Rattle.points_to.proofs.sources.push_units.Goals as goal
 
 pub loop-k-init : goal.loop-k-init

@@ -1,6 +1,6 @@
 use Rattle.std.proofs.Common.{drop}
 use Rattle.reach_graph.specs.Reaching.{plain_rows}
-use Rattle.points_to.specs.Flows.{AreRows}
+use Rattle.points_to.specs.Rows.{AreRows}
 use Rattle.points_to.specs.Nodes.{Adds, UnitEdges}
 use Rattle.points_to.proofs.sources.push_units.Given as goal
 

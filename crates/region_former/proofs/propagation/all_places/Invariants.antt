@@ -1,5 +1,5 @@
 use Rattle.std.proofs.Common.{◌≡◌, ℕ, nat_lt}
-use Rattle.code_leaders.specs.Early.{has}
+use Rattle.code_blocks.specs.Early.{has}
 use Rattle.region_former.proofs.propagation.all_places.Given as goal
 
 abbrev pub invariant-loop-f : goal.invariant-loop-f

@@ -1,6 +1,6 @@
 use Rattle.std.proofs.Common.{◌≡◌, ◌∙◌, ℕ, List, true, sym, subst}
 use Rattle.std.proofs.lemmas.Result.{on_ok_weaker}
-use Rattle.code_leaders.specs.Early.{has}
+use Rattle.code_blocks.specs.Early.{has}
 use Rattle.region_former.specs.Propagation.{mark_at, Propagates}
 use Rattle.region_former.proofs.BlockLemmas.{row_at, item_same}
 use Rattle.region_former.proofs.propagation.propagate_from.Goals as goal

@@ -1,7 +1,7 @@
 use Rattle.std.proofs.Common.{◌∙◌, ℕ, List, ap, ◌||◌}
 use Rattle.std.proofs.lemmas.Result.{on_ok_weaker}
 use Rattle.std.specs.List.{list_any}
-use Rattle.code_leaders.specs.Early.{has}
+use Rattle.code_blocks.specs.Early.{has}
 use Rattle.region_former.specs.Rows.{leads_there}
 use Rattle.region_former.proofs.BlockLemmas.{leads_same}
 use Rattle.region_former.proofs.reaching.add_edges.Goals as goal

@@ -1,6 +1,6 @@
 use Rattle.std.proofs.Common.{◌≡◌, ℕ, ◌||◌, take}
 use Rattle.std.specs.List.{list_any}
-use Rattle.code_leaders.specs.Early.{has}
+use Rattle.code_blocks.specs.Early.{has}
 use Rattle.region_former.specs.Rows.{leads_there}
 use Rattle.region_former.proofs.reaching.add_entered.Given as goal
 

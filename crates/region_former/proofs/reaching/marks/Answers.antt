@@ -1,5 +1,5 @@
 use Rattle.std.proofs.Common.{◌≡◌, ◌∙◌, ℕ, List, Vec, Global, true, length, sym, ap, subst, arith}
-use Rattle.code_leaders.specs.Early.{has}
+use Rattle.code_blocks.specs.Early.{has}
 use Rattle.region_former.specs.Reaching.{is_root, enters}
 use Rattle.region_former.specs.Propagation.{mark_at, row_of, IsMark, PropagatesOut}
 use Rattle.region_former.specs.declared.propagation.Reached.{Reached}

@@ -2,7 +2,7 @@ use Rattle.std.proofs.Common.{◌∙◌, ℕ, sym, ap, subst}
 use Rattle.placement_programme.specs.Views.{plain_programme, plain_choice}
 use Rattle.relocator.specs.Laws.{CanLayOut}
 use Rattle.relocator.specs.Placing.{chosen_slots, ArePlaces}
-use Rattle.result_placements.proofs.LayingOut.{choice_lays_out}
+use Rattle.result_laws.proofs.LayingOut.{choice_lays_out}
 use Rattle.relink_core.specs.Names.{objects_named, ranges_named}
 use Rattle.relink_core.proofs.NameLemmas.{names_are}
 use Rattle.relink_core.proofs.choosing.taken_names.Goals as goal

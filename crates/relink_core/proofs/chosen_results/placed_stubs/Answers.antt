@@ -1,6 +1,6 @@
 use Rattle.std.proofs.Common.{◌∙◌, ℕ, map, ap, subst}
-use Rattle.overlay_stubs.specs.Plans.{serving_stub}
-use Rattle.copied_result.specs.Serving.{served_blocks, AreStubsFrom}
+use Rattle.patch_code.specs.StubPlans.{serving_stub}
+use Rattle.relink_core.specs.Serving.{served_blocks, AreStubsFrom}
 use Rattle.relink_core.specs.ResultParts.{stubs_at}
 use Rattle.relink_core.proofs.SourceFacts.{source_is, borders_entered}
 use Rattle.relink_core.proofs.chosen_results.placed_stubs.Goals as goal

@@ -1,5 +1,5 @@
 use Rattle.std.proofs.Common.{List, sym, subst}
-use Rattle.copied_result.specs.declared.placed_copy.PlacedCopy.{PlacedCopy}
+use Rattle.relink_core.specs.declared.placed_copy.PlacedCopy.{PlacedCopy}
 use Rattle.relink_core.specs.ResultParts.{AreCopiesOf, HaveCopies, HaveRoom, ServeCopies, IsPlanWith}
 use Rattle.relink_core.proofs.StubRoom.{have_room}
 use Rattle.relink_core.proofs.chosen_results.planned_result.Goals as goal

@@ -1,8 +1,8 @@
 use Rattle.std.proofs.Common.{sym, subst}
 use Rattle.elf_reader.specs.File.{view_in}
 use Rattle.relocator.specs.Placing.{chosen_slots, ArePlaces}
-use Rattle.result_setups.specs.HomeLaws.{unnamed_in}
-use Rattle.result_placements.specs.Laws.{regions_on}
+use Rattle.result_laws.specs.HomeLaws.{unnamed_in}
+use Rattle.result_laws.specs.PlacementLaws.{regions_on}
 use Rattle.relink_core.specs.Written.{AreSiteRegions}
 use Rattle.relink_core.proofs.RealiseLemmas.{prepared, is_read, graph_of}
 use Rattle.relink_core.proofs.RealisedChoice.{has_places}

@@ -1,5 +1,5 @@
 use Rattle.std.proofs.Common.{◌≢◌, ◌∙◌, ◌-◌, ◌≤◌, length, refl, sym, subst, arith}
-use Rattle.result_placements.specs.PlacedView.{HasRegion}
+use Rattle.result_laws.specs.PlacedView.{HasRegion}
 use Rattle.relink_core.proofs.UnitWords.{none_before, found_there, none_there}
 use Rattle.relink_core.proofs.site_regions.region_at.Goals as goal
 

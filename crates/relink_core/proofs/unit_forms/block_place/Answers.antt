@@ -1,5 +1,5 @@
 use Rattle.std.proofs.Common.{◌∙◌, ◌+◌, ap, arith}
-use Rattle.copied_result.proofs.StubsMade.{start_there, start_fits}
+use Rattle.relink_core.proofs.StubsMade.{start_there, start_fits}
 use Rattle.relink_core.proofs.unit_forms.block_place.Goals as goal
 
 pub index-start-requires : goal.index-start-requires

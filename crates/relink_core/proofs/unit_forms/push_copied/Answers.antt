@@ -1,5 +1,5 @@
 use Rattle.std.proofs.Common.{◌≡◌, ◌<◌, subst, arith}
-use Rattle.copied_result.specs.Copies.{copied_in}
+use Rattle.relink_core.specs.Copies.{copied_in}
 use Rattle.relink_core.specs.UnitSets.{Gains, Upto, CopiedForm}
 use Rattle.relink_core.proofs.UnitSetLemmas.{gains_more, gains_first}
 use Rattle.relink_core.proofs.UnitSteps.{unit_count, unit_ends, next_unit, as_many, copied_unit, first_unit}

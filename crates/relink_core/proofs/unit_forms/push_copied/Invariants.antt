@@ -1,6 +1,6 @@
 use Rattle.std.specs.Prelude.{◌≡◌}
 use Rattle.block_splitter.specs.Copies.{address_of, place_of}
-use Rattle.copied_result.specs.Copies.{copied_in}
+use Rattle.relink_core.specs.Copies.{copied_in}
 use Rattle.relink_core.specs.UnitSets.{Gains, Upto, CopiedForm}
 use Rattle.relink_core.proofs.unit_forms.push_copied.Given as goal
 

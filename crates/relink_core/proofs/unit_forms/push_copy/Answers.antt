@@ -1,8 +1,8 @@
 use Rattle.std.proofs.Common.{◌≡◌, ◌+◌, true, arith}
 use Rattle.block_splitter.specs.Forms.{holds_block}
 use Rattle.block_splitter.proofs.CopySizeLemmas.{holds, range_is}
-use Rattle.copied_result.specs.Copies.{copied_in}
-use Rattle.copied_result.proofs.StubsMade.{block_below}
+use Rattle.relink_core.specs.Copies.{copied_in}
+use Rattle.relink_core.proofs.StubsMade.{block_below}
 use Rattle.relink_core.specs.UnitSets.{HeldForms}
 use Rattle.relink_core.proofs.UnitSetLemmas.{gains_more}
 use Rattle.relink_core.proofs.UnitSteps.{held_block, whole_copy}

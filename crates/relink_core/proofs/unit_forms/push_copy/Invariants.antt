@@ -1,4 +1,4 @@
-use Rattle.copied_result.specs.Copies.{copied_in}
+use Rattle.relink_core.specs.Copies.{copied_in}
 use Rattle.relink_core.specs.UnitSets.{Gains, Upto, HeldForms}
 use Rattle.relink_core.proofs.unit_forms.push_copy.Given as goal
 

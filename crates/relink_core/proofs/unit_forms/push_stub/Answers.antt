@@ -1,6 +1,6 @@
 use Rattle.std.proofs.Common.{ap}
-use Rattle.overlay_stubs.specs.Plans.{body_of, serving_stub}
-use Rattle.overlay_stubs.specs.declared.plan.Body.{Body}
+use Rattle.patch_code.specs.StubPlans.{body_of, serving_stub}
+use Rattle.patch_code.specs.declared.stub_plan.Body.{Body}
 use Rattle.relink_core.specs.UnitSets.{runs}
 use Rattle.relink_core.proofs.UnitSteps.{one_stub}
 use Rattle.relink_core.proofs.unit_forms.push_stub.Goals as goal

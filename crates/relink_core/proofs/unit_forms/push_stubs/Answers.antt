@@ -1,5 +1,5 @@
 use Rattle.std.proofs.Common.{map, arith}
-use Rattle.overlay_stubs.specs.Plans.{serving_stub}
+use Rattle.patch_code.specs.StubPlans.{serving_stub}
 use Rattle.relink_core.specs.UnitSets.{StubForms}
 use Rattle.relink_core.proofs.UnitSetLemmas.{gains_more}
 use Rattle.relink_core.proofs.UnitSteps.{stub_there}

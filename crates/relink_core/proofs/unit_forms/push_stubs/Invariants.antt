@@ -1,5 +1,5 @@
 use Rattle.std.specs.Prelude.{map}
-use Rattle.overlay_stubs.specs.Plans.{serving_stub}
+use Rattle.patch_code.specs.StubPlans.{serving_stub}
 use Rattle.relink_core.specs.UnitSets.{Gains, Upto, StubForms}
 use Rattle.relink_core.proofs.unit_forms.push_stubs.Given as goal
 

@@ -1,4 +1,4 @@
-use Rattle.overlay_stubs.specs.Plans.{overlay_plan}
+use Rattle.patch_code.specs.StubPlans.{overlay_plan}
 use Rattle.relink_core.specs.Placed.{taken_of}
 use Rattle.relink_core.proofs.UnitMapsMade.{with_units}
 use Rattle.relink_core.proofs.unit_maps.placed_units.Goals as goal

@@ -1,6 +1,6 @@
 use Rattle.std.proofs.Common.{◌∙◌, List, map, refl, ap}
-use Rattle.overlay_stubs.specs.declared.plan.Stub.{Stub}
-use Rattle.copied_result.specs.Padding.{home_of}
+use Rattle.patch_code.specs.declared.stub_plan.Stub.{Stub}
+use Rattle.relink_core.specs.Padding.{home_of}
 use Rattle.placement_programme.specs.declared.variables.VarName.{VarName}
 use Rattle.relink_core.specs.UnitMaps.{regions_named}
 use Rattle.relink_core.proofs.UnitMapsMade.{can_collect, units_mapped}

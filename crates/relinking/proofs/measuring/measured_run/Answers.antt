@@ -2,7 +2,7 @@ use Rattle.std.proofs.Common.{◌≡◌, true, Ok, Err, refl, sym, ap, subst}
 use Rattle.std.proofs.lemmas.Result.{err_from_is_err_and}
 use Rattle.elf_reader.specs.File.{plain_view}
 use Rattle.cell_values.specs.Objects.{IsGrain}
-use Rattle.code_leaders.specs.Leaders.{is_leader}
+use Rattle.code_blocks.specs.Leaders.{is_leader}
 use Rattle.object_machine.specs.Program.{program_of}
 use Rattle.object_machine.specs.State.{SourceState}
 use Rattle.object_machine.specs.Machine.{state_of}

@@ -1,7 +1,7 @@
 use Rattle.std.proofs.Common.{map}
 use Rattle.std.proofs.lemmas.Result.{err_from_is_err_and}
 use Rattle.elf_reader.specs.File.{plain_view}
-use Rattle.profile_mix.specs.Parts.{plain_part}
+use Rattle.placement_candidates.specs.Parts.{plain_part}
 use Rattle.relinking.specs.MixOfRuns.{plain_input}
 use Rattle.relinking.proofs.MixedRuns.{part_more, faults_there, no_memory_first}
 use Rattle.relinking.proofs.mixing.parts_of_runs.Goals as goal

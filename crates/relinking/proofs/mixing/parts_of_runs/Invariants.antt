@@ -1,5 +1,5 @@
 use Rattle.std.proofs.Common.{map, take}
-use Rattle.profile_mix.specs.Parts.{plain_part}
+use Rattle.placement_candidates.specs.Parts.{plain_part}
 use Rattle.relinking.specs.MixOfRuns.{plain_input, ArePartsOf}
 use Rattle.relinking.proofs.mixing.parts_of_runs.Given as goal
 

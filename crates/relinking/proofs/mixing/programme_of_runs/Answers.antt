@@ -2,9 +2,9 @@ use Rattle.std.proofs.Common.{ℕ, List, map, sym, subst}
 use Rattle.std.proofs.lemmas.Result.{err_from_is_err_and}
 use Rattle.elf_reader.specs.File.{plain_view}
 use Rattle.placement_programme.specs.Views.{plain_programme}
-use Rattle.overlay_candidates.specs.Overlaid.{AreOverlaidObjects}
-use Rattle.profile_mix.specs.declared.part.Part.{Part}
-use Rattle.profile_mix.specs.Parts.{plain_part, IsMix, CanMix}
+use Rattle.placement_candidates.specs.Overlaid.{AreOverlaidObjects}
+use Rattle.placement_candidates.specs.declared.part.Part.{Part}
+use Rattle.placement_candidates.specs.Parts.{plain_part, IsMix, CanMix}
 use Rattle.relinking.specs.MixOfRuns.{plain_input}
 use Rattle.relinking.proofs.StatedLemmas.{some_of_all}
 use Rattle.relinking.proofs.MixedRuns.{can_mix, together, no_memory_first}

@@ -3,7 +3,7 @@ use Rattle.std.specs.Prelude.{string_bytes}
 use Rattle.std.specs.List.{All}
 use Rattle.elf_reader.specs.File.{plain_view}
 use Rattle.placement_programme.specs.Views.{plain_programme, plain_choice}
-use Rattle.result_placements.proofs.LayingOut.{choice_lays_out}
+use Rattle.result_laws.proofs.LayingOut.{choice_lays_out}
 use Rattle.printed_lines.specs.ReportText.{IsReport}
 use Rattle.printed_lines.specs.TakenLines.{taken_lines, IsListed}
 use Rattle.printed_lines.specs.declared.taken.TakenItem.{TakenItem}

@@ -3,7 +3,7 @@ use Rattle.placement_programme.specs.Views.{plain_full}
 use Rattle.block_splitter.specs.declared.piece.Piece.{Piece}
 use Rattle.energy_model.specs.Scenes.{scene_of}
 use Rattle.placement_candidates.specs.Stated.{AreSomePieces}
-use Rattle.overlay_candidates.specs.Overlaid.{overlay_layout, IsWholeFull}
+use Rattle.placement_candidates.specs.Overlaid.{overlay_layout, IsWholeFull}
 use Rattle.relink_core.proofs.KeepsLemmas.{passes}
 use Rattle.relinking.proofs.Counting.{unfaulted}
 use Rattle.relinking.proofs.StatedLemmas.{some_of_all}

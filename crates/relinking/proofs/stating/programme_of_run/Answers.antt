@@ -3,7 +3,7 @@ use Rattle.std.proofs.lemmas.Result.{err_from_is_err_and}
 use Rattle.elf_reader.specs.File.{plain_view}
 use Rattle.placement_programme.specs.Views.{plain_programme}
 use Rattle.placement_candidates.specs.Selected.{selected}
-use Rattle.overlay_candidates.specs.Overlaid.{AreOverlaidObjects}
+use Rattle.placement_candidates.specs.Overlaid.{AreOverlaidObjects}
 use Rattle.relinking.proofs.Counting.{no_memory}
 use Rattle.relinking.proofs.StatedLemmas.{some_of_all}
 use Rattle.relinking.proofs.Energies.{energies_of}

@@ -4,7 +4,7 @@ use Rattle.placement_programme.specs.Views.{plain_programme, plain_choice}
 use Rattle.placement_programme.specs.declared.variables.VarName.{VarName}
 use Rattle.placement_programme.specs.declared.variables.VarName.TheVariants.{StaticCode, OverlayCode}
 use Rattle.relocator.specs.Slots.{is_code}
-use Rattle.result_placements.specs.Laws.{regions_on}
+use Rattle.result_laws.specs.PlacementLaws.{regions_on}
 use Rattle.relink_core.specs.Standing.{IsKnownName}
 use Rattle.relinking.specs.TakenItems.{CanTell}
 use Rattle.relinking.proofs.ItemsTold.{known, row_there, static_item, overlay_item, kept_item, code_item, code_there}

@@ -3,7 +3,7 @@ use Rattle.placement_programme.specs.Views.{plain_programme, plain_choice}
 use Rattle.placement_programme.specs.declared.variables.VarName.{VarName}
 use Rattle.relocator.specs.Placing.{chosen_slots}
 use Rattle.relocator.specs.Laws.{slot_at}
-use Rattle.overlay_jobs.specs.ChosenJobs.{code_number, next_code}
+use Rattle.result_laws.specs.ChosenJobs.{code_number, next_code}
 use Rattle.printed_lines.specs.declared.taken.TakenItem.{TakenItem}
 use Rattle.relinking.proofs.ItemsTold.{within, name_is, number_more, number_below, number_first, told_more}
 use Rattle.relinking.proofs.taking.taken_items.Goals as goal

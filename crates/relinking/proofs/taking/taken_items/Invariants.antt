@@ -1,7 +1,7 @@
 use Rattle.std.proofs.Common.{◌≡◌, take}
 use Rattle.placement_programme.specs.Views.{plain_programme, plain_choice}
 use Rattle.relocator.specs.Placing.{chosen_slots}
-use Rattle.overlay_jobs.specs.ChosenJobs.{code_number}
+use Rattle.result_laws.specs.ChosenJobs.{code_number}
 use Rattle.relinking.specs.TakenItems.{items_told}
 use Rattle.relinking.proofs.taking.taken_items.Given as goal
 

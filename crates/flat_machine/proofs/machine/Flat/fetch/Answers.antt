@@ -1,7 +1,7 @@
 use Rattle.std.proofs.Common.{◌≡◌, ◌∙◌, sym, subst, ap}
 use Rattle.std.specs.Prelude.{false, IsTrue}
-use Rattle.word_bits.specs.Memory.{word_at}
-use Rattle.rv_decode.specs.Table.{MeansNothing}
+use Rattle.rv32im.specs.Memory.{word_at}
+use Rattle.rv32im.specs.Table.{MeansNothing}
 use Rattle.flat_machine.specs.Mapping.{can_access}
 use Rattle.flat_machine.specs.State.{State}
 use Rattle.flat_machine.specs.Machine.{state_of}

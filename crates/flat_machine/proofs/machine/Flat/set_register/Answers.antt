@@ -1,5 +1,5 @@
 use Rattle.std.proofs.Common.{ap, arith}
-use Rattle.rv_decode.specs.Acts.{Registers}
+use Rattle.rv32im.specs.Acts.{Registers}
 use Rattle.flat_machine.specs.Machine.{state_of}
 use Rattle.flat_machine.proofs.Registers.{regs-set}
 use Rattle.flat_machine.proofs.machine.Flat.set_register.Goals as goal

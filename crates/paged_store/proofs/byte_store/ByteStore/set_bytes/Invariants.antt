@@ -1,5 +1,5 @@
 use Rattle.std.proofs.Common.{◌≡◌, ◌+◌, drop, length}
-use Rattle.word_bits.specs.Memory.{put_bytes}
+use Rattle.rv32im.specs.Memory.{put_bytes}
 use Rattle.paged_store.specs.Room.{HasRoom, RoomGrows}
 use Rattle.paged_store.proofs.byte_store.ByteStore.set_bytes.Given as goal
 

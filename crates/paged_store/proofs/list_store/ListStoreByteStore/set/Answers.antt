@@ -1,5 +1,5 @@
 use Rattle.std.proofs.Common.{◌∙◌, ap}
-use Rattle.word_bits.specs.Memory.{put}
+use Rattle.rv32im.specs.Memory.{put}
 use Rattle.paged_store.proofs.Places.{bytes_of-set, has_entry-set}
 use Rattle.paged_store.proofs.list_store.ListStoreByteStore.set.Goals as goal
 

@@ -1,5 +1,5 @@
 use Rattle.std.proofs.Common.{◌≡◌, ◌+◌, ◌-◌, ◌≤◌, drop, length}
-use Rattle.word_bits.specs.Memory.{put_bytes}
+use Rattle.rv32im.specs.Memory.{put_bytes}
 use Rattle.paged_store.specs.Room.{HasRoom, RoomGrows}
 use Rattle.paged_store.specs.Pages.{paged_bytes, has_page}
 use Rattle.paged_store.proofs.page_store.PageStoreByteStore.set_bytes.Given as goal

@@ -2,10 +2,10 @@ use Rattle.std.proofs.Common.{◌≡◌, ◌∙◌, ◌<◌, ℕ, Ok, Err, lengt
 use Rattle.std.specs.Prelude.{◌↔◌, IsTrue}
 use Rattle.std.proofs.lemmas.Grind.{get_or_default_zero}
 use Rattle.std.proofs.lemmas.List.Sorted.{searched}
-use Rattle.code_leaders.proofs.SearchLemmas.{search_tells}
+use Rattle.code_blocks.proofs.SearchLemmas.{search_tells}
 use Rattle.reach_graph.specs.Reaching.{HasMark}
 use Rattle.points_to.specs.Tables.{word_of}
-use Rattle.code_leaders.proofs.SearchLemmas.{not_falling}
+use Rattle.code_blocks.proofs.SearchLemmas.{not_falling}
 use Rattle.points_to.proofs.KeptLemmas.{listed, unlisted, no_mark}
 use Rattle.points_to.proofs.reached.Reached.has.Goals as goal
 

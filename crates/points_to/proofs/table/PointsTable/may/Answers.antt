@@ -1,11 +1,11 @@
 use Rattle.std.proofs.Common.{◌+◌, ◌*◌, ◌<◌, ℕ, Ok, Err, map, sym, subst, arith}
 use Rattle.std.specs.Prelude.{◌↔◌, IsTrue}
 use Rattle.std.proofs.lemmas.List.Sorted.{searched}
-use Rattle.code_leaders.proofs.SearchLemmas.{search_tells}
-use Rattle.points_to.specs.Points.{MayHold}
+use Rattle.code_blocks.proofs.SearchLemmas.{search_tells}
+use Rattle.dataflow.specs.Points.{MayHold}
 use Rattle.points_to.specs.Nodes.{entry}
 use Rattle.points_to.specs.Tables.{Holds, plain}
-use Rattle.code_leaders.proofs.SearchLemmas.{not_falling}
+use Rattle.code_blocks.proofs.SearchLemmas.{not_falling}
 use Rattle.points_to.proofs.QueryLemmas.{follows, never, found_holds, none_holds, no_register}
 use Rattle.points_to.proofs.table.PointsTable.may.Goals as goal
 

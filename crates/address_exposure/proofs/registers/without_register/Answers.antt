@@ -1,5 +1,0 @@
-use Rattle.address_exposure.proofs.RegisterLemmas.{one_cleared}
-use Rattle.address_exposure.proofs.registers.without_register.Goals as goal
-
-pub returns : goal.returns
-returns c k = one_cleared c.args.word c.args.x k c.ranges.word.fits c.requires

@@ -1,7 +1,0 @@
-use Rattle.std.proofs.Common.{drop}
-use Rattle.address_exposure.specs.Transfers.{AreBefore}
-use Rattle.address_exposure.proofs.transfers.registers_before.Given as goal
-
--- the units from k on are done
-abbrev pub invariant-loop-k : goal.invariant-loop-k
-invariant-loop-k l = AreBefore l.graph.sites.items (drop l.k l.units) l.behind l.word

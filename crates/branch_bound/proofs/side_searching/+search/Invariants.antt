@@ -1,0 +1,12 @@
+use Rattle.std.proofs.Common.{◌+◌, ◌*◌}
+use Rattle.branch_bound.proofs.side_searching.+search.Given as goal
+
+-- each node that is visited is one less that may be
+abbrev pub decreases-search : goal.decreases-search
+decreases-search l = 3 * l.best.now.left
+
+abbrev pub decreases-search_child : goal.decreases-search_child
+decreases-search_child l = 3 * l.best.now.left + 1
+
+abbrev pub decreases-search_children : goal.decreases-search_children
+decreases-search_children l = 3 * l.best.now.left + 2

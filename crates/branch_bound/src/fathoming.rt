@@ -1,0 +1,163 @@
+ghost use Rattle.std.specs.Prelude.{◌^◌, ◌<◌, ◌≤◌, ◌↔◌, IsTrue, length, IfSome, IfOk};
+ghost use Rattle.std.specs.List.{All};
+ghost use Rattle.placement_programme.specs.Bounds.{value_of};
+ghost use Rattle.placement_programme.specs.Views.{plain_side};
+ghost use Rattle.certificate_checker.specs.Rules.{BranchHolds, DualHolds};
+ghost use Rattle.certificate_checker.specs.RowWise.{rows_of, IsOfSide};
+ghost use Rattle.certificate_checker.specs.Spelling.{IsDualInRange};
+ghost use Rattle.branch_bound.specs.Visits.{ShownBelow, IsVisited};
+
+use crate::bounding::DualSolution;
+use crate::side_visiting::Visit;
+use certificate_checker::{Fixing, Tree, Weighed, branch_holds, dual_holds_by_row, keeps_rule};
+use placement_programme::Side;
+use std::alloc::{AllocError, Global};
+
+/// A row that is exceeded fathoms a node.
+fn fathom_over(side: &Side, best: u128, marks: &[Fixing], row: Option<u32>) -> Option<Tree>
+    requires best { best ≤ 2 ^ 104 }
+    requires marked { length (plain_side side.now).vars ≤ length marks.now }
+    ensures { ShownBelow (plain_side side.now) best marks.now 1 result }
+{
+    let tree = Tree::Over { row: row? };
+    if keeps_rule(side, best, marks, &tree) {
+        Some(tree)
+    } else {
+        None
+    }
+}
+
+/// Whether each multiplier is within its 64 bits, as its type says.
+fn are_small(multipliers: &[(u32, u64)]) -> bool
+    ensures { IsTrue result ↔ All (λ m. value_of m < 2 ^ 64) multipliers.now }
+{
+    multipliers.iter().all(|entry| entry.1 <= u64::MAX)
+}
+
+/// Whether multipliers make a dual node that keeps its rule and is within the ranges of a certificate's text.
+fn is_dual(
+    alloc: Global,
+    weighed: &Weighed,
+    best: u128,
+    marks: &[Fixing],
+    scale: u32,
+    multipliers: &[(u32, u64)],
+) -> Result<bool, AllocError>
+    requires by_row { IsOfSide (plain_side weighed.now.side.now) (rows_of weighed.now.by_row.now) }
+    requires best { best ≤ 2 ^ 104 }
+    requires marked { length (plain_side weighed.now.side.now).vars ≤ length marks.now }
+    ensures { IfOk result (λ found. IsTrue found → DualHolds (plain_side weighed.now.side.now) best marks.now scale multipliers.now × IsDualInRange scale multipliers.now) }
+{
+    let holds = dual_holds_by_row(alloc, weighed, best, marks, scale, multipliers)?;
+    Ok(holds && are_small(multipliers))
+}
+
+/// A dual solution fathoms a node where it bounds the gain.
+pub(crate) fn fathom_dual(
+    alloc: Global,
+    weighed: &Weighed,
+    best: u128,
+    marks: &[Fixing],
+    dual: Option<DualSolution>,
+) -> Result<Option<Tree>, AllocError>
+    requires by_row { IsOfSide (plain_side weighed.now.side.now) (rows_of weighed.now.by_row.now) }
+    requires best { best ≤ 2 ^ 104 }
+    requires marked { length (plain_side weighed.now.side.now).vars ≤ length marks.now }
+    ensures { IfOk result (ShownBelow (plain_side weighed.now.side.now) best marks.now 1) }
+{
+    let Some(DualSolution { scale, multipliers }) = dual else {
+        return Ok(None);
+    };
+    if is_dual(alloc, weighed, best, marks, scale, &multipliers)? {
+        Ok(Some(Tree::Dual { scale, multipliers }))
+    } else {
+        Ok(None)
+    }
+}
+
+/// A node at which nothing is free is fathomed where it gains no more.
+fn fathom_leaf(side: &Side, best: u128, marks: &[Fixing]) -> Option<Tree>
+    requires best { best ≤ 2 ^ 104 }
+    requires marked { length (plain_side side.now).vars ≤ length marks.now }
+    ensures { ShownBelow (plain_side side.now) best marks.now 1 result }
+{
+    let tree = Tree::Leaf;
+    if keeps_rule(side, best, marks, &tree) {
+        Some(tree)
+    } else {
+        None
+    }
+}
+
+/// A tree of one node, if one fathoms the node.
+fn fathom(
+    side: &Side,
+    best: u128,
+    marks: &[Fixing],
+    exceeded: Option<u32>,
+    dual: Option<Tree>,
+) -> Option<Tree>
+    requires best { best ≤ 2 ^ 104 }
+    requires marked { length (plain_side side.now).vars ≤ length marks.now }
+    requires dual { ShownBelow (plain_side side.now) best marks.now 1 dual }
+    ensures { ShownBelow (plain_side side.now) best marks.now 1 result }
+{
+    if let Some(tree) = fathom_over(side, best, marks, exceeded) {
+        return Some(tree);
+    }
+    if dual.is_some() {
+        return dual;
+    }
+    fathom_leaf(side, best, marks)
+}
+
+/// The first variable that is free.
+fn first_free(side: &Side, marks: &[Fixing]) -> Option<u32>
+    requires { length (plain_side side.now).vars ≤ length marks.now }
+{
+    for number in 0..4000 {
+        if branch_holds(side, marks, number) {
+            return Some(number);
+        }
+    }
+    None
+}
+
+/// A variable to branch on: the one that is suggested, if it is free, else the first free one.
+fn open(side: &Side, marks: &[Fixing], suggested: Option<u32>) -> Option<u32>
+    requires { length (plain_side side.now).vars ≤ length marks.now }
+    ensures { IfSome result (BranchHolds (plain_side side.now) marks.now) }
+{
+    let number = match suggested {
+        Some(number) => number,
+        None => first_free(side, marks)?,
+    };
+    if branch_holds(side, marks, number) {
+        Some(number)
+    } else {
+        None
+    }
+}
+
+/// Fathoms a node, with the tree of a dual solution if there is one, or finds the variable to branch on.
+pub(crate) fn fathom_or_branch(
+    side: &Side,
+    best: u128,
+    marks: &[Fixing],
+    exceeded: Option<u32>,
+    dual: Option<Tree>,
+    suggested: Option<u32>,
+) -> Visit
+    requires best { best ≤ 2 ^ 104 }
+    requires marked { length (plain_side side.now).vars ≤ length marks.now }
+    requires dual { ShownBelow (plain_side side.now) best marks.now 1 dual }
+    ensures { IsVisited (plain_side side.now) best marks.now result }
+{
+    if let Some(tree) = fathom(side, best, marks, exceeded, dual) {
+        return Visit::Closed(tree);
+    }
+    match open(side, marks, suggested) {
+        Some(number) => Visit::Open(number),
+        None => Visit::Stuck,
+    }
+}

@@ -1,5 +1,0 @@
-pub mod LeaderLemmas
-pub mod MeaningLemmas
-pub mod EarlyLemmas
-pub mod SearchLemmas
-pub mod PairLemmas

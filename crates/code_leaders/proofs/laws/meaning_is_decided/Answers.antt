@@ -1,5 +1,0 @@
-use Rattle.code_leaders.proofs.MeaningLemmas.{meaning_is_decided}
-use Rattle.code_leaders.proofs.laws.meaning_is_decided.Goals as goal
-
-pub returns : goal.returns
-returns c = meaning_is_decided

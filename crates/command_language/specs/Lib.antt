@@ -1,0 +1,5 @@
+pub mod Command
+pub mod Lines
+pub mod Steps
+pub mod MixLaws
+pub mod FaultLine

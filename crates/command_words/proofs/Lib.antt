@@ -1,2 +1,0 @@
-pub mod WordLists
-pub mod DigitLemmas

@@ -1,5 +1,0 @@
-use Rattle.copied_result.specs.StubBlocks.{HasCopyNumbers}
-use Rattle.copied_result.proofs.copy_numbers.copy_numbers.Given as goal
-
-abbrev pub invariant-loop-k : goal.invariant-loop-k
-invariant-loop-k l = HasCopyNumbers l.copies l.k l.fn.blocks l.numbers.items

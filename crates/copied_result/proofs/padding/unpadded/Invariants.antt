@@ -1,7 +1,0 @@
-use Rattle.std.proofs.Common.{◌≡◌, take}
-use Rattle.std.specs.List.{filter}
-use Rattle.copied_result.specs.Padding.{is_unpadded}
-use Rattle.copied_result.proofs.padding.unpadded.Given as goal
-
-abbrev pub invariant-loop-word : goal.invariant-loop-word
-invariant-loop-word l = l.kept.items ≡ filter (is_unpadded l.homes) (take l.word-index l.words)

@@ -1,0 +1,17 @@
+pub use Rattle.rv32im.specs.Acts
+pub use Rattle.rv32im.specs.RegSet
+pub use Rattle.code_blocks.specs.Edges
+pub use Rattle.code_blocks.specs.Numbers
+pub use Rattle.reach_graph.specs.Reaching
+pub use Rattle.object_graph.specs.Lookups
+pub mod Live
+pub mod Summaries
+pub mod BackEdges
+pub mod Marks
+pub mod Tables
+pub mod Points
+pub mod Overlaid
+pub mod Flows
+pub mod Exposed
+pub mod Transfers
+pub mod Spreading

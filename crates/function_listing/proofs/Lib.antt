@@ -1,4 +1,0 @@
-pub mod AllowedLemmas
-pub mod Examples
-pub mod RegionExample
-pub mod SwitchPlans

@@ -1,8 +1,0 @@
-use Rattle.overlay_stubs.proofs.Plain.{plain_lists, plain_small}
-use Rattle.function_listing.proofs.stub_plans.tell_stub.Goals as goal
-
-pub sizes-requires-clause-lists : goal.sizes-requires-clause-lists
-sizes-requires-clause-lists g c = plain_lists c.in_ok-plan.plan c.in_ok-plan.ensures.plain
-
-pub sizes-requires-clause-small : goal.sizes-requires-clause-small
-sizes-requires-clause-small g c = plain_small c.in_ok-plan.plan c.in_ok-plan.ensures.plain c.in_ok-plan.ensures.can

@@ -1,5 +1,0 @@
-use Rattle.function_listing.proofs.AllowedLemmas.{view_patch_allowed}
-use Rattle.function_listing.proofs.writing.may_patch.Goals as goal
-
-pub returns : goal.returns
-returns c passes = view_patch_allowed c.args.file.now.view.now c.args.patch c.requires.file c.requires.sound (c.has_word.ensures passes)

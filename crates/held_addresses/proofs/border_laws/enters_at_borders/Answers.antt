@@ -1,5 +1,0 @@
-use Rattle.held_addresses.proofs.Entries.{enters_at_borders}
-use Rattle.held_addresses.proofs.border_laws.enters_at_borders.Goals as goal
-
-pub returns : goal.returns
-returns c = enters_at_borders

@@ -1,5 +1,0 @@
-use Rattle.held_addresses.proofs.Entries.{regions_tell_borders}
-use Rattle.held_addresses.proofs.border_laws.regions_tell_borders.Goals as goal
-
-pub returns : goal.returns
-returns c = regions_tell_borders

@@ -1,0 +1,5 @@
+pub mod SiteLemmas
+pub mod AllowedLemmas
+pub mod Examples
+pub mod RegionExample
+pub mod SwitchPlans

@@ -1,0 +1,157 @@
+//! Runs of programs that go to the pads of stubs. In front of each pad such a program has written words of its memory: the
+//! first control word, twelve words of slots and twelve of homes, registers as they were in front of the last pad and behind
+//! its stub, and the words that no switch changes.
+ghost use Rattle.std.specs.Prelude.{◌≤◌, length, IfOk};
+
+use crate::cases::Case;
+use crate::printing::{
+    print_address, print_number, print_number_line, print_numbers, print_text, print_value_line,
+    print_words,
+};
+use crate::texts::{number, numbers};
+use anyhow::{Context, Result, bail};
+use board_config::read_board;
+use elf_reader::read;
+use flat_machine::{Flat, FlatAccess};
+use paged_store::PageStore;
+use rv32im::word4;
+use std::alloc::{AllocError, Global};
+
+/// More steps than lead from one of these addresses to the next.
+const LIMIT: u64 = 10_000;
+
+/// How many words stand in front of those that no switch changes.
+const TOLD: usize = 89;
+
+/// How many steps, loads and stores led to an address.
+#[derive(Clone, Copy)]
+struct Counts {
+    steps: u64,
+    reads: u64,
+    writes: u64,
+}
+
+impl Counts {
+    /// With one step more.
+    fn with_step(self, access: Option<FlatAccess>) -> Counts {
+        let (read, write) = match access {
+            Some(access) => (!access.write, access.write),
+            None => (false, false),
+        };
+        Counts {
+            steps: self.steps.saturating_add(1),
+            reads: self.reads.saturating_add(u64::from(read)),
+            writes: self.writes.saturating_add(u64::from(write)),
+        }
+    }
+}
+
+/// Runs up to an address, and at least one step.
+fn run_to(machine: &mut Flat<PageStore>, to: u32) -> Result<Counts> {
+    let mut counts = Counts {
+        steps: 0,
+        reads: 0,
+        writes: 0,
+    };
+    for _ in 0..LIMIT {
+        counts = counts.with_step(machine.step()?.access);
+        if machine.at() == to {
+            return Ok(counts);
+        }
+    }
+    bail!("a run does not come to its address")
+}
+
+/// The words that are written on the way to an address.
+fn words_up_to(alloc: Global, machine: &mut Flat<PageStore>, to: u32) -> Result<Vec<u32>>
+    ensures { IfOk result (λ words. 89 ≤ length words.items) }
+{
+    let from = machine.output().len();
+    run_to(machine, to)?;
+    let mut words = Vec::new(alloc);
+    let written = machine.output().get(from..).context("an output shrank")?;
+    for chunk in written.chunks(4) {
+        let &[first, second, third, last] = chunk else {
+            bail!("a part of a word was written");
+        };
+        words.push(word4([first, second, third, last]))?;
+    }
+    if words.len() < TOLD {
+        bail!("too few words were written");
+    }
+    Ok(words)
+}
+
+/// The numbers of the words that differ.
+fn differing(alloc: Global, first: &[u32], second: &[u32]) -> Result<Vec<u64>, AllocError> {
+    let mut numbers = Vec::new(alloc);
+    for (number, (one, other)) in first.iter().zip(second).enumerate() {
+        if one != other {
+            numbers.push(number as u64)?;
+        }
+    }
+    Ok(numbers)
+}
+
+/// Tells of slots and homes.
+fn tell_memory(rt: &impl Print, words: &[u32]) -> Result<()>
+    requires { 89 ≤ length words.now }
+{
+    print_text(rt, "  slots")?;
+    print_words(rt, &words[1..13])?;
+    print_text(rt, "  homes")?;
+    print_words(rt, &words[13..25])
+}
+
+/// Tells which registers differ behind a stub, and whether the words that stay are those that were written before.
+fn tell_rest(rt: &(impl Print + AllocGlobal), old: &[u32], new: &[u32]) -> Result<()>
+    requires { 89 ≤ length new.now }
+{
+    let differ = differing(rt.alloc(), &new[25..57], &new[57..89])?;
+    print_text(rt, "  all registers same but")?;
+    print_numbers(rt, &differ)?;
+    let kept = old.get(TOLD..).context("no words stay")?;
+    let same = kept == &new[89..];
+    print_value_line(rt, "  memory same: ", &same)
+}
+
+/// Tells of a run from a pad to a body, and of the region that is current then.
+fn tell_counts(rt: &impl Print, pad: u32, counts: Counts, region: u32) -> Result<()> {
+    print_address(rt, "from pad ", pad)?;
+    print_number(rt, ": region ", u64::from(region))?;
+    print_number(rt, ", steps ", counts.steps)?;
+    print_number(rt, ", reads ", counts.reads)?;
+    print_number_line(rt, ", writes ", counts.writes)
+}
+
+/// Runs the file of a case on the flat machine. `NEXT PAD BODY PAD BODY ..`: at `NEXT` its words are written. It goes from
+/// there to a pad, from the pad to the body of a stub, which is told, and to `NEXT` again.
+pub(crate) fn tell_switches(
+    rt: &(impl Print + AllocGlobal),
+    case: &Case,
+    text: &str,
+) -> Result<()> {
+    let (next, ends) = text.split_once(' ').context("no pads")?;
+    let next = number(next)?;
+    let ends = numbers(rt.alloc(), ends)?;
+    let file = case.built(rt.alloc())?;
+    let view = read(rt.alloc(), &file)?;
+    let board = read_board(rt.alloc(), b"")?;
+    let store = PageStore::new(rt.alloc());
+    let mut machine = Flat::new(rt.alloc(), &view, &board, &case.input, store)?;
+    let mut old = words_up_to(rt.alloc(), &mut machine, next)?;
+    tell_memory(rt, &old)?;
+    for pair in ends.chunks(2) {
+        let &[pad, body] = pair else {
+            bail!("a pad has no body");
+        };
+        run_to(&mut machine, pad)?;
+        let counts = run_to(&mut machine, body)?;
+        let new = words_up_to(rt.alloc(), &mut machine, next)?;
+        tell_counts(rt, pad, counts, new[0])?;
+        tell_memory(rt, &new)?;
+        tell_rest(rt, &old, &new)?;
+        old = new;
+    }
+    Ok(())
+}

@@ -1,0 +1,194 @@
+ghost use Rattle.std.specs.Prelude.{◌≡◌, IfOk, IfSome, IsTrue, ◌↔◌, OnOk};
+ghost use Rattle.cell_values.specs.Objects.{IsOfGraph, IsGrain};
+
+use crate::printing::{print_number, print_value, print_value_line};
+use crate::texts::number;
+use anyhow::{Context, Result, bail};
+use cell_values::{Val, compare, join, low_site, op_imm, op_reg, split};
+use object_graph::{Graph, Object};
+use rv32im::{BranchKind, ImmKind, Instr, RegKind, decode};
+use std::alloc::{AllocError, Global};
+use std::fmt::Debug;
+
+/// The graph of two objects. Object 0 has 40 bytes from 0x11038, which is 8 modulo 16 and 56 modulo 64; object 1 has
+/// 64 bytes from 0x11064, which is 4 modulo 16 and 36 modulo 64.
+fn graph(alloc: Global, grain: u32) -> Result<Graph, AllocError>
+    ensures { IfOk result (λ g. g.grain ≡ grain) }
+{
+    let mut objects = Vec::new(alloc);
+    for (name, home, size) in [(3, 0x0001_1038, 40), (5, 0x0001_1064, 64)] {
+        objects.push(Object {
+            name,
+            home,
+            size,
+            writable: true,
+        })?;
+    }
+    Ok(Graph {
+        grain,
+        objects,
+        sites: Vec::new(alloc),
+        data_words: Vec::new(alloc),
+        code: Vec::new(alloc),
+    })
+}
+
+/// The graph at a grain that is one of a board.
+fn graph_at(alloc: Global, grain: u32) -> Result<Graph>
+    ensures { IfOk result (λ g. IsGrain g.grain) }
+{
+    match grain {
+        16 | 32 | 64 => Ok(graph(alloc, grain)?),
+        _ => bail!("no grain"),
+    }
+}
+
+fn is_of_graph(v: &Val, graph: &Graph) -> bool
+    ensures { IsTrue result ↔ IsOfGraph graph.now v.now }
+{
+    match *v {
+        Val::Addr { obj, .. } | Val::Hi { obj, .. } | Val::Piece { obj, .. } => {
+            (obj as usize) < graph.objects.len()
+        }
+        Val::Int(_) | Val::Low(_) | Val::Unknown => true,
+    }
+}
+
+/// A value: a number, `address:OBJECT:OFFSET`, `upper:OBJECT:OFFSET`, `piece:OBJECT:OFFSET` for byte 2 of an address,
+/// `low:NUMBER` or `unknown`.
+fn value(word: &str) -> Result<Val> {
+    let Some((kind, rest)) = word.split_once(':') else {
+        return match word {
+            "unknown" => Ok(Val::Unknown),
+            _ => Ok(Val::Int(number(word)?)),
+        };
+    };
+    let Some((obj, off)) = rest.split_once(':') else {
+        return Ok(Val::Low(number(rest)?));
+    };
+    let (obj, off) = (number(obj)?, number(off)?);
+    match kind {
+        "address" => Ok(Val::Addr { obj, off }),
+        "upper" => Ok(Val::Hi { obj, off }),
+        _ => Ok(Val::Piece {
+            hi: false,
+            obj,
+            off,
+            k: 2,
+        }),
+    }
+}
+
+/// An instruction, a word, and the values of its two registers, with the grain of the board.
+#[derive(Drop)]
+struct Operation {
+    grain: u32,
+    word: u32,
+    a: Val,
+    b: Val,
+}
+
+fn read_operation(text: &str) -> Result<Operation> {
+    let (grain, rest) = text.split_once(' ').context("no instruction")?;
+    let (word, rest) = rest.split_once(' ').context("no values")?;
+    let (a, b) = rest.split_once(' ').context("no second value")?;
+    Ok(Operation {
+        grain: number(grain)?,
+        word: number(word)?,
+        a: value(a)?,
+        b: value(b)?,
+    })
+}
+
+/// `GRAIN INSTRUCTION VALUE VALUE`: what the instruction makes of the values of its two registers, or of the first and
+/// its immediate; of a branch, whether it is taken.
+pub(crate) fn tell_operation(rt: &(impl Print + AllocGlobal), text: &str) -> Result<()> {
+    let asked = read_operation(text)?;
+    let graph = graph_at(rt.alloc(), asked.grain)?;
+    if !is_of_graph(&asked.a, &graph) || !is_of_graph(&asked.b, &graph) {
+        bail!("a value of no object");
+    }
+    match decode(asked.word) {
+        Some(Instr::OpReg { kind, .. }) => tell_registers(rt, kind, &asked, &graph),
+        Some(Instr::OpImm { kind, imm, .. }) => tell_immediate(rt, kind, imm, &asked, &graph),
+        Some(Instr::Branch { kind, .. }) => tell_branch(rt, kind, &asked, &graph),
+        _ => bail!("no operation"),
+    }
+}
+
+/// The grain, the operation and the first value.
+fn tell_asked(rt: &impl Print, grain: u32, kind: &impl Debug, a: &Val) -> Result<()> {
+    print_number(rt, "", u64::from(grain))?;
+    print_value(rt, " ", kind)?;
+    print_value(rt, " ", a)
+}
+
+fn tell_registers(rt: &impl Print, kind: RegKind, asked: &Operation, graph: &Graph) -> Result<()>
+    requires grain { IsGrain graph.now.grain }
+    requires a { IsOfGraph graph.now asked.now.a }
+    requires b { IsOfGraph graph.now asked.now.b }
+{
+    let Operation { grain, a, b, .. } = asked;
+    let made = op_reg(kind, a, b, graph);
+    tell_asked(rt, *grain, &kind, a)?;
+    print_value(rt, " ", b)?;
+    print_value_line(rt, ": ", &made)
+}
+
+fn tell_immediate(
+    rt: &impl Print,
+    kind: ImmKind,
+    imm: i32,
+    asked: &Operation,
+    graph: &Graph,
+) -> Result<()>
+    requires grain { IsGrain graph.now.grain }
+    requires a { IsOfGraph graph.now asked.now.a }
+{
+    let Operation { grain, a, .. } = asked;
+    let made = op_imm(kind, a, imm, graph);
+    tell_asked(rt, *grain, &kind, a)?;
+    print_value(rt, " ", &imm)?;
+    print_value_line(rt, ": ", &made)
+}
+
+fn tell_branch(rt: &impl Print, kind: BranchKind, asked: &Operation, graph: &Graph) -> Result<()>
+    requires a { IsOfGraph graph.now asked.now.a }
+    requires b { IsOfGraph graph.now asked.now.b }
+{
+    let Operation { grain, a, b, .. } = asked;
+    let taken = compare(kind, a, b, graph);
+    tell_asked(rt, *grain, &kind, a)?;
+    print_value(rt, " ", b)?;
+    print_value_line(rt, ": ", &taken)
+}
+
+/// `GRAIN VALUE OBJECT OFFSET`: the address that a low part of an address of the object makes of the value.
+pub(crate) fn tell_address(rt: &(impl Print + AllocGlobal), text: &str) -> Result<()> {
+    let (grain, rest) = text.split_once(' ').context("no value")?;
+    let (word, rest) = rest.split_once(' ').context("no object")?;
+    let (obj, off) = rest.split_once(' ').context("no offset")?;
+    let grain = number(grain)?;
+    let graph = graph_at(rt.alloc(), grain)?;
+    let (a, obj, off) = (value(word)?, number(obj)?, number(off)?);
+    if !is_of_graph(&a, &graph) || obj as usize >= graph.objects.len() {
+        bail!("a value of no object");
+    }
+    print_number(rt, "", u64::from(grain))?;
+    print_value(rt, " ", &a)?;
+    print_number(rt, " ", u64::from(obj))?;
+    print_number(rt, " ", u64::from(off))?;
+    print_value_line(rt, ": ", &low_site(&a, obj, off, &graph))
+}
+
+/// The cells that a value fills in memory, what they are as a word, and what they are with the first two exchanged.
+pub(crate) fn tell_cells(rt: &impl Print, text: &str) -> Result<()> {
+    let v = value(text)?;
+    let cells = split(&v);
+    let [first, second, third, fourth] = cells;
+    let other = join([second, first, third, fourth]);
+    print_value(rt, "", &v)?;
+    print_value_line(rt, ": ", &cells)?;
+    print_value(rt, "  ", &join(cells))?;
+    print_value_line(rt, ", ", &other)
+}

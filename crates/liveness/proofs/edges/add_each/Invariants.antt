@@ -1,6 +1,0 @@
-use Rattle.reach_graph.specs.Reaching.{plain_rows}
-use Rattle.liveness.specs.Flows.{Adds, ListEdges}
-use Rattle.liveness.proofs.edges.add_each.Given as goal
-
-abbrev pub invariant-loop-i : goal.invariant-loop-i
-invariant-loop-i l = Adds (ListEdges l.nodes l.i l.to l.mask) (plain_rows l.fn.rows) (plain_rows l.rows)

@@ -1,7 +1,0 @@
-use Rattle.std.proofs.Common.{◌≡◌, length}
-use Rattle.reach_graph.specs.Reaching.{plain_rows}
-use Rattle.liveness.specs.Flows.{HasNone}
-use Rattle.liveness.proofs.living.no_edges.Given as goal
-
-abbrev pub invariant-loop : goal.invariant-loop
-invariant-loop l = record { size : length l.rows.items ≡ l.counter; bare : HasNone (plain_rows l.rows.items) }

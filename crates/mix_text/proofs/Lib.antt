@@ -1,5 +1,0 @@
-pub mod LineLemmas
-pub mod NameLemmas
-pub mod StepLemmas
-pub mod SpellLemmas
-pub mod LawLemmas

@@ -1,5 +1,0 @@
-use Rattle.mix_text.proofs.LawLemmas.{breaking}
-use Rattle.mix_text.proofs.laws.broken_is_first.Goals as goal
-
-pub returns : goal.returns
-returns c = breaking

@@ -1,6 +1,0 @@
-use Rattle.std.proofs.Common.{◌≡◌}
-use Rattle.movable_ranges.specs.Disjoint.{unmarked_below}
-use Rattle.movable_ranges.proofs.marks.unmarked.Given as goal
-
-abbrev pub invariant-loop-k : goal.invariant-loop-k
-invariant-loop-k l = l.kept.items ≡ unmarked_below l.ranges l.marks l.k

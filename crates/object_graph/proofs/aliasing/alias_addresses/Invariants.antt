@@ -1,0 +1,10 @@
+use Rattle.std.proofs.Common.{◌≡◌, ℕ, Bool}
+use Rattle.std.specs.List.{list_any}
+use Rattle.list_checks.specs.Tests.{any_below}
+use Rattle.elf_reader.specs.File.{plain_view}
+use Rattle.object_graph.specs.Aliases.{aliases_by}
+use Rattle.object_graph.proofs.aliasing.alias_addresses.Given as goal
+
+abbrev pub invariant-loop-i : goal.invariant-loop-i
+invariant-loop-i l =
+    (test : ℕ → Bool) → list_any test l.aliases.items ≡ any_below (aliases_by (plain_view l.file.view.now) test) l.i

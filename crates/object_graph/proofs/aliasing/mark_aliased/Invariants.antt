@@ -1,0 +1,12 @@
+use Rattle.std.proofs.Common.{◌≡◌, length}
+use Rattle.list_checks.specs.Tests.{any_below}
+use Rattle.elf_reader.specs.File.{plain_view}
+use Rattle.object_graph.specs.Fixed.{has_aliased_section}
+use Rattle.object_graph.specs.Disjoint.{AddsRule}
+use Rattle.object_graph.proofs.aliasing.mark_aliased.Given as goal
+
+abbrev pub invariant-loop-k : goal.invariant-loop-k
+invariant-loop-k l = record {
+  adds : AddsRule (λ home n. any_below (has_aliased_section (plain_view l.file.view.now) home n) l.k) l.ranges l.initial.marks l.marks;
+  len : length l.marks ≡ length l.initial.marks;
+}

@@ -1,6 +1,0 @@
-use Rattle.overlay_candidates.proofs.WholeLemmas.{overlay_adds_up}
-use Rattle.overlay_candidates.proofs.laws.overlay_adds_up.Goals as goal
-
-pub returns : goal.returns
-returns c view board g code t q ms names given apart =
-    overlay_adds_up c.one_instruction.ensures view board g code t q ms names given apart

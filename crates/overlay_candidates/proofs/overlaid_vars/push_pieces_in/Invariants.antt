@@ -1,9 +1,0 @@
-use Rattle.std.proofs.Common.{◌≡◌, ◌++◌, map, take}
-use Rattle.placement_programme.specs.Plain.{plain_full_var}
-use Rattle.overlay_candidates.specs.OverlayCounted.{scene_in, on_var}
-use Rattle.overlay_candidates.specs.Overlaid.{pieces_in}
-use Rattle.overlay_candidates.proofs.overlaid_vars.push_pieces_in.Given as goal
-
-abbrev pub invariant-loop-k : goal.invariant-loop-k
-invariant-loop-k l =
-    map plain_full_var l.vars.items ≡ map plain_full_var l.initial.vars.items ++ map (on_var l.m) (pieces_in (scene_in l.m) (take l.k l.m.pieces.now) l.r)

@@ -1,5 +1,0 @@
-use Rattle.overlay_counts.specs.Entering.{AreEntering}
-use Rattle.overlay_counts.proofs.entering.sums.Given as goal
-
-abbrev pub invariant-loop-b : goal.invariant-loop-b
-invariant-loop-b l = AreEntering l.tables.code.now l.tables.graph.now l.tables.profile.now l.tables.regions.now.border.items l.range l.b l.sums

@@ -1,7 +1,0 @@
-use Rattle.std.proofs.Common.{◌≡◌}
-use Rattle.list_checks.specs.Sorted.{sum_below}
-use Rattle.overlay_counts.specs.Entering.{first_of, if_border}
-use Rattle.overlay_counts.proofs.first_units.first_words.Given as goal
-
-abbrev pub invariant-loop-b : goal.invariant-loop-b
-invariant-loop-b l = l.total ≡ sum_below (if_border l.regions.border.items (first_of l.code l.profile)) l.b

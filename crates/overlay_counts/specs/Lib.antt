@@ -1,3 +1,0 @@
-pub mod OverlayCost
-pub mod Entering
-pub mod Gains

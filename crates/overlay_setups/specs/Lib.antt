@@ -1,3 +1,0 @@
-pub mod OverlaySetup
-pub mod Laws
-pub mod Plans

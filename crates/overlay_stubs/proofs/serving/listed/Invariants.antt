@@ -1,7 +1,0 @@
-use Rattle.std.proofs.Common.{◌≡◌, ◌++◌, map, drop}
-use Rattle.overlay_stubs.specs.Plans.{serving_stub, serving_stubs}
-use Rattle.overlay_stubs.proofs.serving.listed.Given as goal
-
-abbrev pub invariant-loop-stub : goal.invariant-loop-stub
-invariant-loop-stub l =
-    serving_stubs l.all.items ++ map serving_stub (drop l.stub-index l.stubs) ≡ map serving_stub l.stubs

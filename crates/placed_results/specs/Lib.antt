@@ -1,9 +1,0 @@
-pub use Rattle.result_setups.specs.ResultLaws
-pub use Rattle.overlay_setups.specs.OverlaySetup
-pub use Rattle.held_addresses.specs.Entries
-pub use Rattle.result_placements.specs.ChosenPlacement
-pub use Rattle.result_placements.specs.PlacedView
-pub mod PlacedForms
-pub mod Laws
-pub mod Matching
-pub mod Walks

@@ -1,0 +1,9 @@
+use Rattle.std.proofs.Common.{◌≡◌, ◌++◌, map}
+use Rattle.placement_programme.specs.Plain.{plain_full_var}
+use Rattle.placement_candidates.specs.OverlayCounted.{scene_in, on_var}
+use Rattle.placement_candidates.specs.Overlaid.{overlaid_pieces}
+use Rattle.placement_candidates.proofs.overlaid_vars.push_pieces_by.Given as goal
+
+abbrev pub invariant-loop-before : goal.invariant-loop-before
+invariant-loop-before l =
+    map plain_full_var l.vars.items ≡ map plain_full_var l.initial.vars.items ++ map (on_var l.m) (overlaid_pieces (scene_in l.m) l.m.pieces.now l.before)

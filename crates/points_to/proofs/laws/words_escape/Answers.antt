@@ -1,5 +1,0 @@
-use Rattle.points_to.proofs.OverlaidLemmas.{words_escape}
-use Rattle.points_to.proofs.laws.words_escape.Goals as goal
-
-pub returns : goal.returns
-returns c code g o kept_out = words_escape code g o kept_out

@@ -1,4 +1,0 @@
-pub mod SumLemmas
-pub mod MixLemmas
-pub mod RunLemmas
-pub mod EnergyLemmas

@@ -1,6 +1,0 @@
-use Rattle.profile_mix.proofs.RunLemmas.{run_is_alone}
-use Rattle.profile_mix.proofs.laws.one_run_is_alone.Goals as goal
-
-pub returns : goal.returns
-returns c view board g code t objects pieces transitions given =
-    run_is_alone c.one_instruction.ensures view board g code t objects pieces transitions given

@@ -1,6 +1,0 @@
-use Rattle.std.proofs.Common.{◌*◌, ◌^◌}
-use Rattle.profile_mix.proofs.SumLemmas.{IsIntSumTo, gain_of_part}
-use Rattle.profile_mix.proofs.sums.mixed_gain.Given as goal
-
-abbrev pub invariant-loop-i : goal.invariant-loop-i
-invariant-loop-i l = IsIntSumTo (gain_of_part l.on l.k) l.parts (1000 * 2 ^ 90) l.i l.total

@@ -1,4 +1,0 @@
-pub mod Parts
-pub mod Mixing
-pub mod Mixed
-pub mod Laws

@@ -1,4 +1,0 @@
-pub mod Changed
-pub mod Chosen
-pub mod Pads
-pub mod Example

@@ -1,4 +1,0 @@
-pub mod Serves
-pub mod Chosen
-pub mod Pads
-pub mod Laws

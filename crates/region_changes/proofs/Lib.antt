@@ -1,5 +1,0 @@
-pub mod Stays
-pub mod Unwritten
-pub mod Homes
-pub mod Switches
-pub mod Example

@@ -1,5 +1,0 @@
-pub mod Names
-pub mod Changes
-pub mod Unwritten
-pub mod Switches
-pub mod Laws

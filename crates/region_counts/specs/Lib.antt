@@ -1,3 +1,0 @@
-pub use Rattle.profile_runner.specs.Transitions
-pub use Rattle.held_addresses.specs.Entries
-pub mod Counted

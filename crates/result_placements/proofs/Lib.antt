@@ -1,2 +1,0 @@
-pub mod LayingOut
-pub mod Displaceable

@@ -1,5 +1,0 @@
-use Rattle.result_setups.proofs.HomeSound.{home_is_sound}
-use Rattle.result_setups.proofs.home_laws.home_is_sound.Goals as goal
-
-pub returns : goal.returns
-returns c = home_is_sound

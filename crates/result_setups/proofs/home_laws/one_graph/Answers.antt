@@ -1,5 +1,0 @@
-use Rattle.result_setups.proofs.Single.{one_graph}
-use Rattle.result_setups.proofs.home_laws.one_graph.Goals as goal
-
-pub returns : goal.returns
-returns c = one_graph

@@ -1,5 +1,0 @@
-use Rattle.result_setups.proofs.CodeUnits.{code_units_stand}
-use Rattle.result_setups.proofs.live_laws.code_units_stand.Goals as goal
-
-pub returns : goal.returns
-returns c = code_units_stand

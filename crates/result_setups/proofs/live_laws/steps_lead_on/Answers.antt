@@ -1,5 +1,0 @@
-use Rattle.result_setups.proofs.LiveUnits.{steps_lead_on}
-use Rattle.result_setups.proofs.live_laws.steps_lead_on.Goals as goal
-
-pub returns : goal.returns
-returns c = steps_lead_on

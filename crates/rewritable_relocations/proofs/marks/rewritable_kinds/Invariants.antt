@@ -1,7 +1,0 @@
-use Rattle.std.proofs.Common.{◌≡◌}
-use Rattle.elf_reader.specs.File.{plain_view}
-use Rattle.rewritable_relocations.specs.Marks.{rewritable_below}
-use Rattle.rewritable_relocations.proofs.marks.rewritable_kinds.Given as goal
-
-abbrev pub invariant-loop-i : goal.invariant-loop-i
-invariant-loop-i l = l.marks.items ≡ rewritable_below (plain_view l.file.view.now) l.i

@@ -1,6 +1,0 @@
-pub mod Fields
-pub mod Table
-pub mod Acts
-pub mod RegSet
-pub mod Operations
-pub mod Sequences

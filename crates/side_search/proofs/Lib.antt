@@ -1,4 +1,0 @@
-pub mod Greater
-pub mod Branches
-pub mod Ranges
-pub mod Certified

@@ -1,8 +1,0 @@
-use Rattle.switch_routine.specs.Plans.{plan_of, side_part}
-use Rattle.switch_routine.proofs.CodeLemmas.{one_more}
-use Rattle.switch_routine.proofs.routine.push_parts.Goals as goal
-
-pub loop-i-preserved : goal.loop-i-preserved
-loop-i-preserved c =
-    one_more (side_part c.args.side (plan_of c.args.plan.now)) c.args.code.now.items c.loop-i.code.items c.push_part.new.code.items c.loop-i.i
-    c.loop-i.invariant c.in_ok-push_part.ensures

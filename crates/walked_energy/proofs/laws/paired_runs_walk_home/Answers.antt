@@ -1,5 +1,0 @@
-use Rattle.walked_energy.proofs.HomeWalking.{paired_runs_walk_home}
-use Rattle.walked_energy.proofs.laws.paired_runs_walk_home.Goals as goal
-
-pub returns : goal.returns
-returns c = paired_runs_walk_home
