@@ -1,4 +1,4 @@
-use crate::notes::Notes;
+use crate::notes::{Notes, Piece};
 use crate::usage::say_word;
 use std::alloc::AllocError;
 
@@ -27,15 +27,44 @@ pub fn say_unwritten(notes: &mut Notes, place: usize, word: &str) -> Result<(), 
         notes,
         place,
         word,
-        "can't be written: it is a folder, its folder is missing, or no file may be made there",
+        "can't be written: it is a folder, its folder is missing, no file may be made there, or the disk is full; what stood there is as it was",
     )?;
-    notes.say_first("make the folder, or give a name in a folder in which you may write")
+    notes.say_first(
+        "make the folder, or give a name in a folder in which you may write and that has space",
+    )
 }
 
-/// That something can't be written, where each file that is written is there. It fails only where no memory was left.
-pub fn say_incomplete(notes: &mut Notes) -> Result<(), AllocError> {
-    notes.say_words(
-        "a file or the line on standard output can't be written whole: A of the line `error 3 write A 0` is the place of its word, and 0 is standard output",
-    )?;
-    notes.say_first("free space on the disk, or make the file writable, and call again")
+/// A word that leads to a file which the command has read or written under another name. It fails only where no memory was
+/// left.
+pub fn say_used<'a>(
+    notes: &mut Notes,
+    place: usize,
+    word: &'a str,
+    used_as: &'a str,
+) -> Result<(), AllocError> {
+    notes.say(&[
+        Piece::Text("word "),
+        Piece::Number(place as u64),
+        Piece::Text(", "),
+        Piece::Name(word.as_bytes()),
+        Piece::Text(", leads to the file that "),
+        Piece::Name(used_as.as_bytes()),
+        Piece::Text(" names, which this call has read or written; nothing more was written there"),
+    ])?;
+    notes.say_first("give the name of another file")
+}
+
+/// That the certificate was written, and the file that it is of was not. It fails only where no memory was left.
+pub fn say_certificate_alone(notes: &mut Notes, word: &str) -> Result<(), AllocError> {
+    notes.say(&[
+        Piece::Text("the certificate "),
+        Piece::Name(word.as_bytes()),
+        Piece::Text(" is new, and the file that it is of was not written"),
+    ])
+}
+
+/// That the line on standard output can't be written. It fails only where no memory was left.
+pub fn say_unprinted(notes: &mut Notes) -> Result<(), AllocError> {
+    notes.say_words("the lines on standard output can't be written; all files were written")?;
+    notes.say_first("free space on the disk, or give another standard output, and call again")
 }

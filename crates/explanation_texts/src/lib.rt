@@ -19,7 +19,9 @@ pub use answers::{
     explain_status, say_listed_twice, say_many_blocks, say_small_patch, say_unknown_function,
 };
 pub use boards::{explain_board, gives_key};
-pub use files::{say_incomplete, say_unread, say_unread_device, say_unwritten};
+pub use files::{
+    say_certificate_alone, say_unprinted, say_unread, say_unread_device, say_unwritten, say_used,
+};
 pub use mixes::{say_bad_line, say_faulty_input, say_unread_input};
 pub use notes::Notes;
 pub use objects::{

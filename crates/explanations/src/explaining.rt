@@ -17,7 +17,7 @@ use explanation_texts::{
 use region_former::RegionFault;
 use relink_core::{AnalyseFault, Analysis, analyse};
 use relinking::MeasuredEnd;
-use shelf_io::Shelf;
+use shelf_io::{FailedWrite, Shelf};
 use std::alloc::{AllocError, Global};
 use unchecked_file::UncheckedFile;
 
@@ -33,8 +33,19 @@ const UNWRITTEN: u8 = 3;
 /// The status of a mix of which a line breaks a rule.
 const BAD_MIX: u8 = 13;
 
-/// Lines for standard error that explain what a command did, from its words, the files that it read, its status, and how
-/// its measured run ended; each begins with `spmlink: `. The text is empty where all is as one expects. It reads the files
+/// What came of a command.
+#[derive(Clone, Copy)]
+pub struct Outcome<'a> {
+    /// Its exit status.
+    pub status: u8,
+    /// How the run ended by which it measured a program, if it did.
+    pub measured: Option<MeasuredEnd>,
+    /// The last write of a file that failed, if one did.
+    pub failed: Option<&'a FailedWrite>,
+}
+
+/// Lines for standard error that explain what a command did, from its words, the files that it read, and what came of it;
+/// each begins with `spmlink: `. The text is empty where all is as one expects. It reads the files
 /// again, and analyses the program of a relink and of a refusal again. It runs a program only up to its address fault.
 ///
 /// It fails only where no memory was left.
@@ -42,13 +53,12 @@ pub fn explain<S: Shelf>(
     alloc: Global,
     words: &[String],
     shelf: &mut S,
-    status: u8,
-    end: Option<MeasuredEnd>,
+    outcome: &Outcome<'_>,
 ) -> Result<Vec<u8>, AllocError> {
     let mut notes = Notes::new(alloc);
     match command_of_words(words) {
-        Some(command) if status != NO_COMMAND => {
-            explain_command(&mut notes, words, shelf, command, status, end)?;
+        Some(command) if outcome.status != NO_COMMAND => {
+            explain_command(&mut notes, words, shelf, command, outcome)?;
         }
         _ => explain_words(&mut notes, words)?,
     }
@@ -66,12 +76,12 @@ fn explain_command<S: Shelf>(
     words: &[String],
     shelf: &mut S,
     command: &Command,
-    status: u8,
-    end: Option<MeasuredEnd>,
+    outcome: &Outcome<'_>,
 ) -> Result<(), AllocError> {
+    let (status, end) = (outcome.status, outcome.measured);
     match status {
         UNREAD => explain_unread(notes, words, shelf, command),
-        UNWRITTEN => explain_unwritten(notes, words, shelf, command),
+        UNWRITTEN => explain_unwritten(notes, words, command, outcome.failed),
         _ => match inputs_of(notes.alloc(), words, shelf, command, status, end) {
             Some(inputs) => explain_inputs(notes, words, command, &inputs),
             None => Ok(()),

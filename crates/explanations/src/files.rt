@@ -1,9 +1,10 @@
 use crate::inputs::is_read_once;
 use crate::mixes::{explain_unread_input, mix_of};
 use explanation_texts::{
-    Command, Notes, say_incomplete, say_unread, say_unread_device, say_unwritten,
+    Command, Notes, say_certificate_alone, say_unprinted, say_unread, say_unread_device,
+    say_unwritten, say_used,
 };
-use shelf_io::{Shelf, ShelfFault};
+use shelf_io::{FailedWrite, Shelf, ShelfFault};
 use std::alloc::AllocError;
 
 /// The first word of those that a command reads whose file can't be read, or else the first input that its mix lists.
@@ -26,21 +27,44 @@ pub(crate) fn explain_unread<S: Shelf>(
     say_unread_device(notes)
 }
 
-/// The first word of those that a command writes whose file is not there, or else that something was not written whole.
-pub(crate) fn explain_unwritten<S: Shelf>(
+/// The word whose file was not written, and why, or else that standard output was not.
+pub(crate) fn explain_unwritten(
     notes: &mut Notes,
     words: &[String],
-    shelf: &mut S,
     command: &Command,
+    failed: Option<&FailedWrite>,
 ) -> Result<(), AllocError> {
+    let Some(failed) = failed else {
+        return say_unprinted(notes);
+    };
+    let mut before: Option<&str> = None;
     for place in command.writes {
-        if let Some(word) = words.get(*place) {
-            if fails_to_read(notes, shelf, word.as_str()) {
-                return say_unwritten(notes, *place, word.as_str());
-            }
+        let Some(word) = words.get(*place) else {
+            return Ok(());
+        };
+        if word == &failed.name {
+            return explain_failed(notes, *place, failed, before);
         }
+        before = Some(word.as_str());
     }
-    say_incomplete(notes)
+    Ok(())
+}
+
+/// A write that failed, behind that of another name.
+fn explain_failed(
+    notes: &mut Notes,
+    place: usize,
+    failed: &FailedWrite,
+    before: Option<&str>,
+) -> Result<(), AllocError> {
+    match &failed.used_as {
+        Some(used_as) => say_used(notes, place, failed.name.as_str(), used_as.as_str())?,
+        None => say_unwritten(notes, place, failed.name.as_str())?,
+    }
+    match before {
+        Some(certificate) => say_certificate_alone(notes, certificate),
+        None => Ok(()),
+    }
 }
 
 fn fails_to_read<S: Shelf>(notes: &Notes, shelf: &mut S, name: &str) -> bool {

@@ -11,4 +11,4 @@ mod pinned;
 mod runs;
 mod section_map;
 
-pub use explaining::explain;
+pub use explaining::{Outcome, explain};

@@ -75,12 +75,16 @@ fn sinks(rt: HostRuntime) -> Result<(), Fail> {
 fn files_of_the_folder(rt: HostRuntime) {
     let alloc = rt.alloc();
     let mut shelf = DirShelf::new(&rt, alloc);
+    let mut later = DirShelf::new(&rt, alloc);
     let as_promised = [
         shelf.write("shelf_io_test", b"longer than this").is_ok(),
-        shelf.write("shelf_io_test", b"\0\xff\n").is_ok(),
+        later.write("./shelf_io_test", b"\0\xff\n").is_ok(),
+        has(alloc, &mut later, "shelf_io_test", b"\0\xff\n"),
+        later.write("shelf_io_test", b"used before").is_err(),
         has(alloc, &mut shelf, "shelf_io_test", b"\0\xff\n"),
+        fails(alloc, &mut shelf, ".shelf_io_test.spmlink-new"),
         fs::remove_file(&rt, "shelf_io_test").is_ok(),
         fails(alloc, &mut shelf, "shelf_io_test"),
     ];
-    assert_eq!(rt; as_promised, [true; 5]);
+    assert_eq!(rt; as_promised, [true; 8]);
 }

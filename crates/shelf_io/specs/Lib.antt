@@ -7,3 +7,4 @@ pub mod MemShelf
 pub mod MemSink
 pub mod DirShelf
 pub mod OutSink
+pub mod NewNames

@@ -3,8 +3,10 @@ ghost use Rattle.std.specs.Prelude.{◌≡◌, ◌≤◌, [], vec_len, IfOk, IfS
 
 use crate::fault_log::FaultLog;
 use crate::shelves::{CallKind, Shelf, ShelfFault};
+use crate::used_files::{FailedWrite, ReadFile, UsedFiles};
 use std::alloc::Global;
-use std::io::{ErrorKind, Read, Write};
+use std::fs::OpenFile;
+use std::io::{ErrorKind, Read};
 use std::rt::Files;
 use std::{fs, io};
 
@@ -13,11 +15,17 @@ const MAX_FILE_BYTES: u64 = 1 << 27;
 
 /// Files as a shelf, whose names are paths from the current folder. It tells nothing of what the
 /// files hold, since others write there too. A read answers `Failed` where more than 2^27 bytes
-/// come, and a write creates its file, or empties it first.
+/// come.
+///
+/// A write puts a new file in the place of a regular one, and so keeps the old one where it fails. It follows symbolic
+/// links first, and keeps the old file's permissions; a new ELF file gets those of the first ELF file that was read. It
+/// answers `Failed` where its name leads to a file that this shelf has read or written. What is no regular file, as a
+/// device, is written straight.
 #[derive(Drop)]
 pub struct DirShelf<R> {
     files: R,
     log: FaultLog,
+    used: UsedFiles,
 }
 
 impl<R: Files> DirShelf<R> {
@@ -31,7 +39,13 @@ impl<R: Files> DirShelf<R> {
         DirShelf {
             files,
             log: FaultLog::new(alloc),
+            used: UsedFiles::none(alloc),
         }
+    }
+
+    /// Gives the last write that failed, if one did, and forgets it.
+    pub fn take_failed_write(&mut self) -> Option<FailedWrite> {
+        self.used.take_failed_write()
     }
 }
 
@@ -49,15 +63,13 @@ fn read_all<F: Read + Drop>(alloc: Global, file: F) -> io::Result<Vec<u8>>
 }
 
 /// Reads a file.
-fn read_file<R: Files>(files: &R, alloc: Global, name: &str) -> io::Result<Vec<u8>>
-    ensures { IfOk result (λ bytes. vec_len bytes ≤ MAX_FILE_BYTES) }
+fn read_file<R: Files>(files: &R, alloc: Global, name: &str) -> io::Result<ReadFile>
+    ensures { IfOk result (λ read. vec_len read.bytes ≤ MAX_FILE_BYTES) }
 {
-    read_all(alloc, fs::open(files, name)?)
-}
-
-/// Creates the file, or empties it, and writes all the bytes.
-fn write_file<R: Files>(files: &R, name: &str, bytes: &[u8]) -> io::Result<()> {
-    fs::create(files, name)?.write_all(bytes)
+    let file = fs::open(files, name)?;
+    let found = file.metadata()?;
+    let bytes = read_all(alloc, file)?;
+    Ok(ReadFile { bytes, found })
 }
 
 impl<R: Files> Shelf for DirShelf<R> {
@@ -72,7 +84,10 @@ impl<R: Files> Shelf for DirShelf<R> {
     {
         let entry = self.log.entry(CallKind::Read, name)?;
         match read_file(&self.files, alloc, name) {
-            Ok(bytes) => Ok(bytes),
+            Ok(read) => {
+                self.used.note_read(alloc, name, &read)?;
+                Ok(read.bytes)
+            }
             Err(error) if error.kind() == ErrorKind::OutOfMemory => Err(ShelfFault::Memory),
             Err(_) => {
                 self.log.push(entry);
@@ -86,10 +101,16 @@ impl<R: Files> Shelf for DirShelf<R> {
             self.log.count_want();
             return Err(ShelfFault::Memory);
         };
-        if write_file(&self.files, name, bytes).is_err() {
-            self.log.push(entry);
-            return Err(ShelfFault::Failed);
+        match self.used.write(&self.files, self.log.alloc(), name, bytes) {
+            Ok(()) => Ok(()),
+            Err(error) if error.kind() == ErrorKind::OutOfMemory => {
+                self.log.count_want();
+                Err(ShelfFault::Memory)
+            }
+            Err(_) => {
+                self.log.push(entry);
+                Err(ShelfFault::Failed)
+            }
         }
-        Ok(())
     }
 }

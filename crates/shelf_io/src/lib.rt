@@ -8,6 +8,8 @@ mod memory_sink;
 mod output;
 mod shelves;
 mod sinks;
+mod used_files;
+mod whole_files;
 
 pub use folder::DirShelf;
 pub use memory_shelf::MemShelf;
@@ -15,3 +17,4 @@ pub use memory_sink::MemSink;
 pub use output::OutSink;
 pub use shelves::{CallKind, Shelf, ShelfFault};
 pub use sinks::{Sink, SinkFault};
+pub use used_files::FailedWrite;
