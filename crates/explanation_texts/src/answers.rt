@@ -1,4 +1,3 @@
-use crate::cures::Cure;
 use crate::notes::{Notes, Piece};
 use std::alloc::AllocError;
 
@@ -9,34 +8,26 @@ const DIFFERENCE: u8 = 11;
 
 const HEX: u8 = 14;
 
-const OTHER_CERTIFICATE: Cure = Cure {
-    cause: "the certificate is cut off, was changed, or is one of another file, board or input",
-    first: "give the certificate that relink wrote for this file, this board and this input",
-};
-
-const OTHER_RESULT: Cure = Cure {
-    cause: "the result does not do on this input what the program does",
-    first: "relink this file for this board again, and compare it with what is written then",
-};
-
-const OTHER_BYTES: Cure = Cure {
-    cause: "the text in Intel HEX spells other bytes than the file loads, or another entry",
-    first: "write the text of this file anew, by hex",
-};
-
-const OTHER_TEXT: Cure = Cure {
-    cause: "a line is no record in Intel HEX, a record is of none of the types 00, 01, 04 and 05, an address is given twice, or the end record is not the last",
-    first: "write the text by hex, or leave out what docs/COMMAND_LINE.md#intel-hex does not name",
-};
-
 /// Why something that a command reads beside FILE was refused, or differs from it, by the status of the command. Where a
 /// board is read a difference is that of a result. It fails only where no memory was left.
 pub fn explain_status(notes: &mut Notes, status: u8, has_board: bool) -> Result<(), AllocError> {
     match status {
-        CERTIFICATE => OTHER_CERTIFICATE.say(notes),
-        DIFFERENCE if has_board => OTHER_RESULT.say(notes),
-        DIFFERENCE => OTHER_BYTES.say(notes),
-        HEX => OTHER_TEXT.say(notes),
+        CERTIFICATE => notes.say_cause(
+            "the certificate is cut off, was changed, or is one of another file, board or input",
+            "give the certificate that relink wrote for this file, this board and this input",
+        ),
+        DIFFERENCE if has_board => notes.say_cause(
+            "the result does not do on this input what the program does",
+            "relink this file for this board again, and compare it with what is written then",
+        ),
+        DIFFERENCE => notes.say_cause(
+            "the text in Intel HEX spells other bytes than the file loads, or another entry",
+            "write the text of this file anew, by hex",
+        ),
+        HEX => notes.say_cause(
+            "a line is no record in Intel HEX, a record is of none of the types 00, 01, 04 and 05, an address is given twice, or the end record is not the last",
+            "write the text by hex, or leave out what docs/COMMAND_LINE.md#intel-hex does not name",
+        ),
         _ => Ok(()),
     }
 }
@@ -74,11 +65,11 @@ pub fn say_small_patch(notes: &mut Notes, need: u32, have: u32) -> Result<(), Al
 
 /// The code has too many basic blocks. It fails only where no memory was left.
 pub fn say_many_blocks(notes: &mut Notes, count: u32) -> Result<(), AllocError> {
-    notes.say(&[
-        Piece::Text("the code has "),
-        Piece::Number(u64::from(count)),
-        Piece::Text(" basic blocks, and 65,536 are the limit"),
-    ])?;
+    notes.say_number(
+        "the code has ",
+        u64::from(count),
+        " basic blocks, and 65,536 are the limit",
+    )?;
     notes.say_first(
         "link less code: leave out what is not called (-ffunction-sections, -Wl,--gc-sections)",
     )

@@ -17,8 +17,7 @@ pub(crate) struct CureRow {
 impl Cure {
     /// A line of the cause, and one of what to do first.
     pub(crate) fn say(&self, notes: &mut Notes) -> Result<(), AllocError> {
-        notes.say_words(self.cause)?;
-        notes.say_first(self.first)
+        notes.say_cause(self.cause, self.first)
     }
 }
 

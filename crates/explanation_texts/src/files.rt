@@ -1,5 +1,5 @@
 use crate::notes::{Notes, Piece};
-use crate::usage::say_word;
+use crate::usage::{begin_word, say_word};
 use std::alloc::AllocError;
 
 /// A word whose file can't be read. It fails only where no memory was left.
@@ -9,14 +9,6 @@ pub fn say_unread(notes: &mut Notes, place: usize, word: &str) -> Result<(), All
         place,
         word,
         "can't be read: it is missing or a folder, may not be read, or has over 128 MiB",
-    )?;
-    notes.say_first("correct the name, or make the file readable")
-}
-
-/// That some file can't be read, where it is not known which. It fails only where no memory was left.
-pub fn say_unread_device(notes: &mut Notes) -> Result<(), AllocError> {
-    notes.say_words(
-        "a file can't be read: A of the line `error 2 read A 0` is the place of its word",
     )?;
     notes.say_first("correct the name, or make the file readable")
 }
@@ -36,22 +28,44 @@ pub fn say_unwritten(notes: &mut Notes, place: usize, word: &str) -> Result<(), 
 
 /// A word that leads to a file which the command has read or written under another name. It fails only where no memory was
 /// left.
-pub fn say_used<'a>(
+pub fn say_used(
     notes: &mut Notes,
     place: usize,
-    word: &'a str,
-    used_as: &'a str,
+    word: &str,
+    used_as: &str,
 ) -> Result<(), AllocError> {
-    notes.say(&[
-        Piece::Text("word "),
-        Piece::Number(place as u64),
-        Piece::Text(", "),
-        Piece::Name(word.as_bytes()),
-        Piece::Text(", leads to the file that "),
-        Piece::Name(used_as.as_bytes()),
-        Piece::Text(" names, which this call has read or written; nothing more was written there"),
-    ])?;
+    begin_word(notes, place, word)?;
+    put_used(notes, "leads to the file", used_as)?;
+    notes.end("; nothing more was written there")?;
     notes.say_first("give the name of another file")
+}
+
+/// A word beside which a file that the command has read or written stands where the new file would be made. It fails only
+/// where no memory was left.
+pub fn say_new_name_used(
+    notes: &mut Notes,
+    place: usize,
+    word: &str,
+    used_as: &str,
+) -> Result<(), AllocError> {
+    begin_word(notes, place, word)?;
+    put_used(
+        notes,
+        "can't be written: its new content is first put beside it, under the name of the file",
+        used_as,
+    )?;
+    notes.end("; what stood there is as it was")?;
+    notes.say_first("rename that file, or give another name to write to")
+}
+
+/// Goes on with a line by a file that the command has used under a name.
+fn put_used<'a>(notes: &mut Notes, before: &'a str, used_as: &'a str) -> Result<(), AllocError> {
+    notes.put(&[
+        Piece::Text(before),
+        Piece::Text(" that "),
+        Piece::Name(used_as.as_bytes()),
+        Piece::Text(" names, which this call has read or written"),
+    ])
 }
 
 /// That the certificate was written, and the file that it is of was not. It fails only where no memory was left.

@@ -172,7 +172,7 @@ pub(crate) fn end_by_instruction(notes: &mut Notes, word: u32) -> Result<(), All
     for group in &GROUPS {
         if let Some(name) = name_in(group, word) {
             notes.put(&[Piece::Text(name)])?;
-            notes.put(&operands_of(word, group.operands))?;
+            put_operands(notes, word, group.operands)?;
             return notes.end("");
         }
     }
@@ -189,61 +189,50 @@ fn name_in(group: &Group, word: u32) -> Option<&'static str> {
     None
 }
 
-fn operands_of(word: u32, operands: Operands) -> [Piece<'static>; 7] {
+/// Goes on with a line by the operands of an instruction.
+fn put_operands(notes: &mut Notes, word: u32, operands: Operands) -> Result<(), AllocError> {
     let target = register_name(word >> 7);
     let first = register_name(word >> 15);
     let second = register_name(word >> 20);
     match operands {
-        Operands::Nothing => listed("", "", ""),
-        Operands::Target => listed(target, "", ""),
-        Operands::Compared => listed(first, second, ""),
-        Operands::Three => listed(target, first, second),
-        Operands::Immediate => with_number(target, first, i_imm(word)),
-        Operands::Loaded => with_address(target, i_imm(word), first),
-        Operands::Stored => with_address(second, stored_offset(word), first),
+        Operands::Nothing => Ok(()),
+        Operands::Target => put_registers(notes, &[target]),
+        Operands::Compared => put_registers(notes, &[first, second]),
+        Operands::Three => put_registers(notes, &[target, first, second]),
+        Operands::Immediate => {
+            put_registers(notes, &[target, first])?;
+            notes.put(&[Piece::Text(","), Piece::Signed(i_imm(word))])
+        }
+        Operands::Loaded => put_address(notes, target, i_imm(word), first),
+        Operands::Stored => put_address(notes, second, stored_offset(word), first),
     }
 }
 
-/// Registers with commas between them. An empty name is left out.
-fn listed(first: &'static str, second: &'static str, third: &'static str) -> [Piece<'static>; 7] {
-    [
-        Piece::Text(separator(first, " ")),
-        Piece::Text(first),
-        Piece::Text(separator(second, ",")),
-        Piece::Text(second),
-        Piece::Text(separator(third, ",")),
-        Piece::Text(third),
-        Piece::Text(""),
-    ]
+/// Goes on with a line by registers, with commas between them.
+fn put_registers(notes: &mut Notes, registers: &[&str]) -> Result<(), AllocError> {
+    let mut before = " ";
+    for register in registers {
+        notes.put(&[Piece::Text(before), Piece::Text(register)])?;
+        before = ",";
+    }
+    Ok(())
 }
 
-/// What stands before a name, if that is not empty.
-fn separator(name: &'static str, before: &'static str) -> &'static str {
-    if name.is_empty() { "" } else { before }
-}
-
-fn with_number(target: &'static str, operand: &'static str, number: i32) -> [Piece<'static>; 7] {
-    [
-        Piece::Text(" "),
-        Piece::Text(target),
-        Piece::Text(","),
-        Piece::Text(operand),
-        Piece::Text(","),
-        Piece::Signed(number),
-        Piece::Text(""),
-    ]
-}
-
-fn with_address(register: &'static str, offset: i32, base: &'static str) -> [Piece<'static>; 7] {
-    [
-        Piece::Text(" "),
-        Piece::Text(register),
+/// Goes on with a line by a register, and the address that an offset and a register give.
+fn put_address(
+    notes: &mut Notes,
+    register: &str,
+    offset: i32,
+    base: &str,
+) -> Result<(), AllocError> {
+    put_registers(notes, &[register])?;
+    notes.put(&[
         Piece::Text(","),
         Piece::Signed(offset),
         Piece::Text("("),
         Piece::Text(base),
         Piece::Text(")"),
-    ]
+    ])
 }
 
 /// The name of the register whose number is in the last five bits.

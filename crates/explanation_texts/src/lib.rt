@@ -20,7 +20,7 @@ pub use answers::{
 };
 pub use boards::{explain_board, gives_key};
 pub use files::{
-    say_certificate_alone, say_unprinted, say_unread, say_unread_device, say_unwritten, say_used,
+    say_certificate_alone, say_new_name_used, say_unprinted, say_unread, say_unwritten, say_used,
 };
 pub use mixes::{say_bad_line, say_faulty_input, say_unread_input};
 pub use notes::Notes;

@@ -7,7 +7,7 @@ pub(crate) enum Piece<'a> {
     Text(&'a str),
     /// A name of a file or of the command line, in backquotes. It needn't be UTF-8.
     Name(&'a [u8]),
-    /// The same without backquotes.
+    /// A name without backquotes.
     Bare(&'a [u8]),
     /// A number in decimal.
     Number(u64),
@@ -74,6 +74,24 @@ impl Notes {
     pub(crate) fn say_words(&mut self, words: &str) -> Result<(), AllocError> {
         self.begin(words)?;
         self.end("")
+    }
+
+    /// Adds a line of a number between words.
+    pub(crate) fn say_number(
+        &mut self,
+        before: &str,
+        number: u64,
+        behind: &str,
+    ) -> Result<(), AllocError> {
+        self.begin(before)?;
+        self.push_number(number)?;
+        self.end(behind)
+    }
+
+    /// Adds a line of why something is refused, and one of what to do first.
+    pub(crate) fn say_cause(&mut self, cause: &str, cure: &str) -> Result<(), AllocError> {
+        self.say_words(cause)?;
+        self.say_first(cure)
     }
 
     /// Adds a line of what to do first.

@@ -141,15 +141,12 @@ pub fn say_pinned(notes: &mut Notes, section: &PinnedSection) -> Result<(), Allo
 
 /// How many other sections have objects that stay. It fails only where no memory was left.
 pub fn say_more_sections(notes: &mut Notes, count: u64) -> Result<(), AllocError> {
-    notes.say(&[
-        Piece::Text("objects of "),
-        Piece::Number(count),
-        Piece::Text(if count == 1 {
-            " more section stay"
-        } else {
-            " more sections stay"
-        }),
-    ])
+    let behind = if count == 1 {
+        " more section stay"
+    } else {
+        " more sections stay"
+    };
+    notes.say_number("objects of ", count, behind)
 }
 
 fn say_stay(notes: &mut Notes, section: &PinnedSection, reason: &str) -> Result<(), AllocError> {

@@ -196,10 +196,11 @@ fn say_ranges_meet(notes: &mut Notes, board: &Board) -> Result<(), AllocError> {
 }
 
 fn say_many_objects(notes: &mut Notes, count: u32) -> Result<(), AllocError> {
-    notes.say(&[
-        Piece::Number(u64::from(count)),
-        Piece::Text(" objects may move, and 4,096 are the limit"),
-    ])?;
+    notes.say_number(
+        "",
+        u64::from(count),
+        " objects may move, and 4,096 are the limit",
+    )?;
     notes.say_first("keep some by `fix` of the board")
 }
 

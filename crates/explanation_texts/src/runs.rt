@@ -64,11 +64,8 @@ pub fn say_trapped(
     pc: u32,
 ) -> Result<(), AllocError> {
     say_instruction(notes, file, "the measured run trapped", pc)?;
-    notes.say(&[
-        Piece::Text("what is told is of "),
-        Piece::Number(steps),
-        Piece::Text(if steps == 1 { " step" } else { " steps" }),
-    ])?;
+    let behind = if steps == 1 { " step" } else { " steps" };
+    notes.say_number("what is told is of ", steps, behind)?;
     notes.say_first("leave out what RV32IM lacks (no CSR instructions, -march=rv32im)")
 }
 
@@ -80,11 +77,11 @@ pub fn say_still_running(
     steps: u64,
     at: u32,
 ) -> Result<(), AllocError> {
-    notes.say(&[
-        Piece::Text("the board allows "),
-        Piece::Number(steps),
-        Piece::Text(" steps, and the measured run went on; what is told is of these alone"),
-    ])?;
+    notes.say_number(
+        "the board allows ",
+        steps,
+        " steps, and the measured run went on; what is told is of these alone",
+    )?;
     say_instruction(notes, file, "it stood", at)?;
     notes.say_first("give the board more `steps`, or take a shorter input")
 }
@@ -110,28 +107,23 @@ pub fn explain_fault(
 ) -> Result<(), AllocError> {
     say_instruction(notes, file, "address fault", fault.pc)?;
     notes.say_words(text_at(&REASONS, fault.why))?;
-    say_object(notes, fault, involved)?;
-    say_bytes(notes, fault, involved)?;
+    if let Some(origin) = fault.culprit.origin {
+        say_origin(notes, involved.object, origin.way)?;
+    }
+    if let Some(address) = fault.culprit.address {
+        say_address(notes, address, involved.bytes)?;
+    }
     match file.segment_loaded_apart() {
         Some(segment) if fault.why == NO_DATA => say_load_address(notes, file, &segment),
         _ => say_cure(notes, fault, involved),
     }
 }
 
-/// The object of the value.
-fn say_object(
-    notes: &mut Notes,
-    fault: &AddressFault,
-    involved: &Involved,
-) -> Result<(), AllocError> {
-    let Some(origin) = fault.culprit.origin else {
-        return Ok(());
-    };
-    notes.say(&[
-        Piece::Text("the value comes of the address of "),
-        Piece::Name(involved.object),
-        Piece::Text(way_text(origin.way)),
-    ])
+/// The object of whose address the value was made, and how.
+fn say_origin(notes: &mut Notes, object: &[u8], way: Way) -> Result<(), AllocError> {
+    notes.begin("the value comes of the address of ")?;
+    notes.put(&[Piece::Name(object)])?;
+    notes.end(way_text(way))
 }
 
 fn way_text(way: Way) -> &'static str {
@@ -143,21 +135,14 @@ fn way_text(way: Way) -> &'static str {
     }
 }
 
-/// The bytes at the address.
-fn say_bytes(
-    notes: &mut Notes,
-    fault: &AddressFault,
-    involved: &Involved,
-) -> Result<(), AllocError> {
-    let Some(address) = fault.culprit.address else {
-        return Ok(());
-    };
+/// The address, and the object or the section that has the byte there.
+fn say_address(notes: &mut Notes, address: u32, holder: &[u8]) -> Result<(), AllocError> {
     notes.begin("it addresses ")?;
     notes.put(&[Piece::Hex(address)])?;
-    if involved.bytes.is_empty() {
+    if holder.is_empty() {
         return notes.end(", which is of no section");
     }
-    notes.put(&[Piece::Text(", of "), Piece::Name(involved.bytes)])?;
+    notes.put(&[Piece::Text(", of "), Piece::Name(holder)])?;
     notes.end("")
 }
 

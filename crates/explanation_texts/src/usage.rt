@@ -3,6 +3,7 @@ use std::alloc::AllocError;
 
 /// A command, as it is told to one who asks, and which of its words name what it reads. The command's own word is at
 /// place 0.
+#[derive(Clone, Copy)]
 pub struct Command {
     word: &'static str,
     operands: &'static str,
@@ -29,6 +30,39 @@ pub struct Command {
     numbers: &'static str,
 }
 
+/// No command: it reads and writes nothing.
+const NONE: Command = Command {
+    word: "",
+    operands: "",
+    purpose: "",
+    file: None,
+    board: None,
+    analyses: false,
+    input: None,
+    mix: None,
+    result: None,
+    beside: None,
+    reads: 0,
+    writes: &[],
+    numbers: "",
+};
+
+/// What commands have in common that analyse FILE for BOARD.
+const ANALYSED: Command = Command {
+    file: Some(1),
+    board: Some(2),
+    analyses: true,
+    reads: 2,
+    ..NONE
+};
+
+/// What commands have in common that also measure it on INPUT.
+const MEASURED: Command = Command {
+    input: Some(3),
+    reads: 3,
+    ..ANALYSED
+};
+
 const COMMANDS: [Command; 13] = [
     Command {
         word: "run",
@@ -36,194 +70,105 @@ const COMMANDS: [Command; 13] = [
         purpose: "runs FILE, and writes under OUT what it writes",
         file: Some(1),
         board: Some(2),
-        analyses: false,
-        input: None,
-        mix: None,
-        result: None,
-        beside: None,
         reads: 3,
         writes: &[4],
-        numbers: "",
+        ..NONE
     },
     Command {
         word: "relink",
         operands: "FILE BOARD INPUT OUT CERT",
         purpose: "moves what saves energy, and writes the new file under OUT",
-        file: Some(1),
-        board: Some(2),
-        analyses: true,
-        input: Some(3),
-        mix: None,
         result: Some(4),
-        beside: None,
-        reads: 3,
         writes: &[5, 4],
-        numbers: "",
+        ..MEASURED
     },
     Command {
         word: "profile",
         operands: "FILE BOARD INPUT",
         purpose: "runs FILE, and counts blocks, reads and writes",
-        file: Some(1),
-        board: Some(2),
-        analyses: true,
-        input: Some(3),
-        mix: None,
-        result: None,
-        beside: None,
-        reads: 3,
-        writes: &[],
-        numbers: "",
+        ..MEASURED
     },
     Command {
         word: "compare",
         operands: "FILE RESULT BOARD INPUT",
         purpose: "runs FILE beside what it was relinked to",
-        file: Some(1),
         board: Some(3),
-        analyses: true,
         input: Some(4),
-        mix: None,
-        result: None,
         beside: Some(2),
         reads: 4,
-        writes: &[],
-        numbers: "",
+        ..MEASURED
     },
     Command {
         word: "check",
         operands: "FILE BOARD INPUT CERT",
         purpose: "checks a certificate that relink wrote",
-        file: Some(1),
-        board: Some(2),
-        analyses: true,
-        input: Some(3),
-        mix: None,
-        result: None,
-        beside: None,
         reads: 4,
-        writes: &[],
-        numbers: "",
+        ..MEASURED
     },
     Command {
         word: "paid",
         operands: "FILE BOARD INPUT CERT",
         purpose: "tells what a certificate's choice costs, and what its file pays",
-        file: Some(1),
-        board: Some(2),
-        analyses: true,
-        input: Some(3),
-        mix: None,
-        result: None,
-        beside: None,
         reads: 4,
-        writes: &[],
-        numbers: "",
+        ..MEASURED
     },
     Command {
         word: "trace",
         operands: "FILE BOARD INPUT CERT COUNT OUT",
         purpose: "writes under OUT how FILE and its result run step by step",
-        file: Some(1),
-        board: Some(2),
-        analyses: true,
-        input: Some(3),
-        mix: None,
-        result: None,
-        beside: None,
         reads: 4,
         writes: &[6],
         numbers: "COUNT is a number of 1 to 6 digits from 1 to 100000",
+        ..MEASURED
     },
     Command {
         word: "mix",
         operands: "FILE BOARD MIX OUT CERT",
         purpose: "relinks FILE for several inputs, which MIX lists with weights",
-        file: Some(1),
-        board: Some(2),
-        analyses: true,
-        input: None,
         mix: Some(3),
         result: Some(4),
-        beside: None,
         reads: 3,
         writes: &[5, 4],
-        numbers: "",
+        ..ANALYSED
     },
     Command {
         word: "checkmix",
         operands: "FILE BOARD MIX CERT",
         purpose: "checks a certificate that mix wrote",
-        file: Some(1),
-        board: Some(2),
-        analyses: true,
-        input: None,
         mix: Some(3),
-        result: None,
-        beside: None,
         reads: 4,
-        writes: &[],
-        numbers: "",
+        ..ANALYSED
     },
     Command {
         word: "show",
         operands: "FILE BOARD",
         purpose: "lists what may move, and the functions",
-        file: Some(1),
-        board: Some(2),
-        analyses: true,
-        input: None,
-        mix: None,
-        result: None,
-        beside: None,
-        reads: 2,
-        writes: &[],
-        numbers: "",
+        ..ANALYSED
     },
     Command {
         word: "gen",
         operands: "SEED KERNELS OUT",
         purpose: "writes a generated program under OUT",
-        file: None,
-        board: None,
-        analyses: false,
-        input: None,
-        mix: None,
-        result: None,
-        beside: None,
-        reads: 0,
         writes: &[3],
         numbers: "SEED is a number of 1 to 10 digits below 2^32, and KERNELS is one from 1 to 64",
+        ..NONE
     },
     Command {
         word: "hex",
         operands: "FILE OUT",
         purpose: "writes FILE as Intel HEX under OUT",
         file: Some(1),
-        board: None,
-        analyses: false,
-        input: None,
-        mix: None,
-        result: None,
-        beside: None,
         reads: 1,
         writes: &[2],
-        numbers: "",
+        ..NONE
     },
     Command {
         word: "hexcheck",
         operands: "FILE HEX",
         purpose: "checks that HEX spells FILE",
         file: Some(1),
-        board: None,
-        analyses: false,
-        input: None,
-        mix: None,
-        result: None,
-        beside: None,
         reads: 2,
-        writes: &[],
-        numbers: "",
+        ..NONE
     },
 ];
 
@@ -373,19 +318,24 @@ fn fault_of_name(word: &str) -> Option<&'static str> {
 }
 
 /// A word, and what is wrong with it. It fails only where no memory was left.
-pub(crate) fn say_word<'a>(
+pub(crate) fn say_word(
     notes: &mut Notes,
     place: usize,
-    word: &'a str,
-    reason: &'a str,
+    word: &str,
+    reason: &str,
 ) -> Result<(), AllocError> {
-    notes.say(&[
-        Piece::Text("word "),
+    begin_word(notes, place, word)?;
+    notes.end(reason)
+}
+
+/// Begins a line by a word. It fails only where no memory was left.
+pub(crate) fn begin_word(notes: &mut Notes, place: usize, word: &str) -> Result<(), AllocError> {
+    notes.begin("word ")?;
+    notes.put(&[
         Piece::Number(place as u64),
         Piece::Text(", "),
         Piece::Name(word.as_bytes()),
         Piece::Text(", "),
-        Piece::Text(reason),
     ])
 }
 

@@ -1,3 +1,8 @@
+-- Endings: the words that tell how a run ended
+-- ProfileLines: the lines of a profile; addresses, and lines that end in a name
+-- ShowLines: the lines of what may move, and of functions with their regions
+-- TakenLines: the lines of what has moved, and where it stands
+-- ReportText: the lines that tell how a choice was found, and what the run costs
 pub mod Endings
 pub mod ProfileLines
 pub mod ShowLines

@@ -11,12 +11,14 @@ use Rattle.code_blocks.specs.declared.parts.Function.{Function}
 use Rattle.profile_runner.specs.Standing.{number_of, region_of}
 use Rattle.printed_lines.specs.ProfileLines.{address_text, named_line, lines_below}
 
--- `object 0xHOME SIZE NAME`
-abbrev pub movable_head : ℕ → ℕ → List ℕ
-movable_head home size = codes "object " ++ (address_text home ++ (codes " " ++ (decimal size ++ codes " ")))
+-- `WORD 0xADDRESS NUMBER `
+abbrev pub addressed_head : List ℕ → ℕ → ℕ → List ℕ
+addressed_head word address number =
+    word ++ (codes " " ++ (address_text address ++ (codes " " ++ (decimal number ++ codes " "))))
 
+-- `object 0xHOME SIZE NAME`
 abbrev pub movable_text : ℕ → ℕ → List ℕ → List ℕ
-movable_text home size name = named_line (movable_head home size) name
+movable_text home size name = named_line (addressed_head (codes "object") home size) name
 
 -- the line of object `k`, with the name of its first symbol
 abbrev pub movable_line : PlainView → List Object → ℕ → List ℕ
@@ -24,12 +26,8 @@ movable_line v objects k =
     movable_text (object_at objects k).home (object_at objects k).size (symbol_at v (object_at objects k).name).name
 
 -- `function 0xADDR REGION NAME`
-abbrev pub function_head : ℕ → ℕ → List ℕ
-function_head start region =
-    codes "function " ++ (address_text start ++ (codes " " ++ (decimal region ++ codes " ")))
-
 abbrev pub function_text : ℕ → ℕ → List ℕ → List ℕ
-function_text start region name = named_line (function_head start region) name
+function_text start region name = named_line (addressed_head (codes "function") start region) name
 
 -- the region of the block that begins at an address, and 0 where none does
 abbrev pub region_at : List ℕ → List ℕ → ℕ → ℕ

@@ -2,8 +2,7 @@ ghost use Rattle.std.specs.Prelude.{◌≡◌, ◌++◌, IfOk, OnOk, length, sum
 ghost use Rattle.elf_reader.specs.File.{plain_view};
 ghost use Rattle.code_blocks.specs.Numbers.{starts_of};
 ghost use Rattle.profile_runner.specs.Counts.{plain_rows};
-ghost use Rattle.printed_lines.specs.Endings.{IsAddressFault};
-ghost use Rattle.printed_lines.specs.ProfileLines.{head_text, started_text, line_of_block, block_lines, line_of_object, object_lines, profile_text};
+ghost use Rattle.printed_lines.specs.{Endings.{IsAddressFault}, ProfileLines.{head_text, started_text, line_of_block, block_lines, line_of_object, object_lines, profile_text}};
 
 use crate::endings::ending_line;
 use crate::parts::{address_text, symbol_name};

@@ -1,7 +1,5 @@
 ghost use Rattle.std.specs.Prelude.{◌≡◌, ℤ, pos, ◌≤ℤ◌, IfOk, string_bytes};
-ghost use Rattle.placement_programme.specs.Plain.{PlainChoice};
-ghost use Rattle.placement_programme.specs.Programme.{IsFeasible, gain};
-ghost use Rattle.placement_programme.specs.Views.{plain_programme, plain_choice};
+ghost use Rattle.placement_programme.specs.{Plain.{PlainChoice}, Programme.{IsFeasible, gain}, Views.{plain_programme, plain_choice}};
 ghost use Rattle.printed_lines.specs.ReportText.{report_text, IsReport};
 
 use placement_programme::{Choice, Programme, energy};

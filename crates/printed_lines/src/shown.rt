@@ -2,7 +2,7 @@ ghost use Rattle.std.specs.Prelude.{◌≡◌, ◌++◌, IfOk, OnOk, length, str
 ghost use Rattle.std.specs.List.Sorted.{IsStrictlyIncreasing};
 ghost use Rattle.elf_reader.specs.File.{plain_view};
 ghost use Rattle.code_blocks.specs.Numbers.{starts_of};
-ghost use Rattle.printed_lines.specs.ShowLines.{movable_head, function_head, movable_text, movable_lines, function_text, region_at, function_lines, show_text};
+ghost use Rattle.printed_lines.specs.{ProfileLines.{named_line}, ShowLines.{addressed_head, movable_lines, region_at, function_lines, show_text}};
 
 use crate::parts::{address_text, push_named, symbol_name};
 use code_blocks::Code;
@@ -26,7 +26,7 @@ pub fn show_lines(
 {
     let mut text = Vec::new(alloc);
     push_movables(alloc, &mut text, view, graph)?;
-    push_functions(alloc, &mut text, view, code, regions)?;
+    push_functions(alloc, &mut text, code, regions, view)?;
     Ok(text)
 }
 
@@ -42,41 +42,18 @@ fn push_movables(
     for k in 0..graph.objects.len() {
         let object = graph.objects[k];
         let name = symbol_name(view, object.name);
-        push_movable(alloc, text, object.home, object.size, name)?;
+        push_addressed(alloc, text, name, "object", object.home, object.size)?;
     }
     Ok(())
-}
-
-/// Adds the line of an object.
-fn push_movable(
-    alloc: Global,
-    text: &mut Vec<u8>,
-    home: u32,
-    size: u32,
-    name: &[u8],
-) -> Result<(), AllocError>
-    ensures { OnOk result (text.new.items ≡ text.old.items ++ movable_text home size name.now) }
-{
-    let head = movable_head(alloc, home, size)?;
-    push_named(text, head.as_bytes(), name)?;
-    Ok(())
-}
-
-/// How the line of an object begins.
-fn movable_head(alloc: Global, home: u32, size: u32) -> Result<String, AllocError>
-    ensures { IfOk result (λ head. string_bytes head ≡ movable_head home size) }
-{
-    let address = address_text(alloc, home)?;
-    format!(in alloc; "object {address} {size} ")
 }
 
 /// Adds a line for each function.
 fn push_functions(
     alloc: Global,
     text: &mut Vec<u8>,
-    view: &ElfView<'_>,
     code: &Code,
     regions: &RegionTable,
+    view: &ElfView<'_>,
 ) -> Result<(), AllocError>
     requires ascending { IsStrictlyIncreasing (starts_of code.now) }
     requires regions { length regions.now.of_block.items ≡ length code.now.blocks.items }
@@ -86,7 +63,7 @@ fn push_functions(
         let function = code.functions[k];
         let name = symbol_name(view, function.name);
         let region = region_at(code, regions, function.start);
-        push_function(alloc, text, function.start, region, name)?;
+        push_addressed(alloc, text, name, "function", function.start, region)?;
     }
     Ok(())
 }
@@ -103,25 +80,31 @@ fn region_at(code: &Code, regions: &RegionTable, address: u32) -> u32
     }
 }
 
-/// Adds the line of a function.
-fn push_function(
+/// Adds the line of what has an address, a number and a name.
+fn push_addressed(
     alloc: Global,
     text: &mut Vec<u8>,
-    start: u32,
-    region: u32,
     name: &[u8],
+    word: &str,
+    address: u32,
+    number: u32,
 ) -> Result<(), AllocError>
-    ensures { OnOk result (text.new.items ≡ text.old.items ++ function_text start region name.now) }
+    ensures { OnOk result (text.new.items ≡ text.old.items ++ named_line (addressed_head word.now address number) name.now) }
 {
-    let head = function_head(alloc, start, region)?;
+    let head = addressed_head(alloc, word, address, number)?;
     push_named(text, head.as_bytes(), name)?;
     Ok(())
 }
 
-/// How the line of a function begins.
-fn function_head(alloc: Global, start: u32, region: u32) -> Result<String, AllocError>
-    ensures { IfOk result (λ head. string_bytes head ≡ function_head start region) }
+/// How such a line begins.
+fn addressed_head(
+    alloc: Global,
+    word: &str,
+    address: u32,
+    number: u32,
+) -> Result<String, AllocError>
+    ensures { IfOk result (λ head. string_bytes head ≡ addressed_head word.now address number) }
 {
-    let address = address_text(alloc, start)?;
-    format!(in alloc; "function {address} {region} ")
+    let address = address_text(alloc, address)?;
+    format!(in alloc; "{word} {address} {number} ")
 }

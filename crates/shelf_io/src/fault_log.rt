@@ -20,8 +20,7 @@ pub(crate) struct FaultLog {
 }
 
 impl FaultLog {
-    ghost use Rattle.shelf_io.specs.Counts.{Rose};
-    ghost use Rattle.shelf_io.specs.FaultLog.{call_of, failed_calls, HasRoom, SameLog};
+    ghost use Rattle.shelf_io.specs.{Counts.{Rose}, FaultLog.{call_of, failed_calls, HasRoom, SameLog}};
 
     /// A log of no call.
     pub(crate) fn new(alloc: Global) -> FaultLog

@@ -73,8 +73,7 @@ fn read_file<R: Files>(files: &R, alloc: Global, name: &str) -> io::Result<ReadF
 }
 
 impl<R: Files> Shelf for DirShelf<R> {
-    ghost use Rattle.shelf_io.specs.Shelf.{ReadLeaves};
-    ghost use Rattle.shelf_io.specs.DirShelf.{shelf_view};
+    ghost use Rattle.shelf_io.specs.{Shelf.{ReadLeaves}, DirShelf.{shelf_view}};
 
     ghost view = { λ shelf. shelf_view shelf };
 
@@ -85,7 +84,7 @@ impl<R: Files> Shelf for DirShelf<R> {
         let entry = self.log.entry(CallKind::Read, name)?;
         match read_file(&self.files, alloc, name) {
             Ok(read) => {
-                self.used.note_read(alloc, name, &read)?;
+                self.used.note_read(name, &read)?;
                 Ok(read.bytes)
             }
             Err(error) if error.kind() == ErrorKind::OutOfMemory => Err(ShelfFault::Memory),
@@ -101,13 +100,13 @@ impl<R: Files> Shelf for DirShelf<R> {
             self.log.count_want();
             return Err(ShelfFault::Memory);
         };
-        match self.used.write(&self.files, self.log.alloc(), name, bytes) {
+        match self.used.write(&self.files, name, bytes) {
             Ok(()) => Ok(()),
-            Err(error) if error.kind() == ErrorKind::OutOfMemory => {
+            Err(ShelfFault::Memory) => {
                 self.log.count_want();
                 Err(ShelfFault::Memory)
             }
-            Err(_) => {
+            Err(ShelfFault::Failed) => {
                 self.log.push(entry);
                 Err(ShelfFault::Failed)
             }

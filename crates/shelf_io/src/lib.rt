@@ -17,4 +17,4 @@ pub use memory_sink::MemSink;
 pub use output::OutSink;
 pub use shelves::{CallKind, Shelf, ShelfFault};
 pub use sinks::{Sink, SinkFault};
-pub use used_files::FailedWrite;
+pub use used_files::{FailedWrite, WriteCause};

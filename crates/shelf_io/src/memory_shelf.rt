@@ -17,8 +17,7 @@ pub struct MemShelf {
 }
 
 impl MemShelf {
-    ghost use Rattle.shelf_io.specs.Counts.{next_count};
-    ghost use Rattle.shelf_io.specs.MemShelf.{IsMade, shelf_view, fails_next, calls_made, AnswersWrite, StoreLeaves, CountsCall};
+    ghost use Rattle.shelf_io.specs.{Counts.{next_count}, MemShelf.{IsMade, shelf_view, fails_next, calls_made, AnswersWrite, StoreLeaves, CountsCall}};
 
     /// A shelf that holds these entries, and fails at the listed calls. A second entry of a name
     /// replaces the first.
@@ -74,8 +73,7 @@ impl MemShelf {
 }
 
 impl Shelf for MemShelf {
-    ghost use Rattle.shelf_io.specs.Shelf.{Reads, ReadLeaves, WriteLeaves};
-    ghost use Rattle.shelf_io.specs.MemShelf.{held_bytes, failing_calls, shelf_view, readable_bytes, fails_next, AnswersRead, AnswersWrite, CountsCall};
+    ghost use Rattle.shelf_io.specs.{Shelf.{Reads, ReadLeaves, WriteLeaves}, MemShelf.{held_bytes, failing_calls, shelf_view, readable_bytes, fails_next, AnswersRead, AnswersWrite, CountsCall}};
 
     ghost view = { λ shelf. shelf_view shelf };
 

@@ -50,8 +50,7 @@ impl MemSink {
 }
 
 impl Sink for MemSink {
-    ghost use Rattle.shelf_io.specs.Sink.{Puts};
-    ghost use Rattle.shelf_io.specs.MemSink.{sink_bytes, sink_view, refuses, CountsPut};
+    ghost use Rattle.shelf_io.specs.{Sink.{Puts}, MemSink.{sink_bytes, sink_view, refuses, CountsPut}};
 
     ghost view = { λ sink. sink_view sink };
 

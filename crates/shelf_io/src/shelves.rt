@@ -1,7 +1,6 @@
 //! A shelf keeps bytes under names, as a folder keeps files. A call may fail at any time.
 ghost use Rattle.std.specs.Prelude.{◌≡◌};
-ghost use Rattle.shelf_io.specs.declared.shelves.ShelfFault.TheVariants.{Memory};
-ghost use Rattle.shelf_io.specs.Shelf.{ShelfView, Reads, ReadLeaves, WriteLeaves};
+ghost use Rattle.shelf_io.specs.{declared.shelves.ShelfFault.TheVariants.{Memory}, Shelf.{ShelfView, Reads, ReadLeaves, WriteLeaves}};
 
 use std::alloc::{AllocError, AllocFailed, Global};
 use thiserror::Error;

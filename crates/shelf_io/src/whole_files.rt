@@ -31,6 +31,15 @@ pub(crate) fn id_of(found: &Metadata) -> FileId {
     }
 }
 
+/// What stands under a name, if anything does.
+pub(crate) fn look_at<R: Files>(files: &R, name: &str) -> io::Result<Option<Metadata>> {
+    match files.metadata(name) {
+        Ok(found) => Ok(Some(found)),
+        Err(error) if error.kind() == ErrorKind::NotFound => Ok(None),
+        Err(error) => Err(error),
+    }
+}
+
 /// The path to which a name leads through symbolic links. What it names need not be there. `None` where it leads to a
 /// descriptor of a process, which is no place for another file.
 pub(crate) fn end_of_links<R: Files>(
@@ -179,5 +188,16 @@ fn sync_folder<R: Files>(files: &R, folder: Path<'_>) -> io::Result<()> {
         Ok(folder) => folder.sync_all(),
         Err(error) if error.kind() == ErrorKind::PermissionDenied => Ok(()),
         Err(error) => Err(error),
+    }
+}
+
+/// Opens what has a name, or makes a file, and writes all bytes. Want of memory behind the opening is an error of another
+/// kind, since some bytes may have been written.
+pub(crate) fn write_straight<R: Files>(files: &R, name: &str, bytes: &[u8]) -> io::Result<()> {
+    match fs::create(files, name)?.write_all(bytes) {
+        Err(error) if error.kind() == ErrorKind::OutOfMemory => {
+            Err(io::Error::from(ErrorKind::Other))
+        }
+        written => written,
     }
 }

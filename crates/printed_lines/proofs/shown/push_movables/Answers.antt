@@ -12,5 +12,5 @@ loop-k-preserved c =
     let k = c.loop-k.k in
     let within : k < length objects = omega (arith, c.loop-k-test.true, c.len-k-end.ensures) in
     let line = movable_line_is v objects k c.index-object.result.now c.symbol_name-name.result.now within c.index-object.ensures c.symbol_name-name.ensures in
-    lines_more (movable_line v objects) c.args.text.now.items c.loop-k.text.items c.push_movable.new.text.items k c.loop-k.invariant
-    (c.in_ok-push_movable.ensures ∙ ap (λ piece. c.loop-k.text.items ++ piece) line)
+    lines_more (movable_line v objects) c.args.text.now.items c.loop-k.text.items c.push_addressed.new.text.items k c.loop-k.invariant
+    (c.in_ok-push_addressed.ensures ∙ ap (λ piece. c.loop-k.text.items ++ piece) line)

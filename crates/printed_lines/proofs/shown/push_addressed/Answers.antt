@@ -1,6 +1,6 @@
 use Rattle.std.proofs.Common.{List, ℕ, ◌++◌, ◌∙◌, ap}
 use Rattle.printed_lines.specs.ProfileLines.{named_line}
-use Rattle.printed_lines.proofs.shown.push_function.Goals as goal
+use Rattle.printed_lines.proofs.shown.push_addressed.Goals as goal
 
 pub returns : goal.returns
 returns c =
