@@ -1,12 +1,13 @@
 -- How the parts of a command make its ending.
-use Rattle.std.proofs.Common.{◌≡◌, ◌⊎◌, inl, inr, ℕ, List, [], ◌∷◌, refl, subst, sym, arith}
+use Rattle.std.proofs.Common.{◌≡◌, ◌⊎◌, inl, inr, ℕ, List, [], ◌∷◌, Option, refl, subst, sym, arith}
 use Rattle.std.proofs.lemmas.Fmt.{decimal_digit}
 use Rattle.shelf_io.specs.Shelf.{ShelfView, SetsName, LosesName}
 use Rattle.shelf_io.specs.Sink.{SinkView}
 use Rattle.command_language.specs.Command.{PlainCommand, Named, writes}
 use Rattle.command_line.specs.Diagnostic.{IsDiagnosticOf, IsDiagnosticOrMemory}
 use Rattle.command_line.specs.Delivery.{ArePrepared, SetsAll, SetsPrepared, LosesOne, WantsInOne, FailsToWrite, write_fails, wants_memory, DeliversAll, FailsToDeliver, writing_fails, print_fails}
-use Rattle.command_line.specs.Performing.{IsPrepared, RejectsPreparing, Performs, YieldsOf, IsRejectedBy}
+use Rattle.relinking.specs.declared.measuring.MeasuredEnd.{MeasuredEnd}
+use Rattle.command_line.specs.Performing.{IsPrepared, RejectsPreparing, Performs, TellsEndOf, YieldsOf, IsRejectedBy}
 use Rattle.command_line.specs.Performing as performing
 use Rattle.command_line.specs.declared.delivery.Output.{Output}
 use Rattle.command_line.specs.declared.delivery.PreparedResult.{PreparedResult}
@@ -124,3 +125,16 @@ rejected_preparing command old new sink fault r c (inl prepared) =
     record { fault = fault; prepared = prepared; cause = performing.preparing_fails c refl }
 rejected_preparing command old new sink fault r c (inr prepared) =
     record { fault = command_fault.Memory; prepared = prepared; cause = performing.line_wants_memory fault c refl refl }
+
+-- what a command does from a shelf it does from an equal one
+pub performs_from : (command : PlainCommand) (mid old new : ShelfView) (sink sink' : SinkView)
+    → mid ≡ old → Performs command mid new sink sink' → Performs command old new sink sink'
+performs_from command mid old new sink sink' same it = subst (λ (s : ShelfView). Performs command s new sink sink') same it
+
+pub tells_from : (command : PlainCommand) (told : Option MeasuredEnd) (mid old : ShelfView)
+    → mid ≡ old → TellsEndOf command told mid → TellsEndOf command told old
+tells_from command told mid old same it = subst (TellsEndOf command told) same it
+
+pub rejected_from : (command : PlainCommand) (mid old new : ShelfView) (sink sink' : SinkView) (r : Diagnostic)
+    → mid ≡ old → IsRejectedBy command mid new sink sink' r → IsRejectedBy command old new sink sink' r
+rejected_from command mid old new sink sink' r same it = subst (λ (s : ShelfView). IsRejectedBy command s new sink sink' r) same it

@@ -1,21 +1,24 @@
 -- Names that a text lists, which are read behind those of the words.
-use Rattle.std.proofs.Common.{◌≡◌, inl, inr, ℕ, suc, List, [], ◌∷◌, ◌++◌, length, map, None, refl, sym, subst, ap, ◌∙◌, append-nil}
+use Rattle.std.proofs.Common.{◌≡◌, inl, inr, ℕ, suc, List, [], ◌∷◌, ◌++◌, length, map, None, Vec, refl, sym, subst, ap, ◌∙◌, append-nil}
+use Rattle.std.specs.Global.{Global}
 use Rattle.std.proofs.lemmas.List.{length-map}
 use Rattle.shelf_io.specs.Shelf.{ShelfView}
 use Rattle.command_language.specs.Command.{PlainCommand, mix_command, check_mix_command, Named, named, reads}
 use Rattle.command_language.specs.Lines.{plain_input, broken_at, mix_lines, TellsBroken}
-use Rattle.command_language.specs.declared.parts.MixInput.{MixInput}
 use Rattle.command_language.specs.declared.parts.MixFault.{MixFault}
 use Rattle.command_language.specs.declared.parts.MixFault.TheVariants as mix
 use Rattle.command_language.specs.FaultLine.{mix_command_fault}
 use Rattle.command_line.specs.Reading.{contents, HoldsAll, RejectsReads, one_fails, memory_wanting}
-use Rattle.command_line.specs.Listing.{listed_name, names_where, listed_names, written_names, third, further_reads, HoldsInputs, RejectsNames, name_fails, names_want_memory, RejectsListed, bad_line, reads_fail}
-use Rattle.command_line.specs.ListedTexts.{IsListed}
+use Rattle.command_line.specs.Listing.{listed_name, names_where, listed_names, written_names, third, further_reads, HoldsInputs, RejectsNames, name_fails, names_want_memory, RejectsLines, bad_line, lines_want_memory}
+use Rattle.command_line.specs.ListedTexts.{Lists}
 use Rattle.command_line.specs.Meaning.{RejectsInputs}
-use Rattle.command_line.specs.Performing.{IsPreparedFor, IsPreparedOf, RejectsPreparingOf, listed_fail, inputs_fail, IsPrepared, RejectsPreparing}
+use Rattle.command_line.specs.Performing.{IsPreparedFor, RejectsListedOf, list_fails, read_fails, list_wants_memory, list_is_broken, ReadsInputs, RejectsPreparing}
 use Rattle.command_line.specs.declared.delivery.PreparedResult.{PreparedResult}
 use Rattle.command_line.specs.declared.mix_inputs.ListedTexts.{ListedTexts}
 use Rattle.command_language.specs.declared.faults.CommandFault.{CommandFault}
+use Rattle.command_line.specs.InputTexts.{inputs_in, AreInputs}
+use Rattle.command_line.specs.declared.input_texts.InputTexts.{InputTexts}
+use Rattle.command_line.proofs.Readings.{contents_of_none}
 
 -- ---- names and texts in two parts
 
@@ -56,33 +59,30 @@ holds_inputs shelf command texts listed h m =
 
 -- ---- a command whose texts list nothing
 
-pub unlisted : (command : PlainCommand) (texts : List (List ℕ)) (shelf : ShelfView) (prepared : PreparedResult)
-    → further_reads command texts ≡ [] → IsPreparedFor command texts prepared → IsPreparedOf command texts shelf shelf prepared
-unlisted command texts shelf prepared none is =
-    record {
-      listed = [];
-      holds_listed = subst (λ (names : List Named). HoldsAll shelf names []) (sym none) tt;
-      same_shelf = refl;
-      prepared_of = subst (λ (ts : List (List ℕ)). IsPreparedFor command ts prepared) (sym (append-nil texts)) is;
-    }
+abbrev nothing_listed : (texts : List (List ℕ)) (listed : List (Vec ℕ Global)) → length listed ≡ 0 → texts ≡ texts ++ contents listed
+nothing_listed texts listed none = sym (append-nil texts) ∙ ap (λ more. texts ++ more) (contents_of_none listed none)
 
-pub unlisted_fails : (command : PlainCommand) (texts : List (List ℕ)) (shelf : ShelfView) (fault : CommandFault)
-    → further_reads command texts ≡ [] → RejectsInputs command texts fault → RejectsPreparingOf command texts shelf shelf fault
-unlisted_fails command texts shelf fault none rejects =
-    inputs_fail [] (subst (λ (names : List Named). HoldsAll shelf names []) (sym none) tt) refl
-    (subst (λ (ts : List (List ℕ)). RejectsInputs command ts fault) (sym (append-nil texts)) rejects)
+pub unlisted : (command : PlainCommand) (texts : List (List ℕ)) (listed : List (Vec ℕ Global)) (prepared : PreparedResult)
+    → length listed ≡ 0 → IsPreparedFor command texts prepared → IsPreparedFor command (texts ++ contents listed) prepared
+unlisted command texts listed prepared none is =
+    subst (λ (ts : List (List ℕ)). IsPreparedFor command ts prepared) (nothing_listed texts listed none) is
+
+pub unlisted_fails : (command : PlainCommand) (texts : List (List ℕ)) (listed : List (Vec ℕ Global)) (fault : CommandFault)
+    → length listed ≡ 0 → RejectsInputs command texts fault → RejectsInputs command (texts ++ contents listed) fault
+unlisted_fails command texts listed fault none rejects =
+    subst (λ (ts : List (List ℕ)). RejectsInputs command ts fault) (nothing_listed texts listed none) rejects
 
 -- ---- from the texts of the words to all that is read
 
-pub prepared_from : (command : PlainCommand) (texts : List (List ℕ)) (old mid new : ShelfView) (prepared : PreparedResult)
-    → HoldsAll old (reads command) texts → mid ≡ old → IsPreparedOf command texts mid new prepared → IsPrepared command prepared old new
-prepared_from command texts old mid new prepared h same is =
-    let here = subst (λ (s : ShelfView). IsPreparedOf command texts s new prepared) same is in
+pub inputs_read : (command : PlainCommand) (texts listed : List (List ℕ)) (old mid new : ShelfView) → HoldsAll old (reads command) texts → mid ≡ old
+    → HoldsAll mid (further_reads command texts) listed → new ≡ mid → ReadsInputs command texts listed old new
+inputs_read command texts listed old mid new h same held kept =
+    let m = subst (λ (s : ShelfView). HoldsAll s (further_reads command texts) listed) same held in
     record {
-      inputs = texts ++ here.listed;
-      holds = holds_inputs old command texts here.listed h here.holds_listed;
-      same = here.same_shelf;
-      prepared_for = here.prepared_of;
+      texts_size = sym (held_size old (reads command) texts h);
+      listed_size = sym (held_size old (further_reads command texts) listed m);
+      holds = holds_inputs old command texts listed h m;
+      same = kept ∙ same;
     }
 
 pub words_rejected : (command : PlainCommand) (old new : ShelfView) (fault : CommandFault) → RejectsReads (reads command) old new fault
@@ -97,46 +97,57 @@ listed_rejected command texts old new fault h (one_fails n is_read e logged) =
 listed_rejected command texts old new fault h (memory_wanting e same) = names_want_memory e same
 
 rejected_here : (command : PlainCommand) (texts : List (List ℕ)) (old new : ShelfView) (fault : CommandFault) → HoldsAll old (reads command) texts
-    → RejectsPreparingOf command texts old new fault → RejectsPreparing command old new fault
-rejected_here command texts old new fault h (listed_fail r) = inl (listed_rejected command texts old new fault h r)
-rejected_here command texts old new fault h (inputs_fail listed held same rejects) =
-    inr (record { inputs = texts ++ listed; holds = holds_inputs old command texts listed h held; same = same; rejects = rejects })
+    → RejectsListedOf command texts old new fault → RejectsPreparing command old new fault
+rejected_here command texts old new fault h (list_fails (list_wants_memory e) same) = inl (names_want_memory e same)
+rejected_here command texts old new fault h (list_fails (list_is_broken none rejects) same) =
+    let nothing = subst (λ (names : List Named). HoldsAll old names []) (sym none) tt in
+    inr (record {
+      inputs = texts ++ [];
+      holds = holds_inputs old command texts [] h nothing;
+      same = same;
+      rejects = subst (λ (ts : List (List ℕ)). RejectsInputs command ts fault) (sym (append-nil texts)) rejects;
+    })
+rejected_here command texts old new fault h (read_fails r) = inl (listed_rejected command texts old new fault h r)
 
-pub rejected_from : (command : PlainCommand) (texts : List (List ℕ)) (old mid new : ShelfView) (fault : CommandFault)
-    → HoldsAll old (reads command) texts → mid ≡ old → RejectsPreparingOf command texts mid new fault → RejectsPreparing command old new fault
-rejected_from command texts old mid new fault h same r =
-    rejected_here command texts old new fault h (subst (λ (s : ShelfView). RejectsPreparingOf command texts s new fault) same r)
+pub inputs_rejected : (command : PlainCommand) (texts : List (List ℕ)) (old mid new : ShelfView) (fault : CommandFault)
+    → HoldsAll old (reads command) texts → mid ≡ old → RejectsListedOf command texts mid new fault → RejectsPreparing command old new fault
+inputs_rejected command texts old mid new fault h same r =
+    rejected_here command texts old new fault h (subst (λ (s : ShelfView). RejectsListedOf command texts s new fault) same r)
 
 -- ---- a text that lists names
 
 pub listed_now : (written : List (List ℕ)) (text : List ℕ) → broken_at written text ≡ None → listed_names written text ≡ map listed_name (mix_lines text)
 listed_now written text none = ap (λ first. names_where first (mix_lines text)) none
 
-pub list_rejected : (written : List (List ℕ)) (text : List ℕ) (old new : ShelfView) (fault : MixFault) → TellsBroken (broken_at written text) fault
-    → new ≡ old → RejectsListed written text old new (mix_command_fault fault)
-list_rejected written text old new (mix.BadMix at) told same = bad_line at told refl same
-list_rejected written text old new mix.Memory told same = reads_fail (memory_wanting refl same)
+pub lines_rejected : (written : List (List ℕ)) (text : List ℕ) (fault : MixFault) → TellsBroken (broken_at written text) fault
+    → RejectsLines written text (mix_command_fault fault)
+lines_rejected written text (mix.BadMix at) told = bad_line at told refl
+lines_rejected written text mix.Memory told = lines_want_memory refl
 
-pub is_listed : (written : List (List ℕ)) (text : List ℕ) (old new : ShelfView) (listed : ListedTexts) → broken_at written text ≡ None
-    → map plain_input listed.lines.items ≡ mix_lines text
-    → HoldsAll old (map listed_name (map plain_input listed.lines.items)) (contents listed.texts.items) → new ≡ old
-    → IsListed written text old new listed
-is_listed written text old new listed none lines held same =
-    let names : map listed_name (map plain_input listed.lines.items) ≡ listed_names written text =
-    ap (map listed_name) lines ∙ sym (listed_now written text none) in
+pub lists_of : (written : List (List ℕ)) (text : List ℕ) (listed : ListedTexts) → broken_at written text ≡ None
+    → map plain_input listed.lines.items ≡ mix_lines text → length listed.texts.now ≡ length (listed_names written text) → Lists written text listed
+lists_of written text listed none lines size =
     record {
-      lists = record {
-        unbroken = none;
-        lines_are = lines;
-        one_each =
-            sym (length-map listed.texts.items (λ text. text.items)) ∙ sym (held_size old (map listed_name (map plain_input listed.lines.items)) (contents listed.texts.items) held)
-            ∙ length-map (map plain_input listed.lines.items) listed_name ∙ length-map listed.lines.items plain_input;
-      };
-      holds = subst (λ (ns : List Named). HoldsAll old ns (contents listed.texts.items)) names held;
-      same = same;
+      unbroken = none;
+      lines_are = lines;
+      one_each =
+          size ∙ ap (λ names. length names) (listed_now written text none) ∙ length-map (mix_lines text) listed_name
+          ∙ sym (ap (λ ls. length ls) lines) ∙ length-map listed.lines.items plain_input;
     }
 
-pub reads_rejected : (written : List (List ℕ)) (text : List ℕ) (lines : List MixInput) (old new : ShelfView) (fault : CommandFault) → broken_at written text ≡ None
-    → map plain_input lines ≡ mix_lines text → RejectsReads (map listed_name (map plain_input lines)) old new fault → RejectsListed written text old new fault
-reads_rejected written text lines old new fault none are r =
-    reads_fail (subst (λ (ns : List Named). RejectsReads ns old new fault) (ap (map listed_name) are ∙ sym (listed_now written text none)) r)
+-- ---- what was read, as it stands behind the reads
+
+pub inputs_stand : (command : PlainCommand) (inputs : InputTexts) (texts listed : List (Vec ℕ Global)) (old mid : ShelfView)
+    → inputs.texts.now ≡ texts → inputs.listed.now ≡ listed → ReadsInputs command (contents texts) (contents listed) old mid
+    → AreInputs command inputs mid
+inputs_stand command inputs texts listed old mid same_texts same_listed is =
+    let texts_are = sym same_texts in
+    let listed_are = sym same_listed in
+    record {
+      texts_size = ap (λ ts. length ts) same_texts ∙ sym (length-map texts (λ t. t.items)) ∙ is.texts_size;
+      listed_size =
+          ap (λ ts. length ts) same_listed ∙ sym (length-map listed (λ t. t.items)) ∙ is.listed_size
+          ∙ ap (λ ts. length (further_reads command (contents ts))) (sym same_texts);
+      holds = subst (λ (s : ShelfView). HoldsInputs s command (inputs_in inputs)) (sym is.same)
+          (subst (HoldsInputs old command) (λ i. contents (texts_are i) ++ contents (listed_are i)) is.holds);
+    }

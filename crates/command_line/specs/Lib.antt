@@ -15,6 +15,7 @@ pub mod RelinkFile
 pub mod MixFile
 pub mod Measured
 pub mod Meaning
+pub mod InputTexts
 pub mod Performing
 pub mod ListedTexts
 pub mod Answers

@@ -59,8 +59,7 @@ pub data RejectsNames (command : PlainCommand) (old new : ShelfView) (fault : Co
       → RejectsNames command old new fault
   names_want_memory : fault ≡ command_fault.Memory → new ≡ old → RejectsNames command old new fault
 
--- reading what a text lists was rejected: by a line that breaks a rule, or by the read of a name
-pub data RejectsListed (written : List (List ℕ)) (text : List ℕ) (old new : ShelfView) (fault : CommandFault) : Type 0 where
-  bad_line : (at : ℕ) → broken_at written text ≡ Some at → fault ≡ command_fault.BadMix at → new ≡ old
-      → RejectsListed written text old new fault
-  reads_fail : RejectsReads (listed_names written text) old new fault → RejectsListed written text old new fault
+-- the lines of a text were rejected: by one that breaks a rule, or for want of memory
+pub data RejectsLines (written : List (List ℕ)) (text : List ℕ) (fault : CommandFault) : Type 0 where
+  bad_line : (at : ℕ) → broken_at written text ≡ Some at → fault ≡ command_fault.BadMix at → RejectsLines written text fault
+  lines_want_memory : fault ≡ command_fault.Memory → RejectsLines written text fault

@@ -1,10 +1,10 @@
 -- How a command goes, from its names to its result.
-use Rattle.std.specs.Prelude.{◌≡◌, ◌⊎◌, ℕ, List, ◌++◌, Option}
+use Rattle.std.specs.Prelude.{◌≡◌, ◌⊎◌, ℕ, List, [], ◌++◌, length, Option}
 use Rattle.shelf_io.specs.Shelf.{ShelfView}
 use Rattle.relinking.specs.declared.measuring.MeasuredEnd.{MeasuredEnd}
 use Rattle.shelf_io.specs.Sink.{SinkView, PutAll, PutSome}
-use Rattle.command_language.specs.Command.{PlainCommand, writes}
-use Rattle.command_line.specs.Reading.{HoldsAll, RejectsReads}
+use Rattle.command_language.specs.Command.{PlainCommand, reads, writes}
+use Rattle.command_line.specs.Reading.{RejectsReads}
 use Rattle.command_line.specs.Listing.{further_reads, HoldsInputs, RejectsNames}
 use Rattle.command_line.specs.Meaning.{Yields, RejectsInputs}
 use Rattle.command_line.specs.Measured.{TellsEnd}
@@ -23,19 +23,6 @@ pub record IsPreparedFor (command : PlainCommand) (inputs : List (List ℕ)) (pr
   pub print_fault : IsDiagnosticOf (command_fault.Write 0) prepared.print_fault
   pub measured : TellsEnd command inputs prepared.measured
 
--- The result of a command stands ready, by the texts of its words and those that these list, which were read behind them.
-pub record IsPreparedOf (command : PlainCommand) (texts : List (List ℕ)) (old new : ShelfView) (prepared : PreparedResult) : Type 0 where
-  pub listed : List (List ℕ)
-  pub holds_listed : HoldsAll old (further_reads command texts) listed
-  pub same_shelf : new ≡ old
-  pub prepared_of : IsPreparedFor command (texts ++ listed) prepared
-
--- it can't be made: a read of what the texts list fails, or what was read is rejected
-pub data RejectsPreparingOf (command : PlainCommand) (texts : List (List ℕ)) (old new : ShelfView) (fault : CommandFault) : Type 0 where
-  listed_fail : RejectsReads (further_reads command texts) old new fault → RejectsPreparingOf command texts old new fault
-  inputs_fail : (listed : List (List ℕ)) → HoldsAll old (further_reads command texts) listed → new ≡ old
-      → RejectsInputs command (texts ++ listed) fault → RejectsPreparingOf command texts old new fault
-
 -- the result stands ready, and the shelf is as before
 pub record IsPrepared (command : PlainCommand) (prepared : PreparedResult) (old new : ShelfView) : Type 0 where
   pub inputs : List (List ℕ)
@@ -49,6 +36,23 @@ pub record InputsFail (command : PlainCommand) (old new : ShelfView) (fault : Co
   pub holds : HoldsInputs old command inputs
   pub same : new ≡ old
   pub rejects : RejectsInputs command inputs fault
+
+-- the list of further names was rejected: for want of memory, or by a line that breaks a rule, where no name is listed
+pub data RejectsList (command : PlainCommand) (texts : List (List ℕ)) (fault : CommandFault) : Type 0 where
+  list_wants_memory : fault ≡ command_fault.Memory → RejectsList command texts fault
+  list_is_broken : further_reads command texts ≡ [] → RejectsInputs command texts fault → RejectsList command texts fault
+
+-- so was reading what is listed: by the list, or by the read of a name
+pub data RejectsListedOf (command : PlainCommand) (texts : List (List ℕ)) (old new : ShelfView) (fault : CommandFault) : Type 0 where
+  list_fails : RejectsList command texts fault → new ≡ old → RejectsListedOf command texts old new fault
+  read_fails : RejectsReads (further_reads command texts) old new fault → RejectsListedOf command texts old new fault
+
+-- all that the command reads was read, as the shelf holds it
+pub record ReadsInputs (command : PlainCommand) (texts listed : List (List ℕ)) (old new : ShelfView) : Type 0 where
+  pub texts_size : length texts ≡ length (reads command)
+  pub listed_size : length listed ≡ length (further_reads command texts)
+  pub holds : HoldsInputs old command (texts ++ listed)
+  pub same : new ≡ old
 
 -- the result can't be made
 abbrev pub RejectsPreparing : PlainCommand → ShelfView → ShelfView → CommandFault → Type 0

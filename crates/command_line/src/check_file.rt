@@ -1,9 +1,6 @@
 ghost use Rattle.std.specs.Prelude.{ℤ, pos, ◌≤ℤ◌, IfOk, IfErr, string_bytes};
-ghost use Rattle.placement_programme.specs.Plain.{PlainChoice};
-ghost use Rattle.placement_programme.specs.Programme.{IsFeasible, gain};
-ghost use Rattle.placement_programme.specs.Views.{plain_programme};
-ghost use Rattle.command_line.specs.Measured.{MeasuresTo};
-ghost use Rattle.command_line.specs.CheckFile.{ChecksTo, RejectsChecked, ReportsText, RejectsText};
+ghost use Rattle.placement_programme.specs.{Plain.{PlainChoice}, Programme.{IsFeasible, gain}, Views.{plain_programme}};
+ghost use Rattle.command_line.specs.{Measured.{MeasuresTo}, CheckFile.{ChecksTo, RejectsChecked, ReportsText, RejectsText}};
 
 use crate::accepting::accepted_choice;
 use crate::measured_text::MeasuredText;

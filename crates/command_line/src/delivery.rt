@@ -1,7 +1,6 @@
 ghost use Rattle.std.specs.Prelude.{◌≡◌, ◌∷◌, [], OnOk, IfOk, IfErr};
 ghost use Rattle.command_language.specs.Command.{named};
-ghost use Rattle.command_line.specs.Diagnostic.{IsDiagnosticOf};
-ghost use Rattle.command_line.specs.Delivery.{ArePrepared, SetsPrepared, FailsToWrite, FailsOnce, DeliversAll, FailsToDeliver};
+ghost use Rattle.command_line.specs.{Diagnostic.{IsDiagnosticOf}, Delivery.{ArePrepared, SetsPrepared, FailsToWrite, FailsOnce, DeliversAll, FailsToDeliver}};
 ghost use Rattle.command_language.specs.declared.faults.CommandFault.TheVariants as command_fault;
 ghost use Rattle.shelf_io.specs.Shelf.{SetsName};
 
@@ -55,8 +54,7 @@ pub struct PreparedResult<'a> {
 impl<'a> PreparedResult<'a> {
     ghost use Rattle.std.specs.Prelude.{◌≡◌, ◌∷◌, [], IfOk};
     ghost use Rattle.command_language.specs.Command.{named};
-    ghost use Rattle.command_line.specs.Delivery.{ArePrepared};
-    ghost use Rattle.command_line.specs.Diagnostic.{IsDiagnosticOf};
+    ghost use Rattle.command_line.specs.{Delivery.{ArePrepared}, Diagnostic.{IsDiagnosticOf}};
     ghost use Rattle.command_language.specs.declared.faults.CommandFault.TheVariants as command_fault;
 
     /// A result that is only printed.

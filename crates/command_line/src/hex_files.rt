@@ -1,9 +1,6 @@
 ghost use Rattle.std.specs.Prelude.{◌≡◌, IfOk, OnOk, IfErr, string_bytes, length, Some, None};
-ghost use Rattle.elf_reader.specs.File.{segments_of, entry_of, load_segments};
-ghost use Rattle.elf_reader.specs.Loadable.{AreLoadable, AreDisjoint};
-ghost use Rattle.hex_image.specs.Runs.{file_map};
-ghost use Rattle.hex_image.specs.Reading.{Spells};
-ghost use Rattle.hex_image.specs.Text.{hex_text, hex_records};
+ghost use Rattle.elf_reader.specs.{File.{segments_of, entry_of, load_segments}, Loadable.{AreLoadable, AreDisjoint}};
+ghost use Rattle.hex_image.specs.{Runs.{file_map}, Reading.{Spells}, Text.{hex_text, hex_records}};
 ghost use Rattle.command_line.specs.Meaning.{hex_of, record_count_of, records_text, file_command_fault, texts_command_fault, RejectsFile, RejectsTexts};
 
 use command_language::CommandFault;

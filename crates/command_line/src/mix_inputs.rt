@@ -1,16 +1,10 @@
 ghost use Rattle.std.specs.Prelude.{◌≡◌, IfOk, IfErr, length, map};
-ghost use Rattle.command_language.specs.Command.{plain_named};
-ghost use Rattle.command_language.specs.Lines.{plain_input, names_of};
+ghost use Rattle.command_language.specs.{Command.{plain_command, plain_named, reads}, Lines.{plain_input, names_of}};
 ghost use Rattle.relinking.specs.MixOfRuns as together;
-ghost use Rattle.command_line.specs.Reading.{contents, HoldsAll, RejectsReads};
-ghost use Rattle.command_line.specs.Listing.{listed_name, RejectsListed};
-ghost use Rattle.command_line.specs.ListedTexts.{IsListed};
-ghost use Rattle.command_line.specs.MixFile.{inputs_of};
+ghost use Rattle.command_line.specs.{Reading.{contents}, Listing.{listed_name, listed_names, further_reads, RejectsLines}, Performing.{RejectsList}, MixFile.{inputs_of}};
 
-use crate::reading::read_all;
-use command_language::{CommandFault, MixInput, NamedWord, read_mix};
+use command_language::{Command, CommandFault, MixInput, NamedWord, read_mix};
 use relinking::WeightedBytes;
-use shelf_io::Shelf;
 use std::alloc::{AllocError, Global};
 
 /// What a mix lists, and what stands under its names.
@@ -18,45 +12,46 @@ use std::alloc::{AllocError, Global};
 pub struct ListedTexts<'a> {
     pub lines: Vec<MixInput<'a>>,
     /// One for each line.
-    pub texts: Vec<Vec<u8>>,
+    pub texts: &'a [Vec<u8>],
 }
 
-/// Reads what a mix lists, a name once per line, in order.
+/// The names that the MIX of a command lists, by the texts of its words; none where it has no MIX.
 ///
-/// The error is the first line that breaks a rule, before any read, or the first read that failed. `Memory` comes only
-/// where no memory was left.
-pub fn read_listed<'a, S: Shelf>(
+/// The error is the first line that breaks a rule. `Memory` comes only where no memory was left.
+pub fn listed_names<'a>(
     alloc: Global,
-    mix: &'a [u8],
-    written: &[&str],
-    shelf: &mut S,
-) -> Result<ListedTexts<'a>, CommandFault>
-    ensures ok { IfOk result (λ listed. IsListed (names_of written.now) mix.now (S.view shelf.old) (S.view shelf.new) listed) }
-    ensures err { IfErr result (RejectsListed (names_of written.now) mix.now (S.view shelf.old) (S.view shelf.new)) }
+    command: &Command<'_>,
+    texts: &'a [Vec<u8>],
+) -> Result<Vec<NamedWord<'a>>, CommandFault>
+    requires { length texts.now ≡ length (reads (plain_command command.now)) }
+    ensures ok { IfOk result (λ names. map plain_named names.items ≡ further_reads (plain_command command.now) (contents texts.now)) }
+    ensures err { IfErr result (RejectsList (plain_command command.now) (contents texts.now)) }
 {
-    match read_mix(alloc, mix, written) {
-        Ok(lines) => match read_lines(alloc, &lines, shelf) {
-            Ok(texts) => Ok(ListedTexts { lines, texts }),
+    match *command {
+        Command::Mix { out, cert, .. } => match names_in(alloc, &texts[2], &[cert, out]) {
+            Ok(names) => Ok(names),
             Err(fault) => Err(fault),
         },
-        Err(fault) => Err(CommandFault::from(fault)),
+        Command::CheckMix { .. } => match names_in(alloc, &texts[2], &[]) {
+            Ok(names) => Ok(names),
+            Err(fault) => Err(fault),
+        },
+        _ => Ok(Vec::new(alloc)),
     }
 }
 
-/// Reads what stands under the names of some lines.
-fn read_lines<S: Shelf>(
+/// The names that a text lists, where none of these is written.
+fn names_in<'a>(
     alloc: Global,
-    lines: &[MixInput<'_>],
-    shelf: &mut S,
-) -> Result<Vec<Vec<u8>>, CommandFault>
-    ensures ok { IfOk result (λ texts. HoldsAll (S.view shelf.old) (map listed_name (map plain_input lines.now)) (contents texts.items)
-        × (S.view shelf.new ≡ S.view shelf.old)) }
-    ensures err { IfErr result (RejectsReads (map listed_name (map plain_input lines.now)) (S.view shelf.old) (S.view shelf.new)) }
+    mix: &'a [u8],
+    written: &[&str],
+) -> Result<Vec<NamedWord<'a>>, CommandFault>
+    ensures ok { IfOk result (λ names. map plain_named names.items ≡ listed_names (names_of written.now) mix.now) }
+    ensures err { IfErr result (RejectsLines (names_of written.now) mix.now) }
 {
-    let names = names_of_lines(alloc, lines)?;
-    match read_all(alloc, &names, shelf) {
-        Ok(texts) => Ok(texts),
-        Err(fault) => Err(fault),
+    match read_mix(alloc, mix, written) {
+        Ok(lines) => Ok(names_of_lines(alloc, &lines)?),
+        Err(fault) => Err(CommandFault::from(fault)),
     }
 }
 

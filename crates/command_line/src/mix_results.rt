@@ -1,43 +1,43 @@
 ghost use Rattle.std.specs.Prelude.{◌≡◌, ◌++◌, ◌∷◌, [], ℕ, List, IfOk, IfErr, length};
 ghost use Rattle.command_language.specs.Command.{mix_command, check_mix_command};
-ghost use Rattle.command_line.specs.Reading.{contents};
-ghost use Rattle.command_line.specs.Listing.{third};
-ghost use Rattle.command_line.specs.ListedTexts.{Lists};
-ghost use Rattle.command_line.specs.Meaning.{RejectsInputs};
-ghost use Rattle.command_line.specs.Performing.{IsPreparedFor, IsPreparedOf, RejectsPreparingOf};
+ghost use Rattle.command_line.specs.{Reading.{contents}, Listing.{listed_names, third}, ListedTexts.{Lists}, Meaning.{RejectsInputs}, InputTexts.{inputs_in}, Performing.{IsPreparedFor}};
 
 use crate::check_mix_file::check_mix_file;
 use crate::delivery::{Output, PreparedResult};
+use crate::input_texts::InputTexts;
 use crate::mix_file::mix_file;
-use crate::mix_inputs::{ListedTexts, read_listed, weighted_texts};
-use command_language::CommandFault;
-use shelf_io::Shelf;
+use crate::mix_inputs::{ListedTexts, weighted_texts};
+use command_language::{CommandFault, read_mix};
 use std::alloc::Global;
 
-/// Reads what a mix lists, and makes the result of relinking for it.
-pub fn prepare_mix<'a, S: Shelf>(
+/// Makes the result of relinking for what a mix lists.
+pub fn prepare_mix<'a>(
     alloc: Global,
     out: &'a str,
     cert: &'a str,
-    texts: &[Vec<u8>],
-    shelf: &mut S,
+    inputs: &InputTexts<'_>,
 ) -> Result<PreparedResult<'a>, CommandFault>
-    requires { length texts.now ≡ 3 }
+    requires texts { length inputs.now.texts.now ≡ 3 }
+    requires listed { length inputs.now.listed.now ≡ length (listed_names (cert.now ∷ out.now ∷ []) (third (contents inputs.now.texts.now))) }
     ensures ok { IfOk result (λ prepared. (f b m : List ℕ)
-        → IsPreparedOf (mix_command f b m out.now cert.now) (contents texts.now) (S.view shelf.old) (S.view shelf.new) prepared) }
+        → IsPreparedFor (mix_command f b m out.now cert.now) (inputs_in inputs.now) prepared) }
     ensures err { IfErr result (λ fault. (f b m : List ℕ)
-        → RejectsPreparingOf (mix_command f b m out.now cert.now) (contents texts.now) (S.view shelf.old) (S.view shelf.new) fault) }
+        → RejectsInputs (mix_command f b m out.now cert.now) (inputs_in inputs.now) fault) }
 {
-    match read_listed(alloc, &texts[2], &[cert, out], shelf) {
-        Ok(listed) => match mixed_result(alloc, out, cert, texts, &listed) {
-            Ok(prepared) => Ok(prepared),
-            Err(fault) => Err(fault),
-        },
-        Err(fault) => Err(fault),
+    match read_mix(alloc, &inputs.texts[2], &[cert, out]) {
+        Ok(lines) => {
+            let texts = inputs.listed;
+            let listed = ListedTexts { lines, texts };
+            match mixed_result(alloc, out, cert, inputs.texts, &listed) {
+                Ok(prepared) => Ok(prepared),
+                Err(fault) => Err(fault),
+            }
+        }
+        Err(fault) => Err(CommandFault::from(fault)),
     }
 }
 
-/// The result of relinking for what a mix lists.
+/// Makes it of the lines of the mix.
 fn mixed_result<'a>(
     alloc: Global,
     out: &'a str,
@@ -48,11 +48,11 @@ fn mixed_result<'a>(
     requires texts { length texts.now ≡ 3 }
     requires listed { Lists (cert.now ∷ out.now ∷ []) (third (contents texts.now)) listed.now }
     ensures ok { IfOk result (λ prepared. (f b m : List ℕ)
-        → IsPreparedFor (mix_command f b m out.now cert.now) (contents texts.now ++ contents listed.now.texts.items) prepared) }
+        → IsPreparedFor (mix_command f b m out.now cert.now) (contents texts.now ++ contents listed.now.texts.now) prepared) }
     ensures err { IfErr result (λ fault. (f b m : List ℕ)
-        → RejectsInputs (mix_command f b m out.now cert.now) (contents texts.now ++ contents listed.now.texts.items) fault) }
+        → RejectsInputs (mix_command f b m out.now cert.now) (contents texts.now ++ contents listed.now.texts.now) fault) }
 {
-    let inputs = weighted_texts(alloc, &listed.lines, &listed.texts)?;
+    let inputs = weighted_texts(alloc, &listed.lines, listed.texts)?;
     match mix_file(alloc, &texts[0], &texts[1], &inputs) {
         Ok(mixed) => {
             let first = Output::new(alloc, 5, cert, mixed.certificate)?;
@@ -63,28 +63,32 @@ fn mixed_result<'a>(
     }
 }
 
-/// Reads what a mix lists, and makes the report on a certificate for it.
-pub fn prepare_check_mix<'a, S: Shelf>(
+/// Makes the report on a certificate for what a mix lists.
+pub fn prepare_check_mix<'a>(
     alloc: Global,
-    texts: &[Vec<u8>],
-    shelf: &mut S,
+    inputs: &InputTexts<'_>,
 ) -> Result<PreparedResult<'a>, CommandFault>
-    requires { length texts.now ≡ 4 }
+    requires texts { length inputs.now.texts.now ≡ 4 }
+    requires listed { length inputs.now.listed.now ≡ length (listed_names [] (third (contents inputs.now.texts.now))) }
     ensures ok { IfOk result (λ prepared. (f b m c : List ℕ)
-        → IsPreparedOf (check_mix_command f b m c) (contents texts.now) (S.view shelf.old) (S.view shelf.new) prepared) }
+        → IsPreparedFor (check_mix_command f b m c) (inputs_in inputs.now) prepared) }
     ensures err { IfErr result (λ fault. (f b m c : List ℕ)
-        → RejectsPreparingOf (check_mix_command f b m c) (contents texts.now) (S.view shelf.old) (S.view shelf.new) fault) }
+        → RejectsInputs (check_mix_command f b m c) (inputs_in inputs.now) fault) }
 {
-    match read_listed(alloc, &texts[2], &[], shelf) {
-        Ok(listed) => match checked_result(alloc, texts, &listed) {
-            Ok(prepared) => Ok(prepared),
-            Err(fault) => Err(fault),
-        },
-        Err(fault) => Err(fault),
+    match read_mix(alloc, &inputs.texts[2], &[]) {
+        Ok(lines) => {
+            let texts = inputs.listed;
+            let listed = ListedTexts { lines, texts };
+            match checked_result(alloc, inputs.texts, &listed) {
+                Ok(prepared) => Ok(prepared),
+                Err(fault) => Err(fault),
+            }
+        }
+        Err(fault) => Err(CommandFault::from(fault)),
     }
 }
 
-/// The report on a certificate for what a mix lists.
+/// Makes it of the lines of the mix.
 fn checked_result<'a>(
     alloc: Global,
     texts: &[Vec<u8>],
@@ -93,11 +97,11 @@ fn checked_result<'a>(
     requires texts { length texts.now ≡ 4 }
     requires listed { Lists [] (third (contents texts.now)) listed.now }
     ensures ok { IfOk result (λ prepared. (f b m c : List ℕ)
-        → IsPreparedFor (check_mix_command f b m c) (contents texts.now ++ contents listed.now.texts.items) prepared) }
+        → IsPreparedFor (check_mix_command f b m c) (contents texts.now ++ contents listed.now.texts.now) prepared) }
     ensures err { IfErr result (λ fault. (f b m c : List ℕ)
-        → RejectsInputs (check_mix_command f b m c) (contents texts.now ++ contents listed.now.texts.items) fault) }
+        → RejectsInputs (check_mix_command f b m c) (contents texts.now ++ contents listed.now.texts.now) fault) }
 {
-    let inputs = weighted_texts(alloc, &listed.lines, &listed.texts)?;
+    let inputs = weighted_texts(alloc, &listed.lines, listed.texts)?;
     match check_mix_file(alloc, &texts[0], &texts[1], &inputs, &texts[3]) {
         Ok(report) => Ok(PreparedResult::printed(alloc, report.into_bytes(), None)?),
         Err(fault) => Err(fault),

@@ -1,16 +1,12 @@
 ghost use Rattle.std.specs.Prelude.{◌≡◌, ℕ, ◌<◌, ◌^◌, ◌≤◌, ◌==◌, ◌&&◌, not, List, length, IfOk, IfErr, string_bytes};
-ghost use Rattle.elf_reader.specs.File.{segments_of};
-ghost use Rattle.elf_reader.specs.Loadable.{AreLoadable};
+ghost use Rattle.elf_reader.specs.{File.{segments_of}, Loadable.{AreLoadable}};
 ghost use Rattle.board_config.specs.Board.{IsLawful, mapped_ranges};
 ghost use Rattle.flat_machine.specs.Start.{start_of};
-ghost use Rattle.placement_programme.specs.Programme.{IsFeasible};
-ghost use Rattle.placement_programme.specs.Views.{plain_programme, plain_choice};
+ghost use Rattle.placement_programme.specs.{Programme.{IsFeasible}, Views.{plain_programme, plain_choice}};
 ghost use Rattle.printed_lines.specs.Endings.{IsAddressFault};
 ghost use Rattle.relink_core.specs.Choices.{IsAnalysisOf};
 ghost use Rattle.paid_energy.specs.Laws as walked;
-ghost use Rattle.command_line.specs.Analysed.{IsOpened};
-ghost use Rattle.command_line.specs.Measured.{MeasuresTo};
-ghost use Rattle.command_line.specs.PaidFile.{PaysTo, RejectsPaid, CountsFor, WhereExited, RunsMade, TellsRun, MakesLines, RejectsMade, modelled_text, paid_text};
+ghost use Rattle.command_line.specs.{Analysed.{IsOpened}, Measured.{MeasuresTo}, PaidFile.{PaysTo, RejectsPaid, CountsFor, WhereExited, RunsMade, TellsRun, MakesLines, RejectsMade, modelled_text, paid_text}};
 
 use crate::accepting::accepted_choice;
 use crate::measured_text::MeasuredText;

@@ -1,42 +1,26 @@
 ghost use Rattle.std.specs.Prelude.{OnOk, IfOk, IfErr};
 ghost use Rattle.command_language.specs.Command.{HasNumbers, plain_command};
-ghost use Rattle.command_line.specs.Performing.{IsPrepared, RejectsPreparing, Performs, TellsEndOf, IsRejectedBy};
+ghost use Rattle.command_line.specs.{Diagnostic.{IsDiagnosticOrMemory}, InputTexts.{AreInputs}, Performing.{Performs, TellsEndOf, IsRejectedBy}};
 
-use crate::delivery::{PreparedResult, deliver};
+use crate::delivery::deliver;
 use crate::diagnostic::Diagnostic;
-use crate::reading::read_all;
+use crate::input_texts::InputTexts;
+use crate::observing::Observer;
+use crate::reading::read_inputs;
 use crate::results::prepare_result;
 use command_language::{Command, CommandFault};
 use relinking::MeasuredEnd;
 use shelf_io::{Shelf, Sink};
 use std::alloc::Global;
 
-/// Reads what a command names, and makes its result.
-fn prepare<'a, S: Shelf>(
-    alloc: Global,
-    command: &Command<'a>,
-    shelf: &mut S,
-) -> Result<PreparedResult<'a>, CommandFault>
-    requires { HasNumbers (plain_command command.now) }
-    ensures ok { IfOk result (λ prepared. IsPrepared (plain_command command.now) prepared (S.view shelf.old) (S.view shelf.new)) }
-    ensures err { IfErr result (RejectsPreparing (plain_command command.now) (S.view shelf.old) (S.view shelf.new)) }
-{
-    let names = command.reads(alloc)?;
-    match read_all(alloc, &names, shelf) {
-        Ok(texts) => match prepare_result(alloc, command, &texts, shelf) {
-            Ok(prepared) => Ok(prepared),
-            Err(fault) => Err(fault),
-        },
-        Err(fault) => Err(fault),
-    }
-}
-
-/// Does what a command asks for, and tells how the run ended that it measured, if it measured one.
-pub fn perform_command<S: Shelf, K: Sink>(
+/// Does what a command asks for, and tells how the run ended that it measured, if it measured one. The observer is shown
+/// what it read and made, before any of it is written.
+pub fn perform_command<S: Shelf, K: Sink, O: Observer>(
     alloc: Global,
     command: &Command<'_>,
     shelf: &mut S,
     out: &mut K,
+    observer: &mut O,
 ) -> Result<Option<MeasuredEnd>, Diagnostic>
     requires { HasNumbers (plain_command command.now) }
     ensures ok { OnOk result (Performs (plain_command command.now)
@@ -47,14 +31,63 @@ pub fn perform_command<S: Shelf, K: Sink>(
         (S.view shelf.old) (S.view shelf.new)
         (K.view out.old) (K.view out.new)) }
 {
-    match prepare(alloc, command, shelf) {
+    let mut texts = Vec::new(alloc);
+    let mut listed = Vec::new(alloc);
+    let read = read_inputs(alloc, command, &mut texts, &mut listed, shelf);
+    let inputs = InputTexts {
+        texts: &texts,
+        listed: &listed,
+    };
+    match read {
+        Ok(()) => match perform_read(alloc, command, &inputs, shelf, out, observer) {
+            Ok(measured) => Ok(measured),
+            Err(diagnostic) => Err(diagnostic),
+        },
+        Err(fault) => Err(reject(alloc, &inputs, &fault, observer)),
+    }
+}
+
+/// Does it with the texts under the names that it reads.
+fn perform_read<S: Shelf, K: Sink, O: Observer>(
+    alloc: Global,
+    command: &Command<'_>,
+    inputs: &InputTexts<'_>,
+    shelf: &mut S,
+    out: &mut K,
+    observer: &mut O,
+) -> Result<Option<MeasuredEnd>, Diagnostic>
+    requires numbers { HasNumbers (plain_command command.now) }
+    requires inputs { AreInputs (plain_command command.now) inputs.now (S.view shelf.old) }
+    ensures ok { OnOk result (Performs (plain_command command.now)
+        (S.view shelf.old) (S.view shelf.new)
+        (K.view out.old) (K.view out.new)) }
+    ensures end { IfOk result (λ measured. TellsEndOf (plain_command command.now) measured (S.view shelf.old)) }
+    ensures err { IfErr result (IsRejectedBy (plain_command command.now)
+        (S.view shelf.old) (S.view shelf.new)
+        (K.view out.old) (K.view out.new)) }
+{
+    match prepare_result(alloc, command, inputs) {
         Ok(prepared) => {
+            observer.observe(inputs, Ok(&prepared));
             let measured = prepared.measured;
             match deliver(prepared, shelf, out) {
                 Ok(()) => Ok(measured),
                 Err(diagnostic) => Err(diagnostic),
             }
         }
-        Err(fault) => Err(Diagnostic::new(alloc, &fault)),
+        Err(fault) => Err(reject(alloc, inputs, &fault, observer)),
     }
+}
+
+/// Shows a fault to the observer, and makes its line.
+fn reject<O: Observer>(
+    alloc: Global,
+    inputs: &InputTexts<'_>,
+    fault: &CommandFault,
+    observer: &mut O,
+) -> Diagnostic
+    ensures { IsDiagnosticOrMemory fault.now result }
+{
+    observer.observe(inputs, Err(fault));
+    Diagnostic::new(alloc, fault)
 }

@@ -1,7 +1,5 @@
 ghost use Rattle.std.specs.Prelude.{IfOk, IfErr};
-ghost use Rattle.command_line.specs.ProgramRun.{RejectsProfiled};
-ghost use Rattle.command_line.specs.ProfileFile.{ProfilesTo};
-ghost use Rattle.command_line.specs.Measured.{MeasuresTo};
+ghost use Rattle.command_line.specs.{ProgramRun.{RejectsProfiled}, ProfileFile.{ProfilesTo}, Measured.{MeasuresTo}};
 
 use crate::measured_text::MeasuredText;
 use crate::opening::open;

@@ -1,7 +1,5 @@
 ghost use Rattle.std.specs.Prelude.{IfOk, IfErr};
-ghost use Rattle.command_line.specs.ProgramRun.{RejectsProfiled};
-ghost use Rattle.command_line.specs.RelinkFile.{RelinksTo};
-ghost use Rattle.command_line.specs.Measured.{MeasuresTo};
+ghost use Rattle.command_line.specs.{ProgramRun.{RejectsProfiled}, RelinkFile.{RelinksTo}, Measured.{MeasuresTo}};
 
 use crate::opening::open;
 use command_language::CommandFault;

@@ -1,13 +1,12 @@
 ghost use Rattle.std.specs.Prelude.{◌≡◌, [], ◌≤◌, ℕ, List, IfOk, IfErr, length, string_bytes, ◌∷◌};
 ghost use Rattle.command_language.specs.Command.{HasNumbers, plain_command, reads, run_command, relink_command, profile_command, compare_command, check_command, gen_command, hex_command, hex_check_command, show_command, paid_command, trace_command};
-ghost use Rattle.command_line.specs.Reading.{contents};
-ghost use Rattle.command_line.specs.Meaning.{RejectsInputs, kernels_text};
-ghost use Rattle.command_line.specs.Performing.{IsPreparedFor, IsPreparedOf, RejectsPreparingOf};
+ghost use Rattle.command_line.specs.{Reading.{contents}, Meaning.{RejectsInputs, kernels_text}, Listing.{further_reads}, InputTexts.{inputs_in}, Performing.{IsPreparedFor}};
 
 use crate::check_file::check_file;
 use crate::compare_files::compare_files;
 use crate::delivery::{Output, PreparedResult};
 use crate::hex_files::{check_hex, hex_file};
+use crate::input_texts::InputTexts;
 use crate::mix_results::{prepare_check_mix, prepare_mix};
 use crate::paid_file::paid_file;
 use crate::profile_file::profile_file;
@@ -16,22 +15,22 @@ use crate::run_file::run_file;
 use crate::show_file::show_file;
 use crate::trace_file::trace_file;
 use command_language::{Command, CommandFault};
-use shelf_io::Shelf;
 use std::alloc::{AllocError, Global};
 use workload_gen::workload;
 
-/// Makes the result of a command of the texts of its words, one for each name, and of what these list, which is read here.
-pub fn prepare_result<'a, S: Shelf>(
+/// Makes the result of a command of the texts under the names that it reads.
+pub fn prepare_result<'a>(
     alloc: Global,
     command: &Command<'a>,
-    texts: &[Vec<u8>],
-    shelf: &mut S,
+    inputs: &InputTexts<'_>,
 ) -> Result<PreparedResult<'a>, CommandFault>
     requires numbers { HasNumbers (plain_command command.now) }
-    requires texts { length texts.now ≡ length (reads (plain_command command.now)) }
-    ensures ok { IfOk result (IsPreparedOf (plain_command command.now) (contents texts.now) (S.view shelf.old) (S.view shelf.new)) }
-    ensures err { IfErr result (RejectsPreparingOf (plain_command command.now) (contents texts.now) (S.view shelf.old) (S.view shelf.new)) }
+    requires texts { length inputs.now.texts.now ≡ length (reads (plain_command command.now)) }
+    requires listed { length inputs.now.listed.now ≡ length (further_reads (plain_command command.now) (contents inputs.now.texts.now)) }
+    ensures ok { IfOk result (IsPreparedFor (plain_command command.now) (inputs_in inputs.now)) }
+    ensures err { IfErr result (RejectsInputs (plain_command command.now) (inputs_in inputs.now)) }
 {
+    let texts = inputs.texts;
     match *command {
         Command::Run { out, .. } => match prepare_run(alloc, out, texts) {
             Ok(prepared) => Ok(prepared),
@@ -61,11 +60,11 @@ pub fn prepare_result<'a, S: Shelf>(
             Ok(prepared) => Ok(prepared),
             Err(fault) => Err(fault),
         },
-        Command::Mix { out, cert, .. } => match prepare_mix(alloc, out, cert, texts, shelf) {
+        Command::Mix { out, cert, .. } => match prepare_mix(alloc, out, cert, inputs) {
             Ok(prepared) => Ok(prepared),
             Err(fault) => Err(fault),
         },
-        Command::CheckMix { .. } => match prepare_check_mix(alloc, texts, shelf) {
+        Command::CheckMix { .. } => match prepare_check_mix(alloc, inputs) {
             Ok(prepared) => Ok(prepared),
             Err(fault) => Err(fault),
         },

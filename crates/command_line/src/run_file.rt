@@ -1,6 +1,5 @@
 ghost use Rattle.std.specs.Prelude.{◌≡◌, IfOk, IfErr, map, string_bytes};
-ghost use Rattle.elf_reader.specs.File.{plain_segment};
-ghost use Rattle.elf_reader.specs.Loadable.{AreLoadable};
+ghost use Rattle.elf_reader.specs.{File.{plain_segment}, Loadable.{AreLoadable}};
 ghost use Rattle.board_config.specs.Board.{mapped_ranges};
 ghost use Rattle.flat_machine.specs.Start.{start_of};
 ghost use Rattle.command_line.specs.RunFile.{RunsFrom, RunsTo, IsFirstCommandFault};

@@ -1,6 +1,5 @@
 ghost use Rattle.std.specs.Prelude.{IfOk, IfErr};
-ghost use Rattle.command_line.specs.Analysed.{RejectsAnalysed};
-ghost use Rattle.command_line.specs.ShowFile.{ShowsTo};
+ghost use Rattle.command_line.specs.{Analysed.{RejectsAnalysed}, ShowFile.{ShowsTo}};
 
 use crate::opening::open;
 use command_language::CommandFault;

@@ -1,8 +1,9 @@
-ghost use Rattle.std.specs.Prelude.{◌≡◌, ◌≢◌, None, OnOk, IfOk, IfErr};
+ghost use Rattle.std.specs.Prelude.{◌≡◌, ◌≢◌, None};
 ghost use Rattle.command_language.specs.Command.{texts};
-ghost use Rattle.command_line.specs.Answers.{IsDone, TellsRun, HasCause, EndsRejected, Answers};
+ghost use Rattle.command_line.specs.Answers.{IsDone, TellsRun, EndsRejected, Answers};
 
 use crate::diagnostic::Diagnostic;
+use crate::observing::{NoObserver, Observer};
 use crate::performing::perform_command;
 use command_language::{CommandFault, parse};
 use relinking::MeasuredEnd;
@@ -37,15 +38,17 @@ pub fn run<S: Shelf, K: Sink>(alloc: Global, words: &[String], shelf: &mut S, ou
         (S.view shelf.old) (S.view shelf.new)
         (K.view out.old) (K.view out.new) }
 {
-    run_command(alloc, words, shelf, out).status
+    run_command(alloc, words, shelf, out, &mut NoObserver).status
 }
 
-/// Does the same, and also tells how the run ended by which the command measured a program.
-pub fn run_command<S: Shelf, K: Sink>(
+/// Does the same, and also tells how the run ended by which the command measured a program. The observer is shown what the
+/// command read and made, before any of it is written; words that are no command are not shown.
+pub fn run_command<S: Shelf, K: Sink, O: Observer>(
     alloc: Global,
     words: &[String],
     shelf: &mut S,
     out: &mut K,
+    observer: &mut O,
 ) -> CommandOutcome
     ensures done { result.status ≡ 0 → IsDone (texts words.now)
         (S.view shelf.old) (S.view shelf.new)
@@ -61,7 +64,13 @@ pub fn run_command<S: Shelf, K: Sink>(
     ensures measured { result.status ≡ 0 → TellsRun (texts words.now) result.measured (S.view shelf.old) }
     ensures unmeasured { result.status ≢ 0 → result.measured ≡ None }
 {
-    match perform(alloc, words, shelf, out) {
+    let Some(command) = parse(words) else {
+        return CommandOutcome {
+            status: Diagnostic::new(alloc, &CommandFault::Usage).tell(out),
+            measured: None,
+        };
+    };
+    match perform_command(alloc, &command, shelf, out, observer) {
         Ok(measured) => CommandOutcome {
             status: 0,
             measured,
@@ -70,29 +79,5 @@ pub fn run_command<S: Shelf, K: Sink>(
             status: diagnostic.tell(out),
             measured: None,
         },
-    }
-}
-
-/// Does what the words ask for, and tells how a measured run ended. A fault's fault line is still to be put.
-fn perform<S: Shelf, K: Sink>(
-    alloc: Global,
-    words: &[String],
-    shelf: &mut S,
-    out: &mut K,
-) -> Result<Option<MeasuredEnd>, Diagnostic>
-    ensures ok { OnOk result (IsDone (texts words.now)
-        (S.view shelf.old) (S.view shelf.new)
-        (K.view out.old) (K.view out.new)) }
-    ensures end { IfOk result (λ measured. TellsRun (texts words.now) measured (S.view shelf.old)) }
-    ensures err { IfErr result (HasCause (texts words.now)
-        (S.view shelf.old) (S.view shelf.new)
-        (K.view out.old) (K.view out.new)) }
-{
-    let Some(command) = parse(words) else {
-        return Err(Diagnostic::new(alloc, &CommandFault::Usage));
-    };
-    match perform_command(alloc, &command, shelf, out) {
-        Ok(measured) => Ok(measured),
-        Err(diagnostic) => Err(diagnostic),
     }
 }

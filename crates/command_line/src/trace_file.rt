@@ -1,15 +1,9 @@
 ghost use Rattle.std.specs.Prelude.{◌≡◌, ℕ, List, min, IfOk, IfErr, string_bytes};
 ghost use Rattle.std.specs.List.{AllPairs};
-ghost use Rattle.elf_reader.specs.File.{plain_view, segments_of};
-ghost use Rattle.elf_reader.specs.Loadable.{AreLoadable};
-ghost use Rattle.placement_programme.specs.Programme.{IsFeasible};
-ghost use Rattle.placement_programme.specs.Views.{plain_programme, plain_choice};
-ghost use Rattle.relink_core.specs.Choices.{IsAnalysisOf};
-ghost use Rattle.relink_core.specs.UnitMaps.{StandsBefore};
-ghost use Rattle.command_line.specs.Analysed.{IsOpened};
-ghost use Rattle.command_line.specs.Measured.{MeasuresTo};
-ghost use Rattle.command_line.specs.PaidFile.{CountsFor, RejectsMade, RejectsPaid};
-ghost use Rattle.command_line.specs.TraceFile.{TracesTo, MakesTrace, StartsIn, TellsLines, traced_line};
+ghost use Rattle.elf_reader.specs.{File.{plain_view, segments_of}, Loadable.{AreLoadable}};
+ghost use Rattle.placement_programme.specs.{Programme.{IsFeasible}, Views.{plain_programme, plain_choice}};
+ghost use Rattle.relink_core.specs.{Choices.{IsAnalysisOf}, UnitMaps.{StandsBefore}};
+ghost use Rattle.command_line.specs.{Analysed.{IsOpened}, Measured.{MeasuresTo}, PaidFile.{CountsFor, RejectsMade, RejectsPaid}, TraceFile.{TracesTo, MakesTrace, StartsIn, TellsLines, traced_line}};
 
 use crate::accepting::accepted_choice;
 use crate::opening::{Opened, open};

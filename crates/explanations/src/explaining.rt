@@ -2,87 +2,41 @@ ghost use Rattle.std.specs.Prelude.{ℕ, List};
 ghost use Rattle.board_config.specs.Board.{IsLawful};
 ghost use Rattle.relink_core.specs.Choices.{IsAnalysisOf};
 
-use crate::files::{explain_unread, explain_unwritten};
+use crate::files::explain_unread;
 use crate::inputs::{Inputs, inputs_of};
 use crate::mixes::explain_mix;
 use crate::pinned::explain_pinned;
 use crate::runs::{explain_end, explain_run};
 use board_config::{Board, read_board};
 use code_blocks::CodeFault;
+use command_language::CommandFault;
+use command_line::{InputTexts, PreparedResult};
 use explanation_texts::{
-    Command, Notes, command_of, explain_board, explain_elf, explain_layout, explain_no_code,
-    explain_status, explain_words, say_listed_twice, say_many_blocks, say_small_patch,
-    say_unknown_function,
+    Command, Notes, explain_board, explain_elf, explain_layout, explain_no_code, explain_status,
+    say_listed_twice, say_many_blocks, say_small_patch, say_unknown_function,
 };
 use region_former::RegionFault;
 use relink_core::{AnalyseFault, Analysis, analyse};
-use relinking::MeasuredEnd;
-use shelf_io::{FailedWrite, Shelf};
-use std::alloc::{AllocError, Global};
+use std::alloc::AllocError;
 use unchecked_file::UncheckedFile;
-
-/// The status of words that are no command.
-const NO_COMMAND: u8 = 1;
-
-/// The status of a command that can't read a file.
-const UNREAD: u8 = 2;
-
-/// The status of a command that can't write a file or to standard output.
-const UNWRITTEN: u8 = 3;
 
 /// The status of a mix of which a line breaks a rule.
 const BAD_MIX: u8 = 13;
 
-/// What came of a command.
-#[derive(Clone, Copy)]
-pub struct Outcome<'a> {
-    /// Its exit status.
-    pub status: u8,
-    /// How the run ended by which it measured a program, if it did.
-    pub measured: Option<MeasuredEnd>,
-    /// The last write of a file that failed, if one did.
-    pub failed: Option<&'a FailedWrite>,
-}
-
-/// Lines for standard error that explain what a command did, from its words, the files that it read, and what came of it;
-/// each begins with `spmlink: `. The text is empty where all is as one expects. It reads the files
-/// again, and analyses the program of a relink and of a refusal again. It runs a program only up to its address fault.
-///
-/// It fails only where no memory was left.
-pub fn explain<S: Shelf>(
-    alloc: Global,
-    words: &[String],
-    shelf: &mut S,
-    outcome: &Outcome<'_>,
-) -> Result<Vec<u8>, AllocError> {
-    let mut notes = Notes::new(alloc);
-    match command_of_words(words) {
-        Some(command) if outcome.status != NO_COMMAND => {
-            explain_command(&mut notes, words, shelf, command, outcome)?;
-        }
-        _ => explain_words(&mut notes, words)?,
-    }
-    Ok(notes.into_text())
-}
-
-/// The command of the first word, if there is one.
-fn command_of_words(words: &[String]) -> Option<&'static Command> {
-    command_of(words.first()?.as_str())
-}
-
-/// What is to be said of a command.
-fn explain_command<S: Shelf>(
+/// What is to be said of what a command read and made.
+pub(crate) fn explain_seen(
     notes: &mut Notes,
     words: &[String],
-    shelf: &mut S,
     command: &Command,
-    outcome: &Outcome<'_>,
+    texts: &InputTexts<'_>,
+    made: Result<&PreparedResult<'_>, &CommandFault>,
 ) -> Result<(), AllocError> {
-    let (status, end) = (outcome.status, outcome.measured);
-    match status {
-        UNREAD => explain_unread(notes, words, shelf, command),
-        UNWRITTEN => explain_unwritten(notes, words, command, outcome.failed),
-        _ => match inputs_of(notes.alloc(), words, shelf, command, status, end) {
+    match made {
+        Err(CommandFault::Memory) => Ok(()),
+        Err(CommandFault::Read { place }) => {
+            explain_unread(notes, words, command, texts, *place as usize)
+        }
+        _ => match inputs_of(notes.alloc(), command, texts, made) {
             Some(inputs) => explain_inputs(notes, words, command, &inputs),
             None => Ok(()),
         },
@@ -102,7 +56,7 @@ fn explain_list(
             written.push(word.as_str())?;
         }
     }
-    match &inputs.mix {
+    match inputs.mix {
         Some(text) => explain_mix(notes, text, &written),
         None => Ok(()),
     }
@@ -129,7 +83,7 @@ fn explain_done(notes: &mut Notes, inputs: &Inputs) -> Result<(), AllocError> {
     if let Some(end) = &inputs.end {
         explain_end(notes, &inputs.unchecked(), end)?;
     }
-    match inputs.result {
+    match inputs.moved {
         Some(_) => explain_files(notes, inputs),
         None => Ok(()),
     }
@@ -137,7 +91,7 @@ fn explain_done(notes: &mut Notes, inputs: &Inputs) -> Result<(), AllocError> {
 
 /// A file, for a board where the command has one.
 fn explain_files(notes: &mut Notes, inputs: &Inputs) -> Result<(), AllocError> {
-    match &inputs.board {
+    match inputs.board {
         Some(text) => explain_for_board(notes, inputs, text),
         None => explain_file(notes, inputs),
     }
@@ -145,7 +99,7 @@ fn explain_files(notes: &mut Notes, inputs: &Inputs) -> Result<(), AllocError> {
 
 /// A file that a command reads alone.
 fn explain_file(notes: &mut Notes, inputs: &Inputs) -> Result<(), AllocError> {
-    match elf_reader::read(inputs.alloc, &inputs.file) {
+    match elf_reader::read(inputs.alloc, inputs.file) {
         Ok(_) => Ok(()),
         Err(fault) => explain_elf(notes, &inputs.unchecked(), &fault),
     }
@@ -166,7 +120,7 @@ fn explain_for(notes: &mut Notes, inputs: &Inputs, board: &Board) -> Result<(), 
     if !inputs.analyses {
         return explain_file(notes, inputs);
     }
-    match explain_sound(notes, &inputs.file, inputs, board) {
+    match explain_sound(notes, inputs.file, inputs, board) {
         Ok(()) => explain_beside(notes, inputs),
         Err(fault) => explain_refusal(notes, &inputs.unchecked(), board, &fault),
     }
@@ -174,18 +128,12 @@ fn explain_for(notes: &mut Notes, inputs: &Inputs, board: &Board) -> Result<(), 
 
 /// A further ELF file, where it is why the command was refused.
 fn explain_beside(notes: &mut Notes, inputs: &Inputs) -> Result<(), AllocError> {
-    let Some(bytes) = &inputs.beside else {
+    let Some(bytes) = inputs.beside else {
         return Ok(());
     };
     match elf_reader::read(inputs.alloc, bytes) {
         Ok(_) => Ok(()),
-        Err(fault) => explain_elf(
-            notes,
-            &UncheckedFile {
-                bytes: bytes.as_slice(),
-            },
-            &fault,
-        ),
+        Err(fault) => explain_elf(notes, &UncheckedFile { bytes }, &fault),
     }
 }
 

@@ -1,30 +1,30 @@
-use crate::inputs::is_read_once;
-use crate::mixes::{explain_unread_input, mix_of};
+use crate::inputs::text_of;
+use crate::mixes::explain_unread_input;
+use command_line::InputTexts;
 use explanation_texts::{
-    Command, Notes, say_certificate_alone, say_unprinted, say_unread, say_unread_device,
+    Command, Notes, say_certificate_alone, say_new_name_used, say_unprinted, say_unread,
     say_unwritten, say_used,
 };
-use shelf_io::{FailedWrite, Shelf, ShelfFault};
+use shelf_io::{FailedWrite, WriteCause};
 use std::alloc::AllocError;
 
-/// The first word of those that a command reads whose file can't be read, or else the first input that its mix lists.
-pub(crate) fn explain_unread<S: Shelf>(
+/// The word whose file could not be read, by its place, or the line of its MIX.
+pub(crate) fn explain_unread(
     notes: &mut Notes,
     words: &[String],
-    shelf: &mut S,
     command: &Command,
+    texts: &InputTexts<'_>,
+    place: usize,
 ) -> Result<(), AllocError> {
-    for (place, word) in words.iter().enumerate() {
-        if place != 0 && place <= command.reads && fails_to_read(notes, shelf, word.as_str()) {
-            return say_unread(notes, place, word.as_str());
+    if texts.texts.len() == command.reads {
+        if let Some(mix) = text_of(texts, command.mix) {
+            return explain_unread_input(notes, mix, texts.listed.len());
         }
     }
-    if let Some(text) = mix_of(notes.alloc(), words, shelf, command) {
-        if explain_unread_input(notes, &text, shelf)? {
-            return Ok(());
-        }
+    match words.get(place) {
+        Some(word) => say_unread(notes, place, word.as_str()),
+        None => Ok(()),
     }
-    say_unread_device(notes)
 }
 
 /// The word whose file was not written, and why, or else that standard output was not.
@@ -57,19 +57,16 @@ fn explain_failed(
     failed: &FailedWrite,
     before: Option<&str>,
 ) -> Result<(), AllocError> {
-    match &failed.used_as {
-        Some(used_as) => say_used(notes, place, failed.name.as_str(), used_as.as_str())?,
-        None => say_unwritten(notes, place, failed.name.as_str())?,
+    let name = failed.name.as_str();
+    match &failed.cause {
+        WriteCause::Outside => say_unwritten(notes, place, name)?,
+        WriteCause::Used(used_as) => say_used(notes, place, name, used_as.as_str())?,
+        WriteCause::NewNameUsed(used_as) => {
+            say_new_name_used(notes, place, name, used_as.as_str())?;
+        }
     }
     match before {
         Some(certificate) => say_certificate_alone(notes, certificate),
         None => Ok(()),
     }
-}
-
-fn fails_to_read<S: Shelf>(notes: &Notes, shelf: &mut S, name: &str) -> bool {
-    if is_read_once(name) {
-        return false;
-    }
-    matches!(shelf.read(notes.alloc(), name), Err(ShelfFault::Failed))
 }

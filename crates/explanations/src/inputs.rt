@@ -1,93 +1,81 @@
-use crate::mixes::{listed_inputs, mix_of};
+use command_language::CommandFault;
+use command_line::{InputTexts, PreparedResult};
 use explanation_texts::Command;
 use relinking::MeasuredEnd;
-use shelf_io::Shelf;
 use std::alloc::Global;
 use unchecked_file::UncheckedFile;
 
 /// What a command read, and what came of it.
-#[derive(Drop)]
-pub(crate) struct Inputs {
+#[derive(Clone, Copy)]
+pub(crate) struct Inputs<'a> {
     pub(crate) alloc: Global,
-    pub(crate) file: Vec<u8>,
+    pub(crate) file: &'a [u8],
     /// The text of the board, where the command has one.
-    pub(crate) board: Option<Vec<u8>>,
+    pub(crate) board: Option<&'a [u8]>,
     /// Whether the command analyses the file for the board.
     pub(crate) analyses: bool,
-    /// The input of the program, where the command runs it up to an address fault, and it can be read twice.
-    pub(crate) input: Option<Vec<u8>>,
+    /// The input of the program, where the command measures it on one.
+    pub(crate) input: Option<&'a [u8]>,
     /// The text that lists the inputs, where the command has one.
-    pub(crate) mix: Option<Vec<u8>>,
-    /// The inputs that it lists, where the command runs the program up to an address fault.
-    pub(crate) listed: Vec<Vec<u8>>,
-    /// The result that was relinked to.
-    pub(crate) result: Option<Vec<u8>>,
-    /// A further ELF file that the command read before it was refused.
-    pub(crate) beside: Option<Vec<u8>>,
+    pub(crate) mix: Option<&'a [u8]>,
+    /// The inputs that it lists.
+    pub(crate) listed: &'a [Vec<u8>],
+    /// Whether something of the file moved, where it was relinked.
+    pub(crate) moved: Option<bool>,
+    /// A further ELF file that the command read.
+    pub(crate) beside: Option<&'a [u8]>,
+    /// The status that the command has where its result is written.
     pub(crate) status: u8,
     /// How the run ended by which the command measured the program.
     pub(crate) end: Option<MeasuredEnd>,
 }
 
-impl Inputs {
+impl<'a> Inputs<'a> {
     /// The file, as it stands.
-    pub(crate) fn unchecked(&self) -> UncheckedFile<'_> {
-        UncheckedFile { bytes: &self.file }
+    pub(crate) fn unchecked(&self) -> UncheckedFile<'a> {
+        UncheckedFile { bytes: self.file }
     }
 }
 
-/// What a command read; `None` where its file can't be read.
-pub(crate) fn inputs_of<S: Shelf>(
+/// What a command read, and what came of it; `None` where it reads no ELF file.
+pub(crate) fn inputs_of<'a>(
     alloc: Global,
-    words: &[String],
-    shelf: &mut S,
     command: &Command,
-    status: u8,
-    end: Option<MeasuredEnd>,
-) -> Option<Inputs> {
-    let (input, result, beside) = if status == 0 {
-        (None, command.result, None)
-    } else {
-        (command.input, None, command.beside)
-    };
-    let mix = mix_of(alloc, words, shelf, command);
-    let listed = match &mix {
-        Some(text) if status != 0 => listed_inputs(alloc, text, shelf).ok()?,
-        _ => Vec::new(alloc),
+    texts: &InputTexts<'a>,
+    made: Result<&PreparedResult<'_>, &CommandFault>,
+) -> Option<Inputs<'a>> {
+    let file = text_of(texts, command.file)?;
+    let (status, end, moved) = match made {
+        Ok(prepared) => (0, prepared.measured, has_moved(command, file, prepared)),
+        Err(fault) => (fault.status(), None, None),
     };
     Some(Inputs {
         alloc,
-        file: read_word(alloc, words, shelf, command.file)?,
-        board: read_word(alloc, words, shelf, command.board),
+        file,
+        board: text_of(texts, command.board),
         analyses: command.analyses,
-        input: read_word(alloc, words, shelf, input),
-        mix,
-        listed,
-        result: read_word(alloc, words, shelf, result),
-        beside: read_word(alloc, words, shelf, beside),
+        input: text_of(texts, command.input),
+        mix: text_of(texts, command.mix),
+        listed: texts.listed,
+        moved,
+        beside: text_of(texts, command.beside),
         status,
         end,
     })
 }
 
-/// The bytes under a word. A device may not give them twice, so none but the empty one is read.
-pub(crate) fn read_word<S: Shelf>(
-    alloc: Global,
-    words: &[String],
-    shelf: &mut S,
-    place: Option<usize>,
-) -> Option<Vec<u8>> {
-    let name = words.get(place?)?.as_str();
-    if is_read_once(name) {
-        return None;
-    }
-    match shelf.read(alloc, name) {
-        Ok(bytes) => Some(bytes),
-        Err(_) => None,
-    }
+/// The text under the name of a word.
+pub(crate) fn text_of<'a>(texts: &InputTexts<'a>, place: Option<usize>) -> Option<&'a [u8]> {
+    let text = texts.texts.get(place?.checked_sub(1)?)?;
+    Some(text.as_slice())
 }
 
-/// Whether a name is that of a device that may not give its bytes twice.
-pub(crate) fn is_read_once(name: &str) -> bool {
-    name.starts_with("/dev/") && name != "/dev/null"
+/// Whether what a file was relinked to, which is ready to be written, is another file; `None` where it was not relinked.
+fn has_moved(command: &Command, file: &[u8], prepared: &PreparedResult<'_>) -> Option<bool> {
+    for (place, output) in command.writes.iter().zip(&prepared.outputs) {
+        if Some(*place) == command.result {
+            return Some(output.bytes.as_slice() != file);
+        }
+    }
+    None
 }

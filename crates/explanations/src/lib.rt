@@ -1,7 +1,8 @@
-//! Which explanation is due behind a command: from its words, its status, and what it read.
+//! Which explanation is due behind a command: from its words, its status, and what it read and made.
 #![tactic(auto)]
 
 mod census;
+mod explainer;
 mod explaining;
 mod files;
 mod inputs;
@@ -11,4 +12,4 @@ mod pinned;
 mod runs;
 mod section_map;
 
-pub use explaining::{Outcome, explain};
+pub use explainer::Explainer;

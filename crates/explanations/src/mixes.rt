@@ -1,18 +1,6 @@
-use crate::inputs::{is_read_once, read_word};
 use command_language::{MixFault, MixInput, read_mix};
-use explanation_texts::{Command, Notes, say_bad_line, say_unread_input};
-use shelf_io::{Shelf, ShelfFault};
+use explanation_texts::{Notes, say_bad_line, say_unread_input};
 use std::alloc::{AllocError, Global};
-
-/// The text that lists the inputs of a command, where it has one that can be read twice.
-pub(crate) fn mix_of<S: Shelf>(
-    alloc: Global,
-    words: &[String],
-    shelf: &mut S,
-    command: &Command,
-) -> Option<Vec<u8>> {
-    read_word(alloc, words, shelf, command.mix)
-}
 
 /// The lines of a text that lists inputs; none where one breaks a rule.
 fn lines_of(alloc: Global, text: &[u8]) -> Vec<MixInput<'_>> {
@@ -22,44 +10,17 @@ fn lines_of(alloc: Global, text: &[u8]) -> Vec<MixInput<'_>> {
     }
 }
 
-/// The inputs that a text lists, in order, up to the first that can't be read twice.
-pub(crate) fn listed_inputs<S: Shelf>(
-    alloc: Global,
-    text: &[u8],
-    shelf: &mut S,
-) -> Result<Vec<Vec<u8>>, AllocError> {
-    let lines = lines_of(alloc, text);
-    let mut inputs = Vec::new(alloc);
-    for line in &lines {
-        if is_read_once(line.name) {
-            return Ok(inputs);
-        }
-        match shelf.read(alloc, line.name) {
-            Ok(bytes) => inputs.push(bytes)?,
-            Err(_) => return Ok(inputs),
-        }
-    }
-    Ok(inputs)
-}
-
-/// The first line of a text whose input can't be read; whether there is one.
-pub(crate) fn explain_unread_input<S: Shelf>(
+/// The line of a text whose input can't be read, by its place from 0.
+pub(crate) fn explain_unread_input(
     notes: &mut Notes,
     text: &[u8],
-    shelf: &mut S,
-) -> Result<bool, AllocError> {
+    place: usize,
+) -> Result<(), AllocError> {
     let lines = lines_of(notes.alloc(), text);
-    for (place, line) in lines.iter().enumerate() {
-        if is_read_once(line.name) {
-            return Ok(false);
-        }
-        let read = shelf.read(notes.alloc(), line.name);
-        if matches!(read, Err(ShelfFault::Failed)) {
-            say_unread_input(notes, place as u64 + 1, line.name)?;
-            return Ok(true);
-        }
+    match lines.get(place) {
+        Some(line) => say_unread_input(notes, place as u64 + 1, line.name),
+        None => Ok(()),
     }
-    Ok(false)
 }
 
 /// The first line of a text that breaks a rule, where these names are written.

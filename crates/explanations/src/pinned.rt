@@ -60,11 +60,11 @@ pub(crate) fn explain_pinned(
     view: &ElfView,
     graph: &Graph,
 ) -> Result<(), AllocError> {
-    let Some(result) = &inputs.result else {
+    let Some(has_moved) = inputs.moved else {
         return Ok(());
     };
     let relinked = RelinkResult {
-        has_moved: result.as_slice() != inputs.file.as_slice(),
+        has_moved,
         tells_bss: tells_bss(inputs),
         bss_movable: board.bss_movable,
     };
@@ -99,7 +99,7 @@ fn has_exited(inputs: &Inputs) -> bool {
 }
 
 fn tells_bss(inputs: &Inputs) -> bool {
-    match &inputs.board {
+    match inputs.board {
         Some(text) => gives_key(text, b"bss"),
         None => false,
     }

@@ -35,7 +35,7 @@ pub(crate) fn explain_run(
     if !ADDRESS_FAULTS.contains(&inputs.status) {
         return Ok(());
     }
-    if let Some(input) = &inputs.input {
+    if let Some(input) = inputs.input {
         if let Some(fault) = fault_on(inputs.alloc, analysis, board, input)? {
             explain_faulted(notes, &inputs.unchecked(), analysis, &fault)?;
         }

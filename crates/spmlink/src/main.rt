@@ -4,7 +4,7 @@
 #![tactic(auto)]
 
 use command_line::run_command;
-use explanations::{Outcome, explain};
+use explanations::Explainer;
 use shelf_io::{DirShelf, OutSink, Sink};
 use std::env;
 use std::io::{self, ErrorKind};
@@ -34,15 +34,10 @@ fn main(rt: HostRuntime) -> ExitCode {
     };
     let mut shelf = DirShelf::new(&rt, rt.alloc());
     let mut out = OutSink::new(rt.stdout());
-    let outcome = run_command(rt.alloc(), &words, &mut shelf, &mut out);
+    let mut explainer = Explainer::new(rt.alloc(), &words);
+    let outcome = run_command(rt.alloc(), &words, &mut shelf, &mut out, &mut explainer);
     let failed = shelf.take_failed_write();
-    let outcome = Outcome {
-        status: outcome.status,
-        measured: outcome.measured,
-        failed: failed.as_ref(),
-    };
-    if let Ok(text) = explain(rt.alloc(), &words, &mut shelf, &outcome) {
-        let _ = OutSink::new(rt.stderr()).put(&text);
-    }
+    let text = explainer.into_text(outcome.status, failed.as_ref());
+    let _ = OutSink::new(rt.stderr()).put(&text);
     ExitCode::from(outcome.status)
 }

@@ -13,21 +13,21 @@ use Rattle.command_line.proofs.mix_results.checked_result.Goals as goal
 
 pub check_mix_file-requires : goal.check_mix_file-requires
 check_mix_file-requires c =
-    let are = ap (map together.plain_input) c.deref-5.ensures.value ∙ c.in_ok-inputs.ensures
-    ∙ (λ i. inputs_of (map plain_input (c.deref.ensures.value i)) (contents (c.deref-2.ensures.value i))) in
+    let are = ap (map together.plain_input) c.deref-4.ensures.value ∙ c.in_ok-inputs.ensures
+    ∙ (λ i. inputs_of (map plain_input (c.deref.ensures.value i)) (contents c.args.listed.now.texts.now)) in
     some_listed [] (third (contents c.args.texts.now)) c.args.listed.now _ c.requires.listed are
 
 pub returns-in-Ok-clause-ok : goal.returns-in-Ok-clause-ok
 returns-in-Ok-clause-ok c f b m k =
     let mix = third (contents c.args.texts.now) in
-    let listed = contents c.args.listed.now.texts.items in
-    let are = ap (map together.plain_input) c.deref-5.ensures.value ∙ c.in_ok-inputs.ensures
-    ∙ (λ i. inputs_of (map plain_input (c.deref.ensures.value i)) (contents (c.deref-2.ensures.value i))) in
+    let listed = contents c.args.listed.now.texts.now in
+    let are = ap (map together.plain_input) c.deref-4.ensures.value ∙ c.in_ok-inputs.ensures
+    ∙ (λ i. inputs_of (map plain_input (c.deref.ensures.value i)) (contents c.args.listed.now.texts.now)) in
     let inputs = inputs_listed [] mix c.args.listed.now _ c.requires.listed are in
-    let file = c.deref-3.result.now in
-    let board = c.deref-4.result.now in
-    let cert = c.deref-6.result.now in
-    let texts = four_with_third c.args.texts.now c.index-texts-0.result c.index-texts-1.result c.index-texts-3.result file board cert c.requires.texts c.index-texts-0.is c.index-texts-1.is c.index-texts-3.is c.deref-3.ensures.value c.deref-4.ensures.value c.deref-6.ensures.value in
+    let file = c.deref-2.result.now in
+    let board = c.deref-3.result.now in
+    let cert = c.deref-5.result.now in
+    let texts = four_with_third c.args.texts.now c.index-texts-0.result c.index-texts-1.result c.index-texts-3.result file board cert c.requires.texts c.index-texts-0.is c.index-texts-1.is c.index-texts-3.is c.deref-2.ensures.value c.deref-3.ensures.value c.deref-5.ensures.value in
     let is = subst (λ (ps : List WeightedInput). ChecksMixTo file board ps cert (string_bytes c.in-Ok.report)) inputs c.in-Ok.ensures.ok in
     let made = c.in_ok-printed-in-Ok.ensures in
     record {
@@ -41,14 +41,14 @@ returns-in-Ok-clause-ok c f b m k =
 pub returns-clause-err : goal.returns-clause-err
 returns-clause-err c f b m k =
     let mix = third (contents c.args.texts.now) in
-    let listed = contents c.args.listed.now.texts.items in
-    let are = ap (map together.plain_input) c.deref-5.ensures.value ∙ c.in_ok-inputs.ensures
-    ∙ (λ i. inputs_of (map plain_input (c.deref.ensures.value i)) (contents (c.deref-2.ensures.value i))) in
+    let listed = contents c.args.listed.now.texts.now in
+    let are = ap (map together.plain_input) c.deref-4.ensures.value ∙ c.in_ok-inputs.ensures
+    ∙ (λ i. inputs_of (map plain_input (c.deref.ensures.value i)) (contents c.args.listed.now.texts.now)) in
     let inputs = inputs_listed [] mix c.args.listed.now _ c.requires.listed are in
-    let file = c.deref-3.result.now in
-    let board = c.deref-4.result.now in
-    let cert = c.deref-6.result.now in
-    let texts = four_with_third c.args.texts.now c.index-texts-0.result c.index-texts-1.result c.index-texts-3.result file board cert c.requires.texts c.index-texts-0.is c.index-texts-1.is c.index-texts-3.is c.deref-3.ensures.value c.deref-4.ensures.value c.deref-6.ensures.value in
+    let file = c.deref-2.result.now in
+    let board = c.deref-3.result.now in
+    let cert = c.deref-5.result.now in
+    let texts = four_with_third c.args.texts.now c.index-texts-0.result c.index-texts-1.result c.index-texts-3.result file board cert c.requires.texts c.index-texts-0.is c.index-texts-1.is c.index-texts-3.is c.deref-2.ensures.value c.deref-3.ensures.value c.deref-5.ensures.value in
     let fault = c.in-Err.fault in
     subst (λ (ts : List (List ℕ)). RejectsInputs (check_mix_command f b m k) (ts ++ listed) fault) texts
     (check_mix_rejected f b m k file board mix cert listed fault c.requires.listed.unbroken

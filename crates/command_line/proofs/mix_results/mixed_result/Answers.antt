@@ -13,20 +13,20 @@ use Rattle.command_line.proofs.mix_results.mixed_result.Goals as goal
 
 pub mix_file-requires : goal.mix_file-requires
 mix_file-requires c =
-    let are = ap (map together.plain_input) c.deref-5.ensures.value ∙ c.in_ok-inputs.ensures
-    ∙ (λ i. inputs_of (map plain_input (c.deref.ensures.value i)) (contents (c.deref-2.ensures.value i))) in
+    let are = ap (map together.plain_input) c.deref-4.ensures.value ∙ c.in_ok-inputs.ensures
+    ∙ (λ i. inputs_of (map plain_input (c.deref.ensures.value i)) (contents c.args.listed.now.texts.now)) in
     some_listed (c.args.cert.now ∷ c.args.out.now ∷ []) (third (contents c.args.texts.now)) c.args.listed.now _ c.requires.listed are
 
 pub returns-in-Ok-clause-ok : goal.returns-in-Ok-clause-ok
 returns-in-Ok-clause-ok c f b m =
     let mix = third (contents c.args.texts.now) in
-    let listed = contents c.args.listed.now.texts.items in
-    let are = ap (map together.plain_input) c.deref-5.ensures.value ∙ c.in_ok-inputs.ensures
-    ∙ (λ i. inputs_of (map plain_input (c.deref.ensures.value i)) (contents (c.deref-2.ensures.value i))) in
+    let listed = contents c.args.listed.now.texts.now in
+    let are = ap (map together.plain_input) c.deref-4.ensures.value ∙ c.in_ok-inputs.ensures
+    ∙ (λ i. inputs_of (map plain_input (c.deref.ensures.value i)) (contents c.args.listed.now.texts.now)) in
     let inputs = inputs_listed (c.args.cert.now ∷ c.args.out.now ∷ []) mix c.args.listed.now _ c.requires.listed are in
-    let file = c.deref-3.result.now in
-    let board = c.deref-4.result.now in
-    let texts = three_with_third c.args.texts.now c.index-texts-0.result c.index-texts-1.result file board c.requires.texts c.index-texts-0.is c.index-texts-1.is c.deref-3.ensures.value c.deref-4.ensures.value in
+    let file = c.deref-2.result.now in
+    let board = c.deref-3.result.now in
+    let texts = three_with_third c.args.texts.now c.index-texts-0.result c.index-texts-1.result file board c.requires.texts c.index-texts-0.is c.index-texts-1.is c.deref-2.ensures.value c.deref-3.ensures.value in
     let mixed = c.in-Ok.mixed in
     let is = subst (λ (ps : List WeightedInput). MixesTo file board ps mixed.certificate.items mixed.file.items mixed.report.items) inputs c.in-Ok.ensures.ok in
     let made = c.in_ok-written_twice-in-Ok.ensures in
@@ -41,13 +41,13 @@ returns-in-Ok-clause-ok c f b m =
 pub returns-clause-err : goal.returns-clause-err
 returns-clause-err c f b m =
     let mix = third (contents c.args.texts.now) in
-    let listed = contents c.args.listed.now.texts.items in
-    let are = ap (map together.plain_input) c.deref-5.ensures.value ∙ c.in_ok-inputs.ensures
-    ∙ (λ i. inputs_of (map plain_input (c.deref.ensures.value i)) (contents (c.deref-2.ensures.value i))) in
+    let listed = contents c.args.listed.now.texts.now in
+    let are = ap (map together.plain_input) c.deref-4.ensures.value ∙ c.in_ok-inputs.ensures
+    ∙ (λ i. inputs_of (map plain_input (c.deref.ensures.value i)) (contents c.args.listed.now.texts.now)) in
     let inputs = inputs_listed (c.args.cert.now ∷ c.args.out.now ∷ []) mix c.args.listed.now _ c.requires.listed are in
-    let file = c.deref-3.result.now in
-    let board = c.deref-4.result.now in
-    let texts = three_with_third c.args.texts.now c.index-texts-0.result c.index-texts-1.result file board c.requires.texts c.index-texts-0.is c.index-texts-1.is c.deref-3.ensures.value c.deref-4.ensures.value in
+    let file = c.deref-2.result.now in
+    let board = c.deref-3.result.now in
+    let texts = three_with_third c.args.texts.now c.index-texts-0.result c.index-texts-1.result file board c.requires.texts c.index-texts-0.is c.index-texts-1.is c.deref-2.ensures.value c.deref-3.ensures.value in
     let fault = c.in-Err.fault in
     subst (λ (ts : List (List ℕ)). RejectsInputs (mix_command f b m c.args.out.now c.args.cert.now) (ts ++ listed) fault) texts
     (mix_rejected f b m c.args.out.now c.args.cert.now file board mix listed fault c.requires.listed.unbroken
