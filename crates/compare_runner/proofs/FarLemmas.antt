@@ -12,10 +12,11 @@ use Rattle.flat_machine.specs.Runs as flat_runs
 use Rattle.board_config.specs.declared.board.Board.{Board}
 use Rattle.object_machine.specs.declared.events.Outcome.{Outcome}
 use Rattle.object_machine.specs.declared.events.Outcome.TheVariants as source
+use Rattle.object_machine.specs.Program.{Program}
 use Rattle.object_machine.specs.State.{SourceState}
 use Rattle.result_laws.specs.ResultLaws.{most_steps}
 use Rattle.compare_runner.specs.declared.comparing.Comparison.{Comparison}
-use Rattle.compare_runner.specs.Comparing.{RunsUntil, IsEnough, IsFar, Judges, Reports, JudgesRun}
+use Rattle.compare_runner.specs.Comparing.{RunsUntil, SourceEnds, IsEnough, IsFar, Judges, Reports, JudgesRun}
 
 -- ---- a step tells the outcome that it leads to
 
@@ -42,6 +43,12 @@ told_outcome s t e q = told_at s.outcome s t e q
 pub not_far : (o : Outcome) (written n : ℕ) (other : FlatOutcome) (t : State) → other ≡ t.outcome → n ≡ length t.output → (IsEnough o written other n → ⊥) → IsFar o written t → ⊥
 not_far o written n other t outcome bytes short far =
     short (subst (λ (k : ℕ). IsEnough o written other k) (sym bytes) (subst (λ (x : FlatOutcome). IsEnough o written x (length t.output)) (sym outcome) far))
+
+-- ---- the program
+
+-- a run from a state that is the start
+pub started : (p : Program) (n : ℕ) (x start : SourceState) (taken : ℕ) (end : SourceState) → x ≡ start → SourceEnds p n x taken end → SourceEnds p n start taken end
+started p n x start taken end is ends = subst (λ (s : SourceState). SourceEnds p n s taken end) is ends
 
 -- ---- what is judged
 

@@ -1,14 +1,11 @@
 ghost use Rattle.std.specs.Prelude.{◌≡◌, ◌+◌, ◌*◌, IfOk, true};
-ghost use Rattle.elf_reader.specs.File.{plain_view, segments_of};
-ghost use Rattle.elf_reader.specs.Loadable.{AreLoadable};
+ghost use Rattle.elf_reader.specs.{File.{plain_view, segments_of}, Loadable.{AreLoadable}};
 ghost use Rattle.board_config.specs.Board.{IsLawful, mapped_ranges};
 ghost use Rattle.flat_machine.specs.Start as flat_start;
 ghost use Rattle.loaded_file.specs.Read.{IsRead};
 ghost use Rattle.object_graph.specs.Graphs.{IsGraph};
-ghost use Rattle.code_blocks.specs.Leaders.{is_leader};
-ghost use Rattle.code_blocks.specs.Blocks.{IsCode};
-ghost use Rattle.object_machine.specs.Program.{program_of};
-ghost use Rattle.object_machine.specs.Start.{start_of};
+ghost use Rattle.code_blocks.specs.{Leaders.{is_leader}, Blocks.{IsCode}};
+ghost use Rattle.object_machine.specs.{Program.{program_of}, Start.{start_of}};
 ghost use Rattle.result_laws.specs.ResultLaws as laws;
 ghost use Rattle.compare_runner.specs.Comparing.{Compares};
 

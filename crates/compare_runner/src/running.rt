@@ -2,9 +2,7 @@ ghost use Rattle.std.specs.Prelude.{◌≡◌, ℕ, IfOk, MatchBool};
 ghost use Rattle.flat_machine.specs.Runs as flat_runs;
 ghost use Rattle.flat_machine.specs.State.{State};
 ghost use Rattle.flat_machine.specs.Machine as flat;
-ghost use Rattle.object_machine.specs.Program.{Program};
-ghost use Rattle.object_machine.specs.Machine.{state_of, IsProgram};
-ghost use Rattle.object_machine.specs.Runs.{HasEnded};
+ghost use Rattle.object_machine.specs.{Program.{Program}, Machine.{state_of, IsProgram}, Runs.{HasEnded}};
 ghost use Rattle.compare_runner.specs.Comparing.{RunsUntil, SourceEnds, HasCaughtUp, IsEnough, IsFar};
 
 use flat_machine::{Flat, FlatOutcome};

@@ -22,7 +22,7 @@ use Rattle.relink_core.specs.Faults.{headers_fault, file_fault, least_patch, pat
 use Rattle.relink_core.specs.Keeps.{KeepsPaired}
 use Rattle.relink_core.specs.Extending.{IsExtendable}
 use Rattle.relink_core.specs.Choices.{IsAnalysisOf, KeepsFor, KeepsMeaning}
-use Rattle.relink_core.specs.Placed.{taken_of}
+use Rattle.relink_core.specs.Placed.{Taken}
 use Rattle.result_laws.specs.ResultLaws.{KeepsRuns}
 use Rattle.placement_programme.specs.Programme.{side_for}
 use Rattle.relocator.specs.declared.items.Item.{Item}
@@ -81,10 +81,10 @@ graph_of file board a is = subst (λ (v : PlainView). IsGraph v board a.graph) (
 pub no_items : (p : PlainProgramme) (choice : PlainChoice) → choice.take ≡ [] → items_of p choice ≡ []
 no_items p choice none = ap (items_in (vars_for (side_for p choice.on))) none
 
-pub file_keeps_meaning : (file : List ℕ) (board : Board) (a : Analysis) (p : PlainProgramme) (choice : PlainChoice) (out : List ℕ) → IsAnalysisOf file board a → choice.on ≡ false → choice.take ≡ [] → out ≡ file → KeepsMeaning (taken_of p choice) file out board
-file_keeps_meaning file board a p choice out is off none same =
-    subst (λ (on : Bool). KeepsFor on (items_of p choice) file out board) (sym off)
-    (subst (λ (items : List Item). KeepsFor false items file out board) (sym (no_items p choice none))
+pub file_keeps_meaning : (file : List ℕ) (board : Board) (a : Analysis) (t : Taken) (out : List ℕ) → IsAnalysisOf file board a → t.on ≡ false → t.items ≡ [] → out ≡ file → KeepsMeaning t file out board
+file_keeps_meaning file board a t out is off none same =
+    subst (λ (on : Bool). KeepsFor on t.items file out board) (sym off)
+    (subst (λ (items : List Item). KeepsFor false items file out board) (sym none)
     (let keeps : KeepsPaired file out board =
     subst (λ (x : List ℕ). KeepsPaired file x board) (sym same) (unmoved_file_keeps file board is.bytes is.lawful is.passes) in
     (keeps, λ absolute. absolute_keeps_runs file out board absolute keeps)))

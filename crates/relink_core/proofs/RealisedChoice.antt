@@ -1,5 +1,5 @@
 -- A result in which what is taken stands in the scratchpad realises its choice, and keeps the meaning of its program.
-use Rattle.std.proofs.Common.{◌≡◌, ◌∙◌, ◌⊎◌, inl, inr, ℕ, ◌<◌, ◌≤◌, Bool, true, false, List, [], map, length, get_or, slice_index_or, sym, ap, subst, arith}
+use Rattle.std.proofs.Common.{◌≡◌, ◌∙◌, ◌⊎◌, inl, inr, ℕ, Option, Some, None, ◌<◌, ◌≤◌, Bool, true, false, List, [], map, length, get_or, slice_index_or, sym, ap, subst, arith}
 use Rattle.std.specs.List.{All}
 use Rattle.std.proofs.lemmas.List.{length-map, get_or-map}
 use Rattle.std.proofs.lemmas.List.Elements.{All-nil}
@@ -12,6 +12,7 @@ use Rattle.code_blocks.specs.declared.parts.Code.{Code}
 use Rattle.dataflow.specs.Tables.{IsTableOf}
 use Rattle.dataflow.specs.Overlaid.{region_in}
 use Rattle.block_splitter.specs.declared.piece.Piece.{Piece}
+use Rattle.block_splitter.specs.Copies.{Patch}
 use Rattle.block_splitter.specs.Pieces.{ArePieces}
 use Rattle.block_splitter.proofs.CopySizeLemmas.{range_is}
 use Rattle.placement_programme.specs.declared.variables.VarName.{VarName}
@@ -36,10 +37,11 @@ use Rattle.relink_core.specs.declared.placed_copy.PlacedCopy.{PlacedCopy}
 use Rattle.relink_core.specs.Copies.{range_in, place_in}
 use Rattle.relink_core.specs.PlanLaws.{borders_on}
 use Rattle.relink_core.specs.Choices.{IsAnalysisOf, KeepsMeaning}
-use Rattle.relink_core.specs.Chosen.{AreRegionsOf, names_of, IsTakenBy, IsSourceOf}
+use Rattle.relink_core.specs.Chosen.{AreRegionsOf, names_of, IsTakenBy, HaveWords, IsSourceOf}
 use Rattle.relink_core.specs.Extending.{IsExtendable}
 use Rattle.relink_core.specs.Names.{ranges_named}
-use Rattle.relink_core.specs.Placed.{Taken, taken_of, MovesItems, Realises, hands_on}
+use Rattle.relink_core.specs.MadeResults.{MadeForms}
+use Rattle.relink_core.specs.Placed.{Taken, MovesItems, Realises, hands_on, moves}
 use Rattle.relink_core.specs.Regions.{AreRegions}
 use Rattle.relink_core.specs.Sides.{blocks_on}
 use Rattle.relink_core.specs.Standing.{HasBytes, IsCopiedRange, IsKnownName, AreStanding}
@@ -47,9 +49,11 @@ use Rattle.relink_core.specs.Walks.{WalksBeside}
 use Rattle.relink_core.specs.Written.{AreSiteRegions}
 use Rattle.relink_core.specs.declared.analysis.Analysis.{Analysis}
 use Rattle.relink_core.specs.declared.choosing.TakenNames.{TakenNames}
+use Rattle.relink_core.specs.declared.realising.MovedParts.{MovedParts}
+use Rattle.relink_core.specs.declared.realising.Realised.{Realised}
 use Rattle.relink_core.proofs.MoveLemmas.{has_starts}
 use Rattle.relink_core.proofs.PlacedView.{region_most}
-use Rattle.relink_core.proofs.RealiseLemmas.{prepared, is_read, no_items, runs_keep_meaning}
+use Rattle.relink_core.proofs.RealiseLemmas.{prepared, is_read, no_items, file_keeps_meaning, runs_keep_meaning}
 use Rattle.relink_core.proofs.RegionFacts.{AreCodeRegions, no_code_regions, code_regions}
 use Rattle.relink_core.proofs.SlotCopies.{name_of}
 use Rattle.relink_core.proofs.TakenSlots.{IsNameFor, slots_named}
@@ -81,34 +85,35 @@ has_places file board a w on slots places region_at is on_side laid regions =
     }
 
 -- an analysis with its words is such a source, with slices of its pieces and words
-pub source_for : (file : List ℕ) (board : Board) (a : Analysis) (s : CopySource) (w : CodeRegions) (p : PlainProgramme) (choice : PlainChoice) (t : TakenNames) (region_at : List ℕ) → IsAnalysisOf file board a → IsTakenBy board a p choice t → AreRegionsOf choice.on a.regions w → s.pieces.now ≡ a.pieces.items
-    → IsExtendable file board s.graph.now → IsCode (view_in file) s.code.now → IsTableOf s.code.now s.live.now → ArePieces s.code.now s.graph.now a.pieces.items
-    → AreRegions (view_in file) s.code.now board a.regions → IsChoiceFor board s.graph.now s.code.now a.regions a.pieces.items p choice
-    → ArePlaces s.graph.now (regions_on choice.on a.regions) (chosen_slots board p choice) t.places → AreSiteRegions s.code.now w.of_block.now s.graph.now region_at
-    → AreSiteWords (plain_view a.view) s.graph.now t.places region_at s.sites.now → IsSourceOf file board a.view s w a.regions p choice t
-source_for file board a s w p choice t region_at is taken on_side listed extendable code live pieces regions chosen laid sites words =
+pub source_for : (file : List ℕ) (board : Board) (a : Analysis) (s : CopySource) (w : CodeRegions) (p : PlainProgramme) (choice : PlainChoice) (t : TakenNames) (sites : List Patch) → IsAnalysisOf file board a → IsTakenBy board a p choice t → AreRegionsOf choice.on a.regions w → HaveWords a w t.places sites
+    → s.code.now ≡ a.code → s.live.now ≡ a.live → s.graph.now ≡ a.graph → s.pieces.now ≡ a.pieces.items → s.sites.now ≡ sites → IsSourceOf file board a.view s w a.regions p choice t
+source_for file board a s w p choice t sites is taken on_side have code live graph pieces words =
     let same : plain_view a.view ≡ view_in file = same_view file a.view is.is_file in
+    let extendable = prepared file board a is in
+    let of_view = subst (λ (v : PlainView). AreSiteWords v a.graph t.places have.region_at sites) same have.words_are in
     record {
       read = is_read file board a is;
       same = same;
-      extendable = extendable;
-      code = code;
-      live = live;
-      pieces = subst (ArePieces s.code.now s.graph.now) (sym listed) pieces;
-      regions = regions;
+      extendable = subst (IsExtendable file board) (sym graph) extendable;
+      code = subst (IsCode (view_in file)) (sym code) is.code;
+      live = subst (λ (d : Code). IsTableOf d s.live.now) (sym code) (subst (IsTableOf a.code) (sym live) is.live);
+      pieces = subst (λ (d : Code). ArePieces d s.graph.now s.pieces.now) (sym code)
+          (subst (λ (h : Graph). ArePieces a.code h s.pieces.now) (sym graph) (subst (ArePieces a.code a.graph) (sym pieces) is.pieces));
+      regions = subst (λ (d : Code). AreRegions (view_in file) d board a.regions) (sym code) is.regions;
       on_side = on_side;
-      chosen = subst (λ (ps : List Piece). IsChoiceFor board s.graph.now s.code.now a.regions ps p choice) (sym listed) chosen;
+      chosen = subst (λ (d : Code). IsChoiceFor board s.graph.now d a.regions s.pieces.now p choice) (sym code)
+          (subst (λ (h : Graph). IsChoiceFor board h a.code a.regions s.pieces.now p choice) (sym graph)
+          (subst (λ (ps : List Piece). IsChoiceFor board a.graph a.code a.regions ps p choice) (sym pieces) taken.chosen));
       named = taken.named;
-      laid = laid;
-      region_at = region_at;
-      site_regions = sites;
-      words = subst (λ (v : PlainView). AreSiteWords v s.graph.now t.places region_at s.sites.now) same words;
+      laid = subst (λ (h : Graph). ArePlaces h (regions_on choice.on a.regions) (chosen_slots board p choice) t.places) (sym graph) taken.laid;
+      region_at = have.region_at;
+      site_regions = subst (λ (d : Code). AreSiteRegions d w.of_block.now s.graph.now have.region_at) (sym code)
+          (subst (λ (h : Graph). AreSiteRegions a.code w.of_block.now h have.region_at) (sym graph) have.site_regions);
+      words = subst (λ (h : Graph). AreSiteWords (view_in file) h t.places have.region_at s.sites.now) (sym graph)
+          (subst (AreSiteWords (view_in file) a.graph t.places have.region_at) (sym words) of_view);
     }
 
 -- ---- what is realised
-
-pub nothing_realised : (file : List ℕ) (board : Board) (a : Analysis) (p : PlainProgramme) (choice : PlainChoice) (out : List ℕ) → choice.on ≡ false → choice.take ≡ [] → out ≡ file → Realises file board a.graph a.code a.regions (taken_of p choice) out
-nothing_realised file board a p choice out off none same = hands_on off (no_items p choice none) same
 
 some_items : (p : PlainProgramme) (choice : PlainChoice) → 0 < length choice.take → 0 < length (items_of p choice)
 some_items p choice some =
@@ -121,18 +126,24 @@ something p choice (inl on) = inl on
 something p choice (inr some) = inr (some_items p choice some)
 
 -- a result with these items is one of its placement
-placed_result : (file : List ℕ) (board : Board) (a : Analysis) (t : Taken) (out : List ℕ) (is : IsAnalysisOf file board a) (moved : MovesItems file board a.graph a.code a.regions t out) → IsPlacedResult file out board a.graph a.code moved.pl
-placed_result file board a t out is moved =
+is_placed : (file : List ℕ) (board : Board) (a : Analysis) (t : Taken) (out : List ℕ) (is : IsAnalysisOf file board a) (moved : MovesItems file board a.graph a.code a.regions t out) → IsPlacedResult file out board a.graph a.code moved.pl
+is_placed file board a t out is moved =
     record { accepted = (prepared file board a is).accepted; code = is.code; placement = moved.placement; view = moved.shows }
 
-pub items_keep : (file : List ℕ) (board : Board) (a : Analysis) (p : PlainProgramme) (choice : PlainChoice) (out : List ℕ) → IsAnalysisOf file board a → (choice.on ≡ true) ⊎ (0 < length choice.take) → MovesItems file board a.graph a.code a.regions (taken_of p choice) out → KeepsMeaning (taken_of p choice) file out board
-items_keep file board a p choice out is some moved =
-    runs_keep_meaning choice.on (items_of p choice) file out board (something p choice some)
-    (placed_result_keeps file out board a.graph a.code moved.pl (placed_result file board a (taken_of p choice) out is moved))
+pub realised : (file : List ℕ) (board : Board) (a : Analysis) (t : Taken) (r : Realised) (m : Option MovedParts) → MadeForms file board a t r m → Realises file board a.graph a.code a.regions t r.bytes.items
+realised file board a t r None made = hands_on made.0 made.1 made.2
+realised file board a t r (Some m) made = moves made.0 made.1.moved
+
+pub meaning_kept : (file : List ℕ) (board : Board) (a : Analysis) (t : Taken) (r : Realised) (m : Option MovedParts) → IsAnalysisOf file board a → MadeForms file board a t r m → KeepsMeaning t file r.bytes.items board
+meaning_kept file board a t r None is made = file_keeps_meaning file board a t r.bytes.items is made.0 made.1 made.2
+meaning_kept file board a t r (Some m) is made =
+    let moved = made.1.moved in
+    runs_keep_meaning t.on t.items file r.bytes.items board made.0
+    (placed_result_keeps file r.bytes.items board a.graph a.code moved.pl (is_placed file board a t r.bytes.items is moved))
 
 pub walks_beside : (file : List ℕ) (board : Board) (a : Analysis) (t : Taken) (out : List ℕ) → IsAnalysisOf file board a → WalksBeside file out board a.graph a.code a.regions t
-unfolding placed_result
-walks_beside file board a t out is moved = placed_walks file out board a.graph a.code moved.pl (placed_result file board a t out is moved)
+unfolding is_placed
+walks_beside file board a t out is moved = placed_walks file out board a.graph a.code moved.pl (is_placed file board a t out is moved)
 
 -- ---- where it stands
 

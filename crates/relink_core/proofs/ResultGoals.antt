@@ -1,9 +1,13 @@
 -- What the steps by which a result is made ask of each other.
 use Rattle.std.proofs.Common.{◌≡◌, ◌∙◌, ℕ, List, map, length, Some, refl, sym, ap, subst}
 use Rattle.std.specs.List.Sorted.{IsStrictlyIncreasing}
-use Rattle.elf_reader.specs.File.{PlainView, plain_view}
-use Rattle.elf_writer.specs.Parts.{new_segment}
-use Rattle.elf_writer.specs.Conditions.{IsWritable}
+use Rattle.elf_reader.specs.File.{PlainView, plain_view, view_in}
+use Rattle.elf_writer.specs.declared.parts.Patch as elf
+use Rattle.elf_writer.specs.declared.parts.SymbolMove.{SymbolMove}
+use Rattle.elf_writer.specs.Parts.{NewSegment, new_segment}
+use Rattle.elf_writer.specs.Written.{written}
+use Rattle.elf_writer.specs.View.{written_view}
+use Rattle.elf_writer.specs.Conditions.{IsWritable, HasWords}
 use Rattle.board_config.specs.declared.board.Board.{Board}
 use Rattle.object_graph.specs.declared.parts.Graph.{Graph}
 use Rattle.code_blocks.specs.declared.parts.Code.{Code}
@@ -31,6 +35,20 @@ use Rattle.relink_core.proofs.MoveLemmas.{has_starts}
 use Rattle.relink_core.proofs.PlacedWritten.{IsMadeFor, static_listed}
 use Rattle.relink_core.proofs.PlacedGoals as placed
 use Rattle.relink_core.proofs.PlacedGoals.{same_homes, stubs_reached}
+
+-- what is written with these patches and these moves
+pub file_written : (v : PlainView) (s : NewSegment) (padded : List Patch) (moves own : List SymbolMove) (ps : List elf.Patch) (out : List ℕ) → ps ≡ map (patch_of v) padded → own ≡ moves → out ≡ written v ps (Some s) own → view_in out ≡ written_view v ps (Some s) own → HasWords (Some s) own → IsWrittenOf v padded moves s out
+file_written v s padded moves own ps out patches same bytes reads fit =
+    record {
+      bytes = bytes ∙ (λ i. written v (patches i) (Some s) (same i));
+      reads = reads ∙ (λ i. written_view v (patches i) (Some s) (same i));
+      fit = subst (HasWords (Some s)) same fit;
+    }
+
+pub may_write_so : (v : PlainView) (s : NewSegment) (padded : List Patch) (moves own : List SymbolMove) (ps : List elf.Patch) → ps ≡ map (patch_of v) padded → own ≡ moves → IsWritable v (map (patch_of v) padded) (Some s) moves → IsWritable v ps (Some s) own
+may_write_so v s padded moves own ps patches same may =
+    subst (λ (qs : List elf.Patch). IsWritable v qs (Some s) own) (sym patches)
+    (subst (λ (ms : List SymbolMove). IsWritable v (map (patch_of v) padded) (Some s) ms) (sym same) may)
 
 module _ (file : List ℕ) (t : RegionTable) (p : PlainProgramme) (choice : PlainChoice) (parts : ResultParts) (q : StubPlan) (is : ArePartsOf file t p choice parts) (of : IsPlanOfParts file t p choice parts q) where
   abbrev board : Board

@@ -12,15 +12,19 @@ use Rattle.list_checks.proofs.SortedLemmas.{sorted_once}
 use Rattle.list_checks.proofs.StepLemmas.{any_place}
 use Rattle.elf_reader.specs.File.{view_in}
 use Rattle.board_config.specs.declared.board.Board.{Board}
+use Rattle.object_graph.specs.Lookups.{IsSomeGraph}
 use Rattle.object_graph.specs.declared.parts.Graph.{Graph}
+use Rattle.code_blocks.specs.Blocks.{IsCode}
 use Rattle.code_blocks.specs.Leads.{units_at}
 use Rattle.code_blocks.specs.declared.parts.Code.{Code}
 use Rattle.code_blocks.specs.declared.parts.Block.{Block}
 use Rattle.code_blocks.specs.declared.parts.Unit.{Unit}
 use Rattle.dataflow.specs.Overlaid.{region_in, is_border}
+use Rattle.dataflow.specs.Tables.{IsTableOf}
 use Rattle.region_former.specs.declared.table.RegionTable.{RegionTable}
 use Rattle.block_splitter.specs.Forms.{holds_block}
-use Rattle.block_splitter.specs.Pieces.{is_entry}
+use Rattle.block_splitter.specs.Pieces.{is_entry, ArePieces}
+use Rattle.block_splitter.specs.Copies.{Copy, Patch, HasSites, IsCopy}
 use Rattle.placement_programme.specs.Plain.{PlainProgramme, PlainChoice}
 use Rattle.patch_code.specs.Serving.{ServingStub, serving_home, test_bytes}
 use Rattle.patch_code.specs.Overlay.{OverlayPlan, serving_place}
@@ -33,21 +37,22 @@ use Rattle.result_laws.specs.LiveUnits.{UnitsStand}
 use Rattle.result_laws.proofs.CodeUnits.{code_units_stand}
 use Rattle.result_laws.specs.ChosenPlacement.{ChosenPlacement, no_piece}
 use Rattle.result_laws.specs.PlacedView.{enters_piece, is_served, IsUncopied, ServesSome}
-use Rattle.relink_core.specs.Copies.{IsSource, IsPlacedCopy}
+use Rattle.relink_core.specs.Copies.{IsSource, IsPlacedCopy, CanPlace, copied_in}
 use Rattle.relink_core.specs.Padding.{home_of}
 use Rattle.relink_core.specs.declared.copy_source.CopySource.{CopySource}
 use Rattle.relink_core.specs.declared.placed_copy.PlacedCopy.{PlacedCopy}
 use Rattle.list_checks.proofs.TestLemmas.{both, either}
 use Rattle.relink_core.specs.Chosen.{names_of}
-use Rattle.relink_core.specs.Placed.{Taken, MovesBy}
+use Rattle.relink_core.specs.Placed.{taken_of, MovesBy}
 use Rattle.relink_core.specs.ResultParts.{ArePartsOf, ArePlanned}
-use Rattle.relink_core.specs.Written.{IsPatchSegment}
-use Rattle.relink_core.specs.UnitMaps.{regions_named, piece_region, IsAtHome, IsUnitAt, StandsBefore, AreUnitsAt, MovesWithUnits}
-use Rattle.relink_core.specs.UnitSets.{Gains, Upto, HomeForms, CopyForms, StubForms, runs, CollectedFrom, CollectedForms, CanCollect}
+use Rattle.relink_core.specs.MadeResults.{AreFormsOf, MovesWithForms}
+use Rattle.relink_core.specs.declared.analysis.Analysis.{Analysis}
+use Rattle.relink_core.specs.declared.realising.{MovedParts.{MovedParts}, Realised.{Realised}}
+use Rattle.relink_core.specs.UnitMaps.{regions_named, piece_region, IsAtHome, IsUnitAt, StandsBefore, AreUnitsAt}
+use Rattle.relink_core.specs.UnitSets.{Gains, Upto, HomeForms, CopyForms, StubForms, runs, CollectedOf, CollectedFrom, CollectedForms, CanCollect}
 use Rattle.relink_core.specs.declared.chosen_results.PlannedResult.{PlannedResult}
 use Rattle.relink_core.specs.declared.chosen_results.ResultParts.{ResultParts}
 use Rattle.relink_core.specs.declared.form_sources.FormSources.{FormSources}
-use Rattle.relink_core.specs.declared.segments.PatchSegment.{PatchSegment}
 use Rattle.relink_core.specs.declared.unit_forms.UnitAt.{UnitAt}
 use Rattle.relink_core.proofs.PlacedGoals.{same_homes}
 use Rattle.relink_core.proofs.SourceFacts.{source_is, borders_entered}
@@ -135,6 +140,24 @@ collected_units w empty a b collected units none first second third same ordered
       ordered = ordered;
     }
 
+-- ---- the parts of a result
+
+pub are_forms : (a : Analysis) (r : Realised) (m : MovedParts) (w : FormSources) → w.source.now.code.now ≡ a.code → w.source.now.live.now ≡ a.live → w.source.now.graph.now ≡ a.graph → w.source.now.pieces.now ≡ a.pieces.items → w.source.now.sites.now ≡ m.sites.items
+    → w.homes.now ≡ map home_of m.stubs.items → w.copies.now ≡ r.copies.items → w.regions.now ≡ regions_named r.names.items → w.stubs.now ≡ m.stubs.items → w.stub_at.now ≡ m.stub_at.items → AreFormsOf a r m w
+are_forms a r m w code live graph pieces sites homes copies regions stubs stub_at =
+    record {
+      code = code;
+      live = live;
+      graph = graph;
+      pieces = pieces;
+      sites = sites;
+      homes = homes;
+      copies = copies;
+      regions = regions;
+      stubs = stubs;
+      stub_at = stub_at;
+    }
+
 -- ---- those of a plan
 
 border_region : (borders : List Bool) (b own region : ℕ) → region ≡ (if is_border borders b then own else 0) → is_border borders b ≡ true → region ≡ own
@@ -205,23 +228,24 @@ module _ (file : List ℕ) (t : RegionTable) (p : PlainProgramme) (choice : Plai
 
   -- ---- what is collected from
 
-  pub record IsMadeOf (segment : PatchSegment) (z : CopySource) (hs : List ℕ) (xs : List PlacedCopy) (rs : List ℕ) (ts : List Stub) (places : List ℕ) : Type 0 where
-    pub source : z ≡ s
+  pub record IsMadeOf (z : CopySource) (hs : List ℕ) (xs : List PlacedCopy) (rs : List ℕ) (ts : List Stub) (places : List ℕ) : Type 0 where
+    pub code : z.code.now ≡ c
+    pub live : z.live.now ≡ s.live.now
+    pub graph : z.graph.now ≡ g
+    pub pieces : z.pieces.now ≡ s.pieces.now
+    pub sites : z.sites.now ≡ s.sites.now
     pub homes : hs ≡ map home_of r.plan.stubs.items
     pub copies : xs ≡ r.copies.items
     pub regions : rs ≡ regions_named parts.taken.now.names.items
     pub stubs : ts ≡ r.plan.stubs.items
-    pub stub_at : places ≡ segment.stub_at.items
+    pub stub_at : places ≡ map (serving_place plan) plan.stubs
 
-  module _ (segment : PatchSegment) (z : CopySource) (hs : List ℕ) (xs : List PlacedCopy) (rs : List ℕ) (ts : List Stub) (places : List ℕ) (patch : IsPatchSegment plan segment) (made : IsMadeOf segment z hs xs rs ts places) where
+  module _ (z : CopySource) (hs : List ℕ) (xs : List PlacedCopy) (rs : List ℕ) (ts : List Stub) (places : List ℕ) (made : IsMadeOf z hs xs rs ts places) where
     homes_are : hs ≡ map serving_home plan.stubs
     homes_are = made.homes ∙ sym (same_homes r.plan.stubs.items)
 
     stubs_are : map serving_stub ts ≡ plan.stubs
     stubs_are = ap (λ (us : List Stub). map serving_stub us) made.stubs
-
-    places_are : places ≡ map (serving_place plan) plan.stubs
-    places_are = made.stub_at ∙ patch.stubs
 
     stub_count : length ts ≡ length plan.stubs
     stub_count = sym (length-map ts serving_stub) ∙ ap (λ (us : List ServingStub). length us) stubs_are
@@ -232,65 +256,93 @@ module _ (file : List ℕ) (t : RegionTable) (p : PlainProgramme) (choice : Plai
         let there : serving_stub (get_or ts k d) ≡ get_or plan.stubs k (serving_stub d) =
         sym (get_or-map serving_stub ts k d (serving_stub d) below) ∙ ap (λ (us : List ServingStub). get_or us k (serving_stub d)) stubs_are in
         let place : slice_index_or places k 0 ≡ serving_place plan (get_or plan.stubs k (serving_stub d)) =
-        ap (λ (ns : List ℕ). slice_index_or ns k 0) places_are ∙ get_or-map (serving_place plan) plan.stubs k (serving_stub d) 0 inside in
+        ap (λ (ns : List ℕ). slice_index_or ns k 0) made.stub_at ∙ get_or-map (serving_place plan) plan.stubs k (serving_stub d) 0 inside in
         let ends = stub_ends k (serving_stub d) inside (ap (λ (u : ServingStub). runs u.body) (sym there) ∙ run) in
         omega (arith, place, ends)
 
     made_source : IsSource z
-    made_source = subst IsSource (sym made.source) (source_is file board parts.view.now s parts.regions.now t p choice parts.taken.now is)
+    made_source =
+        let own = source_is file board parts.view.now s parts.regions.now t p choice parts.taken.now is in
+        record {
+          view = own.view;
+          code = subst (IsCode own.view) (sym made.code) own.code;
+          live = subst (λ (d : Code). IsTableOf d z.live.now) (sym made.code) (subst (IsTableOf c) (sym made.live) own.live);
+          graph = subst IsSomeGraph (sym made.graph) own.graph;
+          pieces = subst (λ (d : Code). ArePieces d z.graph.now z.pieces.now) (sym made.code)
+              (subst (λ (h : Graph). ArePieces c h z.pieces.now) (sym made.graph) (subst (ArePieces c g) (sym made.pieces) own.pieces));
+          sites = subst (λ (d : Code). HasSites d z.graph.now z.sites.now) (sym made.code)
+              (subst (λ (h : Graph). HasSites c h z.sites.now) (sym made.graph) (subst (HasSites c g) (sym made.sites) own.sites));
+        }
+
+    copied_same : (x : PlacedCopy) → copied_in z x ≡ copied_in s x
+    copied_same x =
+        λ i. record { code = made.code i; graph = made.graph i; range = x.range; at = x.at; sites = made.sites i }
+
+    placed_same : (x : PlacedCopy) → IsPlacedCopy s x → IsPlacedCopy z x
+    placed_same x placed =
+        record {
+          can = subst (λ (d : Code). CanPlace d z.graph.now x.range x.at) (sym made.code)
+              (subst (λ (h : Graph). CanPlace c h x.range x.at) (sym made.graph) placed.can);
+          copy = subst (λ (y : Copy). IsCopy y x.code.words.items x.code.starts.items) (sym (copied_same x)) placed.copy;
+        }
 
     made_copies : All (IsPlacedCopy z) xs
     made_copies =
-        subst (λ (y : CopySource). All (IsPlacedCopy y) xs) (sym made.source)
-        (subst (λ (ys : List PlacedCopy). All (IsPlacedCopy s) ys) (sym made.copies) are.copies.each)
+        subst (λ (ys : List PlacedCopy). All (IsPlacedCopy z) ys) (sym made.copies)
+        (λ k d below. placed_same (get_or r.copies.items k d) (are.copies.each k d below))
 
     made_sorted : IsSorted hs
     made_sorted = sorted_once hs (subst IsStrictlyIncreasing (sym homes_are) are.plan.of.ascending)
 
     made_many : length places ≡ length ts
-    made_many = ap (λ (ns : List ℕ). length ns) places_are ∙ length-map plan.stubs (serving_place plan) ∙ sym stub_count
+    made_many = ap (λ (ns : List ℕ). length ns) made.stub_at ∙ length-map plan.stubs (serving_place plan) ∙ sym stub_count
 
     collected_same : (units : List UnitAt) → AreUnitsAt (CollectedFrom z hs xs rs (map serving_stub ts) places) units → AreUnitsAt (CollectedFrom s (map serving_home plan.stubs) r.copies.items rs plan.stubs places) units
     collected_same units given =
-        subst (λ (y : CopySource). AreUnitsAt (CollectedFrom y (map serving_home plan.stubs) r.copies.items rs plan.stubs places) units) made.source
+        subst (λ (d : Code). AreUnitsAt (CollectedOf d g s.sites.now (map serving_home plan.stubs) r.copies.items rs plan.stubs places) units) made.code
+        (subst (λ (h : Graph). AreUnitsAt (CollectedOf z.code.now h s.sites.now (map serving_home plan.stubs) r.copies.items rs plan.stubs places) units) made.graph
+        (subst (λ (ws : List Patch). AreUnitsAt (CollectedOf z.code.now z.graph.now ws (map serving_home plan.stubs) r.copies.items rs plan.stubs places) units) made.sites
         (subst (λ (ns : List ℕ). AreUnitsAt (CollectedFrom z ns r.copies.items rs plan.stubs places) units) homes_are
         (subst (λ (ys : List PlacedCopy). AreUnitsAt (CollectedFrom z hs ys rs plan.stubs places) units) made.copies
-        (subst (λ (us : List ServingStub). AreUnitsAt (CollectedFrom z hs xs rs us places) units) stubs_are given)))
+        (subst (λ (us : List ServingStub). AreUnitsAt (CollectedFrom z hs xs rs us places) units) stubs_are given)))))
 
-    pub units_mapped : (units : List UnitAt) → AreUnitsAt (CollectedFrom z hs xs rs (map serving_stub ts) places) units → AreUnitsAt (IsUnitAt board c g pl plan) units
+    units_mapped : (units : List UnitAt) → AreUnitsAt (CollectedFrom z hs xs rs (map serving_stub ts) places) units → AreUnitsAt (IsUnitAt board c g pl plan) units
     units_mapped units given =
         let all = collected_same units given in
         let own = regions_are rs made.regions in
         record {
           each = λ x. (
-            λ has. forms_forth (view_in file) (unnamed_in file board g) board s parts.regions.now r.copies.items pl plan stand are.plan.copied are.plan.of.planned.stubs x places places_are rs own ((all.each x).0 has),
-            λ form. (all.each x).1 (forms_back (view_in file) (unnamed_in file board g) board s parts.regions.now r.copies.items pl plan stand are.plan.copied are.plan.of.planned.stubs x places places_are rs own form),
+            λ has. forms_forth (view_in file) (unnamed_in file board g) board s parts.regions.now r.copies.items pl plan stand are.plan.copied are.plan.of.planned.stubs x places made.stub_at rs own ((all.each x).0 has),
+            λ form. (all.each x).1 (forms_back (view_in file) (unnamed_in file board g) board s parts.regions.now r.copies.items pl plan stand are.plan.copied are.plan.of.planned.stubs x places made.stub_at rs own form),
           );
           ordered = all.ordered;
         }
 
-  pub can_collect : (segment : PatchSegment) (w : FormSources) → IsPatchSegment plan segment → IsMadeOf segment w.source.now w.homes.now w.copies.now w.regions.now w.stubs.now w.stub_at.now → CanCollect w
-  can_collect segment w patch made =
-      let z = w.source.now in
-      let hs = w.homes.now in
-      let xs = w.copies.now in
-      let rs = w.regions.now in
-      let ts = w.stubs.now in
-      let places = w.stub_at.now in
-      record {
-        source = made_source segment z hs xs rs ts places patch made;
-        copies = made_copies segment z hs xs rs ts places patch made;
-        sorted = made_sorted segment z hs xs rs ts places patch made;
-        many = made_many segment z hs xs rs ts places patch made;
-        ends = ends_are segment z hs xs rs ts places patch made;
-      }
+  module _ (out : List ℕ) (moves : MovesBy file board g c t (taken_of p choice) pl plan out) (IsFrom : FormSources → Type 0) (of : (w : FormSources) → IsFrom w → IsMadeOf w.source.now w.homes.now w.copies.now w.regions.now w.stubs.now w.stub_at.now) where
+    can_collect : (w : FormSources) → IsFrom w → CanCollect w
+    can_collect w from =
+        let z = w.source.now in
+        let hs = w.homes.now in
+        let xs = w.copies.now in
+        let rs = w.regions.now in
+        let ts = w.stubs.now in
+        let places = w.stub_at.now in
+        record {
+          source = made_source z hs xs rs ts places (of w from);
+          copies = made_copies z hs xs rs ts places (of w from);
+          sorted = made_sorted z hs xs rs ts places (of w from);
+          many = made_many z hs xs rs ts places (of w from);
+          ends = ends_are z hs xs rs ts places (of w from);
+        }
 
--- ---- with their result
-
-pub with_units : (file : List ℕ) (board : Board) (g : Graph) (c : Code) (t : RegionTable) (taken : Taken) (placement : ChosenPlacement) (patch : OverlayPlan) (out : List ℕ) (units : List UnitAt) → MovesBy file board g c t taken placement patch out → AreUnitsAt (IsUnitAt board c g placement patch) units → MovesWithUnits file board g c t taken out units
-with_units file board g c t taken placement patch out units by forms =
-    record {
-      moved = by.moved;
-      forms = subst (λ (q : OverlayPlan). AreUnitsAt (IsUnitAt board c g by.moved.pl q) units) (sym by.plan_is)
-          (subst (λ (x : ChosenPlacement). AreUnitsAt (IsUnitAt board c g x patch) units) (sym by.pl_is) forms);
-    }
+    -- a result with these forms
+    pub with_forms : MovesWithForms file board g c t (taken_of p choice) out IsFrom
+    with_forms =
+        record {
+          moved = moves.moved;
+          can = can_collect;
+          forms = λ w units from collected.
+              let mapped = units_mapped w.source.now w.homes.now w.copies.now w.regions.now w.stubs.now w.stub_at.now (of w from) units collected in
+              subst (λ (q : OverlayPlan). AreUnitsAt (IsUnitAt board c g moves.moved.pl q) units) (sym moves.plan_is)
+              (subst (λ (x : ChosenPlacement). AreUnitsAt (IsUnitAt board c g x plan) units) (sym moves.pl_is) mapped);
+        }

@@ -28,3 +28,4 @@ pub mod Names
 pub mod Extending
 pub mod UnitSets
 pub mod UnitMaps
+pub mod MadeResults

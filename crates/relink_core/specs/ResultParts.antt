@@ -10,6 +10,7 @@ use Rattle.placement_programme.specs.Plain.{PlainProgramme, PlainChoice}
 use Rattle.patch_code.specs.Jobs.{fences}
 use Rattle.result_laws.specs.ChosenJobs.{is_static}
 use Rattle.patch_code.specs.Serving.{serving_home}
+use Rattle.patch_code.specs.Overlay.{serving_place}
 use Rattle.patch_code.specs.StubPlans.{serving_stub, HasLists, overlay_plan}
 use Rattle.patch_code.specs.declared.stub_plan.Stub.{Stub}
 use Rattle.patch_code.specs.declared.stub_plan.StubPlan.{StubPlan}
@@ -22,8 +23,9 @@ use Rattle.relink_core.specs.Copies.{ArePlacedCopies}
 use Rattle.relink_core.specs.Serving.{IsPlacedWith, served_blocks, AreStubsFrom}
 use Rattle.relink_core.specs.StubBlocks.{HasRoomFor, stub_blocks}
 use Rattle.relink_core.specs.Chosen.{names_of, IsSourceOf}
-use Rattle.relink_core.specs.Placed.{taken_of, IsPlacementFor}
+use Rattle.relink_core.specs.Placed.{taken_of, IsPlacementFor, MovesBy}
 use Rattle.relink_core.specs.Names.{ranges_named}
+use Rattle.relink_core.specs.declared.chosen_results.PlacedResult.{PlacedResult}
 use Rattle.relink_core.specs.declared.chosen_results.PlannedResult.{PlannedResult}
 use Rattle.relink_core.specs.declared.chosen_results.ResultParts.{ResultParts}
 
@@ -94,6 +96,13 @@ pub record ArePlanned (file : List ℕ) (t : RegionTable) (p : PlainProgramme) (
   pub copies : AreCopiesOf p choice parts r.copies.items
   pub plan : IsPlanWith file t p choice parts r.copies.items r.plan
 
-abbrev pub HavePlan : ResultParts → StubPlan → Type 0
-HavePlan parts plan =
-    (file : List ℕ) × (t : RegionTable) × (p : PlainProgramme) × (choice : PlainChoice) × ArePartsOf file t p choice parts × IsPlanOfParts file t p choice parts plan
+-- ---- the result
+
+-- items stand in the scratchpad in a result, by a plan whose copies and stubs it has
+pub record IsPlacedBy (file : List ℕ) (t : RegionTable) (p : PlainProgramme) (choice : PlainChoice) (parts : ResultParts) (r : PlacedResult) : Type 0 where
+  pub planned : PlannedResult
+  pub are : ArePlanned file t p choice parts planned
+  pub moves : MovesBy file parts.board.now parts.source.now.graph.now parts.source.now.code.now t (taken_of p choice) are.plan.of.pl (overlay_plan planned.plan) r.bytes.items
+  pub copies : r.copies.items ≡ planned.copies.items
+  pub stubs : r.stubs.items ≡ planned.plan.stubs.items
+  pub stub_at : r.stub_at.items ≡ map (serving_place (overlay_plan planned.plan)) (overlay_plan planned.plan).stubs

@@ -2,18 +2,19 @@
 use Rattle.std.specs.Prelude.{◌≡◌, ◌⊎◌, ◌↔◌, ℕ, ◌+◌, ◌<◌, ◌==◌, Bool, true, false, ◌&&◌, List, length, map, slice_index_or, Contains}
 use Rattle.std.specs.List.{list_any, All}
 use Rattle.list_checks.specs.Sorted.{is_number, IsSorted}
+use Rattle.object_graph.specs.declared.parts.Graph.{Graph}
 use Rattle.code_blocks.specs.Numbers.{start_at}
 use Rattle.code_blocks.specs.Leads.{units_at, no_unit}
 use Rattle.code_blocks.specs.declared.parts.Unit.{Unit}
 use Rattle.code_blocks.specs.declared.parts.Code.{Code}
 use Rattle.block_splitter.specs.Forms.{holds_block, body_at}
-use Rattle.block_splitter.specs.Copies.{Copy, address_of, place_of, unit_of}
+use Rattle.block_splitter.specs.Copies.{Copy, Patch, address_of, place_of, unit_of}
 use Rattle.patch_code.specs.StubPlans.{serving_stub}
 use Rattle.patch_code.specs.Serving.{StubBody, jumps_to, runs_words, ServingStub}
 use Rattle.patch_code.specs.declared.stub_plan.Stub.{Stub}
 use Rattle.relink_core.specs.declared.copy_source.CopySource.{CopySource}
 use Rattle.relink_core.specs.declared.placed_copy.PlacedCopy.{PlacedCopy}
-use Rattle.relink_core.specs.Copies.{IsSource, IsPlacedCopy, copied_in}
+use Rattle.relink_core.specs.Copies.{IsSource, IsPlacedCopy}
 use Rattle.relink_core.specs.declared.form_sources.FormSources.{FormSources}
 use Rattle.relink_core.specs.declared.unit_forms.UnitAt.{UnitAt}
 
@@ -63,10 +64,15 @@ HeldForms x region b y = (holds_block b x.range ≡ true) × BlockForms x region
 abbrev pub PieceForms : Copy → ℕ → UnitAt → Type 0
 PieceForms x region = Upto (length x.code.blocks.items) (HeldForms x region)
 
--- those of copy `n` of a list, by the regions of all
+-- those of copy `n` of a list, by the regions of all, of a code with its graph and the words of its sites
+abbrev pub CopyFormsOf : Code → Graph → List Patch → List PlacedCopy → List ℕ → ℕ → UnitAt → Type 0
+CopyFormsOf c g sites copies regions n y =
+    (x : PlacedCopy)
+    × ((slice_index_or copies n x ≡ x)
+    × PieceForms (record { code = c; graph = g; range = x.range; at = x.at; sites = sites }) (slice_index_or regions n 0) y)
+
 abbrev pub CopyForms : CopySource → List PlacedCopy → List ℕ → ℕ → UnitAt → Type 0
-CopyForms s copies regions n y =
-    (x : PlacedCopy) × ((slice_index_or copies n x ≡ x) × PieceForms (copied_in s x) (slice_index_or regions n 0) y)
+CopyForms s copies regions n y = CopyFormsOf s.code.now s.graph.now s.sites.now copies regions n y
 
 -- ---- in stubs
 
@@ -88,10 +94,14 @@ StubForms stubs places k = StubForm (slice_index_or stubs k no_stub) (slice_inde
 -- ---- all of them
 
 -- at home, by the homes of stubs; in copies, by their regions; and in stubs, by their places
+abbrev pub CollectedOf : Code → Graph → List Patch → List ℕ → List PlacedCopy → List ℕ → List ServingStub → List ℕ → UnitAt → Type 0
+CollectedOf c g sites homes copies regions stubs places x =
+    Upto (length c.blocks.items) (HomeForms c homes) x
+    ⊎ (Upto (length copies) (CopyFormsOf c g sites copies regions) x ⊎ Upto (length stubs) (StubForms stubs places) x)
+
 abbrev pub CollectedFrom : CopySource → List ℕ → List PlacedCopy → List ℕ → List ServingStub → List ℕ → UnitAt → Type 0
 CollectedFrom s homes copies regions stubs places x =
-    Upto (length s.code.now.blocks.items) (HomeForms s.code.now homes) x
-    ⊎ (Upto (length copies) (CopyForms s copies regions) x ⊎ Upto (length stubs) (StubForms stubs places) x)
+    CollectedOf s.code.now s.graph.now s.sites.now homes copies regions stubs places x
 
 abbrev pub CollectedForms : FormSources → UnitAt → Type 0
 CollectedForms w =

@@ -1,19 +1,15 @@
 ghost use Rattle.std.specs.Prelude.{◌≡◌, ◌↔◌, ◌<◌, true, IfOk, OnOk, IfErr, None, option_map};
 ghost use Rattle.std.specs.List.Sorted.{IsStrictlyIncreasing};
 ghost use Rattle.list_checks.specs.First.{Reports, ReportsUnless};
-ghost use Rattle.elf_reader.specs.Faults.{first_fault};
-ghost use Rattle.elf_reader.specs.File.{IsFile, plain_view, view_in};
+ghost use Rattle.elf_reader.specs.{Faults.{first_fault}, File.{IsFile, plain_view, view_in}};
 ghost use Rattle.board_config.specs.Board.{IsLawful};
 ghost use Rattle.loaded_file.specs.Read.{IsRead};
-ghost use Rattle.object_graph.specs.Graphs.{IsGraph};
-ghost use Rattle.object_graph.specs.Lookups.{IsSomeGraph};
-ghost use Rattle.code_blocks.specs.Blocks.{IsCode, code_fault};
-ghost use Rattle.code_blocks.specs.Numbers.{starts_of};
+ghost use Rattle.object_graph.specs.{Graphs.{IsGraph}, Lookups.{IsSomeGraph}};
+ghost use Rattle.code_blocks.specs.{Blocks.{IsCode, code_fault}, Numbers.{starts_of}};
 ghost use Rattle.dataflow.specs.Tables.{IsTableOf};
 ghost use Rattle.block_splitter.specs.Pieces.{ArePieces};
 ghost use Rattle.relink_core.specs.declared.fault.AnalyseFault.TheVariants as analyse;
-ghost use Rattle.relink_core.specs.Faults.{IsOutermost, headers_fault, file_fault, least_patch, patch_fault, places_fault, analyse_fault, ReportsAnalysis, ReportsRegions};
-ghost use Rattle.relink_core.specs.Regions.{HasDeadAt, ReportsDead, AreRegions};
+ghost use Rattle.relink_core.specs.{Faults.{IsOutermost, headers_fault, file_fault, least_patch, patch_fault, places_fault, analyse_fault, ReportsAnalysis, ReportsRegions}, Regions.{HasDeadAt, ReportsDead, AreRegions}};
 
 use crate::fault::AnalyseFault;
 use block_splitter::{Piece, pieces};

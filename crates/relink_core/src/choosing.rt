@@ -1,16 +1,10 @@
 //! What a choice takes into the scratchpad, and where it stands there.
 ghost use Rattle.std.specs.Prelude.{◌≡◌, ℕ, ◌<◌, ◌++◌, ◌∷◌, [], List, map, length, IfOk, OnOk};
 ghost use Rattle.std.specs.List.{filter_map};
-ghost use Rattle.placement_programme.specs.Bounds.{AscendWithin};
-ghost use Rattle.placement_programme.specs.Plain.{plain_var};
-ghost use Rattle.placement_programme.specs.Programme.{IsFeasible, side_for};
-ghost use Rattle.placement_programme.specs.Views.{plain_programme, plain_choice};
+ghost use Rattle.placement_programme.specs.{Bounds.{AscendWithin}, Plain.{plain_var}, Programme.{IsFeasible, side_for}, Views.{plain_programme, plain_choice}};
 ghost use Rattle.relocator.specs.Slots.{name_at, vars_for};
-ghost use Rattle.result_laws.specs.Choices.{IsChoiceFor};
-ghost use Rattle.result_laws.specs.PlacementLaws.{regions_on};
-ghost use Rattle.relink_core.specs.Choices.{IsAnalysisOf};
-ghost use Rattle.relink_core.specs.Chosen.{IsTakenBy, AreRegionsOf};
-ghost use Rattle.relink_core.specs.Names.{object_named, range_named, objects_named, ranges_named, names_taken};
+ghost use Rattle.result_laws.specs.{Choices.{IsChoiceFor}, PlacementLaws.{regions_on}};
+ghost use Rattle.relink_core.specs.{Choices.{IsAnalysisOf}, Chosen.{IsTakenBy, AreRegionsOf}, Names.{object_named, range_named, objects_named, ranges_named, names_taken}};
 
 use crate::analysis::Analysis;
 use crate::code_regions::CodeRegions;

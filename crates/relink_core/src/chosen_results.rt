@@ -3,12 +3,8 @@ ghost use Rattle.std.specs.Prelude.{◌≡◌, ℕ, ◌<◌, List, map, IfOk};
 ghost use Rattle.std.specs.List.{All, sum_by};
 ghost use Rattle.region_former.specs.declared.table.RegionTable.{RegionTable};
 ghost use Rattle.placement_programme.specs.Plain.{PlainProgramme, PlainChoice};
-ghost use Rattle.patch_code.specs.StubPlans.{overlay_plan};
 ghost use Rattle.result_laws.specs.ChosenJobs.{is_static};
-ghost use Rattle.relink_core.specs.Copies.{range_in, place_in};
-ghost use Rattle.relink_core.specs.Standing.{HasBytes, IsCopiedRange};
-ghost use Rattle.relink_core.specs.Placed.{taken_of, MovesItems, MovesBy};
-ghost use Rattle.relink_core.specs.ResultParts.{ArePartsOf, AreParts, AreCopiesOf, HaveCopies, counts_static, stubs_at, HaveRoom, ServeCopies, HavePlan, IsPlanOfParts, IsPlanWith, ArePlanned};
+ghost use Rattle.relink_core.specs.{Copies.{range_in, place_in}, Standing.{HasBytes, IsCopiedRange}, ResultParts.{ArePartsOf, AreParts, AreCopiesOf, HaveCopies, counts_static, stubs_at, HaveRoom, ServeCopies, IsPlanWith, ArePlanned, IsPlacedBy}};
 
 use crate::analysis::least_patch;
 use crate::choosing::TakenNames;
@@ -17,13 +13,15 @@ use crate::copy_source::CopySource;
 use crate::copying::copies;
 use crate::items::PlannedItems;
 use crate::padding::padded_words;
+use crate::patching::patches;
 use crate::placed_copy::PlacedCopy;
 use crate::plan::patch_plan;
 use crate::segments::patch_segment;
 use crate::serving::serving_stubs;
-use crate::writing::{MovedObjects, written_items};
+use crate::symbol_moves::symbol_moves;
 use board_config::Board;
 use elf_reader::ElfView;
+use elf_writer::write;
 use patch_code::{Stub, StubPlan};
 use placement_programme::VarName;
 use std::alloc::{AllocError, Global};
@@ -45,11 +43,13 @@ pub(crate) struct PlannedResult {
     pub(crate) plan: StubPlan,
 }
 
-/// A result, and the copies that stand in it.
+/// A result, the copies and the stubs that stand in it, and where each stub does.
 #[derive(Drop)]
 pub(crate) struct PlacedResult {
     pub(crate) bytes: Vec<u8>,
     pub(crate) copies: Vec<PlacedCopy>,
+    pub(crate) stubs: Vec<Stub>,
+    pub(crate) stub_at: Vec<u32>,
 }
 
 /// How many bytes a copy job takes.
@@ -150,28 +150,6 @@ pub(crate) fn placed_plan(
     }
 }
 
-/// The file that is written for a plan of the patch range. It fails only where no memory was left.
-pub(crate) fn written_result(
-    alloc: Global,
-    parts: &ResultParts,
-    plan: &StubPlan,
-) -> Result<Vec<u8>, AllocError>
-    requires { HavePlan parts.now plan.now }
-    ensures { IfOk result (λ out. (file : List ℕ) (t : RegionTable) (p : PlainProgramme) (choice : PlainChoice) → ArePartsOf file t p choice parts.now → (of : IsPlanOfParts file t p choice parts.now plan.now) → MovesBy file parts.now.board.now parts.now.source.now.graph.now parts.now.source.now.code.now t (taken_of p choice) of.pl (overlay_plan plan.now) out.items) }
-{
-    let patch = patch_segment(alloc, plan)?;
-    let padded = padded_words(alloc, parts.source.sites, &plan.stubs, &patch.stub_at)?;
-    let moved = MovedObjects {
-        graph: parts.source.graph,
-        places: &parts.taken.places,
-        objects: &parts.taken.objects,
-    };
-    match written_items(alloc, parts.view, &moved, &padded, &patch.segment) {
-        Ok(out) => Ok(out),
-        Err(error) => Err(error),
-    }
-}
-
 /// The copies of what is taken, and the plan of the patch range for them. It fails only where no memory was left.
 pub(crate) fn planned_result(
     alloc: Global,
@@ -195,17 +173,31 @@ pub(crate) fn planned_result(
 /// The result for what is taken. It fails only where no memory was left.
 pub(crate) fn placed_result(alloc: Global, parts: &ResultParts) -> Result<PlacedResult, AllocError>
     requires { AreParts parts.now }
-    ensures moved { IfOk result (λ r. (file : List ℕ) (t : RegionTable) (p : PlainProgramme) (choice : PlainChoice) → ArePartsOf file t p choice parts.now → MovesItems file parts.now.board.now parts.now.source.now.graph.now parts.now.source.now.code.now t (taken_of p choice) r.bytes.items) }
+    ensures placed { IfOk result (λ r. (file : List ℕ) (t : RegionTable) (p : PlainProgramme) (choice : PlainChoice) → ArePartsOf file t p choice parts.now → IsPlacedBy file t p choice parts.now r) }
     ensures ranges { IfOk result (λ r. map range_in r.copies.items ≡ parts.now.taken.now.ranges.items) }
     ensures places { IfOk result (λ r. map place_in r.copies.items ≡ parts.now.taken.now.places.code.items) }
     ensures whole { IfOk result (λ r. All (HasBytes parts.now.source.now.graph.now parts.now.source.now.code.now) r.copies.items) }
     ensures pieces { IfOk result (λ r. All (IsCopiedRange parts.now.source.now.graph.now parts.now.source.now.code.now) r.copies.items) }
 {
+    let (source, taken) = (parts.source, parts.taken);
     let planned = planned_result(alloc, parts)?;
-    match written_result(alloc, parts, &planned.plan) {
+    let plan = &planned.plan;
+    let patch = patch_segment(alloc, plan)?;
+    let padded = padded_words(alloc, source.sites, &plan.stubs, &patch.stub_at)?;
+    let patches = patches(alloc, parts.view, &padded)?;
+    let moves = symbol_moves(
+        alloc,
+        parts.view,
+        source.graph,
+        &taken.places,
+        &taken.objects,
+    )?;
+    match write(alloc, parts.view, &patches, Some(&patch.segment), &moves) {
         Ok(bytes) => Ok(PlacedResult {
             bytes,
             copies: planned.copies,
+            stubs: planned.plan.stubs,
+            stub_at: patch.stub_at,
         }),
         Err(error) => Err(error),
     }

@@ -1,9 +1,7 @@
 ghost use Rattle.std.specs.Prelude.{◌≡◌, true};
 ghost use Rattle.code_blocks.specs.declared.parts.Code.{Code};
 ghost use Rattle.dataflow.specs.Tables.{IsTableOf};
-ghost use Rattle.block_splitter.specs.Forms.{holds_block};
-ghost use Rattle.block_splitter.specs.Pieces.{IsTemporary, HasTemporary};
-ghost use Rattle.block_splitter.specs.Copies.{address_of, words_before};
+ghost use Rattle.block_splitter.specs.{Forms.{holds_block}, Pieces.{IsTemporary, HasTemporary}, Copies.{address_of, words_before}};
 ghost use Rattle.relink_core.specs.Copies.{IsSource, copied_in, IsPlacedCopy};
 
 use crate::copy_source::CopySource;

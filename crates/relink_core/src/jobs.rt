@@ -2,9 +2,8 @@
 ghost use Rattle.std.specs.Prelude.{◌≡◌, ◌+◌, ◌<◌, ◌≤◌, true, ◌++◌, [], ◌∷◌, if◌then◌else◌, length, slice_index_or, IfOk, IfSome, OnOk, MatchOption};
 ghost use Rattle.cell_values.specs.Objects.{object_of};
 ghost use Rattle.relocator.specs.Slots;
-ghost use Rattle.relocator.specs.Slots.{is_code};
+ghost use Rattle.relocator.specs.{Slots.{is_code}, Placing.{place_at}};
 ghost use Rattle.relink_core.specs.Naming;
-ghost use Rattle.relocator.specs.Placing.{place_at};
 ghost use Rattle.result_laws.specs.ChosenJobs.{next_code};
 ghost use Rattle.relink_core.specs.Naming.{in_phase, phase_region, IsKnown, CanPlan, images_at, named_into, named_home, phase_entering, phase_leaving};
 

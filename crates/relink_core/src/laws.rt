@@ -1,6 +1,5 @@
 // Laws of the definitions: functions that do nothing, whose contracts are what is proved.
-ghost use Rattle.relink_core.specs.Keeps.{UnmovedFileKeeps, AbsoluteKeepsRuns};
-ghost use Rattle.relink_core.specs.ResultFaults.{ResultsAreRead};
+ghost use Rattle.relink_core.specs.{Keeps.{UnmovedFileKeeps, AbsoluteKeepsRuns}, ResultFaults.{ResultsAreRead}};
 
 /// A file that is handed on as it is keeps its meaning in every paired run.
 pub fn unmoved_file_keeps()

@@ -32,7 +32,6 @@ mod standing;
 mod symbol_moves;
 mod unit_forms;
 mod unit_maps;
-mod writing;
 
 pub use analysis::{Analysis, analyse};
 pub use code_regions::CodeRegions;
@@ -45,7 +44,7 @@ pub use padding::padded_words;
 pub use placed_copy::PlacedCopy;
 pub use plan::patch_plan;
 pub use plan_laws::{plans_fit, stubs_have_room};
-pub use realising::{Realised, realise};
+pub use realising::{MovedParts, Realised, realise};
 pub use serving::serving_stubs;
 pub use unit_forms::UnitAt;
-pub use unit_maps::{RealisedUnits, realise_units};
+pub use unit_maps::{RealisedUnits, realise_units, unit_map};

@@ -2,8 +2,7 @@
 ghost use Rattle.std.specs.Prelude.{◌≡◌, ℕ, ◌<◌, ◌==◌, ◌&&◌, Some, None, length, IfOk, OnOk, if◌then◌else◌};
 ghost use Rattle.list_checks.specs.First.{◌or_else◌};
 ghost use Rattle.cell_values.specs.Objects.{object_of};
-ghost use Rattle.relink_core.specs.Making.{start_place, HasStarts, AreOfGraph};
-ghost use Rattle.relink_core.specs.MovedRanges.{place_of_range, HaveRanges};
+ghost use Rattle.relink_core.specs.{Making.{start_place, HasStarts, AreOfGraph}, MovedRanges.{place_of_range, HaveRanges}};
 
 use crate::standing::start_place;
 use object_graph::Graph;

@@ -1,8 +1,7 @@
 //! The patches of a file: where words of memory stand in it.
 ghost use Rattle.std.specs.Prelude.{◌≡◌, ◌-◌, true, map, IfOk};
 ghost use Rattle.rv32im.specs.Words.{plus};
-ghost use Rattle.elf_reader.specs.File.{plain_segment, plain_view};
-ghost use Rattle.elf_reader.specs.Image.{has_byte};
+ghost use Rattle.elf_reader.specs.{File.{plain_segment, plain_view}, Image.{has_byte}};
 ghost use Rattle.relink_core.specs.Making.{place_in, patch_of};
 
 use elf_reader::{ElfView, Segment};

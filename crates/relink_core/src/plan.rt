@@ -1,11 +1,8 @@
 //! The plan of the patch range.
 ghost use Rattle.std.specs.Prelude.{◌≡◌, ◌+◌, ◌*◌, ◌<◌, ◌≤◌, List, length, map, IfOk};
-ghost use Rattle.patch_code.specs.Start.{start_bytes};
-ghost use Rattle.patch_code.specs.Overlay.{rest_bytes, overlay_images_at};
-ghost use Rattle.patch_code.specs.StubPlans.{HasLists, overlay_plan};
+ghost use Rattle.patch_code.specs.{Start.{start_bytes}, Overlay.{rest_bytes, overlay_images_at}, StubPlans.{HasLists, overlay_plan}};
 ghost use Rattle.relocator.specs.declared.slots.Slot.{Slot};
-ghost use Rattle.relink_core.specs.Naming.{CanPlan};
-ghost use Rattle.relink_core.specs.Planning.{HasJobs, IsChosen, IsPlanMade, plan_bytes};
+ghost use Rattle.relink_core.specs.{Naming.{CanPlan}, Planning.{HasJobs, IsChosen, IsPlanMade, plan_bytes}};
 
 use crate::items::{Phase, PlannedItems};
 use crate::jobs::entering;

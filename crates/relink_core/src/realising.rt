@@ -1,28 +1,32 @@
 //! The result of a program for a choice of what stands in the scratchpad.
-ghost use Rattle.std.specs.Prelude.{◌≡◌, ◌⊎◌, ℕ, ◌<◌, true, false, List, [], length, map, IfOk};
-ghost use Rattle.std.specs.List.{All};
-ghost use Rattle.elf_reader.specs.File.{plain_view};
-ghost use Rattle.placement_programme.specs.Views.{plain_programme, plain_choice};
-ghost use Rattle.placement_programme.specs.Plain.{PlainProgramme, PlainChoice};
-ghost use Rattle.relink_core.specs.Copies.{range_in, place_in};
+ghost use Rattle.std.specs.Prelude.{◌≡◌, ◌⊎◌, ℕ, ◌<◌, true, false, List, [], length, IfOk};
+ghost use Rattle.placement_programme.specs.{Views.{plain_programme, plain_choice}, Plain.{PlainProgramme, PlainChoice}};
 ghost use Rattle.result_laws.specs.Choices.{IsChoiceFor};
-ghost use Rattle.relink_core.specs.Choices.{IsAnalysisOf, KeepsMeaning};
-ghost use Rattle.relink_core.specs.Chosen.{AreRegionsOf, IsTakenBy, HaveWords};
-ghost use Rattle.relink_core.specs.Placed.{taken_of, MovesItems, Realises};
-ghost use Rattle.relink_core.specs.Standing.{HasBytes, IsCopiedRange, AreStanding};
-ghost use Rattle.relink_core.specs.Walks.{WalksBeside};
+ghost use Rattle.relink_core.specs.{Choices.{IsAnalysisOf, KeepsMeaning}, Chosen.{AreRegionsOf, IsTakenBy, HaveWords}, MadeResults.{IsMadeFor}, Placed.{taken_of, Realises}, Standing.{AreStanding}, Walks.{WalksBeside}};
 
 use crate::analysis::Analysis;
 use crate::choosing::{TakenNames, code_regions, taken_names};
-use crate::chosen_results::{PlacedResult, ResultParts, placed_result};
+use crate::chosen_results::{ResultParts, placed_result};
 use crate::code_regions::CodeRegions;
 use crate::copy_source::CopySource;
 use crate::placed_copy::PlacedCopy;
 use crate::site_regions::site_regions;
 use board_config::Board;
+use patch_code::Stub;
 use placement_programme::{Choice, Programme, VarName};
 use relocator::{Places, site_words};
 use std::alloc::{AllocError, Global};
+
+/// What the units of a program stand by in a result, beside its copies.
+#[derive(Drop)]
+pub struct MovedParts {
+    /// The addresses of sites, ascending, and their new words.
+    pub sites: Vec<(u32, u32)>,
+    /// The stubs of the patch range, ascending by home.
+    pub stubs: Vec<Stub>,
+    /// Where each stands.
+    pub stub_at: Vec<u32>,
+}
 
 /// The result of a program for a choice, with what the choice takes.
 #[derive(Drop)]
@@ -35,17 +39,12 @@ pub struct Realised {
     pub copies: Vec<PlacedCopy>,
     /// Where objects stand in each region, and copies: objects that are taken in the scratchpad, and any other one at home.
     pub places: Places,
-}
-
-/// The bytes once more.
-pub(crate) fn copied(alloc: Global, bytes: &[u8]) -> Result<Vec<u8>, AllocError>
-    ensures { IfOk result (λ out. out.items ≡ bytes.now) }
-{
-    bytes.to_vec(alloc)
+    /// What else units stand by; none where nothing is taken and nothing is overlaid, and the result is the program's file.
+    pub moved: Option<MovedParts>,
 }
 
 /// The new words of sites and of words of data: at each site for the place of its object in the region of the site.
-pub(crate) fn placed_words(
+fn placed_words(
     alloc: Global,
     a: &Analysis,
     regions: &CodeRegions,
@@ -62,104 +61,76 @@ pub(crate) fn placed_words(
     }
 }
 
-/// The result with these words. It fails only where no memory was left.
-fn result_with(
-    alloc: Global,
-    a: &Analysis,
-    regions: &CodeRegions,
-    board: &Board,
-    taken: &TakenNames,
-    words: &[(u32, u32)],
-) -> Result<PlacedResult, AllocError>
-    requires analysis { (file : List ℕ) × IsAnalysisOf file board.now a.now }
-    requires taken { (p : PlainProgramme) × (choice : PlainChoice) × IsTakenBy board.now a.now p choice taken.now × AreRegionsOf choice.on a.now.regions regions.now }
-    requires words { HaveWords a.now regions.now taken.now.places words.now }
-    ensures moved { IfOk result (λ r. (file : List ℕ) (p : PlainProgramme) (choice : PlainChoice) → IsAnalysisOf file board.now a.now → IsTakenBy board.now a.now p choice taken.now → AreRegionsOf choice.on a.now.regions regions.now → MovesItems file board.now a.now.graph a.now.code a.now.regions (taken_of p choice) r.bytes.items) }
-    ensures ranges { IfOk result (λ r. map range_in r.copies.items ≡ taken.now.ranges.items) }
-    ensures places { IfOk result (λ r. map place_in r.copies.items ≡ taken.now.places.code.items) }
-    ensures whole { IfOk result (λ r. All (HasBytes a.now.graph a.now.code) r.copies.items) }
-    ensures pieces { IfOk result (λ r. All (IsCopiedRange a.now.graph a.now.code) r.copies.items) }
-{
-    let source = CopySource {
-        code: &a.code,
-        live: &a.live,
-        graph: &a.graph,
-        pieces: &a.pieces,
-        sites: words,
-    };
-    let parts = ResultParts {
-        view: &a.view,
-        source: &source,
-        regions,
-        board,
-        taken,
-    };
-    match placed_result(alloc, &parts) {
-        Ok(made) => Ok(made),
-        Err(error) => Err(error),
-    }
-}
-
-/// The result in which what is taken stands in the scratchpad. It fails only where no memory was left.
-fn result_of(
-    alloc: Global,
-    a: &Analysis,
-    board: &Board,
-    on: bool,
-    taken: &TakenNames,
-) -> Result<PlacedResult, AllocError>
-    requires analysis { (file : List ℕ) × IsAnalysisOf file board.now a.now }
-    requires taken { (p : PlainProgramme) × (choice : PlainChoice) × IsTakenBy board.now a.now p choice taken.now × (choice.on ≡ on) }
-    ensures moved { IfOk result (λ r. (file : List ℕ) (p : PlainProgramme) (choice : PlainChoice) → IsAnalysisOf file board.now a.now → IsTakenBy board.now a.now p choice taken.now → choice.on ≡ on → MovesItems file board.now a.now.graph a.now.code a.now.regions (taken_of p choice) r.bytes.items) }
-    ensures ranges { IfOk result (λ r. map range_in r.copies.items ≡ taken.now.ranges.items) }
-    ensures places { IfOk result (λ r. map place_in r.copies.items ≡ taken.now.places.code.items) }
-    ensures whole { IfOk result (λ r. All (HasBytes a.now.graph a.now.code) r.copies.items) }
-    ensures pieces { IfOk result (λ r. All (IsCopiedRange a.now.graph a.now.code) r.copies.items) }
-{
-    let regions = code_regions(a, on);
-    let words = placed_words(alloc, a, &regions, &taken.places)?;
-    match result_with(alloc, a, &regions, board, taken, &words) {
-        Ok(made) => Ok(made),
-        Err(error) => Err(error),
-    }
-}
-
 /// Whether a choice takes nothing and overlays nothing.
-pub(crate) fn takes_nothing(c: &Choice) -> bool
+fn takes_nothing(c: &Choice) -> bool
     ensures nothing { result ≡ true → (c.now.on ≡ false) × (c.now.take.items ≡ []) }
     ensures something { result ≡ false → (c.now.on ≡ true) ⊎ (0 < length c.now.take.items) }
 {
     !c.on && c.take.is_empty()
 }
 
-/// The result for what is taken; the program's file where nothing is, and nothing is overlaid.
-fn result_for(
+/// The program's file, where nothing is taken and nothing is overlaid. It fails only where no memory was left.
+fn unmoved_result(
     alloc: Global,
     a: &Analysis,
     board: &Board,
     c: &Choice,
-    taken: &TakenNames,
-) -> Result<PlacedResult, AllocError>
-    requires analysis { (file : List ℕ) × IsAnalysisOf file board.now a.now }
-    requires taken { (p : PlainProgramme) × IsTakenBy board.now a.now p (plain_choice c.now) taken.now }
-    ensures realises { IfOk result (λ r. (file : List ℕ) (p : PlainProgramme) → IsAnalysisOf file board.now a.now → IsTakenBy board.now a.now p (plain_choice c.now) taken.now → Realises file board.now a.now.graph a.now.code a.now.regions (taken_of p (plain_choice c.now)) r.bytes.items) }
-    ensures keeps { IfOk result (λ r. (file : List ℕ) (p : PlainProgramme) → IsAnalysisOf file board.now a.now → IsTakenBy board.now a.now p (plain_choice c.now) taken.now → KeepsMeaning (taken_of p (plain_choice c.now)) file r.bytes.items board.now) }
-    ensures stands { IfOk result (λ r. (p : PlainProgramme) → IsTakenBy board.now a.now p (plain_choice c.now) taken.now → AreStanding board.now a.now.graph a.now.code a.now.regions p (plain_choice c.now) taken.now.names.items r.copies.items taken.now.places) }
+    taken: TakenNames,
+) -> Result<Realised, AllocError>
+    requires { (c.now.on ≡ false) × (c.now.take.items ≡ []) }
+    ensures { IfOk result (λ r. (file : List ℕ) (p : PlainProgramme) → IsAnalysisOf file board.now a.now → IsTakenBy board.now a.now p (plain_choice c.now) taken → IsMadeFor file board.now a.now p (plain_choice c.now) r) }
 {
-    if takes_nothing(c) {
-        match copied(alloc, a.view.bytes) {
-            Ok(bytes) => Ok(PlacedResult {
-                bytes,
-                copies: Vec::new(alloc),
-            }),
-            Err(error) => Err(error),
-        }
-    } else {
-        match result_of(alloc, a, board, c.on, taken) {
-            Ok(made) => Ok(made),
-            Err(error) => Err(error),
-        }
+    match a.view.bytes.to_vec(alloc) {
+        Ok(bytes) => Ok(Realised {
+            bytes,
+            names: taken.names,
+            copies: Vec::new(alloc),
+            places: taken.places,
+            moved: None,
+        }),
+        Err(error) => Err(error),
     }
+}
+
+/// The result in which what is taken stands in the scratchpad. It fails only where no memory was left.
+fn moved_result(
+    alloc: Global,
+    a: &Analysis,
+    board: &Board,
+    c: &Choice,
+    taken: TakenNames,
+) -> Result<Realised, AllocError>
+    requires { (file : List ℕ) × (p : PlainProgramme) × IsAnalysisOf file board.now a.now × IsTakenBy board.now a.now p (plain_choice c.now) taken × ((c.now.on ≡ true) ⊎ (0 < length c.now.take.items)) }
+    ensures { IfOk result (λ r. (file : List ℕ) (p : PlainProgramme) → IsAnalysisOf file board.now a.now → IsTakenBy board.now a.now p (plain_choice c.now) taken → IsMadeFor file board.now a.now p (plain_choice c.now) r) }
+{
+    let regions = code_regions(a, c.on);
+    let sites = placed_words(alloc, a, &regions, &taken.places)?;
+    let source = CopySource {
+        code: &a.code,
+        live: &a.live,
+        graph: &a.graph,
+        pieces: &a.pieces,
+        sites: &sites,
+    };
+    let parts = ResultParts {
+        view: &a.view,
+        source: &source,
+        regions: &regions,
+        board,
+        taken: &taken,
+    };
+    let placed = placed_result(alloc, &parts)?;
+    Ok(Realised {
+        bytes: placed.bytes,
+        names: taken.names,
+        copies: placed.copies,
+        places: taken.places,
+        moved: Some(MovedParts {
+            sites,
+            stubs: placed.stubs,
+            stub_at: placed.stub_at,
+        }),
+    })
 }
 
 /// The result of a program for a choice of a programme that is made for it: an ELF file in which what is taken
@@ -175,17 +146,22 @@ pub fn realise(
 ) -> Result<Realised, AllocError>
     requires analysis { (file : List ℕ) × IsAnalysisOf file board.now a.now }
     requires choice { IsChoiceFor board.now a.now.graph a.now.code a.now.regions a.now.pieces.items (plain_programme p.now) (plain_choice c.now) }
+    ensures made { IfOk result (λ r. (file : List ℕ) → IsAnalysisOf file board.now a.now → IsMadeFor file board.now a.now (plain_programme p.now) (plain_choice c.now) r) }
     ensures realises { IfOk result (λ r. (file : List ℕ) → IsAnalysisOf file board.now a.now → Realises file board.now a.now.graph a.now.code a.now.regions (taken_of (plain_programme p.now) (plain_choice c.now)) r.bytes.items) }
     ensures keeps { IfOk result (λ r. (file : List ℕ) → IsAnalysisOf file board.now a.now → KeepsMeaning (taken_of (plain_programme p.now) (plain_choice c.now)) file r.bytes.items board.now) }
     ensures walks { IfOk result (λ r. (file : List ℕ) → IsAnalysisOf file board.now a.now → WalksBeside file r.bytes.items board.now a.now.graph a.now.code a.now.regions (taken_of (plain_programme p.now) (plain_choice c.now))) }
     ensures stands { IfOk result (λ r. AreStanding board.now a.now.graph a.now.code a.now.regions (plain_programme p.now) (plain_choice c.now) r.names.items r.copies.items r.places) }
 {
     let taken = taken_names(alloc, a, board, p, c)?;
-    let result = result_for(alloc, a, board, c, &taken)?;
-    Ok(Realised {
-        bytes: result.bytes,
-        names: taken.names,
-        copies: result.copies,
-        places: taken.places,
-    })
+    if takes_nothing(c) {
+        match unmoved_result(alloc, a, board, c, taken) {
+            Ok(made) => Ok(made),
+            Err(error) => Err(error),
+        }
+    } else {
+        match moved_result(alloc, a, board, c, taken) {
+            Ok(made) => Ok(made),
+            Err(error) => Err(error),
+        }
+    }
 }

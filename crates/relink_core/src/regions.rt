@@ -4,8 +4,7 @@ ghost use Rattle.std.specs.List.{sum_by};
 ghost use Rattle.patch_code.specs.Layout;
 ghost use Rattle.patch_code.specs.StubPlans.{words_of};
 ghost use Rattle.relink_core.specs.Naming;
-ghost use Rattle.relink_core.specs.Naming.{copied_words, copied_bytes, CanPlan};
-ghost use Rattle.relink_core.specs.Planning.{AreLists, lists_entering, lists_leaving};
+ghost use Rattle.relink_core.specs.{Naming.{copied_words, copied_bytes, CanPlan}, Planning.{AreLists, lists_entering, lists_leaving}};
 
 use crate::items::{Phase, PlannedItems};
 use crate::jobs::{entering, leaving};

@@ -1,8 +1,7 @@
 //! The new segment of a result: the code of its patch range.
 ghost use Rattle.std.specs.Prelude.{◌≡◌, ◌<◌, IfOk, All};
 ghost use Rattle.elf_writer.specs.Pieces.{words_bytes};
-ghost use Rattle.patch_code.specs.Overlay.{CanHold};
-ghost use Rattle.patch_code.specs.StubPlans.{overlay_plan, HasLists};
+ghost use Rattle.patch_code.specs.{Overlay.{CanHold}, StubPlans.{overlay_plan, HasLists}};
 ghost use Rattle.relink_core.specs.Written.{IsPatchSegment};
 
 use elf_writer::{SegmentBytes, push_words};

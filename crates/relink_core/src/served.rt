@@ -2,8 +2,7 @@ ghost use Rattle.std.specs.Prelude.{◌≡◌, ℕ, ◌<◌, ◌≤◌, ◌==◌
 ghost use Rattle.std.specs.List.{All, list_any};
 ghost use Rattle.code_blocks.specs.Numbers.{Ascends};
 ghost use Rattle.dataflow.specs.Overlaid.{is_border};
-ghost use Rattle.relink_core.specs.Copies.{IsSource, IsPlacedCopy};
-ghost use Rattle.relink_core.specs.StubBlocks.{enters_copy, stub_blocks};
+ghost use Rattle.relink_core.specs.{Copies.{IsSource, IsPlacedCopy}, StubBlocks.{enters_copy, stub_blocks}};
 
 use crate::code_regions::CodeRegions;
 use crate::copy_source::CopySource;

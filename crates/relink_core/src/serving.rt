@@ -2,13 +2,9 @@ ghost use Rattle.std.specs.Prelude.{◌≡◌, ℕ, ◌+◌, ◌*◌, ◌%◌, �
 ghost use Rattle.std.specs.List.{All};
 ghost use Rattle.code_blocks.specs.Numbers.{start_at};
 ghost use Rattle.dataflow.specs.Overlaid.{is_border};
-ghost use Rattle.patch_code.specs.Serving.{ServingStub, body_bytes, serving_size};
-ghost use Rattle.patch_code.specs.StubPlans.{body_of, serving_stub};
-ghost use Rattle.result_laws.specs.ChosenPlacement.{ChosenPlacement};
-ghost use Rattle.result_laws.specs.PlacedView.{HasBody, Serves};
-ghost use Rattle.relink_core.specs.Copies.{IsSource, IsPlacedCopy};
-ghost use Rattle.relink_core.specs.StubBlocks.{is_copied, stub_blocks, body_size, stub_size, ReachesFrom, IsEnteredAt, HasRoomFor, IsServingPlan, NeedsStub, HasCopy, RunsDisplaced};
-ghost use Rattle.relink_core.specs.Serving.{IsPlacedWith, served_blocks, AreStubsFrom};
+ghost use Rattle.patch_code.specs.{Serving.{ServingStub, body_bytes, serving_size}, StubPlans.{body_of, serving_stub}};
+ghost use Rattle.result_laws.specs.{ChosenPlacement.{ChosenPlacement}, PlacedView.{HasBody, Serves}};
+ghost use Rattle.relink_core.specs.{Copies.{IsSource, IsPlacedCopy}, StubBlocks.{is_copied, stub_blocks, body_size, stub_size, ReachesFrom, IsEnteredAt, HasRoomFor, IsServingPlan, NeedsStub, HasCopy, RunsDisplaced}, Serving.{IsPlacedWith, served_blocks, AreStubsFrom}};
 
 use crate::code_regions::CodeRegions;
 use crate::copy_numbers::copy_numbers;

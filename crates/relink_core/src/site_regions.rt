@@ -3,10 +3,8 @@ ghost use Rattle.std.specs.Prelude.{◌≡◌, ℕ, ◌<◌, ◌≤◌, ◌==◌
 ghost use Rattle.std.specs.List.Sorted.{IsStrictlyIncreasing, IsPartitionPoint};
 ghost use Rattle.elf_reader.specs.File.{PlainView};
 ghost use Rattle.object_machine.specs.Program.{Program};
-ghost use Rattle.code_blocks.specs.Numbers.{starts_of};
-ghost use Rattle.code_blocks.specs.Leads.{no_unit};
-ghost use Rattle.result_laws.specs.LiveUnits.{UnitsStand};
-ghost use Rattle.result_laws.specs.PlacedView.{HasRegion};
+ghost use Rattle.code_blocks.specs.{Numbers.{starts_of}, Leads.{no_unit}};
+ghost use Rattle.result_laws.specs.{LiveUnits.{UnitsStand}, PlacedView.{HasRegion}};
 ghost use Rattle.relink_core.specs.Written.{AreSiteRegions};
 
 use crate::code_regions::CodeRegions;

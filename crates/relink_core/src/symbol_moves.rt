@@ -1,10 +1,8 @@
 //! The symbols of objects that are moved.
 ghost use Rattle.std.specs.Prelude.{◌≡◌, ◌<◌, ◌≤◌, length, None, OnOk, IfOk, ◌++◌, if◌then◌else◌};
 ghost use Rattle.elf_reader.specs.File.{plain_view};
-ghost use Rattle.loaded_file.specs.Records.{symbol_at};
-ghost use Rattle.loaded_file.specs.Ranges.{has_range};
-ghost use Rattle.relink_core.specs.Making.{move_to, moves_below, HasStarts, AreOfGraph};
-ghost use Rattle.relink_core.specs.MovedRanges.{place_of_range};
+ghost use Rattle.loaded_file.specs.{Records.{symbol_at}, Ranges.{has_range}};
+ghost use Rattle.relink_core.specs.{Making.{move_to, moves_below, HasStarts, AreOfGraph}, MovedRanges.{place_of_range}};
 
 use crate::moved_ranges::{MovedRanges, moved_place, moved_ranges};
 use elf_reader::ElfView;

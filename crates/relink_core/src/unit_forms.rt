@@ -3,15 +3,10 @@ ghost use Rattle.std.specs.Prelude.{◌≡◌, ◌↔◌, ℕ, ◌+◌, ◌*◌,
 ghost use Rattle.std.specs.List.{All, AllPairs, list_any};
 ghost use Rattle.std.specs.List.Sorted.{IsStrictlyIncreasing};
 ghost use Rattle.list_checks.specs.Sorted.{IsSorted};
-ghost use Rattle.code_blocks.specs.Numbers.{starts_of, Ascends};
-ghost use Rattle.code_blocks.specs.Leads.{no_unit};
-ghost use Rattle.block_splitter.specs.Copies.{address_of, words_before};
-ghost use Rattle.block_splitter.specs.Forms.{holds_block, begins_in, body_at, is_site, kind_of, copy_size};
+ghost use Rattle.code_blocks.specs.{Numbers.{starts_of, Ascends}, Leads.{no_unit}};
+ghost use Rattle.block_splitter.specs.{Copies.{address_of, words_before}, Forms.{holds_block, begins_in, body_at, is_site, kind_of, copy_size}};
 ghost use Rattle.patch_code.specs.StubPlans.{serving_stub};
-ghost use Rattle.relink_core.specs.Copies.{IsSource, IsPlacedCopy, copied_in};
-ghost use Rattle.relink_core.specs.declared.copy_source.CopySource.{CopySource};
-ghost use Rattle.relink_core.specs.UnitMaps.{StandsBefore};
-ghost use Rattle.relink_core.specs.UnitSets.{Gains, Upto, IsForm, HomeForm, HomeForms, BlockForms, PieceForms, CopyForms, StubForm, StubForms, runs};
+ghost use Rattle.relink_core.specs.{Copies.{IsSource, IsPlacedCopy, copied_in}, declared.copy_source.CopySource.{CopySource}, UnitMaps.{StandsBefore}, UnitSets.{Gains, Upto, IsForm, HomeForm, HomeForms, BlockForms, PieceForms, CopyForms, StubForm, StubForms, runs}};
 
 use crate::copy_source::CopySource;
 use crate::placed_copy::PlacedCopy;

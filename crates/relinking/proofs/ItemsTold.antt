@@ -124,7 +124,7 @@ module _ (board : Board) (g : Graph) (c : Code) (t : RegionTable) (p : PlainProg
   name_is name at =
       at ∙ (ap (λ (xs : List VarName). slice_index_or xs k name) stands.taken ∙ get_or-map name_of_slot slots k no_slot name within)
 
-  pub known : (name : VarName) → name ≡ slice_index_or names k name → IsKnownName g c count name
+  known : (name : VarName) → name ≡ slice_index_or names k name → IsKnownName g c count name
   known name at = subst (IsKnownName g c count) (sym at) (stands.known k name below)
 
   -- an object stands in its slot
@@ -138,10 +138,21 @@ module _ (board : Board) (g : Graph) (c : Code) (t : RegionTable) (p : PlainProg
       let long = length-map places.of.items (λ row. row.items) in
       omega (arith, inside, rows, long)
 
-  pub row_there : (o r : ℕ) → o < length g.objects.items → r ≤ count → r < row_length places o
+  row_there : (o r : ℕ) → o < length g.objects.items → r ≤ count → r < row_length places o
   row_there o r inside few =
       let width = stands.at.table.widths o [] (let rows = stands.at.table.objects in omega (arith, inside, rows)) in
       omega (arith, few, width)
+
+  -- its row has the region in which it stands, or that of its pair
+  pub overlay_row : (name : VarName) (r o : ℕ) → name ≡ slice_index_or names k name → name ≡ OverlayData r o → r < row_length places o
+  overlay_row name r o at is =
+      let inside = subst (IsKnownName g c count) is (known name at) in row_there o r inside.1.1 inside.1.0
+
+  pub kept_row : (name : VarName) (pair o : ℕ) → name ≡ slice_index_or names k name → name ≡ KeptData pair o → 2 * pair - 1 < row_length places o
+  kept_row name pair o at is =
+      let inside = subst (IsKnownName g c count) is (known name at) in
+      let few = inside.1.0 in
+      row_there o (2 * pair - 1) inside.1.1 (omega (arith, few))
 
   same_number : (o : ℕ) → (o == o) ≡ true
   same_number o = grind (arith, nat_tests)

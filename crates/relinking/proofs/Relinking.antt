@@ -8,8 +8,6 @@ use Rattle.block_splitter.specs.declared.piece.Piece.{Piece}
 use Rattle.placement_candidates.specs.Stated.{AreSomePieces}
 use Rattle.region_former.specs.declared.table.RegionTable.{RegionTable}
 use Rattle.placement_programme.specs.Plain.{PlainProgramme}
-use Rattle.placement_programme.specs.Programme.{IsFeasible}
-use Rattle.result_laws.specs.Choices.{IsChoiceFor}
 use Rattle.relinking.proofs.StatedLemmas.{stated_choice, mixed_choice}
 use Rattle.relinking.specs.ProgrammeOfRun.{StatesProgramme}
 use Rattle.relinking.specs.MixOfRuns.{WeightedInput, StatesTogether}
@@ -20,15 +18,11 @@ use Rattle.relinking.specs.Relink.{AreChoicesFor}
 -- a feasible choice of the programme that a run states is one that can be realised
 pub states_choices : (v : PlainView) (board : Board) (g : Graph) (c : Code) (t : RegionTable) (pieces : List Piece) (input : List ℕ) (p : PlainProgramme)
     → AreSomePieces c g pieces → length t.of_block.items ≡ length c.blocks.items → StatesProgramme v board g c t pieces input p → AreChoicesFor board g c t pieces p
-states_choices v board g c t pieces input p are one_each states choice feasible =
-    subst (λ (q : PlainProgramme). IsChoiceFor board g c t pieces q choice) (sym states.programme_is)
-    (stated_choice board g c t pieces states.overlaid are one_each states.are_overlaid states.transitions choice
-    (subst (λ (q : PlainProgramme). IsFeasible q choice) states.programme_is feasible))
+states_choices v board g c t pieces input p are one_each states =
+    subst (AreChoicesFor board g c t pieces) (sym states.programme_is) (stated_choice board g c t pieces states.overlaid are one_each states.are_overlaid states.transitions)
 
 -- and so is one of what several runs state together
 pub together_choices : (v : PlainView) (board : Board) (g : Graph) (c : Code) (t : RegionTable) (pieces : List Piece) (inputs : List WeightedInput) (p : PlainProgramme)
     → AreSomePieces c g pieces → length t.of_block.items ≡ length c.blocks.items → StatesTogether v board g c t pieces inputs p → AreChoicesFor board g c t pieces p
-together_choices v board g c t pieces inputs p are one_each states choice feasible =
-    subst (λ (q : PlainProgramme). IsChoiceFor board g c t pieces q choice) (sym states.programme_is)
-    (mixed_choice board g c t pieces states.overlaid are one_each states.are_overlaid states.runs choice
-    (subst (λ (q : PlainProgramme). IsFeasible q choice) states.programme_is feasible))
+together_choices v board g c t pieces inputs p are one_each states =
+    subst (AreChoicesFor board g c t pieces) (sym states.programme_is) (mixed_choice board g c t pieces states.overlaid are one_each states.are_overlaid states.runs)

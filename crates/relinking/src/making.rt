@@ -1,9 +1,7 @@
 ghost use Rattle.std.specs.Prelude.{◌≡◌, ℕ, List, map, Err, IfOk, IfErr};
 ghost use Rattle.elf_reader.specs.File.{plain_view};
 ghost use Rattle.placement_programme.specs.Views.{plain_programme};
-ghost use Rattle.relinking.specs.Runs.{ReportsCounts};
-ghost use Rattle.relinking.specs.MixOfRuns.{plain_input, AreSomeInputs, FaultsFirst};
-ghost use Rattle.relinking.specs.Relink.{IsRelinkedFor, AreChoicesFor, RelinksBy, RelinksTogether};
+ghost use Rattle.relinking.specs.{Runs.{ReportsCounts}, MixOfRuns.{plain_input, AreSomeInputs, FaultsFirst}, Relink.{IsRelinkedFor, AreChoicesFor, RelinksBy, RelinksTogether}};
 ghost use Rattle.relink_core.specs.Choices.{IsAnalysisOf};
 
 use crate::finding::find_choice;

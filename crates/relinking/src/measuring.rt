@@ -1,8 +1,7 @@
 ghost use Rattle.std.specs.Prelude.{ℕ, List, Ok, Err, IfOk, IfErr};
 ghost use Rattle.elf_reader.specs.File.{plain_view};
 ghost use Rattle.relink_core.specs.Choices.{IsAnalysisOf};
-ghost use Rattle.relinking.specs.Runs.{ReportsCounts};
-ghost use Rattle.relinking.specs.MeasuredRuns.{EndsSo};
+ghost use Rattle.relinking.specs.{Runs.{ReportsCounts}, MeasuredRuns.{EndsSo}};
 
 use board_config::Board;
 use object_machine::{Outcome, Source};

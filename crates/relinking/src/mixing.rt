@@ -1,14 +1,10 @@
 // Several runs of one program, each with a weight.
 ghost use Rattle.std.specs.Prelude.{◌≡◌, ◌++◌, ◌∷◌, [], ℕ, List, map, Err, IfOk, IfErr, OnOk};
 ghost use Rattle.elf_reader.specs.File.{plain_view};
-ghost use Rattle.placement_programme.specs.Plain.{PlainFull};
-ghost use Rattle.placement_programme.specs.Views.{plain_programme};
-ghost use Rattle.placement_candidates.specs.Selected.{selected};
-ghost use Rattle.placement_candidates.specs.Overlaid.{AreOverlaidObjects};
-ghost use Rattle.placement_candidates.specs.Parts.{plain_part, IsMix, CanMix};
+ghost use Rattle.placement_programme.specs.{Plain.{PlainFull}, Views.{plain_programme}};
+ghost use Rattle.placement_candidates.specs.{Selected.{selected}, Overlaid.{AreOverlaidObjects}, Parts.{plain_part, IsMix, CanMix}};
 ghost use Rattle.relink_core.specs.Choices.{IsAnalysisOf};
-ghost use Rattle.relinking.specs.Runs.{ReportsCounts};
-ghost use Rattle.relinking.specs.MixOfRuns.{plain_input, AreSomeInputs, IsPartOf, ArePartsOf, StatesTogether, FaultsFirst};
+ghost use Rattle.relinking.specs.{Runs.{ReportsCounts}, MixOfRuns.{plain_input, AreSomeInputs, IsPartOf, ArePartsOf, StatesTogether, FaultsFirst}};
 
 use crate::stating::{full_of_run, objects_of};
 use board_config::Board;

@@ -1,11 +1,7 @@
 ghost use Rattle.std.specs.Prelude.{◌≡◌, ◌≤ℤ◌, ℕ, pos, List, IfOk};
 ghost use Rattle.elf_reader.specs.File.{plain_view};
-ghost use Rattle.placement_programme.specs.Plain.{PlainChoice};
-ghost use Rattle.placement_programme.specs.Programme.{IsFeasible, gain};
-ghost use Rattle.placement_programme.specs.Views.{plain_programme, plain_choice};
-ghost use Rattle.relinking.specs.FoundChoice.{is_optimal};
-ghost use Rattle.relinking.specs.Relink.{IsRelinkedFor};
-ghost use Rattle.relinking.specs.Report.{IsRelinkReport};
+ghost use Rattle.placement_programme.specs.{Plain.{PlainChoice}, Programme.{IsFeasible, gain}, Views.{plain_programme, plain_choice}};
+ghost use Rattle.relinking.specs.{FoundChoice.{is_optimal}, Relink.{IsRelinkedFor}, Report.{IsRelinkReport}};
 ghost use Rattle.relink_core.specs.Choices.{IsAnalysisOf};
 
 use crate::making::Relinked;

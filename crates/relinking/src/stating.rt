@@ -4,9 +4,7 @@ ghost use Rattle.board_config.specs.declared.board.Board.{Board};
 ghost use Rattle.placement_programme.specs.Views.{plain_full, plain_programme};
 ghost use Rattle.placement_candidates.specs.Overlaid.{AreOverlaidObjects};
 ghost use Rattle.relink_core.specs.Choices.{IsAnalysisOf};
-ghost use Rattle.relinking.specs.Runs.{ReportsCounts};
-ghost use Rattle.relinking.specs.MeasuredRuns.{EndsSo};
-ghost use Rattle.relinking.specs.ProgrammeOfRun.{CountsProgramme, StatesFull};
+ghost use Rattle.relinking.specs.{Runs.{ReportsCounts}, MeasuredRuns.{EndsSo}, ProgrammeOfRun.{CountsProgramme, StatesFull}};
 
 use crate::measuring::{MeasuredEnd, measured_run};
 use board_config::Board;

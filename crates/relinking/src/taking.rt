@@ -1,12 +1,8 @@
 ghost use Rattle.std.specs.Prelude.{◌≡◌, ℕ, ◌<◌, length, slice_index_or, IfOk};
-ghost use Rattle.relocator.specs.Placing.{place_at, chosen_slots};
-ghost use Rattle.relocator.specs.SiteWords.{row_length};
-ghost use Rattle.relocator.specs.Laws.{CanLayOut, slot_at};
+ghost use Rattle.relocator.specs.{Placing.{place_at, chosen_slots}, SiteWords.{row_length}, Laws.{CanLayOut, slot_at}};
 ghost use Rattle.cell_values.specs.Objects.{object_of};
-ghost use Rattle.placement_programme.specs.Views.{plain_programme, plain_choice};
-ghost use Rattle.placement_programme.specs.Rows.{first_twin};
-ghost use Rattle.result_laws.specs.ChosenJobs.{code_number, next_code};
-ghost use Rattle.result_laws.specs.PlacementLaws.{regions_on};
+ghost use Rattle.placement_programme.specs.{Views.{plain_programme, plain_choice}, Rows.{first_twin}};
+ghost use Rattle.result_laws.specs.{ChosenJobs.{code_number, next_code}, PlacementLaws.{regions_on}};
 ghost use Rattle.relink_core.specs.Standing.{AreStanding};
 ghost use Rattle.relinking.specs.TakenItems.{item_of, items_told, CanTell, copy_item, IsToldOf};
 

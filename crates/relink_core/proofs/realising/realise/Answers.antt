@@ -1,16 +1,50 @@
 use Rattle.placement_programme.specs.Views.{plain_programme, plain_choice}
 use Rattle.relink_core.specs.Placed.{taken_of}
-use Rattle.relink_core.proofs.RealisedChoice.{walks_beside}
+use Rattle.relink_core.proofs.RealisedChoice.{realised, meaning_kept, walks_beside}
 use Rattle.relink_core.proofs.realising.realise.Goals as goal
 
-pub returns-clause-realises : goal.returns-clause-realises
-returns-clause-realises c = λ file is. c.in_ok-result.ensures.realises file (plain_programme c.args.p.now) is c.in_ok-taken.ensures
+pub unmoved_result-requires : goal.unmoved_result-requires
+unmoved_result-requires c = c.takes_nothing.ensures.nothing c.if-takes_nothing.true
 
-pub returns-clause-keeps : goal.returns-clause-keeps
-returns-clause-keeps c = λ file is. c.in_ok-result.ensures.keeps file (plain_programme c.args.p.now) is c.in_ok-taken.ensures
+pub moved_result-requires : goal.moved_result-requires
+moved_result-requires c =
+    let (file, is) = c.requires.analysis in
+    (file, plain_programme c.args.p.now, is, c.in_ok-taken.ensures, c.takes_nothing.ensures.something c.if-takes_nothing.false)
 
-pub returns-clause-walks : goal.returns-clause-walks
-returns-clause-walks c = λ file is. walks_beside file c.args.board.now c.args.a.now (taken_of (plain_programme c.args.p.now) (plain_choice c.args.c.now)) c.in_ok-result.result.bytes.items is
+pub returns-in-Ok-clause-made : goal.returns-in-Ok-clause-made
+returns-in-Ok-clause-made c = λ file is. c.in-Ok.ensures file (plain_programme c.args.p.now) is c.in_ok-taken.ensures
 
-pub returns-clause-stands : goal.returns-clause-stands
-returns-clause-stands c = c.in_ok-result.ensures.stands (plain_programme c.args.p.now) c.in_ok-taken.ensures
+pub returns-in-Ok-clause-realises : goal.returns-in-Ok-clause-realises
+returns-in-Ok-clause-realises c = λ file is.
+    realised file c.args.board.now c.args.a.now _ c.in-Ok.made _ (c.in-Ok.ensures file (plain_programme c.args.p.now) is c.in_ok-taken.ensures).forms
+
+pub returns-in-Ok-clause-keeps : goal.returns-in-Ok-clause-keeps
+returns-in-Ok-clause-keeps c = λ file is.
+    meaning_kept file c.args.board.now c.args.a.now _ c.in-Ok.made _ is (c.in-Ok.ensures file (plain_programme c.args.p.now) is c.in_ok-taken.ensures).forms
+
+pub returns-in-Ok-clause-walks : goal.returns-in-Ok-clause-walks
+returns-in-Ok-clause-walks c = λ file is. walks_beside file c.args.board.now c.args.a.now (taken_of (plain_programme c.args.p.now) (plain_choice c.args.c.now)) c.in-Ok.made.bytes.items is
+
+pub returns-in-Ok-clause-stands : goal.returns-in-Ok-clause-stands
+returns-in-Ok-clause-stands c =
+    let (file, is) = c.requires.analysis in
+    (c.in-Ok.ensures file (plain_programme c.args.p.now) is c.in_ok-taken.ensures).stands
+
+pub returns-in-Ok-moved_result-clause-made : goal.returns-in-Ok-moved_result-clause-made
+returns-in-Ok-moved_result-clause-made c = λ file is. c.in-Ok-moved_result.ensures file (plain_programme c.args.p.now) is c.in_ok-taken.ensures
+
+pub returns-in-Ok-moved_result-clause-realises : goal.returns-in-Ok-moved_result-clause-realises
+returns-in-Ok-moved_result-clause-realises c = λ file is.
+    realised file c.args.board.now c.args.a.now _ c.in-Ok-moved_result.made _ (c.in-Ok-moved_result.ensures file (plain_programme c.args.p.now) is c.in_ok-taken.ensures).forms
+
+pub returns-in-Ok-moved_result-clause-keeps : goal.returns-in-Ok-moved_result-clause-keeps
+returns-in-Ok-moved_result-clause-keeps c = λ file is.
+    meaning_kept file c.args.board.now c.args.a.now _ c.in-Ok-moved_result.made _ is (c.in-Ok-moved_result.ensures file (plain_programme c.args.p.now) is c.in_ok-taken.ensures).forms
+
+pub returns-in-Ok-moved_result-clause-walks : goal.returns-in-Ok-moved_result-clause-walks
+returns-in-Ok-moved_result-clause-walks c = λ file is. walks_beside file c.args.board.now c.args.a.now (taken_of (plain_programme c.args.p.now) (plain_choice c.args.c.now)) c.in-Ok-moved_result.made.bytes.items is
+
+pub returns-in-Ok-moved_result-clause-stands : goal.returns-in-Ok-moved_result-clause-stands
+returns-in-Ok-moved_result-clause-stands c =
+    let (file, is) = c.requires.analysis in
+    (c.in-Ok-moved_result.ensures file (plain_programme c.args.p.now) is c.in_ok-taken.ensures).stands
