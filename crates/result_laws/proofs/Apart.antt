@@ -4,7 +4,6 @@ use Rattle.std.specs.Prelude.{Contains}
 use Rattle.std.proofs.lemmas.Bool.{both_ways}
 use Rattle.std.proofs.lemmas.Bool.Decides.{nat_tests}
 use Rattle.std.proofs.lemmas.List.Elements.{All-contains}
-use Rattle.elf_reader.specs.File.{PlainView, view_in}
 use Rattle.board_config.specs.declared.board.Board.{Board}
 use Rattle.flat_machine.specs.Lines.{words_from}
 use Rattle.object_graph.specs.Sites.{in_range}
@@ -17,6 +16,7 @@ use Rattle.block_splitter.specs.Forms.{holds_block, is_site, kind_of, body_at as
 use Rattle.block_splitter.specs.Copies.{Copy, Patch, is_inside, kind_in, place_of, address_of, IsDisplaced}
 use Rattle.block_splitter.proofs.LookupLemmas.{inside_at}
 use Rattle.result_laws.specs.CopyLaws.{falls_to, place_behind, unit_at}
+use Rattle.result_laws.proofs.Setting.{setting}
 use Rattle.result_laws.proofs.Places.{unit_fits}
 use Rattle.rv32im.specs.declared.instructions.Instr.{Instr}
 use Rattle.rv32im.specs.declared.instructions.Instr.TheVariants as instr
@@ -26,7 +26,6 @@ use Rattle.loaded_file.specs.Code.{is_code_word}
 use Rattle.result_laws.proofs.CopiedUnits.{held_below}
 use Rattle.result_laws.specs.ChosenJobs.{code_number}
 use Rattle.patch_code.specs.Serving.{ServingStub, serving_home, serving_size, served_before}
-use Rattle.patch_code.specs.Overlay.{OverlayPlan}
 use Rattle.patch_code.specs.Served.{body_at}
 use Rattle.patch_code.proofs.Order.{below_more}
 use Rattle.result_laws.proofs.JobChosen.{same_slot}
@@ -95,11 +94,7 @@ displaced_some sites at u kind [] is = absurd (none_displaced sites at u kind is
 displaced_some sites at u kind (w ∷ ws) is = omega arith
 
 module _ (file out : List ℕ) (board : Board) (g : Graph) (c : Code) (pl : ChosenPlacement) (result : IsPlacedResult file out board g c pl) where
-  abbrev v : PlainView
-  v = view_in file
-
-  abbrev plan : OverlayPlan
-  plan = result.view.plan
+  open (setting file out board g c pl result) use {v, plan}
 
   -- ---- homes
 

@@ -1,6 +1,5 @@
 -- From where the words of a unit lead the flat machine comes to a form of the next one: which words run.
 use Rattle.std.proofs.Common.{◌≡◌, ◌∙◌, ℕ, ◌+◌, ◌<◌, ◌≤◌, true, List, [], ◌∷◌, ◌++◌, length, map, refl, sym, ap, subst, arith}
-use Rattle.elf_reader.specs.File.{PlainView, view_in}
 use Rattle.board_config.specs.declared.board.Board.{Board}
 use Rattle.flat_machine.specs.declared.events.FlatEvent.{FlatEvent}
 use Rattle.flat_machine.specs.Lines.{words_from}
@@ -12,22 +11,19 @@ use Rattle.code_blocks.specs.Numbers.{start_at}
 use Rattle.code_blocks.specs.declared.parts.Code.{Code}
 use Rattle.block_splitter.specs.Copies.{address_of}
 use Rattle.result_laws.specs.CopyLaws.{place_behind}
-use Rattle.object_machine.specs.Program.{Program}
 use Rattle.object_machine.specs.State.{SourceState}
 use Rattle.object_machine.specs.Paired.{Origins}
-use Rattle.patch_code.specs.Overlay.{OverlayPlan}
 use Rattle.patch_code.specs.Served.{body_at}
-use Rattle.simulation.specs.Setups.{Setup, Sound}
+use Rattle.simulation.specs.Setups.{Sound}
 use Rattle.simulation.specs.Units.{StandsAt}
 use Rattle.simulation.specs.Relation.{Alike}
 use Rattle.simulation.specs.Ways.{Way, There}
 use Rattle.simulation.proofs.Steps.{is_at}
-use Rattle.result_laws.specs.HomeLaws.{unnamed_in}
-use Rattle.result_laws.specs.LiveUnits.{live_at}
+use Rattle.result_laws.proofs.Setting.{setting}
 use Rattle.result_laws.proofs.CodeUnits.{begins}
 use Rattle.result_laws.specs.ChosenPlacement.{ChosenPlacement, copy_in}
-use Rattle.result_laws.specs.PlacedLaws.{IsPlacedResult, setup_of}
-use Rattle.result_laws.specs.PlacedForms.{IsFormOf, ArrivesHome, BlockThere, ArrivesAt, AtForm, AtItsHome, BehindCopy, BehindStub}
+use Rattle.result_laws.specs.PlacedLaws.{IsPlacedResult}
+use Rattle.result_laws.specs.PlacedForms.{ArrivesHome, BlockThere, ArrivesAt, AtForm, AtItsHome, BehindCopy, BehindStub}
 use Rattle.result_laws.specs.Walks.{address_in, AreEvents, leaving_fetched, Enters}
 use Rattle.result_laws.proofs.Arriving.{IsHeldIn}
 use Rattle.result_laws.proofs.Coming.{leaves_by_jump, leaves_copy, leaves_stub}
@@ -36,23 +32,7 @@ use Rattle.result_laws.proofs.Moves.{one_address, two_addresses, Moved, moved}
 use Rattle.result_laws.proofs.PlacedPads as pads
 
 module _ (file out : List ℕ) (board : Board) (g : Graph) (c : Code) (pl : ChosenPlacement) (result : IsPlacedResult file out board g c pl) (input : List ℕ) where
-  abbrev v : PlainView
-  v = view_in file
-
-  abbrev p : Program
-  p = unnamed_in file board g
-
-  abbrev l : Setup
-  l = setup_of file out board g pl
-
-  abbrev live : ℕ → ℕ → Type 0
-  live = live_at c
-
-  abbrev plan : OverlayPlan
-  plan = result.view.plan
-
-  abbrev form : ℕ → ℕ → ℕ → Type 0
-  form = IsFormOf c g pl plan
+  open (setting file out board g c pl result) use {v, p, l, live, plan, form}
 
   abbrev holds : ℕ → SourceState → Origins → Type 0
   holds = IsHeldIn file out board g c pl result input

@@ -12,13 +12,11 @@ use Rattle.object_graph.specs.declared.parts.Graph.{Graph}
 use Rattle.code_blocks.specs.declared.parts.Code.{Code}
 use Rattle.dataflow.specs.Live.{LiveAt}
 use Rattle.dataflow.specs.Overlaid.{MayBeOverlaid}
-use Rattle.patch_code.specs.Overlay.{OverlayPlan}
 use Rattle.object_machine.specs.declared.events.Outcome.TheVariants.{GoesOn}
-use Rattle.object_machine.specs.Program.{Program}
 use Rattle.object_machine.specs.State.{SourceState}
 use Rattle.object_machine.specs.Step.{Reads, next_state}
 use Rattle.object_machine.specs.Paired.{Origins, at_start, origins_after, is_paired_step}
-use Rattle.simulation.specs.Setups.{Setup, Sound}
+use Rattle.simulation.specs.Setups.{Sound}
 use Rattle.simulation.specs.Made.{AreMade}
 use Rattle.simulation.specs.Relation.{Alike}
 use Rattle.simulation.specs.Ways.{AtAny, Arrivals, within}
@@ -29,36 +27,23 @@ use Rattle.simulation.proofs.Stays.{places_decide}
 use Rattle.simulation.proofs.Switches.{way_lands}
 use Rattle.simulation.proofs.Unwritten.{unwritten_stay}
 use Rattle.result_laws.specs.Pads.{IsServed}
+use Rattle.result_laws.proofs.Setting.{setting}
 use Rattle.result_laws.proofs.ArrivalPads.{pads_lead}
-use Rattle.result_laws.specs.HomeLaws.{source_start, unnamed_in}
-use Rattle.result_laws.specs.LiveUnits.{live_at}
+use Rattle.result_laws.specs.HomeLaws.{source_start}
 use Rattle.result_laws.specs.Held.{IsHeld}
 use Rattle.result_laws.specs.Entries.{ComesIn}
 use Rattle.result_laws.proofs.Held.{held_stays}
 use Rattle.result_laws.proofs.Entries.{enters_at_borders, borders_are_free}
 use Rattle.result_laws.proofs.Copies.{same_numbers}
 use Rattle.result_laws.specs.ChosenPlacement.{ChosenPlacement, slots_in}
-use Rattle.result_laws.specs.PlacedLaws.{IsPlacedResult, setup_of}
-use Rattle.result_laws.specs.PlacedForms.{IsFormOf, ComesTo, EntersAt}
+use Rattle.result_laws.specs.PlacedLaws.{IsPlacedResult}
+use Rattle.result_laws.specs.PlacedForms.{ComesTo, EntersAt}
 use Rattle.result_laws.proofs.MovingObjects.{stays_or_moves}
 use Rattle.result_laws.proofs.PlacedChosen.{sound}
 use Rattle.result_laws.proofs.PlacedPads.{served}
 
 module _ (file out : List ℕ) (board : Board) (g : Graph) (c : Code) (pl : ChosenPlacement) (result : IsPlacedResult file out board g c pl) (input : List ℕ) where
-  abbrev p : Program
-  p = unnamed_in file board g
-
-  abbrev l : Setup
-  l = setup_of file out board g pl
-
-  abbrev live : ℕ → ℕ → Type 0
-  live = live_at c
-
-  abbrev plan : OverlayPlan
-  plan = result.view.plan
-
-  abbrev form : ℕ → ℕ → ℕ → Type 0
-  form = IsFormOf c g pl plan
+  open (setting file out board g c pl result) use {p, l, live, plan, form}
 
   abbrev enters : ℕ → ℕ → Type 0
   enters = EntersAt c pl.regions pl.borders

@@ -2,7 +2,6 @@
 use Rattle.std.proofs.Common.{◌≡◌, ◌∙◌, inl, inr, ℕ, zero, suc, ◌+◌, ◌%◌, ◌<◌, ◌==◌, true, false, ◌&&◌, List, length, sym, subst, arith}
 use Rattle.std.proofs.lemmas.Bool.{cases_Bool, both_ways, eqb-true}
 use Rattle.list_checks.proofs.TestLemmas.{both, any_found}
-use Rattle.elf_reader.specs.File.{PlainView, view_in}
 use Rattle.board_config.specs.declared.board.Board.{Board}
 use Rattle.loaded_file.specs.Code.{is_code_word}
 use Rattle.object_graph.specs.declared.parts.Graph.{Graph}
@@ -16,8 +15,9 @@ use Rattle.code_blocks.specs.declared.parts.Code.{Code}
 use Rattle.dataflow.specs.Live.{IsUnitOf}
 use Rattle.block_splitter.specs.Pieces.{IsTemporary}
 use Rattle.object_machine.proofs.FollowLemmas.{goes_further}
-use Rattle.result_laws.specs.LiveUnits.{StandsThere, UnitsStand, live_at}
+use Rattle.result_laws.specs.LiveUnits.{StandsThere, UnitsStand}
 use Rattle.result_laws.specs.HomeLaws.{unnamed_in}
+use Rattle.result_laws.proofs.Setting.{setting}
 use Rattle.result_laws.proofs.HomeSound.{loadable}
 use Rattle.result_laws.proofs.Words.{code_even, code_below}
 use Rattle.result_laws.proofs.CodeUnits.{block_of, first, begins, address, placed, units_stand}
@@ -30,11 +30,7 @@ pub temporary_some : (c : Code) (a link t : ℕ) → IsTemporary c a link t → 
 temporary_some c a link t is none = let from = is.from in omega (arith, from, none)
 
 module _ (file out : List ℕ) (board : Board) (g : Graph) (c : Code) (pl : ChosenPlacement) (result : IsPlacedResult file out board g c pl) where
-  abbrev v : PlainView
-  v = view_in file
-
-  abbrev live : ℕ → ℕ → Type 0
-  live = live_at c
+  open (setting file out board g c pl result) use {v, live}
 
   units : UnitsStand v (unnamed_in file board g) c
   units = units_stand file board g c result.accepted result.code

@@ -7,7 +7,6 @@ use Rattle.rv32im.specs.Sequences.{distance, jump_absolute}
 use Rattle.rv32im.specs.Words.{upper_half}
 use Rattle.rv32im.specs.declared.instructions.Instr.TheVariants as instr
 use Rattle.rv32im.proofs.SequenceLemmas.{arrives, mean_count}
-use Rattle.elf_reader.specs.File.{PlainView, view_in}
 use Rattle.board_config.specs.declared.board.Board.{Board}
 use Rattle.object_graph.specs.declared.parts.Graph.{Graph}
 use Rattle.code_blocks.specs.Leaders.{is_leader}
@@ -18,23 +17,23 @@ use Rattle.block_splitter.specs.declared.unit_kind.UnitKind.TheVariants.{Plain}
 use Rattle.block_splitter.specs.Forms.{holds_block, fall_out_size, is_site, kind_of, body_at as body_of}
 use Rattle.block_splitter.specs.Copies.{Copy, is_inside, address_of, words_at, JumpsOut, FallsTo, IsDisplaced}
 use Rattle.result_laws.specs.CopyLaws.{IsCopyOf, falls_to, place_behind, unit_at}
+use Rattle.result_laws.proofs.Setting.{setting}
 use Rattle.result_laws.proofs.Falls.{falls_form, falls_size, fall_size}
 use Rattle.result_laws.proofs.Places.{block_fits}
 use Rattle.patch_code.specs.Serving.{ServingStub}
-use Rattle.patch_code.specs.Overlay.{OverlayPlan}
 use Rattle.patch_code.specs.Served.{body_at}
 use Rattle.simulation.specs.Setups.{Setup}
 use Rattle.simulation.specs.Units.{StandsAt}
 use Rattle.simulation.specs.Ways.{Way, There, Near, Comes}
 use Rattle.simulation.specs.Switches.{MayLand}
-use Rattle.result_laws.specs.LiveUnits.{StandsThere, live_at}
+use Rattle.result_laws.specs.LiveUnits.{StandsThere}
 use Rattle.result_laws.specs.PlacedPieces.{PlacedPiece}
 use Rattle.result_laws.proofs.CodeUnits.{begins}
 use Rattle.result_laws.proofs.FarWays.{far_way}
 use Rattle.result_laws.specs.Entries.{RunsIn}
 use Rattle.result_laws.specs.ChosenPlacement.{ChosenPlacement, piece_of, copy_in}
 use Rattle.result_laws.specs.PlacedView.{IsUncopied, Serves}
-use Rattle.result_laws.specs.PlacedLaws.{IsPlacedResult, setup_of}
+use Rattle.result_laws.specs.PlacedLaws.{IsPlacedResult}
 use Rattle.result_laws.specs.PlacedForms.{IsFormOf, ComesTo, ArrivesHome, FormThere, BlockThere, ArrivesAt, AtForm, AtItsHome, BehindCopy, BehindStub}
 use Rattle.result_laws.proofs.Blocks.{leader_low, leader_even, temporary_dead, temporary_some, unit_low}
 use Rattle.result_laws.proofs.CopyWays as ways
@@ -46,17 +45,7 @@ longer : (l : Setup) (live : ℕ → ℕ → Type 0) (form : ℕ → ℕ → ℕ
 longer l live form few most r v a less comes = let fits = comes.1.0 in (comes.0, (omega (arith, less, fits), comes.1.1))
 
 module _ (file out : List ℕ) (board : Board) (g : Graph) (c : Code) (pl : ChosenPlacement) (result : IsPlacedResult file out board g c pl) where
-  abbrev v : PlainView
-  v = view_in file
-
-  abbrev l : Setup
-  l = setup_of file out board g pl
-
-  abbrev live : ℕ → ℕ → Type 0
-  live = live_at c
-
-  abbrev plan : OverlayPlan
-  plan = result.view.plan
+  open (setting file out board g c pl result) use {v, l, live, plan}
 
   -- ---- ways home
 

@@ -10,7 +10,6 @@ use Rattle.rv32im.specs.declared.instructions.BranchKind.{BranchKind}
 use Rattle.rv32im.specs.declared.instructions.Instr.{Instr}
 use Rattle.rv32im.specs.declared.instructions.Instr.TheVariants as instr
 use Rattle.rv32im.proofs.Meaning.{in_range}
-use Rattle.elf_reader.specs.File.{PlainView, view_in}
 use Rattle.board_config.specs.declared.board.Board.{Board}
 use Rattle.board_config.specs.declared.board.Range.{Range}
 use Rattle.flat_machine.specs.Mapping as mapping
@@ -32,6 +31,7 @@ use Rattle.result_laws.specs.Kinds.{takes}
 use Rattle.result_laws.specs.Copied.{Lands, unit_words, MayDiffer, CopyLeads, CopyRuns}
 use Rattle.result_laws.specs.HomeUnits.{home_words, LeadsAtHome, IsHomeOf}
 use Rattle.result_laws.specs.CopyLaws.{IsInCopy, falls_to}
+use Rattle.result_laws.proofs.Setting.{setting}
 use Rattle.result_laws.proofs.CopiedUnits.{copied_units_run}
 use Rattle.result_laws.proofs.Counts.{runs_count}
 use Rattle.result_laws.proofs.CopyHomes.{unlinked}
@@ -39,19 +39,17 @@ use Rattle.result_laws.proofs.KindFacts.{IsKindOf, CallsBack, kinds_so}
 use Rattle.result_laws.proofs.Places.{unit_fits}
 use Rattle.result_laws.proofs.SameRegisters.{copies_leave_registers}
 use Rattle.result_laws.proofs.CopyUnits.{units_are_kinds}
-use Rattle.object_machine.specs.Program.{Program, Target}
-use Rattle.simulation.specs.Setups.{Setup}
+use Rattle.object_machine.specs.Program.{Target}
 use Rattle.simulation.specs.Units.{StandsAt}
 use Rattle.simulation.specs.Forms.{IsAt, ActsFor, ActsAs, OneWordFor, IsFollowed, home_of, CanCome, IsRowKind}
-use Rattle.result_laws.specs.LiveUnits.{code_unit, StandsThere, live_at}
-use Rattle.result_laws.specs.HomeLaws.{unnamed_in}
+use Rattle.result_laws.specs.LiveUnits.{code_unit, StandsThere}
 use Rattle.result_laws.specs.PlacedPieces.{PlacedPiece}
 use Rattle.result_laws.proofs.CodeUnits.{units_stand}
 use Rattle.result_laws.proofs.Words.{same_word}
 use Rattle.result_laws.proofs.PlacedUnits.{call_register, no_target, same_register, AreFew, words_few, copy_some, read_register}
 use Rattle.result_laws.specs.Entries.{RunsIn}
 use Rattle.result_laws.specs.ChosenPlacement.{ChosenPlacement, piece_of, copy_in}
-use Rattle.result_laws.specs.PlacedLaws.{IsPlacedResult, setup_of}
+use Rattle.result_laws.specs.PlacedLaws.{IsPlacedResult}
 use Rattle.result_laws.proofs.Fetches.{RunsOver, PairOver, FormOver}
 use Rattle.result_laws.proofs.Blocks.{begin_leads, temporary_dead, unit_low}
 use Rattle.result_laws.proofs.Standing.{IsHere, piece_here, copy_holds, copy_still, copy_mapped}
@@ -61,17 +59,7 @@ use Rattle.result_laws.proofs.UnitForms as parts
 
 -- `arrive` says at which addresses the flat machine may come to a unit
 module _ (file out : List ℕ) (board : Board) (g : Graph) (c : Code) (pl : ChosenPlacement) (result : IsPlacedResult file out board g c pl) (r u n b k : ℕ) (inside : n < length pl.pieces) (held : holds_block b (piece_of pl n).range ≡ true) (stands : StandsThere c u b k) (may : RunsIn pl.regions b r) (arrive : ℕ → ℕ → Type 0) where
-  abbrev v : PlainView
-  v = view_in file
-
-  abbrev p : Program
-  p = unnamed_in file board g
-
-  abbrev l : Setup
-  l = setup_of file out board g pl
-
-  abbrev live : ℕ → ℕ → Type 0
-  live = live_at c
+  open (setting file out board g c pl result) use {v, p, l, live}
 
   abbrev y : PlacedPiece
   y = piece_of pl n

@@ -3,7 +3,6 @@ use Rattle.std.proofs.Common.{◌≡◌, ◌∙◌, inl, inr, ℕ, suc, ◌+◌,
 use Rattle.std.specs.Bool.{MatchBool}
 use Rattle.std.proofs.lemmas.List.{get_or-take, get_or-drop}
 use Rattle.std.proofs.lemmas.Bool.{cases_lt}
-use Rattle.elf_reader.specs.File.{PlainView, view_in}
 use Rattle.board_config.specs.declared.board.Board.{Board}
 use Rattle.object_graph.specs.declared.parts.Graph.{Graph}
 use Rattle.code_blocks.specs.Leaders.{is_leader}
@@ -15,18 +14,17 @@ use Rattle.block_splitter.specs.Forms.{body_at, holds_block, copy_size}
 use Rattle.block_splitter.specs.Copies.{Copy, is_inside, unit_of, kind_in, words_before, place_of, address_of, words_at, LeadsInside}
 use Rattle.result_laws.specs.CopyLaws.{IsCopyOf, IsLow, falls_to, place_behind}
 use Rattle.result_laws.specs.Copied.{Lands}
+use Rattle.result_laws.proofs.Setting.{setting}
 use Rattle.result_laws.proofs.CopiedUnits.{held_below}
 use Rattle.result_laws.proofs.Falls.{leads_inside, falls_started}
 use Rattle.result_laws.proofs.Places.{units_follow, words_count}
-use Rattle.patch_code.specs.Overlay.{OverlayPlan}
-use Rattle.simulation.specs.Setups.{Setup}
 use Rattle.simulation.specs.Units.{StandsAt}
 use Rattle.result_laws.specs.LiveUnits.{code_unit, StandsThere}
 use Rattle.result_laws.specs.PlacedPieces.{PlacedPiece}
 use Rattle.result_laws.proofs.CodeUnits.{body_units, first, units_stand, block_of}
 use Rattle.result_laws.specs.Entries.{RunsIn}
 use Rattle.result_laws.specs.ChosenPlacement.{ChosenPlacement, piece_of, copy_in, IsChosenPiece}
-use Rattle.result_laws.specs.PlacedLaws.{IsPlacedResult, setup_of}
+use Rattle.result_laws.specs.PlacedLaws.{IsPlacedResult}
 use Rattle.result_laws.specs.PlacedForms.{InCopy, ArrivesAt, BehindCopy}
 use Rattle.result_laws.proofs.Blocks.{begin_leads}
 use Rattle.result_laws.proofs.PlacedChosen.{piece_chosen}
@@ -35,14 +33,7 @@ use Rattle.result_laws.proofs.Standing as standing
 use Rattle.result_laws.proofs.HomeForms.{block_comes, form_there}
 
 module _ (file out : List ℕ) (board : Board) (g : Graph) (c : Code) (pl : ChosenPlacement) (result : IsPlacedResult file out board g c pl) where
-  abbrev v : PlainView
-  v = view_in file
-
-  abbrev l : Setup
-  l = setup_of file out board g pl
-
-  abbrev plan : OverlayPlan
-  plan = result.view.plan
+  open (setting file out board g c pl result) use {v, l, plan}
 
   -- ---- a copy
 

@@ -23,9 +23,9 @@ use Rattle.profile_runner.specs.Standing.{number_of, entered, current}
 use Rattle.profile_runner.specs.Transition.{Transition, transition_at}
 use Rattle.profile_runner.specs.Transitions.{TransitionsFrom, FirstOf, Transitions, transition_of}
 use Rattle.profile_runner.proofs.FindLemmas.{block_found}
-use Rattle.patch_code.specs.Overlay.{OverlayPlan}
 use Rattle.simulation.proofs.Unnamed.{next_same}
-use Rattle.result_laws.specs.HomeLaws.{program_in, source_start, unnamed_in}
+use Rattle.result_laws.specs.HomeLaws.{source_start}
+use Rattle.result_laws.proofs.Setting.{setting}
 use Rattle.result_laws.proofs.CodeUnits.{block_of}
 use Rattle.result_laws.specs.ChosenPlacement.{ChosenPlacement}
 use Rattle.result_laws.specs.PlacedLaws.{IsPlacedResult}
@@ -57,14 +57,7 @@ one_read w None (Some j) one other = absurd (one j other)
 one_read w (Some i) k one other = sym (one_reading w i k one other)
 
 module _ (file out : List ℕ) (board : Board) (g : Graph) (c : Code) (pl : ChosenPlacement) (result : IsPlacedResult file out board g c pl) (whole : List Transition) where
-  abbrev p : Program
-  p = program_in file board g
-
-  abbrev q : Program
-  q = unnamed_in file board g
-
-  abbrev plan : OverlayPlan
-  plan = result.view.plan
+  open (setting file out board g c pl result) use {p as q, named as p, plan}
 
   abbrev now : ℕ → ℕ
   now i = current (starts_of c) pl.regions whole i

@@ -2,7 +2,6 @@
 use Rattle.std.proofs.Common.{◌≡◌, ℕ, ◌<◌, true, false, List, length, sym, subst}
 use Rattle.std.specs.Prelude.{All}
 use Rattle.std.proofs.lemmas.Bool.{both_ways}
-use Rattle.elf_reader.specs.File.{PlainView, view_in}
 use Rattle.elf_reader.specs.Image.{image_of}
 use Rattle.board_config.specs.declared.board.Board.{Board}
 use Rattle.loaded_file.specs.Code.{is_code_word}
@@ -12,6 +11,7 @@ use Rattle.code_blocks.specs.Numbers.{start_at}
 use Rattle.code_blocks.specs.declared.parts.Code.{Code}
 use Rattle.result_laws.specs.Home.{is_code_byte}
 use Rattle.result_laws.specs.Moved.{IsOffWord}
+use Rattle.result_laws.proofs.Setting.{setting}
 use Rattle.result_laws.proofs.Loaded.{IsKept}
 use Rattle.result_laws.proofs.CodeUnits.{begins}
 use Rattle.result_laws.proofs.CodeWords.{off_sites, in_word}
@@ -20,11 +20,7 @@ use Rattle.result_laws.specs.ChosenPlacement.{ChosenPlacement}
 use Rattle.result_laws.specs.PlacedLaws.{IsPlacedResult}
 
 module _ (file out : List ℕ) (board : Board) (g : Graph) (c : Code) (pl : ChosenPlacement) (result : IsPlacedResult file out board g c pl) where
-  abbrev v : PlainView
-  v = view_in file
-
-  abbrev w : PlainView
-  w = view_in out
+  open (setting file out board g c pl result) use {v, w}
 
   -- no pad covers a byte that is none of code
   pads_off : (a : ℕ) → is_code_byte v a ≡ false → (b : ℕ) → b < length c.blocks.items → IsOffWord a (start_at c b)

@@ -2,7 +2,6 @@
 use Rattle.std.proofs.Common.{◌≡◌, ℕ, ◌+◌, ◌<◌, true, false, List, length, refl}
 use Rattle.std.specs.Prelude.{Contains}
 use Rattle.board_config.specs.declared.board.Board.{Board}
-use Rattle.elf_reader.specs.File.{PlainView, view_in}
 use Rattle.rv32im.specs.Table.{Means}
 use Rattle.rv32im.specs.declared.instructions.Instr.{Instr}
 use Rattle.loaded_file.specs.Code.{image_word}
@@ -14,32 +13,24 @@ use Rattle.block_splitter.specs.declared.unit_kind.UnitKind.TheVariants.{Plain, 
 use Rattle.block_splitter.specs.Forms.{holds_block}
 use Rattle.block_splitter.specs.Copies.{kind_in}
 use Rattle.result_laws.specs.Copied.{Lands}
-use Rattle.object_machine.specs.Program.{Program, falls_from}
+use Rattle.object_machine.specs.Program.{falls_from}
 use Rattle.patch_code.specs.Serving.{ServingStub}
-use Rattle.patch_code.specs.Overlay.{OverlayPlan}
 use Rattle.patch_code.specs.Served.{body_at}
 use Rattle.simulation.specs.Forms.{IsFollowed}
-use Rattle.result_laws.specs.HomeLaws.{unnamed_in}
 use Rattle.result_laws.specs.LiveUnits.{StandsThere}
 use Rattle.result_laws.specs.Entries.{RunsIn}
 use Rattle.result_laws.specs.ChosenPlacement.{ChosenPlacement, piece_of, copy_in}
 use Rattle.result_laws.specs.PlacedView.{IsUncopied, Serves}
 use Rattle.result_laws.specs.PlacedLaws.{IsPlacedResult}
 use Rattle.result_laws.specs.PlacedForms.{ArrivesHome, ArrivesAt, AtItsHome, BehindStub}
+use Rattle.result_laws.proofs.Setting.{setting}
 use Rattle.result_laws.proofs.CopyForms as copies
 use Rattle.result_laws.proofs.CopyWays.{lands_comes, unit_comes}
 use Rattle.result_laws.proofs.HomeForms.{block_comes, reached_comes, next_home}
 use Rattle.result_laws.proofs.StubForms as stubs
 
 module _ (file out : List ℕ) (board : Board) (g : Graph) (c : Code) (pl : ChosenPlacement) (result : IsPlacedResult file out board g c pl) (r : ℕ) where
-  abbrev plan : OverlayPlan
-  plan = result.view.plan
-
-  abbrev p : Program
-  p = unnamed_in file board g
-
-  abbrev v : PlainView
-  v = view_in file
+  open (setting file out board g c pl result) use {v, p, plan}
 
   abbrev arrive : ℕ → ℕ → Type 0
   arrive x a = ArrivesAt c g pl plan r x a

@@ -4,7 +4,6 @@ use Rattle.std.proofs.lemmas.Bool.{cases_lt}
 use Rattle.rv32im.specs.Table.{Means}
 use Rattle.rv32im.specs.declared.instructions.Instr.{Instr}
 use Rattle.rv32im.specs.declared.instructions.Instr.TheVariants as instr
-use Rattle.elf_reader.specs.File.{PlainView, view_in}
 use Rattle.board_config.specs.declared.board.Board.{Board}
 use Rattle.loaded_file.specs.Code.{image_word, is_code_word}
 use Rattle.object_graph.specs.declared.parts.Graph.{Graph}
@@ -13,24 +12,22 @@ use Rattle.code_blocks.proofs.LeaderLemmas.{indirect_is_leader}
 use Rattle.code_blocks.proofs.PairLemmas.{pair_is_code}
 use Rattle.code_blocks.specs.Leads.{units_at}
 use Rattle.code_blocks.specs.declared.parts.Code.{Code}
-use Rattle.object_machine.specs.Program.{Program, falls_from}
+use Rattle.object_machine.specs.Program.{falls_from}
 use Rattle.object_machine.specs.Units.{leads_on}
 use Rattle.object_machine.proofs.FollowLemmas.{falls_behind}
 use Rattle.dataflow.specs.Overlaid.{region_in}
-use Rattle.patch_code.specs.Overlay.{OverlayPlan}
 use Rattle.flat_machine.specs.State.{State}
-use Rattle.simulation.specs.Setups.{Setup}
 use Rattle.simulation.specs.Forms.{IsFollowed, InWords}
 use Rattle.simulation.proofs.AnyForms.{home_words}
-use Rattle.result_laws.specs.LiveUnits.{StandsThere, live_at}
-use Rattle.result_laws.specs.HomeLaws.{unnamed_in}
+use Rattle.result_laws.specs.LiveUnits.{StandsThere}
 use Rattle.result_laws.proofs.CodeUnits.{units_stand, placed, block_of}
 use Rattle.result_laws.proofs.UnitWords.{IsLaid, unit_laid}
 use Rattle.result_laws.specs.Entries.{RunsIn}
 use Rattle.result_laws.specs.ChosenPlacement.{ChosenPlacement}
 use Rattle.result_laws.specs.PlacedView.{is_padded, HasRegion, InBlock, Elsewhere}
-use Rattle.result_laws.specs.PlacedLaws.{IsPlacedResult, setup_of}
+use Rattle.result_laws.specs.PlacedLaws.{IsPlacedResult}
 use Rattle.result_laws.specs.PlacedForms.{StandsAs, AtHome, IsFormOf, ArrivesHome, FormThere, BlockThere, ArrivesAt, AtForm, AtItsHome}
+use Rattle.result_laws.proofs.Setting.{setting}
 use Rattle.result_laws.proofs.Blocks.{unit_code, later_bare, second_bare, second_alone}
 use Rattle.result_laws.proofs.PlacedChosen.{sound}
 use Rattle.result_laws.proofs.Fetches.{FormOver}
@@ -44,23 +41,7 @@ followed_leads instr.Ebreak follows = absurd follows
 followed_leads i follows = refl
 
 module _ (file out : List ℕ) (board : Board) (g : Graph) (c : Code) (pl : ChosenPlacement) (result : IsPlacedResult file out board g c pl) where
-  abbrev v : PlainView
-  v = view_in file
-
-  abbrev w : PlainView
-  w = view_in out
-
-  abbrev p : Program
-  p = unnamed_in file board g
-
-  abbrev l : Setup
-  l = setup_of file out board g pl
-
-  abbrev live : ℕ → ℕ → Type 0
-  live = live_at c
-
-  abbrev plan : OverlayPlan
-  plan = result.view.plan
+  open (setting file out board g c pl result) use {v, w, p, l, live, plan}
 
   abbrev arrive : ℕ → ℕ → ℕ → Type 0
   arrive r u a = ArrivesAt c g pl plan r u a

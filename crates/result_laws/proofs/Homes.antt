@@ -18,16 +18,15 @@ use Rattle.cell_values.specs.Origins.{ByLui}
 use Rattle.cell_values.specs.Stands.{Places, Uppers, CellStands, moved_uppers}
 use Rattle.cell_values.proofs.GraphObjects.{object_below}
 use Rattle.placement_programme.specs.Plain.{PlainProgramme, PlainChoice}
-use Rattle.relocator.specs.declared.slots.Slot.{Slot}
-use Rattle.relocator.specs.Placing.{placed, chosen_slots}
+use Rattle.relocator.specs.Placing.{placed}
 use Rattle.result_laws.specs.ChosenJobs.{Images}
 use Rattle.object_machine.specs.Paired.{at_start}
 use Rattle.object_machine.specs.Start.{in_word, first_cell, where_memory}
-use Rattle.simulation.specs.Setups.{Setup}
 use Rattle.simulation.specs.Unwritten.{IsOneByte, HomesStandStill}
 use Rattle.result_laws.specs.Home.{is_code_byte}
 use Rattle.result_laws.specs.HomeLaws.{source_start, unnamed_in}
-use Rattle.result_laws.specs.OverlaySetup.{is_stub_byte, is_copied, is_number_byte, is_left_by, is_left, overlay_setup}
+use Rattle.result_laws.specs.OverlaySetup.{is_stub_byte, is_copied, is_number_byte, is_left_by, is_left}
+use Rattle.result_laws.proofs.Setting.{choice_setting}
 use Rattle.result_laws.proofs.Loaded.{refuted}
 use Rattle.result_laws.proofs.Kept.{object_kept}
 use Rattle.result_laws.specs.SetupLaws.{IsOverlay}
@@ -82,14 +81,7 @@ known_byte file board g input up o i below =
 -- ---- homes
 
 module _ (file out : List ℕ) (board : Board) (g : Graph) (regions : ℕ) (q : PlainProgramme) (c : PlainChoice) (images : Images) (mem : Memory) (is : IsOverlay file board g regions q c images) (input : List ℕ) (r : ℕ) where
-  abbrev v : PlainView
-  v = view_in file
-
-  abbrev slots : List Slot
-  slots = chosen_slots board q c
-
-  abbrev l : Setup
-  l = overlay_setup v board g slots images mem
+  open (choice_setting file board g q c images mem) use {v, l, slots}
 
   abbrev place : Places
   place = placed g slots r

@@ -2,7 +2,7 @@
 use Rattle.std.proofs.Common.{◌≡◌, ℕ, ◌+◌, ◌*◌, ◌≤◌, true, List, length, refl, sym, subst, arith}
 use Rattle.std.proofs.lemmas.List.Elements.{All-weaker}
 use Rattle.rv32im.specs.Memory.{Memory}
-use Rattle.elf_reader.specs.File.{PlainView, view_in}
+use Rattle.elf_reader.specs.File.{view_in}
 use Rattle.elf_reader.specs.Image.{image_of}
 use Rattle.elf_reader.specs.Loadable.{AreBytes}
 use Rattle.board_config.specs.declared.board.Board.{Board}
@@ -16,25 +16,22 @@ use Rattle.code_blocks.specs.declared.parts.Code.{Code}
 use Rattle.code_blocks.proofs.EntryLemmas.{entry_leads}
 use Rattle.patch_code.specs.Start.{StartPlan, start_run}
 use Rattle.patch_code.specs.StubLaws.{started}
-use Rattle.patch_code.specs.Overlay.{OverlayPlan}
-use Rattle.relocator.specs.declared.slots.Slot.{Slot}
-use Rattle.result_laws.specs.ChosenJobs.{Images}
 use Rattle.result_laws.specs.JobLaws.{GoesIn, room_left}
+use Rattle.result_laws.proofs.Setting.{setting}
 use Rattle.result_laws.proofs.JobsFit.{start_fit, start_takes}
 use Rattle.result_laws.proofs.PatchHomes.{images_lie_so}
 use Rattle.object_machine.specs.Program.{Program}
 use Rattle.object_machine.specs.State.{SourceState}
 use Rattle.object_machine.specs.Runs.{Steps}
 use Rattle.object_machine.specs.Paired.{Origins, at_start}
-use Rattle.simulation.specs.Setups.{Setup}
 use Rattle.simulation.specs.Forms.{FormAt}
 use Rattle.simulation.specs.Laws.{Keeps}
 use Rattle.simulation.specs.Ways.{AtAny, Arrivals, within}
 use Rattle.simulation.proofs.Resets.{all_made, moved_code_keeps}
 use Rattle.simulation.proofs.Runs.{keeps_behind}
 use Rattle.result_laws.specs.Pads.{CanSwitch}
-use Rattle.result_laws.specs.HomeLaws.{program_in, source_start, file_start, unnamed_in}
-use Rattle.result_laws.specs.LiveUnits.{StandsThere, live_at}
+use Rattle.result_laws.specs.HomeLaws.{program_in, source_start, file_start}
+use Rattle.result_laws.specs.LiveUnits.{StandsThere}
 use Rattle.result_laws.specs.ResultLaws.{most_steps}
 use Rattle.result_laws.proofs.Single.{one_run}
 use Rattle.result_laws.proofs.CodeUnits.{units_stand}
@@ -44,10 +41,10 @@ use Rattle.result_laws.proofs.Switching.{choice_can_switch}
 use Rattle.result_laws.specs.Entries.{RunsIn}
 use Rattle.result_laws.proofs.Held.{held_at_start}
 use Rattle.result_laws.proofs.Entries.{starts_at_border}
-use Rattle.result_laws.specs.ChosenPlacement.{ChosenPlacement, slots_in, images_in}
+use Rattle.result_laws.specs.ChosenPlacement.{ChosenPlacement}
 use Rattle.result_laws.specs.PlacedView.{start_plan}
-use Rattle.result_laws.specs.PlacedLaws.{IsPlacedResult, setup_of, PlacedResultKeeps}
-use Rattle.result_laws.specs.PlacedForms.{StandsAs, AtHome, InCopy, InStub, MayRun, IsFormOf, ComesTo, ArrivesAt}
+use Rattle.result_laws.specs.PlacedLaws.{IsPlacedResult, PlacedResultKeeps}
+use Rattle.result_laws.specs.PlacedForms.{StandsAs, AtHome, InCopy, InStub, MayRun, ComesTo}
 use Rattle.result_laws.proofs.PlacedChosen.{is_overlay, holds_plan, holds_homes, sound}
 use Rattle.result_laws.proofs.PlacedPads.{served, block_arrives}
 use Rattle.result_laws.proofs.Arriving.{IsHeldIn, arrivals}
@@ -62,26 +59,7 @@ use Rattle.result_laws.proofs.Starting.{stub_runs, start_alike}
 use Rattle.result_laws.proofs.Bounds.{HasBytes, start_short}
 
 module _ (file out : List ℕ) (board : Board) (g : Graph) (c : Code) (pl : ChosenPlacement) (result : IsPlacedResult file out board g c pl) (input : List ℕ) where
-  abbrev v : PlainView
-  v = view_in file
-
-  abbrev p : Program
-  p = unnamed_in file board g
-
-  abbrev l : Setup
-  l = setup_of file out board g pl
-
-  abbrev live : ℕ → ℕ → Type 0
-  live = live_at c
-
-  abbrev plan : OverlayPlan
-  plan = result.view.plan
-
-  abbrev slots : List Slot
-  slots = slots_in board pl
-
-  abbrev images : Images
-  images = images_in pl
+  open (setting file out board g c pl result) use {v, p, l, live, plan, slots, images, form, comes}
 
   abbrev image : Memory
   image = image_of (view_in out).segments
@@ -101,12 +79,6 @@ module _ (file out : List ℕ) (board : Board) (g : Graph) (c : Code) (pl : Chos
 
   abbrev switches : ℕ → ℕ → ℕ → Type 0
   switches = served file out board g c pl result input bound
-
-  abbrev form : ℕ → ℕ → ℕ → Type 0
-  form = IsFormOf c g pl plan
-
-  abbrev comes : ℕ → ℕ → ℕ → Type 0
-  comes = ArrivesAt c g pl plan
 
   abbrev holds : ℕ → SourceState → Origins → Type 0
   holds = IsHeldIn file out board g c pl result input

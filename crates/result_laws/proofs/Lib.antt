@@ -113,3 +113,4 @@ pub mod Spared
 pub mod Current
 pub mod Walking
 pub mod Counting
+pub mod Setting

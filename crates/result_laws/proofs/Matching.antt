@@ -4,7 +4,7 @@ use Rattle.std.proofs.lemmas.List.{length-map}
 use Rattle.rv32im.specs.Memory.{word_at}
 use Rattle.rv32im.specs.declared.instructions.Instr.{Instr}
 use Rattle.rv32im.proofs.Meaning.{same_instruction}
-use Rattle.elf_reader.specs.File.{PlainView, view_in}
+use Rattle.elf_reader.specs.File.{view_in}
 use Rattle.elf_reader.specs.Image.{image_of}
 use Rattle.elf_reader.specs.Loadable.{AreBytes}
 use Rattle.board_config.specs.declared.board.Board.{Board}
@@ -23,7 +23,6 @@ use Rattle.object_machine.specs.Step.{next_state}
 use Rattle.object_machine.specs.Runs.{Steps}
 use Rattle.object_machine.specs.Paired.{Origins, at_start}
 use Rattle.patch_code.specs.Start.{start_run}
-use Rattle.patch_code.specs.Overlay.{OverlayPlan}
 use Rattle.simulation.specs.Setups.{Setup}
 use Rattle.simulation.specs.Forms.{FormAt, InWords, InRow, FormTells}
 use Rattle.simulation.specs.Folds.{Folds, Few, few_each, pace_of, KeepsTold}
@@ -35,11 +34,11 @@ use Rattle.simulation.proofs.Resets.{any_reset, alike_reset}
 use Rattle.simulation.proofs.Runs.{counts_fold}
 use Rattle.simulation.proofs.Steps.{is_at}
 use Rattle.simulation.proofs.Unnamed.{unnamed_paired}
+use Rattle.result_laws.proofs.Setting.{setting}
 use Rattle.result_laws.proofs.ArrivalPads.{region_number}
 use Rattle.simulation.specs.Changes.{AreAtHomeToo}
 use Rattle.simulation.proofs.Homes.{home_too}
-use Rattle.result_laws.specs.HomeLaws.{program_in, source_start, file_start, unnamed_in}
-use Rattle.result_laws.specs.LiveUnits.{live_at}
+use Rattle.result_laws.specs.HomeLaws.{program_in, source_start, file_start}
 use Rattle.result_laws.specs.ResultLaws.{most_steps}
 use Rattle.result_laws.proofs.LiveUnits.{liveness_keeps}
 use Rattle.result_laws.specs.JobLaws.{room_left}
@@ -47,9 +46,8 @@ use Rattle.result_laws.proofs.Homes.{homes_of_choice}
 use Rattle.result_laws.proofs.PlanStanding.{plan_of_choice}
 use Rattle.result_laws.specs.ChosenPlacement.{ChosenPlacement, slots_in, images_in}
 use Rattle.result_laws.specs.PlacedView.{start_plan}
-use Rattle.result_laws.specs.PlacedLaws.{IsPlacedResult, setup_of}
+use Rattle.result_laws.specs.PlacedLaws.{IsPlacedResult}
 use Rattle.result_laws.specs.Matching.{Match, Matched, PlacedStatesMatch}
-use Rattle.result_laws.specs.PlacedForms.{IsFormOf, ArrivesAt}
 use Rattle.result_laws.proofs.PlacedChosen.{is_overlay, holds_plan, holds_homes}
 use Rattle.result_laws.proofs.Arriving.{IsHeldIn}
 use Rattle.result_laws.proofs.Starting.{stub_runs}
@@ -146,20 +144,7 @@ unit_few p l live arrive r u a t (InRow row) =
     }
 
 module _ (file out : List ℕ) (board : Board) (g : Graph) (c : Code) (pl : ChosenPlacement) (result : IsPlacedResult file out board g c pl) (input : List ℕ) where
-  abbrev v : PlainView
-  v = view_in file
-
-  abbrev p : Program
-  p = unnamed_in file board g
-
-  abbrev l : Setup
-  l = setup_of file out board g pl
-
-  abbrev live : ℕ → ℕ → Type 0
-  live = live_at c
-
-  abbrev plan : OverlayPlan
-  plan = result.view.plan
+  open (setting file out board g c pl result) use {v, p, l, live, plan, form, comes}
 
   abbrev source : SourceState
   source = source_start file board g input
@@ -170,12 +155,6 @@ module _ (file out : List ℕ) (board : Board) (g : Graph) (c : Code) (pl : Chos
 
   abbrev most : ℕ
   most = 5 + (bound + 5)
-
-  abbrev form : ℕ → ℕ → ℕ → Type 0
-  form = IsFormOf c g pl plan
-
-  abbrev comes : ℕ → ℕ → ℕ → Type 0
-  comes = ArrivesAt c g pl plan
 
   abbrev holds : ℕ → SourceState → Origins → Type 0
   holds = IsHeldIn file out board g c pl result input

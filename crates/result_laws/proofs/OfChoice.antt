@@ -6,24 +6,22 @@ use Rattle.std.proofs.lemmas.Bool.Decides.{nat_tests}
 use Rattle.list_checks.proofs.TestLemmas.{any_found, any_at}
 use Rattle.rv32im.specs.Words.{byte_of}
 use Rattle.rv32im.specs.Memory.{Memory}
-use Rattle.elf_reader.specs.File.{PlainView, view_in}
 use Rattle.board_config.specs.declared.board.Board.{Board}
 use Rattle.object_graph.specs.Sites.{in_range, is_fixed_memory}
 use Rattle.object_graph.specs.declared.parts.Graph.{Graph}
 use Rattle.code_blocks.proofs.LeaderLemmas.{left_passes, right_passes}
 use Rattle.cell_values.specs.Objects.{object_of}
 use Rattle.placement_programme.specs.Plain.{PlainProgramme, PlainChoice}
-use Rattle.relocator.specs.declared.slots.Slot.{Slot}
-use Rattle.relocator.specs.Placing.{placed, chosen_slots}
+use Rattle.relocator.specs.Placing.{placed}
 use Rattle.relocator.specs.Laws.{IsPresent, slot_at}
 use Rattle.result_laws.specs.ChosenJobs.{Images, code_number}
 use Rattle.result_laws.specs.Memories.{IsOfCode}
+use Rattle.result_laws.proofs.Setting.{choice_setting}
 use Rattle.result_laws.proofs.JobChosen.{same_slot}
-use Rattle.simulation.specs.Setups.{Setup}
 use Rattle.result_laws.specs.Chosen.{IsUntouched, StandsAs, StandsByChoice, OfNumber, Throughout, OfCopy, AtHome, IsSetupOf}
 use Rattle.result_laws.specs.Home.{is_code_byte}
 use Rattle.result_laws.specs.HomeLaws.{unnamed_in}
-use Rattle.result_laws.specs.OverlaySetup.{is_stub_byte, holds_copy, is_copied, source_below, image_byte, is_number_byte, is_left, overlay_setup}
+use Rattle.result_laws.specs.OverlaySetup.{is_stub_byte, holds_copy, is_copied, source_below, image_byte, is_number_byte, is_left}
 use Rattle.result_laws.proofs.Loaded.{refuted}
 use Rattle.result_laws.proofs.HomeSound.{sound_home}
 use Rattle.result_laws.proofs.Kept.{code_byte_kept, fixed_kept}
@@ -32,14 +30,7 @@ use Rattle.result_laws.specs.SetupLaws.{IsOverlay, SetupOfChoice}
 use Rattle.result_laws.proofs.Copies.{same_numbers, inside_behind, copy_byte, holds_so, image_source}
 
 module _ (file : List ℕ) (board : Board) (g : Graph) (regions : ℕ) (q : PlainProgramme) (c : PlainChoice) (images : Images) (mem : Memory) (is : IsOverlay file board g regions q c images) where
-  abbrev v : PlainView
-  v = view_in file
-
-  abbrev slots : List Slot
-  slots = chosen_slots board q c
-
-  abbrev l : Setup
-  l = overlay_setup v board g slots images mem
+  open (choice_setting file board g q c images mem) use {v, l, slots}
 
   abbrev Stands : ℕ → ℕ → Type 0
   Stands r a = StandsByChoice l board.spm board.patch g slots images regions r a

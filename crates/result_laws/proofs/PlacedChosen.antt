@@ -7,7 +7,7 @@ use Rattle.std.proofs.lemmas.List.{get_or-map, length-map, length-append}
 use Rattle.std.proofs.lemmas.List.Folds.{list_any_at}
 use Rattle.rv32im.specs.Words.{plus, byte_of}
 use Rattle.rv32im.specs.Memory.{Memory, word_at}
-use Rattle.elf_reader.specs.File.{PlainView, view_in}
+use Rattle.elf_reader.specs.File.{PlainView}
 use Rattle.elf_reader.specs.Image.{image_of}
 use Rattle.board_config.specs.declared.board.Board.{Board}
 use Rattle.object_graph.specs.declared.parts.DataWord.{DataWord}
@@ -17,19 +17,17 @@ use Rattle.dataflow.specs.Overlaid.{word_means}
 use Rattle.block_splitter.specs.Copies.{Copy, is_inside, kind_in}
 use Rattle.block_splitter.proofs.FieldLemmas.{has_unit}
 use Rattle.block_splitter.proofs.CopySizeLemmas.{holds, range_is, some_word}
+use Rattle.result_laws.proofs.Setting.{setting}
 use Rattle.result_laws.proofs.Places.{unit_fits}
 use Rattle.cell_values.specs.Objects.{object_of}
 use Rattle.cell_values.specs.Stands.{Places}
 use Rattle.patch_code.specs.Layout.{image_places}
-use Rattle.patch_code.specs.Overlay.{OverlayPlan, overlay_images_at}
-use Rattle.relocator.specs.declared.slots.Slot.{Slot}
-use Rattle.result_laws.specs.ChosenJobs.{Images, code_number}
+use Rattle.patch_code.specs.Overlay.{overlay_images_at}
+use Rattle.result_laws.specs.ChosenJobs.{code_number}
 use Rattle.result_laws.specs.Memories.{IsOfCode}
 use Rattle.result_laws.specs.PatchLaws.{LieInPatch}
 use Rattle.result_laws.proofs.JobNumbers.{code_numbers_so}
-use Rattle.object_machine.specs.Program.{Program}
-use Rattle.simulation.specs.Setups.{Setup, Sound}
-use Rattle.result_laws.specs.HomeLaws.{unnamed_in}
+use Rattle.simulation.specs.Setups.{Sound}
 use Rattle.result_laws.specs.Moved.{IsMovedWord}
 use Rattle.result_laws.specs.PlacedPieces.{PlacedPiece, piece_bytes}
 use Rattle.result_laws.proofs.HomeSound.{sound_home}
@@ -38,9 +36,9 @@ use Rattle.result_laws.specs.SetupLaws.{IsOverlay}
 use Rattle.result_laws.specs.Plans.{HoldsHomes, HoldsPlan}
 use Rattle.result_laws.proofs.Copies.{same_numbers}
 use Rattle.result_laws.proofs.SoundChoice.{choice_is_sound}
-use Rattle.result_laws.specs.ChosenPlacement.{ChosenPlacement, slots_in, places_in, no_piece, piece_of, images_in, copy_with, IsChosenPiece}
+use Rattle.result_laws.specs.ChosenPlacement.{ChosenPlacement, places_in, no_piece, piece_of, copy_with, IsChosenPiece}
 use Rattle.result_laws.specs.PlacedView.{image_in, words_in}
-use Rattle.result_laws.specs.PlacedLaws.{IsPlacedResult, setup_of}
+use Rattle.result_laws.specs.PlacedLaws.{IsPlacedResult}
 use Rattle.result_laws.proofs.Elsewhere.{data_left}
 use Rattle.result_laws.proofs.MovingObjects.{stays_or_moves}
 
@@ -69,23 +67,10 @@ moved_word : (w : PlainView) (place other : Places) (d : DataWord) → place d.o
 moved_word w place other d same moved k below = moved k below ∙ ap (λ (a : ℕ). byte_of (plus a d.offset) k) same
 
 module _ (file out : List ℕ) (board : Board) (g : Graph) (c : Code) (pl : ChosenPlacement) (result : IsPlacedResult file out board g c pl) where
-  abbrev v : PlainView
-  v = view_in file
-
-  abbrev w : PlainView
-  w = view_in out
+  open (setting file out board g c pl result) use {v, w, p, l, plan, slots, images}
 
   abbrev image : Memory
   image = image_of w.segments
-
-  abbrev slots : List Slot
-  slots = slots_in board pl
-
-  abbrev images : Images
-  images = images_in pl
-
-  abbrev plan : OverlayPlan
-  plan = result.view.plan
 
   -- ---- pieces
 
@@ -196,12 +181,6 @@ module _ (file out : List ℕ) (board : Board) (g : Graph) (c : Code) (pl : Chos
       }
 
   -- ---- the setup
-
-  abbrev p : Program
-  p = unnamed_in file board g
-
-  abbrev l : Setup
-  l = setup_of file out board g pl
 
   pub sound : (r : ℕ) → Sound p l r
   sound r = choice_is_sound file board g pl.count pl.programme pl.choice images image r is_overlay

@@ -5,7 +5,6 @@ use Rattle.std.proofs.lemmas.Bool.{cases_Bool, cases_eq, eqb-true, both_ways}
 use Rattle.list_checks.proofs.TestLemmas.{both, any_found}
 use Rattle.rv32im.specs.Sequences.{distance}
 use Rattle.rv32im.proofs.SequenceLemmas.{arrives}
-use Rattle.elf_reader.specs.File.{PlainView, view_in}
 use Rattle.board_config.specs.declared.board.Board.{Board}
 use Rattle.loaded_file.specs.Code.{image_word}
 use Rattle.flat_machine.specs.declared.events.FlatEvent.{FlatEvent}
@@ -18,27 +17,26 @@ use Rattle.code_blocks.specs.Numbers.{start_at}
 use Rattle.code_blocks.specs.Leads.{IsBlockOf}
 use Rattle.code_blocks.specs.declared.parts.Code.{Code}
 use Rattle.dataflow.specs.Overlaid.{is_border}
-use Rattle.object_machine.specs.Program.{Program}
 use Rattle.object_machine.specs.State.{SourceState}
 use Rattle.object_machine.specs.Paired.{Origins, at_start}
 use Rattle.patch_code.specs.Serving.{ServingStub, test_bytes}
-use Rattle.patch_code.specs.Overlay.{OverlayPlan, serving_place}
+use Rattle.patch_code.specs.Overlay.{serving_place}
 use Rattle.patch_code.specs.Served.{body_at}
-use Rattle.simulation.specs.Setups.{Setup, Sound}
+use Rattle.simulation.specs.Setups.{Sound}
 use Rattle.simulation.specs.Units.{StandsAt}
 use Rattle.simulation.specs.Relation.{Alike}
 use Rattle.simulation.specs.Ways.{Way, There, Near}
 use Rattle.simulation.proofs.Steps.{is_at}
 use Rattle.simulation.specs.Switches.{Switch}
 use Rattle.simulation.proofs.Switches.{may_switch}
+use Rattle.result_laws.proofs.Setting.{setting}
 use Rattle.result_laws.proofs.ArrivalPads.{passes, switches}
-use Rattle.result_laws.specs.HomeLaws.{source_start, unnamed_in}
-use Rattle.result_laws.specs.LiveUnits.{live_at}
+use Rattle.result_laws.specs.HomeLaws.{source_start}
 use Rattle.result_laws.specs.Entries.{RunsIn, ComesIn}
 use Rattle.result_laws.specs.ChosenPlacement.{ChosenPlacement}
 use Rattle.result_laws.specs.PlacedView.{is_served, is_padded, IsUncopied, HasBody, ToCopy, Displaced, Serves}
-use Rattle.result_laws.specs.PlacedLaws.{IsPlacedResult, setup_of}
-use Rattle.result_laws.specs.PlacedForms.{InStub, IsFormOf, EntersAt, ArrivesHome, FormThere, BlockThere}
+use Rattle.result_laws.specs.PlacedLaws.{IsPlacedResult}
+use Rattle.result_laws.specs.PlacedForms.{InStub, EntersAt, ArrivesHome, FormThere, BlockThere}
 use Rattle.result_laws.specs.Walks.{address_in, AreEvents, StubPasses, Unchecked, Current, Switches, body_fetched, BlockEntered, Bare, ByStub}
 use Rattle.result_laws.proofs.Arriving.{IsHeldIn, may_change}
 use Rattle.result_laws.proofs.Moves.{one_address, two_addresses, Moved, moved}
@@ -47,26 +45,7 @@ use Rattle.result_laws.proofs.UnitEvents.{fetched_accesses}
 use Rattle.result_laws.proofs.StubBodies.{BeginsJump, begins_jump, jump_leads, stub_inside}
 
 module _ (file out : List ℕ) (board : Board) (g : Graph) (c : Code) (pl : ChosenPlacement) (result : IsPlacedResult file out board g c pl) (input : List ℕ) where
-  abbrev v : PlainView
-  v = view_in file
-
-  abbrev w : PlainView
-  w = view_in out
-
-  abbrev p : Program
-  p = unnamed_in file board g
-
-  abbrev l : Setup
-  l = setup_of file out board g pl
-
-  abbrev live : ℕ → ℕ → Type 0
-  live = live_at c
-
-  abbrev plan : OverlayPlan
-  plan = result.view.plan
-
-  abbrev form : ℕ → ℕ → ℕ → Type 0
-  form = IsFormOf c g pl plan
+  open (setting file out board g c pl result) use {v, w, p, l, live, plan, form}
 
   abbrev holds : ℕ → SourceState → Origins → Type 0
   holds = IsHeldIn file out board g c pl result input

@@ -9,7 +9,6 @@ use Rattle.rv32im.specs.Table.{Means}
 use Rattle.rv32im.specs.Sequences.{distance}
 use Rattle.rv32im.specs.declared.instructions.Instr.TheVariants.{Jal}
 use Rattle.rv32im.proofs.SequenceLemmas.{arrives}
-use Rattle.elf_reader.specs.File.{PlainView, view_in}
 use Rattle.elf_reader.specs.Image.{image_of}
 use Rattle.board_config.specs.declared.board.Board.{Board}
 use Rattle.loaded_file.specs.Code.{image_word}
@@ -29,19 +28,18 @@ use Rattle.block_splitter.specs.Pieces.{is_entry}
 use Rattle.block_splitter.specs.Copies.{Copy, place_of, address_of, words_before}
 use Rattle.list_checks.specs.Tests.{any_below}
 use Rattle.patch_code.specs.Serving.{ServingStub, test_bytes}
-use Rattle.patch_code.specs.Overlay.{OverlayPlan, serving_place}
+use Rattle.patch_code.specs.Overlay.{serving_place}
 use Rattle.patch_code.specs.Served.{body_at}
-use Rattle.object_machine.specs.Program.{Program}
 use Rattle.object_machine.specs.State.{SourceState}
 use Rattle.object_machine.specs.Paired.{at_start}
-use Rattle.simulation.specs.Setups.{Setup}
 use Rattle.simulation.specs.Units.{StandsAt}
 use Rattle.simulation.specs.Ways.{Way, There, Near, Comes}
 use Rattle.simulation.specs.Switches.{MayLand}
 use Rattle.result_laws.specs.Pads.{PadStands, CanSwitch, IsServed}
-use Rattle.result_laws.specs.HomeLaws.{source_start, unnamed_in}
-use Rattle.result_laws.specs.LiveUnits.{StandsThere, live_at}
+use Rattle.result_laws.specs.HomeLaws.{source_start}
+use Rattle.result_laws.specs.LiveUnits.{StandsThere}
 use Rattle.result_laws.specs.PlacedPieces.{PlacedPiece}
+use Rattle.result_laws.proofs.Setting.{setting}
 use Rattle.result_laws.proofs.Lists.{element_found}
 use Rattle.result_laws.proofs.CodeUnits.{begins, first, block_of, units_stand}
 use Rattle.result_laws.specs.Entries.{RunsIn, ComesIn}
@@ -50,34 +48,15 @@ use Rattle.result_laws.proofs.Homes.{homes_of_choice}
 use Rattle.result_laws.proofs.PlanStanding.{plan_of_choice}
 use Rattle.result_laws.specs.ChosenPlacement.{ChosenPlacement, no_piece, piece_of, images_in, copy_in}
 use Rattle.result_laws.specs.PlacedView.{enters_piece, is_served, is_padded, IsUncopied, HasBody, ToCopy, Displaced, Serves, IsServedBy}
-use Rattle.result_laws.specs.PlacedLaws.{IsPlacedResult, setup_of}
-use Rattle.result_laws.specs.PlacedForms.{StandsAs, AtHome, InCopy, InStub, IsFormOf, ComesTo, EntersAt}
+use Rattle.result_laws.specs.PlacedLaws.{IsPlacedResult}
+use Rattle.result_laws.specs.PlacedForms.{StandsAs, AtHome, InCopy, InStub, ComesTo, EntersAt}
 use Rattle.result_laws.proofs.Blocks.{temporary_dead, unit_code, unit_low}
 use Rattle.result_laws.proofs.PlacedChosen.{is_overlay, holds_plan, holds_homes}
 use Rattle.result_laws.proofs.Standing.{home_stands}
 use Rattle.result_laws.proofs.StubBodies.{checked_bytes, stub_inside, jump_leads}
 
 module _ (file out : List ℕ) (board : Board) (g : Graph) (c : Code) (pl : ChosenPlacement) (result : IsPlacedResult file out board g c pl) where
-  abbrev v : PlainView
-  v = view_in file
-
-  abbrev w : PlainView
-  w = view_in out
-
-  abbrev p : Program
-  p = unnamed_in file board g
-
-  abbrev l : Setup
-  l = setup_of file out board g pl
-
-  abbrev live : ℕ → ℕ → Type 0
-  live = live_at c
-
-  abbrev plan : OverlayPlan
-  plan = result.view.plan
-
-  abbrev form : ℕ → ℕ → ℕ → Type 0
-  form = IsFormOf c g pl plan
+  open (setting file out board g c pl result) use {v, w, p, l, live, plan, form}
 
   -- ---- blocks
 

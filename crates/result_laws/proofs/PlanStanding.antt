@@ -6,7 +6,6 @@ use Rattle.std.proofs.lemmas.Bool.Decides.{nat_tests}
 use Rattle.std.proofs.lemmas.List.Elements.{All-weaker}
 use Rattle.rv32im.specs.Words.{byte_of}
 use Rattle.rv32im.specs.Memory.{Memory}
-use Rattle.elf_reader.specs.File.{PlainView, view_in}
 use Rattle.board_config.specs.Board.{mapped_ranges}
 use Rattle.board_config.specs.declared.board.Board.{Board}
 use Rattle.object_graph.specs.Sites.{in_range}
@@ -22,17 +21,15 @@ use Rattle.patch_code.specs.Start.{start_bytes}
 use Rattle.patch_code.specs.Overlay.{OverlayPlan, switching, rest_bytes}
 use Rattle.patch_code.specs.Served.{HoldsCode}
 use Rattle.patch_code.proofs.WholePlaces.{overlay_stands_so}
-use Rattle.relocator.specs.declared.slots.Slot.{Slot}
-use Rattle.relocator.specs.Placing.{chosen_slots}
 use Rattle.result_laws.specs.ChosenJobs.{Images}
 use Rattle.result_laws.specs.JobLaws.{ReadsImage, GoesIn, GoesHome, AreJobsOf}
 use Rattle.result_laws.specs.SwitchLaws.{CanStart}
+use Rattle.result_laws.proofs.Setting.{choice_setting}
 use Rattle.result_laws.proofs.JobsFit.{jobs_fit_so}
 use Rattle.result_laws.proofs.PatchHomes.{images_lie_so}
-use Rattle.simulation.specs.Setups.{Setup}
 use Rattle.result_laws.specs.Pads.{PlanStands}
 use Rattle.result_laws.specs.Home.{is_code_byte}
-use Rattle.result_laws.specs.OverlaySetup.{is_stub_byte, source_below, is_number_byte, overlay_setup}
+use Rattle.result_laws.specs.OverlaySetup.{is_stub_byte, source_below, is_number_byte}
 use Rattle.result_laws.proofs.HomeSound.{sound_home}
 use Rattle.result_laws.proofs.Ranges.{lies_in_range, spm_mapped, patch_mapped, patch_lawful}
 use Rattle.result_laws.proofs.Words.{same_word}
@@ -43,14 +40,7 @@ use Rattle.result_laws.proofs.SetupParts.{laid}
 use Rattle.result_laws.proofs.OfChoice.{stub_stands}
 
 module _ (file : List ℕ) (board : Board) (g : Graph) (regions : ℕ) (q : PlainProgramme) (c : PlainChoice) (images : Images) (mem : Memory) (is : IsOverlay file board g regions q c images) where
-  abbrev v : PlainView
-  v = view_in file
-
-  abbrev slots : List Slot
-  slots = chosen_slots board q c
-
-  abbrev l : Setup
-  l = overlay_setup v board g slots images mem
+  open (choice_setting file board g q c images mem) use {v, l, slots}
 
   pub starts : CanStart v g regions board q c images
   starts =

@@ -5,22 +5,20 @@ use Rattle.std.proofs.lemmas.Bool.Decides.{nat_tests}
 use Rattle.list_checks.proofs.TestLemmas.{either, both, not_true, any_found}
 use Rattle.rv32im.specs.Words.{byte_of}
 use Rattle.rv32im.specs.Memory.{Memory}
-use Rattle.elf_reader.specs.File.{PlainView, view_in}
 use Rattle.board_config.specs.declared.board.Board.{Board}
 use Rattle.loaded_file.specs.Ranges.{inside}
 use Rattle.object_graph.specs.Sites.{in_range}
 use Rattle.object_graph.specs.declared.parts.Graph.{Graph}
 use Rattle.cell_values.specs.Objects.{object_of}
 use Rattle.placement_programme.specs.Plain.{PlainProgramme, PlainChoice}
-use Rattle.relocator.specs.declared.slots.Slot.{Slot}
-use Rattle.relocator.specs.Placing.{placed, chosen_slots}
+use Rattle.relocator.specs.Placing.{placed}
 use Rattle.relocator.specs.Laws.{IsLaidOut, slot_at}
 use Rattle.result_laws.specs.ChosenJobs.{Images}
+use Rattle.result_laws.proofs.Setting.{choice_setting}
 use Rattle.result_laws.proofs.JobChosen.{InScratchpad, slot_inside}
-use Rattle.simulation.specs.Setups.{Setup}
 use Rattle.result_laws.specs.Chosen.{IsUntouched}
 use Rattle.result_laws.specs.Home.{is_code_byte}
-use Rattle.result_laws.specs.OverlaySetup.{is_stub_byte, holds_copy, is_copied, source_below, is_number_byte, is_left_by, is_left, overlay_setup}
+use Rattle.result_laws.specs.OverlaySetup.{is_stub_byte, holds_copy, is_copied, source_below, is_number_byte, is_left_by, is_left}
 use Rattle.result_laws.proofs.HomeSound.{sound_home}
 use Rattle.result_laws.proofs.Kept.{object_kept}
 use Rattle.result_laws.proofs.Ranges.{patch_lawful, patch_off_spm}
@@ -35,14 +33,7 @@ stub_in_patch board a is =
     grind (arith, nat_tests, from, to)
 
 module _ (file : List ℕ) (board : Board) (g : Graph) (regions : ℕ) (q : PlainProgramme) (c : PlainChoice) (images : Images) (mem : Memory) (is : IsOverlay file board g regions q c images) where
-  abbrev v : PlainView
-  v = view_in file
-
-  abbrev slots : List Slot
-  slots = chosen_slots board q c
-
-  abbrev l : Setup
-  l = overlay_setup v board g slots images mem
+  open (choice_setting file board g q c images mem) use {v, l, slots}
 
   pub laid : IsLaidOut v board g
   laid = record { lawful = is.accepted.lawful; layout = is.accepted.layout; graph = is.accepted.graph }

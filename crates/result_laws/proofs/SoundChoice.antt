@@ -3,7 +3,6 @@ use Rattle.std.proofs.Common.{◌≡◌, ◌∙◌, inl, inr, ℕ, ◌+◌, ◌-
 use Rattle.std.proofs.lemmas.Bool.{both_ways}
 use Rattle.list_checks.proofs.TestLemmas.{any_found}
 use Rattle.rv32im.specs.Memory.{Memory}
-use Rattle.elf_reader.specs.File.{PlainView, view_in}
 use Rattle.board_config.specs.Board.{mapped_ranges}
 use Rattle.board_config.specs.declared.board.Board.{Board}
 use Rattle.flat_machine.specs.Mapping.{is_mapped}
@@ -12,13 +11,13 @@ use Rattle.object_graph.specs.declared.parts.Graph.{Graph}
 use Rattle.cell_values.specs.Objects.{object_of}
 use Rattle.cell_values.proofs.Makes.{moved_uppers_make}
 use Rattle.placement_programme.specs.Plain.{PlainProgramme, PlainChoice}
-use Rattle.relocator.specs.declared.slots.Slot.{Slot}
-use Rattle.relocator.specs.Placing.{placed, chosen_slots}
+use Rattle.relocator.specs.Placing.{placed}
 use Rattle.relocator.specs.Laws.{slot_at}
 use Rattle.relocator.proofs.FitLemmas.{places_fit}
 use Rattle.result_laws.specs.ChosenJobs.{Images}
+use Rattle.result_laws.proofs.Setting.{choice_setting}
 use Rattle.result_laws.proofs.JobChosen.{where_is, object_inside, same_home, off_code}
-use Rattle.simulation.specs.Setups.{Setup, Sound}
+use Rattle.simulation.specs.Setups.{Sound}
 use Rattle.result_laws.specs.Home.{is_code_byte}
 use Rattle.result_laws.specs.HomeLaws.{unnamed_in}
 use Rattle.result_laws.proofs.Loaded.{refuted}
@@ -26,19 +25,12 @@ use Rattle.result_laws.proofs.HomeSound.{sound_home}
 use Rattle.result_laws.proofs.Kept.{fixed_kept, object_kept, code_byte_kept}
 use Rattle.result_laws.proofs.Ranges.{spm_mapped}
 use Rattle.result_laws.proofs.SetupParts.{stub_in_patch, laid, still_cases, in_scratchpad, in_slot, copy_in_scratchpad, number_in_patch, off_scratchpad, left_home}
-use Rattle.result_laws.specs.OverlaySetup.{holds_copy, is_copied, is_left, overlay_setup}
+use Rattle.result_laws.specs.OverlaySetup.{holds_copy, is_copied, is_left}
 use Rattle.result_laws.specs.SetupLaws.{IsOverlay, ChoiceIsSound}
 use Rattle.result_laws.proofs.Copies.{same_numbers, copy_byte}
 
 module _ (file : List ℕ) (board : Board) (g : Graph) (regions : ℕ) (q : PlainProgramme) (c : PlainChoice) (images : Images) (mem : Memory) (is : IsOverlay file board g regions q c images) (r : ℕ) where
-  abbrev v : PlainView
-  v = view_in file
-
-  abbrev slots : List Slot
-  slots = chosen_slots board q c
-
-  abbrev l : Setup
-  l = overlay_setup v board g slots images mem
+  open (choice_setting file board g q c images mem) use {v, l, slots}
 
   -- an object is in the scratchpad or at home
   at_place : (P : ℕ → Type 0) (o i : ℕ) → i < (object_of g o).size → ((a : ℕ) → in_range board.spm a ≡ true → P a) → P ((object_of g o).home + i) → P (placed g slots r o + i)

@@ -9,7 +9,6 @@ use Rattle.std.proofs.lemmas.List.Elements.{All-contains, Contains-get_or}
 use Rattle.rv32im.specs.Words.{plus}
 use Rattle.rv32im.specs.Memory.{Memory, word_at}
 use Rattle.list_checks.proofs.TestLemmas.{any_at}
-use Rattle.elf_reader.specs.File.{PlainView, view_in}
 use Rattle.elf_reader.specs.Image.{image_of}
 use Rattle.board_config.specs.Board.{mapped_ranges}
 use Rattle.board_config.specs.declared.board.Board.{Board}
@@ -35,8 +34,9 @@ use Rattle.patch_code.proofs.WholePlaces.{overlay_stands_so}
 use Rattle.relocator.specs.declared.slots.Slot.{Slot}
 use Rattle.relocator.specs.SiteWords.{IsSiteWord}
 use Rattle.relocator.specs.Laws.{IsLaidOut, LiesWithin, IsPresent, slot_at}
-use Rattle.result_laws.specs.ChosenJobs.{Images, code_number}
+use Rattle.result_laws.specs.ChosenJobs.{code_number}
 use Rattle.result_laws.specs.Memories.{IsOfCode}
+use Rattle.result_laws.proofs.Setting.{setting}
 use Rattle.result_laws.proofs.JobChosen.{among, slot_ends}
 use Rattle.result_laws.specs.Chosen.{StandsAs}
 use Rattle.simulation.specs.Setups.{Setup}
@@ -60,9 +60,9 @@ use Rattle.result_laws.specs.SetupLaws.{IsOverlay}
 use Rattle.result_laws.proofs.OfChoice.{stub_stands}
 use Rattle.result_laws.proofs.OfChoice as choice
 use Rattle.result_laws.specs.Entries.{RunsIn}
-use Rattle.result_laws.specs.ChosenPlacement.{ChosenPlacement, piece_of, slots_in, places_in, images_in, StandsInSlot}
+use Rattle.result_laws.specs.ChosenPlacement.{ChosenPlacement, piece_of, slots_in, places_in, StandsInSlot}
 use Rattle.result_laws.specs.PlacedView.{words_in, is_served, is_padded, HasRegion, InBlock, Elsewhere}
-use Rattle.result_laws.specs.PlacedLaws.{IsPlacedResult, setup_of}
+use Rattle.result_laws.specs.PlacedLaws.{IsPlacedResult}
 use Rattle.result_laws.proofs.MovingObjects.{stays_or_moves}
 use Rattle.result_laws.proofs.PlacedChosen.{piece_chosen, piece_image, is_overlay, holds_plan}
 use Rattle.result_laws.proofs.InRegions.{numbered, piece_present}
@@ -86,23 +86,10 @@ pub record HasSlot (board : Board) (pl : ChosenPlacement) (n : ℕ) : Type 0 whe
   pub stands : StandsInSlot pl.regions (slot_at (slots_in board pl) k) (piece_of pl n)
 
 module _ (file out : List ℕ) (board : Board) (g : Graph) (c : Code) (pl : ChosenPlacement) (result : IsPlacedResult file out board g c pl) where
-  abbrev v : PlainView
-  v = view_in file
-
-  abbrev w : PlainView
-  w = view_in out
-
-  abbrev slots : List Slot
-  slots = slots_in board pl
-
-  abbrev images : Images
-  images = images_in pl
+  open (setting file out board g c pl result) use {v, w, l, slots, images}
 
   abbrev mem : Memory
   mem = image_of w.segments
-
-  abbrev l : Setup
-  l = setup_of file out board g pl
 
   is : IsOverlay file board g pl.count pl.programme pl.choice images
   is = is_overlay file out board g c pl result

@@ -7,7 +7,7 @@ use Rattle.list_checks.proofs.TestLemmas.{any_found}
 use Rattle.rv32im.specs.Words.{plus, byte_of, word_of}
 use Rattle.rv32im.specs.Memory.{Memory, word_at}
 use Rattle.rv32im.proofs.WordLemmas.{keeps_words}
-use Rattle.elf_reader.specs.File.{PlainView, view_in}
+use Rattle.elf_reader.specs.File.{view_in}
 use Rattle.elf_reader.specs.Image.{image_of}
 use Rattle.elf_reader.specs.Loadable.{AreBytes}
 use Rattle.board_config.specs.Board.{mapped_ranges}
@@ -30,16 +30,14 @@ use Rattle.patch_code.specs.Told.{Way, jobs_accesses}
 use Rattle.patch_code.specs.Start.{StartPlan, AreStartWords, start_at as stub_start, start_bytes, start_run}
 use Rattle.patch_code.specs.StubLaws.{IsAtStart, started}
 use Rattle.patch_code.proofs.Starting.{start_runs_so}
-use Rattle.relocator.specs.declared.slots.Slot.{Slot}
 use Rattle.relocator.specs.Laws.{slot_at}
-use Rattle.result_laws.specs.ChosenJobs.{Images}
 use Rattle.result_laws.specs.Memories.{IsStarted, IsCurrent}
 use Rattle.result_laws.specs.SwitchLaws.{CanStart}
+use Rattle.result_laws.proofs.Setting.{setting}
 use Rattle.result_laws.proofs.JobChosen.{InScratchpad, slot_inside}
 use Rattle.result_laws.proofs.JobsFit.{start_fit}
 use Rattle.result_laws.proofs.PatchHomes.{images_lie_so}
 use Rattle.result_laws.proofs.Started.{start_moves_so}
-use Rattle.simulation.specs.Setups.{Setup}
 use Rattle.simulation.specs.Relation.{Alike}
 use Rattle.result_laws.specs.Pads.{PlanStands}
 use Rattle.result_laws.specs.Home.{is_code_byte}
@@ -56,9 +54,9 @@ use Rattle.result_laws.specs.SetupLaws.{IsOverlay}
 use Rattle.result_laws.proofs.Copies.{copy_byte, inside_behind}
 use Rattle.result_laws.proofs.OfChoice.{is_setup}
 use Rattle.result_laws.proofs.PlanStanding.{starts, all_in, plan_stands}
-use Rattle.result_laws.specs.ChosenPlacement.{ChosenPlacement, slots_in, places_in, images_in}
+use Rattle.result_laws.specs.ChosenPlacement.{ChosenPlacement, places_in}
 use Rattle.result_laws.specs.PlacedView.{start_plan}
-use Rattle.result_laws.specs.PlacedLaws.{IsPlacedResult, setup_of}
+use Rattle.result_laws.specs.PlacedLaws.{IsPlacedResult}
 use Rattle.result_laws.proofs.Elsewhere.{data_left}
 use Rattle.result_laws.proofs.PlacedChosen.{is_overlay, holds_plan}
 
@@ -80,20 +78,10 @@ control_none plan first words rest mem at (stub, (is, means)) whole holds =
     ap (word_at mem) (omega arith) ∙ first_word 0 (omega arith)
 
 module _ (file out : List ℕ) (board : Board) (g : Graph) (c : Code) (pl : ChosenPlacement) (result : IsPlacedResult file out board g c pl) where
-  abbrev v : PlainView
-  v = view_in file
-
-  abbrev slots : List Slot
-  slots = slots_in board pl
-
-  abbrev images : Images
-  images = images_in pl
+  open (setting file out board g c pl result) use {v, l, slots, images}
 
   abbrev image : Memory
   image = image_of (view_in out).segments
-
-  abbrev l : Setup
-  l = setup_of file out board g pl
 
   abbrev place : Places
   place = places_in board g pl 0

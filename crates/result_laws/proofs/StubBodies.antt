@@ -9,6 +9,7 @@ use Rattle.rv32im.specs.Words.{upper_half}
 use Rattle.rv32im.specs.Table.{Means}
 use Rattle.rv32im.specs.declared.instructions.Instr.TheVariants.{Lui}
 use Rattle.simulation.specs.Units.{StandsAt}
+use Rattle.result_laws.proofs.Setting.{setting}
 use Rattle.result_laws.proofs.Moves.{jump_begins}
 use Rattle.rv32im.specs.Sequences.{jump_absolute, MeanAll}
 use Rattle.rv32im.proofs.SequenceLemmas.{mean_count}
@@ -19,18 +20,16 @@ use Rattle.flat_machine.specs.Lines.{HoldsAt}
 use Rattle.object_graph.specs.declared.parts.Graph.{Graph}
 use Rattle.code_blocks.specs.declared.parts.Code.{Code}
 use Rattle.patch_code.specs.Serving.{StubBody, jumps_to, ServingStub, test_code, test_bytes, IsBody}
-use Rattle.patch_code.specs.Overlay.{OverlayPlan, switch_at, serving_place, CanServe, CanEnd}
+use Rattle.patch_code.specs.Overlay.{switch_at, serving_place, CanServe, CanEnd}
 use Rattle.patch_code.specs.Served.{ServingStands, IsServedInside}
 use Rattle.patch_code.proofs.Held.{held_behind}
 use Rattle.patch_code.proofs.Serves.{test_count, stub_count}
 use Rattle.patch_code.proofs.WholePlaces.{overlay_stands_so}
-use Rattle.simulation.specs.Setups.{Setup}
 use Rattle.simulation.specs.Ways.{Way}
-use Rattle.result_laws.specs.LiveUnits.{live_at}
 use Rattle.result_laws.proofs.Ranges.{patch_lawful}
 use Rattle.result_laws.proofs.FarWays.{far_way}
 use Rattle.result_laws.specs.ChosenPlacement.{ChosenPlacement}
-use Rattle.result_laws.specs.PlacedLaws.{IsPlacedResult, setup_of}
+use Rattle.result_laws.specs.PlacedLaws.{IsPlacedResult}
 use Rattle.result_laws.proofs.PlacedChosen.{holds_plan}
 use Rattle.result_laws.proofs.Standing.{patch_stands}
 
@@ -40,17 +39,10 @@ checked_bytes zero some = absurd (some refl)
 checked_bytes (suc r) some = let test : (suc r == 0) ≡ false = grind (arith, nat_tests) in rw test refl
 
 module _ (file out : List ℕ) (board : Board) (g : Graph) (c : Code) (pl : ChosenPlacement) (result : IsPlacedResult file out board g c pl) where
+  open (setting file out board g c pl result) use {l, live, plan}
+
   abbrev image : Memory
   image = image_of (view_in out).segments
-
-  abbrev l : Setup
-  l = setup_of file out board g pl
-
-  abbrev live : ℕ → ℕ → Type 0
-  live = live_at c
-
-  abbrev plan : OverlayPlan
-  plan = result.view.plan
 
   module _ (stub : ServingStub) (listed : Contains plan.stubs stub) where
     abbrev place : ℕ

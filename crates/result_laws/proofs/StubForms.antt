@@ -6,7 +6,6 @@ use Rattle.rv32im.specs.Table.{Means, MeansNothing}
 use Rattle.rv32im.specs.declared.instructions.Instr.{Instr}
 use Rattle.rv32im.specs.declared.instructions.Instr.TheVariants as instr
 use Rattle.rv32im.proofs.Meaning.{same_instruction, in_range}
-use Rattle.elf_reader.specs.File.{PlainView, view_in}
 use Rattle.board_config.specs.declared.board.Board.{Board}
 use Rattle.flat_machine.specs.State.{State}
 use Rattle.loaded_file.specs.Code.{image_word}
@@ -23,22 +22,20 @@ use Rattle.result_laws.specs.Kinds.{next_after, takes, RowRuns}
 use Rattle.result_laws.specs.Displaced.{displaced_fetched, DisplacedRuns}
 use Rattle.result_laws.specs.HomeUnits.{IsHomeUnlessHalt}
 use Rattle.result_laws.specs.CopyLaws.{unit_at}
+use Rattle.result_laws.proofs.Setting.{setting}
 use Rattle.result_laws.proofs.FirstUnits.{Halts}
 use Rattle.result_laws.proofs.KindFacts.{IsKindBy}
-use Rattle.object_machine.specs.Program.{Program, Target, falls_from}
+use Rattle.object_machine.specs.Program.{Target, falls_from}
 use Rattle.object_machine.specs.Step.{Reads}
 use Rattle.patch_code.specs.Serving.{ServingStub}
-use Rattle.patch_code.specs.Overlay.{OverlayPlan}
 use Rattle.patch_code.specs.Served as served
-use Rattle.simulation.specs.Setups.{Setup}
 use Rattle.simulation.specs.Units.{StandsAt}
 use Rattle.simulation.specs.Forms.{IsAt, ActsFor, ActsAs, OneWordFor, IsFollowed}
-use Rattle.result_laws.specs.LiveUnits.{code_unit, StandsThere, live_at}
-use Rattle.result_laws.specs.HomeLaws.{unnamed_in}
+use Rattle.result_laws.specs.LiveUnits.{code_unit, StandsThere}
 use Rattle.result_laws.specs.Entries.{RunsIn}
 use Rattle.result_laws.specs.ChosenPlacement.{ChosenPlacement}
 use Rattle.result_laws.specs.PlacedView.{IsUncopied, Serves}
-use Rattle.result_laws.specs.PlacedLaws.{IsPlacedResult, setup_of}
+use Rattle.result_laws.specs.PlacedLaws.{IsPlacedResult}
 use Rattle.result_laws.proofs.Blocks.{unit_low}
 use Rattle.result_laws.specs.Walks as walks
 use Rattle.result_laws.proofs.Fetches.{FormOver}
@@ -47,20 +44,7 @@ use Rattle.result_laws.proofs.StubWords as stubs
 use Rattle.result_laws.proofs.UnitForms as parts
 
 module _ (file out : List ℕ) (board : Board) (g : Graph) (c : Code) (pl : ChosenPlacement) (result : IsPlacedResult file out board g c pl) where
-  abbrev v : PlainView
-  v = view_in file
-
-  abbrev p : Program
-  p = unnamed_in file board g
-
-  abbrev l : Setup
-  l = setup_of file out board g pl
-
-  abbrev live : ℕ → ℕ → Type 0
-  live = live_at c
-
-  abbrev plan : OverlayPlan
-  plan = result.view.plan
+  open (setting file out board g c pl result) use {v, p, l, live, plan}
 
   module _ (r u b : ℕ) (stub : ServingStub) (stands : StandsThere c u b 0) (listed : Contains plan.stubs stub) (serves : Serves c g pl (served.body_at plan stub) b stub) (uncopied : IsUncopied pl b) (runs : RunsIn pl.regions b r) (arrive : ℕ → ℕ → Type 0) where
     abbrev a : ℕ

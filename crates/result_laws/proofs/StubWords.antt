@@ -8,7 +8,6 @@ use Rattle.std.proofs.lemmas.Bool.Decides.{nat_tests}
 use Rattle.std.proofs.lemmas.List.Elements.{All-contains}
 use Rattle.list_checks.proofs.TestLemmas.{either, both}
 use Rattle.rv32im.specs.Words.{plus}
-use Rattle.elf_reader.specs.File.{PlainView, view_in}
 use Rattle.elf_reader.specs.Image.{image_of}
 use Rattle.board_config.specs.declared.board.Board.{Board}
 use Rattle.board_config.specs.declared.board.Range.{Range}
@@ -31,14 +30,14 @@ use Rattle.block_splitter.specs.Copies.{IsDisplaced}
 use Rattle.result_laws.specs.Displaced.{DisplacedRuns}
 use Rattle.result_laws.specs.HomeUnits.{IsHomeUnlessHalt}
 use Rattle.result_laws.specs.CopyLaws.{unit_at, IsLow}
+use Rattle.result_laws.proofs.Setting.{setting}
 use Rattle.result_laws.proofs.DisplacedUnits.{displaced_units_run}
 use Rattle.result_laws.proofs.FirstUnits.{Halts, first_kinds_so, first_homes_so}
 use Rattle.result_laws.proofs.KindFacts.{IsKindBy}
 use Rattle.patch_code.specs.Serving.{ServingStub, StubBody, runs_words, body_bytes, serving_size, IsBody, test_bytes}
-use Rattle.patch_code.specs.Overlay.{OverlayPlan, serving_place}
+use Rattle.patch_code.specs.Overlay.{serving_place}
 use Rattle.patch_code.specs.Served.{ServingStands, IsServedInside}
 use Rattle.patch_code.specs.Served as served
-use Rattle.simulation.specs.Setups.{Setup}
 use Rattle.simulation.specs.Units.{StandsAt}
 use Rattle.simulation.specs.Forms.{IsAt}
 use Rattle.result_laws.specs.LiveUnits.{code_unit, StandsThere, UnitsStand}
@@ -50,7 +49,7 @@ use Rattle.result_laws.proofs.Words.{same_word}
 use Rattle.result_laws.specs.Entries.{RunsIn}
 use Rattle.result_laws.specs.ChosenPlacement.{ChosenPlacement, piece_of, no_piece}
 use Rattle.result_laws.specs.PlacedView.{is_served, enters_piece, IsUncopied, HasBody, ToCopy, Displaced, Serves, ServesSome}
-use Rattle.result_laws.specs.PlacedLaws.{IsPlacedResult, setup_of}
+use Rattle.result_laws.specs.PlacedLaws.{IsPlacedResult}
 use Rattle.result_laws.proofs.Standing.{patch_stands}
 use Rattle.result_laws.proofs.StubBodies.{checked_bytes, body_words}
 
@@ -64,17 +63,7 @@ some_region r more is none = let same : (r == 0) ≡ true = grind (arith, nat_te
 
 -- the unit of a stub, which no copy has
 module _ (file out : List ℕ) (board : Board) (g : Graph) (c : Code) (pl : ChosenPlacement) (result : IsPlacedResult file out board g c pl) (u b : ℕ) (stub : ServingStub) (stands : StandsThere c u b 0) (listed : Contains result.view.plan.stubs stub) (serves : Serves c g pl (served.body_at result.view.plan stub) b stub) (uncopied : IsUncopied pl b) where
-  abbrev v : PlainView
-  v = view_in file
-
-  abbrev w : PlainView
-  w = view_in out
-
-  abbrev l : Setup
-  l = setup_of file out board g pl
-
-  abbrev plan : OverlayPlan
-  plan = result.view.plan
+  open (setting file out board g c pl result) use {v, w, l, plan}
 
   abbrev a : ℕ
   a = served.body_at plan stub

@@ -21,6 +21,7 @@ use Rattle.code_blocks.specs.declared.parts.Code.{Code}
 use Rattle.block_splitter.specs.Forms.{is_site, body_at, unit_in}
 use Rattle.block_splitter.specs.Copies.{address_in, word_of_unit}
 use Rattle.result_laws.specs.HomeUnits.{home_words}
+use Rattle.result_laws.proofs.Setting.{setting}
 use Rattle.result_laws.proofs.Alike.{IsStraight}
 use Rattle.result_laws.proofs.CopySites.{others_keep_words}
 use Rattle.cell_values.specs.Stands.{address_word}
@@ -39,7 +40,7 @@ use Rattle.result_laws.proofs.UnitWords.{acts_for}
 use Rattle.result_laws.proofs.PlacedUnits.{straight_acts, site_if}
 use Rattle.result_laws.specs.Entries.{RunsIn}
 use Rattle.result_laws.specs.ChosenPlacement.{ChosenPlacement, places_in}
-use Rattle.result_laws.specs.PlacedLaws.{IsPlacedResult, setup_of}
+use Rattle.result_laws.specs.PlacedLaws.{IsPlacedResult}
 use Rattle.result_laws.proofs.PlacedChosen.{sound}
 use Rattle.result_laws.proofs.Fetches.{RunsOver, PairOver, FormOver}
 use Rattle.result_laws.proofs.Standing.{unit_site}
@@ -140,14 +141,7 @@ module _ (file : List ℕ) (board : Board) (g : Graph) (accepted : IsAccepted fi
 -- ---- plain units
 
 module _ (file out : List ℕ) (board : Board) (g : Graph) (c : Code) (pl : ChosenPlacement) (result : IsPlacedResult file out board g c pl) (arrive : ℕ → ℕ → Type 0) (r u a b k : ℕ) (stands : StandsThere c u b k) (may : RunsIn pl.regions b r) where
-  abbrev from : PlainView
-  from = view_in file
-
-  abbrev q : Program
-  q = unnamed_in file board g
-
-  abbrev s : Setup
-  s = setup_of file out board g pl
+  open (setting file out board g c pl result) use {v as from, p as q, l as s}
 
   abbrev unit : Unit
   unit = code_unit c b k

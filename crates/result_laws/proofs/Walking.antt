@@ -6,9 +6,9 @@ use Rattle.rv32im.proofs.Meaning.{same_instruction}
 use Rattle.flat_machine.specs.Runs.{Does}
 use Rattle.flat_machine.specs.Runs as flat
 use Rattle.flat_machine.proofs.Runs.{one_run, steps_of_events}
+use Rattle.result_laws.proofs.Setting.{setting}
 use Rattle.result_laws.proofs.Fetches.{FormOver}
 use Rattle.rv32im.specs.declared.instructions.Instr.{Instr}
-use Rattle.elf_reader.specs.File.{PlainView, view_in}
 use Rattle.elf_reader.specs.Loadable.{AreBytes}
 use Rattle.board_config.specs.declared.board.Board.{Board}
 use Rattle.code_blocks.proofs.EntryLemmas.{entry_leads}
@@ -26,7 +26,6 @@ use Rattle.object_machine.specs.Runs.{Steps}
 use Rattle.object_machine.specs.Paired.{Origins, at_start, origins_after, is_paired_step}
 use Rattle.patch_code.specs.Start.{StartPlan, start_at as stub_start, start_bytes, start_run}
 use Rattle.patch_code.specs.StubLaws.{started}
-use Rattle.patch_code.specs.Overlay.{OverlayPlan}
 use Rattle.result_laws.specs.JobLaws.{room_left}
 use Rattle.simulation.specs.Setups.{Setup, Sound}
 use Rattle.simulation.specs.Made.{AreMade}
@@ -39,13 +38,11 @@ use Rattle.simulation.proofs.AnyRegions.{runs_at_any}
 use Rattle.simulation.proofs.OneUnit.{Before}
 use Rattle.simulation.proofs.Resets.{all_made, any_reset}
 use Rattle.simulation.proofs.Unnamed.{unnamed_paired}
-use Rattle.result_laws.specs.HomeLaws.{program_in, source_start, file_start, unnamed_in}
-use Rattle.result_laws.specs.LiveUnits.{live_at}
+use Rattle.result_laws.specs.HomeLaws.{program_in, source_start, file_start}
 use Rattle.result_laws.proofs.LiveUnits.{liveness_keeps}
 use Rattle.result_laws.specs.ChosenPlacement.{ChosenPlacement, slots_in, images_in}
 use Rattle.result_laws.specs.PlacedView.{start_plan}
-use Rattle.result_laws.specs.PlacedLaws.{IsPlacedResult, setup_of}
-use Rattle.result_laws.specs.PlacedForms.{IsFormOf, ArrivesAt}
+use Rattle.result_laws.specs.PlacedLaws.{IsPlacedResult}
 use Rattle.result_laws.specs.Walks.{address_in, unit_fetched, IsNoFault, UnitRuns, ArrivalRuns, StepRuns, On, Ends, Walks, NoSteps, Ended, Step as Goes, PlacedWalk, PlacedWalks}
 use Rattle.result_laws.proofs.Arrived.{ArrivedFrom, arrived_from}
 use Rattle.result_laws.proofs.Arriving.{IsHeldIn}
@@ -78,32 +75,13 @@ fine_told (Trapped pc) tells es fine told = told
 fine_told (AddressFault pc why) tells es fine told = absurd fine
 
 module _ (file out : List ℕ) (board : Board) (g : Graph) (c : Code) (pl : ChosenPlacement) (result : IsPlacedResult file out board g c pl) (input : List ℕ) where
-  abbrev v : PlainView
-  v = view_in file
-
-  abbrev p : Program
-  p = unnamed_in file board g
-
-  abbrev l : Setup
-  l = setup_of file out board g pl
-
-  abbrev live : ℕ → ℕ → Type 0
-  live = live_at c
-
-  abbrev plan : OverlayPlan
-  plan = result.view.plan
+  open (setting file out board g c pl result) use {v, p, l, live, plan, form, comes}
 
   abbrev source : SourceState
   source = source_start file board g input
 
   abbrev bound : ℕ
   bound = 12 * room_left board g (images_in pl) (slots_in board pl) + 83
-
-  abbrev form : ℕ → ℕ → ℕ → Type 0
-  form = IsFormOf c g pl plan
-
-  abbrev comes : ℕ → ℕ → ℕ → Type 0
-  comes = ArrivesAt c g pl plan
 
   abbrev holds : ℕ → SourceState → Origins → Type 0
   holds = IsHeldIn file out board g c pl result input

@@ -1,6 +1,5 @@
 // Laws of the definitions: functions that do nothing, whose contracts are what is proved.
-ghost use Rattle.result_laws.specs.Chosen.{ChoicesServe};
-ghost use Rattle.result_laws.specs.ArrivalLaws.{SwitchesChange};
+ghost use Rattle.result_laws.specs.{Chosen.{ChoicesServe}, ArrivalLaws.{SwitchesChange}};
 
 /// A switch whose jobs bring each object, and what stands still, to its place in the next region changes the region.
 pub fn switches_change()

@@ -1,7 +1,5 @@
 // Laws of the definitions: functions that do nothing, whose contracts are what is proved.
-ghost use Rattle.result_laws.specs.CopyLaws.{UnitsAreKinds, UnitsMean, OthersKeepWords, CopiedUnitsRun, CopiedBlocksFall};
-ghost use Rattle.result_laws.specs.CopyLaws.{UnitsFollow, DisplacedUnitsRun, RunsCount, TemporariesAreDead};
-ghost use Rattle.result_laws.specs.CopyLaws.{CopiesLeaveRegisters, FirstUnitsAreKinds};
+ghost use Rattle.result_laws.specs.{CopyLaws.{UnitsAreKinds, UnitsMean, OthersKeepWords, CopiedUnitsRun, CopiedBlocksFall}, CopyLaws.{UnitsFollow, DisplacedUnitsRun, RunsCount, TemporariesAreDead}, CopyLaws.{CopiesLeaveRegisters, FirstUnitsAreKinds}};
 
 /// The instructions of each unit of a block that may be copied do what the unit's kind says: a plain one that is no
 /// site does the same at each address.

@@ -1,6 +1,5 @@
 // Laws of the definitions: functions that do nothing, whose contracts are what is proved.
-ghost use Rattle.result_laws.specs.Absolute.{AbsoluteRunsArePaired};
-ghost use Rattle.result_laws.specs.HomeLaws.{HomeIsSound, UnitsAreHome, StartIsAlike, FileKeeps, OneGraph, OneRun};
+ghost use Rattle.result_laws.specs.{Absolute.{AbsoluteRunsArePaired}, HomeLaws.{HomeIsSound, UnitsAreHome, StartIsAlike, FileKeeps, OneGraph, OneRun}};
 
 /// In an accepted file that is loaded as it is, fixed memory, objects and code are mapped and share no byte, and
 /// the homes of the objects are places at which they may stand.

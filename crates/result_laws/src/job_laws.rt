@@ -1,7 +1,5 @@
 // Laws of the definitions: functions that do nothing, whose contracts are what is proved.
-ghost use Rattle.result_laws.specs.JobLaws.{JobsFit, CodeNumbers};
-ghost use Rattle.result_laws.specs.PatchLaws.{JobsSpare, ImagesLie, RoutineSwitches};
-ghost use Rattle.result_laws.specs.SwitchLaws.{StartMoves, SwitchesMove, CopiesHold};
+ghost use Rattle.result_laws.specs.{JobLaws.{JobsFit, CodeNumbers}, PatchLaws.{JobsSpare, ImagesLie, RoutineSwitches}, SwitchLaws.{StartMoves, SwitchesMove, CopiesHold}};
 
 /// The jobs of the start leave each object's bytes at its first place as they were at home, and the copies of the code that
 /// stands in the scratchpad throughout. They write nothing but slots of these.

@@ -1,7 +1,5 @@
 // Laws of the definitions: functions that do nothing, whose contracts are what is proved.
-ghost use Rattle.result_laws.specs.PlacedLaws.{PlacedResultKeeps};
-ghost use Rattle.result_laws.specs.Matching.{PlacedStatesMatch};
-ghost use Rattle.result_laws.specs.Walks.{PlacedWalks, ArrivalsAreDetermined, WalksAreCounted};
+ghost use Rattle.result_laws.specs.{PlacedLaws.{PlacedResultKeeps}, Matching.{PlacedStatesMatch}, Walks.{PlacedWalks, ArrivalsAreDetermined, WalksAreCounted}};
 
 /// A result for a choice of what stands in the scratchpad does on every input what its program does on the machine whose
 /// objects have no addresses, unless that ends in an address fault, while objects and code are copied in and out. No run

@@ -1,6 +1,5 @@
 // Laws of the definitions: functions that do nothing, whose contracts are what is proved.
-ghost use Rattle.result_laws.specs.SetupLaws.{SetupOfChoice, ChoiceIsSound, JobsOfChoiceServe};
-ghost use Rattle.result_laws.specs.Plans.{HomesOfChoice, PlanOfChoice, ChoiceCanSwitch};
+ghost use Rattle.result_laws.specs.{SetupLaws.{SetupOfChoice, ChoiceIsSound, JobsOfChoiceServe}, Plans.{HomesOfChoice, PlanOfChoice, ChoiceCanSwitch}};
 
 /// The setup of a choice with overlay has the places, images and copies of the choice, and what else stands still there
 /// is what no switch changes.

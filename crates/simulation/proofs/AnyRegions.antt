@@ -102,7 +102,7 @@ few_joined p bound most =
     }
 
 -- of any form at least one and at most four
-few_words : (p : Program) (l : Setup) (live arrive : ℕ → ℕ → Type 0) (r u a : ℕ) (t : State) (form : FormAt p l live arrive r u a) → FormTells p l live arrive (Few 4) r u a t form
+pub few_words : (p : Program) (l : Setup) (live arrive : ℕ → ℕ → Type 0) (r u a : ℕ) (t : State) (form : FormAt p l live arrive r u a) → FormTells p l live arrive (Few 4) r u a t form
 few_words p l live arrive r u a t (InWords words) =
     record {
       one = λ single e t' step. (omega arith, omega arith);

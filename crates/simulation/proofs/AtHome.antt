@@ -29,7 +29,7 @@ use Rattle.simulation.proofs.AnyForms.{home_words}
 use Rattle.simulation.proofs.AnyRegions.{few_joined, runs_at_any}
 use Rattle.simulation.proofs.Runs.{counts_fold, keeps_of_told, kept_origins}
 
-all_live_rules : (p : Program) → LiveRules p all_live
+pub all_live_rules : (p : Program) → LiveRules p all_live
 all_live_rules p =
     record {
       uses = λ u k i single reads has. tt;

@@ -1,22 +1,18 @@
 -- The premises of a change of the region are met: two objects enter a region and leave it again. Nothing writes one of them,
 -- so it isn't brought back; its bytes stood still at home.
-use Rattle.std.proofs.Common.{inl, inr, ℕ, ◌+◌, ◌<◌, ◌==◌, ◌&&◌, if◌then◌else◌, Bool, true, false, nat_le, nat_lt, None, [], ◌∷◌, refl, arith}
+use Rattle.std.proofs.Common.{inl, inr, ℕ, ◌+◌, ◌<◌, ◌==◌, ◌&&◌, if◌then◌else◌, Bool, true, false, nat_le, nat_lt, [], ◌∷◌, refl, arith}
 use Rattle.std.proofs.lemmas.Bool.{cases_eq}
 use Rattle.std.proofs.lemmas.Bool.Decides.{nat_tests}
 use Rattle.std.proofs.lemmas.List.Elements.{All-nil}
 use Rattle.rv32im.specs.Memory.{Memory}
 use Rattle.elf_reader.specs.Loadable.{IsByte}
-use Rattle.flat_machine.specs.declared.events.FlatOutcome as flat
 use Rattle.flat_machine.specs.Sizes.{HasWords}
 use Rattle.flat_machine.specs.State.{State}
 use Rattle.cell_values.specs.Objects.{Objects}
-use Rattle.cell_values.specs.Laws.{HoldsWord}
-use Rattle.cell_values.specs.Origins.{ByLui}
-use Rattle.cell_values.specs.Stands.{Places, Fit, Stands, moved_uppers}
+use Rattle.cell_values.specs.Stands.{Places, Fit, moved_uppers}
 use Rattle.cell_values.specs.declared.values.Val.TheVariants.{Int}
 use Rattle.cell_values.specs.declared.values.Cell.TheVariants.{Byte}
 use Rattle.cell_values.proofs.Makes.{moved_uppers_make}
-use Rattle.object_machine.specs.declared.events.Outcome.TheVariants.{GoesOn}
 use Rattle.object_machine.specs.Program.{Program}
 use Rattle.object_machine.specs.State.{SourceState}
 use Rattle.object_machine.specs.Paired.{at_start}
@@ -28,6 +24,7 @@ use Rattle.simulation.specs.Changes.{moves, OthersStay, IsByteOf, ChangesRegion}
 use Rattle.simulation.specs.Unwritten.{AreUnwritten, HomesStandStill}
 use Rattle.simulation.proofs.Stays.{switched, places_decide}
 use Rattle.simulation.proofs.Homes.{home_too}
+use Rattle.simulation.proofs.ExampleParts.{bare, begun, loaded, number_stands, number_holds, alike_at_start}
 
 -- ---- the program: object 0 has its home at 4096, and object 1, which isn't writable, at 4112
 abbrev pub objects : Objects
@@ -41,16 +38,8 @@ objects =
 
 abbrev pub program : Program
 program =
-    record {
-      objects = objects;
-      site = λ a. None;
-      named = λ a. None;
-      word = λ a. 115;
-      is_pair = λ a. false;
-      goes = λ a. 0;
+    record (bare objects (λ a. 115)) {
       is_block = λ a. a == 1024;
-      is_reached = λ a. false;
-      falls = λ a. false;
       is_fixed = λ a. nat_le 2048 a && nat_lt a 2064;
       is_held = λ a. nat_le 4096 a && nat_lt a 4128;
     }
@@ -98,16 +87,7 @@ sound_at r =
 
 -- ---- the states: object 0 holds bytes 5, and object 1 bytes 7
 abbrev source : SourceState
-source =
-    record {
-      pc = 1024;
-      regs = λ k. Int 0;
-      fixed = λ a. Byte 0;
-      cells = λ o i. Byte (if o == 0 then 5 else 7);
-      input = [];
-      output = [];
-      outcome = GoesOn;
-    }
+source = record (begun 1024) { cells = λ o i. Byte (if o == 0 then 5 else 7) }
 
 -- at their homes, and in the region, where the bytes at home of object 0 may be any
 abbrev at_home : Memory
@@ -120,22 +100,7 @@ in_region a =
     else (if nat_lt a 8192 then 0 else (if nat_lt a 8208 then 5 else (if nat_lt a 8224 then 7 else 0))))
 
 abbrev with_memory : Memory → State
-with_memory mem =
-    record {
-      map = setup.map;
-      hart = record { pc = 1024; regs = λ k. 0; mem = mem };
-      input = [];
-      output = [];
-      outcome = flat.TheVariants.GoesOn;
-    }
-
-zero_stands : (r : ℕ) (test : Bool) → Stands objects (places r) (moved_uppers (places r)) ByLui (if test then Int 0 else Int 0) (if test then 0 else 0)
-zero_stands r true = refl
-zero_stands r false = refl
-
-zero_word : (test : Bool) → HoldsWord (if test then Int 0 else Int 0)
-zero_word true = omega arith
-zero_word false = omega arith
+with_memory mem = loaded setup 1024 (λ k. 0) mem
 
 zero_names : (these : ℕ → Bool) (test : Bool) → NamesNone these (if test then Int 0 else Int 0)
 zero_names these true = tt
@@ -150,21 +115,10 @@ bytes_fit mem small =
 
 starts_alike : Alike program setup all_live 0 1024 source at_start (with_memory at_home)
 starts_alike =
-    record {
-      regs = λ k lives. zero_stands 0 (k == 0);
-      values = λ k lives. zero_word (k == 0);
-      fixed = λ a is. grind (arith, nat_tests);
-      cells = λ o i below. grind (arith, nat_tests);
-      fixed_words = λ a is. omega arith;
-      cell_words = λ o i below. grind (arith, nat_tests);
-      still = λ a is. cc;
-      map = refl;
-      going = refl;
-      source_going = refl;
-      words = bytes_fit at_home (λ a. grind (arith, nat_tests));
-      input = refl;
-      output = refl;
-    }
+    alike_at_start program setup all_live 0 1024 source (with_memory at_home)
+    (λ k lives. number_stands objects (places 0) (moved_uppers (places 0)) (k == 0) 0) (λ k lives. number_holds (k == 0) 0 (omega arith))
+    (λ a is. (grind (arith, nat_tests), omega arith)) (λ o i below. (grind (arith, nat_tests), grind (arith, nat_tests))) (λ a is. cc)
+    (bytes_fit at_home (λ a. grind (arith, nat_tests))) (refl, refl, refl, refl, refl)
 
 -- ---- what both changes need
 unwritten : AreUnwritten program source at_start source at_start

@@ -14,19 +14,15 @@ use Rattle.rv32im.specs.declared.instructions.Instr.{Instr}
 use Rattle.rv32im.specs.declared.instructions.Instr.TheVariants.{Lui, Auipc, Jal, OpImm}
 use Rattle.rv32im.specs.declared.instructions.ImmKind.TheVariants.{Addi}
 use Rattle.rv32im.proofs.Meaning.{same_instruction}
-use Rattle.flat_machine.specs.declared.events.FlatOutcome as flat
 use Rattle.flat_machine.specs.Lines.{Ran, fetch_of, went}
 use Rattle.flat_machine.specs.Mapping.{can_access}
 use Rattle.flat_machine.specs.State.{State}
 use Rattle.flat_machine.proofs.SilentLines.{more_ran, read_there, read_other}
 use Rattle.cell_values.specs.Objects.{Objects}
-use Rattle.cell_values.specs.Laws.{HoldsWord}
 use Rattle.cell_values.specs.declared.values.Val.TheVariants.{Int}
-use Rattle.cell_values.specs.declared.values.Cell.TheVariants.{Byte}
 use Rattle.cell_values.specs.Origins.{ByLui}
 use Rattle.cell_values.specs.Stands.{Places, Stands, moved_uppers}
 use Rattle.cell_values.proofs.Makes.{moved_uppers_make}
-use Rattle.object_machine.specs.declared.events.Outcome.TheVariants.{GoesOn}
 use Rattle.object_machine.specs.Program.{Program}
 use Rattle.object_machine.specs.State.{SourceState, value}
 use Rattle.object_machine.specs.Step.{Reads}
@@ -43,6 +39,7 @@ use Rattle.simulation.proofs.Steps.{value_zero, register_zero, does_words}
 use Rattle.simulation.proofs.Controls.{word_runs}
 use Rattle.simulation.proofs.AnyRegions.{ways_arrive}
 use Rattle.simulation.proofs.Resets.{all_made, moved_code_keeps}
+use Rattle.simulation.proofs.ExampleParts.{bare, begun, loaded, number_holds, alike_at_start}
 
 -- ---- the program: AUIPC x6, 0 and ADDI x17, x0, 93 are a block, and JAL x0, -8 is another
 
@@ -54,18 +51,9 @@ objects = record { grain = 16; home = λ o. 64; size = λ o. 0; writable = λ o.
 
 abbrev program : Program
 program =
-    record {
-      objects = objects;
-      site = λ a. None;
-      named = λ a. None;
-      word = file_word;
-      is_pair = λ a. false;
-      goes = λ a. 0;
+    record (bare objects file_word) {
       is_block = λ a. (a == 4096) || (a == 4104);
-      is_reached = λ a. false;
       falls = λ a. (a == 4096) || (a == 4100);
-      is_fixed = λ a. false;
-      is_held = λ a. false;
     }
 
 -- ---- where it stands
@@ -265,64 +253,28 @@ forms r u a at =
 
 -- ---- the start, in the copy: x5 holds another word than on the other machine
 
-abbrev source_start : SourceState
-source_start =
-    record {
-      pc = 4096;
-      regs = λ k. Int 0;
-      fixed = λ a. Byte 0;
-      cells = λ o i. Byte 0;
-      input = [];
-      output = [];
-      outcome = GoesOn;
-    }
-
 abbrev flat_regs : Registers
 flat_regs k = if k == 5 then 9 else 0
 
 abbrev flat_start : State
-flat_start =
-    record {
-      map = record { base = 4096; size = 8192 } ∷ [];
-      hart = record {
-        pc = 8192;
-        regs = flat_regs;
-        mem = λ a. if nat_le 4096 a && nat_lt a 8212 then code_byte a else 0;
-      };
-      input = [];
-      output = [];
-      outcome = flat.TheVariants.GoesOn;
-    }
+flat_start = loaded setup 8192 flat_regs (λ a. if nat_le 4096 a && nat_lt a 8212 then code_byte a else 0)
 
-start_alike : Alike program setup live 0 4096 source_start at_start flat_start
+start_alike : Alike program setup live 0 4096 (begun 4096) at_start flat_start
 start_alike =
-    record {
-      regs = λ k lives. zero_stands k lives;
-      values = λ k lives. zero_holds k;
-      fixed = λ a fixed. absurd (cc);
-      cells = λ o i inside. absurd (omega arith);
-      fixed_words = λ a fixed. omega arith;
-      cell_words = λ o i inside. omega arith;
-      still = λ a still. rw still refl;
-      map = refl;
-      going = refl;
-      source_going = refl;
-      words = record {
-        hart = record { pc = omega arith; regs = λ k. regs_word k; mem = λ a. bytes a };
-        input = λ k d below. absurd (omega arith);
-      };
-      input = refl;
-      output = refl;
-    }
+    alike_at_start program setup live 0 4096 (begun 4096) flat_start (λ k lives. zero_stands k lives)
+    (λ k lives. number_holds (k == 0) 0 (omega arith)) (λ a fixed. absurd (cc)) (λ o i inside. absurd (omega arith))
+    (λ a still. rw still refl)
+    (record {
+      hart = record { pc = omega arith; regs = λ k. regs_word k; mem = λ a. bytes a };
+      input = λ k d below. absurd (omega arith);
+    })
+    (refl, refl, refl, refl, refl)
   where
     zero_stands : (k : ℕ) → live 4096 k → Stands objects place (moved_uppers place) ByLui (value (λ _. Int 0) k) (register flat_regs k)
     zero_stands k lives = elim (cases_eq k 0) [
       | inl is ↦ let first = value_zero (λ _. Int 0) k is in let second = register_zero flat_regs k is in rw (first, second) refl
       | inr other ↦ grind (arith, nat_tests)
     ]
-
-    zero_holds : (k : ℕ) → HoldsWord (value (λ _. Int 0) k)
-    zero_holds k = cond_both (k == 0) (Int 0) (Int 0) HoldsWord (λ is. omega arith) (λ other. omega arith)
 
     regs_word : (k : ℕ) → flat_regs k < 4294967296
     regs_word k = cond_both (k == 5) 9 0 (λ n. n < 4294967296) (λ is. omega arith) (λ other. omega arith)
@@ -359,19 +311,19 @@ rules =
 abbrev anything : ℕ → SourceState → Origins → Type 0
 anything r s m = Unit {0}
 
-start_at : AtAny program setup live form anything source_start at_start flat_start
+start_at : AtAny program setup live form anything (begun 4096) at_start flat_start
 start_at =
     record {
       region = 0;
       sound = sound;
       held = tt;
       alike = start_alike;
-      made = all_made program source_start;
+      made = all_made program (begun 4096);
       at = (refl, inl (refl, refl));
     }
 
-kept : (n : ℕ) (s : SourceState) → Steps program n source_start s → Keeps n (n * (4 + 3)) s flat_start
+kept : (n : ℕ) (s : SourceState) → Steps program n (begun 4096) s → Keeps n (n * (4 + 3)) s flat_start
 kept n s steps =
     moved_code_keeps program setup live (Comes setup live form 3) form anything 3 rules forms
-    (ways_arrive program setup live form (λ r. Unit {0}) 3) (λ r. refl) (λ r s m held. tt) n source_start s flat_start start_at
+    (ways_arrive program setup live form (λ r. Unit {0}) 3) (λ r. refl) (λ r s m held. tt) n (begun 4096) s flat_start start_at
     steps

@@ -1,30 +1,23 @@
 -- The premises of the law of runs can be met: a program of six words, whose only object was moved.
 use Rattle.std.proofs.Common.{◌≡◌, ◌⊎◌, inl, inr, ℕ, ◌+◌, ◌*◌, ◌/◌, ◌%◌, ◌<◌, ◌≤◌, ◌==◌, nat_lt, nat_le, true, false, ◌&&◌, ◌||◌, if◌then◌else◌, [], ◌∷◌, Option, Some, None, pos, refl, sym, subst, arith}
 use Rattle.std.proofs.lemmas.Grind.{common_steps}
-use Rattle.std.proofs.lemmas.Bool.{cases_eq, cond_both, eqb-true}
+use Rattle.std.proofs.lemmas.Bool.{cond_both, eqb-true}
 use Rattle.std.proofs.lemmas.Bool.Decides.{nat_tests}
 use Rattle.list_checks.proofs.TestLemmas.{either}
 use Rattle.rv32im.specs.Words.{byte_of}
 use Rattle.rv32im.specs.Memory.{Memory, word_at}
 use Rattle.rv32im.specs.Table.{Means, IsInRange}
-use Rattle.rv32im.specs.Acts.{register}
 use Rattle.rv32im.specs.declared.instructions.Instr.{Instr}
 use Rattle.rv32im.specs.declared.instructions.Instr.TheVariants.{Auipc, OpImm, Ecall}
 use Rattle.rv32im.specs.declared.instructions.ImmKind.TheVariants.{Addi}
 use Rattle.rv32im.proofs.Meaning.{same_instruction}
-use Rattle.flat_machine.specs.declared.events.FlatOutcome as flat
 use Rattle.flat_machine.specs.State.{State}
 use Rattle.flat_machine.specs.Mapping.{can_access}
 use Rattle.cell_values.specs.Objects.{Objects}
-use Rattle.cell_values.specs.Laws.{HoldsWord}
-use Rattle.cell_values.specs.declared.values.Val.TheVariants.{Int}
-use Rattle.cell_values.specs.declared.values.Cell.TheVariants.{Byte}
-use Rattle.cell_values.specs.Origins.{ByLui}
-use Rattle.cell_values.specs.Stands.{Places, Stands, kept_uppers}
+use Rattle.cell_values.specs.Stands.{Places, kept_uppers}
 use Rattle.cell_values.proofs.Makes.{kept_uppers_make}
-use Rattle.object_machine.specs.declared.events.Outcome.TheVariants.{GoesOn}
 use Rattle.object_machine.specs.Program.{Program, Target}
-use Rattle.object_machine.specs.State.{SourceState, value}
+use Rattle.object_machine.specs.State.{SourceState}
 use Rattle.object_machine.specs.Step.{Reads}
 use Rattle.object_machine.specs.Paired.{at_start, PairedSteps}
 use Rattle.simulation.specs.Setups.{Setup, Sound}
@@ -32,9 +25,9 @@ use Rattle.simulation.specs.Units.{StandsAt, StandsFor, OneWordAt}
 use Rattle.simulation.specs.Relation.{Alike}
 use Rattle.simulation.specs.Rules.{all_live, UnitAt}
 use Rattle.simulation.specs.Laws.{IsUnit, OfBlock, ReachedBy, Behind, AllAtHome, Keeps}
-use Rattle.simulation.proofs.Steps.{value_zero, register_zero}
 use Rattle.simulation.proofs.AtHome.{runs_at_home, start_value}
 use Rattle.simulation.proofs.Completes.{pair_completes}
+use Rattle.simulation.proofs.ExampleParts.{bare, begun, loaded, number_stands, number_holds, alike_at_start}
 
 -- ---- the program: an address, a call of two words, and the exit
 
@@ -60,15 +53,12 @@ objects =
 
 abbrev program : Program
 program =
-    record {
-      objects = objects;
+    record (bare objects file_word) {
       site = λ a. if a == 4096 then Some target else (if a == 4100 then Some target else None);
       named = λ a. if a == 4100 then Some 4096 else None;
-      word = file_word;
       is_pair = λ a. a == 4104;
       goes = λ a. 4112;
       is_block = λ a. (a == 4096) || (a == 4112);
-      is_reached = λ a. false;
       falls = λ a. (a == 4096) || ((a == 4100) || (a == 4112));
       is_fixed = λ a. nat_le 20480 a && nat_lt a 20484;
       is_held = λ a. nat_le 8192 a && nat_lt a 8208;
@@ -231,67 +221,25 @@ all_at_home u unit = unit_of u (units_are u unit)
 
 -- ---- the start
 
-abbrev source_start : SourceState
-source_start =
-    record {
-      pc = 4096;
-      regs = λ k. Int 0;
-      fixed = λ a. Byte 0;
-      cells = λ o i. Byte 0;
-      input = [];
-      output = [];
-      outcome = GoesOn;
-    }
-
 abbrev flat_start : State
-flat_start =
-    record {
-      map = record { base = 4096; size = 20480 } ∷ [];
-      hart = record {
-        pc = 4096;
-        regs = λ k. 0;
-        mem = λ a. if nat_le 4096 a && nat_lt a 4120 then code_byte a else 0;
-      };
-      input = [];
-      output = [];
-      outcome = flat.TheVariants.GoesOn;
-    }
+flat_start = loaded setup 4096 (λ k. 0) (λ a. if nat_le 4096 a && nat_lt a 4120 then code_byte a else 0)
 
-start_alike : Alike program setup all_live 0 4096 source_start at_start flat_start
+start_alike : Alike program setup all_live 0 4096 (begun 4096) at_start flat_start
 start_alike =
-    record {
-      regs = λ k lives. zero_stands k;
-      values = λ k lives. zero_holds k;
-      fixed = λ a fixed. grind (arith, nat_tests);
-      cells = λ o i inside. grind (arith, nat_tests);
-      fixed_words = λ a fixed. omega arith;
-      cell_words = λ o i inside. omega arith;
-      still = λ a still. rw still refl;
-      map = refl;
-      going = refl;
-      source_going = refl;
-      words = record {
-        hart = record { pc = omega arith; regs = λ k. omega arith; mem = λ a. bytes a };
-        input = λ k d below. absurd (omega arith);
-      };
-      input = refl;
-      output = refl;
-    }
+    alike_at_start program setup all_live 0 4096 (begun 4096) flat_start
+    (λ k lives. number_stands objects place (kept_uppers place) (k == 0) 0) (λ k lives. number_holds (k == 0) 0 (omega arith))
+    (λ a fixed. (grind (arith, nat_tests), omega arith)) (λ o i inside. (grind (arith, nat_tests), omega arith)) (λ a still. rw still refl)
+    (record {
+      hart = record { pc = omega arith; regs = λ k. omega arith; mem = λ a. bytes a };
+      input = λ k d below. absurd (omega arith);
+    })
+    (refl, refl, refl, refl, refl)
   where
-    zero_stands : (k : ℕ) → Stands objects place (kept_uppers place) ByLui (value (λ _. Int 0) k) (register (λ _. 0) k)
-    zero_stands k = elim (cases_eq k 0) [
-      | inl is ↦ let first = value_zero (λ _. Int 0) k is in let second = register_zero (λ _. 0) k is in rw (first, second) refl
-      | inr other ↦ grind (arith, nat_tests)
-    ]
-
-    zero_holds : (k : ℕ) → HoldsWord (value (λ _. Int 0) k)
-    zero_holds k = cond_both (k == 0) (Int 0) (Int 0) HoldsWord (λ is. omega arith) (λ other. omega arith)
-
     bytes : (a : ℕ) → flat_start.hart.mem a < 256
     bytes a = cond_both (nat_le 4096 a && nat_lt a 4120) (code_byte a) 0 (λ b. b < 256) (λ code. omega arith) (λ other. omega arith)
 
 -- so what any run of it does is kept
-kept : (n : ℕ) (s : SourceState) → PairedSteps program n source_start at_start s → Keeps n (n * 2) s flat_start
+kept : (n : ℕ) (s : SourceState) → PairedSteps program n (begun 4096) at_start s → Keeps n (n * 2) s flat_start
 kept n s steps =
-    runs_at_home program setup 0 n source_start s at_start flat_start sound all_at_home (OfBlock 4096 refl) start_alike
+    runs_at_home program setup 0 n (begun 4096) s at_start flat_start sound all_at_home (OfBlock 4096 refl) start_alike
     (record { regs = start_value program; fixed = λ a. tt; cells = λ o i. tt }) refl steps

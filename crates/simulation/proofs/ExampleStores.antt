@@ -17,15 +17,13 @@ use Rattle.flat_machine.specs.declared.events.FlatOutcome as flat
 use Rattle.flat_machine.specs.State.{State}
 use Rattle.flat_machine.specs.Runs.{Steps}
 use Rattle.cell_values.specs.Objects.{Objects}
-use Rattle.cell_values.specs.Laws.{HoldsWord}
 use Rattle.cell_values.specs.declared.values.Val.{Val}
 use Rattle.cell_values.specs.declared.values.Val.TheVariants.{Int}
-use Rattle.cell_values.specs.declared.values.Cell.TheVariants.{Byte}
 use Rattle.cell_values.specs.Origins.{ByLui}
-use Rattle.cell_values.specs.Stands.{Places, Fit, Stands, moved_uppers}
+use Rattle.cell_values.specs.Stands.{Places, Fit, moved_uppers}
 use Rattle.cell_values.proofs.Makes.{moved_uppers_make}
 use Rattle.cell_values.specs.Cells.{put_at}
-use Rattle.object_machine.specs.declared.events.Outcome.TheVariants.{GoesOn, Exited}
+use Rattle.object_machine.specs.declared.events.Outcome.TheVariants.{Exited}
 use Rattle.object_machine.specs.Program.{Program, Target}
 use Rattle.object_machine.specs.State.{SourceState, value}
 use Rattle.object_machine.specs.Step.{Reads, next_state}
@@ -39,6 +37,7 @@ use Rattle.simulation.specs.Laws.{Keeps, IsUnit, AllAtHome}
 use Rattle.simulation.specs.Laws.IsUnit.{OfBlock, ReachedBy, Behind}
 use Rattle.simulation.proofs.AtHome.{runs_at_home}
 use Rattle.simulation.proofs.Completes.{moved_completes}
+use Rattle.simulation.proofs.ExampleParts.{bare, begun, loaded, number_stands, number_holds, alike_at_start}
 
 -- ---- the program: one object of 16 bytes with home 4096, fixed memory at 2048, and from 1024 on LUI x5 and
 -- SW x6, 4(x5), LW x10, 4(x5), which are sites of the object's byte 4, and ECALL
@@ -62,15 +61,9 @@ load = Load Lw 10 5 (pos 4)
 
 abbrev program : Program
 program =
-    record {
-      objects = objects;
+    record (bare objects (λ a. if a == 1024 then 4791 else (if a == 1028 then 6464035 else (if a == 1032 then 4367619 else 115)))) {
       site = λ a. if nat_lt a 1036 then Some target else None;
-      named = λ a. None;
-      word = λ a. if a == 1024 then 4791 else (if a == 1028 then 6464035 else (if a == 1032 then 4367619 else 115));
-      is_pair = λ a. false;
-      goes = λ a. 0;
       is_block = λ a. a == 1024;
-      is_reached = λ a. false;
       falls = λ a. nat_lt a 1036;
       is_fixed = λ a. nat_le 2048 a && nat_lt a 2064;
       is_held = λ a. nat_le 4096 a && nat_lt a 4112;
@@ -197,56 +190,23 @@ all_at_home u unit =
 
 -- ---- the states: x6 holds 7, and all other registers 93, the number of the call that exits
 abbrev source : SourceState
-source =
-    record {
-      pc = 1024;
-      regs = λ k. Int (if k == 6 then 7 else 93);
-      fixed = λ a. Byte 0;
-      cells = λ o i. Byte 0;
-      input = [];
-      output = [];
-      outcome = GoesOn;
-    }
+source = record (begun 1024) { regs = λ k. Int (if k == 6 then 7 else 93) }
 
 abbrev state : State
-state =
-    record {
-      map = setup.map;
-      hart = record { pc = 1024; regs = λ k. if k == 6 then 7 else 93; mem = code };
-      input = [];
-      output = [];
-      outcome = flat.TheVariants.GoesOn;
-    }
-
-zero_or : (test : Bool) (n : ℕ) → Stands objects place (moved_uppers place) ByLui (if test then Int 0 else Int n) (if test then 0 else n)
-zero_or true n = refl
-zero_or false n = refl
-
-zero_word : (test : Bool) (n : ℕ) → n < 4294967296 → HoldsWord (if test then Int 0 else Int n)
-zero_word true n below = omega arith
-zero_word false n below = below
+state = loaded setup 1024 (λ k. if k == 6 then 7 else 93) code
 
 states_alike : Alike program setup all_live 0 1024 source at_start state
 unfolding put
 states_alike =
-    record {
-      regs = λ k lives. zero_or (k == 0) (if k == 6 then 7 else 93);
-      values = λ k lives. zero_word (k == 0) (if k == 6 then 7 else 93) (grind (arith, nat_tests));
-      fixed = λ a is. grind (arith, nat_tests);
-      cells = λ o i below. grind (arith, nat_tests);
-      fixed_words = λ a is. omega arith;
-      cell_words = λ o i below. omega arith;
-      still = λ a is. refl;
-      map = refl;
-      going = refl;
-      source_going = refl;
-      words = record {
-        hart = record { pc = omega arith; regs = λ k. grind (arith, nat_tests); mem = λ a. grind (arith, nat_tests) };
-        input = All-nil IsByte;
-      };
-      input = refl;
-      output = refl;
-    }
+    alike_at_start program setup all_live 0 1024 source state
+    (λ k lives. number_stands objects place (moved_uppers place) (k == 0) (if k == 6 then 7 else 93))
+    (λ k lives. number_holds (k == 0) (if k == 6 then 7 else 93) (grind (arith, nat_tests)))
+    (λ a is. (grind (arith, nat_tests), omega arith)) (λ o i below. (grind (arith, nat_tests), omega arith)) (λ a is. refl)
+    (record {
+      hart = record { pc = omega arith; regs = λ k. grind (arith, nat_tests); mem = λ a. grind (arith, nat_tests) };
+      input = All-nil IsByte;
+    })
+    (refl, refl, refl, refl, refl)
 
 by_lui : (x : Val) → IsMade program ByLui x
 by_lui x = grind (arith, nat_tests)

@@ -25,6 +25,7 @@ pub mod AtHome
 pub mod Unnamed
 pub mod Resets
 pub mod Completes
+pub mod ExampleParts
 pub mod ExampleRun
 pub mod ExampleStores
 pub mod ExampleCopy
