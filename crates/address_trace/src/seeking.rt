@@ -1,10 +1,7 @@
 //! Steps of the flat machine up to where it is looked for.
 ghost use Rattle.std.specs.Prelude.{◌≡◌, ◌+◌, ◌<◌, ◌≤◌, ◌^◌, List, length, false, IfOk, MatchBool, MatchOption};
-ghost use Rattle.flat_machine.specs.Mapping.{in_range};
-ghost use Rattle.flat_machine.specs.Machine.{state_of};
-ghost use Rattle.flat_machine.specs.Runs.{HasEnded};
-ghost use Rattle.address_trace.specs.Comings.{StopsFirst, StopsNever};
-ghost use Rattle.address_trace.specs.Seeking.{IsOrdered, IsThere, Finds, Comes, StopsAfter, StopsNotBelow, StartsWithin, CameBy};
+ghost use Rattle.flat_machine.specs.{Mapping.{in_range}, Machine.{state_of}, Runs.{HasEnded}};
+ghost use Rattle.address_trace.specs.{Comings.{StopsFirst, StopsNever}, Seeking.{IsOrdered, IsThere, Finds, Comes, StopsAfter, StopsNotBelow, StartsWithin, CameBy}};
 
 use crate::forms::{Sought, is_at_form};
 use board_config::Range;

@@ -2,14 +2,10 @@
 ghost use Rattle.std.specs.Prelude.{◌≡◌, ◌<◌, ◌^◌, ℕ, IfOk, MatchBool, MatchOption};
 ghost use Rattle.flat_machine.specs.Machine as flat_machine_specs;
 ghost use Rattle.code_blocks.specs.Numbers.{starts_of};
-ghost use Rattle.object_machine.specs.Program.{Program};
-ghost use Rattle.object_machine.specs.Machine.{state_of, IsProgram};
+ghost use Rattle.object_machine.specs.{Program.{Program}, Machine.{state_of, IsProgram}};
 ghost use Rattle.profile_runner.specs.Standing.{entered};
 ghost use Rattle.result_laws.specs.ResultLaws as result_laws;
-ghost use Rattle.address_trace.specs.Comings.{region_behind};
-ghost use Rattle.address_trace.specs.Tracing.{told_access, CanTell};
-ghost use Rattle.address_trace.specs.Seeking.{next_by};
-ghost use Rattle.address_trace.specs.Stepping.{traced_by, AreInOrder, told_step, TracesStep};
+ghost use Rattle.address_trace.specs.{Comings.{region_behind}, Tracing.{told_access, CanTell}, Seeking.{next_by}, Stepping.{traced_by, AreInOrder, told_step, TracesStep}};
 
 use crate::forms::Sought;
 use crate::marks::{TracedAccess, TracedStep};

@@ -1,28 +1,17 @@
 //! Traces of a program beside its result.
 ghost use Rattle.std.specs.Prelude.{◌≡◌, ◌++◌, ℕ, List, length, IfOk, MatchBool, true};
 ghost use Rattle.std.specs.List.{AllPairs, flat_map};
-ghost use Rattle.elf_reader.specs.File.{plain_view, segments_of};
-ghost use Rattle.elf_reader.specs.Loadable.{AreLoadable};
+ghost use Rattle.elf_reader.specs.{File.{plain_view, segments_of}, Loadable.{AreLoadable}};
 ghost use Rattle.board_config.specs.Board.{IsLawful, mapped_ranges};
 ghost use Rattle.flat_machine.specs.Machine as flat_machine_specs;
 ghost use Rattle.flat_machine.specs.Start as flat_start;
 ghost use Rattle.loaded_file.specs.Read.{IsRead};
 ghost use Rattle.object_graph.specs.Graphs.{IsGraph};
-ghost use Rattle.code_blocks.specs.Leaders.{is_leader};
-ghost use Rattle.code_blocks.specs.Blocks.{IsCode};
-ghost use Rattle.object_machine.specs.Program.{Program, program_of};
-ghost use Rattle.object_machine.specs.Start.{start_of};
-ghost use Rattle.object_machine.specs.Machine.{state_of, IsProgram};
-ghost use Rattle.object_machine.specs.Runs.{HasEnded};
+ghost use Rattle.code_blocks.specs.{Leaders.{is_leader}, Blocks.{IsCode}};
+ghost use Rattle.object_machine.specs.{Program.{Program, program_of}, Start.{start_of}, Machine.{state_of, IsProgram}, Runs.{HasEnded}};
 ghost use Rattle.relink_core.specs.UnitMaps.{StandsBefore};
 ghost use Rattle.result_laws.specs.ResultLaws as result_laws;
-ghost use Rattle.address_trace.specs.declared.marks.TracedStep.{TracedStep};
-ghost use Rattle.address_trace.specs.Marks.{step_text};
-ghost use Rattle.address_trace.specs.Comings.{IsAtForm};
-ghost use Rattle.address_trace.specs.Seeking.{StartsWithin, StopsAfter};
-ghost use Rattle.address_trace.specs.Stepping.{traced_by, AreInOrder};
-ghost use Rattle.address_trace.specs.Tracing.{traced_of, region_in};
-ghost use Rattle.address_trace.specs.Telling.{TracesAs, TellsTrace};
+ghost use Rattle.address_trace.specs.{declared.marks.TracedStep.{TracedStep}, Marks.{step_text}, Comings.{IsAtForm}, Seeking.{StartsWithin, StopsAfter}, Stepping.{traced_by, AreInOrder}, Tracing.{traced_of, region_in}, Telling.{TracesAs, TellsTrace}};
 
 use crate::forms::Sought;
 use crate::lines::{push_step, start_line};

@@ -1,8 +1,6 @@
 ghost use Rattle.std.specs.Prelude.{◌≡◌, ℕ, ◌<◌, false, length, slice_index_or, IfOk};
 ghost use Rattle.std.specs.List.Sorted.{IsStrictlyIncreasing};
-ghost use Rattle.code_blocks.specs.Early.{has};
-ghost use Rattle.code_blocks.specs.Blocks.{IsSomeCode};
-ghost use Rattle.code_blocks.specs.Numbers.{start_at};
+ghost use Rattle.code_blocks.specs.{Early.{has}, Blocks.{IsSomeCode}, Numbers.{start_at}};
 ghost use Rattle.object_graph.specs.Lookups.{IsSomeGraph};
 ghost use Rattle.dataflow.specs.Tables.{IsTableOf};
 ghost use Rattle.block_splitter.specs.Facts.{block_count, form_at, IsFormAt, IsTable};

@@ -1,11 +1,7 @@
 ghost use Rattle.std.specs.Prelude.{◌≡◌, ◌↔◌, ℕ, suc, ◌<◌, ◌≤◌, Bool, true, ◌++◌, IfOk, OnOk, Some};
 ghost use Rattle.std.specs.List.{list_any, AllPairs};
-ghost use Rattle.code_blocks.specs.Blocks.{IsSomeCode};
-ghost use Rattle.code_blocks.specs.Numbers.{Ascends};
-ghost use Rattle.code_blocks.specs.Leads.{owner_at};
-ghost use Rattle.block_splitter.specs.declared.block_range.BlockRange.{BlockRange};
-ghost use Rattle.block_splitter.specs.Pieces.{ComesBefore};
-ghost use Rattle.block_splitter.specs.Facts.{block_count, target_of, range_to, IsOnly, StartsSingle, StartsLoop, StartsFunction, IsRunFirst, AddsEnding, AreCandidates};
+ghost use Rattle.code_blocks.specs.{Blocks.{IsSomeCode}, Numbers.{Ascends}, Leads.{owner_at}};
+ghost use Rattle.block_splitter.specs.{declared.block_range.BlockRange.{BlockRange}, Pieces.{ComesBefore}, Facts.{block_count, target_of, range_to, IsOnly, StartsSingle, StartsLoop, StartsFunction, IsRunFirst, AddsEnding, AreCandidates}};
 
 use crate::block_range::BlockRange;
 use crate::sources::number_of;

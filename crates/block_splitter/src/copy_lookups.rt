@@ -1,10 +1,7 @@
 //! What is looked up for a copy: blocks that it has, and registers by which control leaves it.
 
 ghost use Rattle.std.specs.Prelude.{◌≡◌, ◌<◌, false, MatchOption};
-ghost use Rattle.block_splitter.specs.Forms.{holds_block};
-ghost use Rattle.block_splitter.specs.Pieces.{IsTemporary, HasTemporary};
-ghost use Rattle.block_splitter.specs.Copies.{is_inside};
-ghost use Rattle.block_splitter.specs.Copying.{copy_in, IsPlan, AreStarts, IsBlockAt, IsStartOf};
+ghost use Rattle.block_splitter.specs.{Forms.{holds_block}, Pieces.{IsTemporary, HasTemporary}, Copies.{is_inside}, Copying.{copy_in, IsPlan, AreStarts, IsBlockAt, IsStartOf}};
 
 use crate::block_range::BlockRange;
 use crate::copy_plan::CopyPlan;

@@ -1,8 +1,6 @@
 ghost use Rattle.std.specs.Prelude.{◌≡◌, true, IfOk};
 ghost use Rattle.code_blocks.specs.Numbers.{end_at};
-ghost use Rattle.block_splitter.specs.Forms.{is_site, body_at, holds_block, block_size, copy_size, fall_out_size};
-ghost use Rattle.block_splitter.specs.Copies.{is_inside, kind_in};
-ghost use Rattle.block_splitter.specs.Copying.{copy_in, IsPlan, HasUnit, AreStarts};
+ghost use Rattle.block_splitter.specs.{Forms.{is_site, body_at, holds_block, block_size, copy_size, fall_out_size}, Copies.{is_inside, kind_in}, Copying.{copy_in, IsPlan, HasUnit, AreStarts}};
 
 use crate::copy_lookups::is_inside;
 use crate::copy_plan::CopyPlan;

@@ -2,10 +2,7 @@ ghost use Rattle.std.specs.Prelude.{◌≡◌, ◌+◌, ◌%◌, ◌≤◌, true
 ghost use Rattle.code_blocks.specs.Blocks.{IsSomeCode};
 ghost use Rattle.dataflow.specs.Tables.{IsTableOf};
 ghost use Rattle.object_graph.specs.Lookups.{IsSomeGraph};
-ghost use Rattle.block_splitter.specs.Forms.{holds_block};
-ghost use Rattle.block_splitter.specs.Pieces.{IsPiece, range_of};
-ghost use Rattle.block_splitter.specs.Copies.{HasSites, IsCopy, FallsTo, IsFallOut, words_before};
-ghost use Rattle.block_splitter.specs.Copying.{copy_in, IsPlan, AreStarts, HasExit, CanFall, Appends, AddsBlock, AreWords};
+ghost use Rattle.block_splitter.specs.{Forms.{holds_block}, Pieces.{IsPiece, range_of}, Copies.{HasSites, IsCopy, FallsTo, IsFallOut, words_before}, Copying.{copy_in, IsPlan, AreStarts, HasExit, CanFall, Appends, AddsBlock, AreWords}};
 
 use crate::block_range::BlockRange;
 use crate::copy_code::CopyCode;

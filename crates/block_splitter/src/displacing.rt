@@ -3,9 +3,7 @@ ghost use Rattle.std.specs.List.Sorted.{IsStrictlyIncreasing};
 ghost use Rattle.rv32im.specs.Sequences.{distance, MeanAll};
 ghost use Rattle.code_blocks.specs.Blocks.{IsSomeCode};
 ghost use Rattle.object_graph.specs.Lookups.{IsSomeGraph};
-ghost use Rattle.block_splitter.specs.Forms.{is_site, body_at, unit_in, kind_of};
-ghost use Rattle.block_splitter.specs.Copies.{address_in, HasSites, IsDisplaced, Reaches, ReachesTargets, RunsThenJumps};
-ghost use Rattle.block_splitter.specs.Copying.{HasFields};
+ghost use Rattle.block_splitter.specs.{Forms.{is_site, body_at, unit_in, kind_of}, Copies.{address_in, HasSites, IsDisplaced, Reaches, ReachesTargets, RunsThenJumps}, Copying.{HasFields}};
 
 use crate::kinds::kind_of;
 use crate::sequences::{link_and_jump, load_and_jump};

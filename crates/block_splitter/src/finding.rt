@@ -1,14 +1,9 @@
 ghost use Rattle.std.specs.Prelude.{◌≡◌, ◌≤◌, ◌<◌, ◌+◌, ◌&&◌, ◌++◌, ◌∷◌, [], if◌then◌else◌, IfOk, OnOk};
 ghost use Rattle.list_checks.specs.Sorted.{collected};
-ghost use Rattle.code_blocks.specs.Blocks.{IsSomeCode};
-ghost use Rattle.code_blocks.specs.Numbers.{Ascends};
-ghost use Rattle.object_graph.specs.Lookups.{IsSomeGraph};
-ghost use Rattle.object_graph.specs.declared.parts.Graph.{Graph};
+ghost use Rattle.code_blocks.specs.{Blocks.{IsSomeCode}, Numbers.{Ascends}};
+ghost use Rattle.object_graph.specs.{Lookups.{IsSomeGraph}, declared.parts.Graph.{Graph}};
 ghost use Rattle.dataflow.specs.Tables.{IsTableOf};
-ghost use Rattle.block_splitter.specs.declared.block_range.BlockRange.{BlockRange};
-ghost use Rattle.block_splitter.specs.Forms.{holds_block};
-ghost use Rattle.block_splitter.specs.Pieces.{IsRange, is_entry, HasShape, ArePieces};
-ghost use Rattle.block_splitter.specs.Facts.{IsTable, AreCandidates, block_count, AddsPiece};
+ghost use Rattle.block_splitter.specs.{declared.block_range.BlockRange.{BlockRange}, Forms.{holds_block}, Pieces.{IsRange, is_entry, HasShape, ArePieces}, Facts.{IsTable, AreCandidates, block_count, AddsPiece}};
 
 use crate::block_range::BlockRange;
 use crate::building::table_of;

@@ -1,15 +1,9 @@
 ghost use Rattle.std.specs.Prelude.{◌≡◌, ◌<◌, ◌↔◌, min, true, false, length};
 ghost use Rattle.std.specs.List.{All};
-ghost use Rattle.code_blocks.specs.Early.{has};
-ghost use Rattle.code_blocks.specs.Blocks.{IsSomeCode};
-ghost use Rattle.code_blocks.specs.Edges.{successors};
-ghost use Rattle.code_blocks.specs.Numbers.{starts_of, Ascends};
-ghost use Rattle.code_blocks.specs.declared.parts.Code.{Code};
+ghost use Rattle.code_blocks.specs.{Early.{has}, Blocks.{IsSomeCode}, Edges.{successors}, Numbers.{starts_of, Ascends}, declared.parts.Code.{Code}};
 ghost use Rattle.object_graph.specs.Lookups.{IsSomeGraph};
 ghost use Rattle.dataflow.specs.Tables.{IsTableOf};
-ghost use Rattle.block_splitter.specs.Forms.{body_of, kind_of};
-ghost use Rattle.block_splitter.specs.Pieces.{HasTemporary, CanCall, is_stop, IsCopyable};
-ghost use Rattle.block_splitter.specs.Facts.{block_count, may_copy, leaving_words, last_leaving, target_of, next_of, full_size, LinksRegister, IsExit, IsFormAt};
+ghost use Rattle.block_splitter.specs.{Forms.{body_of, kind_of}, Pieces.{HasTemporary, CanCall, is_stop, IsCopyable}, Facts.{block_count, may_copy, leaving_words, last_leaving, target_of, next_of, full_size, LinksRegister, IsExit, IsFormAt}};
 
 use crate::block_form::{BlockForm, Exit};
 use crate::kinds::{copy_size, kind_of};

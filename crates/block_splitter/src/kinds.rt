@@ -1,8 +1,7 @@
 ghost use Rattle.std.specs.Prelude.{◌≡◌, ◌*◌, ◌<◌, if◌then◌else◌, length};
 ghost use Rattle.rv32im.specs.Words.{plus};
-ghost use Rattle.block_splitter.specs.declared.unit_kind.UnitKind.TheVariants.{Plain, Upper};
+ghost use Rattle.block_splitter.specs.{declared.unit_kind.UnitKind.TheVariants.{Plain, Upper}, Forms.{is_site, body_of, kind_of, straight_kind, branch_kind, tail_kind, indirect_kind, last_kind, copy_size, fall_out_size, displaced_size}};
 ghost use Rattle.object_graph.specs.Lookups.{IsSomeGraph};
-ghost use Rattle.block_splitter.specs.Forms.{is_site, body_of, kind_of, straight_kind, branch_kind, tail_kind, indirect_kind, last_kind, copy_size, fall_out_size, displaced_size};
 
 use crate::unit_kind::UnitKind;
 use code_blocks::{Block, End, Unit};

@@ -1,11 +1,8 @@
 ghost use Rattle.std.specs.Prelude.{◌≡◌, ◌⊎◌, ◌+◌, ◌^◌, ◌<◌, ◌≤◌, nat_lt, ◌&&◌, ◌||◌, length, IfSome, MatchOption};
 ghost use Rattle.std.specs.List.Sorted.{IsStrictlyIncreasing};
-ghost use Rattle.code_blocks.specs.Numbers.{starts_of, Ascends};
-ghost use Rattle.code_blocks.specs.declared.parts.Code.{Code};
+ghost use Rattle.code_blocks.specs.{Numbers.{starts_of, Ascends}, declared.parts.Code.{Code}};
 ghost use Rattle.object_graph.specs.declared.parts.Graph.{Graph};
-ghost use Rattle.block_splitter.specs.Forms.{is_site, copy_words};
-ghost use Rattle.block_splitter.specs.Pieces.{IsRange, is_entry, most_words};
-ghost use Rattle.block_splitter.specs.Facts.{is_within, extra_words, IsBarred, IsTable, IsExtent, MayStand, size_in, IsFit};
+ghost use Rattle.block_splitter.specs.{Forms.{is_site, copy_words}, Pieces.{IsRange, is_entry, most_words}, Facts.{is_within, extra_words, IsBarred, IsTable, IsExtent, MayStand, size_in, IsFit}};
 
 use crate::block_form::{BlockForm, Exit, Sources};
 use crate::block_range::BlockRange;

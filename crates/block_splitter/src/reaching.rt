@@ -1,8 +1,7 @@
 ghost use Rattle.std.specs.Prelude.{◌≡◌, ◌↔◌, ◌+◌, ◌<◌, length, true};
 ghost use Rattle.code_blocks.specs.Blocks.{IsSomeCode};
 ghost use Rattle.object_graph.specs.Lookups.{IsSomeGraph};
-ghost use Rattle.block_splitter.specs.Forms.{is_site, body_at, unit_in, kind_of};
-ghost use Rattle.block_splitter.specs.Copies.{Reaches, ReachesTargets};
+ghost use Rattle.block_splitter.specs.{Forms.{is_site, body_at, unit_in, kind_of}, Copies.{Reaches, ReachesTargets}};
 
 use crate::kinds::kind_of;
 use crate::unit_kind::UnitKind;

@@ -1,8 +1,7 @@
 //! Sequences of instructions that stand for one unit.
 
 ghost use Rattle.std.specs.Prelude.{◌≡◌, ◌++◌, ◌∷◌, [], ◌<◌, ◌+◌, All};
-ghost use Rattle.rv32im.specs.Table.{IsWithin, IsInRange};
-ghost use Rattle.rv32im.specs.Sequences.{load_immediate, distance};
+ghost use Rattle.rv32im.specs.{Table.{IsWithin, IsInRange}, Sequences.{load_immediate, distance}};
 ghost use Rattle.block_splitter.specs.Copies.{Reaches};
 
 use rv32im::{BranchKind, Instr, distance, jump, load_immediate};

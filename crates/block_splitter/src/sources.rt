@@ -1,7 +1,6 @@
 ghost use Rattle.std.specs.Prelude.{◌≡◌, ℕ, ◌<◌, ◌≤◌, ◌==◌, ◌&&◌, ◌||◌, nat_lt, length, IfOk};
 ghost use Rattle.std.specs.List.{list_any};
-ghost use Rattle.code_blocks.specs.Numbers.{start_at, Ascends};
-ghost use Rattle.code_blocks.specs.Leads.{leads_to};
+ghost use Rattle.code_blocks.specs.{Numbers.{start_at, Ascends}, Leads.{leads_to}};
 ghost use Rattle.block_splitter.specs.Facts.{block_count, sources_at, AreSources};
 
 use crate::block_form::Sources;

@@ -1,12 +1,8 @@
 //! The words of one unit's copy.
 
 ghost use Rattle.std.specs.Prelude.{◌≡◌, ◌<◌, true, length, All, IfOk};
-ghost use Rattle.rv32im.specs.Table.{IsInRange};
-ghost use Rattle.rv32im.specs.Sequences.{load_immediate};
-ghost use Rattle.block_splitter.specs.Forms.{holds_block};
-ghost use Rattle.block_splitter.specs.Pieces.{HasTemporary};
-ghost use Rattle.block_splitter.specs.Copies.{address_of, place_of, IsUnitCopy, JumpsOut, IsBranchCopy, IsJumpCopy};
-ghost use Rattle.block_splitter.specs.Copying.{copy_in, IsPlan, AreStarts, Appends, HasUnit, IsCopyAt, HasFields, HasExits, HasExit};
+ghost use Rattle.rv32im.specs.{Table.{IsInRange}, Sequences.{load_immediate}};
+ghost use Rattle.block_splitter.specs.{Forms.{holds_block}, Pieces.{HasTemporary}, Copies.{address_of, place_of, IsUnitCopy, JumpsOut, IsBranchCopy, IsJumpCopy}, Copying.{copy_in, IsPlan, AreStarts, Appends, HasUnit, IsCopyAt, HasFields, HasExits, HasExit}};
 
 use crate::copy_lookups::{start_inside, temporary};
 use crate::copy_plan::CopyPlan;

@@ -2,10 +2,8 @@
 
 ghost use Rattle.std.specs.Prelude.{◌≡◌, ◌∷◌, [], ◌≤◌, nat_lt, true, false, length, map, All, IfOk};
 ghost use Rattle.std.specs.List.Sorted.{IsStrictlyIncreasing, IsPartitionPoint};
-ghost use Rattle.rv32im.specs.Table.{IsInRange};
-ghost use Rattle.rv32im.specs.Sequences.{MeanAll};
-ghost use Rattle.block_splitter.specs.Copies.{word_of_unit, address_in};
-ghost use Rattle.block_splitter.specs.Copying.{Appends};
+ghost use Rattle.rv32im.specs.{Table.{IsInRange}, Sequences.{MeanAll}};
+ghost use Rattle.block_splitter.specs.{Copies.{word_of_unit, address_in}, Copying.{Appends}};
 
 use code_blocks::Unit;
 use rv32im::{Instr, encode};

@@ -1,11 +1,11 @@
 -- The board that a text describes, and what holds of every board.
-use Rattle.std.specs.Prelude.{◌≡◌, ◌⊎◌, ℕ, ◌+◌, ◌%◌, ◌≤◌, List, ◌∷◌, map, length, All, Option, Some, None, Ok, String, Vec, string_bytes}
+use Rattle.std.specs.Prelude.{codes, ◌≡◌, ◌⊎◌, ℕ, ◌+◌, ◌%◌, ◌≤◌, List, ◌∷◌, map, length, All, Option, Some, None, Ok, String, Vec, string_bytes}
 use Rattle.std.specs.declared.alloc.Global.{Global}
 use Rattle.toml.specs.Data.{Members}
 use Rattle.board_config.specs.declared.board.Board.{Board}
 use Rattle.board_config.specs.declared.board.Prices.{Prices}
 use Rattle.board_config.specs.declared.board.Range.{Range}
-use Rattle.board_config.specs.Keys.{main_of, spm_of, patch_of, areas_of, prices_in, fix_of, bss_of, grain_of, fence_i_of, main_fetch_of, main_read_of, main_write_of, spm_fetch_of, spm_read_of, spm_write_of, driver_of, regions_of, steps_of, nodes_of, twins_of, price_table_fault, unknown_fault, table_of}
+use Rattle.board_config.specs.Keys.{main_of, spm_of, patch_of, areas_of, prices_in, fix_of, bss_of, grain_of, fence_i_of, price_at, driver_of, regions_of, steps_of, nodes_of, twins_of, price_table_fault, unknown_fault, table_of}
 
 abbrev pub plain_texts : Vec (String Global) Global → List (List ℕ)
 plain_texts texts = map string_bytes texts.items
@@ -15,12 +15,12 @@ plain_regions regions = map plain_texts regions.items
 
 -- the prices that a table of prices gives, or their defaults
 pub record ArePrices (given : Option Members) (prices : Prices) : Type 0 where
-  pub main_fetch : main_fetch_of given ≡ Ok prices.main_fetch
-  pub main_read : main_read_of given ≡ Ok prices.main_read
-  pub main_write : main_write_of given ≡ Ok prices.main_write
-  pub spm_fetch : spm_fetch_of given ≡ Ok prices.spm_fetch
-  pub spm_read : spm_read_of given ≡ Ok prices.spm_read
-  pub spm_write : spm_write_of given ≡ Ok prices.spm_write
+  pub main_fetch : price_at 10 10 (codes "main_fetch") given ≡ Ok prices.main_fetch
+  pub main_read : price_at 11 10 (codes "main_read") given ≡ Ok prices.main_read
+  pub main_write : price_at 12 10 (codes "main_write") given ≡ Ok prices.main_write
+  pub spm_fetch : price_at 13 2 (codes "spm_fetch") given ≡ Ok prices.spm_fetch
+  pub spm_read : price_at 14 2 (codes "spm_read") given ≡ Ok prices.spm_read
+  pub spm_write : price_at 15 2 (codes "spm_write") given ≡ Ok prices.spm_write
 
 -- each key of the table has a value, and the board has these values
 pub record HasKeys (table : Members) (board : Board) : Type 0 where

@@ -1,7 +1,7 @@
 -- What groups of keys hold.
-use Rattle.std.specs.Prelude.{◌≡◌, Option, Ok, string_bytes}
+use Rattle.std.specs.Prelude.{◌≡◌, ℕ, ◌+◌, List, Option, Ok, string_bytes}
 use Rattle.toml.specs.Data.{Members}
-use Rattle.board_config.specs.Keys.{main_of, spm_of, patch_of, areas_of, fix_of, bss_of, grain_of, fence_i_of, main_fetch_of, main_read_of, main_write_of, spm_fetch_of, spm_read_of, spm_write_of, driver_of, regions_of, steps_of, nodes_of, twins_of}
+use Rattle.board_config.specs.Keys.{main_of, spm_of, patch_of, areas_of, fix_of, bss_of, grain_of, fence_i_of, price_at, driver_of, regions_of, steps_of, nodes_of, twins_of}
 use Rattle.board_config.specs.Board.{plain_texts, plain_regions}
 use Rattle.board_config.specs.declared.memory_keys.MemoryKeys.{MemoryKeys}
 use Rattle.board_config.specs.declared.moving_keys.MovingKeys.{MovingKeys}
@@ -22,17 +22,11 @@ pub record HasMoving (table : Members) (keys : MovingKeys) : Type 0 where
   pub grain : grain_of table ≡ Ok keys.grain
   pub fence_i : fence_i_of table ≡ Ok keys.fence_i
 
--- keys 10 to 12
-pub record AreMainPrices (given : Option Members) (prices : AccessPrices) : Type 0 where
-  pub fetch : main_fetch_of given ≡ Ok prices.fetch
-  pub read : main_read_of given ≡ Ok prices.read
-  pub write : main_write_of given ≡ Ok prices.write
-
--- keys 13 to 15
-pub record AreSpmPrices (given : Option Members) (prices : AccessPrices) : Type 0 where
-  pub fetch : spm_fetch_of given ≡ Ok prices.fetch
-  pub read : spm_read_of given ≡ Ok prices.read
-  pub write : spm_write_of given ≡ Ok prices.write
+-- the prices of a fetch, a read and a write, whose keys follow each other from `first` on
+pub record AreAccessPrices (first default : ℕ) (fetch_name read_name write_name : List ℕ) (given : Option Members) (prices : AccessPrices) : Type 0 where
+  pub fetch : price_at first default fetch_name given ≡ Ok prices.fetch
+  pub read : price_at (first + 1) default read_name given ≡ Ok prices.read
+  pub write : price_at (first + 2) default write_name given ≡ Ok prices.write
 
 -- keys 16 to 20
 pub record HasWork (table : Members) (keys : WorkKeys) : Type 0 where

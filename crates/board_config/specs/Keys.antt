@@ -1,5 +1,5 @@
 -- The keys of a board file, in the order in which they are checked, and what each of them holds.
-use Rattle.std.specs.Prelude.{ℕ, Bool, false, not, if◌then◌else◌, List, [], ◌∷◌, filter, codes, Option, Some, None, option_map, option_and_then, Result, Ok, Err}
+use Rattle.std.specs.Prelude.{ℕ, ◌+◌, Bool, false, not, if◌then◌else◌, List, [], ◌∷◌, filter, codes, Option, Some, None, option_map, option_and_then, Result, Ok, Err}
 use Rattle.std.specs.Result.{result_unwrap_or, result_err}
 use Rattle.std.specs.List.{list_any}
 use Rattle.std.specs.Str.{bytes_eq, is_utf8}
@@ -85,23 +85,12 @@ abbrev pub price_at : ℕ → ℕ → List ℕ → Option Members → Result ℕ
 price_at key default name None = Ok default
 price_at key default name (Some prices) = required_price key (get_member name prices)
 
-abbrev pub main_fetch_of : Option Members → Result ℕ Fault
-main_fetch_of = price_at 10 10 (codes "main_fetch")
-
-abbrev pub main_read_of : Option Members → Result ℕ Fault
-main_read_of = price_at 11 10 (codes "main_read")
-
-abbrev pub main_write_of : Option Members → Result ℕ Fault
-main_write_of = price_at 12 10 (codes "main_write")
-
-abbrev pub spm_fetch_of : Option Members → Result ℕ Fault
-spm_fetch_of = price_at 13 2 (codes "spm_fetch")
-
-abbrev pub spm_read_of : Option Members → Result ℕ Fault
-spm_read_of = price_at 14 2 (codes "spm_read")
-
-abbrev pub spm_write_of : Option Members → Result ℕ Fault
-spm_write_of = price_at 15 2 (codes "spm_write")
+-- the first fault of the prices of a fetch, a read and a write, whose keys follow each other from `first` on
+unfoldable pub access_fault : ℕ → ℕ → List ℕ → List ℕ → List ℕ → Option Members → Option Fault
+access_fault first default fetch read write prices =
+    result_err (price_at first default fetch prices)
+    or_else result_err (price_at (first + 1) default read prices)
+    or_else result_err (price_at (first + 2) default write prices)
 
 -- ---- keys 16 to 20: the regions, bounds on the work, and whether regions are twins
 
@@ -172,16 +161,10 @@ moving_fault table =
     result_err (fix_of table) or_else result_err (bss_of table) or_else result_err (grain_of table)
     or_else result_err (fence_i_of table)
 
-unfoldable pub main_prices_fault : Option Members → Option Fault
-main_prices_fault prices =
-    result_err (main_fetch_of prices) or_else result_err (main_read_of prices) or_else result_err (main_write_of prices)
-
-unfoldable pub spm_prices_fault : Option Members → Option Fault
-spm_prices_fault prices =
-    result_err (spm_fetch_of prices) or_else result_err (spm_read_of prices) or_else result_err (spm_write_of prices)
-
 unfoldable pub prices_fault : Option Members → Option Fault
-prices_fault prices = main_prices_fault prices or_else spm_prices_fault prices
+prices_fault prices =
+    access_fault 10 10 (codes "main_fetch") (codes "main_read") (codes "main_write") prices
+    or_else access_fault 13 2 (codes "spm_fetch") (codes "spm_read") (codes "spm_write") prices
 
 unfoldable pub work_fault : Members → Option Fault
 work_fault table =

@@ -1,6 +1,5 @@
 ghost use Rattle.std.specs.Prelude.{◌≡◌, ◌<◌, IfOk, option_map};
-ghost use Rattle.board_config.specs.Values.{all_of};
-ghost use Rattle.board_config.specs.Limits.{within, range_of, aligned_range, area_ranges, grain_from, bss_from};
+ghost use Rattle.board_config.specs.{Values.{all_of}, Limits.{within, range_of, aligned_range, area_ranges, grain_from, bss_from}};
 
 use crate::board::Range;
 use std::alloc::{AllocError, Global};

@@ -1,10 +1,6 @@
 ghost use Rattle.std.specs.Prelude.{◌≡◌, ◌<◌, IfOk};
 ghost use Rattle.toml.specs.View.{table_view};
-ghost use Rattle.board_config.specs.Faults.{Reads, ReadsAs, ReportsFirst};
-ghost use Rattle.board_config.specs.Values.{data_of, pair_of, pairs_of};
-ghost use Rattle.board_config.specs.Limits.{range_of, aligned_range, area_ranges};
-ghost use Rattle.board_config.specs.Keys.{key_value, main_of, spm_of, patch_of, areas_of, memory_fault};
-ghost use Rattle.board_config.specs.Groups.{HasMemory};
+ghost use Rattle.board_config.specs.{Faults.{Reads, ReadsAs, ReportsFirst}, Values.{data_of, pair_of, pairs_of}, Limits.{range_of, aligned_range, area_ranges}, Keys.{key_value, main_of, spm_of, patch_of, areas_of, memory_fault}, Groups.{HasMemory}};
 
 use crate::board::{BoardFault, Range};
 use crate::limits::{Measure, areas, measured_range, range};

@@ -1,11 +1,6 @@
 ghost use Rattle.std.specs.Prelude.{◌≡◌, ◌<◌, IfOk, false};
-ghost use Rattle.toml.specs.Data.{as_bool};
-ghost use Rattle.toml.specs.View.{table_view};
-ghost use Rattle.board_config.specs.Faults.{Reads, ReadsAs, ReportsFirst};
-ghost use Rattle.board_config.specs.Values.{data_of};
-ghost use Rattle.board_config.specs.Keys.{any_value, key_value, fix_of, bss_of, grain_of, fence_i_of, moving_fault};
-ghost use Rattle.board_config.specs.Board.{plain_texts};
-ghost use Rattle.board_config.specs.Groups.{HasMoving};
+ghost use Rattle.toml.specs.{Data.{as_bool}, View.{table_view}};
+ghost use Rattle.board_config.specs.{Faults.{Reads, ReadsAs, ReportsFirst}, Values.{data_of}, Keys.{any_value, key_value, fix_of, bss_of, grain_of, fence_i_of, moving_fault}, Board.{plain_texts}, Groups.{HasMoving}};
 
 use crate::board::BoardFault;
 use crate::limits::{bss_movable, grain};

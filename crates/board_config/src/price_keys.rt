@@ -1,10 +1,6 @@
-ghost use Rattle.std.specs.Prelude.{◌≡◌, IfOk, Some};
+ghost use Rattle.std.specs.Prelude.{◌≡◌, ◌+◌, ◌<◌, IfOk, Some};
 ghost use Rattle.toml.specs.View.{table_view};
-ghost use Rattle.board_config.specs.Faults.{Reads, ReportsFault};
-ghost use Rattle.board_config.specs.Values.{members_of};
-ghost use Rattle.board_config.specs.Keys.{price_at, prices_in, price_table_fault, main_prices_fault, spm_prices_fault, prices_fault};
-ghost use Rattle.board_config.specs.Board.{ArePrices};
-ghost use Rattle.board_config.specs.Groups.{AreMainPrices, AreSpmPrices};
+ghost use Rattle.board_config.specs.{Faults.{Reads, ReportsFault}, Values.{members_of}, Keys.{price_at, prices_in, price_table_fault, access_fault, prices_fault}, Board.{ArePrices}, Groups.{AreAccessPrices}};
 
 use crate::board::{BoardFault, Prices};
 use crate::limits::Bounds;
@@ -41,8 +37,8 @@ pub fn read_prices(prices: Option<&Table>) -> Result<Prices, BoardFault>
     ensures fault { ReportsFault result (prices_fault (members_of prices.entry)) }
     ensures values { IfOk result (ArePrices (members_of prices.entry)) }
 {
-    let main = read_main_prices(prices)?;
-    let spm = read_spm_prices(prices)?;
+    let main = access_prices(prices, 10, 10, "main_fetch", "main_read", "main_write")?;
+    let spm = access_prices(prices, 13, 2, "spm_fetch", "spm_read", "spm_write")?;
     Ok(Prices {
         main_fetch: main.fetch,
         main_read: main.read,
@@ -53,25 +49,23 @@ pub fn read_prices(prices: Option<&Table>) -> Result<Prices, BoardFault>
     })
 }
 
-#[tactic(auto, unfolding(crate::specs::Keys::main_prices_fault))]
-fn read_main_prices(prices: Option<&Table>) -> Result<AccessPrices, BoardFault>
-    ensures fault { ReportsFault result (main_prices_fault (members_of prices.entry)) }
-    ensures values { IfOk result (AreMainPrices (members_of prices.entry)) }
+/// The prices of a fetch, a read and a write, by their names; their keys follow each other from `first` on.
+#[tactic(auto, unfolding(crate::specs::Keys::access_fault))]
+fn access_prices(
+    prices: Option<&Table>,
+    first: u32,
+    default: u32,
+    fetch: &str,
+    read: &str,
+    write: &str,
+) -> Result<AccessPrices, BoardFault>
+    requires { first < 16 }
+    ensures fault { ReportsFault result (access_fault first default fetch.now read.now write.now (members_of prices.entry)) }
+    ensures values { IfOk result (AreAccessPrices first default fetch.now read.now write.now (members_of prices.entry)) }
 {
-    let fetch = price(prices, 10, "main_fetch", 10)?;
-    let read = price(prices, 11, "main_read", 10)?;
-    let write = price(prices, 12, "main_write", 10)?;
-    Ok(AccessPrices { fetch, read, write })
-}
-
-#[tactic(auto, unfolding(crate::specs::Keys::spm_prices_fault))]
-fn read_spm_prices(prices: Option<&Table>) -> Result<AccessPrices, BoardFault>
-    ensures fault { ReportsFault result (spm_prices_fault (members_of prices.entry)) }
-    ensures values { IfOk result (AreSpmPrices (members_of prices.entry)) }
-{
-    let fetch = price(prices, 13, "spm_fetch", 2)?;
-    let read = price(prices, 14, "spm_read", 2)?;
-    let write = price(prices, 15, "spm_write", 2)?;
+    let fetch = price(prices, first, fetch, default)?;
+    let read = price(prices, first + 1, read, default)?;
+    let write = price(prices, first + 2, write, default)?;
     Ok(AccessPrices { fetch, read, write })
 }
 

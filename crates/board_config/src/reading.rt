@@ -1,8 +1,6 @@
 ghost use Rattle.std.specs.Prelude.{◌≡◌, ◌⊎◌, IfOk, IfErr};
 ghost use Rattle.toml.specs.View.{table_view};
-ghost use Rattle.board_config.specs.Faults.{ReportsFirst};
-ghost use Rattle.board_config.specs.Keys.{table_of, table_fault, first_key};
-ghost use Rattle.board_config.specs.Board.{HasKeys, IsBoard, IsLawful};
+ghost use Rattle.board_config.specs.{Faults.{ReportsFirst}, Keys.{table_of, table_fault, first_key}, Board.{HasKeys, IsBoard, IsLawful}};
 
 use crate::board::{Board, BoardFault};
 use crate::memory_keys::read_memory;

@@ -1,8 +1,6 @@
 ghost use Rattle.std.specs.Prelude.{◌≡◌, map, option_copied};
 ghost use Rattle.toml.specs.View.{table_view};
-ghost use Rattle.board_config.specs.Faults.{ReportsFirst};
-ghost use Rattle.board_config.specs.Values.{members_of};
-ghost use Rattle.board_config.specs.Keys.{prices_in, is_among, least_unknown, names_fault, unknown_fault};
+ghost use Rattle.board_config.specs.{Faults.{ReportsFirst}, Values.{members_of}, Keys.{prices_in, is_among, least_unknown, names_fault, unknown_fault}};
 
 use crate::board::BoardFault;
 use std::alloc::Global;

@@ -1,8 +1,6 @@
 ghost use Rattle.std.specs.Prelude.{◌≡◌, IfOk, map, option_map, string_bytes};
-ghost use Rattle.toml.specs.Data.{get_member, as_str};
-ghost use Rattle.toml.specs.View.{view, table_view};
-ghost use Rattle.board_config.specs.Board.{plain_texts, plain_regions};
-ghost use Rattle.board_config.specs.Values.{data_of, elements_of, all_of, pair_of, pairs_of, texts_of, text_lists_of};
+ghost use Rattle.toml.specs.{Data.{get_member, as_str}, View.{view, table_view}};
+ghost use Rattle.board_config.specs.{Board.{plain_texts, plain_regions}, Values.{data_of, elements_of, all_of, pair_of, pairs_of, texts_of, text_lists_of}};
 
 use std::alloc::{AllocError, Global};
 use toml::{Table, Value};

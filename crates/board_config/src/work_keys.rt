@@ -1,12 +1,6 @@
 ghost use Rattle.std.specs.Prelude.{◌≡◌, IfOk, string_bytes};
-ghost use Rattle.toml.specs.Data.{as_integer};
-ghost use Rattle.toml.specs.View.{view, table_view};
-ghost use Rattle.board_config.specs.Faults.{Reads, ReadsAs, ReportsFirst};
-ghost use Rattle.board_config.specs.Values.{data_of};
-ghost use Rattle.board_config.specs.Limits.{within};
-ghost use Rattle.board_config.specs.Keys.{typed_value, key_value, driver_of, regions_of, steps_of, nodes_of, twins_of, work_fault};
-ghost use Rattle.board_config.specs.Board.{plain_regions};
-ghost use Rattle.board_config.specs.Groups.{HasWork};
+ghost use Rattle.toml.specs.{Data.{as_integer}, View.{view, table_view}};
+ghost use Rattle.board_config.specs.{Faults.{Reads, ReadsAs, ReportsFirst}, Values.{data_of}, Limits.{within}, Keys.{typed_value, key_value, driver_of, regions_of, steps_of, nodes_of, twins_of, work_fault}, Board.{plain_regions}, Groups.{HasWork}};
 
 use crate::board::BoardFault;
 use crate::limits::Bounds;
@@ -75,21 +69,13 @@ fn regions_key(alloc: Global, table: &Table) -> Result<Vec<Vec<String>>, BoardFa
 fn steps_key(table: &Table) -> Result<u64, BoardFault>
     ensures { Reads result (steps_of (table_view table.now)) }
 {
-    let bounds = Bounds {
-        least: 1,
-        most: 1_000_000_000,
-    };
-    number_key(find(table, "steps"), 18, bounds, 100_000_000)
+    number_key(find(table, "steps"), 18, 1_000_000_000, 100_000_000)
 }
 
 fn nodes_key(table: &Table) -> Result<u64, BoardFault>
     ensures { Reads result (nodes_of (table_view table.now)) }
 {
-    let bounds = Bounds {
-        least: 1,
-        most: 10_000_000,
-    };
-    number_key(find(table, "nodes"), 19, bounds, 100_000)
+    number_key(find(table, "nodes"), 19, 10_000_000, 100_000)
 }
 
 fn twins_key(table: &Table) -> Result<bool, BoardFault>
@@ -98,17 +84,12 @@ fn twins_key(table: &Table) -> Result<bool, BoardFault>
     flag_key(find(table, "twins"), 20)
 }
 
-/// The number of a key, or its default where the key has no value.
-fn number_key(
-    value: Option<&Value>,
-    key: u32,
-    bounds: Bounds,
-    default: u32,
-) -> Result<u64, BoardFault>
-    ensures { Reads result (key_value key default as_integer (within bounds.least bounds.most) (data_of value.entry)) }
+/// The number of a key, from 1 to `most`, or its default where the key has no value.
+fn number_key(value: Option<&Value>, key: u32, most: u32, default: u32) -> Result<u64, BoardFault>
+    ensures { Reads result (key_value key default as_integer (within 1 most) (data_of value.entry)) }
 {
     match value {
-        Some(value) => Ok(u64::from(number(value, key, bounds)?)),
+        Some(value) => Ok(u64::from(number(value, key, Bounds { least: 1, most })?)),
         None => Ok(u64::from(default)),
     }
 }

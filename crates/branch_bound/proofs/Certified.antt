@@ -1,12 +1,12 @@
 -- From the searches of both sides to a certificate.
-use Rattle.std.proofs.Common.{ℕ, ◌≤◌, Option, Some, None, option_map}
+use Rattle.std.proofs.Common.{◌≡◌, ℕ, ◌≤◌, Option, Some, None, option_map, subst}
 use Rattle.placement_programme.specs.Plain.{PlainSide}
 use Rattle.placement_programme.specs.Views.{plain_side, plain_programme, plain_choice}
 use Rattle.placement_programme.specs.declared.sides.Programme.{Programme}
 use Rattle.certificate_checker.specs.Nodes.{PlainTree, PlainCertificate}
 use Rattle.certificate_checker.specs.Reading.{most_levels}
 use Rattle.certificate_checker.specs.Shows.{all_free, ShownBy, Shows}
-use Rattle.certificate_checker.specs.Spelling.{AreTreesInRange, IsInRange}
+use Rattle.certificate_checker.specs.Spelling.{IsTreeInRange, AreTreesInRange, IsInRange}
 use Rattle.certificate_checker.specs.Views.{plain_tree}
 use Rattle.certificate_checker.specs.declared.trees.Tree.{Tree}
 use Rattle.branch_bound.specs.Incumbents.{IsSound}
@@ -34,3 +34,11 @@ certified p best off on sound shown_off shown_on levels =
       shows = (best.gain, record { accepted = sound; off = shown_off.0; on = shown_on });
       range = record { few = listed.few; numbers = listed.numbers; trees = levels };
     }
+
+-- the tree of the side without overlay was found, and what a certificate has to say of the other one
+pub round_certified : (p : Programme) (best : Incumbent) (found : Option Tree) (off : Tree) (on : Option PlainTree) → IsSound (plain_programme p) best → found ≡ Some off → ShownBelow (plain_side p.off) best.gain (all_free (plain_side p.off)) most_levels found → ShownBy (option_map plain_side p.on) best.gain on → (IsTreeInRange most_levels (plain_tree off) → AreTreesInRange (Some (plain_tree off)) on)
+    → Shows (plain_programme p) record { choice = plain_choice best.choice; off = Some (plain_tree off); on = on } × IsInRange record { choice = plain_choice best.choice; off = Some (plain_tree off); on = on }
+round_certified p best found off on sound is shown_off shown_on levels =
+    let first = subst (λ t. ShownBelow (plain_side p.off) best.gain (all_free (plain_side p.off)) most_levels t) is shown_off in
+    let whole = certified p best off on sound first shown_on (levels first.1) in
+    (whole.shows, whole.range)

@@ -1,5 +1,5 @@
 -- Marks made of a choice take what it takes.
-use Rattle.std.proofs.Common.{◌≡◌, ◌≢◌, ◌∙◌, inl, inr, ℕ, zero, suc, ◌<◌, Bool, true, false, List, [], ◌∷◌, length, take, get_or, slice_set, Some, sym, ap, refl, subst, arith}
+use Rattle.std.proofs.Common.{◌≡◌, ◌∙◌, inl, inr, ℕ, zero, suc, ◌<◌, ◌==◌, if◌then◌else◌, Bool, true, false, List, [], ◌∷◌, length, take, get_or, slice_set, Some, sym, ap, refl, subst, arith}
 use Rattle.std.specs.List.{sum_by}
 use Rattle.std.proofs.lemmas.Bool.{cases_eq}
 use Rattle.std.proofs.lemmas.Bool.Decides.{nat_tests}
@@ -21,35 +21,35 @@ use Rattle.branch_bound.proofs.IncumbentLemmas.{new_incumbent}
 use Rattle.branch_bound.proofs.SolveLemmas.{gain_back}
 
 -- one number more is taken
-takes_here : (ks : List ℕ) (i j : ℕ) → i < length ks → get_or ks i 0 ≡ j → takes (take (suc i) ks) j ≡ true
-takes_here [] i j inside is = absurd (omega (arith, inside))
-takes_here (k ∷ ks) zero j inside is = grind (arith, nat_tests, is)
-takes_here (k ∷ ks) (suc i) j inside is =
-    let rest = takes_here ks i j (omega (arith, inside)) is in
+takes_more : (ks : List ℕ) (i j : ℕ) → i < length ks → takes (take (suc i) ks) j ≡ (if get_or ks i 0 == j then true else takes (take i ks) j)
+takes_more [] i j inside = absurd (omega (arith, inside))
+takes_more (k ∷ ks) zero j inside =
     elim (cases_eq k j) [
       | inl same ↦ grind (arith, nat_tests, same)
-      | inr other ↦ grind (arith, nat_tests, other, rest)
+      | inr other ↦ grind (arith, nat_tests, other)
     ]
-
-takes_before : (ks : List ℕ) (i j : ℕ) → i < length ks → get_or ks i 0 ≢ j → takes (take (suc i) ks) j ≡ takes (take i ks) j
-takes_before [] i j inside other = absurd (omega (arith, inside))
-takes_before (k ∷ ks) zero j inside other = grind (arith, nat_tests, other)
-takes_before (k ∷ ks) (suc i) j inside other =
-    let rest = takes_before ks i j (omega (arith, inside)) other in
+takes_more (k ∷ ks) (suc i) j inside =
+    let rest = takes_more ks i j (omega (arith, inside)) in
     elim (cases_eq k j) [
-      | inl same ↦ grind (arith, nat_tests, same)
+      | inl same ↦ elim (cases_eq (get_or ks i 0) j) [
+        | inl again ↦ grind (arith, nat_tests, same, again)
+        | inr other ↦ grind (arith, nat_tests, same, other)
+      ]
       | inr different ↦ grind (arith, nat_tests, different, rest)
     ]
 
 marked_here : (s : PlainSide) (ks : List ℕ) (i k : ℕ) (marks : List Fixing) → i < length ks → k ≡ get_or ks i 0 → k < length marks → AreMarksOf s (take i ks) marks → (j : ℕ) → j < length s.vars → fixing_of (slice_set marks k One) j ≡ mark_if (takes (take (suc i) ks) j)
 marked_here s ks i k marks inside is room so_far j below =
+    let more = takes_more ks i j inside in
     elim (cases_eq j k) [
       | inl same ↦
-          let taken_now = takes_here ks i j inside (sym is ∙ sym same) in
-          subst (λ n. fixing_of (slice_set marks k One) n ≡ One) (sym same) (mark_same marks k One room) ∙ sym (ap mark_if taken_now)
+          let there : get_or ks i 0 ≡ j = sym is ∙ sym same in
+          let now : takes (take (suc i) ks) j ≡ true = grind (arith, nat_tests, more, there) in
+          subst (λ n. fixing_of (slice_set marks k One) n ≡ One) (sym same) (mark_same marks k One room) ∙ sym (ap mark_if now)
       | inr other ↦
-          let same = takes_before ks i j inside (λ there. other (sym there ∙ sym is)) in
-          mark_other marks k One j other ∙ (so_far.exact j below ∙ sym (ap mark_if same))
+          let away : get_or ks i 0 ≡ j → ⊥ = λ there. other (sym there ∙ sym is) in
+          let as_before : takes (take (suc i) ks) j ≡ takes (take i ks) j = grind (arith, nat_tests, more, away) in
+          mark_other marks k One j other ∙ (so_far.exact j below ∙ sym (ap mark_if as_before))
     ]
 
 pub marked_more : (s : PlainSide) (ks : List ℕ) (i next k : ℕ) (marks : List Fixing) → next ≡ suc i → i < length ks → k ≡ get_or ks i 0 → k < length marks → AreMarksOf s (take i ks) marks → (j : ℕ) → j < length s.vars → fixing_of (slice_set marks k One) j ≡ mark_if (takes (take next ks) j)

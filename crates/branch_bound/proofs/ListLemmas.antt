@@ -6,11 +6,11 @@ use Rattle.std.proofs.lemmas.Bool.{cases_lt}
 use Rattle.std.proofs.lemmas.List.{length-replicate}
 use Rattle.std.proofs.lemmas.List.Sums.{count_by-le-length}
 use Rattle.placement_programme.specs.Plain.{PlainSide, PlainProgramme, PlainChoice}
-use Rattle.placement_programme.specs.Programme.{gain_at, weight_at}
+use Rattle.placement_programme.specs.Programme.{gain_at}
 use Rattle.placement_programme.specs.Sums.{sum_below}
 use Rattle.certificate_checker.specs.Nodes.{PlainCertificate}
 use Rattle.certificate_checker.specs.Shows.{all_free}
-use Rattle.certificate_checker.specs.Rules.{if_one, bound, kept_at, moved_at, OverHolds, DualHolds}
+use Rattle.certificate_checker.specs.Rules.{load_of, bound, kept_at, moved_at, OverHolds, DualHolds}
 use Rattle.certificate_checker.proofs.Children.{zero_not_free}
 use Rattle.branch_bound.specs.Greatest.{Greatest, GainsMore}
 use Rattle.branch_bound.specs.Assignments.{FailsEveryLeafRule, IsGreatestFree}
@@ -39,7 +39,7 @@ free_decided Free = inl refl
 over_decided : (s : PlainSide) (marks : List Fixing) (n : ℕ) → n ≤ length s.rows → ((row : ℕ) × OverHolds s marks row) ⊎ ((row : ℕ) → row < n → OverHolds s marks row → ⊥)
 over_decided s marks zero inside = inr (λ row below over. absurd (omega (arith, below)))
 over_decided s marks (suc n) inside =
-    elim (cases_lt (slice_index s.rows n) (sum_below (length s.vars) (λ j. if_one (fixing_of marks j) (weight_at s.vars n j)))) [
+    elim (cases_lt (slice_index s.rows n) (load_of s marks n)) [
       | inl exceeded ↦ inl (n, record { inside = omega (arith, inside); exceeded = exceeded })
       | inr held ↦
           elim (over_decided s marks n (omega (arith, inside))) [

@@ -1,10 +1,17 @@
 -- Loads of rows, added up by the weights of one variable after another.
 use Rattle.std.proofs.Common.{◌≡◌, ◌∙◌, inl, inr, ℕ, suc, ◌+◌, ◌-◌, ◌<◌, ◌≤◌, List, length, take, get_or, slice_index, slice_set, sym, subst, arith, get_or-set_other, get_or-set_same}
 use Rattle.std.proofs.lemmas.Bool.{cases_eq}
-use Rattle.placement_programme.specs.Bounds.{RowsWithin, row_of, value_of}
+use Rattle.placement_programme.specs.Bounds.{RowsWithin, AreWeights, row_of, value_of}
 use Rattle.placement_programme.specs.Programme.{weight_in}
+use Rattle.placement_programme.proofs.AscendLemmas.{row_below}
 use Rattle.placement_programme.proofs.WeightLemmas.{weight_found}
 use Rattle.certificate_checker.proofs.EntryLemmas.{weight_before, weight_here, weight_disjoint, priced_more}
+
+-- an entry's row is one of those that are loaded
+pub row_inside : (ws : List (ℕ × ℕ)) (old now : List ℕ) (i : ℕ) → AreWeights (length old) ws → i < length ws → length now ≡ length old → row_of (get_or ws i (0, 0)) < length now
+row_inside ws old now i weights inside room =
+    let below = row_below 0 (length old) ws i (0, 0) weights.ascending inside in
+    omega (arith, below, room)
 
 -- one more entry added
 pub added_more : (high : ℕ) (ws : List (ℕ × ℕ)) (old now : List ℕ) (i next at value : ℕ) (d : ℕ × ℕ) → RowsWithin 0 high ws → next ≡ suc i → i < length ws → at < length now → at ≡ row_of (get_or ws i d) → value ≡ value_of (get_or ws i d) → ((row : ℕ) → slice_index now row ≡ slice_index old row + weight_in (take i ws) row) → (row : ℕ) → slice_index (slice_set now at (slice_index now at + value)) row ≡ slice_index old row + weight_in (take next ws) row

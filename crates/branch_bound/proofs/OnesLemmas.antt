@@ -9,7 +9,7 @@ use Rattle.placement_programme.specs.Bounds.{AscendWithin, IsWithinBounds}
 use Rattle.placement_programme.specs.Programme.{gain_at, weight_at, Fits, taken_gains}
 use Rattle.placement_programme.specs.Sums.{sum_below}
 use Rattle.placement_programme.proofs.SumLemmas.{taken_gains_below}
-use Rattle.certificate_checker.specs.Rules.{if_one, OverHolds}
+use Rattle.certificate_checker.specs.Rules.{if_one, load_of, OverHolds}
 use Rattle.certificate_checker.specs.Shows.{all_free}
 use Rattle.certificate_checker.proofs.Children.{mark_same, mark_other}
 use Rattle.certificate_checker.proofs.Least.{free_at}
@@ -43,7 +43,7 @@ ones_ascend zero marks = tt
 ones_ascend (suc n) marks = ascend_join 0 n (fixing_of marks n) (ones_below n marks) (omega arith) (ones_ascend n marks)
 
 -- an assignment that exceeds no row takes what fits, and the other way round
-pub fits_from : (s : PlainSide) (marks : List Fixing) → ((row : ℕ) → row < length s.rows → sum_below (length s.vars) (λ j. if_one (fixing_of marks j) (weight_at s.vars row j)) ≤ slice_index s.rows row) → Fits s (taken s marks)
+pub fits_from : (s : PlainSide) (marks : List Fixing) → ((row : ℕ) → row < length s.rows → load_of s marks row ≤ slice_index s.rows row) → Fits s (taken s marks)
 fits_from s marks held = record {
   numbers = ones_ascend (length s.vars) marks;
   rows = λ row inside.

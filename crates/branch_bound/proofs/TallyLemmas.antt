@@ -8,13 +8,13 @@ use Rattle.placement_programme.specs.Sums.{sum_below}
 use Rattle.placement_programme.proofs.TakeLemmas.{below_same, below_at_most}
 use Rattle.placement_programme.proofs.WeightLemmas.{weights_are, weight_small, weight_missing}
 use Rattle.certificate_checker.specs.Fixings.{fixing_of}
-use Rattle.certificate_checker.specs.Rules.{if_one, kept, kept_at, OverHolds}
+use Rattle.certificate_checker.specs.Rules.{if_one, load_of, kept, kept_at, OverHolds}
 use Rattle.certificate_checker.specs.declared.fixings.Fixing.{Fixing}
 use Rattle.certificate_checker.specs.declared.fixings.Fixing.TheVariants.{Zero, One}
 use Rattle.certificate_checker.proofs.Children.{mark_same, mark_other}
 use Rattle.certificate_checker.proofs.Limits.{gain_small, gains_so_far, kept_at_most, one_at_most}
 use Rattle.branch_bound.specs.Assignments.{taken}
-use Rattle.branch_bound.specs.Tallies.{load_of, AreTallies, ExceedsOnlyRowsOf}
+use Rattle.branch_bound.specs.Tallies.{AreTallies, ExceedsOnlyRowsOf}
 use Rattle.branch_bound.specs.declared.assignments.Assignment.{Assignment}
 use Rattle.branch_bound.proofs.OnesLemmas.{fits_from, ones_sum, gains_are}
 
@@ -34,7 +34,7 @@ sum_set f marks j new (suc n) below inside =
           omega (arith, rest, here)
     ]
 
--- the same where the changed mark is known
+-- a sum over the marks where the changed mark is known
 sum_changed : (f : Fixing → ℕ → ℕ) (marks : List Fixing) (j : ℕ) (old new : Fixing) (n before after : ℕ) → j < n → j < length marks → fixing_of marks j ≡ old → before ≡ sum_below n (λ k. f (fixing_of marks k) k) → after + f old j ≡ before + f new j → after ≡ sum_below n (λ k. f (fixing_of (slice_set marks j new) k) k)
 sum_changed f marks j old new n before after below inside is was change =
     let step = sum_set f marks j new n below inside in
@@ -59,6 +59,15 @@ tallies_set s a b j old new below tallies is marks room loads gains bound =
       gains = subst (λ ms. b.gains ≡ sum_below (length s.vars) (λ k. if_one (fixing_of ms k) (gain_at s.vars k))) (sym marks) (sum_changed (λ m k. if_one m (gain_at s.vars k)) a.marks.items j old new (length s.vars) a.gains b.gains below inside is tallies.gains gains);
       bound = subst (λ ms. b.bound ≡ sum_below (length s.vars) (kept_at s ms 1 [])) (sym marks) (sum_changed (λ m k. kept m (1 * gain_at s.vars k) 0) a.marks.items j old new (length s.vars) a.bound b.bound below inside is tallies.bound bound);
     }
+
+-- a row's load with and without the weight of a variable
+pub load_apart : (s : PlainSide) (j : ℕ) (ws : List (ℕ × ℕ)) (light heavy a b : List ℕ) → light ≡ a → heavy ≡ b → ws ≡ weights_at s.vars j → ((row : ℕ) → slice_index heavy row ≡ slice_index light row + weight_in ws row) → (row : ℕ) → slice_index b row ≡ slice_index a row + weight_at s.vars row j
+load_apart s j ws light heavy a b of_light of_heavy is sums row =
+    let under = ap (λ l. slice_index l row) of_light in
+    let over = ap (λ l. slice_index l row) of_heavy in
+    let weight = ap (λ l. weight_in l row) is in
+    let sum = sums row in
+    omega (arith, under, over, weight, sum)
 
 -- a term is no more than the sum
 term_below : (f : ℕ → ℕ) (j n : ℕ) → j < n → f j ≤ sum_below n f

@@ -2,10 +2,9 @@
 use Rattle.std.proofs.Common.{◌≡◌, ◌∙◌, inl, inr, ℕ, zero, suc, ◌+◌, ◌*◌, ◌<◌, ◌≤◌, false, List, [], ◌++◌, length, slice_index, slice_set, sym, ap, refl, subst, arith}
 use Rattle.std.specs.List.{count_by}
 use Rattle.placement_programme.specs.Plain.{PlainSide}
-use Rattle.placement_programme.specs.Programme.{gain_at, weight_at, Fits, taken_gains}
-use Rattle.placement_programme.specs.Sums.{sum_below}
+use Rattle.placement_programme.specs.Programme.{gain_at, Fits, taken_gains}
 use Rattle.placement_programme.proofs.TakeLemmas.{below_at_most}
-use Rattle.certificate_checker.specs.Rules.{if_one, kept, kept_at, OverHolds, LeafHolds, DualHolds}
+use Rattle.certificate_checker.specs.Rules.{if_one, load_of, kept, kept_at, OverHolds, LeafHolds, DualHolds}
 use Rattle.certificate_checker.specs.Shows.{all_free}
 use Rattle.certificate_checker.proofs.Failures.{set_twice}
 use Rattle.std.proofs.lemmas.Bool.{cases_eq, cases_lt}
@@ -22,7 +21,7 @@ use Rattle.branch_bound.proofs.MarkLemmas.{fewer_free}
 pub zero_marks : (marks now : List Fixing) (j : ℕ) → now ≡ slice_set marks j One → slice_set now j Zero ≡ slice_set marks j Zero
 zero_marks marks now j is = ap (λ l. slice_set l j Zero) is ∙ set_twice marks j One Zero
 
--- the same of a full assignment that is known to gain no more
+-- a full assignment that is known to gain no more keeps the rule of a leaf
 pub leaf_known : (s : PlainSide) (best : ℕ) (marks : List Fixing) → Fits s (taken s marks) → EntryBelow s best marks → ((j : ℕ) → j < length s.vars → fixing_of marks j ≡ Free → ⊥) → LeafHolds s best marks
 leaf_known s best marks fits below full =
     record { full = full; gains = let sum = gains_are s marks in let most = below fits in omega (arith, sum, most) }
@@ -46,7 +45,7 @@ zero_below (suc n) marks j unfixed =
 pub within_fits : (s : PlainSide) (marks : List Fixing) → ((row : ℕ) → OverHolds s marks row → ⊥) → Fits s (taken s marks)
 within_fits s marks within =
     fits_from s marks (λ row inside.
-    elim (cases_lt (slice_index s.rows row) (sum_below (length s.vars) (λ j. if_one (fixing_of marks j) (weight_at s.vars row j)))) [
+    elim (cases_lt (slice_index s.rows row) (load_of s marks row)) [
       | inl over ↦ absurd (within row record { inside = inside; exceeded = over })
       | inr held ↦ held
     ])

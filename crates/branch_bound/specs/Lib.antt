@@ -1,3 +1,4 @@
+-- Searches for a best choice: what each tells of the nodes that it visits, and the certificate at the end.
 pub use Rattle.placement_programme.specs.Plain
 pub use Rattle.certificate_checker.specs.Nodes
 pub use Rattle.certificate_checker.specs.Rules

@@ -14,6 +14,7 @@ use Rattle.branch_bound.specs.Ranking.{PassedOver, number_at}
 use Rattle.branch_bound.specs.Tallies.{ExceedsOnlyRowsOf}
 use Rattle.branch_bound.specs.declared.ranking.Ranked.{Ranked}
 use Rattle.branch_bound.specs.declared.incumbents.Incumbent.{Incumbent}
+use Rattle.branch_bound.specs.declared.running.Running.{Running}
 use Rattle.branch_bound.specs.declared.visiting.Visit.{Visit}
 use Rattle.branch_bound.specs.declared.visiting.Visit.TheVariants.{Closed, Open}
 use Rattle.certificate_checker.specs.declared.fixings.Fixing.{Fixing}
@@ -75,3 +76,11 @@ pub record IsIncumbent (p : PlainProgramme) (best : Incumbent) : Type 0 where
 abbrev pub KeepsIncumbent : Bool → PlainSide → Incumbent → Incumbent → Type 0
 KeepsIncumbent on s old new =
     (p : PlainProgramme) → side_for p on ≡ Some s → IsIncumbent p old → IsIncumbent p new
+
+-- a node is tried: what its assignment takes gains no more than the incumbent behind it, which gains no less than that
+-- before it, and no node is spent
+pub record TriesNode (on : Bool) (s : PlainSide) (marks : List Fixing) (old new : Running) : Type 0 where
+  pub here : EntryBelow s new.best.gain marks
+  pub grows : old.best.gain ≤ new.best.gain
+  pub left : new.left ≡ old.left
+  pub keeps : KeepsIncumbent on s old.best new.best

@@ -1,16 +1,19 @@
 -- What the search of a programme ends with.
-use Rattle.std.specs.Prelude.{◌≡◌, ◌⊎◌, ℕ, ◌+◌, ◌<◌, ◌≤◌, pos, List, length, Option, Some, None, option_map}
+use Rattle.std.specs.Prelude.{◌≡◌, ◌⊎◌, ℕ, ◌+◌, ◌^◌, ◌<◌, ◌≤◌, ◌≤ℤ◌, pos, List, length, Option, Some, None, option_map}
 use Rattle.placement_programme.specs.Plain.{PlainSide, PlainProgramme, PlainChoice}
-use Rattle.placement_programme.specs.Programme.{gain}
+use Rattle.placement_programme.specs.Programme.{IsFeasible, gain}
+use Rattle.placement_programme.specs.Views.{plain_choice}
 use Rattle.certificate_checker.specs.Nodes.{PlainCertificate}
 use Rattle.certificate_checker.specs.Shows.{all_free, ShownBy, Shows}
-use Rattle.certificate_checker.specs.Spelling.{IsTreeInRange}
+use Rattle.certificate_checker.specs.Spelling.{IsTreeInRange, IsInRange}
 use Rattle.certificate_checker.specs.Reading.{most_levels}
-use Rattle.certificate_checker.specs.Views.{plain_tree}
+use Rattle.certificate_checker.specs.Views.{plain_tree, plain_certificate}
 use Rattle.certificate_checker.specs.declared.trees.Tree.{Tree}
 use Rattle.branch_bound.specs.Greedy.{IsStart}
-use Rattle.branch_bound.specs.Entries.{IsStated, Reaches, FailsFirst}
+use Rattle.branch_bound.specs.Entries.{all_vars, IsStated, Reaches, FailsFirst}
+use Rattle.branch_bound.specs.Growing.{CannotGrow}
 use Rattle.branch_bound.specs.Searching.{Reports, HasLevels}
+use Rattle.branch_bound.specs.declared.outcomes.Found.{Found}
 use Rattle.branch_bound.specs.declared.outcomes.Trees.{Trees}
 use Rattle.branch_bound.specs.declared.outcomes.Status.{Status}
 use Rattle.branch_bound.specs.declared.outcomes.Status.TheVariants.{Optimal, BestFound}
@@ -76,3 +79,14 @@ EndsWithin p n c =
 abbrev pub Certifies : PlainProgramme → ℕ → PlainCertificate → Status → Type 0
 Certifies p n c Optimal = Shows p c
 Certifies p n c (BestFound m) = (m ≡ n) × (c.off ≡ None) × (c.on ≡ None) × EndsWithin p n c.choice
+
+-- what a search of at most n nodes in the order of the stated list ends with
+pub record IsSearched (p : PlainProgramme) (n : ℕ) (found : Found) : Type 0 where
+  pub feasible : IsFeasible p (plain_choice found.choice)
+  pub not_below_0 : pos 0 ≤ℤ gain p (plain_choice found.choice)
+  pub reach : ReachesFirst p n (plain_choice found.choice)
+  pub grown : CannotGrow p (plain_choice found.choice)
+  pub same : plain_choice found.certificate.choice ≡ plain_choice found.choice
+  pub range : IsInRange (plain_certificate found.certificate)
+  pub status : Certifies p n (plain_certificate found.certificate) found.status
+  pub enough : 2 ^ (all_vars p + 1) ≤ n → found.status ≡ Optimal

@@ -1,11 +1,7 @@
-ghost use Rattle.std.specs.Prelude.{◌≡◌, ◌<◌, ◌≤◌, length, slice_set, MatchOption, IfOk};
-ghost use Rattle.placement_programme.specs.Programme.{Fits};
-ghost use Rattle.placement_programme.specs.Views.{plain_side};
-ghost use Rattle.certificate_checker.specs.Fixings.{fixing_of};
-ghost use Rattle.certificate_checker.specs.declared.fixings.Fixing.TheVariants.{Zero, One, Free};
-ghost use Rattle.certificate_checker.specs.Rules.{OverHolds};
-ghost use Rattle.branch_bound.specs.Assignments.{taken};
-ghost use Rattle.branch_bound.specs.Tallies.{AreTallies, ExceedsOnlyRowsOf};
+ghost use Rattle.std.specs.Prelude.{◌≡◌, ◌<◌, ◌≤◌, length, MatchOption, IfOk};
+ghost use Rattle.placement_programme.specs.{Programme.{Fits}, Views.{plain_side}};
+ghost use Rattle.certificate_checker.specs.{Fixings.{fixing_of}, declared.fixings.Fixing.TheVariants.{Zero, One, Free}, Rules.{OverHolds}};
+ghost use Rattle.branch_bound.specs.{Assignments.{taken}, Tallies.{AreTallies, ExceedsOnlyRowsOf, Fixes}};
 
 use crate::closing::open_gains;
 use crate::loads::{add_weights, first_exceeded, loads_of, subtract_weights};
@@ -65,8 +61,7 @@ impl Assignment {
         requires tallies { AreTallies (plain_side side.now) self.old }
         requires number { number < length (plain_side side.now).vars }
         requires one { fixing_of self.old.marks.items number ≡ One }
-        ensures tallies { AreTallies (plain_side side.now) self.new }
-        ensures marks { self.new.marks.items ≡ slice_set self.old.marks.items number Zero }
+        ensures { Fixes (plain_side side.now) number Zero self.old self.new }
     {
         subtract_weights(&mut self.loads, weights_of_var(side, number));
         let gain = gain_of_var(side, number);
@@ -79,15 +74,14 @@ impl Assignment {
     pub(crate) fn fix_zero(&mut self, side: &Side, number: usize)
         requires tallies { AreTallies (plain_side side.now) self.old }
         requires number { number < length (plain_side side.now).vars }
-        ensures tallies { AreTallies (plain_side side.now) self.new }
-        ensures marks { self.new.marks.items ≡ slice_set self.old.marks.items number Zero }
+        ensures { Fixes (plain_side side.now) number Zero self.old self.new }
     {
         match fixing_of(&self.marks, number) {
             Fixing::Zero => self.marks[number] = Fixing::Zero,
             Fixing::One => self.take_off(side, number),
             Fixing::Free => {
-                self.bound -= gain_of_var(side, number);
                 self.marks[number] = Fixing::Zero;
+                self.bound -= gain_of_var(side, number);
             }
         }
     }
@@ -96,8 +90,7 @@ impl Assignment {
     pub(crate) fn fix_one(&mut self, side: &Side, number: usize)
         requires tallies { AreTallies (plain_side side.now) self.old }
         requires number { number < length (plain_side side.now).vars }
-        ensures tallies { AreTallies (plain_side side.now) self.new }
-        ensures marks { self.new.marks.items ≡ slice_set self.old.marks.items number One }
+        ensures { Fixes (plain_side side.now) number One self.old self.new }
     {
         self.fix_zero(side, number);
         add_weights(&mut self.loads, weights_of_var(side, number));
@@ -111,8 +104,7 @@ impl Assignment {
     pub(crate) fn free(&mut self, side: &Side, number: usize)
         requires tallies { AreTallies (plain_side side.now) self.old }
         requires number { number < length (plain_side side.now).vars }
-        ensures tallies { AreTallies (plain_side side.now) self.new }
-        ensures marks { self.new.marks.items ≡ slice_set self.old.marks.items number Free }
+        ensures { Fixes (plain_side side.now) number Free self.old self.new }
     {
         self.fix_zero(side, number);
         self.bound += gain_of_var(side, number);
@@ -123,8 +115,7 @@ impl Assignment {
     pub(crate) fn fix(&mut self, side: &Side, number: usize, fixing: Fixing)
         requires tallies { AreTallies (plain_side side.now) self.old }
         requires number { number < length (plain_side side.now).vars }
-        ensures tallies { AreTallies (plain_side side.now) self.new }
-        ensures marks { self.new.marks.items ≡ slice_set self.old.marks.items number fixing }
+        ensures { Fixes (plain_side side.now) number fixing self.old self.new }
     {
         match fixing {
             Fixing::Zero => self.fix_zero(side, number),

@@ -98,8 +98,9 @@ fn entries(
     let mut entries = Vec::new(alloc);
     for place in 0..numbered(multipliers.len()) {
         let multiplier = number_at(multipliers, place as usize);
-        if multiplier > 0 {
-            entries.push((layout.rows.number_of(place), multiplier))?;
+        match layout.rows.number_of(place) {
+            Some(number) if multiplier > 0 => entries.push((number, multiplier))?,
+            _ => {}
         }
     }
     Ok(entries)
@@ -188,7 +189,7 @@ impl DualBound {
         let node = Node::of(alloc, layout, marks, target)?;
         if let Some(place) = node.exceeded {
             let mut found = nothing();
-            found.exceeded = Some(layout.rows.number_of(place));
+            found.exceeded = layout.rows.number_of(place);
             return Ok(found);
         }
         let live = LiveVars::of(alloc, layout, &node, &self.multipliers)?;

@@ -1,10 +1,7 @@
 ghost use Rattle.std.specs.Prelude.{◌≡◌, ◌⊎◌, ◌^◌, ◌≤◌, Some, None, MatchOption, IfSome, IfOk};
 ghost use Rattle.placement_programme.specs.Views.{plain_side, plain_programme};
-ghost use Rattle.certificate_checker.specs.Shows.{all_free};
-ghost use Rattle.certificate_checker.specs.Reading.{most_levels};
-ghost use Rattle.branch_bound.specs.Assignments.{FailsEveryLeafRule};
-ghost use Rattle.branch_bound.specs.Searching.{Closes, HasLevels};
-ghost use Rattle.branch_bound.specs.Solving.{ClosesSide, ClosesOn, LacksTree, AreTreesOf, FailsSome};
+ghost use Rattle.certificate_checker.specs.{Shows.{all_free}, Reading.{most_levels}};
+ghost use Rattle.branch_bound.specs.{Assignments.{FailsEveryLeafRule}, Searching.{Closes, HasLevels}, Solving.{ClosesSide, ClosesOn, LacksTree, AreTreesOf, FailsSome}};
 
 use crate::assignments::Assignment;
 use crate::closing::plain_dual;

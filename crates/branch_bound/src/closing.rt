@@ -1,9 +1,7 @@
 ghost use Rattle.std.specs.Prelude.{◌≡◌, ◌^◌, ◌<◌, ◌≤◌, ◌↔◌, IsTrue, [], length, MatchOption};
-ghost use Rattle.placement_programme.specs.Sums.{sum_below};
-ghost use Rattle.placement_programme.specs.Views.{plain_side};
+ghost use Rattle.placement_programme.specs.{Sums.{sum_below}, Views.{plain_side}};
 ghost use Rattle.certificate_checker.specs.Rules.{kept_at, DualHolds};
-ghost use Rattle.branch_bound.specs.Searching.{Closes};
-ghost use Rattle.branch_bound.specs.Tallies.{AreTallies};
+ghost use Rattle.branch_bound.specs.{Searching.{Closes}, Tallies.{AreTallies}};
 
 use crate::assignments::Assignment;
 use certificate_checker::{Fixing, Tree, fixing_of, gain_of_var, var_count};

@@ -1,10 +1,7 @@
 ghost use Rattle.std.specs.Prelude.{◌^◌, ◌<◌, ◌≤◌, ◌↔◌, IsTrue, length, IfSome, IfOk};
 ghost use Rattle.std.specs.List.{All};
-ghost use Rattle.placement_programme.specs.Bounds.{value_of};
-ghost use Rattle.placement_programme.specs.Views.{plain_side};
-ghost use Rattle.certificate_checker.specs.Rules.{BranchHolds, DualHolds};
-ghost use Rattle.certificate_checker.specs.RowWise.{rows_of, IsOfSide};
-ghost use Rattle.certificate_checker.specs.Spelling.{IsDualInRange};
+ghost use Rattle.placement_programme.specs.{Bounds.{value_of}, Views.{plain_side}};
+ghost use Rattle.certificate_checker.specs.{Rules.{BranchHolds, DualHolds}, RowWise.{rows_of, IsOfSide}, Spelling.{IsDualInRange}};
 ghost use Rattle.branch_bound.specs.Visits.{ShownBelow, IsVisited};
 
 use crate::bounding::DualSolution;
@@ -34,22 +31,21 @@ fn are_small(multipliers: &[(u32, u64)]) -> bool
     multipliers.iter().all(|entry| entry.1 <= u64::MAX)
 }
 
-/// Whether multipliers make a dual node that keeps its rule and is within the ranges of a certificate's text.
+/// Whether a dual solution makes a dual node that keeps its rule and is within the ranges of a certificate's text.
 fn is_dual(
     alloc: Global,
     weighed: &Weighed,
     best: u128,
     marks: &[Fixing],
-    scale: u32,
-    multipliers: &[(u32, u64)],
+    dual: &DualSolution,
 ) -> Result<bool, AllocError>
     requires by_row { IsOfSide (plain_side weighed.now.side.now) (rows_of weighed.now.by_row.now) }
     requires best { best ≤ 2 ^ 104 }
     requires marked { length (plain_side weighed.now.side.now).vars ≤ length marks.now }
-    ensures { IfOk result (λ found. IsTrue found → DualHolds (plain_side weighed.now.side.now) best marks.now scale multipliers.now × IsDualInRange scale multipliers.now) }
+    ensures { IfOk result (λ found. IsTrue found → DualHolds (plain_side weighed.now.side.now) best marks.now dual.now.scale dual.now.multipliers.items × IsDualInRange dual.now.scale dual.now.multipliers.items) }
 {
-    let holds = dual_holds_by_row(alloc, weighed, best, marks, scale, multipliers)?;
-    Ok(holds && are_small(multipliers))
+    let holds = dual_holds_by_row(alloc, weighed, best, marks, dual.scale, &dual.multipliers)?;
+    Ok(holds && are_small(&dual.multipliers))
 }
 
 /// A dual solution fathoms a node where it bounds the gain.
@@ -65,10 +61,11 @@ pub(crate) fn fathom_dual(
     requires marked { length (plain_side weighed.now.side.now).vars ≤ length marks.now }
     ensures { IfOk result (ShownBelow (plain_side weighed.now.side.now) best marks.now 1) }
 {
-    let Some(DualSolution { scale, multipliers }) = dual else {
+    let Some(dual) = dual else {
         return Ok(None);
     };
-    if is_dual(alloc, weighed, best, marks, scale, &multipliers)? {
+    if is_dual(alloc, weighed, best, marks, &dual)? {
+        let DualSolution { scale, multipliers } = dual;
         Ok(Some(Tree::Dual { scale, multipliers }))
     } else {
         Ok(None)

@@ -1,12 +1,6 @@
 ghost use Rattle.std.specs.Prelude.{◌≡◌, ℕ, ◌+◌, ◌^◌, ◌<◌, ◌≤◌, length, Some, None, MatchOption, IsSomeAnd, IfOk};
-ghost use Rattle.placement_programme.specs.Plain.{PlainProgramme};
-ghost use Rattle.placement_programme.specs.Bounds.{AscendWithin};
-ghost use Rattle.placement_programme.specs.Programme.{side_for, taken_gains, Fits};
-ghost use Rattle.placement_programme.specs.Views.{plain_side, plain_programme, plain_choice};
-ghost use Rattle.branch_bound.specs.Assignments.{taken};
-ghost use Rattle.branch_bound.specs.Greedy.{IsStart};
-ghost use Rattle.branch_bound.specs.Growing.{CannotGrow};
-ghost use Rattle.branch_bound.specs.Searching.{IsIncumbent, choice_of};
+ghost use Rattle.placement_programme.specs.{Plain.{PlainProgramme}, Bounds.{AscendWithin}, Programme.{side_for, taken_gains, Fits}, Views.{plain_side, plain_programme, plain_choice}};
+ghost use Rattle.branch_bound.specs.{Assignments.{taken}, Greedy.{IsStart}, Growing.{CannotGrow}, Searching.{IsIncumbent, choice_of}};
 
 use crate::assignments::Assignment;
 use crate::greedy::grow;

@@ -1,12 +1,7 @@
 ghost use Rattle.std.specs.Prelude.{◌≡◌, ℕ, pos, ◌<◌, ◌≤◌, ◌≤ℤ◌, ◌↔◌, IsTrue, false, List, Option, length, option_map, IfSome, IfOk};
-ghost use Rattle.placement_programme.specs.Programme.{gain_at, taken_gains, Fits, IsFeasible, gain};
-ghost use Rattle.placement_programme.specs.Views.{plain_side, plain_programme, plain_choice};
+ghost use Rattle.placement_programme.specs.{Programme.{gain_at, taken_gains, Fits, IsFeasible, gain}, Views.{plain_side, plain_programme, plain_choice}};
 ghost use Rattle.certificate_checker.specs.Shows.{all_free};
-ghost use Rattle.branch_bound.specs.Assignments.{taken};
-ghost use Rattle.branch_bound.specs.Greatest.{Greatest, GainsMore};
-ghost use Rattle.branch_bound.specs.Greedy.{FitsAlone, IsBestAlone, NothingFitsAlone, Tries, Grows, GrowsTo, IsGreedy, choice_on};
-ghost use Rattle.branch_bound.specs.Growing.{CannotGrow};
-ghost use Rattle.branch_bound.specs.Tallies.{AreTallies};
+ghost use Rattle.branch_bound.specs.{Assignments.{taken}, Greatest.{Greatest, GainsMore}, Greedy.{FitsAlone, IsBestAlone, NothingFitsAlone, Tries, Grows, GrowsTo, IsGreedy, choice_on}, Growing.{CannotGrow}, Tallies.{AreTallies}};
 
 use crate::assignments::Assignment;
 use crate::ones::ones_of;

@@ -1,9 +1,6 @@
 ghost use Rattle.std.specs.Prelude.{◌≡◌, ◌-◌, ◌^◌, ◌<◌, ◌≤◌, max, length, OnOk};
-ghost use Rattle.placement_programme.specs.Programme.{taken_gains, Fits};
-ghost use Rattle.placement_programme.specs.Views.{plain_side};
-ghost use Rattle.branch_bound.specs.Assignments.{taken};
-ghost use Rattle.branch_bound.specs.Searching.{KeepsIncumbent};
-ghost use Rattle.branch_bound.specs.Tallies.{AreTallies};
+ghost use Rattle.placement_programme.specs.{Programme.{taken_gains, Fits}, Views.{plain_side}};
+ghost use Rattle.branch_bound.specs.{Assignments.{taken}, Searching.{KeepsIncumbent}, Tallies.{AreTallies}};
 
 use crate::assignments::Assignment;
 use crate::incumbents::Incumbent;

@@ -1,9 +1,5 @@
-//! Best choices of placement programmes, each with a certificate, by a search that a bound guides.
-//!
-//! The bound is that of a Lagrangian relaxation: knapsack rows, which several variables can share, get multipliers, sought so
-//! that the bound is least, and packing rows, which have room for one variable alone, are kept. Nothing that it says is trusted: the certificate's own rules decide at each node.
-//! Branch and bound over the 0-1 programme of a placement: a choice that is as good as plain branch and bound finds within
-//! a budget of nodes, and a certificate where it is shown to be best.
+//! Best choices of placement programmes within a budget of nodes, each with a certificate where it is shown to be best: a
+//! search that a Lagrangian bound guides, and behind it branch and bound in the order of the stated list.
 #![tactic(auto)]
 
 mod assignments;

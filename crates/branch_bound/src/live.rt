@@ -164,12 +164,10 @@ impl LiveVars {
         self.live_before(number_at(&layout.ended, row) as usize)
     }
 
-    /// The number of a variable with packing rows, by its place among those that live.
-    pub(crate) fn tied_number(&self, place: u32) -> usize {
-        match self.tied.get(place as usize) {
-            Some(var) => var.number as usize,
-            None => usize::MAX,
-        }
+    /// The number of a variable with packing rows, by its place among those that live; None past the last.
+    pub(crate) fn tied_number(&self, place: u32) -> Option<usize> {
+        let var = self.tied.get(place as usize)?;
+        Some(var.number as usize)
     }
 
     /// The multiplier of the row that is sought.

@@ -1,10 +1,6 @@
 ghost use Rattle.std.specs.Prelude.{◌≡◌, ℕ, ◌+◌, ◌*◌, ◌^◌, ◌<◌, ◌≤◌, length, get_or, slice_index, MatchOption, IfOk};
-ghost use Rattle.placement_programme.specs.Bounds.{AreWeights, row_of};
-ghost use Rattle.placement_programme.specs.Programme.{weight_in, weight_at};
-ghost use Rattle.placement_programme.specs.Sums.{sum_below};
-ghost use Rattle.placement_programme.specs.Views.{plain_side};
-ghost use Rattle.certificate_checker.specs.Fixings.{fixing_of};
-ghost use Rattle.certificate_checker.specs.Rules.{if_one};
+ghost use Rattle.placement_programme.specs.{Bounds.{AreWeights, row_of}, Programme.{weight_in, weight_at}, Sums.{sum_below}, Views.{plain_side}};
+ghost use Rattle.certificate_checker.specs.{Fixings.{fixing_of}, Rules.{if_one}};
 ghost use Rattle.branch_bound.specs.Tallies.{AreLoads};
 
 use certificate_checker::{Fixing, is_one, var_count, weights_of_var};
@@ -12,6 +8,7 @@ use placement_programme::Side;
 use std::alloc::{AllocError, Global};
 
 /// Adds the weights of a variable to the loads of the rows.
+#[tactic(auto, using(crate::proofs::LoadLemmas::row_inside))]
 pub(crate) fn add_weights(loads: &mut [u64], weights: &[(u32, u64)])
     requires weights { AreWeights (length loads.old) weights.now }
     requires small { (row : ℕ) → slice_index loads.old row ≤ 2 ^ 62 }
@@ -24,6 +21,7 @@ pub(crate) fn add_weights(loads: &mut [u64], weights: &[(u32, u64)])
 }
 
 /// Takes the weights of a variable off the loads of the rows.
+#[tactic(auto, using(crate::proofs::LoadLemmas::row_inside))]
 pub(crate) fn subtract_weights(loads: &mut [u64], weights: &[(u32, u64)])
     requires weights { AreWeights (length loads.old) weights.now }
     requires enough { (row : ℕ) → weight_in weights.now row ≤ slice_index loads.old row }

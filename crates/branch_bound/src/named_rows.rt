@@ -85,11 +85,8 @@ impl NamedRows {
         }
     }
 
-    /// The number on the side of the row at a place.
-    pub(crate) fn number_of(&self, place: u32) -> u32 {
-        match self.numbers.get(place as usize) {
-            Some(number) => *number,
-            None => u32::MAX,
-        }
+    /// The number on the side of the row at a place; None past the last.
+    pub(crate) fn number_of(&self, place: u32) -> Option<u32> {
+        self.numbers.get(place as usize).copied()
     }
 }

@@ -1,6 +1,5 @@
 ghost use Rattle.std.specs.Prelude.{◌≡◌, ◌^◌, ◌<◌, ◌≤◌, length, IfOk};
-ghost use Rattle.placement_programme.specs.Programme.{taken_gains};
-ghost use Rattle.placement_programme.specs.Views.{plain_side};
+ghost use Rattle.placement_programme.specs.{Programme.{taken_gains}, Views.{plain_side}};
 ghost use Rattle.branch_bound.specs.Assignments.{taken};
 
 use certificate_checker::{Fixing, gain_of_var, is_one, var_count};

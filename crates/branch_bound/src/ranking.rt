@@ -1,7 +1,6 @@
 ghost use Rattle.std.specs.Prelude.{◌≡◌, ℕ, ◌<◌, ◌≤◌, length, MatchOption, IfOk};
 ghost use Rattle.placement_programme.specs.Views.{plain_side};
-ghost use Rattle.certificate_checker.specs.Fixings.{fixing_of};
-ghost use Rattle.certificate_checker.specs.declared.fixings.Fixing.TheVariants.{Free};
+ghost use Rattle.certificate_checker.specs.{Fixings.{fixing_of}, declared.fixings.Fixing.TheVariants.{Free}};
 ghost use Rattle.branch_bound.specs.Ranking.{IsRanking, AreListed, PassedOver, number_at};
 
 use certificate_checker::{Fixing, gain_of_var, is_free, var_count};

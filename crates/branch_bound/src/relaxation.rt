@@ -143,9 +143,9 @@ impl LagrangianRelaxation {
     fn take_chosen(&mut self, layout: &Layout, live: &LiveVars, places: &[u32]) {
         for place in places {
             put(&mut self.chosen_by, *place as usize, self.trials);
-            let number = live.tied_number(*place);
-            if !is_set(&self.taken, number) {
-                self.turn(layout, number);
+            match live.tied_number(*place) {
+                Some(number) if !is_set(&self.taken, number) => self.turn(layout, number),
+                _ => {}
             }
         }
     }
@@ -154,7 +154,9 @@ impl LagrangianRelaxation {
     fn drop_others(&mut self, layout: &Layout, live: &LiveVars, places: &[u32]) {
         for place in places {
             if number_at(&self.chosen_by, *place as usize) != self.trials {
-                self.turn(layout, live.tied_number(*place));
+                if let Some(number) = live.tied_number(*place) {
+                    self.turn(layout, number);
+                }
             }
         }
     }

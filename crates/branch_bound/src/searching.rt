@@ -1,12 +1,8 @@
 ghost use Rattle.std.specs.Prelude.{◌≡◌, ℕ, suc, ◌+◌, ◌^◌, ◌<◌, ◌≤◌, length, Option, Some, None, IfSome, IfOk, OnOk};
 ghost use Rattle.std.specs.List.{count_by};
-ghost use Rattle.placement_programme.specs.Programme.{Fits};
-ghost use Rattle.placement_programme.specs.Views.{plain_side};
+ghost use Rattle.placement_programme.specs.{Programme.{Fits}, Views.{plain_side}};
 ghost use Rattle.certificate_checker.specs.Fixings.{is_free};
-ghost use Rattle.branch_bound.specs.Assignments.{taken, IsGreatestFree};
-ghost use Rattle.branch_bound.specs.Ranking.{IsRanking, PassedOver, number_at};
-ghost use Rattle.branch_bound.specs.Tallies.{AreTallies};
-ghost use Rattle.branch_bound.specs.Searching.{EntryBelow, IsKnown, Reports, Visits, HasLevels, KeepsIncumbent};
+ghost use Rattle.branch_bound.specs.{Assignments.{taken, IsGreatestFree}, Ranking.{IsRanking, PassedOver, number_at}, Tallies.{AreTallies}, Searching.{EntryBelow, IsKnown, Reports, Visits, HasLevels, KeepsIncumbent, TriesNode}};
 
 use crate::assignments::Assignment;
 use crate::closing::plain_dual;
@@ -75,11 +71,8 @@ fn visit_fitting(
     requires fits { Fits (plain_side task.now.side.now) (taken (plain_side task.now.side.now) node.now.marks.items) }
     requires small { run.old.best.gain ≤ 2 ^ 104 }
     ensures visits { IfOk result (Visits (plain_side task.now.side.now) task.now.ranking.now run.new.best.gain node.now.marks.items) }
-    ensures here { OnOk result (EntryBelow (plain_side task.now.side.now) run.new.best.gain node.now.marks.items) }
-    ensures grows { OnOk result (run.old.best.gain ≤ run.new.best.gain) }
+    ensures tried { OnOk result (TriesNode task.now.on (plain_side task.now.side.now) node.now.marks.items run.old run.new) }
     ensures small { run.new.best.gain ≤ 2 ^ 104 }
-    ensures left { OnOk result (run.new.left ≡ run.old.left) }
-    ensures keeps { OnOk result (KeepsIncumbent task.now.on (plain_side task.now.side.now) run.old.best run.new.best) }
 {
     improve(alloc, task.side, task.on, node, &mut run.best)?;
     Ok(visit_known(alloc, task, node, place, run.best.gain))
@@ -102,11 +95,8 @@ fn visit(
     requires small { run.old.best.gain ≤ 2 ^ 104 }
     requires known { IsKnown (plain_side task.now.side.now) run.old.best.gain node.now.marks.items raised }
     ensures visits { IfOk result (Visits (plain_side task.now.side.now) task.now.ranking.now run.new.best.gain node.now.marks.items) }
-    ensures here { OnOk result (EntryBelow (plain_side task.now.side.now) run.new.best.gain node.now.marks.items) }
-    ensures grows { OnOk result (run.old.best.gain ≤ run.new.best.gain) }
+    ensures tried { OnOk result (TriesNode task.now.on (plain_side task.now.side.now) node.now.marks.items run.old run.new) }
     ensures small { run.new.best.gain ≤ 2 ^ 104 }
-    ensures left { OnOk result (run.new.left ≡ run.old.left) }
-    ensures keeps { OnOk result (KeepsIncumbent task.now.on (plain_side task.now.side.now) run.old.best run.new.best) }
 {
     match raised {
         None => Ok(visit_known(alloc, task, node, place, run.best.gain)),

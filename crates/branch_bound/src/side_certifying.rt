@@ -1,15 +1,8 @@
 ghost use Rattle.std.specs.Prelude.{◌≡◌, ◌≤◌, IfOk, IfSome, OnOk, length, option_map, Some};
 ghost use Rattle.std.proofs.Common.{replicate};
-ghost use Rattle.placement_programme.specs.Plain.{PlainProgramme};
-ghost use Rattle.placement_programme.specs.Views.{plain_side, plain_programme};
-ghost use Rattle.certificate_checker.specs.RowWise.{rows_of, IsOfSide};
-ghost use Rattle.certificate_checker.specs.Shows.{all_free, Shows};
-ghost use Rattle.certificate_checker.specs.Reading.{most_levels};
-ghost use Rattle.certificate_checker.specs.Spelling.{IsInRange};
-ghost use Rattle.certificate_checker.specs.Views.{plain_certificate};
-ghost use Rattle.branch_bound.specs.Incumbents.{IsSound};
-ghost use Rattle.branch_bound.specs.Rounds.{IsRound};
-ghost use Rattle.branch_bound.specs.Visits.{ShownBelow, ShownOn};
+ghost use Rattle.placement_programme.specs.{Plain.{PlainProgramme}, Views.{plain_side, plain_programme}};
+ghost use Rattle.certificate_checker.specs.{RowWise.{rows_of, IsOfSide}, Shows.{all_free, Shows}, Reading.{most_levels}, Spelling.{IsInRange}, Views.{plain_certificate}};
+ghost use Rattle.branch_bound.specs.{Incumbents.{IsSound}, Rounds.{IsRound}, Visits.{ShownBelow, ShownOn}};
 
 use crate::bounding::DualBound;
 use crate::side_incumbents::Incumbent;

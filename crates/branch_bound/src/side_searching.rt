@@ -1,9 +1,7 @@
-ghost use Rattle.std.specs.Prelude.{◌≡◌, ◌^◌, ◌<◌, ◌≤◌, suc, length, slice_set, IfOk, OnOk};
+ghost use Rattle.std.specs.Prelude.{◌≡◌, ◌^◌, ◌<◌, ◌≤◌, length, slice_set, IfOk, OnOk};
 ghost use Rattle.placement_programme.specs.Views.{plain_side, plain_programme};
 ghost use Rattle.certificate_checker.specs.RowWise.{rows_of, IsOfSide};
-ghost use Rattle.certificate_checker.specs.Rules.{BranchHolds};
-ghost use Rattle.branch_bound.specs.Incumbents.{IsSound};
-ghost use Rattle.branch_bound.specs.Visits.{ShownBelow, IsVisited};
+ghost use Rattle.branch_bound.specs.{Incumbents.{IsSound, GoesOn}, Visits.{ShownBelow, IsVisited}, Rounds.{IsReady}};
 
 use crate::bounding::{DualBound, NodeBound};
 use crate::fathoming::{fathom_dual, fathom_or_branch};
@@ -23,14 +21,7 @@ pub(crate) struct Task<'a> {
     pub on: bool,
 }
 
-/// A branch on a variable, with trees of at most so many levels below it.
-#[derive(Clone, Copy, Drop)]
-struct Branch {
-    var: u32,
-    levels: u32,
-}
-
-/// A child of a branch, which fixes its variable.
+/// A child of a branch, which fixes its variable, with a tree of at most so many levels.
 #[derive(Clone, Copy, Drop)]
 struct Child {
     var: u32,
@@ -111,67 +102,40 @@ pub(crate) fn search(
     levels: u32,
     best: &mut Incumbent,
 ) -> Result<Option<Tree>, AllocError>
-    requires by_row { IsOfSide (plain_side task.now.side.now) (rows_of task.now.by_row.now) }
-    requires marked { length (plain_side task.now.side.now).vars ≤ length marks.old }
-    requires sound { IsSound (plain_programme task.now.programme.now) best.old }
+    requires ready { IsReady task.now marks.old best.old }
     ensures kept { OnOk result (marks.new ≡ marks.old) }
-    ensures sound { OnOk result (IsSound (plain_programme task.now.programme.now) best.new) }
-    ensures grows { OnOk result (best.old.gain ≤ best.new.gain) }
-    ensures spends { OnOk result (best.new.left ≤ best.old.left) }
+    ensures goes_on { OnOk result (GoesOn (plain_programme task.now.programme.now) best.old best.new) }
     ensures shown { IfOk result (ShownBelow (plain_side task.now.side.now) best.new.gain marks.old levels) }
 {
     if best.left == 0 || levels == 0 {
         return Ok(None);
     }
     best.left -= 1;
-    match visit(alloc, task, bound, marks, best)? {
-        Visit::Closed(tree) => Ok(Some(tree)),
-        Visit::Stuck => Ok(None),
-        Visit::Open(var) => {
-            let levels = levels - 1;
-            search_children(alloc, task, bound, marks, Branch { var, levels }, best)
-        }
-    }
-}
-
-/// Searches both children of a branch, the child one before the child zero.
-#[cycle(search)]
-fn search_children(
-    alloc: Global,
-    task: &Task,
-    bound: &mut DualBound,
-    marks: &mut [Fixing],
-    branch: Branch,
-    best: &mut Incumbent,
-) -> Result<Option<Tree>, AllocError>
-    requires by_row { IsOfSide (plain_side task.now.side.now) (rows_of task.now.by_row.now) }
-    requires marked { length (plain_side task.now.side.now).vars ≤ length marks.old }
-    requires branch { BranchHolds (plain_side task.now.side.now) marks.old branch.var }
-    requires sound { IsSound (plain_programme task.now.programme.now) best.old }
-    ensures kept { OnOk result (marks.new ≡ marks.old) }
-    ensures sound { OnOk result (IsSound (plain_programme task.now.programme.now) best.new) }
-    ensures grows { OnOk result (best.old.gain ≤ best.new.gain) }
-    ensures spends { OnOk result (best.new.left ≤ best.old.left) }
-    ensures shown { IfOk result (ShownBelow (plain_side task.now.side.now) best.new.gain marks.old (suc branch.levels)) }
-{
-    let child = Child {
-        var: branch.var,
-        fixing: Fixing::One,
-        levels: branch.levels,
+    let var = match visit(alloc, task, bound, marks, best)? {
+        Visit::Closed(tree) => return Ok(Some(tree)),
+        Visit::Stuck => return Ok(None),
+        Visit::Open(var) => var,
     };
-    let Some(one) = search_child(alloc, task, bound, marks, child, best)? else {
+    let levels = levels - 1;
+    let fixing = Fixing::One;
+    let child = Child {
+        var,
+        fixing,
+        levels,
+    };
+    let Some(one) = search_child(alloc, task, bound, best, marks, child)? else {
         return Ok(None);
     };
+    let fixing = Fixing::Zero;
     let child = Child {
-        var: branch.var,
-        fixing: Fixing::Zero,
-        levels: branch.levels,
+        var,
+        fixing,
+        levels,
     };
-    let Some(zero) = search_child(alloc, task, bound, marks, child, best)? else {
+    let Some(zero) = search_child(alloc, task, bound, best, marks, child)? else {
         return Ok(None);
     };
-    let tree = branch_on(alloc, branch.var, zero, one)?;
-    Ok(Some(tree))
+    Ok(Some(branch_on(alloc, var, zero, one)?))
 }
 
 /// Searches a child of a branch. Behind it the branch's variable is fixed as it was.
@@ -180,18 +144,14 @@ fn search_child(
     alloc: Global,
     task: &Task,
     bound: &mut DualBound,
+    best: &mut Incumbent,
     marks: &mut [Fixing],
     child: Child,
-    best: &mut Incumbent,
 ) -> Result<Option<Tree>, AllocError>
     requires inside { child.var < length marks.old }
-    requires by_row { IsOfSide (plain_side task.now.side.now) (rows_of task.now.by_row.now) }
-    requires marked { length (plain_side task.now.side.now).vars ≤ length marks.old }
-    requires sound { IsSound (plain_programme task.now.programme.now) best.old }
+    requires ready { IsReady task.now marks.old best.old }
     ensures kept { OnOk result (marks.new ≡ marks.old) }
-    ensures sound { OnOk result (IsSound (plain_programme task.now.programme.now) best.new) }
-    ensures grows { OnOk result (best.old.gain ≤ best.new.gain) }
-    ensures spends { OnOk result (best.new.left ≤ best.old.left) }
+    ensures goes_on { OnOk result (GoesOn (plain_programme task.now.programme.now) best.old best.new) }
     ensures shown { IfOk result (ShownBelow (plain_side task.now.side.now) best.new.gain (slice_set marks.old child.var child.fixing) child.levels) }
 {
     let place = child.var as usize;

@@ -1,16 +1,7 @@
 ghost use Rattle.std.specs.Prelude.{◌≡◌, ℕ, pos, ◌^◌, ◌<◌, ◌≤◌, ◌≤ℤ◌, ◌+◌, MatchOption, IfOk};
-ghost use Rattle.placement_programme.specs.Programme.{IsFeasible, gain};
-ghost use Rattle.placement_programme.specs.Views.{plain_side, plain_programme, plain_choice};
-ghost use Rattle.certificate_checker.specs.Shows.{all_free};
-ghost use Rattle.certificate_checker.specs.Spelling.{IsInRange};
-ghost use Rattle.certificate_checker.specs.Reading.{most_levels};
-ghost use Rattle.certificate_checker.specs.Views.{plain_certificate};
-ghost use Rattle.branch_bound.specs.Incumbents.{IsSound};
-ghost use Rattle.branch_bound.specs.Entries.{all_vars};
-ghost use Rattle.branch_bound.specs.declared.outcomes.Status.TheVariants.{Optimal};
-ghost use Rattle.branch_bound.specs.Growing.{CannotGrow};
-ghost use Rattle.branch_bound.specs.Searching.{Reports, HasLevels, KeepsIncumbent, IsIncumbent, choice_of};
-ghost use Rattle.branch_bound.specs.Solving.{ReportsOn, ReachesFirst, EndsWithin, AreTreesOf, Certifies};
+ghost use Rattle.placement_programme.specs.{Programme.{IsFeasible, gain}, Views.{plain_side, plain_programme, plain_choice}};
+ghost use Rattle.certificate_checker.specs.{Shows.{all_free}, Spelling.{IsInRange}, Reading.{most_levels}, Views.{plain_certificate}};
+ghost use Rattle.branch_bound.specs.{Incumbents.{IsSound}, Entries.{all_vars}, declared.outcomes.Status.TheVariants.{Optimal}, Growing.{CannotGrow}, Searching.{Reports, HasLevels, KeepsIncumbent, IsIncumbent, choice_of}, Solving.{ReportsOn, ReachesFirst, EndsWithin, AreTreesOf, Certifies, IsSearched}};
 
 use crate::assignments::Assignment;
 use crate::certifying::trees_of;
@@ -134,14 +125,7 @@ fn search_stated(
     requires nodes { 1 ≤ nodes }
     requires sound { IsSound (plain_programme p.now) other.now }
     ensures other { IfOk result (λ f. pos other.now.gain ≤ℤ gain (plain_programme p.now) (plain_choice f.choice)) }
-    ensures feasible { IfOk result (λ f. IsFeasible (plain_programme p.now) (plain_choice f.choice)) }
-    ensures gain { IfOk result (λ f. pos 0 ≤ℤ gain (plain_programme p.now) (plain_choice f.choice)) }
-    ensures reach { IfOk result (λ f. ReachesFirst (plain_programme p.now) nodes (plain_choice f.choice)) }
-    ensures grown { IfOk result (λ f. CannotGrow (plain_programme p.now) (plain_choice f.choice)) }
-    ensures same { IfOk result (λ f. plain_choice f.certificate.choice ≡ plain_choice f.choice) }
-    ensures range { IfOk result (λ f. IsInRange (plain_certificate f.certificate)) }
-    ensures status { IfOk result (λ f. Certifies (plain_programme p.now) nodes (plain_certificate f.certificate) f.status) }
-    ensures enough { IfOk result (λ f. 2 ^ (all_vars (plain_programme p.now) + 1) ≤ nodes → f.status ≡ Optimal) }
+    ensures ends { IfOk result (IsSearched (plain_programme p.now) nodes) }
 {
     let start = begin(alloc, p)?;
     let first = better(alloc, p, start, other)?;

@@ -1,11 +1,6 @@
 ghost use Rattle.std.specs.Prelude.{◌≡◌, ℕ, ◌^◌, ◌≤◌, max, length, Some, false, true, IfOk, OnOk};
-ghost use Rattle.placement_programme.specs.Bounds.{AscendWithin};
-ghost use Rattle.placement_programme.specs.Programme.{nothing};
-ghost use Rattle.placement_programme.specs.Views.{plain_side, plain_programme};
-ghost use Rattle.branch_bound.specs.Greedy.{GreedyGains, IsStart};
-ghost use Rattle.branch_bound.specs.Incumbents.{IsSound};
-ghost use Rattle.branch_bound.specs.Assignments.{AreMarksOf};
-ghost use Rattle.branch_bound.specs.Searching.{IsIncumbent, KeepsIncumbent, choice_of};
+ghost use Rattle.placement_programme.specs.{Bounds.{AscendWithin}, Programme.{nothing}, Views.{plain_side, plain_programme}};
+ghost use Rattle.branch_bound.specs.{Greedy.{GreedyGains, IsStart}, Incumbents.{IsSound}, Assignments.{AreMarksOf}, Searching.{IsIncumbent, KeepsIncumbent, choice_of}};
 
 use crate::finishing::side_of;
 use crate::greedy::greedy;

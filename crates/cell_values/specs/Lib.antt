@@ -1,3 +1,4 @@
+-- Values that may be addresses without a place, cells of memory and a store of them, and the words for which they stand.
 pub use Rattle.rv32im.specs.Acts
 pub mod Objects
 pub mod Operations

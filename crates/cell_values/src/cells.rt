@@ -1,9 +1,7 @@
 ghost use Rattle.std.specs.Prelude.{◌≡◌, ◌<◌, length, slice_index_or};
 ghost use Rattle.std.specs.List.{All};
 ghost use Rattle.object_graph.specs.declared.parts.Graph.{Graph};
-ghost use Rattle.cell_values.specs.declared.values.Cell.TheVariants.{Mist};
-ghost use Rattle.cell_values.specs.Objects.{IsOfGraph};
-ghost use Rattle.cell_values.specs.Cells.{IsCellOfGraph, split, join, is_part, whole_word, bytes_of, parts_of};
+ghost use Rattle.cell_values.specs.{declared.values.Cell.TheVariants.{Mist}, Objects.{IsOfGraph}, Cells.{IsCellOfGraph, split, join, is_part, whole_word, bytes_of, parts_of}};
 
 use crate::values::{Cell, Val};
 use rv32im::{bytes4, word4};

@@ -1,6 +1,5 @@
 ghost use Rattle.std.specs.Prelude.{◌≡◌, ◌<◌, length};
-ghost use Rattle.cell_values.specs.Objects.{IsOfGraph, objects_of, object_of};
-ghost use Rattle.cell_values.specs.Comparisons.{compare, known_if, within, same_object, other_object, beside_zero};
+ghost use Rattle.cell_values.specs.{Objects.{IsOfGraph, objects_of, object_of}, Comparisons.{compare, known_if, within, same_object, other_object, beside_zero}};
 
 use crate::values::Val;
 use object_graph::Graph;

@@ -1,7 +1,6 @@
 ghost use Rattle.std.specs.Prelude.{◌≡◌, ◌<◌, length};
-ghost use Rattle.cell_values.specs.Objects.{IsGrain, IsOfGraph, objects_of};
+ghost use Rattle.cell_values.specs.{Objects.{IsGrain, IsOfGraph, objects_of}, Operations.{op_imm, op_reg, by_lows, added, subtracted, masked, masked_low, masked_address, cleared_bits, changed, changed_address, flagged, numbered}};
 ghost use Rattle.rv32im.specs.Operations.{operation_of};
-ghost use Rattle.cell_values.specs.Operations.{op_imm, op_reg, by_lows, added, subtracted, masked, masked_low, masked_address, cleared_bits, changed, changed_address, flagged, numbered};
 
 use crate::comparisons::compare;
 use crate::places::{home_address, low_of};

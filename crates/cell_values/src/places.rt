@@ -1,6 +1,5 @@
 ghost use Rattle.std.specs.Prelude.{◌≡◌, ◌<◌, length};
-ghost use Rattle.cell_values.specs.Objects.{IsGrain, IsOfGraph, objects_of, home_address, low_of};
-ghost use Rattle.cell_values.specs.Operations.{low_site, same_chunk};
+ghost use Rattle.cell_values.specs.{Objects.{IsGrain, IsOfGraph, objects_of, home_address, low_of}, Operations.{low_site, same_chunk}};
 
 use crate::values::Val;
 use object_graph::Graph;

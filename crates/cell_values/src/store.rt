@@ -1,9 +1,7 @@
 ghost use Rattle.std.specs.Prelude.{◌≡◌, ◌≢◌, ℕ, ◌+◌, ◌<◌, ◌≤◌, None, length, slice_index_or, take, IsTrue, IsSome, IsOk, OnOk, OnErr};
 ghost use Rattle.std.specs.BTreeMap.{get};
 ghost use Rattle.std.specs.Ordering.{nat_cmp};
-ghost use Rattle.cell_values.specs.declared.values.Cell.TheVariants.{Byte, Mist};
-ghost use Rattle.cell_values.specs.Cells.{put_at, put_cells, join, split, bytes_of};
-ghost use Rattle.cell_values.specs.Marks.{AreWhole, AreMarked, mark_of, IsCount, half_of_cells};
+ghost use Rattle.cell_values.specs.{declared.values.Cell.TheVariants.{Byte, Mist}, Cells.{put_at, put_cells, join, split, bytes_of}, Marks.{AreWhole, AreMarked, mark_of, IsCount, half_of_cells}};
 ghost use Rattle.paged_store.specs.Pages.{has_page};
 
 use crate::marks::{add_mark, has_no_mark, make_marks};

@@ -8,7 +8,7 @@ pub fn operations_stand()
     ensures { OperationsStand }
 {}
 
-/// The same of an operation with an immediate.
+/// What an operation with an immediate leaves of values that stand for words stands for the word that it leaves of them.
 pub fn immediates_stand()
     ensures { ImmediatesStand }
 {}
@@ -58,7 +58,7 @@ pub fn kept_uppers_make()
     ensures { KeptUppersMake }
 {}
 
-/// The same where each site is a LUI: all origins make the upper part of the place.
+/// Where each site is a LUI, all origins make the upper part of the place.
 pub fn moved_uppers_make()
     ensures { MovedUppersMake }
 {}

@@ -1,4 +1,4 @@
--- The same of trees.
+-- A tree that is read is the tree that was spelled, and what was spelled is read again.
 use Rattle.std.proofs.Common.{◌≡◌, ◌∙◌, ℕ, zero, suc, ◌^◌, ◌<◌, ◌≤◌, List, [], ◌∷◌, ◌++◌, length, get_or, Ok, refl, sym, ap, subst, append_assoc, arith}
 use Rattle.std.specs.List.{flat_map}
 use Rattle.placement_programme.specs.Bounds.{AscendWithin, RowsWithin, row_of, value_of}

@@ -1,3 +1,4 @@
+-- Certificates of optimality: their trees and rules, their text, and what its check answers.
 pub use Rattle.placement_programme.specs.Plain
 pub use Rattle.placement_programme.specs.Bounds
 pub use Rattle.placement_programme.specs.Programme

@@ -27,7 +27,7 @@ abbrev pub Gives : {X Y : Type 0} → (X → Y) → Result X CertFault → Resul
 Gives view (Ok x) read = read ≡ Ok (view x)
 Gives view (Err e) read = Fails e read
 
--- the same of what takes no memory
+-- what takes no memory reads just what is read
 abbrev pub GivesAlways : {X Y : Type 0} → (X → Y) → Result X CertFault → Result Y CertFault → Type 0
 GivesAlways view (Ok x) read = read ≡ Ok (view x)
 GivesAlways view (Err e) read = read ≡ Err e

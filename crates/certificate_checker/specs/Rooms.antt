@@ -103,20 +103,20 @@ pub record IsRoomOf (p : Programme) (r : Room) : Type 0 where
   pub marks : length r.marks.items ≡ most_of (length p.off.vars.items) (option_map (λ s. length s.vars.items) p.on)
   pub prices : length r.prices.items ≡ most_of (length p.off.vars.items) (option_map (λ s. length s.vars.items) p.on)
 
--- the lists of a room are as long as they were, and its choice and its weights by rows are the same
-pub record KeepsChoiceAndSizes (old new : Room) : Type 0 where
+-- the lists of a room are as long as they were, and its weights by rows are the same
+pub record KeepsSizes (old new : Room) : Type 0 where
   pub path : length new.path.items ≡ length old.path.items
   pub marks : length new.marks.items ≡ length old.marks.items
   pub prices : length new.prices.items ≡ length old.prices.items
   pub off_rows : new.off_rows ≡ old.off_rows
   pub on_rows : new.on_rows ≡ old.on_rows
+
+-- so is its choice
+pub record KeepsChoiceAndSizes (old new : Room) : Type 0 where
+  pub sizes : KeepsSizes old new
   pub choice : new.choice ≡ old.choice
 
--- the lists of a room are as long as they were, its weights by rows are the same, and the choice has no less room
+-- its choice has no less room
 pub record HasSameRoom (old new : Room) : Type 0 where
-  pub path : length new.path.items ≡ length old.path.items
-  pub marks : length new.marks.items ≡ length old.marks.items
-  pub prices : length new.prices.items ≡ length old.prices.items
-  pub off_rows : new.off_rows ≡ old.off_rows
-  pub on_rows : new.on_rows ≡ old.on_rows
+  pub sizes : KeepsSizes old new
   pub take : vec_capacity old.choice.take ≤ vec_capacity new.choice.take

@@ -53,10 +53,14 @@ pub record DualHolds (s : PlainSide) (best : ℕ) (marks : List Fixing) (scale :
   pub rows : RowsWithin 0 (length s.rows) ms
   pub sums : bound s ms + sum_below (length s.vars) (kept_at s marks scale ms) ≤ scale * (best + s.fixed) + sum_below (length s.vars) (moved_at s marks ms)
 
+-- what the variables weigh in a row that are fixed to one
+abbrev pub load_of : PlainSide → List Fixing → ℕ → ℕ
+load_of s marks row = sum_below (length s.vars) (λ j. if_one (fixing_of marks j) (weight_at s.vars row j))
+
 -- the variables fixed to one exceed the row
 pub record OverHolds (s : PlainSide) (marks : List Fixing) (row : ℕ) : Type 0 where
   pub inside : row < length s.rows
-  pub exceeded : slice_index s.rows row < sum_below (length s.vars) (λ j. if_one (fixing_of marks j) (weight_at s.vars row j))
+  pub exceeded : slice_index s.rows row < load_of s marks row
 
 -- all variables are fixed, and those fixed to one gain at most `best`
 pub record LeafHolds (s : PlainSide) (best : ℕ) (marks : List Fixing) : Type 0 where

@@ -21,7 +21,7 @@ Walks s best marks t node depth (Ok next) =
     Holds s best marks t × (next ≡ in_32_bits (node + size t))
 Walks s best marks t node depth (Err f) = FailsIn s best marks t node depth f
 
--- the same of a side
+-- what a side is answered
 abbrev pub SideAnswers : Option PlainSide → ℕ → Option PlainTree → Result (Unit {0}) Failing → Type 0
 SideAnswers side best t (Ok u) = ShownBy side best t
 SideAnswers side best t (Err f) =

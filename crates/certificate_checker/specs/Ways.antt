@@ -94,7 +94,7 @@ pub record HoldsWith (s : PlainSide) (best : ℕ) (way : List Step) (t : PlainTr
   pub tree : Holds s best (marks_at s way) t
   pub held : HeldBefore s best way
 
--- the same behind that tree
+-- what is known behind the tree at the end of a way: it holds too, or the first node that fails
 abbrev pub Behind : PlainSide → ℕ → List Step → PlainTree → List PathStep → List Fixing → Result ℕ Failing → Type 0
 Behind s best way t path marks (Ok next) = HoldsWith s best way t path marks next
 Behind s best way t path marks (Err f) =

@@ -1,8 +1,6 @@
 ghost use Rattle.std.specs.Prelude.{◌≡◌, ℕ, pos, ◌^◌, ◌<◌, ◌≤◌, ◌↔◌, IsTrue, length, Some, None, option_map, MatchOption, IfSome};
 ghost use Rattle.placement_programme.specs.Views.{plain_side, plain_programme, plain_choice};
-ghost use Rattle.certificate_checker.specs.Shows.{IsAccepted, HasNoTree, HasTree, Answers};
-ghost use Rattle.certificate_checker.specs.Views.{plain_tree, plain_certificate, plain_verdict};
-ghost use Rattle.certificate_checker.specs.Walks.{SideAnswers};
+ghost use Rattle.certificate_checker.specs.{Shows.{IsAccepted, HasNoTree, HasTree, Answers}, Views.{plain_tree, plain_certificate, plain_verdict}, Walks.{SideAnswers}};
 
 use crate::columns::var_count;
 use crate::fixings::Fixing;

@@ -1,8 +1,5 @@
 ghost use Rattle.std.specs.Prelude.{◌≡◌, ◌^◌, ◌<◌, ◌≤◌, map, length, slice_index};
-ghost use Rattle.placement_programme.specs.Plain.{plain_var};
-ghost use Rattle.placement_programme.specs.Bounds.{AreWeights};
-ghost use Rattle.placement_programme.specs.Programme.{gain_at, weights_at, weight_at};
-ghost use Rattle.placement_programme.specs.Views.{plain_side};
+ghost use Rattle.placement_programme.specs.{Plain.{plain_var}, Bounds.{AreWeights}, Programme.{gain_at, weights_at, weight_at}, Views.{plain_side}};
 
 use placement_programme::{Side, Var, weight_of};
 

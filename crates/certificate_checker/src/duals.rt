@@ -1,12 +1,6 @@
 ghost use Rattle.std.specs.Prelude.{◌≡◌, ℕ, ◌+◌, ◌*◌, ◌^◌, ◌<◌, ◌≤◌, ◌↔◌, IsTrue, List, length, slice_index, IfOk};
-ghost use Rattle.placement_programme.specs.Programme.{gain_at};
-ghost use Rattle.placement_programme.specs.Sums.{sum_below};
-ghost use Rattle.placement_programme.specs.Views.{plain_side};
-ghost use Rattle.certificate_checker.specs.Rules.{kept, moved, DualHolds};
-ghost use Rattle.certificate_checker.specs.Prices.{price_in, AreOfSide};
-ghost use Rattle.certificate_checker.specs.Parts.{kept_part, moved_part, SumsHold};
-ghost use Rattle.certificate_checker.specs.RowWise.{rows_of, IsOfSide};
-ghost use Rattle.certificate_checker.specs.Loading.{IsLoaded};
+ghost use Rattle.placement_programme.specs.{Programme.{gain_at}, Sums.{sum_below}, Views.{plain_side}};
+ghost use Rattle.certificate_checker.specs.{Rules.{kept, moved, DualHolds}, Prices.{price_in, AreOfSide}, Parts.{kept_part, moved_part, SumsHold}, RowWise.{rows_of, IsOfSide}, Loading.{IsLoaded}};
 
 use crate::columns::{gain_of_var, row_count, var_count};
 use crate::fixings::{Fixing, fixing_of};
@@ -144,7 +138,7 @@ pub(crate) fn loaded_holds(
 
 /// Whether a dual node keeps its rule under these marks, of which each variable has one: its scale is from 1 to 65,536, its
 /// rows ascend in range, and by weak duality nothing gains more than `best`, which has the fixed cost taken off.
-pub fn dual_holds(
+pub(crate) fn dual_holds(
     side: &Side,
     best: u128,
     marks: &[Fixing],

@@ -1,6 +1,5 @@
 ghost use Rattle.std.specs.Prelude.{◌≡◌, ◌≤◌, IfOk, length};
-ghost use Rattle.certificate_checker.specs.Shows.{in_32_bits};
-ghost use Rattle.certificate_checker.specs.Reading.{GivesAlways, place, broken, cut_off, number_in, entry_at, one_byte, mark_at, flag_at};
+ghost use Rattle.certificate_checker.specs.{Shows.{in_32_bits}, Reading.{GivesAlways, place, broken, cut_off, number_in, entry_at, one_byte, mark_at, flag_at}};
 
 use crate::digits::{NumberFault, number};
 use crate::fault::CertFault;

@@ -1,8 +1,6 @@
 ghost use Rattle.std.specs.Prelude.{◌≡◌, ◌<◌, ◌↔◌, IsTrue, length, IfOk, OnOk};
 ghost use Rattle.placement_programme.specs.Views.{plain_side};
-ghost use Rattle.certificate_checker.specs.Fixings.{fixing_of};
-ghost use Rattle.certificate_checker.specs.Shows.{all_free};
-ghost use Rattle.certificate_checker.specs.declared.fixings.Fixing.TheVariants.{One, Free};
+ghost use Rattle.certificate_checker.specs.{Fixings.{fixing_of}, Shows.{all_free}, declared.fixings.Fixing.TheVariants.{One, Free}};
 
 use crate::columns::var_count;
 use placement_programme::Side;

@@ -32,7 +32,7 @@ mod writing;
 
 pub use checking::{accepted, check};
 pub use columns::{gain_of_var, var_count, weights_of_var};
-pub use duals::{Weighed, dual_holds, dual_holds_by_row};
+pub use duals::{Weighed, dual_holds_by_row};
 pub use fault::CertFault;
 pub use fixings::{Fixing, fixing_of, free_marks, is_free, is_one};
 pub use laws::{one_answer, one_certificate, one_text, reads_spelled, shown_is_least};

@@ -1,9 +1,6 @@
 ghost use Rattle.std.specs.Prelude.{◌≡◌, ℕ, ◌+◌, ◌*◌, ◌^◌, ◌<◌, ◌≤◌, List, [], ◌∷◌, ◌++◌, length, slice_index, IfOk, OnOk};
-ghost use Rattle.placement_programme.specs.Bounds.{RowsWithin};
-ghost use Rattle.placement_programme.specs.Views.{plain_side};
-ghost use Rattle.certificate_checker.specs.Reading.{entries_at};
-ghost use Rattle.certificate_checker.specs.RowWise.{rows_of, IsOfSide};
-ghost use Rattle.certificate_checker.specs.Loading.{IsLoaded, Loads};
+ghost use Rattle.placement_programme.specs.{Bounds.{RowsWithin}, Views.{plain_side}};
+ghost use Rattle.certificate_checker.specs.{Reading.{entries_at}, RowWise.{rows_of, IsOfSide}, Loading.{IsLoaded, Loads}};
 
 use crate::columns::{capacity_of_row, row_count};
 use crate::fault::CertFault;

@@ -1,7 +1,6 @@
 ghost use Rattle.std.specs.Prelude.{◌≡◌, ℕ, ◌+◌, ◌*◌, ◌^◌, ◌<◌, length, slice_index};
 ghost use Rattle.std.specs.List.{All, sum_by};
-ghost use Rattle.placement_programme.specs.Bounds.{RowsWithin, AreWeights, row_of, value_of};
-ghost use Rattle.placement_programme.specs.Programme.{weight_in};
+ghost use Rattle.placement_programme.specs.{Bounds.{RowsWithin, AreWeights, row_of, value_of}, Programme.{weight_in}};
 ghost use Rattle.certificate_checker.specs.Prices.{priced_by};
 
 use placement_programme::value_in;

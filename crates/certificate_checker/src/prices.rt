@@ -1,7 +1,5 @@
 ghost use Rattle.std.specs.Prelude.{◌≡◌, ℕ, ◌+◌, ◌*◌, ◌^◌, ◌<◌, ◌≤◌, length, slice_index};
-ghost use Rattle.placement_programme.specs.Bounds.{AreWeights};
-ghost use Rattle.placement_programme.specs.Programme.{weight_in};
-ghost use Rattle.placement_programme.specs.Views.{plain_side};
+ghost use Rattle.placement_programme.specs.{Bounds.{AreWeights}, Programme.{weight_in}, Views.{plain_side}};
 ghost use Rattle.certificate_checker.specs.Prices.{price_in, AreOfSide};
 
 use crate::columns::weights_of_var;

@@ -1,9 +1,6 @@
 ghost use Rattle.std.specs.Prelude.{◌≡◌, IfOk, Ok};
 ghost use Rattle.placement_programme.specs.Views.{plain_choice};
-ghost use Rattle.certificate_checker.specs.Nodes.{PlainCertificate};
-ghost use Rattle.certificate_checker.specs.Spelling.{Spells};
-ghost use Rattle.certificate_checker.specs.Views.{plain_tree, plain_certificate};
-ghost use Rattle.certificate_checker.specs.Reading.{Gives, GivesAlways, below_all, entries_at, vars_at, over_at, dual_at, tree_at, most_levels, choice_at, plain_trees, trees_at, trees_for, certificate_of, body_at};
+ghost use Rattle.certificate_checker.specs.{Nodes.{PlainCertificate}, Spelling.{Spells}, Views.{plain_tree, plain_certificate}, Reading.{Gives, GivesAlways, below_all, entries_at, vars_at, over_at, dual_at, tree_at, most_levels, choice_at, plain_trees, trees_at, trees_for, certificate_of, body_at}};
 
 use crate::fault::CertFault;
 use crate::fields::{Part, cut_off, entry, flag, mark, number_in, place, small_number};

@@ -1,7 +1,6 @@
 ghost use Rattle.std.specs.Prelude.{◌≡◌, ◌≤◌, length, option_map, IfOk, IfSome};
 ghost use Rattle.placement_programme.specs.Views.{plain_side};
-ghost use Rattle.certificate_checker.specs.RowWise.{rows_of, IsOfSide};
-ghost use Rattle.certificate_checker.specs.Rooms.{RoomFits, IsRoomOf, most_of};
+ghost use Rattle.certificate_checker.specs.{RowWise.{rows_of, IsOfSide}, Rooms.{RoomFits, IsRoomOf, most_of}};
 
 use crate::fixings::Fixing;
 use crate::row_wise::RowWise;

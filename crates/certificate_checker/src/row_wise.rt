@@ -1,6 +1,5 @@
 ghost use Rattle.std.specs.Prelude.{◌≡◌, ℕ, ◌<◌, [], ◌∷◌, ◌++◌, length, slice_set, IfOk, OnOk};
-ghost use Rattle.placement_programme.specs.Bounds.{RowsWithin};
-ghost use Rattle.placement_programme.specs.Views.{plain_side};
+ghost use Rattle.placement_programme.specs.{Bounds.{RowsWithin}, Views.{plain_side}};
 ghost use Rattle.certificate_checker.specs.RowWise.{plain_rows, rows_of, row_at, entry_for, AreRowsOf, IsOfSide, Enters};
 
 use crate::columns::{row_count, var_count, weights_of_var};

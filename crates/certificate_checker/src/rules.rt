@@ -1,7 +1,6 @@
 ghost use Rattle.std.specs.Prelude.{◌≡◌, ◌^◌, ◌<◌, ◌≤◌, ◌↔◌, IsTrue, length};
 ghost use Rattle.placement_programme.specs.Views.{plain_side};
-ghost use Rattle.certificate_checker.specs.Rules.{OverHolds, LeafHolds, BranchHolds, KeepsRule};
-ghost use Rattle.certificate_checker.specs.Views.{plain_tree};
+ghost use Rattle.certificate_checker.specs.{Rules.{OverHolds, LeafHolds, BranchHolds, KeepsRule}, Views.{plain_tree}};
 
 use crate::columns::{gain_of_var, var_count, weight_in_row};
 use crate::duals::dual_holds;

@@ -1,6 +1,5 @@
 ghost use Rattle.std.specs.Prelude.{◌≡◌, ℕ, ◌+◌, ◌<◌, ◌≤◌, List, [], ◌∷◌, ◌++◌, length, vec_capacity};
-ghost use Rattle.certificate_checker.specs.Reading.{vars_at};
-ghost use Rattle.certificate_checker.specs.Rooms.{AreTaken, Takes};
+ghost use Rattle.certificate_checker.specs.{Reading.{vars_at}, Rooms.{AreTaken, Takes}};
 
 use crate::fault::CertFault;
 use crate::fields::{Part, small_number};

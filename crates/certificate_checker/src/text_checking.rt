@@ -1,9 +1,6 @@
 ghost use Rattle.std.specs.Prelude.{◌≡◌, ◌^◌, ◌≤◌, length, IfSome, vec_capacity};
-ghost use Rattle.placement_programme.specs.Views.{plain_programme, plain_choice};
-ghost use Rattle.placement_programme.specs.Programme.{side_for};
-ghost use Rattle.certificate_checker.specs.Reading.{choice_at, body_at, certificate_of};
-ghost use Rattle.certificate_checker.specs.Rooms.{vars_of, Chooses, BodyAnswers, RoomFits, HasSameRoom, used, verdict_for};
-ghost use Rattle.certificate_checker.specs.Views.{plain_verdict};
+ghost use Rattle.placement_programme.specs.{Views.{plain_programme, plain_choice}, Programme.{side_for}};
+ghost use Rattle.certificate_checker.specs.{Reading.{choice_at, body_at, certificate_of}, Rooms.{vars_of, Chooses, BodyAnswers, RoomFits, HasSameRoom, used, verdict_for}, Views.{plain_verdict}};
 
 use crate::checking::accepted;
 use crate::fault::CertFault;

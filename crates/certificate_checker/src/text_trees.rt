@@ -1,9 +1,6 @@
 ghost use Rattle.std.specs.Prelude.{◌≡◌, ℕ, ◌^◌, ◌<◌, ◌≤◌, length, Some, None, Err, option_map};
 ghost use Rattle.placement_programme.specs.Views.{plain_side, plain_programme};
-ghost use Rattle.certificate_checker.specs.Reading.{tree_at, most_levels, trees_at, trees_for};
-ghost use Rattle.certificate_checker.specs.Walks.{SideAnswers};
-ghost use Rattle.certificate_checker.specs.RowWise.{rows_of, IsOfSide};
-ghost use Rattle.certificate_checker.specs.Rooms.{SideRead, TreesRead, RoomFits, KeepsChoiceAndSizes};
+ghost use Rattle.certificate_checker.specs.{Reading.{tree_at, most_levels, trees_at, trees_for}, Walks.{SideAnswers}, RowWise.{rows_of, IsOfSide}, Rooms.{SideRead, TreesRead, RoomFits, KeepsChoiceAndSizes}};
 
 use crate::columns::var_count;
 use crate::fault::CertFault;

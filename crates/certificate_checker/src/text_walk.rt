@@ -1,15 +1,6 @@
 ghost use Rattle.std.specs.Prelude.{◌≡◌, ℕ, suc, ◌+◌, ◌^◌, ◌<◌, ◌≤◌, ◌↔◌, IsTrue, false, List, [], ◌∷◌, length, IfOk};
-ghost use Rattle.placement_programme.specs.Plain.{PlainSide};
-ghost use Rattle.placement_programme.specs.Views.{plain_side};
-ghost use Rattle.certificate_checker.specs.Nodes.{PlainTree};
-ghost use Rattle.certificate_checker.specs.Rules.{KeepsRule};
-ghost use Rattle.certificate_checker.specs.Shows.{all_free};
-ghost use Rattle.certificate_checker.specs.Walks.{Walks};
-ghost use Rattle.certificate_checker.specs.declared.fixings.Fixing.{Fixing};
-ghost use Rattle.certificate_checker.specs.Reading.{over_at, dual_at, tree_at};
-ghost use Rattle.certificate_checker.specs.RowWise.{rows_of, IsOfSide};
-ghost use Rattle.certificate_checker.specs.Loading.{IsSingle, SplitsFirst, WalksRead, behind_of, both_of};
-ghost use Rattle.certificate_checker.specs.Ways.{text_of, IsBefore, Stands, Advances, CanAdvance, left};
+ghost use Rattle.placement_programme.specs.{Plain.{PlainSide}, Views.{plain_side}};
+ghost use Rattle.certificate_checker.specs.{Nodes.{PlainTree}, Rules.{KeepsRule}, Shows.{all_free}, Walks.{Walks}, declared.fixings.Fixing.{Fixing}, Reading.{over_at, dual_at, tree_at}, RowWise.{rows_of, IsOfSide}, Loading.{IsSingle, SplitsFirst, WalksRead, behind_of, both_of}, Ways.{text_of, IsBefore, Stands, Advances, CanAdvance, left}};
 
 use crate::duals::loaded_holds;
 use crate::fault::CertFault;

@@ -1,6 +1,5 @@
 ghost use Rattle.std.specs.Prelude.{◌≡◌, IfOk};
-ghost use Rattle.certificate_checker.specs.Nodes.{branch};
-ghost use Rattle.certificate_checker.specs.Views.{plain_tree};
+ghost use Rattle.certificate_checker.specs.{Nodes.{branch}, Views.{plain_tree}};
 
 use placement_programme::Choice;
 use std::alloc::{AllocError, Global};

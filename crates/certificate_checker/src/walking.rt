@@ -1,8 +1,6 @@
 ghost use Rattle.std.specs.Prelude.{◌≡◌, ◌+◌, ◌^◌, ◌≤◌, length, OnOk};
 ghost use Rattle.placement_programme.specs.Views.{plain_side};
-ghost use Rattle.certificate_checker.specs.Shows.{in_32_bits};
-ghost use Rattle.certificate_checker.specs.Views.{plain_tree};
-ghost use Rattle.certificate_checker.specs.Walks.{Walks};
+ghost use Rattle.certificate_checker.specs.{Shows.{in_32_bits}, Views.{plain_tree}, Walks.{Walks}};
 
 use crate::fixings::{Fixing, fixing_of};
 use crate::rules::keeps_rule;

@@ -1,9 +1,7 @@
 ghost use Rattle.std.specs.Prelude.{◌≡◌, ◌*◌, ◌^◌, ◌<◌, ◌++◌, ◌∷◌, [], length, OnOk, IfOk};
 ghost use Rattle.std.specs.List.{flat_map};
 ghost use Rattle.placement_programme.specs.Views.{plain_choice};
-ghost use Rattle.certificate_checker.specs.Views.{plain_tree, plain_certificate};
-ghost use Rattle.certificate_checker.specs.Digits.{digits_of, number_of};
-ghost use Rattle.certificate_checker.specs.Spelling.{entry_text, tree_text, flag_text, choice_text, trees_text, text_of};
+ghost use Rattle.certificate_checker.specs.{Views.{plain_tree, plain_certificate}, Digits.{digits_of, number_of}, Spelling.{entry_text, tree_text, flag_text, choice_text, trees_text, text_of}};
 
 use crate::trees::{Certificate, Tree};
 use placement_programme::Choice;

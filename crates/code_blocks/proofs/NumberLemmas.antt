@@ -1,5 +1,5 @@
 -- The numbers of the blocks that begin at addresses.
-use Rattle.std.proofs.Common.{◌≡◌, ◌∙◌, ◌⊎◌, inl, inr, ℕ, zero, suc, ◌<◌, ◌≤◌, ◌==◌, nat_lt, Bool, true, false, List, [], ◌∷◌, ◌++◌, map, length, slice_index_or, Option, Some, None, refl, sym, ap, subst, arith, append-nil}
+use Rattle.std.proofs.Common.{◌≡◌, ◌∙◌, ◌⊎◌, inl, inr, ℕ, zero, suc, ◌<◌, ◌≤◌, ◌==◌, nat_lt, nat_le, Bool, true, false, List, [], ◌∷◌, ◌++◌, map, length, slice_index_or, Option, Some, None, refl, sym, ap, subst, arith, append-nil}
 use Rattle.std.specs.List.{All, AllPairs, filter}
 use Rattle.std.specs.List.Sorted.{IsStrictlyIncreasing, IsPartitionedBy}
 use Rattle.std.proofs.lemmas.Bool.{cases_order}
@@ -33,6 +33,16 @@ blocks_rise blocks a ascending i j d le below test =
       | inl same ↦ rw same test
       | inr lower ↦ still_less (slice_index_or blocks i d).start (slice_index_or blocks j d).start a (start_below blocks ascending i j d lower below) test
     ]
+
+begun_before : (x a : ℕ) → nat_le x a ≡ true → nat_lt x (suc a) ≡ true
+begun_before x a begun = grind (arith, nat_tests, begun)
+
+before_begun : (x a : ℕ) → nat_lt x (suc a) ≡ true → nat_le x a ≡ true
+before_begun x a before = grind (arith, nat_tests, before)
+
+pub blocks_begun : (blocks : List Block) (a : ℕ) → IsStrictlyIncreasing (map start_of blocks) → IsPartitionedBy (λ (b : Block). nat_le b.start a) blocks
+blocks_begun blocks a ascending i j d le below test =
+    before_begun (slice_index_or blocks i d).start a (blocks_rise blocks (suc a) ascending i j d le below (begun_before (slice_index_or blocks j d).start a test))
 
 -- a place is at most the number there
 place_le : (xs : List ℕ) → AllPairs (λ x y. x < y) xs → (k : ℕ) → k < length xs → k ≤ slice_index_or xs k 0

@@ -2,12 +2,8 @@ ghost use Rattle.std.specs.Prelude.{◌≡◌, ◌^◌, ◌<◌, nat_le, min, le
 ghost use Rattle.std.specs.List.{All};
 ghost use Rattle.list_checks.specs.First.{◌or_else◌, unless, Reports, ReportsUnless};
 ghost use Rattle.elf_reader.specs.File.{plain_view};
-ghost use Rattle.loaded_file.specs.Code.{is_code_word};
-ghost use Rattle.loaded_file.specs.Read.{IsRead};
-ghost use Rattle.code_blocks.specs.Words.{any_code_word};
-ghost use Rattle.code_blocks.specs.AllLeaders.{IsLeaders};
-ghost use Rattle.code_blocks.specs.Blocks.{start_of, IsBlock, IsFunctionOf, IsCode, is_any, block_count, code_fault};
-ghost use Rattle.code_blocks.specs.Kept.{AreKept, AreDisjoint};
+ghost use Rattle.loaded_file.specs.{Code.{is_code_word}, Read.{IsRead}};
+ghost use Rattle.code_blocks.specs.{Words.{any_code_word}, AllLeaders.{IsLeaders}, Blocks.{start_of, IsBlock, IsFunctionOf, IsCode, is_any, block_count, code_fault}, Kept.{AreKept, AreDisjoint}};
 
 use crate::fault::CodeFault;
 use crate::functions_kept::{function_of, kept_functions};

@@ -4,8 +4,7 @@ ghost use Rattle.std.specs.List.Sorted.{IsStrictlyIncreasing};
 ghost use Rattle.list_checks.specs.Tests.{any_below};
 ghost use Rattle.elf_reader.specs.File.{plain_view};
 ghost use Rattle.loaded_file.specs.Read.{IsRead};
-ghost use Rattle.code_blocks.specs.Functions.{lies_in_range, is_function};
-ghost use Rattle.code_blocks.specs.Kept.{key_at, key_of, passes_key, AreKeys};
+ghost use Rattle.code_blocks.specs.{Functions.{lies_in_range, is_function}, Kept.{key_at, key_of, passes_key, AreKeys}};
 
 use elf_reader::STT_FUNC;
 use loaded_file::{LoadedFile, SectionKind};
@@ -26,19 +25,6 @@ pub(crate) fn function_keys(alloc: Global, file: &LoadedFile) -> Result<Vec<u128
     Ok(keys)
 }
 
-/// The keys of all functions, in the order of their symbols.
-fn unsorted_keys(alloc: Global, file: &LoadedFile) -> Result<Vec<u128>, AllocError>
-    requires read { IsRead file.now.view.now }
-    ensures exact { IfOk result (λ keys. (test : ℕ → Bool) → list_any test keys.items ≡ any_below (passes_key (plain_view file.now.view.now) test) (length (plain_view file.now.view.now).symbols)) }
-    ensures few { IfOk result (λ keys. length keys.items ≤ length (plain_view file.now.view.now).symbols) }
-{
-    let mut keys = Vec::new(alloc);
-    for k in 0..file.view.symbols.len() {
-        push_function(&mut keys, file, k)?;
-    }
-    Ok(keys)
-}
-
 /// Adds the key of symbol `k`, if it is of a function.
 fn push_function(keys: &mut Vec<u128>, file: &LoadedFile, k: usize) -> Result<(), AllocError>
     requires below { k < length file.now.view.now.symbols.items }
@@ -50,6 +36,19 @@ fn push_function(keys: &mut Vec<u128>, file: &LoadedFile, k: usize) -> Result<()
         keys.push(key_of(symbol.value, symbol.size, k))?;
     }
     Ok(())
+}
+
+/// The keys of all functions, in the order of their symbols.
+fn unsorted_keys(alloc: Global, file: &LoadedFile) -> Result<Vec<u128>, AllocError>
+    requires read { IsRead file.now.view.now }
+    ensures exact { IfOk result (λ keys. (test : ℕ → Bool) → list_any test keys.items ≡ any_below (passes_key (plain_view file.now.view.now) test) (length (plain_view file.now.view.now).symbols)) }
+    ensures few { IfOk result (λ keys. length keys.items ≤ length (plain_view file.now.view.now).symbols) }
+{
+    let mut keys = Vec::new(alloc);
+    for k in 0..file.view.symbols.len() {
+        push_function(&mut keys, file, k)?;
+    }
+    Ok(keys)
 }
 
 /// The key of a function.

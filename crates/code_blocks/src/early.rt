@@ -2,11 +2,8 @@ ghost use Rattle.std.specs.Prelude.{◌≡◌, ℕ, ◌<◌, ◌==◌, ◌&&◌,
 ghost use Rattle.std.specs.List.Sorted.{IsStrictlyIncreasing};
 ghost use Rattle.list_checks.specs.Tests.{any_below};
 ghost use Rattle.elf_reader.specs.File.{plain_view};
-ghost use Rattle.loaded_file.specs.Code.{is_code_word};
-ghost use Rattle.loaded_file.specs.Records.{symbol_at};
-ghost use Rattle.loaded_file.specs.Read.{IsRead};
-ghost use Rattle.code_blocks.specs.Leaders.{is_function_at, makes_no_address, makes_address, is_named, is_early};
-ghost use Rattle.code_blocks.specs.Early.{has};
+ghost use Rattle.loaded_file.specs.{Code.{is_code_word}, Records.{symbol_at}, Read.{IsRead}};
+ghost use Rattle.code_blocks.specs.{Leaders.{is_function_at, makes_no_address, makes_address, is_named, is_early}, Early.{has}};
 
 use crate::flow::{FlowRule, add_flow};
 use crate::search::arrange;
@@ -74,15 +71,6 @@ fn add_function(leaders: &mut Vec<u32>, file: &LoadedFile, k: usize) -> Result<(
     }
 }
 
-fn add_addresses(leaders: &mut Vec<u32>, file: &LoadedFile) -> Result<(), AllocError>
-    ensures { OnOk result ((a : ℕ) → has leaders.new.items a ≡ has leaders.old.items a || is_code_word (plain_view file.now.view.now) a && any_below (makes_address (plain_view file.now.view.now) a) (length (plain_view file.now.view.now).relocs)) }
-{
-    for i in 0..file.view.relocs.len() {
-        add_address(leaders, file, i)?;
-    }
-    Ok(())
-}
-
 /// Adds the address that relocation `i` makes.
 fn add_address(leaders: &mut Vec<u32>, file: &LoadedFile, i: usize) -> Result<(), AllocError>
     requires below { i < length file.now.view.now.relocs.items }
@@ -94,6 +82,15 @@ fn add_address(leaders: &mut Vec<u32>, file: &LoadedFile, i: usize) -> Result<()
     } else {
         Ok(())
     }
+}
+
+fn add_addresses(leaders: &mut Vec<u32>, file: &LoadedFile) -> Result<(), AllocError>
+    ensures { OnOk result ((a : ℕ) → has leaders.new.items a ≡ has leaders.old.items a || is_code_word (plain_view file.now.view.now) a && any_below (makes_address (plain_view file.now.view.now) a) (length (plain_view file.now.view.now).relocs)) }
+{
+    for i in 0..file.view.relocs.len() {
+        add_address(leaders, file, i)?;
+    }
+    Ok(())
 }
 
 /// Relocations of this kind make no address: NONE, BRANCH, JAL, CALL, CALL_PLT, PCREL_LO12_I, PCREL_LO12_S,

@@ -45,11 +45,10 @@ fn two_addresses(alloc: Global, first: u32, second: u32) -> SmallVec<u32, 2>
 }
 
 impl Code {
-    ghost use Rattle.std.specs.Prelude.{ℕ, ◌+◌, ◌<◌, ◌≤◌, nat_lt, true, false, List, ◌++◌, length, IfOk};
+    ghost use Rattle.std.specs.Prelude.{ℕ, ◌+◌, ◌<◌, ◌≤◌, nat_lt, nat_le, true, false, List, ◌++◌, length, IfOk};
     ghost use Rattle.std.specs.List.Sorted.{IsStrictlyIncreasing, IsPartitionPoint};
     ghost use Rattle.smallvec.specs.SmallVec.{HasRoomFor};
-    ghost use Rattle.code_blocks.specs.Edges.{successors};
-    ghost use Rattle.code_blocks.specs.Numbers.{starts_of, end_at, IsNumberAt, AreNumbersAt};
+    ghost use Rattle.code_blocks.specs.{Edges.{successors}, Numbers.{starts_of, end_at, IsNumberAt, AreNumbersAt}};
 
     /// Where the blocks begin, in their order. It fails only where no memory was left.
     pub fn starts(&self, alloc: Global) -> Result<Vec<u32>, AllocError>
@@ -85,6 +84,16 @@ impl Code {
         ensures point { IsPartitionPoint (λ b. nat_lt b.start address ≡ true) (λ b. nat_lt b.start address ≡ false) self.now.blocks.items result }
     {
         self.blocks.partition_point(|block| block.start < address)
+    }
+
+    /// How many blocks begin at an address or before it, by binary search: the last of these is the block in which
+    /// the address lies, if one has it.
+    pub fn blocks_up_to(&self, address: u32) -> usize
+        requires { IsStrictlyIncreasing (starts_of self.now) }
+        ensures bound { result ≤ length self.now.blocks.items }
+        ensures point { IsPartitionPoint (λ b. nat_le b.start address ≡ true) (λ b. nat_le b.start address ≡ false) self.now.blocks.items result }
+    {
+        self.blocks.partition_point(|block| block.start <= address)
     }
 
     /// The numbers of the blocks to which direct edges lead from block `block`: of those that begin where its

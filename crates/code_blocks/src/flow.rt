@@ -1,13 +1,8 @@
 ghost use Rattle.std.specs.Prelude.{◌≡◌, ℕ, IsTrue, ◌+◌, ◌*◌, ◌^◌, ◌/◌, ◌<◌, ◌≤◌, true, false, ◌&&◌, ◌||◌, length, MatchOption, OnOk};
 ghost use Rattle.list_checks.specs.Tests.{any_below, lies_in};
-ghost use Rattle.elf_reader.specs.File.{plain_view};
-ghost use Rattle.elf_reader.specs.Loaded.{section_at};
-ghost use Rattle.loaded_file.specs.Code.{is_code_range, holds_code, is_code_word, image_word};
-ghost use Rattle.loaded_file.specs.Read.{IsRead};
-ghost use Rattle.code_blocks.specs.Words.{is_branch, is_jal, is_jalr, links, code_word, passes_at, passes_in, any_code_word};
-ghost use Rattle.code_blocks.specs.Leaders.{goes_to, comes_back, link_comes_back};
-ghost use Rattle.code_blocks.specs.Early.{has, flows_to};
-ghost use Rattle.code_blocks.specs.Flow.{leads_by};
+ghost use Rattle.elf_reader.specs.{File.{plain_view}, Loaded.{section_at}};
+ghost use Rattle.loaded_file.specs.{Code.{is_code_range, holds_code, is_code_word, image_word}, Read.{IsRead}};
+ghost use Rattle.code_blocks.specs.{Words.{is_branch, is_jal, is_jalr, links, code_word, passes_at, passes_in, any_code_word}, Leaders.{goes_to, comes_back, link_comes_back}, Early.{has, flows_to}, Flow.{leads_by}};
 
 use crate::early::add_leader;
 use crate::meanings::{is_branch, is_jal, is_jalr, links};

@@ -2,10 +2,8 @@ ghost use Rattle.std.specs.Prelude.{◌≡◌, ℕ, ◌+◌, ◌++◌, ◌∷◌
 ghost use Rattle.std.specs.List.{All, list_any};
 ghost use Rattle.std.specs.List.Sorted.{IsPartitionPoint};
 ghost use Rattle.elf_reader.specs.File.{plain_view};
-ghost use Rattle.loaded_file.specs.Records.{symbol_at};
-ghost use Rattle.loaded_file.specs.Read.{IsRead};
-ghost use Rattle.code_blocks.specs.Blocks.{IsFunction, IsFunctionOf, name_of};
-ghost use Rattle.code_blocks.specs.Kept.{name_in, AreKeys, AreKept, AreDisjoint};
+ghost use Rattle.loaded_file.specs.{Records.{symbol_at}, Read.{IsRead}};
+ghost use Rattle.code_blocks.specs.{Blocks.{IsFunction, IsFunctionOf, name_of}, Kept.{name_in, AreKeys, AreKept, AreDisjoint}};
 
 use crate::candidates::function_keys;
 use crate::parts::Function;

@@ -1,5 +1,4 @@
-//! Where the basic blocks of a program's code begin, which words are calls, and which mean an instruction.
-//! The basic blocks of a program's code, how they end, and its functions.
+//! The basic blocks of a program's code: where they begin and how they end, which words are calls, and its functions.
 #![tactic(auto)]
 
 mod building;

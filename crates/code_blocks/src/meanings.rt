@@ -1,6 +1,5 @@
 ghost use Rattle.std.specs.Prelude.{◌≡◌};
-ghost use Rattle.code_blocks.specs.Words.{is_branch, is_jal, is_jalr, is_auipc, links};
-ghost use Rattle.code_blocks.specs.Meanings.{is_ebreak, has_meaning};
+ghost use Rattle.code_blocks.specs.{Words.{is_branch, is_jal, is_jalr, is_auipc, links}, Meanings.{is_ebreak, has_meaning}};
 
 use rv32im::{decode, funct3, opcode, rd};
 

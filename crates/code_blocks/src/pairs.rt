@@ -2,13 +2,8 @@
 ghost use Rattle.std.specs.Prelude.{◌≡◌, ℕ, ◌+◌, ◌^◌, ◌<◌, ◌==◌, true, false, ◌&&◌, ◌||◌, length, IfOk, MatchOption, OnOk};
 ghost use Rattle.list_checks.specs.Tests.{any_below};
 ghost use Rattle.elf_reader.specs.File.{plain_view};
-ghost use Rattle.loaded_file.specs.Code.{holds_code, is_code_word, image_word};
-ghost use Rattle.loaded_file.specs.Records.{is_call_kind, counts};
-ghost use Rattle.loaded_file.specs.Read.{IsRead};
-ghost use Rattle.code_blocks.specs.Words.{pair_target};
-ghost use Rattle.code_blocks.specs.Leaders.{is_early, calls, is_call_by, is_call_pair};
-ghost use Rattle.code_blocks.specs.Pairs.{AreThose, is_barred, fits_pair, are_code_words, may_be_pair, makes_pair};
-ghost use Rattle.code_blocks.specs.Early.{has};
+ghost use Rattle.loaded_file.specs.{Code.{holds_code, is_code_word, image_word}, Records.{is_call_kind, counts}, Read.{IsRead}};
+ghost use Rattle.code_blocks.specs.{Words.{pair_target}, Leaders.{is_early, calls, is_call_by, is_call_pair}, Pairs.{AreThose, is_barred, fits_pair, are_code_words, may_be_pair, makes_pair}, Early.{has}};
 
 use crate::meanings::{is_auipc, is_jalr, links};
 use crate::search::{arrange, has_address};
@@ -25,8 +20,8 @@ pub(crate) fn call_pairs(
     file: &LoadedFile,
     early: &[u32],
 ) -> Result<Vec<u32>, AllocError>
-    requires read { IsRead file.now.view.now }
     requires early { (a : ℕ) → has early.now a ≡ is_early (plain_view file.now.view.now) a }
+    requires read { IsRead file.now.view.now }
     ensures { IfOk result (λ pairs. AreThose (is_call_pair (plain_view file.now.view.now)) pairs.items) }
 {
     let barred = barred(alloc, file, early)?;
@@ -76,22 +71,11 @@ fn is_call(file: &LoadedFile, reloc: &Reloc) -> bool
     counts(file, reloc) && matches!(reloc.kind, 18 | 19)
 }
 
-fn add_pairs(pairs: &mut Vec<u32>, file: &LoadedFile, barred: &[u32]) -> Result<(), AllocError>
-    requires read { IsRead file.now.view.now }
-    requires barred { AreThose (is_barred (plain_view file.now.view.now)) barred.now }
-    ensures { OnOk result ((p : ℕ) → has pairs.new.items p ≡ has pairs.old.items p || may_be_pair (plain_view file.now.view.now) p && any_below (is_call_by (plain_view file.now.view.now) p) (length (plain_view file.now.view.now).relocs)) }
-{
-    for i in 0..file.view.relocs.len() {
-        add_pair(pairs, file, barred, i)?;
-    }
-    Ok(())
-}
-
 /// Adds where relocation `i` stands, if it makes the words there a pair.
 fn add_pair(
     pairs: &mut Vec<u32>,
-    file: &LoadedFile,
     barred: &[u32],
+    file: &LoadedFile,
     i: usize,
 ) -> Result<(), AllocError>
     requires read { IsRead file.now.view.now }
@@ -104,6 +88,17 @@ fn add_pair(
         return Ok(());
     }
     pairs.push(reloc.at)?;
+    Ok(())
+}
+
+fn add_pairs(pairs: &mut Vec<u32>, file: &LoadedFile, barred: &[u32]) -> Result<(), AllocError>
+    requires read { IsRead file.now.view.now }
+    requires barred { AreThose (is_barred (plain_view file.now.view.now)) barred.now }
+    ensures { OnOk result ((p : ℕ) → has pairs.new.items p ≡ has pairs.old.items p || may_be_pair (plain_view file.now.view.now) p && any_below (is_call_by (plain_view file.now.view.now) p) (length (plain_view file.now.view.now).relocs)) }
+{
+    for i in 0..file.view.relocs.len() {
+        add_pair(pairs, barred, file, i)?;
+    }
     Ok(())
 }
 

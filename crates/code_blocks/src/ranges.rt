@@ -1,10 +1,7 @@
 ghost use Rattle.std.specs.Prelude.{◌≡◌, ℕ, ◌+◌, ◌-◌, ◌/◌, true, false, length, MatchOption};
-ghost use Rattle.list_checks.specs.Tests.{any_below};
-ghost use Rattle.list_checks.specs.First.{first_below};
-ghost use Rattle.elf_reader.specs.File.{plain_view};
-ghost use Rattle.elf_reader.specs.Loaded.{section_at};
-ghost use Rattle.loaded_file.specs.Code.{holds_code};
-ghost use Rattle.loaded_file.specs.Read.{IsRead};
+ghost use Rattle.list_checks.specs.{Tests.{any_below}, First.{first_below}};
+ghost use Rattle.elf_reader.specs.{File.{plain_view}, Loaded.{section_at}};
+ghost use Rattle.loaded_file.specs.{Code.{holds_code}, Read.{IsRead}};
 ghost use Rattle.code_blocks.specs.Ends.{range_at};
 
 use elf_reader::ElfView;

@@ -1,17 +1,9 @@
 ghost use Rattle.std.specs.Prelude.{◌≡◌, ℕ, ◌+◌, ◌^◌, ◌<◌, true, if◌then◌else◌, MatchOption};
 ghost use Rattle.std.specs.List.Sorted.{IsStrictlyIncreasing};
-ghost use Rattle.rv32im.specs.Words.{offset};
-ghost use Rattle.rv32im.specs.Fields.{rd_of, j_immediate};
-ghost use Rattle.rv32im.specs.Table.{Means, MeansNothing};
+ghost use Rattle.rv32im.specs.{Words.{offset}, Fields.{rd_of, j_immediate}, Table.{Means, MeansNothing}};
 ghost use Rattle.elf_reader.specs.File.{plain_view};
-ghost use Rattle.loaded_file.specs.Code.{image_word};
-ghost use Rattle.loaded_file.specs.Read.{IsRead};
-ghost use Rattle.code_blocks.specs.Words.{links};
-ghost use Rattle.code_blocks.specs.Leaders.{is_call_pair};
-ghost use Rattle.code_blocks.specs.Early.{has};
-ghost use Rattle.code_blocks.specs.AllLeaders.{IsLeaders};
-ghost use Rattle.code_blocks.specs.Ends.{pair_end, jump_end};
-ghost use Rattle.code_blocks.specs.Steps.{end_behind};
+ghost use Rattle.loaded_file.specs.{Code.{image_word}, Read.{IsRead}};
+ghost use Rattle.code_blocks.specs.{Words.{links}, Leaders.{is_call_pair}, Early.{has}, AllLeaders.{IsLeaders}, Ends.{pair_end, jump_end}, Steps.{end_behind}};
 
 use crate::ends::End;
 use crate::lists::Leaders;

@@ -2,12 +2,8 @@
 ghost use Rattle.std.specs.Prelude.{◌≡◌, ℕ, ◌&&◌, ◌||◌, IfOk, OnOk};
 ghost use Rattle.std.specs.List.{list_any};
 ghost use Rattle.elf_reader.specs.File.{plain_view};
-ghost use Rattle.loaded_file.specs.Code.{is_code_word};
-ghost use Rattle.loaded_file.specs.Read.{IsRead};
-ghost use Rattle.code_blocks.specs.Leaders.{is_early, is_call_pair, is_leader, is_indirect};
-ghost use Rattle.code_blocks.specs.Early.{has};
-ghost use Rattle.code_blocks.specs.Pairs.{AreThose, leads_to, returns_to};
-ghost use Rattle.code_blocks.specs.AllLeaders.{IsLeaders};
+ghost use Rattle.loaded_file.specs.{Code.{is_code_word}, Read.{IsRead}};
+ghost use Rattle.code_blocks.specs.{Leaders.{is_early, is_call_pair, is_leader, is_indirect}, Early.{has}, Pairs.{AreThose, leads_to, returns_to}, PairLeaders.{pair_leads}, AllLeaders.{IsLeaders}};
 
 use crate::early::{add_leader, add_named, early_leaders};
 use crate::flow::{FlowRule, add_flow};
@@ -18,6 +14,15 @@ use crate::search::arrange;
 use crate::targets::pair_target;
 use loaded_file::LoadedFile;
 use std::alloc::{AllocError, Global};
+
+/// Which leaders the call pairs make.
+#[derive(Clone, Copy)]
+enum PairRule {
+    /// Where they go.
+    Target,
+    /// What is behind those that link.
+    Return,
+}
 
 /// Where the blocks of a program's code begin, and which words are calls of two instructions.
 /// It fails only where no memory was left.
@@ -46,8 +51,8 @@ fn all_leaders(early: Vec<u32>, file: &LoadedFile, pairs: &[u32]) -> Result<Vec<
     ensures { IfOk result (λ all. AreThose (is_leader (plain_view file.now.view.now)) all.items) }
 {
     let mut all = early;
-    add_pair_targets(&mut all, file, pairs)?;
-    add_pair_returns(&mut all, file, pairs)?;
+    add_pair_leaders(&mut all, PairRule::Target, pairs, file)?;
+    add_pair_leaders(&mut all, PairRule::Return, pairs, file)?;
     arrange(&mut all);
     Ok(all)
 }
@@ -61,26 +66,44 @@ fn indirect_leaders(alloc: Global, file: &LoadedFile, pairs: &[u32]) -> Result<V
     let mut indirect = Vec::new(alloc);
     add_named(&mut indirect, file)?;
     add_flow(&mut indirect, file, FlowRule::Links)?;
-    add_pair_returns(&mut indirect, file, pairs)?;
+    add_pair_leaders(&mut indirect, PairRule::Return, pairs, file)?;
     arrange(&mut indirect);
     Ok(indirect)
 }
 
-/// Adds where pairs go.
-fn add_pair_targets(
+/// Adds the leaders that pairs make by a rule.
+fn add_pair_leaders(
     leaders: &mut Vec<u32>,
-    file: &LoadedFile,
+    rule: PairRule,
     pairs: &[u32],
+    file: &LoadedFile,
 ) -> Result<(), AllocError>
     requires read { IsRead file.now.view.now }
-    ensures { OnOk result ((a : ℕ) → has leaders.new.items a ≡ has leaders.old.items a || is_code_word (plain_view file.now.view.now) a && list_any (leads_to (plain_view file.now.view.now) a) pairs.now) }
+    ensures { OnOk result ((a : ℕ) → has leaders.new.items a ≡ has leaders.old.items a || is_code_word (plain_view file.now.view.now) a && list_any (pair_leads rule (plain_view file.now.view.now) a) pairs.now) }
 {
     for pair in pairs {
-        add_pair_target(leaders, file, *pair)?;
+        add_pair_leader(leaders, rule, *pair, file)?;
     }
     Ok(())
 }
 
+/// Adds the leader that one pair makes, if it makes one.
+fn add_pair_leader(
+    leaders: &mut Vec<u32>,
+    rule: PairRule,
+    pair: u32,
+    file: &LoadedFile,
+) -> Result<(), AllocError>
+    requires read { IsRead file.now.view.now }
+    ensures { OnOk result ((a : ℕ) → has leaders.new.items a ≡ has leaders.old.items a || is_code_word (plain_view file.now.view.now) a && pair_leads rule (plain_view file.now.view.now) a pair) }
+{
+    match rule {
+        PairRule::Target => add_pair_target(leaders, file, pair),
+        PairRule::Return => add_pair_return(leaders, file, pair),
+    }
+}
+
+/// Adds where a pair goes.
 fn add_pair_target(leaders: &mut Vec<u32>, file: &LoadedFile, pair: u32) -> Result<(), AllocError>
     requires read { IsRead file.now.view.now }
     ensures { OnOk result ((a : ℕ) → has leaders.new.items a ≡ has leaders.old.items a || is_code_word (plain_view file.now.view.now) a && leads_to (plain_view file.now.view.now) a pair) }
@@ -91,21 +114,7 @@ fn add_pair_target(leaders: &mut Vec<u32>, file: &LoadedFile, pair: u32) -> Resu
     }
 }
 
-/// Adds what is behind the pairs that link.
-fn add_pair_returns(
-    leaders: &mut Vec<u32>,
-    file: &LoadedFile,
-    pairs: &[u32],
-) -> Result<(), AllocError>
-    requires read { IsRead file.now.view.now }
-    ensures { OnOk result ((a : ℕ) → has leaders.new.items a ≡ has leaders.old.items a || is_code_word (plain_view file.now.view.now) a && list_any (returns_to (plain_view file.now.view.now) a) pairs.now) }
-{
-    for pair in pairs {
-        add_pair_return(leaders, file, *pair)?;
-    }
-    Ok(())
-}
-
+/// Adds what is behind a pair that links.
 fn add_pair_return(leaders: &mut Vec<u32>, file: &LoadedFile, pair: u32) -> Result<(), AllocError>
     requires read { IsRead file.now.view.now }
     ensures { OnOk result ((a : ℕ) → has leaders.new.items a ≡ has leaders.old.items a || is_code_word (plain_view file.now.view.now) a && returns_to (plain_view file.now.view.now) a pair) }

@@ -1,6 +1,5 @@
 ghost use Rattle.std.specs.Prelude.{◌≡◌, ◌*◌};
-ghost use Rattle.rv32im.specs.Words.{plus, offset};
-ghost use Rattle.rv32im.specs.Fields.{u_immediate, i_immediate, b_immediate, j_immediate};
+ghost use Rattle.rv32im.specs.{Words.{plus, offset}, Fields.{u_immediate, i_immediate, b_immediate, j_immediate}};
 
 use rv32im::{b_imm, i_imm, j_imm, u_imm};
 

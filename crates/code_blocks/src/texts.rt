@@ -1,8 +1,7 @@
 ghost use Rattle.std.specs.Prelude.{◌≡◌, ◌+◌, ◌*◌, ◌/◌, ◌<◌, length};
 ghost use Rattle.list_checks.specs.Tests.{lies_in};
 ghost use Rattle.elf_reader.specs.File.{plain_view};
-ghost use Rattle.code_blocks.specs.Words.{passes_in, any_code_word};
-ghost use Rattle.code_blocks.specs.Blocks.{is_any};
+ghost use Rattle.code_blocks.specs.{Words.{passes_in, any_code_word}, Blocks.{is_any}};
 
 use elf_reader::Section;
 use loaded_file::{LoadedFile, is_code_range};

@@ -1,12 +1,8 @@
 ghost use Rattle.std.specs.Prelude.{◌≡◌, ℕ, ◌+◌, ◌-◌, ◌/◌, ◌^◌, ◌<◌, true, length, map, IfOk};
 ghost use Rattle.std.specs.List.{All};
-ghost use Rattle.elf_reader.specs.File.{plain_view};
-ghost use Rattle.elf_reader.specs.Loaded.{section_at};
-ghost use Rattle.loaded_file.specs.Code.{holds_code};
-ghost use Rattle.loaded_file.specs.Read.{IsRead};
-ghost use Rattle.code_blocks.specs.AllLeaders.{IsLeaders};
-ghost use Rattle.code_blocks.specs.Ends.{words_left};
-ghost use Rattle.code_blocks.specs.Steps.{IsWalk};
+ghost use Rattle.elf_reader.specs.{File.{plain_view}, Loaded.{section_at}};
+ghost use Rattle.loaded_file.specs.{Code.{holds_code}, Read.{IsRead}};
+ghost use Rattle.code_blocks.specs.{AllLeaders.{IsLeaders}, Ends.{words_left}, Steps.{IsWalk}};
 
 use crate::ends::End;
 use crate::lists::Leaders;

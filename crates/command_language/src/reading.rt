@@ -1,8 +1,6 @@
 ghost use Rattle.std.specs.Prelude.{◌≡◌, ◌+◌, ◌-◌, ◌<◌, ◌≤◌, ◌==◌, not, ◌&&◌, true, false, [], map, bytes_eq, length, position, Some, None, MatchOption, IfOk, IfErr};
 ghost use Rattle.std.specs.List.{list_any};
-ghost use Rattle.command_language.specs.Command.{value_of};
-ghost use Rattle.command_language.specs.Lines.{ended_line, line_of, begins_with, are_within, has_length, is_weight, is_name, is_input_name, is_mix_line, broken_at, mix_lines, plain_input, names_of, TellsBroken};
-ghost use Rattle.command_language.specs.Steps.{BreaksHere, StepsOver};
+ghost use Rattle.command_language.specs.{Command.{value_of}, Lines.{ended_line, line_of, begins_with, are_within, has_length, is_weight, is_name, is_input_name, is_mix_line, broken_at, mix_lines, plain_input, names_of, TellsBroken}, Steps.{BreaksHere, StepsOver}};
 
 use crate::numbers::digits_value;
 use crate::parts::{MixFault, MixInput};

@@ -118,20 +118,25 @@ none_inside rows none n i n_below i_below =
     let below : i < 0 = subst (λ (row : List Edge). i < length row) (none n) i_below in
     absurd (omega (arith, below))
 
+-- what two sets of edges add to rows without an edge
+joined_edges : (A B : ℕ → ℕ → ℕ → Type 0) (none back all : List (List Edge)) → HasNone none → Adds A none back → Adds B back all
+    → (f t x : ℕ) → x < 32 → Lets all f t x ↔ (A f t x ⊎ B f t x)
+joined_edges A B none back all bare one other f t x low = (
+  λ l. elim ((other.edges f t x low).0 l) [
+    | inl before ↦ elim ((one.edges f t x low).0 before) [ inl old ↦ absurd (no_edge_in none f t x bare old) | inr first ↦ inl first ]
+    | inr second ↦ inr second
+  ],
+  λ has. elim has [
+    | inl first ↦ (other.edges f t x low).1 (inl ((one.edges f t x low).1 (inr first)))
+    | inr second ↦ (other.edges f t x low).1 (inr second)
+  ],
+)
+
 pub program_edges : (c : Code) (hub : ℕ) (none back all : List (List Edge)) → HasNone none → Adds (BlockEdges c hub hub) none back
     → Adds (ArrivalEdges c hub (length c.indirect.items)) back all → AreEdges c hub all
 program_edges c hub none back all bare one other =
     record {
-      edges = λ f t x low. (
-        λ l. elim ((other.edges f t x low).0 l) [
-          | inl before ↦ elim ((one.edges f t x low).0 before) [ inl old ↦ absurd (no_edge_in none f t x bare old) | inr first ↦ inl first ]
-          | inr second ↦ inr second
-        ],
-        λ has. elim has [
-          | inl first ↦ (other.edges f t x low).1 (inl ((one.edges f t x low).1 (inr first)))
-          | inr second ↦ (other.edges f t x low).1 (inr second)
-        ],
-      );
+      edges = joined_edges (BlockEdges c hub hub) (ArrivalEdges c hub (length c.indirect.items)) none back all bare one other;
       inside = other.inside (one.inside (none_inside none bare));
     }
 
@@ -141,16 +146,7 @@ pub whole_back : (c : Code) (hub : ℕ) (none back all : List (List Edge)) → l
 whole_back c hub none back all count bare one other =
     record {
       size = other.size ∙ one.size ∙ count;
-      edges = λ f t x low. (
-        λ l. elim ((other.edges f t x low).0 l) [
-          | inl before ↦ elim ((one.edges f t x low).0 before) [ inl old ↦ absurd (no_edge_in none f t x bare old) | inr first ↦ inl first ]
-          | inr second ↦ inr second
-        ],
-        λ has. elim has [
-          | inl first ↦ (other.edges f t x low).1 (inl ((one.edges f t x low).1 (inr first)))
-          | inr second ↦ (other.edges f t x low).1 (inr second)
-        ],
-      );
+      edges = joined_edges (BackEdges c hub hub) (ArrivalEdges c hub (length c.indirect.items)) none back all bare one other;
       inside = other.inside (one.inside (none_inside none bare));
     }
 

@@ -1,9 +1,7 @@
 ghost use Rattle.std.specs.Prelude.{◌≡◌, ◌<◌, ◌+◌, ℕ, length, slice_index_or, OnOk};
 ghost use Rattle.std.specs.List.Sorted.{IsStrictlyIncreasing};
 ghost use Rattle.reach_graph.specs.Reaching.{plain_rows};
-ghost use Rattle.code_blocks.specs.Edges.{is_indirect_end};
-ghost use Rattle.code_blocks.specs.Numbers.{starts_of, start_at};
-ghost use Rattle.code_blocks.specs.Leads.{IsBlockOf};
+ghost use Rattle.code_blocks.specs.{Edges.{is_indirect_end}, Numbers.{starts_of, start_at}, Leads.{IsBlockOf}};
 ghost use Rattle.dataflow.specs.BackEdges.{Adds, OneEdge, ListEdges, DirectEdges, HubEdges, MaskEdges, ArrivalEdges};
 
 use code_blocks::{Code, End};
@@ -35,7 +33,7 @@ pub(crate) fn add_block(
     ensures { OnOk result (Adds (MaskEdges code.now hub block mask) (plain_rows rows.old) (plain_rows rows.new)) }
 {
     add_direct(rows, code, block, mask)?;
-    add_hub(rows, code, block, hub, mask)?;
+    add_hub(rows, hub, code, block, mask)?;
     Ok(())
 }
 
@@ -66,9 +64,9 @@ fn add_each(rows: &mut [Vec<Edge>], nodes: &[u32], to: u32, mask: u64) -> Result
 /// Adds the one from the node of the indirect jumps, where the block ends in one.
 fn add_hub(
     rows: &mut [Vec<Edge>],
+    hub: u32,
     code: &Code,
     block: u32,
-    hub: u32,
     mask: u64,
 ) -> Result<(), AllocError>
     requires nodes { length rows.old ≡ hub + 1 }

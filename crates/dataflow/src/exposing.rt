@@ -2,13 +2,9 @@ ghost use Rattle.std.specs.Prelude.{◌≡◌, ◌↔◌, ◌⊎◌, ◌<◌, �
 ghost use Rattle.std.specs.List.Sorted.{IsStrictlyIncreasing};
 ghost use Rattle.rv32im.specs.declared.instructions.RegSet.{RegSet};
 ghost use Rattle.object_graph.specs.Lookups.{IsSomeGraph};
-ghost use Rattle.code_blocks.specs.Numbers.{starts_of};
-ghost use Rattle.code_blocks.specs.Leads.{units_at};
+ghost use Rattle.code_blocks.specs.{Numbers.{starts_of}, Leads.{units_at}};
 ghost use Rattle.reach_graph.specs.Reaching.{HasMark, word_at};
-ghost use Rattle.dataflow.specs.Points.{IsHolder};
-ghost use Rattle.dataflow.specs.Exposed.{AreExposed, IsAsked};
-ghost use Rattle.dataflow.specs.Transfers.{AddsMarks, IsFound, LeadsInto};
-ghost use Rattle.dataflow.specs.Spreading.{AreSound, AreWords};
+ghost use Rattle.dataflow.specs.{Points.{IsHolder}, Exposed.{AreExposed, IsAsked}, Transfers.{AddsMarks, IsFound, LeadsInto}, Spreading.{AreSound, AreWords}};
 
 use crate::backward::back_edges;
 use crate::holders::holders;

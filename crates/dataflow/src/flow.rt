@@ -2,8 +2,7 @@ ghost use Rattle.std.specs.Prelude.{◌≡◌, ◌<◌, ◌+◌, length, replica
 ghost use Rattle.std.specs.List.Sorted.{IsStrictlyIncreasing};
 ghost use Rattle.reach_graph.specs.Reaching.{plain_rows};
 ghost use Rattle.code_blocks.specs.Numbers.{starts_of};
-ghost use Rattle.dataflow.specs.BackEdges.{Adds, BlockEdges, AreMarks, HasNone};
-ghost use Rattle.dataflow.specs.Tables.{AreLive};
+ghost use Rattle.dataflow.specs.{BackEdges.{Adds, BlockEdges, AreMarks, HasNone}, Tables.{AreLive}};
 
 use crate::edges::{add_arrivals, add_block};
 use crate::summaries::summary_of;
@@ -27,7 +26,7 @@ pub(crate) fn find_live(
     requires words { words.old ≡ replicate (hub + 1) 0 }
     ensures { OnOk result (AreLive code.now words.new) }
 {
-    add_blocks(code, hub, rows, words)?;
+    add_blocks(rows, words, code, hub)?;
     add_arrivals(rows, code, hub)?;
     propagate(alloc, rows, words)?;
     Ok(())
@@ -35,10 +34,10 @@ pub(crate) fn find_live(
 
 /// Adds the edges that lead back to the blocks, and the marks that begin in each.
 fn add_blocks(
-    code: &Code,
-    hub: u32,
     rows: &mut [Vec<Edge>],
     words: &mut [u64],
+    code: &Code,
+    hub: u32,
 ) -> Result<(), AllocError>
     requires ascending { IsStrictlyIncreasing (starts_of code.now) }
     requires hub { hub ≡ length code.now.blocks.items }

@@ -2,8 +2,7 @@ ghost use Rattle.std.specs.Prelude.{◌≡◌, ◌+◌, length, IfOk};
 ghost use Rattle.std.specs.List.Sorted.{IsStrictlyIncreasing};
 ghost use Rattle.reach_graph.specs.Reaching.{plain_rows};
 ghost use Rattle.code_blocks.specs.Numbers.{starts_of};
-ghost use Rattle.dataflow.specs.BackEdges.{HasNone};
-ghost use Rattle.dataflow.specs.Tables.{IsTableOf};
+ghost use Rattle.dataflow.specs.{BackEdges.{HasNone}, Tables.{IsTableOf}};
 
 use crate::flow::find_live;
 use crate::table::LiveTable;

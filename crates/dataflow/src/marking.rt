@@ -1,11 +1,9 @@
 // The objects whose addresses units and words of data have.
 ghost use Rattle.std.specs.Prelude.{◌≡◌, ◌<◌, ◌≤◌, ℕ, List, length, IfSome};
-ghost use Rattle.object_graph.specs.Lookups.{IsSomeGraph};
-ghost use Rattle.object_graph.specs.declared.parts.Site.{Site};
+ghost use Rattle.object_graph.specs.{Lookups.{IsSomeGraph}, declared.parts.Site.{Site}};
 ghost use Rattle.code_blocks.specs.declared.parts.Unit.{Unit};
 ghost use Rattle.reach_graph.specs.Reaching.{HasMark, word_at};
-ghost use Rattle.dataflow.specs.Points.{site_at};
-ghost use Rattle.dataflow.specs.Transfers.{AddsMarks, AreBefore, MakesHere, MakesInto, MakesInBlocks, IsInWords};
+ghost use Rattle.dataflow.specs.{Points.{site_at}, Transfers.{AddsMarks, AreBefore, MakesHere, MakesInto, MakesInBlocks, IsInWords}};
 
 use crate::holders::holders;
 use crate::transfers::before_unit;
@@ -28,7 +26,7 @@ pub(crate) fn mark_made(marks: &mut [bool], code: &Code, graph: &Graph, behind: 
     }
 }
 
-/// The same of some units.
+/// Marks the objects whose addresses some units make and may bring to a marked place behind them.
 fn mark_units(marks: &mut [bool], graph: &Graph, units: &[Unit], behind: u64)
     requires graph { IsSomeGraph graph.now }
     requires objects { length marks.old ≡ length graph.now.objects.items }
@@ -44,7 +42,7 @@ fn mark_units(marks: &mut [bool], graph: &Graph, units: &[Unit], behind: u64)
     }
 }
 
-/// The same of one unit. The word has the registers behind it.
+/// Marks the object whose address a unit makes, if it may come to a marked place. The word has the registers behind the unit.
 fn mark_unit(marks: &mut [bool], word: u64, unit: &Unit, site: Option<Site>)
     requires object { IfSome site (λ s. s.object < length marks.old) }
     ensures { (sites : List Site) (us : List Unit) (behind : ℕ) → site_at sites unit.now.at ≡ site → AreBefore sites us behind word → AddsMarks (MakesHere sites unit.now us behind) marks.old marks.new }

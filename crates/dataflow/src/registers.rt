@@ -2,8 +2,7 @@
 ghost use Rattle.std.specs.Prelude.{◌≡◌, ◌↔◌, ◌<◌, ℕ, true};
 ghost use Rattle.rv32im.specs.RegSet.{IsIn, HasExactly};
 ghost use Rattle.reach_graph.specs.Reaching.{HasMark};
-ghost use Rattle.dataflow.specs.Live.{uses_of, defs_of};
-ghost use Rattle.dataflow.specs.Marks.{ReportsClear};
+ghost use Rattle.dataflow.specs.{Live.{uses_of, defs_of}, Marks.{ReportsClear}};
 
 use rv32im::{Instr, RegSet, defs, uses};
 

@@ -22,11 +22,8 @@ impl Exposure {
     ghost use Rattle.std.specs.Prelude.{◌≡◌, ◌+◌, ◌<◌, ℕ, List, length, OnOk};
     ghost use Rattle.rv32im.specs.declared.instructions.RegSet.{RegSet};
     ghost use Rattle.object_graph.specs.Lookups.{IsSomeGraph};
-    ghost use Rattle.reach_graph.specs.declared.edges.Edge.{Edge};
-    ghost use Rattle.reach_graph.specs.Reaching.{edge_at, plain_rows};
-    ghost use Rattle.reach_graph.specs.Propagation.{GoesOn, IsRow};
-    ghost use Rattle.dataflow.specs.BackEdges.{AreBackEdges};
-    ghost use Rattle.dataflow.specs.Spreading.{AreMore, AreSound, AreSpread, AreWords, IsStep, MeansAlong, PassedUpto};
+    ghost use Rattle.reach_graph.specs.{declared.edges.Edge.{Edge}, Reaching.{edge_at, plain_rows}, Propagation.{GoesOn, IsRow}};
+    ghost use Rattle.dataflow.specs.{BackEdges.{AreBackEdges}, Spreading.{AreMore, AreSound, AreSpread, AreWords, IsStep, MeansAlong, PassedUpto}};
 
     /// Lets the registers before all nodes spread along the edges, as far as they come.
     ///

@@ -1,8 +1,7 @@
 ghost use Rattle.std.specs.Prelude.{◌≡◌, ◌↔◌, ◌⊎◌, ◌<◌, ℕ, length};
 ghost use Rattle.reach_graph.specs.Reaching.{HasMark};
 ghost use Rattle.code_blocks.specs.Leads.{units_in};
-ghost use Rattle.dataflow.specs.Live.{Uses, Defines};
-ghost use Rattle.dataflow.specs.Summaries.{NoneDefines, UsedFirst, PassesOver};
+ghost use Rattle.dataflow.specs.{Live.{Uses, Defines}, Summaries.{NoneDefines, UsedFirst, PassesOver}};
 
 use crate::registers::{among, defs_of, uses_of, without};
 use code_blocks::{Block, Unit};

@@ -20,8 +20,7 @@ impl LiveTable {
     ghost use Rattle.std.specs.Prelude.{◌≡◌, ◌↔◌, ◌<◌, ℕ, true};
     ghost use Rattle.reach_graph.specs.Reaching.{HasMark};
     ghost use Rattle.code_blocks.specs.declared.parts.Code.{Code};
-    ghost use Rattle.dataflow.specs.Live.{Live};
-    ghost use Rattle.dataflow.specs.Tables.{IsTableOf, IsLeastDead};
+    ghost use Rattle.dataflow.specs.{Live.{Live}, Tables.{IsTableOf, IsLeastDead}};
 
     /// Whether a register is live where the block at `leader` begins: whether some path of units from there uses it
     /// before it defines it. Where no block begins none is; x0 never is.

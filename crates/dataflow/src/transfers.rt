@@ -1,11 +1,9 @@
 // Against the flow of control over units.
 ghost use Rattle.std.specs.Prelude.{◌≡◌, ◌≢◌, ◌⊎◌, ◌↔◌, ◌∷◌, ℕ, List};
-ghost use Rattle.object_graph.specs.Lookups.{IsSomeGraph};
-ghost use Rattle.object_graph.specs.declared.parts.Site.{Site};
+ghost use Rattle.object_graph.specs.{Lookups.{IsSomeGraph}, declared.parts.Site.{Site}};
 ghost use Rattle.code_blocks.specs.declared.parts.Unit.{Unit};
 ghost use Rattle.reach_graph.specs.Reaching.{HasMark};
-ghost use Rattle.dataflow.specs.Points.{IsHolder, site_at};
-ghost use Rattle.dataflow.specs.Transfers.{AreBefore};
+ghost use Rattle.dataflow.specs.{Points.{IsHolder, site_at}, Transfers.{AreBefore}};
 
 use crate::holders::{holders, with_register, without_register};
 use crate::units::{first_source, second_source, stored, written};
@@ -27,7 +25,7 @@ pub(crate) fn registers_before(units: &[Unit], graph: &Graph, behind: u64) -> u6
     word
 }
 
-/// The same before one unit more. The word has the registers behind it.
+/// The registers before a unit whose addresses may come to a marked place, by those behind it, which the word has.
 pub(crate) fn before_unit(word: u64, unit: &Unit, site: Option<Site>) -> u64
     ensures { (sites : List Site) (us : List Unit) (behind : ℕ) → site_at sites unit.now.at ≡ site → HasMark behind 0 → AreBefore sites us behind word → AreBefore sites (unit.now ∷ us) behind result }
 {

@@ -1,7 +1,6 @@
 ghost use Rattle.std.specs.Prelude.{◌≡◌, if◌then◌else◌};
 ghost use Rattle.rv32im.specs.Operations.{takes_low_bits};
-ghost use Rattle.dataflow.specs.Points.{is_move};
-ghost use Rattle.dataflow.specs.Flows.{written, first_source, second_source, stored, made_in, made, loads};
+ghost use Rattle.dataflow.specs.{Points.{is_move}, Flows.{written, first_source, second_source, stored, made_in, made, loads}};
 
 use object_graph::{Site, SiteKind};
 use rv32im::{ImmKind, Instr, LoadKind, RegKind};

@@ -9,12 +9,16 @@ use Rattle.list_checks.specs.Tests.{ranges_overlap}
 use Rattle.elf_reader.specs.Layout.{program_header_count, program_header}
 use Rattle.elf_reader.specs.File.{PlainSegment, is_load, segment_of, segments_below, load_segments}
 use Rattle.elf_reader.specs.HeaderChecks.{header_fault}
-use Rattle.elf_reader.specs.ProgramHeaderChecks.{type_fault, load_fault, entry_fault, entries_fault, overlaps, pair_fault, pairs_fault, overlap_fault, memory_fault, table_fault, program_headers_fault}
+use Rattle.elf_reader.specs.ProgramHeaderChecks.{place_fault, type_fault, load_fault, entry_fault, entries_fault, overlaps, pair_fault, pairs_fault, overlap_fault, memory_fault, table_fault, program_headers_fault}
 use Rattle.elf_reader.specs.Faults.{first_fault}
 use Rattle.elf_reader.specs.declared.fault.ElfFault.TheVariants.{Overlap}
-use Rattle.elf_reader.specs.Loadable.{HasSegment, HasSegments, IsByte, AreBytes, IsLoadable, AreLoadable, IsDisjoint, AreDisjoint}
+use Rattle.elf_reader.specs.Loadable.{HasProgramHeaders, HasSegment, HasSegments, IsByte, AreBytes, IsLoadable, AreLoadable, IsDisjoint, AreDisjoint}
 use Rattle.elf_reader.specs.declared.records.ProgramHeader.{ProgramHeader}
 use Rattle.list_checks.proofs.FirstLemmas.{both_none, none_at, holds}
+
+pub program_headers_held : (file : List ℕ) → table_fault file ≡ None → HasProgramHeaders file
+program_headers_held file none k below =
+    leb-true _ _ (holds _ _ (none_at (place_fault file) (program_header_count file) k below none))
 
 -- the segment of a program header without a fault
 pub segment_held : (size k : ℕ) (p : ProgramHeader) → load_fault size k p ≡ None → HasSegment size p

@@ -1,10 +1,9 @@
 ghost use Rattle.std.specs.Prelude.{◌≡◌, ℕ, ◌+◌, ◌*◌, ◌<◌, ◌≤◌, length, slice_index, IfOk, OnOk};
 ghost use Rattle.list_checks.specs.First.{Reports};
-ghost use Rattle.elf_reader.specs.Layout.{file_header};
-ghost use Rattle.elf_reader.specs.Sections.{bit_of};
-ghost use Rattle.elf_reader.specs.HeaderChecks.{size_fault, magic_byte_fault, magic_fault, identification_fault, field_fault, machine_fault, flags_fault, sizes_fault, counts_fault, fields_fault, header_fault};
+ghost use Rattle.elf_reader.specs.{Layout.{file_header}, Sections.{bit_of}, HeaderChecks.{size_fault, magic_byte_fault, magic_fault, identification_fault, field_fault, machine_fault, flags_fault, sizes_fault, counts_fault, fields_fault, header_fault}};
 
 use crate::fault::ElfFault;
+use crate::limit_checks::check_count;
 use crate::numbers::{field, limit};
 use crate::records::{FILE_HEADER_SIZE, FileHeader, PROGRAM_HEADER_SIZE, SECTION_HEADER_SIZE};
 
@@ -53,13 +52,7 @@ fn check_size(bytes: &[u8]) -> Result<(), ElfFault>
     ensures size { OnOk result (FILE_HEADER_SIZE ≤ length bytes.now) }
     ensures small { OnOk result (length bytes.now ≤ MAX_FILE_SIZE) }
 {
-    if bytes.len() > MAX_FILE_SIZE {
-        let count = u32::try_from(bytes.len()).unwrap_or(u32::MAX);
-        return Err(ElfFault::OverLimit {
-            what: limit::FILE_BYTES,
-            count,
-        });
-    }
+    check_count(limit::FILE_BYTES, bytes.len() as u64, MAX_FILE_SIZE as u64)?;
     if bytes.len() < FILE_HEADER_SIZE {
         return Err(ElfFault::TooShort {
             need: FILE_HEADER_SIZE as u32,

@@ -1,8 +1,5 @@
 ghost use Rattle.std.specs.Prelude.{◌≡◌, ℕ, List, None};
-ghost use Rattle.elf_reader.specs.Faults.{first_fault};
-ghost use Rattle.elf_reader.specs.File.{load_segments};
-ghost use Rattle.elf_reader.specs.Loadable.{AreBytes, AreLoadable, AreDisjoint};
-ghost use Rattle.elf_reader.specs.Loaded.{LoadedBytes};
+ghost use Rattle.elf_reader.specs.{Faults.{first_fault}, File.{load_segments}, Loadable.{AreBytes, AreLoadable, AreDisjoint}, Loaded.{LoadedBytes}};
 
 /// The segments of a file without a fault fit into their memory, which ends below 2 ^ 32.
 pub fn segments_are_loadable()

@@ -3,8 +3,10 @@
 
 mod fault;
 mod header;
+mod header_tables;
 mod kinds;
 mod laws;
+mod limit_checks;
 mod numbers;
 mod program_headers;
 mod ranges;
@@ -28,4 +30,5 @@ pub use kinds::{
 };
 pub use laws::{loaded_bytes, segments_are_disjoint, segments_are_loadable};
 pub use reading::read;
+pub use records::{PROGRAM_HEADER_SIZE, RELOCATION_SIZE, SECTION_HEADER_SIZE, SYMBOL_SIZE};
 pub use view::{ElfView, Reloc, Section, Segment, Symbol};

@@ -1,14 +1,14 @@
 ghost use Rattle.std.specs.Prelude.{◌≡◌, ℕ, ◌+◌, ◌*◌, ◌<◌, ◌≤◌, length, OnOk};
 ghost use Rattle.list_checks.specs.First.{Reports};
-ghost use Rattle.elf_reader.specs.Layout.{file_header, program_header};
-ghost use Rattle.elf_reader.specs.ProgramHeaderChecks.{place_fault, table_fault, load_fault, program_fault, entry_fault, entries_fault, memory_size, memory_fault, overlaps, pair_fault, pairs_fault, overlap_fault, program_headers_fault};
-ghost use Rattle.elf_reader.specs.Loadable.{HasProgramTable, HasProgramHeaders, HasSegments};
+ghost use Rattle.elf_reader.specs.{Layout.{file_header, program_header}, ProgramHeaderChecks.{table_fault, load_fault, program_fault, entry_fault, entries_fault, memory_size, memory_fault, overlaps, pair_fault, pairs_fault, overlap_fault, program_headers_fault}, Loadable.{HasProgramTable, HasProgramHeaders, HasSegments}};
 
 use crate::fault::ElfFault;
+use crate::header_tables::{HeaderTable, check_headers};
 use crate::kinds::PT_LOAD;
+use crate::limit_checks::check_count;
 use crate::numbers::{field, limit, table};
 use crate::ranges::intersect;
-use crate::records::{FileHeader, PROGRAM_HEADER_SIZE, ProgramHeader};
+use crate::records::{FileHeader, ProgramHeader};
 
 /// The greatest memory of all segments together, in bytes.
 const MAX_MEMORY: u64 = 16 * 1024 * 1024;
@@ -36,37 +36,16 @@ pub(crate) fn program_header(bytes: &[u8], header: &FileHeader, k: u16) -> Progr
     requires below { k < header.now.e_phnum }
     ensures { result ≡ program_header bytes.now k }
 {
-    ProgramHeader::parse(
-        bytes,
-        header.e_phoff as usize + PROGRAM_HEADER_SIZE * k as usize,
-    )
+    ProgramHeader::parse(bytes, header.program_header_at(k))
 }
 
-#[tactic(auto, using(list_checks::proofs::FirstLemmas::first_found))]
 fn check_table(bytes: &[u8], header: &FileHeader) -> Result<(), ElfFault>
     requires { header.now ≡ file_header bytes.now }
     ensures fault { Reports result (table_fault bytes.now) }
     ensures headers { OnOk result (HasProgramHeaders bytes.now) }
 {
-    for k in 0..header.e_phnum {
-        check_place(bytes, header, k)?;
-    }
+    check_headers(bytes, header, HeaderTable::Programs, header.e_phnum)?;
     Ok(())
-}
-
-fn check_place(bytes: &[u8], header: &FileHeader, k: u16) -> Result<(), ElfFault>
-    requires { header.now ≡ file_header bytes.now }
-    ensures { Reports result (place_fault bytes.now k) }
-{
-    let end = header.e_phoff as usize + PROGRAM_HEADER_SIZE * k as usize + PROGRAM_HEADER_SIZE;
-    if end <= bytes.len() {
-        Ok(())
-    } else {
-        Err(ElfFault::OutOfFile {
-            table: table::PROGRAM_HEADERS,
-            index: u32::from(k),
-        })
-    }
 }
 
 #[tactic(auto, using(list_checks::proofs::FirstLemmas::first_found))]
@@ -134,14 +113,7 @@ fn check_memory(bytes: &[u8], header: &FileHeader) -> Result<(), ElfFault>
     for k in 0..header.e_phnum {
         total += memory_of(&program_header(bytes, header, k));
     }
-    if total > MAX_MEMORY {
-        let count = u32::try_from(total).unwrap_or(u32::MAX);
-        return Err(ElfFault::OverLimit {
-            what: limit::MEMORY_BYTES,
-            count,
-        });
-    }
-    Ok(())
+    check_count(limit::MEMORY_BYTES, total, MAX_MEMORY)
 }
 
 /// The bytes in memory of the segment, if it is to be loaded.

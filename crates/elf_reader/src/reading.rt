@@ -1,12 +1,6 @@
 ghost use Rattle.std.specs.Prelude.{◌≡◌, ◌≤◌, length, IfOk};
 ghost use Rattle.list_checks.specs.First.{ReportsUnless};
-ghost use Rattle.elf_reader.specs.Faults.{first_fault};
-ghost use Rattle.elf_reader.specs.File.{IsFile, segments_of};
-ghost use Rattle.elf_reader.specs.Layout.{file_header};
-ghost use Rattle.elf_reader.specs.Sections.{symbol_table};
-ghost use Rattle.elf_reader.specs.Loadable.{HasProgramHeaders, HasSegments, AreLoadable, AreDisjoint};
-ghost use Rattle.elf_reader.specs.Placed.{HasSectionHeaders, HasContents, HasNamesTable, HasSectionNames};
-ghost use Rattle.elf_reader.specs.SymbolTables.{HasReadable};
+ghost use Rattle.elf_reader.specs.{Faults.{first_fault}, File.{IsFile, segments_of}, Layout.{file_header}, Sections.{symbol_table}, Loadable.{HasProgramHeaders, HasSegments, AreLoadable, AreDisjoint}, Placed.{HasSectionHeaders, HasContents, HasNamesTable, HasSectionNames}, SymbolTables.{HasReadable}};
 
 use crate::fault::ElfFault;
 use crate::header::check_header;

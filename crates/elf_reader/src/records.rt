@@ -1,4 +1,4 @@
-ghost use Rattle.std.specs.Prelude.{◌≡◌, ℕ, ◌+◌, ◌*◌, ◌<◌, ◌≤◌, length};
+ghost use Rattle.std.specs.Prelude.{◌≡◌, ℕ, ◌+◌, ◌*◌, ◌^◌, ◌<◌, ◌≤◌, length};
 ghost use Rattle.elf_reader.specs.Layout.{half_in, word_in};
 
 use byteorder::{ByteOrder, LittleEndian};
@@ -6,17 +6,17 @@ use byteorder::{ByteOrder, LittleEndian};
 /// The bytes of an ELF header.
 pub(crate) const FILE_HEADER_SIZE: usize = 52;
 
-/// The bytes of a program header.
-pub(crate) const PROGRAM_HEADER_SIZE: usize = 32;
+/// The bytes of a program header (ELF, "Program Header": `Elf32_Phdr`).
+pub const PROGRAM_HEADER_SIZE: usize = 32;
 
-/// The bytes of a section header.
-pub(crate) const SECTION_HEADER_SIZE: usize = 40;
+/// The bytes of a section header (ELF, "Sections": `Elf32_Shdr`).
+pub const SECTION_HEADER_SIZE: usize = 40;
 
-/// The bytes of an entry of a symbol table.
-pub(crate) const SYMBOL_SIZE: usize = 16;
+/// The bytes of an entry of a symbol table (ELF, "Symbol Table": `Elf32_Sym`).
+pub const SYMBOL_SIZE: usize = 16;
 
-/// The bytes of a relocation with an addend.
-pub(crate) const RELOCATION_SIZE: usize = 12;
+/// The bytes of a relocation with an addend (ELF, "Relocation": `Elf32_Rela`).
+pub const RELOCATION_SIZE: usize = 12;
 
 /// The fields of the ELF header that are read (ELF, "ELF Header": `Elf32_Ehdr`).
 #[derive(Clone, Copy)]
@@ -60,6 +60,22 @@ impl FileHeader {
             e_shnum: half(bytes, 48),
             e_shstrndx: half(bytes, 50),
         }
+    }
+
+    /// Where program header `k` begins.
+    pub fn program_header_at(&self, k: u16) -> usize
+        ensures place { result ≡ self.now.e_phoff + 32 * k }
+        ensures small { result < 2 ^ 33 }
+    {
+        self.e_phoff as usize + PROGRAM_HEADER_SIZE * k as usize
+    }
+
+    /// Where section header `k` begins.
+    pub fn section_header_at(&self, k: u16) -> usize
+        ensures place { result ≡ self.now.e_shoff + 40 * k }
+        ensures small { result < 2 ^ 33 }
+    {
+        self.e_shoff as usize + SECTION_HEADER_SIZE * k as usize
     }
 }
 
@@ -169,8 +185,7 @@ pub(crate) struct RelocationRecord {
 }
 
 impl RelocationRecord {
-    ghost use Rattle.elf_reader.specs.Layout.{relocation_record_in};
-    ghost use Rattle.elf_reader.specs.Sections.{symbol_of_info, kind_of_info};
+    ghost use Rattle.elf_reader.specs.{Layout.{relocation_record_in}, Sections.{symbol_of_info, kind_of_info}};
 
     /// The relocation at byte `at` of a file.
     #[tactic(auto, unfolding(crate::specs::Layout::relocation_record_in))]

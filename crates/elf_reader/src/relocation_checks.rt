@@ -1,11 +1,10 @@
 ghost use Rattle.std.specs.Prelude.{◌≡◌, ℕ, ◌+◌, ◌<◌, ◌≤◌, OnOk};
 ghost use Rattle.list_checks.specs.First.{Reports};
-ghost use Rattle.elf_reader.specs.Sections.{symbol_table, symbol_count, relocation_count_at, relocation_count_below, relocation_count};
-ghost use Rattle.elf_reader.specs.RelocationChecks.{rel_fault_of, is_table_of, rela_table_fault_of, rela_fault, relas_fault, relocation_limit_fault, is_supported, relocation_fault_of, relocation_fault, section_relocations_fault, relocation_entries_fault, relocations_fault};
-ghost use Rattle.elf_reader.specs.Placed.{HasSectionTable, HasContents};
+ghost use Rattle.elf_reader.specs.{Sections.{symbol_table, symbol_count, relocation_count_at, relocation_count_below, relocation_count}, RelocationChecks.{rel_fault_of, is_table_of, rela_table_fault_of, rela_fault, relas_fault, relocation_limit_fault, is_supported, relocation_fault_of, relocation_fault, section_relocations_fault, relocation_entries_fault, relocations_fault}, Placed.{HasSectionTable, HasContents}};
 
 use crate::fault::ElfFault;
 use crate::kinds::SHT_REL;
+use crate::limit_checks::check_count;
 use crate::numbers::{field, limit, table};
 use crate::records::{FileHeader, RELOCATION_SIZE, RelocationRecord, SectionHeader};
 use crate::relocations::{
@@ -128,14 +127,7 @@ fn check_limit(bytes: &[u8], header: &FileHeader) -> Result<(), ElfFault>
     for k in 0..header.e_shnum {
         total += u64::from(relocation_count_at(bytes, header, k));
     }
-    if total > MAX_RELOCATIONS {
-        let count = u32::try_from(total).unwrap_or(u32::MAX);
-        return Err(ElfFault::OverLimit {
-            what: limit::RELOCATIONS,
-            count,
-        });
-    }
-    Ok(())
+    check_count(limit::RELOCATIONS, total, MAX_RELOCATIONS)
 }
 
 #[tactic(auto, using(list_checks::proofs::FirstLemmas::first_found))]

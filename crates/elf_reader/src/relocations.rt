@@ -1,8 +1,5 @@
 ghost use Rattle.std.specs.Prelude.{◌≡◌, ℕ, ◌+◌, ◌<◌, ◌++◌, IfOk, OnOk};
-ghost use Rattle.elf_reader.specs.Layout.{relocation_record};
-ghost use Rattle.elf_reader.specs.Sections.{is_allocated, is_relocation_section, names_section, relocation_count_at};
-ghost use Rattle.elf_reader.specs.File.{relocation_by, relocations_within, all_relocations};
-ghost use Rattle.elf_reader.specs.Placed.{HasSectionTable, HasContents};
+ghost use Rattle.elf_reader.specs.{Layout.{relocation_record}, Sections.{is_allocated, is_relocation_section, names_section, relocation_count_at}, File.{relocation_by, relocations_within, all_relocations}, Placed.{HasSectionTable, HasContents}};
 
 use crate::kinds::SHT_RELA;
 use crate::records::{FileHeader, RELOCATION_SIZE, RelocationRecord, SectionHeader};

@@ -1,13 +1,10 @@
 ghost use Rattle.std.specs.Prelude.{◌≡◌, ℕ, ◌+◌, ◌*◌, ◌<◌, ◌≤◌, nat_lt, IsTrue, length, OnOk};
 ghost use Rattle.list_checks.specs.First.{Reports, first_below};
-ghost use Rattle.elf_reader.specs.Layout.{file_header, section_count};
-ghost use Rattle.elf_reader.specs.Sections.{is_string_table, names_section, has_name, section_names};
-ghost use Rattle.elf_reader.specs.SectionChecks.{header_place_fault, header_places_fault, overlaps_file_header, table_start_fault, content_fault, section_places_fault, compressed_fault_of, loaded_relocations_fault_of, section_headers_fault, names_table_fault, section_name_fault, section_names_fault, names_fault, sections_fault};
-ghost use Rattle.elf_reader.specs.SectionPasses.{section_fault};
-ghost use Rattle.elf_reader.specs.Placed.{HasSectionTable, HasSectionHeaders, HasContents, HasNamesTable, HasSectionNames};
+ghost use Rattle.elf_reader.specs.{Layout.{file_header, section_count}, Sections.{is_string_table, names_section, has_name, section_names}, SectionChecks.{header_places_fault, overlaps_file_header, table_start_fault, content_fault, section_places_fault, compressed_fault_of, loaded_relocations_fault_of, section_headers_fault, names_table_fault, section_name_fault, section_names_fault, names_fault, sections_fault}, SectionPasses.{section_fault}, Placed.{HasSectionTable, HasSectionHeaders, HasContents, HasNamesTable, HasSectionNames}};
 
 use crate::fault::ElfFault;
 use crate::header::has_bit;
+use crate::header_tables::{HeaderTable, check_headers};
 use crate::kinds::{SHT_REL, SHT_RELA};
 use crate::numbers::{field, table};
 use crate::records::{FILE_HEADER_SIZE, FileHeader, SECTION_HEADER_SIZE, SectionHeader};
@@ -44,31 +41,13 @@ fn check_section_headers(bytes: &[u8], header: &FileHeader) -> Result<(), ElfFau
     check_each(bytes, header, SectionCheck::Loaded)
 }
 
-#[tactic(auto, using(list_checks::proofs::FirstLemmas::first_found))]
 fn check_table(bytes: &[u8], header: &FileHeader) -> Result<(), ElfFault>
     requires { header.now ≡ file_header bytes.now }
     ensures fault { Reports result (header_places_fault bytes.now) }
     ensures headers { OnOk result (HasSectionHeaders bytes.now) }
 {
-    for k in 0..header.e_shnum {
-        check_header_place(bytes, header, k)?;
-    }
+    check_headers(bytes, header, HeaderTable::Sections, header.e_shnum)?;
     Ok(())
-}
-
-fn check_header_place(bytes: &[u8], header: &FileHeader, k: u16) -> Result<(), ElfFault>
-    requires { header.now ≡ file_header bytes.now }
-    ensures { Reports result (header_place_fault bytes.now k) }
-{
-    let end = header.e_shoff as usize + SECTION_HEADER_SIZE * k as usize + SECTION_HEADER_SIZE;
-    if end <= bytes.len() {
-        Ok(())
-    } else {
-        Err(ElfFault::OutOfFile {
-            table: table::SECTION_HEADERS,
-            index: u32::from(k),
-        })
-    }
 }
 
 fn check_table_start(bytes: &[u8], header: &FileHeader) -> Result<(), ElfFault>

@@ -1,12 +1,9 @@
 ghost use Rattle.std.specs.Prelude.{◌≡◌, ℕ, ◌+◌, ◌*◌, ◌<◌, ◌≤◌, [], ◌∷◌, ◌++◌, map, IsTrue, length, IfOk, OnOk};
-ghost use Rattle.elf_reader.specs.Layout.{section_header};
-ghost use Rattle.elf_reader.specs.Sections.{stands_in_file, is_allocated, has_entries, is_string_table, names_section, content_of, section_names};
-ghost use Rattle.elf_reader.specs.File.{plain_section, section_of, all_sections};
-ghost use Rattle.elf_reader.specs.Placed.{HasSectionTable, HasContent, HasContents, HasNamesTable, HasSectionNames};
+ghost use Rattle.elf_reader.specs.{Layout.{section_header}, Sections.{stands_in_file, is_allocated, has_entries, is_string_table, names_section, content_of, section_names}, File.{plain_section, section_of, all_sections}, Placed.{HasSectionTable, HasContent, HasContents, HasNamesTable, HasSectionNames}};
 
 use crate::header::has_bit;
 use crate::kinds::{SHT_NOBITS, SHT_NULL, SHT_STRTAB};
-use crate::records::{FileHeader, SECTION_HEADER_SIZE, SectionHeader};
+use crate::records::{FileHeader, SectionHeader};
 use crate::string_table::StringTable;
 use crate::view::Section;
 use std::alloc::{AllocError, Global};
@@ -73,10 +70,7 @@ pub(crate) fn section_header(bytes: &[u8], header: &FileHeader, k: u16) -> Secti
     requires below { k < header.now.e_shnum }
     ensures { result ≡ section_header bytes.now k }
 {
-    SectionHeader::parse(
-        bytes,
-        header.e_shoff as usize + SECTION_HEADER_SIZE * k as usize,
-    )
+    SectionHeader::parse(bytes, header.section_header_at(k))
 }
 
 /// Whether the content of a section of this type stands in the file.

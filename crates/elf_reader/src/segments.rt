@@ -1,10 +1,9 @@
-ghost use Rattle.std.specs.Prelude.{◌≡◌, ℕ, ◌+◌, ◌<◌, ◌++◌, map, IfOk, OnOk};
-ghost use Rattle.elf_reader.specs.File.{plain_segment, segments_at, load_segments};
-ghost use Rattle.elf_reader.specs.Loadable.{HasProgramTable, HasSegments};
+ghost use Rattle.std.specs.Prelude.{◌≡◌, ℕ, ◌+◌, ◌<◌, ◌++◌, ◌∷◌, [], map, length, if◌then◌else◌, IsTrue, IfOk, OnOk};
+ghost use Rattle.elf_reader.specs.{File.{plain_segment, is_load, segment_of, load_segments}, Loadable.{HasProgramTable, HasSegment, HasSegments}};
 
 use crate::kinds::PT_LOAD;
 use crate::program_headers::program_header;
-use crate::records::FileHeader;
+use crate::records::{FileHeader, ProgramHeader};
 use crate::view::Segment;
 use std::alloc::{AllocError, Global};
 
@@ -14,13 +13,13 @@ pub(crate) fn read_segments<'a>(
     bytes: &'a [u8],
     header: &FileHeader,
 ) -> Result<Vec<Segment<'a>>, AllocError>
-    requires headers { HasProgramTable bytes.now header.now }
     requires segments { HasSegments bytes.now }
+    requires headers { HasProgramTable bytes.now header.now }
     ensures { IfOk result (λ segments. map plain_segment segments.items ≡ load_segments bytes.now) }
 {
     let mut segments = Vec::new(alloc);
     for k in 0..header.e_phnum {
-        push_segment(&mut segments, bytes, header, k)?;
+        push_segment(&mut segments, bytes, k, &program_header(bytes, header, k))?;
     }
     Ok(segments)
 }
@@ -29,15 +28,12 @@ pub(crate) fn read_segments<'a>(
 fn push_segment<'a>(
     segments: &mut Vec<Segment<'a>>,
     bytes: &'a [u8],
-    header: &FileHeader,
     k: u16,
+    program: &ProgramHeader,
 ) -> Result<(), AllocError>
-    requires headers { HasProgramTable bytes.now header.now }
-    requires segments { HasSegments bytes.now }
-    requires below { k < header.now.e_phnum }
-    ensures { OnOk result (map plain_segment segments.new.items ≡ map plain_segment segments.old.items ++ segments_at bytes.now k) }
+    requires { IsTrue (is_load program.now) → HasSegment (length bytes.now) program.now }
+    ensures { OnOk result (map plain_segment segments.new.items ≡ map plain_segment segments.old.items ++ (if is_load program.now then segment_of bytes.now k program.now ∷ [] else [])) }
 {
-    let program = program_header(bytes, header, k);
     if program.p_type != PT_LOAD {
         return Ok(());
     }

@@ -1,6 +1,5 @@
 ghost use Rattle.std.specs.Prelude.{◌≡◌, ℕ, ◌+◌, ◌/◌, ◌<◌, ◌≤◌, IsTrue, nat_lt, length, slice_index, IfOk};
-ghost use Rattle.elf_reader.specs.Sections.{name_in, has_name};
-ghost use Rattle.elf_reader.specs.Names.{zero_from, block_start, IsIndexOf};
+ghost use Rattle.elf_reader.specs.{Sections.{name_in, has_name}, Names.{zero_from, block_start, IsIndexOf}};
 
 use std::alloc::{AllocError, Global};
 

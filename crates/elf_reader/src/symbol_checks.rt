@@ -1,11 +1,6 @@
 ghost use Rattle.std.specs.Prelude.{◌≡◌, ℕ, ◌+◌, ◌*◌, ◌<◌, nat_lt, IsTrue, IfOk};
-ghost use Rattle.list_checks.specs.First.{Reports};
-ghost use Rattle.list_checks.specs.Tests.{any_below};
-ghost use Rattle.elf_reader.specs.Layout.{file_header, section_count, section_header};
-ghost use Rattle.elf_reader.specs.Sections.{is_table_at, is_string_table, names_section, has_name, symbol_table_below, symbol_table, symbol_count_of, symbol_names};
-ghost use Rattle.elf_reader.specs.SymbolChecks.{second_table_fault, one_table_fault, symbol_size_fault, shares_bytes, overlaps_section_headers, shared_table_fault, symbol_strings_fault, symbol_limit_fault, has_section, symbol_fault, symbol_entries_fault, symbol_table_fault, symbols_fault};
-ghost use Rattle.elf_reader.specs.Placed.{HasSectionTable, HasContents, HasSymbols};
-ghost use Rattle.elf_reader.specs.SymbolTables.{HasReadable};
+ghost use Rattle.list_checks.specs.{First.{Reports}, Tests.{any_below}};
+ghost use Rattle.elf_reader.specs.{Layout.{file_header, section_count, section_header}, Sections.{is_table_at, is_string_table, names_section, has_name, symbol_table_below, symbol_table, symbol_count_of, symbol_names}, SymbolChecks.{second_table_fault, one_table_fault, symbol_size_fault, shares_bytes, overlaps_section_headers, shared_table_fault, symbol_strings_fault, symbol_limit_fault, has_section, symbol_fault, symbol_entries_fault, symbol_table_fault, symbols_fault}, Placed.{HasSectionTable, HasContents, HasSymbols}, SymbolTables.{HasReadable}};
 
 use crate::fault::ElfFault;
 use crate::kinds::SHT_SYMTAB;

@@ -1,9 +1,5 @@
 ghost use Rattle.std.specs.Prelude.{◌≡◌, ℕ, ◌+◌, ◌*◌, ◌<◌, ◌≤◌, ◌++◌, ◌∷◌, [], map, IsTrue, length, IfOk, OnOk};
-ghost use Rattle.elf_reader.specs.Layout.{section_header, symbol_record};
-ghost use Rattle.elf_reader.specs.Sections.{is_string_table, names_section, symbol_table, symbol_count_of, symbol_count, symbol_names};
-ghost use Rattle.elf_reader.specs.File.{plain_symbol, symbol_of, symbols_below, all_symbols};
-ghost use Rattle.elf_reader.specs.Placed.{HasSectionTable, HasContents, HasSymbols};
-ghost use Rattle.elf_reader.specs.SymbolTables.{IsReadable, HasReadable};
+ghost use Rattle.elf_reader.specs.{Layout.{section_header, symbol_record}, Sections.{is_string_table, names_section, symbol_table, symbol_count_of, symbol_count, symbol_names}, File.{plain_symbol, symbol_of, symbols_below, all_symbols}, Placed.{HasSectionTable, HasContents, HasSymbols}, SymbolTables.{IsReadable, HasReadable}};
 
 use crate::records::{FileHeader, SYMBOL_SIZE, SectionHeader, SymbolRecord};
 use crate::sections::{content, section_header};

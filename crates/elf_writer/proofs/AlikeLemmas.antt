@@ -1,5 +1,5 @@
 -- Records that are read from two files in which the same bytes stand.
-use Rattle.std.proofs.Common.{◌≡◌, ◌∙◌, ℕ, ◌+◌, ◌<◌, ◌≤◌, List, slice_index, sym, ap, arith}
+use Rattle.std.proofs.Common.{◌≡◌, ◌∙◌, ℕ, ◌+◌, ◌<◌, ◌≤◌, List, slice_index, refl, sym, ap, arith}
 use Rattle.std.specs.Int.{cast_signed, w32}
 use Rattle.rv32im.specs.Words.{half_of, word_of}
 use Rattle.elf_reader.specs.Layout.{half_in, word_in, program_header_in, section_header_in, relocation_record_in}
@@ -29,37 +29,26 @@ word_alike f at g to n k a b alike below is_a is_b =
 pub program_header_alike : (f : List ℕ) (at : ℕ) (g : List ℕ) (to : ℕ) → Alike f at g to 32 → program_header_in f at ≡ program_header_in g to
 unfolding program_header_in
 program_header_alike f at g to alike =
-    let kind = word_alike f at g to 32 0 at to alike (omega arith) (omega arith) (omega arith) in
-    let offset = word_alike f at g to 32 4 (at + 4) (to + 4) alike (omega arith) (omega arith) (omega arith) in
-    let vaddr = word_alike f at g to 32 8 (at + 8) (to + 8) alike (omega arith) (omega arith) (omega arith) in
-    let filesz = word_alike f at g to 32 16 (at + 16) (to + 16) alike (omega arith) (omega arith) (omega arith) in
-    let memsz = word_alike f at g to 32 20 (at + 20) (to + 20) alike (omega arith) (omega arith) (omega arith) in
-    let flags = word_alike f at g to 32 24 (at + 24) (to + 24) alike (omega arith) (omega arith) (omega arith) in
-    λ i. record { p_type = kind i; p_offset = offset i; p_vaddr = vaddr i; p_filesz = filesz i; p_memsz = memsz i; p_flags = flags i }
+    let word : (k : ℕ) → k + 4 ≤ 32 → word_in f (at + k) ≡ word_in g (to + k) = λ k inside. word_alike f at g to 32 k (at + k) (to + k) alike inside refl refl in
+    let first = word_alike f at g to 32 0 at to alike (omega arith) (omega arith) (omega arith) in
+    λ i. record { p_type = first i; p_offset = word 4 (omega arith) i; p_vaddr = word 8 (omega arith) i; p_filesz = word 16 (omega arith) i; p_memsz = word 20 (omega arith) i; p_flags = word 24 (omega arith) i }
 
 pub section_header_alike : (f : List ℕ) (at : ℕ) (g : List ℕ) (to : ℕ) → Alike f at g to 40 → section_header_in f at ≡ section_header_in g to
 unfolding section_header_in
 section_header_alike f at g to alike =
-    let name = word_alike f at g to 40 0 at to alike (omega arith) (omega arith) (omega arith) in
-    let kind = word_alike f at g to 40 4 (at + 4) (to + 4) alike (omega arith) (omega arith) (omega arith) in
-    let flags = word_alike f at g to 40 8 (at + 8) (to + 8) alike (omega arith) (omega arith) (omega arith) in
-    let addr = word_alike f at g to 40 12 (at + 12) (to + 12) alike (omega arith) (omega arith) (omega arith) in
-    let offset = word_alike f at g to 40 16 (at + 16) (to + 16) alike (omega arith) (omega arith) (omega arith) in
-    let size = word_alike f at g to 40 20 (at + 20) (to + 20) alike (omega arith) (omega arith) (omega arith) in
-    let link = word_alike f at g to 40 24 (at + 24) (to + 24) alike (omega arith) (omega arith) (omega arith) in
-    let info = word_alike f at g to 40 28 (at + 28) (to + 28) alike (omega arith) (omega arith) (omega arith) in
-    let entsize = word_alike f at g to 40 36 (at + 36) (to + 36) alike (omega arith) (omega arith) (omega arith) in
+    let word : (k : ℕ) → k + 4 ≤ 40 → word_in f (at + k) ≡ word_in g (to + k) = λ k inside. word_alike f at g to 40 k (at + k) (to + k) alike inside refl refl in
+    let first = word_alike f at g to 40 0 at to alike (omega arith) (omega arith) (omega arith) in
     λ i.
     record {
-      sh_name = name i;
-      sh_type = kind i;
-      sh_flags = flags i;
-      sh_addr = addr i;
-      sh_offset = offset i;
-      sh_size = size i;
-      sh_link = link i;
-      sh_info = info i;
-      sh_entsize = entsize i;
+      sh_name = first i;
+      sh_type = word 4 (omega arith) i;
+      sh_flags = word 8 (omega arith) i;
+      sh_addr = word 12 (omega arith) i;
+      sh_offset = word 16 (omega arith) i;
+      sh_size = word 20 (omega arith) i;
+      sh_link = word 24 (omega arith) i;
+      sh_info = word 28 (omega arith) i;
+      sh_entsize = word 36 (omega arith) i;
     }
 
 pub relocation_alike : (f : List ℕ) (at : ℕ) (g : List ℕ) (to : ℕ) → Alike f at g to 12 → relocation_record_in f at ≡ relocation_record_in g to

@@ -1,7 +1,7 @@
 -- The ELF header of a written file, read back.
-use Rattle.std.proofs.Common.{◌≡◌, ◌∙◌, ℕ, ◌+◌, ◌<◌, List, slice_index, Option, Some, None, sym, ap, arith}
+use Rattle.std.proofs.Common.{◌≡◌, ◌∙◌, ℕ, ◌+◌, ◌<◌, ◌≤◌, List, slice_index, Option, Some, None, sym, ap, arith}
 use Rattle.rv32im.specs.Words.{byte_of, half_of, word_of}
-use Rattle.elf_reader.specs.Layout.{file_header}
+use Rattle.elf_reader.specs.Layout.{half_in, word_in, file_header}
 use Rattle.elf_reader.specs.File.{view_in}
 use Rattle.elf_reader.specs.Faults.{first_fault}
 use Rattle.elf_writer.specs.declared.parts.Patch.{Patch}
@@ -36,6 +36,15 @@ header_byte file ps s ms q none is below =
     ∙ (byte_changed-append (content_changes v ps ms) (header_changes v s) q (slice_index file q)
     ∙ ap (byte_changed (header_changes v s) q) (free_stays (content_changes v ps ms) q (slice_index file q) free))
 
+-- without a new segment a field of the header is the same
+word_stays : (file : List ℕ) (ps : List Patch) (ms : List SymbolMove) (k : ℕ) → first_fault file ≡ None → IsWritable (view_in file) ps None ms → k + 4 ≤ 52 → word_in (written (view_in file) ps None ms) k ≡ word_in file k
+word_stays file ps ms k none is inside =
+    word_alike (written (view_in file) ps None ms) 0 file 0 52 k k k (header_alike file ps ms none is) inside (omega arith) (omega arith)
+
+half_stays : (file : List ℕ) (ps : List Patch) (ms : List SymbolMove) (k : ℕ) → first_fault file ≡ None → IsWritable (view_in file) ps None ms → k + 2 ≤ 52 → half_in (written (view_in file) ps None ms) k ≡ half_in file k
+half_stays file ps ms k none is inside =
+    half_alike (written (view_in file) ps None ms) 0 file 0 52 k k k (header_alike file ps ms none is) inside (omega arith) (omega arith)
+
 -- what stays in any case
 pub record KeepsHeader (file out : List ℕ) : Type 0 where
   pub flags : (file_header out).e_flags ≡ (file_header file).e_flags
@@ -46,13 +55,11 @@ pub record KeepsHeader (file out : List ℕ) : Type 0 where
 pub keeps_header : (file : List ℕ) (ps : List Patch) (new : Option NewSegment) (ms : List SymbolMove) → first_fault file ≡ None → IsWritable (view_in file) ps new ms → KeepsHeader file (written (view_in file) ps new ms)
 unfolding file_header
 keeps_header file ps None ms none is =
-    let out = written (view_in file) ps None ms in
-    let alike = header_alike file ps ms none is in
     record {
-      flags = word_alike out 0 file 0 52 36 36 36 alike (omega arith) (omega arith) (omega arith);
-      sections_at = word_alike out 0 file 0 52 32 32 32 alike (omega arith) (omega arith) (omega arith);
-      sections = half_alike out 0 file 0 52 48 48 48 alike (omega arith) (omega arith) (omega arith);
-      names = half_alike out 0 file 0 52 50 50 50 alike (omega arith) (omega arith) (omega arith);
+      flags = word_stays file ps ms 36 none is (omega arith);
+      sections_at = word_stays file ps ms 32 none is (omega arith);
+      sections = half_stays file ps ms 48 none is (omega arith);
+      names = half_stays file ps ms 50 none is (omega arith);
     }
 keeps_header file ps (Some s) ms none is =
     let out = written (view_in file) ps (Some s) ms in
@@ -79,12 +86,10 @@ whole_half n fits = omega arith
 pub header_is : (file : List ℕ) (ps : List Patch) (new : Option NewSegment) (ms : List SymbolMove) → first_fault file ≡ None → IsWritable (view_in file) ps new ms → HasWordEntry new → IsHeader (written (view_in file) ps new ms) (written_entry (view_in file) new) (written_ph_at (view_in file) new) (written_ph_count (view_in file) new)
 unfolding file_header
 header_is file ps None ms none is entry =
-    let out = written (view_in file) ps None ms in
-    let alike = header_alike file ps ms none is in
     record {
-      entry_is = word_alike out 0 file 0 52 24 24 24 alike (omega arith) (omega arith) (omega arith);
-      at_is = word_alike out 0 file 0 52 28 28 28 alike (omega arith) (omega arith) (omega arith);
-      count_is = half_alike out 0 file 0 52 44 44 44 alike (omega arith) (omega arith) (omega arith);
+      entry_is = word_stays file ps ms 24 none is (omega arith);
+      at_is = word_stays file ps ms 28 none is (omega arith);
+      count_is = half_stays file ps ms 44 none is (omega arith);
     }
 header_is file ps (Some s) ms none is entry =
     let v = view_in file in

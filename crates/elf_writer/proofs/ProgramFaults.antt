@@ -69,18 +69,13 @@ program_kept size more j k p le none =
 new_kept : (out : List ℕ) (at place base size k : ℕ) → IsLoadHeader out at place base size size 7 → place + size ≤ length out → base + size < 4294967296 → program_fault (length out) k (program_header_in out at) ≡ None
 new_kept out at place base size k facts inside ends =
     let p = program_header_in out at in
-    let kind = facts.kind in
-    let offset = facts.offset in
-    let vaddr = facts.vaddr in
-    let filesz = facts.filesz in
-    let memsz = facts.memsz in
-    let load : is_load p ≡ true = ap (λ (n : ℕ). n == 1) kind in
-    let typed : type_fault p ≡ None = unless_true _ _ (grind (arith, nat_tests, kind)) in
+    let load : is_load p ≡ true = ap (λ (n : ℕ). n == 1) facts.kind in
+    let typed : type_fault p ≡ None = unless_true _ _ (grind (arith, nat_tests, facts.kind)) in
     let held : HasSegment (length out) p =
     record {
-      inside = omega (arith, inside, offset, filesz);
-      fits = omega (arith, filesz, memsz);
-      ends = omega (arith, ends, vaddr, memsz);
+      inside = omega (arith, inside, facts.offset, facts.filesz);
+      fits = omega (arith, facts.filesz, facts.memsz);
+      ends = omega (arith, ends, facts.vaddr, facts.memsz);
     }
     in
     none_or (type_fault p) (if is_load p then load_fault (length out) k p else None) typed (rw load (load_holds (length out) k p held))

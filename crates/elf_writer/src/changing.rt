@@ -1,11 +1,7 @@
 //! Changes of a file's bytes where they stand.
 ghost use Rattle.std.specs.Prelude.{◌≡◌, ℕ, ◌+◌, ◌≤◌, ◌<◌, ◌∷◌, [], List, map, length, All};
 ghost use Rattle.elf_reader.specs.File.{plain_symbol};
-ghost use Rattle.elf_writer.specs.Pieces.{half_bytes, word_bytes};
-ghost use Rattle.elf_writer.specs.Changes.{Change, changed};
-ghost use Rattle.elf_writer.specs.Parts.{patch_change, move_changes, moves_changes};
-ghost use Rattle.elf_writer.specs.Conditions.{HasWordValue};
-ghost use Rattle.elf_writer.specs.Fits.{PatchFits, MoveFits};
+ghost use Rattle.elf_writer.specs.{Pieces.{half_bytes, word_bytes}, Changes.{Change, changed}, Parts.{patch_change, move_changes, moves_changes}, Conditions.{HasWordValue}, Fits.{PatchFits, MoveFits}};
 
 use crate::parts::{Patch, SymbolMove};
 use elf_reader::Symbol;

@@ -1,5 +1,4 @@
-ghost use Rattle.elf_writer.specs.Images.{NewBytesLoaded, ChangedBytesLoaded, ZerosLoaded, OthersUntouched, UntouchedStay, PatchesLoaded, WordsLoaded, OthersLoaded};
-ghost use Rattle.elf_writer.specs.Laws.{BytesWritten, RangesWritten, OthersStay, WrittenReadsBack, WrittenIsFile, WrittenFaults};
+ghost use Rattle.elf_writer.specs.{Images.{NewBytesLoaded, ChangedBytesLoaded, ZerosLoaded, OthersUntouched, UntouchedStay, PatchesLoaded, WordsLoaded, OthersLoaded}, Laws.{BytesWritten, RangesWritten, OthersStay, WrittenReadsBack, WrittenIsFile, WrittenFaults}};
 
 /// A byte of the input stays in the file that is written, but for the changes of its place.
 pub fn bytes_written()

@@ -1,20 +1,12 @@
 //! The program headers of a file with one more segment.
 ghost use Rattle.std.specs.Prelude.{◌≡◌, ℕ, ◌+◌, ◌*◌, ◌<◌, ◌≤◌, ◌++◌, ◌∷◌, [], map, length, OnOk};
 ghost use Rattle.elf_reader.specs.File.{plain_segment, plain_view};
-ghost use Rattle.elf_writer.specs.Pieces.{words_bytes};
-ghost use Rattle.elf_writer.specs.Parts.{new_segment, content_place};
-ghost use Rattle.elf_writer.specs.Written.{place_among, new_number, new_record, new_table};
+ghost use Rattle.elf_writer.specs.{Pieces.{words_bytes}, Parts.{new_segment, content_place}, Written.{place_among, new_number, new_record, new_table}};
 
 use crate::parts::SegmentBytes;
 use crate::pieces::push_words;
-use elf_reader::{ElfView, Segment};
+use elf_reader::{ElfView, PROGRAM_HEADER_SIZE, PT_LOAD, Segment};
 use std::alloc::AllocError;
-
-/// The bytes of a program header.
-pub(crate) const PROGRAM_HEADER_SIZE: usize = 32;
-
-/// The type of a segment to be loaded (`PT_LOAD`).
-const PT_LOAD: u32 = 1;
 
 /// Readable, writable and executable (`PF_R`, `PF_W`, `PF_X`).
 const FLAGS: u32 = 7;

@@ -1,19 +1,12 @@
 ghost use Rattle.std.specs.Prelude.{◌≡◌, ℕ, ◌+◌, ◌*◌, ◌<◌, ◌≤◌, ◌++◌, ◌∷◌, [], List, Option, Some, None, map, length, option_map, OnOk, IfOk, All};
-ghost use Rattle.elf_reader.specs.File.{IsFile, plain_symbol, plain_view, view_in};
-ghost use Rattle.elf_reader.specs.Faults.{first_fault};
-ghost use Rattle.elf_writer.specs.Pieces.{half_bytes, word_bytes};
-ghost use Rattle.elf_writer.specs.Changes.{Change, changed};
-ghost use Rattle.elf_writer.specs.Parts.{new_segment, patch_change, moves_changes, content_changes, table_place, header_changes};
-ghost use Rattle.elf_writer.specs.Written.{appended, written};
-ghost use Rattle.elf_writer.specs.Fits.{PatchFits, MoveFits, SegmentFits, WriteFits};
-ghost use Rattle.elf_writer.specs.Conditions.{IsWritable, HasWordValue, HasWords};
-ghost use Rattle.elf_writer.specs.View.{written_view};
+ghost use Rattle.elf_reader.specs.{File.{IsFile, plain_symbol, plain_view, view_in}, Faults.{first_fault}};
+ghost use Rattle.elf_writer.specs.{Pieces.{half_bytes, word_bytes}, Changes.{Change, changed}, Parts.{new_segment, patch_change, moves_changes, content_changes, table_place, header_changes}, Written.{appended, written}, Fits.{PatchFits, MoveFits, SegmentFits, WriteFits}, Conditions.{IsWritable, HasWordValue, HasWords}, View.{written_view}};
 
 use crate::changing::{put_half, put_moves, put_patches, put_word};
 use crate::parts::{Patch, SegmentBytes, SymbolMove};
 use crate::pieces::{padding_after, push_zeros};
-use crate::program_headers::{PROGRAM_HEADER_SIZE, push_table};
-use elf_reader::{ElfView, Symbol};
+use crate::program_headers::push_table;
+use elf_reader::{ElfView, PROGRAM_HEADER_SIZE, Symbol};
 use std::alloc::{AllocError, Global};
 
 // Where fields stand in the ELF header (ELF, "ELF Header": `Elf32_Ehdr`).
@@ -110,8 +103,8 @@ fn with_contents(
 fn write_fitting(
     alloc: Global,
     base: &ElfView,
-    patches: &[Patch],
     segment: Option<&SegmentBytes>,
+    patches: &[Patch],
     moves: &[SymbolMove],
 ) -> Result<Vec<u8>, AllocError>
     requires { WriteFits (plain_view base.now) patches.now (option_map (λ s. new_segment s.now) segment) moves.now }
@@ -148,5 +141,5 @@ pub fn write(
     ensures bytes { IfOk result (λ out. out.items ≡ written (plain_view base.now) patches.now (option_map (λ s. new_segment s.now) segment.entry) moves.now) }
     ensures reads { IfOk result (λ out. view_in out.items ≡ written_view (plain_view base.now) patches.now (option_map (λ s. new_segment s.now) segment.entry) moves.now) }
 {
-    write_fitting(alloc, base, patches, segment, moves)
+    write_fitting(alloc, base, segment, patches, moves)
 }

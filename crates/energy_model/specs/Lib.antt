@@ -1,3 +1,4 @@
+-- The energy of a run under a choice, and what overlay costs and items save with it, counted from a profile.
 pub use Rattle.object_machine.specs.Machine
 pub use Rattle.placement_programme.specs.Rows
 pub use Rattle.profile_runner.specs.Transitions

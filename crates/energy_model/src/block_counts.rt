@@ -3,7 +3,7 @@
 pub struct BlockCounts {
     /// The words of each block at home, as often as they ran.
     pub home: Vec<u128>,
-    /// The same in a copy where all that the block leads to is of that copy.
+    /// The words of each block, as often as they ran, in a copy where all that the block leads to is of that copy.
     pub copied: Vec<u128>,
     /// For each block whether the run stopped with an edge to it: 1, and else 0.
     pub pending: Vec<u128>,

@@ -1,8 +1,7 @@
 ghost use Rattle.std.specs.Prelude.{◌≡◌, ◌+◌, ◌-◌, ◌<◌, ◌≤◌, ◌==◌, if◌then◌else◌, length, IfOk};
 ghost use Rattle.object_graph.specs.declared.parts.Graph.{Graph};
 ghost use Rattle.code_blocks.specs.Numbers.{start_at};
-ghost use Rattle.energy_model.specs.Copied.{arrivals_in, block_words, coming, pending, values};
-ghost use Rattle.energy_model.specs.Counts.{CountsCode, AreComing, AreBlockCounts};
+ghost use Rattle.energy_model.specs.{Copied.{arrivals_in, block_words, coming, pending, values}, Counts.{CountsCode, AreComing, AreBlockCounts}};
 
 use crate::block_counts::BlockCounts;
 use crate::edges::{coming, edge_starts};

@@ -1,7 +1,5 @@
 ghost use Rattle.std.specs.Prelude.{◌≡◌, ◌<◌, ◌≤◌, if◌then◌else◌, false, length, slice_index_or};
-ghost use Rattle.energy_model.specs.Copied.{arrivals_in};
-ghost use Rattle.energy_model.specs.Counts.{most_run};
-ghost use Rattle.energy_model.specs.Overlay.{checks_in};
+ghost use Rattle.energy_model.specs.{Copied.{arrivals_in}, Counts.{most_run}, Overlay.{checks_in}};
 
 use profile_runner::Profile;
 

@@ -41,7 +41,7 @@ pub fn into_price(rounds: u32, prices: &Prices) -> u128
     job_price(rounds, prices, prices.main_read, prices.spm_write)
 }
 
-/// The same of one that copies an object back, where it is writable.
+/// What the copy loop of an object costs that copies it back, where it is writable.
 pub fn back_price(object: &Object, prices: &Prices) -> u128
     ensures sum { result ≡ (if object.now.writable then back_price prices.now (object_rounds object.now) else 0) }
     ensures small { result < 2 ^ 70 }

@@ -1,8 +1,7 @@
 ghost use Rattle.std.specs.Prelude.{◌≡◌, suc, ℕ, ◌+◌, ◌<◌, ◌≤◌, true, length, slice_index_or, IfOk};
 ghost use Rattle.std.specs.List.{All, AllPairs};
 ghost use Rattle.profile_runner.specs.Counts.{precedes};
-ghost use Rattle.energy_model.specs.Copied.{coming, edges_before, values};
-ghost use Rattle.energy_model.specs.Counts.{most_run, Raises, AreComing};
+ghost use Rattle.energy_model.specs.{Copied.{coming, edges_before, values}, Counts.{most_run, Raises, AreComing}};
 
 use profile_runner::Edge;
 use std::alloc::{AllocError, Global};

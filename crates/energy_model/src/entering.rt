@@ -1,12 +1,7 @@
 ghost use Rattle.std.specs.Prelude.{◌≡◌, ◌+◌, ◌-◌, ◌*◌, ◌<◌, ◌≤◌, true, false, length, slice_index_or, if◌then◌else◌};
 ghost use Rattle.list_checks.specs.Sorted.{sum_below};
-ghost use Rattle.block_splitter.specs.Forms.{body_at, holds_block};
-ghost use Rattle.block_splitter.specs.Pieces.{IsRange};
-ghost use Rattle.energy_model.specs.Energy.{may_stay};
-ghost use Rattle.energy_model.specs.Copied.{arrivals_in, leaving, pending, pending_to};
-ghost use Rattle.energy_model.specs.Counts.{AreEdgeStarts, most_run};
-ghost use Rattle.energy_model.specs.Overlay.{is_entered};
-ghost use Rattle.energy_model.specs.Entering.{if_border, entered_in, stays_entered, AreRunTables, IsEnteringBlock, AreEntering, AreEnteringAdded, AreFewEntering, IsEnteringCount};
+ghost use Rattle.block_splitter.specs.{Forms.{body_at, holds_block}, Pieces.{IsRange}};
+ghost use Rattle.energy_model.specs.{Energy.{may_stay}, Copied.{arrivals_in, leaving, pending, pending_to}, Counts.{AreEdgeStarts, most_run}, Overlay.{is_entered}, Entering.{if_border, entered_in, stays_entered, AreRunTables, IsEnteringBlock, AreEntering, AreEnteringAdded, AreFewEntering, IsEnteringCount}};
 
 use crate::block_counts::BlockCounts;
 use crate::checks::checks_at;
@@ -57,7 +52,7 @@ fn staying(tables: &RunTables<'_>, range: &BlockRange, a: usize) -> u128
     total
 }
 
-/// The same where it may stay in the copy.
+/// How often control went from block `a` to a block of the piece by which it enters a region, and may stay in the copy.
 fn stays_entered(tables: &RunTables<'_>, range: &BlockRange, a: usize) -> u128
     requires tables { AreRunTables tables.now.code.now tables.now.graph.now tables.now.regions.now tables.now.profile.now tables.now.counts.now }
     requires held { holds_block a range.now ≡ true }
@@ -87,7 +82,7 @@ fn pending_of(counts: &BlockCounts, b: usize) -> u128
     counts.pending[b]
 }
 
-/// The same where control enters a region by that block.
+/// Whether the run stopped with an edge to block `b` by which control enters a region.
 fn pending_at(tables: &RunTables<'_>, b: usize) -> u128
     requires tables { AreRunTables tables.now.code.now tables.now.graph.now tables.now.regions.now tables.now.profile.now tables.now.counts.now }
     requires inside { b < length tables.now.code.now.blocks.items }

@@ -5,7 +5,7 @@ pub struct EnteringCounts {
     pub checks: u128,
     /// The words of their first units that run displaced.
     pub displaced: u128,
-    /// The same at home.
+    /// The words of their first units that run at home.
     pub first: u128,
     /// How often control came to them from outside the piece.
     pub came: u128,

@@ -2,10 +2,7 @@ ghost use Rattle.std.specs.Prelude.{◌≡◌, ◌+◌, ◌-◌, ◌*◌, ◌<�
 ghost use Rattle.object_graph.specs.Lookups.{IsSomeGraph};
 ghost use Rattle.profile_runner.specs.Transition.{is_going};
 ghost use Rattle.block_splitter.specs.Forms.{body_of, body_at, unit_in, is_site, kind_of, displaced_words};
-ghost use Rattle.energy_model.specs.Overlay.{ends_first, first_runs, displaced_run, first_words};
-ghost use Rattle.energy_model.specs.Counts.{CountsCode};
-ghost use Rattle.energy_model.specs.Entering.{displaced_of, first_of, if_border};
-ghost use Rattle.energy_model.specs.OverlayCost.{CountsOverlay};
+ghost use Rattle.energy_model.specs.{Overlay.{ends_first, first_runs, displaced_run, first_words}, Counts.{CountsCode}, Entering.{displaced_of, first_of, if_border}, OverlayCost.{CountsOverlay}};
 
 use block_splitter::{UnitKind, kind_of};
 use code_blocks::{Block, Code};
@@ -107,7 +104,7 @@ pub(crate) fn displaced_of(
     }
 }
 
-/// The same of its words at home.
+/// The words of the first unit of block `b` at home, as often as they ran, where control enters a region there.
 pub(crate) fn first_of(code: &Code, profile: &Profile, regions: &RegionTable, b: usize) -> u128
     requires counts { (g : Graph) × CountsCode code.now g profile.now }
     requires borders { length regions.now.border.items ≡ length code.now.blocks.items }

@@ -1,6 +1,5 @@
 // Laws of the definitions: functions that do nothing, whose contracts are what is proved.
-ghost use Rattle.energy_model.specs.Overlay.{OverlayIsCounted, ObjectIsCounted, KeptIsCounted, PieceIsCounted};
-ghost use Rattle.energy_model.specs.Together.{SavesAsAlone};
+ghost use Rattle.energy_model.specs.{Overlay.{OverlayIsCounted, ObjectIsCounted, KeptIsCounted, PieceIsCounted}, Together.{SavesAsAlone}};
 
 /// What overlay costs with nothing taken is what the tables of a profile count.
 pub fn overlay_is_counted()

@@ -1,6 +1,5 @@
 ghost use Rattle.std.specs.Prelude.{◌≡◌, ◌+◌, ◌-◌, ◌*◌, ◌^◌, ◌<◌, ◌≤◌, true, false, length, if◌then◌else◌};
-ghost use Rattle.energy_model.specs.Overlay.{reads_in, writes_in, accesses_price, twin_switches};
-ghost use Rattle.energy_model.specs.Gains.{overlaid_counts, kept_counts, object_copied, object_saves, AreSmallCounts, HasPlace, HasSwitches};
+ghost use Rattle.energy_model.specs.{Overlay.{reads_in, writes_in, accesses_price, twin_switches}, Gains.{overlaid_counts, kept_counts, object_copied, object_saves, AreSmallCounts, HasPlace, HasSwitches}};
 
 use crate::copy_prices::{back_price, into_price, object_rounds};
 use crate::object_counts::ObjectCounts;
@@ -29,7 +28,7 @@ fn home_price(counts: &ObjectCounts, prices: &Prices) -> u128
     reads + u128::from(counts.writes) * u128::from(prices.main_write)
 }
 
-/// The same in the scratchpad.
+/// What the accesses to an object cost in the scratchpad.
 fn moved_price(counts: &ObjectCounts, prices: &Prices) -> u128
     requires { AreSmallCounts counts.now }
     ensures sum { result ≡ accesses_price prices.now true counts.now.reads counts.now.writes }

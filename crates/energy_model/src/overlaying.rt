@@ -1,8 +1,5 @@
 ghost use Rattle.std.specs.Prelude.{◌≡◌, ◌+◌, ◌-◌, ◌*◌, ◌^◌, ◌<◌, ◌≤◌, false, true, length};
-ghost use Rattle.energy_model.specs.Energy.{arrival_price};
-ghost use Rattle.energy_model.specs.Overlay.{checks_in, checks_price};
-ghost use Rattle.energy_model.specs.Counts.{CountsCode};
-ghost use Rattle.energy_model.specs.OverlayCost.{CountsOverlay, overlay_cost};
+ghost use Rattle.energy_model.specs.{Energy.{arrival_price}, Overlay.{checks_in, checks_price}, Counts.{CountsCode}, OverlayCost.{CountsOverlay, overlay_cost}};
 
 use crate::checks::count_checks;
 use crate::first_units::{displaced_run, first_words};

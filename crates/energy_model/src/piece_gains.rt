@@ -3,9 +3,7 @@ ghost use Rattle.object_graph.specs.declared.parts.Graph.{Graph};
 ghost use Rattle.code_blocks.specs.declared.parts.Code.{Code};
 ghost use Rattle.profile_runner.specs.declared.counts.Profile.{Profile};
 ghost use Rattle.block_splitter.specs.declared.block_range.BlockRange.{BlockRange};
-ghost use Rattle.energy_model.specs.Counts.{IsPieceCount, most_run};
-ghost use Rattle.energy_model.specs.Entering.{IsEnteringCount};
-ghost use Rattle.energy_model.specs.Gains.{home_cost, copied_cost, piece_saves, AreFewPieceCounts, AreFewEnteringCounts};
+ghost use Rattle.energy_model.specs.{Counts.{IsPieceCount, most_run}, Entering.{IsEnteringCount}, Gains.{home_cost, copied_cost, piece_saves, AreFewPieceCounts, AreFewEnteringCounts}};
 
 use crate::block_counts::PieceCounts;
 use crate::entering_counts::EnteringCounts;

@@ -1,16 +1,11 @@
 ghost use Rattle.std.specs.Prelude.{◌≡◌, ◌+◌, ◌-◌, ◌*◌, ◌<◌, ◌≤◌, true, length, slice_index_or};
 ghost use Rattle.std.specs.List.{AllPairs};
 ghost use Rattle.std.specs.List.Sorted.{IsStrictlyIncreasing};
-ghost use Rattle.profile_runner.specs.Counts.{precedes};
-ghost use Rattle.code_blocks.specs.Early.{has};
-ghost use Rattle.code_blocks.specs.Numbers.{starts_of, start_at};
+ghost use Rattle.profile_runner.specs.{Counts.{precedes}, declared.counts.Profile.{Profile}};
+ghost use Rattle.code_blocks.specs.{Early.{has}, Numbers.{starts_of, start_at}};
 ghost use Rattle.object_graph.specs.Lookups.{IsSomeGraph};
-ghost use Rattle.profile_runner.specs.declared.counts.Profile.{Profile};
-ghost use Rattle.block_splitter.specs.Forms.{body_of, body_at, is_site, kind_of, holds_block, begins_in, fall_out_words};
-ghost use Rattle.block_splitter.specs.Pieces.{IsRange};
-ghost use Rattle.energy_model.specs.Energy.{may_stay};
-ghost use Rattle.energy_model.specs.Copied.{exit_words, leaving_words, leaving, edge_words, stays_in, sum_in, pending, pending_inside};
-ghost use Rattle.energy_model.specs.Counts.{CountsCode, LeadsToBlocks, MayCount, HasTarget, AreBlockCounts, AreListed, AreEdgeStarts, AreSums, AreTerms, AreAdded, AreFew, IsPieceCount, most_run};
+ghost use Rattle.block_splitter.specs.{Forms.{body_of, body_at, is_site, kind_of, holds_block, begins_in, fall_out_words}, Pieces.{IsRange}};
+ghost use Rattle.energy_model.specs.{Energy.{may_stay}, Copied.{exit_words, leaving_words, leaving, edge_words, stays_in, sum_in, pending, pending_inside}, Counts.{CountsCode, LeadsToBlocks, MayCount, HasTarget, AreBlockCounts, AreListed, AreEdgeStarts, AreSums, AreTerms, AreAdded, AreFew, IsPieceCount, most_run}};
 
 use crate::block_counts::{BlockCounts, PieceCounts, PieceSums};
 use block_splitter::{BlockRange, UnitKind, extent_of, kind_of};
@@ -221,7 +216,7 @@ fn closed_terms(profile: &Profile, counts: &BlockCounts, b: usize) -> PieceSums
     }
 }
 
-/// The same where it may lead to others.
+/// What block `b` of a range ran, where it may lead to others of its copy.
 fn open_terms(
     code: &Code,
     graph: &Graph,

@@ -2,11 +2,7 @@ ghost use Rattle.std.specs.Prelude.{◌≡◌, ℕ, suc, ◌+◌, ◌-◌, ◌*�
 ghost use Rattle.object_graph.specs.declared.parts.Graph.{Graph};
 ghost use Rattle.code_blocks.specs.declared.parts.Code.{Code};
 ghost use Rattle.profile_runner.specs.Counts.{plain_rows, entry};
-ghost use Rattle.energy_model.specs.Energy.{test_words, twin_of, has_twin, twin_words, twins_words, fence_words, switch_words, switch_price};
-ghost use Rattle.energy_model.specs.Scenes.{scene_of};
-ghost use Rattle.energy_model.specs.Overlay.{changes_from, changes_price};
-ghost use Rattle.energy_model.specs.OverlayCost.{IsSmallTable};
-ghost use Rattle.energy_model.specs.Gains.{HasSwitches};
+ghost use Rattle.energy_model.specs.{Energy.{test_words, twin_of, has_twin, twin_words, twins_words, fence_words, switch_words, switch_price}, Scenes.{scene_of}, Overlay.{changes_from, changes_price}, OverlayCost.{IsSmallTable}, Gains.{HasSwitches}};
 
 use board_config::{Board, Prices};
 use profile_runner::Profile;

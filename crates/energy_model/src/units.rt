@@ -1,8 +1,6 @@
 ghost use Rattle.std.specs.Prelude.{◌≡◌, ◌+◌, ◌*◌, ◌<◌, ◌≤◌, false, length};
 ghost use Rattle.block_splitter.specs.Forms.{body_at};
-ghost use Rattle.energy_model.specs.Energy.{data_price};
-ghost use Rattle.energy_model.specs.Priced.{unit_price, units_price};
-ghost use Rattle.energy_model.specs.Base.{body_price, ended_price, part_price};
+ghost use Rattle.energy_model.specs.{Energy.{data_price}, Priced.{unit_price, units_price}, Base.{body_price, ended_price, part_price}};
 
 use board_config::Prices;
 use code_blocks::{Block, Unit};

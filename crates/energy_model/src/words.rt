@@ -2,8 +2,7 @@ ghost use Rattle.std.specs.Prelude.{◌≡◌, ◌+◌, ◌-◌, ◌*◌, ◌<�
 ghost use Rattle.list_checks.specs.Sorted.{sum_below};
 ghost use Rattle.object_graph.specs.Lookups.{IsSomeGraph};
 ghost use Rattle.block_splitter.specs.Forms.{body_of, body_at};
-ghost use Rattle.energy_model.specs.Copied.{unit_words, last_words, whole_words, part_words, arrivals_in, block_words};
-ghost use Rattle.energy_model.specs.Counts.{CountsCode};
+ghost use Rattle.energy_model.specs.{Copied.{unit_words, last_words, whole_words, part_words, arrivals_in, block_words}, Counts.{CountsCode}};
 
 use block_splitter::{copy_size, kind_of};
 use code_blocks::{Block, Code};

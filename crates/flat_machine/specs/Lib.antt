@@ -1,3 +1,4 @@
+-- The machine that runs a program on the board's memory: its state, steps, calls and runs.
 pub use Rattle.rv32im.specs.Memory
 pub use Rattle.rv32im.specs.Acts
 pub use Rattle.rv32im.specs.Table

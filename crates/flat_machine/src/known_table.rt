@@ -1,9 +1,7 @@
 // The table of decoded instructions: a slot for each word modulo 16 KiB.
 ghost use Rattle.std.specs.Prelude.{◌≡◌, ◌≢◌, ℕ, ◌%◌, ◌<◌, List, length, vec_len, IsTrue, IfOk};
 ghost use Rattle.board_config.specs.declared.board.Range.{Range};
-ghost use Rattle.rv32im.specs.Memory.{Memory};
-ghost use Rattle.rv32im.specs.declared.instructions.StoreKind.{StoreKind};
-ghost use Rattle.rv32im.specs.Acts.{store_width, stored};
+ghost use Rattle.rv32im.specs.{Memory.{Memory}, declared.instructions.StoreKind.{StoreKind}, Acts.{store_width, stored}};
 ghost use Rattle.flat_machine.specs.Known.{IsKnown, AreKnown, slot_of, vacant, instr_at};
 
 use crate::known::Known;

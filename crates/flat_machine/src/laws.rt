@@ -1,8 +1,5 @@
 // Laws of the definitions: functions that do nothing, whose contracts are what is proved.
-ghost use Rattle.flat_machine.specs.Runs.{PerformsMeaning, EventsCompose, StepsCompose};
-ghost use Rattle.flat_machine.specs.Runs.{EventsCount, EndedStays, IsDetermined, OutputGrows};
-ghost use Rattle.flat_machine.specs.Lines.{LinesRun};
-ghost use Rattle.flat_machine.specs.Sizes.{WordsStay};
+ghost use Rattle.flat_machine.specs.{Runs.{PerformsMeaning, EventsCompose, StepsCompose}, Runs.{EventsCount, EndedStays, IsDetermined, OutputGrows}, Lines.{LinesRun}, Sizes.{WordsStay}};
 
 /// A machine that goes on and can fetch a word performs the instruction that the word means.
 pub fn performs_meaning()

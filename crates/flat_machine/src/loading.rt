@@ -1,8 +1,6 @@
 ghost use Rattle.std.specs.Prelude.{◌≡◌, map, OnOk, IfOk};
 ghost use Rattle.rv32im.specs.Memory.{zeros};
-ghost use Rattle.elf_reader.specs.File.{plain_segment};
-ghost use Rattle.elf_reader.specs.Image.{image_of};
-ghost use Rattle.elf_reader.specs.Loadable.{AreLoadable};
+ghost use Rattle.elf_reader.specs.{File.{plain_segment}, Image.{image_of}, Loadable.{AreLoadable}};
 ghost use Rattle.board_config.specs.Board.{mapped_ranges};
 
 use board_config::{Board, Range};

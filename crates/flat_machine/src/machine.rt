@@ -1,6 +1,5 @@
 ghost use Rattle.std.specs.Prelude.{◌≡◌, ◌≤◌, length, slice_index};
-ghost use Rattle.flat_machine.specs.Mapping.{IsPart};
-ghost use Rattle.flat_machine.specs.Reach.{IsMappedReach};
+ghost use Rattle.flat_machine.specs.{Mapping.{IsPart}, Reach.{IsMappedReach}};
 
 mod calling;
 mod knowing;
@@ -51,11 +50,9 @@ pub struct Flat<S> {
 impl<S: ByteStore + Drop> Flat<S> {
     ghost use Rattle.std.specs.Prelude.{IfOk};
     ghost use Rattle.rv32im.specs.Memory.{zeros};
-    ghost use Rattle.elf_reader.specs.File.{segments_of};
-    ghost use Rattle.elf_reader.specs.Loadable.{AreLoadable};
+    ghost use Rattle.elf_reader.specs.{File.{segments_of}, Loadable.{AreLoadable}};
     ghost use Rattle.board_config.specs.Board.{mapped_ranges};
-    ghost use Rattle.flat_machine.specs.Start.{start_of};
-    ghost use Rattle.flat_machine.specs.Machine.{state_of};
+    ghost use Rattle.flat_machine.specs.{Start.{start_of}, Machine.{state_of}};
 
     /// A machine on a board, at the entry of a file whose segments are loaded into an empty store.
     ///
@@ -91,11 +88,7 @@ impl<S: ByteStore + Drop> Flat<S> {
 
 impl<S: ByteStore> Flat<S> {
     ghost use Rattle.std.specs.Prelude.{ℕ, ◌<◌, vec_len, MatchBool, IfOk, OnOk, OnErr};
-    ghost use Rattle.flat_machine.specs.Mapping.{can_access};
-    ghost use Rattle.flat_machine.specs.Step.{Step};
-    ghost use Rattle.flat_machine.specs.Runs.{HasEnded, Steps};
-    ghost use Rattle.flat_machine.specs.Known.{AreKnown};
-    ghost use Rattle.flat_machine.specs.Machine.{state_of};
+    ghost use Rattle.flat_machine.specs.{Mapping.{can_access}, Step.{Step}, Runs.{HasEnded, Steps}, Known.{AreKnown}, Machine.{state_of}};
 
     /// Takes one step. A machine that has ended stays as it is, and tells the same outcome again.
     ///

@@ -1,8 +1,6 @@
 ghost use Rattle.std.specs.Prelude.{◌≡◌, ◌≤◌, List, [], ◌∷◌, IfSome, IsTrue};
 ghost use Rattle.board_config.specs.declared.board.Range.{Range};
-ghost use Rattle.flat_machine.specs.Mapping.{is_mapped, all_mapped, is_inside_one, IsPart};
-ghost use Rattle.flat_machine.specs.Mapping.{can_access, can_move};
-ghost use Rattle.flat_machine.specs.Reach.{IsMappedReach};
+ghost use Rattle.flat_machine.specs.{Mapping.{is_mapped, all_mapped, is_inside_one, IsPart}, Mapping.{can_access, can_move}, Reach.{IsMappedReach}};
 
 use crate::reach::Reach;
 use board_config::Range;

@@ -1,8 +1,6 @@
 ghost use Rattle.std.specs.Prelude.{◌≡◌, ℕ, ◌+◌, ◌<◌, ◌≤◌};
-ghost use Rattle.elf_reader.specs.File.{segments_of};
-ghost use Rattle.elf_reader.specs.Loadable.{AreLoadable};
-ghost use Rattle.hex_image.specs.Runs.{AreMaximal, byte_from, file_map, image_map, plain_run, plain_runs};
-ghost use Rattle.hex_image.specs.Difference.{IsBetween, IsInOne, IsFirstOff, IsDifference, lesser_of, view_run};
+ghost use Rattle.elf_reader.specs.{File.{segments_of}, Loadable.{AreLoadable}};
+ghost use Rattle.hex_image.specs.{Runs.{AreMaximal, byte_from, file_map, image_map, plain_run, plain_runs}, Difference.{IsBetween, IsInOne, IsFirstOff, IsDifference, lesser_of, view_run}};
 
 use crate::image::HexImage;
 use elf_reader::ElfView;
@@ -35,13 +33,14 @@ fn lesser(one: Option<u32>, other: Option<u32>) -> Option<u32>
 
 /// The first address of the file's bytes at which the image has another byte or none.
 fn first_in_segments(view: &ElfView, image: &HexImage) -> Option<u32>
-    requires loadable { AreLoadable (segments_of view.now) }
     requires maximal { AreMaximal (plain_runs image.now) }
+    requires loadable { AreLoadable (segments_of view.now) }
     ensures { IsFirstOff (IsInOne view_run view.now.segments.items) (file_map (segments_of view.now)) (image_map image.now) result }
 {
     let mut first = None;
     for segment in &view.segments {
-        let off = first_off(view, image, segment.vaddr, segment.bytes.len());
+        let size = segment.bytes.len();
+        let off = first_off(view, image, segment.vaddr, size);
         first = lesser(first, off);
     }
     first

@@ -1,9 +1,7 @@
 ghost use Rattle.std.specs.Prelude.{◌≡◌, ℕ, ◌+◌, ◌*◌, ◌^◌, ◌<◌, ◌≤◌, ◌==◌, IsTrue, false, true, not, List, [], ◌∷◌, length, map, IfOk, OnOk, IfSome, IfNone, position, ◌++◌};
 ghost use Rattle.std.specs.Option.{option_or};
 ghost use Rattle.list_checks.specs.First.{Reports, ReportsUnless, ◌or_else◌, unless};
-ghost use Rattle.hex_image.specs.Runs.{AreMaximal, byte_from, image_map, map_of, map_runs, plain_run, plain_runs, run_at, with_byte};
-ghost use Rattle.hex_image.specs.Records.{HasLength, plain_record, bytes_in, record_in};
-ghost use Rattle.hex_image.specs.Reading.{Spells, is_newline, lines_of, given_by, contents_of, data_start, after_record, after_line, check_fault, kind_fault, fields_fault, has_fields, any_given, twice_fault, record_fault, line_fault, is_end, trailing_fault, unended_fault, hex_fault, hex_contents};
+ghost use Rattle.hex_image.specs.{Runs.{AreMaximal, byte_from, image_map, map_of, map_runs, plain_run, plain_runs, run_at, with_byte}, Records.{HasLength, plain_record, bytes_in, record_in}, Reading.{Spells, is_newline, lines_of, given_by, contents_of, data_start, after_record, after_line, check_fault, kind_fault, fields_fault, has_fields, any_given, twice_fault, record_fault, line_fault, is_end, trailing_fault, unended_fault, hex_fault, hex_contents}};
 
 use crate::fault::HexFault;
 use crate::image::{HexImage, HexRun};

@@ -1,10 +1,6 @@
 ghost use Rattle.std.specs.Prelude.{◌≡◌, ℕ, ◌+◌, ◌<◌, ◌≤◌, ◌==◌, true, false, List, [], ◌∷◌, ◌++◌, All, count_by, length, map, IfOk, OnOk};
-ghost use Rattle.elf_reader.specs.File.{segments_of, plain_segment};
-ghost use Rattle.elf_reader.specs.Loadable.{IsLoadable, AreLoadable, AreDisjoint};
-ghost use Rattle.hex_image.specs.Runs.{PlainRun, run_at};
-ghost use Rattle.hex_image.specs.Records.{line_of};
-ghost use Rattle.hex_image.specs.Text.{hex_text, hex_records, plain_block, IsPlaced, text_with, filled_runs, runs_by_address, pieces_of, is_cut, upper_record, entry_record, end_record, tail_records, data_record};
-ghost use Rattle.hex_image.specs.Reading.{is_newline};
+ghost use Rattle.elf_reader.specs.{File.{segments_of, plain_segment}, Loadable.{IsLoadable, AreLoadable, AreDisjoint}};
+ghost use Rattle.hex_image.specs.{Runs.{PlainRun, run_at}, Records.{line_of}, Text.{hex_text, hex_records, plain_block, IsPlaced, text_with, filled_runs, runs_by_address, pieces_of, is_cut, upper_record, entry_record, end_record, tail_records, data_record}, Reading.{is_newline}};
 ghost use Rattle.std.specs.List.{flat_map};
 
 use crate::records::{Record, kind, push_line};
@@ -62,7 +58,7 @@ fn blocks_by_address<'a>(alloc: Global, view: &ElfView<'a>) -> Result<Vec<Block<
     Ok(blocks)
 }
 
-/// The same in the order of the segments.
+/// The blocks of the segments that have file bytes, in the order of the segments.
 fn filled_blocks<'a>(alloc: Global, view: &ElfView<'a>) -> Result<Vec<Block<'a>>, AllocError>
     requires { AreLoadable (segments_of view.now) }
     ensures runs { IfOk result (λ blocks. map plain_block blocks.items ≡ filled_runs (segments_of view.now)) }
@@ -156,15 +152,24 @@ fn push_data(alloc: Global, text: &mut Vec<u8>, start: u32, piece: &[u8]) -> Res
     push_line(alloc, text, &record)
 }
 
+/// Adds a record that has no address.
+fn push_other(alloc: Global, text: &mut Vec<u8>, kind: u8, bytes: &[u8]) -> Result<(), AllocError>
+    requires { length bytes.now < 256 }
+    ensures { OnOk result (text.new.items ≡ text.old.items ++ line_of record { kind = kind; address = 0; content = bytes.now }) }
+{
+    let record = Record {
+        kind,
+        address: 0,
+        bytes,
+    };
+    push_line(alloc, text, &record)
+}
+
 fn push_upper(alloc: Global, text: &mut Vec<u8>, upper: u16) -> Result<(), AllocError>
     ensures { OnOk result (text.new.items ≡ text.old.items ++ line_of (upper_record upper)) }
 {
-    let record = Record {
-        kind: kind::EXTENDED_LINEAR_ADDRESS,
-        address: 0,
-        bytes: &upper.to_be_bytes(),
-    };
-    push_line(alloc, text, &record)
+    let bytes = upper.to_be_bytes();
+    push_other(alloc, text, kind::EXTENDED_LINEAR_ADDRESS, &bytes)
 }
 
 /// Adds the record of the entry and the last one.
@@ -178,23 +183,14 @@ fn push_tail(alloc: Global, text: &mut Vec<u8>, entry: u32) -> Result<(), AllocE
 fn push_entry(alloc: Global, text: &mut Vec<u8>, entry: u32) -> Result<(), AllocError>
     ensures { OnOk result (text.new.items ≡ text.old.items ++ line_of (entry_record entry)) }
 {
-    let record = Record {
-        kind: kind::START_LINEAR_ADDRESS,
-        address: 0,
-        bytes: &entry.to_be_bytes(),
-    };
-    push_line(alloc, text, &record)
+    let bytes = entry.to_be_bytes();
+    push_other(alloc, text, kind::START_LINEAR_ADDRESS, &bytes)
 }
 
 fn push_end(alloc: Global, text: &mut Vec<u8>) -> Result<(), AllocError>
     ensures { OnOk result (text.new.items ≡ text.old.items ++ line_of end_record) }
 {
-    let record = Record {
-        kind: kind::END_OF_FILE,
-        address: 0,
-        bytes: &[],
-    };
-    push_line(alloc, text, &record)
+    push_other(alloc, text, kind::END_OF_FILE, &[])
 }
 
 /// The number of records of a text that `write_hex` gave: each ends in a newline.

@@ -1,8 +1,7 @@
 //! Tables of what is found in a file before its code is followed.
 ghost use Rattle.std.specs.Prelude.{◌≡◌};
 ghost use Rattle.elf_reader.specs.File.{plain_view};
-ghost use Rattle.loaded_file.specs.Read.{IsRead};
-ghost use Rattle.loaded_file.specs.ByteRanges.{IsFilled};
+ghost use Rattle.loaded_file.specs.{Read.{IsRead}, ByteRanges.{IsFilled}};
 ghost use Rattle.object_graph.specs.Disjoint.{IsDisjoint};
 
 use crate::printing::{

@@ -4,12 +4,9 @@ ghost use Rattle.elf_reader.specs.File.{PlainView, plain_view};
 ghost use Rattle.board_config.specs.Board.{IsLawful};
 ghost use Rattle.loaded_file.specs.Read.{IsRead};
 ghost use Rattle.object_graph.specs.Graphs.{IsGraph};
-ghost use Rattle.placement_programme.specs.Rows.{data_span, rounded_up};
-ghost use Rattle.placement_programme.specs.Views.{plain_side};
-ghost use Rattle.relocator.specs.declared.slots.Slot.{Slot};
-ghost use Rattle.relocator.specs.Placing.{rows_of, IsTable};
+ghost use Rattle.placement_programme.specs.{Rows.{data_span, rounded_up}, Views.{plain_side}};
+ghost use Rattle.relocator.specs.{declared.slots.Slot.{Slot}, Placing.{rows_of, IsTable}, Examples.{table_side}};
 ghost use Rattle.cell_values.specs.Objects.{datum_of};
-ghost use Rattle.relocator.specs.Examples.{table_side};
 ghost use Rattle.relink_core.specs.Choices.{IsAnalysisOf};
 
 use crate::printing::{end_line, print_address, print_line};

@@ -3,8 +3,7 @@
 ghost use Rattle.std.specs.Prelude.{◌≡◌, ◌<◌, ◌++◌, ◌∷◌, [], ℕ, List, length, map, IfOk, OnOk};
 ghost use Rattle.board_config.specs.declared.board.Board.{Board};
 ghost use Rattle.object_graph.specs.Lookups.{IsSomeGraph};
-ghost use Rattle.block_splitter.specs.Pieces.{IsPiece};
-ghost use Rattle.block_splitter.specs.Copies.{address_in, HasSites};
+ghost use Rattle.block_splitter.specs.{Pieces.{IsPiece}, Copies.{address_in, HasSites}};
 ghost use Rattle.relink_core.specs.Choices.{IsAnalysisOf};
 
 use crate::printing::{end_line, print_address, print_number, print_text, print_words};

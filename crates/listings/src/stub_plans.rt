@@ -1,8 +1,5 @@
 ghost use Rattle.std.specs.Prelude.{◌≡◌, [], ◌∷◌, map, length, All, IfOk};
-ghost use Rattle.patch_code.specs.Layout.{CanStand};
-ghost use Rattle.patch_code.specs.Serving.{jumps_to};
-ghost use Rattle.patch_code.specs.Overlay.{CanHold};
-ghost use Rattle.patch_code.specs.StubPlans.{IsPlain, IsPlainPlan, HasLists, code_plan, overlay_plan, plain_stub, serving_stub, jobs_of, words_of};
+ghost use Rattle.patch_code.specs.{Layout.{CanStand}, Serving.{jumps_to}, Overlay.{CanHold}, StubPlans.{IsPlain, IsPlainPlan, HasLists, code_plan, overlay_plan, plain_stub, serving_stub, jobs_of, words_of}};
 
 use anyhow::{Result, bail};
 use patch_code::{Body, CopyJob, Stub, StubCode, StubPlan, StubSizes, plain_code, sizes, stubs};

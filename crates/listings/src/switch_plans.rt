@@ -1,8 +1,6 @@
 //! Plans whose code switches between regions, and that code among the words of a file.
 ghost use Rattle.std.specs.Prelude.{◌≡◌, [], ◌∷◌, map, length, IfOk};
-ghost use Rattle.patch_code.specs.Serving.{jumps_to};
-ghost use Rattle.patch_code.specs.Overlay.{CanHold};
-ghost use Rattle.patch_code.specs.StubPlans.{HasLists, overlay_plan, serving_stub, jobs_of};
+ghost use Rattle.patch_code.specs.{Serving.{jumps_to}, Overlay.{CanHold}, StubPlans.{HasLists, overlay_plan, serving_stub, jobs_of}};
 
 use crate::stub_plans::tell_places;
 use anyhow::{Result, bail};

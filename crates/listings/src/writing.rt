@@ -1,9 +1,7 @@
 ghost use Rattle.std.specs.Prelude.{◌≡◌, ℕ, ◌<◌, ◌≤◌, ◌*◌, ◌∷◌, [], true, false, None, Some, map, length, All};
-ghost use Rattle.elf_reader.specs.File.{IsFile, plain_view};
-ghost use Rattle.elf_reader.specs.Faults.{first_fault};
+ghost use Rattle.elf_reader.specs.{File.{IsFile, plain_view}, Faults.{first_fault}};
 ghost use Rattle.list_checks.specs.Tests.{lies_in, ranges_overlap};
-ghost use Rattle.elf_writer.specs.Parts.{new_segment};
-ghost use Rattle.elf_writer.specs.Conditions.{is_loaded_word, IsAddable, IsWritable};
+ghost use Rattle.elf_writer.specs.{Parts.{new_segment}, Conditions.{is_loaded_word, IsAddable, IsWritable}};
 
 use crate::cases::Case;
 use crate::printing::{end_line, print_line, print_number, print_text, print_value_line};

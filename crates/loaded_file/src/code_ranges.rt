@@ -1,7 +1,6 @@
 ghost use Rattle.std.specs.Prelude.{◌≡◌, ◌<◌, length};
 ghost use Rattle.list_checks.specs.Tests.{any_below};
-ghost use Rattle.elf_reader.specs.File.{plain_view};
-ghost use Rattle.elf_reader.specs.Loaded.{is_loaded};
+ghost use Rattle.elf_reader.specs.{File.{plain_view}, Loaded.{is_loaded}};
 ghost use Rattle.loaded_file.specs.Code.{is_code_range, holds_code, is_code_word};
 
 use crate::file::LoadedFile;

@@ -1,8 +1,7 @@
 ghost use Rattle.std.specs.Prelude.{◌≡◌, ◌+◌, ◌^◌, ◌<◌, true, false, length, MatchOption};
 ghost use Rattle.list_checks.specs.Tests.{any_below};
 ghost use Rattle.elf_reader.specs.File.{plain_view};
-ghost use Rattle.loaded_file.specs.Code.{holds_code, has_content, is_code_word, image_word};
-ghost use Rattle.loaded_file.specs.Read.{IsRead};
+ghost use Rattle.loaded_file.specs.{Code.{holds_code, has_content, is_code_word, image_word}, Read.{IsRead}};
 
 use crate::file::LoadedFile;
 use crate::reaches::SectionKind;

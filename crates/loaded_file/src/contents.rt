@@ -1,9 +1,7 @@
 //! Which sections share bytes of the file with others.
 ghost use Rattle.std.specs.Prelude.{◌≡◌, ◌<◌, ◌∷◌, [], ◌++◌, if◌then◌else◌, true, length, IfOk, OnOk};
 ghost use Rattle.list_checks.specs.Tests.{any_below};
-ghost use Rattle.elf_reader.specs.File.{plain_view};
-ghost use Rattle.elf_reader.specs.Sections.{stands_in_file};
-ghost use Rattle.elf_reader.specs.Loaded.{section_at, overlaps_section};
+ghost use Rattle.elf_reader.specs.{File.{plain_view}, Sections.{stands_in_file}, Loaded.{section_at, overlaps_section}};
 ghost use Rattle.loaded_file.specs.Contents.{has_content, content_start, content_end, AreContentBounds};
 
 use elf_reader::{ElfView, SHT_NOBITS, SHT_NULL};

@@ -1,7 +1,6 @@
 ghost use Rattle.std.specs.Prelude.{◌≡◌, IfOk};
 ghost use Rattle.elf_reader.specs.File.{plain_view};
-ghost use Rattle.loaded_file.specs.Marks.{all_loaded};
-ghost use Rattle.loaded_file.specs.Reaches.{AreListed, AreListed-prop};
+ghost use Rattle.loaded_file.specs.{Marks.{all_loaded}, Reaches.{AreListed, AreListed-prop}};
 
 use crate::loaded::loaded_sections;
 use crate::reaches::{Reach, SectionKind, reaches, section_over};
@@ -18,7 +17,7 @@ pub struct LoadedFile<'a> {
     pub loaded: Vec<bool>,
     /// How far the code ranges reach, by address.
     code_ranges: Vec<Reach>,
-    /// The same of the loaded sections with content that hold no code.
+    /// How far the loaded sections with content reach that hold no code.
     data_ranges: Vec<Reach>,
     pub ghost marks: { loaded.items ≡ all_loaded (plain_view view.now) },
     ghost listed: { AreListed (plain_view view.now) code_ranges.items data_ranges.items } by { AreListed-prop (plain_view view.now) code_ranges.items data_ranges.items },
@@ -27,8 +26,7 @@ pub struct LoadedFile<'a> {
 impl<'a> LoadedFile<'a> {
     ghost use Rattle.std.specs.Prelude.{◌≡◌, ◌<◌, true, false, length, IfOk, MatchOption};
     ghost use Rattle.list_checks.specs.Tests.{any_below};
-    ghost use Rattle.elf_reader.specs.File.{plain_view};
-    ghost use Rattle.elf_reader.specs.Loaded.{is_loaded};
+    ghost use Rattle.elf_reader.specs.{File.{plain_view}, Loaded.{is_loaded}};
     ghost use Rattle.loaded_file.specs.Reaches.{holds_range};
 
     /// A view with the marks of its loaded sections. It fails only where no memory was left.

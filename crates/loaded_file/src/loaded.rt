@@ -1,12 +1,7 @@
 ghost use Rattle.std.specs.Prelude.{◌≡◌, ℕ, ◌+◌, ◌*◌, ◌^◌, ◌<◌, length, slice_index, IfOk};
-ghost use Rattle.list_checks.specs.Tests.{any_below, lies_in};
-ghost use Rattle.elf_reader.specs.Layout.{file_header};
-ghost use Rattle.elf_reader.specs.File.{plain_segment, plain_section, plain_view};
-ghost use Rattle.elf_reader.specs.Loaded.{section_at, segment_at, overlaps_headers, overlaps_segment, has_own_bytes, is_filled, is_zeroed, loads, is_loaded};
-ghost use Rattle.loaded_file.specs.Marks.{all_loaded};
-ghost use Rattle.loaded_file.specs.Contents.{AreContentBounds};
-ghost use Rattle.elf_reader.specs.Sections.{bit_of};
-ghost use Rattle.list_checks.specs.Tests.{ranges_overlap};
+ghost use Rattle.list_checks.specs.{Tests.{any_below, lies_in}, Tests.{ranges_overlap}};
+ghost use Rattle.elf_reader.specs.{Layout.{file_header}, File.{plain_segment, plain_section, plain_view}, Loaded.{section_at, segment_at, overlaps_headers, overlaps_segment, has_own_bytes, is_filled, is_zeroed, loads, is_loaded}, Sections.{bit_of}};
+ghost use Rattle.loaded_file.specs.{Marks.{all_loaded}, Contents.{AreContentBounds}};
 
 use crate::contents::{ContentBounds, content_bounds, overlaps_some_section};
 use elf_reader::{ElfView, SHT_NOBITS, SHT_PROGBITS, Section, Segment};

@@ -2,10 +2,8 @@
 ghost use Rattle.std.specs.Prelude.{◌≡◌, ℕ, Bool, ◌<◌, ◌≤◌, true, false, ◌==◌, ◌&&◌, ◌||◌, ◌++◌, length, slice_index_or, IfOk, OnOk, MatchOption};
 ghost use Rattle.std.specs.List.{list_any};
 ghost use Rattle.list_checks.specs.Tests.{any_below};
-ghost use Rattle.elf_reader.specs.File.{plain_section, plain_view, PlainView};
-ghost use Rattle.elf_reader.specs.Loaded.{section_at, is_loaded};
-ghost use Rattle.loaded_file.specs.Marks.{all_loaded};
-ghost use Rattle.loaded_file.specs.Reaches.{is_of_kind, holds_range, own_reach, passes_own, AreOwnReaches, further, reaches_below, reach_at, AreReaches};
+ghost use Rattle.elf_reader.specs.{File.{plain_section, plain_view, PlainView}, Loaded.{section_at, is_loaded}};
+ghost use Rattle.loaded_file.specs.{Marks.{all_loaded}, Reaches.{is_of_kind, holds_range, own_reach, passes_own, AreOwnReaches, further, reaches_below, reach_at, AreReaches}};
 
 use crate::symbol_ranges::is_executable;
 use elf_reader::{ElfView, SHT_PROGBITS};
@@ -43,7 +41,7 @@ pub(crate) fn reaches(
     requires marks { loaded.now ≡ all_loaded (plain_view view.now) }
     ensures { IfOk result (λ reaches. AreReaches kind (plain_view view.now) reaches.items) }
 {
-    let own = own_reaches(alloc, view, loaded, kind)?;
+    let own = own_reaches(alloc, view, kind, loaded)?;
     match joined(alloc, &own) {
         Ok(reaches) => Ok(reaches),
         Err(error) => Err(error),
@@ -54,8 +52,8 @@ pub(crate) fn reaches(
 fn own_reaches(
     alloc: Global,
     view: &ElfView,
-    loaded: &[bool],
     kind: SectionKind,
+    loaded: &[bool],
 ) -> Result<Vec<Reach>, AllocError>
     requires marks { loaded.now ≡ all_loaded (plain_view view.now) }
     ensures { IfOk result (λ reaches. AreOwnReaches kind (plain_view view.now) reaches.items) }

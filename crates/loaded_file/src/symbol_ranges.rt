@@ -2,8 +2,7 @@ ghost use Rattle.std.specs.Prelude.{◌≡◌, ℕ, ◌+◌, ◌*◌, ◌<◌, B
 ghost use Rattle.std.specs.List.{list_any};
 ghost use Rattle.list_checks.specs.Tests.{lies_in};
 ghost use Rattle.elf_reader.specs.File.{plain_section, plain_symbol, plain_view};
-ghost use Rattle.loaded_file.specs.Ranges.{is_executable, has_byte_range, has_owner, has_range, is_range};
-ghost use Rattle.loaded_file.specs.ByteRanges.{key_of, byte_range_of, is_key_of, has_byte_range_in, IsAscending, IsFilled};
+ghost use Rattle.loaded_file.specs.{Ranges.{is_executable, has_byte_range, has_owner, has_range, is_range}, ByteRanges.{key_of, byte_range_of, is_key_of, has_byte_range_in, IsAscending, IsFilled}};
 
 use crate::byte_ranges::ByteRange;
 use crate::file::LoadedFile;

@@ -101,14 +101,13 @@ low_sites_lead v board home n i movable means =
 pub low_stores_lead : LowStoresLead
 low_stores_lead v board home n i movable means =
     let r = reloc_at v i in
-    let is = means.is_kind in
     let rewritable = soundly v board 28 home n i (omega arith) (omega arith) movable means in
-    let low = only_low v i r (omega (arith, is)) (kind_parts v i rewritable.kind) in
+    let low = only_low v i r (omega (arith, means.is_kind)) (kind_parts v i rewritable.kind) in
     record {
       near = rewritable.near;
       code = low.code;
       part = elim low.low [
-        | inl wide ↦ let wrong = wide.0 in absurd (omega (arith, is, wrong))
+        | inl wide ↦ let wrong = wide.0 in absurd (omega (arith, means.is_kind, wrong))
         | inr half ↦ subst (λ (a : ℕ). StoresAtLower (image_word v r.at) a) rewritable.leads (stores_at_lower (image_word v r.at) (target v r) half.1)
       ];
     }

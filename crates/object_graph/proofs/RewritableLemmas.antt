@@ -170,11 +170,11 @@ pair_parts v r rewritable =
     let front = both ((r.kind == 23) && is_code_word v r.at) opcode third.0 in
     let first = both (r.kind == 23) (is_code_word v r.at) front.0 in
     record {
+      lows = not_true unpaired whole.1;
+      high = eqb-true (u_high w) (upper_half (distance v r)) fourth.1;
       kind = eqb-true r.kind 23 first.0;
       code = first.1;
       opcode = eqb-true (opcode_of w) 23 front.1;
-      high = eqb-true (u_high w) (upper_half (distance v r)) fourth.1;
-      lows = not_true unpaired whole.1;
     }
 
 -- a rewritable relocation is of one of the four kinds

@@ -1,13 +1,9 @@
 ghost use Rattle.std.specs.Prelude.{◌≡◌, ℕ, ◌<◌, ◌&&◌, ◌||◌, Bool, length, IfOk};
 ghost use Rattle.std.specs.List.{list_any};
-ghost use Rattle.list_checks.specs.Tests.{any_below};
+ghost use Rattle.list_checks.specs.{Tests.{any_below}, Sorted.{IsSorted}};
 ghost use Rattle.elf_reader.specs.File.{plain_symbol, plain_view};
-ghost use Rattle.loaded_file.specs.Records.{symbol_at};
-ghost use Rattle.loaded_file.specs.Ranges.{has_range, inside};
-ghost use Rattle.list_checks.specs.Sorted.{IsSorted};
-ghost use Rattle.object_graph.specs.Fixed.{is_alias, aliases_into, has_aliased_section, is_aliased};
-ghost use Rattle.object_graph.specs.Disjoint.{AreApart, IsBelow, Finds, is_place, mark_at, AddsRule};
-ghost use Rattle.object_graph.specs.Aliases.{aliases_by, is_hit, is_hit_in};
+ghost use Rattle.loaded_file.specs.{Records.{symbol_at}, Ranges.{has_range, inside}};
+ghost use Rattle.object_graph.specs.{Fixed.{is_alias, aliases_into, has_aliased_section, is_aliased}, Disjoint.{AreApart, IsBelow, Finds, is_place, mark_at, AddsRule}, Aliases.{aliases_by, is_hit, is_hit_in}};
 
 use crate::meaning::place_of_symbol;
 use crate::range_marks::{is_marked, mark, no_marks};
@@ -110,30 +106,12 @@ fn is_hit(aliases: &[u64], symbol: &Symbol) -> bool
     has_inside(aliases, u64::from(symbol.value), u64::from(symbol.size))
 }
 
-/// Marks the ranges in sections into whose objects a relocation aliases.
-pub(crate) fn mark_aliased(
-    marks: &mut [bool],
-    file: &LoadedFile,
-    aliased: &[bool],
-    ranges: &[ByteRange],
-)
-    requires aliased { (s : ℕ) → mark_at aliased.now s ≡ any_below (aliases_into (plain_view file.now.view.now) s) (length (plain_view file.now.view.now).relocs) }
-    requires ranges { AreApart ranges.now }
-    requires len { length marks.old ≡ length ranges.now }
-    ensures adds { AddsRule (is_aliased (plain_view file.now.view.now)) ranges.now marks.old marks.new }
-    ensures len { length marks.new ≡ length marks.old }
-{
-    for k in 0..file.view.symbols.len() {
-        mark(marks, aliased_place(file, aliased, ranges, k));
-    }
-}
-
 /// The range of symbol `k`, if a relocation aliases an object of its section.
 fn aliased_place(
     file: &LoadedFile,
+    k: usize,
     aliased: &[bool],
     ranges: &[ByteRange],
-    k: usize,
 ) -> Option<usize>
     requires aliased { (s : ℕ) → mark_at aliased.now s ≡ any_below (aliases_into (plain_view file.now.view.now) s) (length (plain_view file.now.view.now).relocs) }
     requires ranges { AreApart ranges.now }
@@ -146,5 +124,23 @@ fn aliased_place(
         place_of_symbol(file, ranges, symbol)
     } else {
         None
+    }
+}
+
+/// Marks the ranges in sections into whose objects a relocation aliases.
+pub(crate) fn mark_aliased(
+    marks: &mut [bool],
+    file: &LoadedFile,
+    aliased: &[bool],
+    ranges: &[ByteRange],
+)
+    requires aliased { (s : ℕ) → mark_at aliased.now s ≡ any_below (aliases_into (plain_view file.now.view.now) s) (length (plain_view file.now.view.now).relocs) }
+    requires len { length marks.old ≡ length ranges.now }
+    requires ranges { AreApart ranges.now }
+    ensures len { length marks.new ≡ length marks.old }
+    ensures adds { AddsRule (is_aliased (plain_view file.now.view.now)) ranges.now marks.old marks.new }
+{
+    for k in 0..file.view.symbols.len() {
+        mark(marks, aliased_place(file, k, aliased, ranges));
     }
 }

@@ -3,11 +3,7 @@ ghost use Rattle.std.specs.List.{All};
 ghost use Rattle.list_checks.specs.First.{Reports, ReportsUnless, unless};
 ghost use Rattle.elf_reader.specs.File.{plain_view};
 ghost use Rattle.loaded_file.specs.Read.{IsRead};
-ghost use Rattle.object_graph.specs.Marks.{all_rewritable};
-ghost use Rattle.object_graph.specs.declared.fault.GraphFault.TheVariants.{TooManyObjects};
-ghost use Rattle.object_graph.specs.LayoutFaults.{capped, too_many_fault, layout_fault};
-ghost use Rattle.object_graph.specs.Graphs.{IsGraph};
-ghost use Rattle.object_graph.specs.Gathered.{AreMovableOf};
+ghost use Rattle.object_graph.specs.{Marks.{all_rewritable}, declared.fault.GraphFault.TheVariants.{TooManyObjects}, LayoutFaults.{capped, too_many_fault, layout_fault}, Graphs.{IsGraph}, Gathered.{AreMovableOf}};
 
 use crate::code::code_ranges;
 use crate::data_words::data_words;
@@ -96,10 +92,10 @@ fn gather(
     rewritable: &[bool],
     ranges: &[ByteRange],
 ) -> Result<Graph, AllocError>
-    requires read { IsRead file.now.view.now }
-    requires rewritable { rewritable.now ≡ all_rewritable (plain_view file.now.view.now) }
-    requires movable { AreMovableOf (plain_view file.now.view.now) board.now ranges.now }
     requires few { length ranges.now ≤ 4096 }
+    requires movable { AreMovableOf (plain_view file.now.view.now) board.now ranges.now }
+    requires rewritable { rewritable.now ≡ all_rewritable (plain_view file.now.view.now) }
+    requires read { IsRead file.now.view.now }
     ensures { IfOk result (IsGraph (plain_view file.now.view.now) board.now) }
 {
     let objects = objects(alloc, file, ranges)?;

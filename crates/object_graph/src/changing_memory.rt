@@ -2,10 +2,7 @@ ghost use Rattle.std.specs.Prelude.{◌≡◌, ℕ, ◌==◌, ◌&&◌, ◌||◌
 ghost use Rattle.std.specs.List.{list_any};
 ghost use Rattle.list_checks.specs.Tests.{any_below};
 ghost use Rattle.elf_reader.specs.File.{plain_segment, plain_section, plain_view};
-ghost use Rattle.object_graph.specs.Graphs.{IsGraph};
-ghost use Rattle.object_graph.specs.Sites.{holds_changed_byte};
-ghost use Rattle.object_graph.specs.Spans.{holds, any_holds};
-ghost use Rattle.object_graph.specs.Kinds.{is_changing, in_object_of_list, is_put_from, puts_table, puts_changed_byte};
+ghost use Rattle.object_graph.specs.{Graphs.{IsGraph}, Sites.{holds_changed_byte}, Spans.{holds, any_holds}, Kinds.{is_changing, in_object_of_list, is_put_from, puts_table, puts_changed_byte}};
 
 use crate::spans::{Span, push_ranges, push_span, span_of};
 use crate::{Graph, Object};

@@ -1,6 +1,5 @@
 ghost use Rattle.std.specs.Prelude.{◌≡◌, ◌<◌, ◌==◌, ◌&&◌, length, IfOk};
-ghost use Rattle.elf_reader.specs.Sections.{bit_of};
-ghost use Rattle.elf_reader.specs.File.{plain_view, plain_section};
+ghost use Rattle.elf_reader.specs.{Sections.{bit_of}, File.{plain_view, plain_section}};
 ghost use Rattle.loaded_file.specs.Code.{is_code_range};
 ghost use Rattle.object_graph.specs.CodeRanges.{section_range, code_ranges_of};
 

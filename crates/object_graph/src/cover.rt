@@ -1,9 +1,8 @@
 ghost use Rattle.std.specs.Prelude.{◌≡◌, ℕ, ◌+◌, ◌<◌, Bool, length, if◌then◌else◌, IfOk};
 ghost use Rattle.std.specs.List.{count_by};
-ghost use Rattle.list_checks.specs.Tests.{any_below};
+ghost use Rattle.list_checks.specs.{Tests.{any_below}, Sorted.{count_below}};
 ghost use Rattle.elf_reader.specs.File.{plain_symbol, plain_view};
 ghost use Rattle.loaded_file.specs.Records.{target};
-ghost use Rattle.list_checks.specs.Sorted.{count_below};
 ghost use Rattle.object_graph.specs.Shares.{bound_of, bounds_by, holds_address, IsCover};
 
 use elf_reader::{ElfView, Reloc, Symbol};
@@ -45,17 +44,6 @@ pub(crate) fn is_covered(view: &ElfView, cover: &Cover, reloc: &Reloc) -> bool
     count_under(&cover.ends, behind) < count_under(&cover.homes, behind)
 }
 
-/// Where the objects begin, or where they end.
-fn bounds(alloc: Global, file: &LoadedFile, bound: Bound) -> Result<Vec<u64>, AllocError>
-    ensures { IfOk result (λ bounds. (test : ℕ → Bool) → count_by test bounds.items ≡ count_below (bounds_by (plain_view file.now.view.now) bound test) (length (plain_view file.now.view.now).symbols)) }
-{
-    let mut bounds = Vec::new(alloc);
-    for k in 0..file.view.symbols.len() {
-        push_bound(&mut bounds, file, bound, k)?;
-    }
-    Ok(bounds)
-}
-
 /// Adds where the object of symbol `k` begins, or where it ends.
 fn push_bound(
     bounds: &mut Vec<u64>,
@@ -71,6 +59,17 @@ fn push_bound(
         bounds.push(bound_of(symbol, bound))?;
     }
     Ok(())
+}
+
+/// Where the objects begin, or where they end.
+fn bounds(alloc: Global, file: &LoadedFile, bound: Bound) -> Result<Vec<u64>, AllocError>
+    ensures { IfOk result (λ bounds. (test : ℕ → Bool) → count_by test bounds.items ≡ count_below (bounds_by (plain_view file.now.view.now) bound test) (length (plain_view file.now.view.now).symbols)) }
+{
+    let mut bounds = Vec::new(alloc);
+    for k in 0..file.view.symbols.len() {
+        push_bound(&mut bounds, file, bound, k)?;
+    }
+    Ok(bounds)
 }
 
 /// A bound of an object.

@@ -1,9 +1,6 @@
 ghost use Rattle.std.specs.Prelude.{◌≡◌, ◌<◌, ◌≤◌, length, IfOk};
 ghost use Rattle.elf_reader.specs.File.{plain_view};
-ghost use Rattle.object_graph.specs.Marks.{all_rewritable};
-ghost use Rattle.object_graph.specs.declared.parts.DataWord.{DataWord};
-ghost use Rattle.object_graph.specs.Graphs.{same_word};
-ghost use Rattle.object_graph.specs.Gathered.{GivesJust, AreMovable, is_word_in, AreWords};
+ghost use Rattle.object_graph.specs.{Marks.{all_rewritable}, declared.parts.DataWord.{DataWord}, Graphs.{same_word}, Gathered.{GivesJust, AreMovable, is_word_in, AreWords}};
 
 use crate::leads::lead_of;
 use crate::parts::DataWord;

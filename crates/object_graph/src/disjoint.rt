@@ -1,6 +1,5 @@
 ghost use Rattle.std.specs.Prelude.{◌≡◌, ℕ, ◌<◌, ◌≤◌, ◌==◌, ◌&&◌, length};
-ghost use Rattle.loaded_file.specs.Ranges.{inside};
-ghost use Rattle.loaded_file.specs.ByteRanges.{byte_range_at};
+ghost use Rattle.loaded_file.specs.{Ranges.{inside}, ByteRanges.{byte_range_at}};
 ghost use Rattle.object_graph.specs.Disjoint.{AreApart, IsDisjoint, IsBelow, Finds};
 
 use loaded_file::ByteRange;

@@ -2,8 +2,7 @@
 // (RISC-V Unprivileged ISA, "RV32I" and "Immediate Encoding Variants").
 ghost use Rattle.std.specs.Prelude.{◌≡◌, ◌%◌, ◌==◌, ◌&&◌, ◌||◌};
 ghost use Rattle.rv32im.specs.Fields.{opcode_of, funct3_of};
-ghost use Rattle.object_graph.specs.Rewritable.{is_addi, is_load_word, is_store_word, i_low, s_low, u_high, takes_low_i, takes_low_s};
-ghost use Rattle.object_graph.specs.Lists.{form_part};
+ghost use Rattle.object_graph.specs.{Rewritable.{is_addi, is_load_word, is_store_word, i_low, s_low, u_high, takes_low_i, takes_low_s}, Lists.{form_part}};
 
 use elf_reader::{R_RISCV_LO12_I, R_RISCV_LO12_S, R_RISCV_PCREL_LO12_I, R_RISCV_PCREL_LO12_S};
 use rv32im::{funct3, opcode};

@@ -1,8 +1,7 @@
 ghost use Rattle.std.specs.Prelude.{◌≡◌, ℕ, ◌+◌, ◌<◌, ◌≤◌, IfOk};
 ghost use Rattle.std.specs.List.{AllPairs, list_any};
 ghost use Rattle.elf_reader.specs.File.{plain_view};
-ghost use Rattle.object_graph.specs.Graphs.{IsGraph};
-ghost use Rattle.object_graph.specs.Sites.{in_range, is_fixed_memory};
+ghost use Rattle.object_graph.specs.{Graphs.{IsGraph}, Sites.{in_range, is_fixed_memory}};
 
 use crate::Graph;
 use crate::changing_memory::changing_spans;

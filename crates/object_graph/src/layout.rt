@@ -1,6 +1,5 @@
 ghost use Rattle.std.specs.Prelude.{◌≡◌, ℕ, ◌+◌, ◌<◌, ◌≤◌, length};
-ghost use Rattle.list_checks.specs.First.{◌or_else◌, Reports, first_below};
-ghost use Rattle.list_checks.specs.Tests.{any_below};
+ghost use Rattle.list_checks.specs.{First.{◌or_else◌, Reports, first_below}, Tests.{any_below}};
 ghost use Rattle.elf_reader.specs.File.{plain_segment, plain_view};
 ghost use Rattle.object_graph.specs.LayoutFaults.{segment_overlaps, overlap_fault, has_code, least_below, greatest_below, span_of, patch_far_fault, spm_overlaps_patch_fault, spm_at_zero_fault, segment_lies_in, lies_in_area, no_area_fault, places_fault};
 

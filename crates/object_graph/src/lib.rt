@@ -1,5 +1,3 @@
-//! Which relocations tell all that is to be known of how an address is made.
-//! Which objects of a program may move.
 //! The objects of a program that may move, where their addresses are made, and whether the program fits a board.
 #![tactic(auto)]
 

@@ -1,7 +1,6 @@
 ghost use Rattle.std.specs.Prelude.{◌≡◌, ◌^◌, ◌<◌, ◌∷◌, [], ◌++◌, if◌then◌else◌, length, IfOk};
 ghost use Rattle.elf_reader.specs.File.{plain_view};
-ghost use Rattle.loaded_file.specs.Read.{IsRead};
-ghost use Rattle.loaded_file.specs.Listed.{IsListOf};
+ghost use Rattle.loaded_file.specs.{Read.{IsRead}, Listed.{IsListOf}};
 ghost use Rattle.object_graph.specs.Lists.{AreListsOf, count_of, is_listed, number_of, is_ranged, range_start, range_end, is_changing, change_start, change_end, is_calling, is_lower, low_part, low_key};
 
 use crate::fields::{NO_PART, form_part};
@@ -59,8 +58,8 @@ fn push_number(
     listed: Listed,
     k: usize,
 ) -> Result<(), AllocError>
-    requires read { IsRead file.now.view.now }
     requires below { k < count_of listed (plain_view file.now.view.now) }
+    requires read { IsRead file.now.view.now }
     ensures { IfOk result (λ _. list.new.items ≡ list.old.items ++ (if is_listed listed (plain_view file.now.view.now) k then number_of listed (plain_view file.now.view.now) k ∷ [] else [])) }
 {
     if is_listed(file, listed, k) {

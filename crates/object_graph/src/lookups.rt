@@ -1,10 +1,7 @@
 ghost use Rattle.std.specs.Prelude.{◌≡◌, ℕ, ◌<◌, ◌==◌, true, false, ◌&&◌, length, MatchOption};
 ghost use Rattle.std.specs.List.{list_any};
-ghost use Rattle.object_graph.specs.declared.parts.Site.{Site};
+ghost use Rattle.object_graph.specs.{declared.parts.Site.{Site}, Graphs.{object_at, same_site}, Lookups.{AreLaidOut}, Gathered.{gives, AreInOrder, site_place}};
 ghost use Rattle.loaded_file.specs.Ranges.{inside};
-ghost use Rattle.object_graph.specs.Graphs.{object_at, same_site};
-ghost use Rattle.object_graph.specs.Lookups.{AreLaidOut};
-ghost use Rattle.object_graph.specs.Gathered.{gives, AreInOrder, site_place};
 
 use crate::parts::{Graph, Object, Site};
 use crate::placed::find_placed;
@@ -13,8 +10,7 @@ impl Graph {
     ghost use Rattle.std.specs.Prelude.{◌≡◌, ℕ, ◌<◌, ◌==◌, true, false, length, MatchOption};
     ghost use Rattle.std.specs.List.{list_any};
     ghost use Rattle.loaded_file.specs.Ranges.{inside};
-    ghost use Rattle.object_graph.specs.Graphs.{object_at, same_site};
-    ghost use Rattle.object_graph.specs.Lookups.{IsSomeGraph, stands_at};
+    ghost use Rattle.object_graph.specs.{Graphs.{object_at, same_site}, Lookups.{IsSomeGraph, stands_at}};
 
     /// The number of the object that has the byte at `address`, if one has it.
     pub fn object_at(&self, address: u32) -> Option<u32>

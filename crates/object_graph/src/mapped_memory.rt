@@ -1,7 +1,6 @@
 ghost use Rattle.std.specs.Prelude.{◌≡◌, ℕ, IfOk};
 ghost use Rattle.std.specs.List.{All};
-ghost use Rattle.object_graph.specs.Spans.{IsShort, any_holds};
-ghost use Rattle.object_graph.specs.Kinds.{is_mapped};
+ghost use Rattle.object_graph.specs.{Spans.{IsShort, any_holds}, Kinds.{is_mapped}};
 
 use crate::spans::{Span, push_ranges, push_span, span_of};
 use board_config::Board;

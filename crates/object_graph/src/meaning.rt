@@ -1,11 +1,7 @@
 ghost use Rattle.std.specs.Prelude.{◌≡◌, ℕ, ◌<◌, true, false, length, MatchOption};
 ghost use Rattle.elf_reader.specs.File.{plain_symbol, plain_view};
-ghost use Rattle.loaded_file.specs.Records.{reloc_at, target};
-ghost use Rattle.loaded_file.specs.Ranges.{is_of};
-ghost use Rattle.loaded_file.specs.ByteRanges.{byte_range_at};
-ghost use Rattle.object_graph.specs.Rewritable.{is_meant};
-ghost use Rattle.object_graph.specs.Disjoint.{AreApart, IsBelow, Finds};
-ghost use Rattle.object_graph.specs.Meant.{means_by};
+ghost use Rattle.loaded_file.specs.{Records.{reloc_at, target}, Ranges.{is_of}, ByteRanges.{byte_range_at}};
+ghost use Rattle.object_graph.specs.{Rewritable.{is_meant}, Disjoint.{AreApart, IsBelow, Finds}, Meant.{means_by}};
 
 use crate::disjoint::{place_holding, place_of};
 use elf_reader::{Reloc, STT_SECTION, Symbol};

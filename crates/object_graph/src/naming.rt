@@ -2,9 +2,7 @@ ghost use Rattle.std.specs.Prelude.{◌≡◌, ℕ, ◌<◌, ◌==◌, ◌||◌,
 ghost use Rattle.list_checks.specs.Tests.{any_below};
 ghost use Rattle.elf_reader.specs.File.{plain_symbol, plain_view};
 ghost use Rattle.loaded_file.specs.Ranges.{owner_of};
-ghost use Rattle.object_graph.specs.Fixed.{stands_in_zeros, is_in_zeros};
-ghost use Rattle.object_graph.specs.Disjoint.{AreApart, IsBelow, Finds, AddsRule};
-ghost use Rattle.object_graph.specs.Names.{has_name, is_named, is_named_by, AreListedNames};
+ghost use Rattle.object_graph.specs.{Fixed.{stands_in_zeros, is_in_zeros}, Disjoint.{AreApart, IsBelow, Finds, AddsRule}, Names.{has_name, is_named, is_named_by, AreListedNames}};
 
 use crate::meaning::place_of_symbol;
 use crate::range_marks::mark;

@@ -2,11 +2,8 @@ ghost use Rattle.std.specs.Prelude.{◌≡◌, ℕ, ◌<◌, true, length, map, 
 ghost use Rattle.std.specs.List.{All};
 ghost use Rattle.list_checks.specs.First.{◌or_else◌};
 ghost use Rattle.elf_reader.specs.File.{plain_view};
-ghost use Rattle.loaded_file.specs.Read.{IsRead};
-ghost use Rattle.loaded_file.specs.Ranges.{is_range};
-ghost use Rattle.loaded_file.specs.ByteRanges.{byte_range_at};
-ghost use Rattle.object_graph.specs.Graphs.{is_writable, IsNamed};
-ghost use Rattle.object_graph.specs.Gathered.{AreMovable, range_of, symbol_if, first_symbol};
+ghost use Rattle.loaded_file.specs.{Read.{IsRead}, Ranges.{is_range}, ByteRanges.{byte_range_at}};
+ghost use Rattle.object_graph.specs.{Graphs.{is_writable, IsNamed}, Gathered.{AreMovable, range_of, symbol_if, first_symbol}};
 
 use crate::meaning::place_of_symbol;
 use crate::parts::Object;

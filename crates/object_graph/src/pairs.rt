@@ -1,10 +1,8 @@
 ghost use Rattle.std.specs.Prelude.{◌≡◌, ◌<◌, not, ◌&&◌, length};
 ghost use Rattle.list_checks.specs.Tests.{any_below};
 ghost use Rattle.elf_reader.specs.File.{plain_view};
-ghost use Rattle.loaded_file.specs.Records.{reloc_at};
-ghost use Rattle.loaded_file.specs.Read.{IsRead};
-ghost use Rattle.object_graph.specs.Rewritable.{is_upper_of, is_rewritable_high, is_rewritable_low, is_rewritable_pair, distance, is_call_at, is_unpaired};
-ghost use Rattle.object_graph.specs.Lists.{is_upper_pair, AreListsOf};
+ghost use Rattle.loaded_file.specs.{Records.{reloc_at}, Read.{IsRead}};
+ghost use Rattle.object_graph.specs.{Rewritable.{is_upper_of, is_rewritable_high, is_rewritable_low, is_rewritable_pair, distance, is_call_at, is_unpaired}, Lists.{is_upper_pair, AreListsOf}};
 
 use crate::fields::{AUIPC, LUI, has_upper, takes_low};
 use crate::listing::{KEYS, change_start};

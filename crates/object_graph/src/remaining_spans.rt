@@ -31,27 +31,6 @@ pub(crate) fn ranges_left(
     }
 }
 
-/// The same of spans that can be searched.
-fn ranges_between(
-    alloc: Global,
-    kept: &SpanSearch,
-    cut: &SpanSearch,
-) -> Result<Vec<Range>, AllocError>
-    requires { All IsShort kept.now.spans.now }
-    ensures { IfOk result (λ ranges. Covers kept.now.spans.now cut.now.spans.now ranges.items 4294967296) }
-{
-    let bounds = bounds_of(alloc, kept.spans, cut.spans)?;
-    let mut ranges = Vec::new(alloc);
-    let mut from = 0;
-    for k in 0..bounds.len() {
-        let to = bounds[k].min(ADDRESSES);
-        push_left(&mut ranges, kept, cut, from, to)?;
-        from = to;
-    }
-    push_left(&mut ranges, kept, cut, from, ADDRESSES)?;
-    Ok(ranges)
-}
-
 /// Appends the addresses from `from` to before `to`, if they are left. No span begins or ends between.
 fn push_left(
     ranges: &mut Vec<Range>,
@@ -82,4 +61,25 @@ fn starts_left(kept: &SpanSearch, cut: &SpanSearch, from: u64, to: u64) -> bool
     ensures { result ≡ (nat_lt from to && is_left kept.now.spans.now cut.now.spans.now from) }
 {
     from < to && is_left(kept, cut, from)
+}
+
+/// The addresses that lie in a span of `kept` and in none of `cut`, which can be searched, as ranges.
+fn ranges_between(
+    alloc: Global,
+    kept: &SpanSearch,
+    cut: &SpanSearch,
+) -> Result<Vec<Range>, AllocError>
+    requires { All IsShort kept.now.spans.now }
+    ensures { IfOk result (λ ranges. Covers kept.now.spans.now cut.now.spans.now ranges.items 4294967296) }
+{
+    let bounds = bounds_of(alloc, kept.spans, cut.spans)?;
+    let mut ranges = Vec::new(alloc);
+    let mut from = 0;
+    for k in 0..bounds.len() {
+        let to = bounds[k].min(ADDRESSES);
+        push_left(&mut ranges, kept, cut, from, to)?;
+        from = to;
+    }
+    push_left(&mut ranges, kept, cut, from, ADDRESSES)?;
+    Ok(ranges)
 }

@@ -1,9 +1,7 @@
 ghost use Rattle.std.specs.Prelude.{◌≡◌, ◌<◌, length, IfOk};
 ghost use Rattle.elf_reader.specs.File.{plain_view};
 ghost use Rattle.loaded_file.specs.Read.{IsRead};
-ghost use Rattle.object_graph.specs.Rewritable.{is_rewritable_kind};
-ghost use Rattle.object_graph.specs.Marks.{all_rewritable};
-ghost use Rattle.object_graph.specs.Lists.{AreListsOf};
+ghost use Rattle.object_graph.specs.{Rewritable.{is_rewritable_kind}, Marks.{all_rewritable}, Lists.{AreListsOf}};
 
 use crate::listing::relocation_lists;
 use crate::lists::RelocationLists;

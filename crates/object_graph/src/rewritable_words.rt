@@ -1,11 +1,8 @@
 ghost use Rattle.std.specs.Prelude.{◌≡◌, ◌<◌, ◌==◌, not, ◌&&◌, if◌then◌else◌, length};
 ghost use Rattle.list_checks.specs.Tests.{any_below};
 ghost use Rattle.elf_reader.specs.File.{plain_view};
-ghost use Rattle.loaded_file.specs.Code.{image_word};
-ghost use Rattle.loaded_file.specs.Records.{reloc_at, target};
-ghost use Rattle.loaded_file.specs.Read.{IsRead};
-ghost use Rattle.object_graph.specs.Rewritable.{holds_data, cuts_range, changes_word, is_rewritable_word};
-ghost use Rattle.object_graph.specs.Lists.{is_changing, AreListsOf};
+ghost use Rattle.loaded_file.specs.{Code.{image_word}, Records.{reloc_at, target}, Read.{IsRead}};
+ghost use Rattle.object_graph.specs.{Rewritable.{holds_data, cuts_range, changes_word, is_rewritable_word}, Lists.{is_changing, AreListsOf}};
 
 use crate::listing::{change_start, is_changing};
 use crate::lists::RelocationLists;

@@ -1,12 +1,9 @@
 ghost use Rattle.std.specs.Prelude.{◌≡◌, ℕ, ◌+◌, ◌<◌, Bool, ◌&&◌, ◌||◌, length, if◌then◌else◌, IfOk};
 ghost use Rattle.std.specs.List.{count_by, list_any};
-ghost use Rattle.list_checks.specs.Tests.{any_below};
+ghost use Rattle.list_checks.specs.{Tests.{any_below}, Sorted.{IsSorted, count_below}};
 ghost use Rattle.elf_reader.specs.File.{plain_symbol, plain_view};
 ghost use Rattle.loaded_file.specs.Records.{reloc_at, counts, symbol_of};
-ghost use Rattle.object_graph.specs.Marks.{all_rewritable};
-ghost use Rattle.object_graph.specs.Rewritable.{is_pair_low};
-ghost use Rattle.list_checks.specs.Sorted.{IsSorted, count_below};
-ghost use Rattle.object_graph.specs.Shares.{IsCover, leads_some, leads_by, is_high_by, is_low_of_some, gives_some, gives_by, repeats_at, is_low_shared, is_shared_low, AreSharedWords};
+ghost use Rattle.object_graph.specs.{Marks.{all_rewritable}, Rewritable.{is_pair_low}, Shares.{IsCover, leads_some, leads_by, is_high_by, is_low_of_some, gives_some, gives_by, repeats_at, is_low_shared, is_shared_low, AreSharedWords}};
 
 use crate::cover::{Cover, is_covered, object_cover};
 use crate::kinds::is_pair_low;

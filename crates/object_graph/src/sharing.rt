@@ -1,9 +1,7 @@
 ghost use Rattle.std.specs.Prelude.{◌≡◌, ℕ, ◌<◌, ◌&&◌, length};
 ghost use Rattle.elf_reader.specs.File.{plain_view};
 ghost use Rattle.loaded_file.specs.Records.{reloc_at, counts};
-ghost use Rattle.object_graph.specs.Marks.{all_rewritable};
-ghost use Rattle.object_graph.specs.Disjoint.{AreApart, IsBelow, Finds, AddsRule};
-ghost use Rattle.object_graph.specs.Shares.{shares_from, is_shared_from, shares_a_word, AreSharedWords};
+ghost use Rattle.object_graph.specs.{Marks.{all_rewritable}, Disjoint.{AreApart, IsBelow, Finds, AddsRule}, Shares.{shares_from, is_shared_from, shares_a_word, AreSharedWords}};
 
 use crate::range_marks::mark;
 use crate::shared_words::SharedWords;

@@ -1,12 +1,7 @@
 ghost use Rattle.std.specs.Prelude.{◌≡◌, ◌<◌, ◌≤◌, ◌==◌, true, ◌||◌, length, IfOk};
 ghost use Rattle.elf_reader.specs.File.{plain_view};
 ghost use Rattle.loaded_file.specs.Records.{reloc_at};
-ghost use Rattle.object_graph.specs.Rewritable.{is_pair_low};
-ghost use Rattle.object_graph.specs.Marks.{all_rewritable};
-ghost use Rattle.object_graph.specs.declared.parts.SiteKind.{SiteKind};
-ghost use Rattle.object_graph.specs.declared.parts.Site.{Site};
-ghost use Rattle.object_graph.specs.Graphs.{makes_part, same_part, same_site};
-ghost use Rattle.object_graph.specs.Gathered.{gives, GivesJust, AreMovable, gives_alone, gives_high, gives_low, is_site_in, AreHighs, AreSites};
+ghost use Rattle.object_graph.specs.{Rewritable.{is_pair_low}, Marks.{all_rewritable}, declared.parts.SiteKind.{SiteKind}, declared.parts.Site.{Site}, Graphs.{makes_part, same_part, same_site}, Gathered.{gives, GivesJust, AreMovable, gives_alone, gives_high, gives_low, is_site_in, AreHighs, AreSites}};
 
 use crate::kinds::is_pair_low;
 use crate::leads::lead_of;

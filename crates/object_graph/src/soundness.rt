@@ -1,11 +1,7 @@
 ghost use Rattle.std.specs.Prelude.{◌≡◌, ◌<◌, ◌&&◌, not, nat_le, length};
 ghost use Rattle.elf_reader.specs.File.{plain_view};
 ghost use Rattle.loaded_file.specs.Records.{reloc_at};
-ghost use Rattle.object_graph.specs.Marks.{all_rewritable};
-ghost use Rattle.object_graph.specs.Rewritable.{displacement, is_meant, is_rewritable_pair};
-ghost use Rattle.object_graph.specs.Fixed.{is_unrewritable_by, is_unrewritable};
-ghost use Rattle.object_graph.specs.Disjoint.{AreApart, IsBelow, Finds, AddsRule};
-ghost use Rattle.object_graph.specs.Meant.{is_direct, is_site_kind, leads_inside};
+ghost use Rattle.object_graph.specs.{Marks.{all_rewritable}, Rewritable.{displacement, is_meant, is_rewritable_pair}, Fixed.{is_unrewritable_by, is_unrewritable}, Disjoint.{AreApart, IsBelow, Finds, AddsRule}, Meant.{is_direct, is_site_kind, leads_inside}};
 
 use crate::kinds::is_hint;
 use crate::meaning::place_meant;

@@ -1,8 +1,7 @@
 // Whether an address lies in one of some spans, by their sorted bounds.
 ghost use Rattle.std.specs.Prelude.{◌≡◌, ◌<◌, ◌∷◌, [], ◌++◌, if◌then◌else◌, length, IfOk};
 ghost use Rattle.loaded_file.specs.Listed.{IsListOf};
-ghost use Rattle.object_graph.specs.Spans.{any_holds, is_left};
-ghost use Rattle.object_graph.specs.SpanBounds.{is_filled, bound_at, AreBoundsOf};
+ghost use Rattle.object_graph.specs.{Spans.{any_holds, is_left}, SpanBounds.{is_filled, bound_at, AreBoundsOf}};
 
 use crate::spans::{Bound, Span};
 use list_checks::{arrange, count_under};

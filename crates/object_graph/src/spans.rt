@@ -1,7 +1,6 @@
 ghost use Rattle.std.specs.Prelude.{◌≡◌, ℕ, ◌||◌, OnOk};
 ghost use Rattle.std.specs.List.{All, list_any};
-ghost use Rattle.object_graph.specs.Sites.{in_range};
-ghost use Rattle.object_graph.specs.Spans.{span_of, IsShort, holds, any_holds};
+ghost use Rattle.object_graph.specs.{Sites.{in_range}, Spans.{span_of, IsShort, holds, any_holds}};
 
 use board_config::Range;
 use std::alloc::AllocError;

@@ -1,13 +1,8 @@
 ghost use Rattle.std.specs.Prelude.{◌≡◌, ℕ, ◌&&◌, not, length, IfOk};
 ghost use Rattle.list_checks.specs.Tests.{any_below};
 ghost use Rattle.elf_reader.specs.File.{plain_view};
-ghost use Rattle.loaded_file.specs.Ranges.{is_range, is_overlapped};
-ghost use Rattle.loaded_file.specs.ByteRanges.{has_byte_range_in, IsFilled};
-ghost use Rattle.object_graph.specs.Marks.{all_rewritable};
-ghost use Rattle.object_graph.specs.Fixed.{aliases_into, is_movable};
-ghost use Rattle.object_graph.specs.Disjoint.{AreApart, IsDisjoint, mark_at, AddsRule, AreMarks};
-ghost use Rattle.object_graph.specs.Shares.{is_immovable, AreSharedWords};
-ghost use Rattle.object_graph.specs.Names.{AreListedNames};
+ghost use Rattle.loaded_file.specs.{Ranges.{is_range, is_overlapped}, ByteRanges.{has_byte_range_in, IsFilled}};
+ghost use Rattle.object_graph.specs.{Marks.{all_rewritable}, Fixed.{aliases_into, is_movable}, Disjoint.{AreApart, IsDisjoint, mark_at, AddsRule, AreMarks}, Shares.{is_immovable, AreSharedWords}, Names.{AreListedNames}};
 
 use crate::aliasing::{aliased_sections, mark_aliased};
 use crate::naming::{listed_names, mark_named, mark_zeros};

@@ -1,9 +1,6 @@
 ghost use Rattle.std.specs.Prelude.{◌≡◌};
 ghost use Rattle.object_graph.specs.declared.parts.Graph.{Graph};
-ghost use Rattle.cell_values.specs.Objects.{IsOfGraph};
-ghost use Rattle.cell_values.specs.Cells.{IsCellOfGraph, byte_value, half_value};
-ghost use Rattle.cell_values.specs.Marks.{half_of_cells};
-ghost use Rattle.cell_values.specs.declared.values.Cell.{Cell};
+ghost use Rattle.cell_values.specs.{Objects.{IsOfGraph}, Cells.{IsCellOfGraph, byte_value, half_value}, Marks.{half_of_cells}, declared.values.Cell.{Cell}};
 ghost use Rattle.object_machine.specs.Memory.{signed_byte, signed_half, same_number};
 
 use cell_values::{Cell, Val};

@@ -1,8 +1,6 @@
 ghost use Rattle.std.specs.Prelude.{◌≡◌, ℕ, ◌<◌, ◌≤◌, true, List, set, length, slice_index, IsTrue, IfOk, IfSome};
 ghost use Rattle.code_blocks.specs.Early.{has};
-ghost use Rattle.object_machine.specs.Landings.{AreLandings};
-ghost use Rattle.object_machine.specs.Units.{unit_in, IsUnitAt};
-ghost use Rattle.object_machine.specs.declared.units.Prepared.{Prepared};
+ghost use Rattle.object_machine.specs.{Landings.{AreLandings}, Units.{unit_in, IsUnitAt}, declared.units.Prepared.{Prepared}};
 
 use crate::preparing::BlockUnits;
 use crate::units::Prepared;

@@ -1,10 +1,7 @@
 ghost use Rattle.std.specs.Prelude.{◌≡◌, ◌+◌, ◌<◌, ◌≤◌, ℕ, length};
 ghost use Rattle.std.specs.List.{All};
-ghost use Rattle.cell_values.specs.Objects.{IsOfGraph};
-ghost use Rattle.cell_values.specs.Cells.{IsCellOfGraph};
-ghost use Rattle.cell_values.specs.Stored.{cells_of};
-ghost use Rattle.object_machine.specs.Units.{unit_in};
-ghost use Rattle.object_machine.specs.OfGraph.{values_prop, cells_prop};
+ghost use Rattle.cell_values.specs.{Objects.{IsOfGraph}, Cells.{IsCellOfGraph}, Stored.{cells_of}};
+ghost use Rattle.object_machine.specs.{Units.{unit_in}, OfGraph.{values_prop, cells_prop}};
 
 mod calling;
 mod loading;
@@ -56,12 +53,9 @@ impl Source {
     ghost use Rattle.board_config.specs.Board.{IsLawful};
     ghost use Rattle.loaded_file.specs.Read.{IsRead};
     ghost use Rattle.object_graph.specs.Graphs.{IsGraph};
-    ghost use Rattle.code_blocks.specs.Leaders.{is_leader};
-    ghost use Rattle.code_blocks.specs.Blocks.{IsCode};
+    ghost use Rattle.code_blocks.specs.{Leaders.{is_leader}, Blocks.{IsCode}};
     ghost use Rattle.cell_values.specs.Objects.{IsGrain};
-    ghost use Rattle.object_machine.specs.Program.{program_of};
-    ghost use Rattle.object_machine.specs.Start.{start_of};
-    ghost use Rattle.object_machine.specs.Machine.{state_of, IsProgram};
+    ghost use Rattle.object_machine.specs.{Program.{program_of}, Start.{start_of}, Machine.{state_of, IsProgram}};
 
     /// A machine at the entry of a file, on a board. Its program reads `input`.
     ///
@@ -104,11 +98,7 @@ impl Source {
 impl Source {
     ghost use Rattle.std.specs.Prelude.{Option, MatchBool, IfOk, OnOk, OnErr};
     ghost use Rattle.rv32im.specs.declared.instructions.Instr.{Instr};
-    ghost use Rattle.object_machine.specs.Program.{Program};
-    ghost use Rattle.object_machine.specs.Step.{Step, Reads};
-    ghost use Rattle.object_machine.specs.Footprints.{footprint_of};
-    ghost use Rattle.object_machine.specs.Runs.{Steps, HasEnded};
-    ghost use Rattle.object_machine.specs.Machine.{state_of, seen_state, here, IsProgram, StepsFrom, Becomes, when_going};
+    ghost use Rattle.object_machine.specs.{Program.{Program}, Step.{Step, Reads}, Footprints.{footprint_of}, Runs.{Steps, HasEnded}, Machine.{state_of, seen_state, here, IsProgram, StepsFrom, Becomes, when_going}};
 
     // All that a step does is inlined in the loops that take steps, since it has several callers by now, and a call passes
     // values and events by way of the stack; what is rare stays in cold functions.

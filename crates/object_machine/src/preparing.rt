@@ -3,9 +3,8 @@ ghost use Rattle.std.specs.List.{All};
 ghost use Rattle.elf_reader.specs.File.{plain_view};
 ghost use Rattle.loaded_file.specs.Read.{IsRead};
 ghost use Rattle.object_graph.specs.Lookups.{IsSomeGraph};
-ghost use Rattle.code_blocks.specs.Blocks.{IsUnit};
+ghost use Rattle.code_blocks.specs.{Blocks.{IsUnit}, Blocks.{IsCode}};
 ghost use Rattle.board_config.specs.declared.board.Board.{Board};
-ghost use Rattle.code_blocks.specs.Blocks.{IsCode};
 ghost use Rattle.object_machine.specs.Preparing.{IsPairOf, IsPreparedOf, ArePrepared, IsBlockUnits, HasObjects};
 
 use crate::units::{Pair, Prepared};

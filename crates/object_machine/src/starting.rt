@@ -1,13 +1,8 @@
 ghost use Rattle.std.specs.Prelude.{◌≡◌, ℕ, ◌+◌, ◌≤◌, false, length, map, IfOk, OnOk};
-ghost use Rattle.elf_reader.specs.File.{plain_segment};
-ghost use Rattle.elf_reader.specs.Image.{image_of};
+ghost use Rattle.elf_reader.specs.{File.{plain_segment}, Image.{image_of}};
 ghost use Rattle.rv32im.specs.Memory.{Memory};
-ghost use Rattle.cell_values.specs.Cells.{put_cells, parts_of};
-ghost use Rattle.cell_values.specs.declared.values.Cell.TheVariants.{Byte};
-ghost use Rattle.cell_values.specs.Stored.{cells_of};
-ghost use Rattle.object_machine.specs.Start.{first_cell};
-ghost use Rattle.object_machine.specs.Starting.{AreShortSegments, AreShortWords, plain_cells};
-ghost use Rattle.object_machine.specs.Machine.{byte_cells};
+ghost use Rattle.cell_values.specs.{Cells.{put_cells, parts_of}, declared.values.Cell.TheVariants.{Byte}, Stored.{cells_of}};
+ghost use Rattle.object_machine.specs.{Start.{first_cell}, Starting.{AreShortSegments, AreShortWords, plain_cells}, Machine.{byte_cells}};
 
 use cell_values::{Cell, CellStore, Val, split};
 use elf_reader::Segment;

@@ -1,10 +1,8 @@
 ghost use Rattle.std.specs.Prelude.{◌≡◌, ℕ, true, length};
 ghost use Rattle.std.specs.List.{list_any};
 ghost use Rattle.object_graph.specs.Sites.{in_range};
-ghost use Rattle.object_machine.specs.Landings.{AreLandings};
+ghost use Rattle.object_machine.specs.{Landings.{AreLandings}, Units.{AreFit, AreJoined, AreStarts}, Layout.{AreAscending, EndBelow, HasDisjointObjects, LieOff, AreAmong, is_grain}};
 ghost use Rattle.std.specs.List.Sorted.{IsStrictlyIncreasing};
-ghost use Rattle.object_machine.specs.Units.{AreFit, AreJoined, AreStarts};
-ghost use Rattle.object_machine.specs.Layout.{AreAscending, EndBelow, HasDisjointObjects, LieOff, AreAmong, is_grain};
 
 use crate::landings::landing;
 use crate::units::Prepared;
@@ -50,8 +48,7 @@ pub(crate) struct Tables {
 impl Tables {
     ghost use Rattle.std.specs.Prelude.{false, ◌+◌, ◌<◌, ◌≤◌, IsTrue, MatchOption};
     ghost use Rattle.code_blocks.specs.Early.{has};
-    ghost use Rattle.object_machine.specs.Units.{IsUnitAt};
-    ghost use Rattle.object_machine.specs.Layout.{is_in_some};
+    ghost use Rattle.object_machine.specs.{Units.{IsUnitAt}, Layout.{is_in_some}};
 
     /// Whether fixed memory lies at an address, by binary search.
     pub(crate) fn is_fixed(&self, address: u32) -> bool

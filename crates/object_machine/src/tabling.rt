@@ -5,9 +5,7 @@ ghost use Rattle.loaded_file.specs.Read.{IsRead};
 ghost use Rattle.object_graph.specs.Graphs.{IsGraph};
 ghost use Rattle.code_blocks.specs.Blocks.{IsCode};
 ghost use Rattle.cell_values.specs.Objects.{IsGrain};
-ghost use Rattle.object_machine.specs.Program.{program_of};
-ghost use Rattle.object_machine.specs.Machine.{Agrees};
-ghost use Rattle.object_machine.specs.Preparing.{HasObjects};
+ghost use Rattle.object_machine.specs.{Program.{program_of}, Machine.{Agrees}, Preparing.{HasObjects}};
 
 use crate::landings::{block_landings, first_start, reached_landings};
 use crate::preparing::{lay_blocks, objects_alone, widened};

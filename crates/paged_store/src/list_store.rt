@@ -17,8 +17,7 @@ pub struct ListStore {
 impl ListStore {
     ghost use Rattle.std.specs.Prelude.{◌≡◌, IsTrue, IsOk, IfOk};
     ghost use Rattle.rv32im.specs.Memory.{zeros};
-    ghost use Rattle.paged_store.specs.Entries.{bytes_of, has_entry, place_of};
-    ghost use Rattle.paged_store.specs.Room.{RoomGrows};
+    ghost use Rattle.paged_store.specs.{Entries.{bytes_of, has_entry, place_of}, Room.{RoomGrows}};
 
     /// The store of zeros. It takes no memory.
     pub fn new(alloc: Global) -> ListStore

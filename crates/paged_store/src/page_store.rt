@@ -1,7 +1,6 @@
 ghost use Rattle.std.specs.Prelude.{◌≡◌, ℕ, ◌+◌, ◌<◌, vec_len, slice_index, IsOk, OnOk, OnErr, ◌≤◌, ◌%◌, ◌/◌, length};
 ghost use Rattle.rv32im.specs.Words.{half_of, word_of};
-ghost use Rattle.paged_store.specs.Pages.{IsZeroPage, AreInside, AreDisjoint, IsWhole, IsInPages};
-ghost use Rattle.paged_store.specs.Pages.{with_piece};
+ghost use Rattle.paged_store.specs.{Pages.{IsZeroPage, AreInside, AreDisjoint, IsWhole, IsInPages}, Pages.{with_piece}};
 
 use crate::byte_store::ByteStore;
 use std::alloc::{AllocError, Global};
@@ -86,8 +85,7 @@ fn put_piece(bytes: &mut Vec<u8>, place: usize, piece: &[u8])
 impl PageStore {
     ghost use Rattle.std.specs.Prelude.{◌≢◌, IsTrue};
     ghost use Rattle.rv32im.specs.Memory.{zeros, word_at, put, put_bytes, put_half, put_word};
-    ghost use Rattle.paged_store.specs.Room.{HasRoom, RoomGrows};
-    ghost use Rattle.paged_store.specs.Pages.{page_of, byte_place, paged_bytes, has_page, PagesStay};
+    ghost use Rattle.paged_store.specs.{Room.{HasRoom, RoomGrows}, Pages.{page_of, byte_place, paged_bytes, has_page, PagesStay}};
 
     /// The store of zeros. It takes no memory.
     pub fn new(alloc: Global) -> PageStore

@@ -2,22 +2,14 @@ ghost use Rattle.std.specs.Prelude.{◌≡◌, ℕ, ◌<◌, true, false, not, �
 ghost use Rattle.std.specs.List.{AllPairs};
 ghost use Rattle.std.specs.List.Sorted.{IsPartitionPoint};
 ghost use Rattle.object_graph.specs.declared.parts.Graph.{Graph};
-ghost use Rattle.placement_programme.specs.Bounds.{AscendWithin};
-ghost use Rattle.placement_programme.specs.Plain.{plain_var};
-ghost use Rattle.placement_programme.specs.Programme.{IsFeasible};
-ghost use Rattle.placement_programme.specs.Views.{plain_programme, plain_choice};
+ghost use Rattle.placement_programme.specs.{Bounds.{AscendWithin}, Plain.{plain_var}, Programme.{IsFeasible}, Views.{plain_programme, plain_choice}};
 ghost use Rattle.profile_runner.specs.Transition.{Transition};
 ghost use Rattle.code_blocks.specs.Numbers.{end_at};
-ghost use Rattle.block_splitter.specs.Forms.{holds_block};
-ghost use Rattle.block_splitter.specs.Pieces.{is_entry, range_of, IsPiece, ComesBefore, ArePieces};
-ghost use Rattle.energy_model.specs.Energy.{piece_in, covering, piece_of};
-ghost use Rattle.energy_model.specs.Scenes.{scene_of, AreOfSameFile};
-ghost use Rattle.energy_model.specs.Together.{taken};
-ghost use Rattle.placement_candidates.specs.Adding.{kept_name};
-ghost use Rattle.placement_candidates.specs.Whole.{taken_of as names_taken};
+ghost use Rattle.block_splitter.specs.{Forms.{holds_block}, Pieces.{is_entry, range_of, IsPiece, ComesBefore, ArePieces}};
+ghost use Rattle.energy_model.specs.{Energy.{piece_in, covering, piece_of}, Scenes.{scene_of, AreOfSameFile}, Together.{taken}};
+ghost use Rattle.placement_candidates.specs.{Adding.{kept_name}, Whole.{taken_of as names_taken}};
 ghost use Rattle.result_laws.specs.Choices.{IsChoiceFor};
-ghost use Rattle.relink_core.specs.Copies.{comes_before};
-ghost use Rattle.relink_core.specs.Choices.{IsAnalysisOf};
+ghost use Rattle.relink_core.specs.{Copies.{comes_before}, Choices.{IsAnalysisOf}};
 ghost use Rattle.paid_energy.specs.Inward.{calls, is_within, is_inward, inward_count, counted_inward, IsListed, AreByBlock, ArePiecesOf};
 
 use block_splitter::{BlockRange, Piece};

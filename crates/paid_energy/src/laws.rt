@@ -1,6 +1,5 @@
 // Laws of the definitions: functions that do nothing, whose contracts are what is proved.
-ghost use Rattle.paid_energy.specs.FlatRuns.{OneRunFor, EndedRunsFor};
-ghost use Rattle.paid_energy.specs.Inward.{InwardIsCounted};
+ghost use Rattle.paid_energy.specs.{FlatRuns.{OneRunFor, EndedRunsFor}, Inward.{InwardIsCounted}};
 
 /// A machine runs in one way until it ends or a bound of steps is reached.
 pub fn one_run_for()

@@ -1,7 +1,6 @@
 ghost use Rattle.std.specs.Prelude.{◌≡◌, ◌<◌, ◌^◌, length, IfOk};
 ghost use Rattle.board_config.specs.Board.{IsLawful};
-ghost use Rattle.flat_machine.specs.Known.{AreKnown};
-ghost use Rattle.flat_machine.specs.Machine.{state_of};
+ghost use Rattle.flat_machine.specs.{Known.{AreKnown}, Machine.{state_of}};
 ghost use Rattle.paid_energy.specs.FlatRuns.{PaysRun};
 
 use crate::costs::step_cost;

@@ -1,9 +1,5 @@
 // Laws of the definitions: functions that do nothing, whose contracts are what is proved.
-ghost use Rattle.paid_energy.specs.Leading.{UnitsLead, BranchesGo};
-ghost use Rattle.paid_energy.specs.CountedWalks.{FormsAreCounted};
-ghost use Rattle.paid_energy.specs.HomeWalks.{PairedRunsWalkHome};
-ghost use Rattle.paid_energy.specs.WalkCosts.{HomeCostsEnergy, WalkCostsEnergy};
-ghost use Rattle.paid_energy.specs.Laws.{PaidIsModelled};
+ghost use Rattle.paid_energy.specs.{Leading.{UnitsLead, BranchesGo}, CountedWalks.{FormsAreCounted}, HomeWalks.{PairedRunsWalkHome}, WalkCosts.{HomeCostsEnergy, WalkCostsEnergy}, Laws.{PaidIsModelled}};
 
 /// The words of a unit from which the program goes on lead the flat machine on by the unit's form: at home to the next unit's
 /// home; in a copy to the next unit's copy, behind the copy where control falls out of the piece, or home; and in a stub home,

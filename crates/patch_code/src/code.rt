@@ -1,11 +1,6 @@
 //! The code of a plan.
 ghost use Rattle.std.specs.Prelude.{◌≡◌, ℕ, ◌+◌, ◌*◌, ◌<◌, ◌++◌, length, IfOk, replicate};
-ghost use Rattle.patch_code.specs.Start.{CanStart, AreStartWords};
-ghost use Rattle.patch_code.specs.Homes.{AreOrdered};
-ghost use Rattle.patch_code.specs.Serving.{ServingStub, serving_home};
-ghost use Rattle.patch_code.specs.Layout.{CanStand};
-ghost use Rattle.patch_code.specs.Overlay.{CanHold, AreOverlayWords, serving_at, switch_at};
-ghost use Rattle.patch_code.specs.StubPlans.{start_of, serving_stubs, code_plan, overlay_plan, HasLists, IsPlainPlan, IsStubCode, IsOverlayCode};
+ghost use Rattle.patch_code.specs.{Start.{CanStart, AreStartWords}, Homes.{AreOrdered}, Serving.{ServingStub, serving_home}, Layout.{CanStand}, Overlay.{CanHold, AreOverlayWords, serving_at, switch_at}, StubPlans.{start_of, serving_stubs, code_plan, overlay_plan, HasLists, IsPlainPlan, IsStubCode, IsOverlayCode}};
 
 use crate::images::{image_places, push_images};
 use crate::instructions::start_stub;

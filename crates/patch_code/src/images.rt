@@ -1,8 +1,7 @@
 // Images: their words, one behind the other.
 ghost use Rattle.std.specs.Prelude.{◌≡◌, ℕ, ◌+◌, ◌*◌, ◌<◌, ◌++◌, List, map, length, IfOk, OnOk};
 ghost use Rattle.std.specs.List.{concat};
-ghost use Rattle.patch_code.specs.Layout.{image_places, image_bytes};
-ghost use Rattle.patch_code.specs.StubPlans.{words_of};
+ghost use Rattle.patch_code.specs.{Layout.{image_places, image_bytes}, StubPlans.{words_of}};
 
 use std::alloc::{AllocError, Global};
 

@@ -1,8 +1,6 @@
 // The instructions of the start stub.
 ghost use Rattle.std.specs.Prelude.{◌≡◌, ℕ, ◌+◌, ◌*◌, ◌<◌, ◌++◌, length, All, OnOk, IfOk, pos};
-ghost use Rattle.patch_code.specs.Jobs.{fences, IsJob};
-ghost use Rattle.patch_code.specs.Start.{clears, before_jump, start_stub, jump_at, start_bytes, CanStart};
-ghost use Rattle.patch_code.specs.StubPlans.{start_of};
+ghost use Rattle.patch_code.specs.{Jobs.{fences, IsJob}, Start.{clears, before_jump, start_stub, jump_at, start_bytes, CanStart}, StubPlans.{start_of}};
 ghost use Rattle.rv32im.specs.declared.instructions.ImmKind.TheVariants.{Addi};
 
 use crate::job_code::{push_fence, push_jobs};

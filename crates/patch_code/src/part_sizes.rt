@@ -1,10 +1,6 @@
 //! How many bytes the parts of a plan's code take.
 ghost use Rattle.std.specs.Prelude.{◌≡◌, ℕ, ◌+◌, ◌*◌, ◌<◌, length, option_map};
-ghost use Rattle.patch_code.specs.Jobs.{fences};
-ghost use Rattle.patch_code.specs.Counts.{first_words, region_words};
-ghost use Rattle.patch_code.specs.Start.{start_bytes};
-ghost use Rattle.patch_code.specs.Overlay.{switching, rest_bytes, switch_bytes};
-ghost use Rattle.patch_code.specs.StubPlans.{HasLists, has_twin, jobs_at, overlay_plan, overlay_sizes};
+ghost use Rattle.patch_code.specs.{Jobs.{fences}, Counts.{first_words, region_words}, Start.{start_bytes}, Overlay.{switching, rest_bytes, switch_bytes}, StubPlans.{HasLists, has_twin, jobs_at, overlay_plan, overlay_sizes}};
 
 use crate::images::image_bytes;
 use crate::job::CopyJob;

@@ -1,11 +1,8 @@
 // The switch routine of a plan.
 ghost use Rattle.std.specs.Prelude.{◌≡◌, ◌<◌, All, length, IfOk};
 ghost use Rattle.rv32im.specs.Sequences.{MeanAll};
-ghost use Rattle.patch_code.specs.Jobs.{IsJob};
+ghost use Rattle.patch_code.specs.{Jobs.{IsJob}, Overlay.{CanHold, switch_code}, StubPlans.{HasLists, jobs_at, overlay_plan}, Regions.{IsRegionOf, AreRegionsOf, IsRoutineOf}};
 ghost use Rattle.patch_code.specs.Switching;
-ghost use Rattle.patch_code.specs.Overlay.{CanHold, switch_code};
-ghost use Rattle.patch_code.specs.StubPlans.{HasLists, jobs_at, overlay_plan};
-ghost use Rattle.patch_code.specs.Regions.{IsRegionOf, AreRegionsOf, IsRoutineOf};
 
 use crate::job::CopyJob;
 use crate::job_code::push_jobs;

@@ -3,10 +3,7 @@ ghost use Rattle.std.specs.Prelude.{◌≡◌, ℕ, ◌+◌, ◌*◌, ◌<◌, �
 ghost use Rattle.std.specs.List.Sorted.{IsStrictlyIncreasing};
 ghost use Rattle.rv32im.specs.Sequences;
 ghost use Rattle.rv32im.specs.Sequences.{MeanAll};
-ghost use Rattle.patch_code.specs.Homes.{HaveHomes, AreOrdered};
-ghost use Rattle.patch_code.specs.Serving.{ServingStub, serving_home, test_code, test_bytes, body_bytes, serving_size, serving_bytes, served_before, places_from, IsBody, AreStubWords, AreServed};
-ghost use Rattle.patch_code.specs.Overlay.{CanServeAt, CanServeFrom, Reaches};
-ghost use Rattle.patch_code.specs.StubPlans.{body_of, serving_stub, serving_stubs};
+ghost use Rattle.patch_code.specs.{Homes.{HaveHomes, AreOrdered}, Serving.{ServingStub, serving_home, test_code, test_bytes, body_bytes, serving_size, serving_bytes, served_before, places_from, IsBody, AreStubWords, AreServed}, Overlay.{CanServeAt, CanServeFrom, Reaches}, StubPlans.{body_of, serving_stub, serving_stubs}};
 
 use crate::checking::checking_stub;
 use crate::stub_plan::{Body, Stub};

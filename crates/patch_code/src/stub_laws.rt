@@ -1,6 +1,5 @@
 // Laws of the definitions: functions that do nothing, whose contracts are what is proved.
-ghost use Rattle.patch_code.specs.StubLaws.{StartRuns, PlainStubRuns, PartsStand};
-ghost use Rattle.patch_code.specs.Served.{OverlayStands, PadsLead};
+ghost use Rattle.patch_code.specs.{StubLaws.{StartRuns, PlainStubRuns, PartsStand}, Served.{OverlayStands, PadsLead}};
 
 /// Where the words of a start stub stand, with any words behind them, the flat machine copies each job's bytes in order, clears
 /// x5, x7, x28 and x31 and is at the entry after just `start_run` steps, which fetch the stub's words and make the accesses of

@@ -1,10 +1,7 @@
 // The switch routine.
 ghost use Rattle.std.specs.Prelude.{◌≡◌, ℕ, ◌+◌, ◌*◌, ◌<◌, ◌++◌, length, OnOk, IfOk, IfSome, option_map};
 ghost use Rattle.std.specs.List.{flat_map};
-ghost use Rattle.patch_code.specs.Jobs.{fences};
-ghost use Rattle.patch_code.specs.Parts.{twin_in, first_parts, part_code, kept_code};
-ghost use Rattle.patch_code.specs.Switching.{routine, begins, ends};
-ghost use Rattle.patch_code.specs.SwitchPlans.{plan_of, side_part, CanBuild};
+ghost use Rattle.patch_code.specs.{Jobs.{fences}, Parts.{twin_in, first_parts, part_code, kept_code}, Switching.{routine, begins, ends}, SwitchPlans.{plan_of, side_part, CanBuild}};
 
 use crate::checking::{load_control, store_control};
 use crate::guards::push_guarded;

@@ -1,10 +1,5 @@
 // Laws of the definitions: functions that do nothing, whose contracts are what is proved.
-ghost use Rattle.patch_code.specs.Switches.{StubPasses, StubSwitches, BodyJumps};
-ghost use Rattle.patch_code.specs.Moves.{JobsMove};
-ghost use Rattle.patch_code.specs.Switching.{RoutineOfJobs};
-ghost use Rattle.patch_code.specs.SwitchPlans.{RoutineInRange, CheckingInRange};
-ghost use Rattle.patch_code.specs.Example.{ExampleWords};
-ghost use Rattle.patch_code.specs.Counts.{SwitchRunsJobs, SwitchRunsWords, SwitchIsBounded, RoutineCount};
+ghost use Rattle.patch_code.specs.{Switches.{StubPasses, StubSwitches, BodyJumps}, Moves.{JobsMove}, Switching.{RoutineOfJobs}, SwitchPlans.{RoutineInRange, CheckingInRange}, Example.{ExampleWords}, Counts.{SwitchRunsJobs, SwitchRunsWords, SwitchIsBounded, RoutineCount}};
 
 /// Where the region of a checking stub is current, the flat machine runs four of its words, which stand before its body, and
 /// is at that. Memory is as it was, and all registers but the stub's own.

@@ -1,3 +1,4 @@
+-- What may be taken, what it gains and weighs, and the programme that a run states, or several runs.
 pub use Rattle.placement_programme.specs.Rows
 pub use Rattle.placement_programme.specs.Views
 pub use Rattle.energy_model.specs.Scenes

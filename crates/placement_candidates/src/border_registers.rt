@@ -3,9 +3,7 @@ ghost use Rattle.std.specs.Prelude.{◌≡◌, ◌↔◌, ◌⊎◌, ℕ, ◌<�
 ghost use Rattle.reach_graph.specs.Reaching.{HasMark};
 ghost use Rattle.rv32im.specs.RegSet.{IsIn};
 ghost use Rattle.code_blocks.specs.declared.parts.Code.{Code};
-ghost use Rattle.dataflow.specs.Live.{Live};
-ghost use Rattle.dataflow.specs.Tables.{IsTableOf};
-ghost use Rattle.dataflow.specs.Overlaid.{is_border};
+ghost use Rattle.dataflow.specs.{Live.{Live}, Tables.{IsTableOf}, Overlaid.{is_border}};
 ghost use Rattle.placement_candidates.specs.Found.{AreLiveAtBorders};
 
 use code_blocks::Code;

@@ -1,13 +1,9 @@
 ghost use Rattle.std.specs.Prelude.{◌≡◌, ℕ, ◌-◌, ◌*◌, ◌^◌, ◌<◌, ◌≤◌, List, map, None, IfOk};
 ghost use Rattle.elf_reader.specs.declared.view.ElfView.{ElfView};
-ghost use Rattle.placement_programme.specs.Plain.{plain_full_var};
-ghost use Rattle.placement_programme.specs.Bounds.{IsWithinFullBounds};
-ghost use Rattle.placement_programme.specs.Views.{plain_full_side, plain_full};
+ghost use Rattle.placement_programme.specs.{Plain.{plain_full_var}, Bounds.{IsWithinFullBounds}, Views.{plain_full_side, plain_full}};
 ghost use Rattle.profile_runner.specs.Transition.{Transition};
-ghost use Rattle.energy_model.specs.Scenes.{scene_of, layout_of, AreOfSameFile};
-ghost use Rattle.placement_candidates.specs.Stated.{AreSomePieces, IsStaticFull};
-ghost use Rattle.placement_candidates.specs.Counted.{start_size, stub_price, counted_rows, counted_static, counted_side, CanCount};
-ghost use Rattle.energy_model.specs.Base.{CountsEnergy, IsCounted};
+ghost use Rattle.energy_model.specs.{Scenes.{scene_of, layout_of, AreOfSameFile}, Base.{CountsEnergy, IsCounted}};
+ghost use Rattle.placement_candidates.specs.{Stated.{AreSomePieces, IsStaticFull}, Counted.{start_size, stub_price, counted_rows, counted_static, counted_side, CanCount}};
 
 use crate::objects::data_vars;
 use crate::pieces::{Tables, push_vars};
@@ -51,7 +47,6 @@ fn off_rows(alloc: Global, board: &Board, blocks: usize) -> Result<Vec<u64>, All
     Ok(rows)
 }
 
-/// A side of these parts.
 /// A side of these parts.
 pub fn side_of(fixed: u128, rows: Vec<u64>, vars: Vec<FullVar>) -> FullSide
     requires { IsWithinFullBounds record { fixed = fixed; rows = rows.items; vars = map plain_full_var vars.items } }

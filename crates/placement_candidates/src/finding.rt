@@ -2,14 +2,10 @@ ghost use Rattle.std.specs.Prelude.{◌≡◌, ◌++◌, ◌∷◌, ℕ, not, �
 ghost use Rattle.std.specs.List.Sorted.{IsStrictlyIncreasing};
 ghost use Rattle.list_checks.specs.Sorted.{collected};
 ghost use Rattle.rv32im.specs.declared.instructions.RegSet.{RegSet};
-ghost use Rattle.object_graph.specs.Lookups.{IsSomeGraph};
-ghost use Rattle.object_graph.specs.declared.parts.Graph.{Graph};
-ghost use Rattle.code_blocks.specs.Numbers.{starts_of};
-ghost use Rattle.code_blocks.specs.declared.parts.Code.{Code};
-ghost use Rattle.dataflow.specs.Tables.{IsTableOf};
-ghost use Rattle.dataflow.specs.Exposed.{AreExposed, mark_at};
-ghost use Rattle.placement_candidates.specs.Overlaid.{AreOverlaidObjects};
-ghost use Rattle.placement_candidates.specs.Found.{AreSited, AreFree};
+ghost use Rattle.object_graph.specs.{Lookups.{IsSomeGraph}, declared.parts.Graph.{Graph}};
+ghost use Rattle.code_blocks.specs.{Numbers.{starts_of}, declared.parts.Code.{Code}};
+ghost use Rattle.dataflow.specs.{Tables.{IsTableOf}, Exposed.{AreExposed, mark_at}};
+ghost use Rattle.placement_candidates.specs.{Overlaid.{AreOverlaidObjects}, Found.{AreSited, AreFree}};
 
 use crate::border_registers::registers_at_borders;
 use crate::region_sites::sited_objects;

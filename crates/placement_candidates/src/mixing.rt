@@ -1,8 +1,6 @@
 ghost use Rattle.std.specs.Prelude.{◌≡◌, ◌<◌, map, length, option_map, IfOk};
-ghost use Rattle.placement_programme.specs.Plain.{plain_full_var};
-ghost use Rattle.placement_programme.specs.Views.{plain_full_side, plain_full};
-ghost use Rattle.placement_candidates.specs.Parts.{plain_part, IsMixedSide, IsMixedOn, IsMix, CanMix};
-ghost use Rattle.placement_candidates.specs.Mixing.{sides_of, mixed_at, mixed_vars, CanMixSides};
+ghost use Rattle.placement_programme.specs.{Plain.{plain_full_var}, Views.{plain_full_side, plain_full}};
+ghost use Rattle.placement_candidates.specs.{Parts.{plain_part, IsMixedSide, IsMixedOn, IsMix, CanMix}, Mixing.{sides_of, mixed_at, mixed_vars, CanMixSides}};
 
 use crate::counting::side_of;
 use crate::part::Part;

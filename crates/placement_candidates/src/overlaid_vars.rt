@@ -2,11 +2,8 @@ ghost use Rattle.std.specs.Prelude.{◌≡◌, ◌+◌, ◌*◌, ◌<◌, ◌≤
 ghost use Rattle.std.specs.List.{All, filter};
 ghost use Rattle.cell_values.specs.Objects.{datum_of};
 ghost use Rattle.energy_model.specs.Counts.{AreBlockCounts};
-ghost use Rattle.placement_programme.specs.Plain.{plain_full_var};
-ghost use Rattle.placement_programme.specs.Rows.{static_data, static_code, overlay_data, overlay_code, kept_data, pairs_of};
-ghost use Rattle.placement_candidates.specs.OverlayCounted.{scene_in, on_var, on_vars, piece_region, CanWeigh, CanWeighPiece, CanGain};
-ghost use Rattle.placement_candidates.specs.Stated.{part_of};
-ghost use Rattle.placement_candidates.specs.Overlaid.{static_objects, static_pieces, objects_in, pieces_in, objects_of_pair, overlaid_objects, overlaid_pieces, kept_objects};
+ghost use Rattle.placement_programme.specs.{Plain.{plain_full_var}, Rows.{static_data, static_code, overlay_data, overlay_code, kept_data, pairs_of}};
+ghost use Rattle.placement_candidates.specs.{OverlayCounted.{scene_in, on_var, on_vars, piece_region, CanWeigh, CanWeighPiece, CanGain}, Stated.{part_of}, Overlaid.{static_objects, static_pieces, objects_in, pieces_in, objects_of_pair, overlaid_objects, overlaid_pieces, kept_objects}};
 
 use crate::measured::Measured;
 use crate::overlay_gains::{
@@ -323,7 +320,7 @@ fn push_pieces_in(
     Ok(())
 }
 
-/// The same of all regions.
+/// The variables of pieces in all regions.
 fn push_pieces_by(
     alloc: Global,
     vars: &mut Vec<FullVar>,

@@ -1,10 +1,8 @@
 ghost use Rattle.std.specs.Prelude.{◌≡◌, ◌*◌, ◌/◌, ◌^◌, ◌<◌, ◌≤◌, length, slice_index_or};
-ghost use Rattle.energy_model.specs.Energy.{into_price};
+ghost use Rattle.energy_model.specs.{Energy.{into_price}, Counts.{AreBlockCounts}};
 ghost use Rattle.cell_values.specs.Objects.{object_of, datum_of};
 ghost use Rattle.placement_programme.specs.Rows.{static_data, static_code, overlay_data, overlay_code, kept_data};
-ghost use Rattle.energy_model.specs.Counts.{AreBlockCounts};
-ghost use Rattle.placement_candidates.specs.Stated.{part_of};
-ghost use Rattle.placement_candidates.specs.OverlayCounted.{scene_in, code_gain_in, gain_in, CanGain, CanWeighPiece};
+ghost use Rattle.placement_candidates.specs.{Stated.{part_of}, OverlayCounted.{scene_in, code_gain_in, gain_in, CanGain, CanWeighPiece}};
 
 use crate::measured::Measured;
 use crate::objects::{data_gain, object_at};

@@ -1,6 +1,5 @@
 // Laws of the definitions: functions that do nothing, whose contracts are what is proved.
-ghost use Rattle.placement_candidates.specs.Overlaid.{OffSideStays};
-ghost use Rattle.placement_candidates.specs.Whole.{OverlayAddsUp, WholeEnergyIsOfTheRun};
+ghost use Rattle.placement_candidates.specs.{Overlaid.{OffSideStays}, Whole.{OverlayAddsUp, WholeEnergyIsOfTheRun}};
 
 /// The programme with overlay says of the side without it what the programme of static items says.
 pub fn off_side_stays()

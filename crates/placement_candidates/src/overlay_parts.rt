@@ -4,10 +4,7 @@ ghost use Rattle.object_graph.specs.Lookups.{IsSomeGraph};
 ghost use Rattle.block_splitter.specs.Forms.{is_site, body_at, kind_of, displaced_size};
 ghost use Rattle.cell_values.specs.Objects.{object_of, datum_of};
 ghost use Rattle.placement_programme.specs.Rows.{checking_stub_bytes, fixed_bytes, on_capacities, on_code_bytes};
-ghost use Rattle.placement_candidates.specs.OverlayRows.{IsDatum, IsPart};
-ghost use Rattle.placement_candidates.specs.OverlayCounted.{scene_in, layout_in, rows_in, CanWeigh, CanWeighPiece};
-ghost use Rattle.placement_candidates.specs.Stated.{is_border, displaced_at, part_of};
-ghost use Rattle.placement_candidates.specs.Overlaid.{displaced_at_border, displaced_below};
+ghost use Rattle.placement_candidates.specs.{OverlayRows.{IsDatum, IsPart}, OverlayCounted.{scene_in, layout_in, rows_in, CanWeigh, CanWeighPiece}, Stated.{is_border, displaced_at, part_of}, Overlaid.{displaced_at_border, displaced_below}};
 
 use crate::measured::Measured;
 use crate::objects::{data_span, object_at};

@@ -1,7 +1,6 @@
 ghost use Rattle.std.specs.Prelude.{◌≡◌, ◌<◌, ◌≤◌, map, length, IfOk};
 ghost use Rattle.std.specs.List.{All};
-ghost use Rattle.placement_candidates.specs.OverlayCounted.{piece_region, CanWeigh, CanWeighPiece};
-ghost use Rattle.placement_candidates.specs.Overlaid.{is_of_region};
+ghost use Rattle.placement_candidates.specs.{OverlayCounted.{piece_region, CanWeigh, CanWeighPiece}, Overlaid.{is_of_region}};
 
 use crate::measured::Measured;
 use block_splitter::Piece;

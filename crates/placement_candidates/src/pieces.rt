@@ -1,7 +1,6 @@
 ghost use Rattle.std.specs.Prelude.{◌≡◌, ◌+◌, ◌-◌, ◌*◌, ◌^◌, ◌<◌, ◌≤◌, ◌∷◌, ◌++◌, [], pos, ◌-ℤ◌, map, length, IfOk, OnOk};
 ghost use Rattle.std.specs.List.{All};
-ghost use Rattle.placement_programme.specs.Plain.{plain_full_var};
-ghost use Rattle.placement_programme.specs.Rows.{rounded_up, in_rows};
+ghost use Rattle.placement_programme.specs.{Plain.{plain_full_var}, Rows.{rounded_up, in_rows}};
 ghost use Rattle.energy_model.specs.Counts.{most_run};
 ghost use Rattle.placement_candidates.specs.Counted.{copied_price, piece_weights, counted_code_gain, counted_code_var, CanCountPiece, AreTables};
 

@@ -3,9 +3,8 @@ ghost use Rattle.std.specs.Prelude.{◌≡◌, ◌↔◌, ℕ, ◌<◌, ◌==◌
 ghost use Rattle.std.specs.List.{list_any};
 ghost use Rattle.list_checks.specs.Sorted.{IsSorted, is_number};
 ghost use Rattle.code_blocks.specs.Leads.{units_in};
-ghost use Rattle.dataflow.specs.Overlaid.{region_in, site_means};
+ghost use Rattle.dataflow.specs.{Overlaid.{region_in, site_means}, Exposed.{mark_at}};
 ghost use Rattle.placement_candidates.specs.Found.{stands_at, HasAddress, StandsInRegion, strays, AreSited};
-ghost use Rattle.dataflow.specs.Exposed.{mark_at};
 
 use code_blocks::{Block, Code, Unit};
 use list_checks::{arrange, has};

@@ -1,10 +1,7 @@
 ghost use Rattle.std.specs.Prelude.{◌≡◌, ◌+◌, ◌<◌, ◌==◌, nat_lt, ◌&&◌, ◌||◌, ◌++◌, map, length, option_map, IfOk, OnOk};
 ghost use Rattle.list_checks.specs.Tests.{any_below};
-ghost use Rattle.placement_programme.specs.Plain.{plain_var, plain_full_var};
-ghost use Rattle.placement_programme.specs.Bounds.{IsWithinBounds};
-ghost use Rattle.placement_programme.specs.Views.{plain_side, plain_programme, plain_full_side, plain_full};
-ghost use Rattle.placement_candidates.specs.Selected.{worth, worth_at, is_kept, plain_kept, kept_at, kept_below, selected_side, is_overlay, saves_by_overlay, var_in, has_overlay, selected_on, selected};
-ghost use Rattle.placement_candidates.specs.Ranking.{IsCut, ties_before};
+ghost use Rattle.placement_programme.specs.{Plain.{plain_var, plain_full_var}, Bounds.{IsWithinBounds}, Views.{plain_side, plain_programme, plain_full_side, plain_full}};
+ghost use Rattle.placement_candidates.specs.{Selected.{worth, worth_at, is_kept, plain_kept, kept_at, kept_below, selected_side, is_overlay, saves_by_overlay, var_in, has_overlay, selected_on, selected}, Ranking.{IsCut, ties_before}};
 
 use crate::ranking::{Cut, find_cut};
 use placement_programme::{Full, FullSide, FullVar, Programme, Side, Var, VarName};
@@ -181,7 +178,7 @@ fn any_saves(vars: &[FullVar]) -> bool
     found
 }
 
-/// The same of a side.
+/// Whether something that is overlaid saves something on a side.
 fn has_overlay(side: &FullSide) -> bool
     ensures { result ≡ has_overlay (plain_full_side side.now).vars }
 {

@@ -2,9 +2,7 @@
 ghost use Rattle.std.specs.Prelude.{◌≡◌, ◌*◌, ◌^◌, ◌<◌, ◌≤◌, ◌*ℤ◌, pos, unsigned_abs, map, length};
 ghost use Rattle.std.specs.List.{All, sum_by};
 ghost use Rattle.placement_programme.specs.Views.{plain_full_side};
-ghost use Rattle.placement_candidates.specs.Stated.{IsSmallSide};
-ghost use Rattle.placement_candidates.specs.Parts.{plain_part, gain_of, mixed_fixed, mixed_gain, IsSmallPart};
-ghost use Rattle.placement_candidates.specs.Mixing.{part_sides, sides_of, HasVar};
+ghost use Rattle.placement_candidates.specs.{Stated.{IsSmallSide}, Parts.{plain_part, gain_of, mixed_fixed, mixed_gain, IsSmallPart}, Mixing.{part_sides, sides_of, HasVar}};
 
 use crate::part::Part;
 use placement_programme::FullSide;

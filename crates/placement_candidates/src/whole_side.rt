@@ -1,15 +1,9 @@
 ghost use Rattle.std.specs.Prelude.{◌≡◌, ◌+◌, ◌-◌, ◌^◌, ◌≤◌, ◌<◌, ◌&&◌, nat_lt, nat_le, List, map, length, option_map, IfOk};
 ghost use Rattle.elf_reader.specs.declared.view.ElfView.{ElfView};
-ghost use Rattle.placement_programme.specs.Plain.{plain_full_var};
-ghost use Rattle.placement_programme.specs.Rows.{fixed_bytes};
-ghost use Rattle.placement_programme.specs.Views.{plain_full_side, plain_full};
+ghost use Rattle.placement_programme.specs.{Plain.{plain_full_var}, Rows.{fixed_bytes}, Views.{plain_full_side, plain_full}};
 ghost use Rattle.profile_runner.specs.Transition.{Transition};
-ghost use Rattle.energy_model.specs.Scenes.{AreOfSameFile};
-ghost use Rattle.energy_model.specs.OverlayCost.{overlay_cost};
-ghost use Rattle.placement_candidates.specs.Counted.{stub_price};
-ghost use Rattle.placement_candidates.specs.Stated.{AreSomePieces, IsSmallSide};
-ghost use Rattle.placement_candidates.specs.Overlaid.{AreOverlaidObjects, IsSmallOn, IsWholeFull};
-ghost use Rattle.placement_candidates.specs.OverlayCounted.{scene_in, layout_in, on_vars, counted_on_side, counted_on, CanWeigh, CanGain, CanCountOverlay};
+ghost use Rattle.energy_model.specs.{Scenes.{AreOfSameFile}, OverlayCost.{overlay_cost}};
+ghost use Rattle.placement_candidates.specs.{Counted.{stub_price}, Stated.{AreSomePieces, IsSmallSide}, Overlaid.{AreOverlaidObjects, IsSmallOn, IsWholeFull}, OverlayCounted.{scene_in, layout_in, on_vars, counted_on_side, counted_on, CanWeigh, CanGain, CanCountOverlay}};
 
 use crate::counting::{full, side_of, stub_price};
 use crate::measured::Measured;

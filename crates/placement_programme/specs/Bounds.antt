@@ -75,9 +75,9 @@ bounds_prop side =
 pub full_bounds_prop : (side : PlainFullSide) → IsProp (IsWithinFullBounds side)
 full_bounds_prop side =
     λ a b i. record {
+      capacities = capacities_prop (2 ^ 32) side.rows a.capacities b.capacities i;
       fixed = le_prop a.fixed b.fixed i;
       gains = le_prop a.gains b.gains i;
       few_rows = le_prop a.few_rows b.few_rows i;
-      capacities = capacities_prop (2 ^ 32) side.rows a.capacities b.capacities i;
       weights = λ k d below. weights_prop (length side.rows) (slice_index_or side.vars k d).weights (a.weights k d below) (b.weights k d below) i;
     }

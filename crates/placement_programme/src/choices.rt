@@ -12,8 +12,7 @@ pub struct Choice {
 }
 
 impl Choice {
-    ghost use Rattle.placement_programme.specs.Views.{plain_choice};
-    ghost use Rattle.placement_programme.specs.Programme.{nothing};
+    ghost use Rattle.placement_programme.specs.{Views.{plain_choice}, Programme.{nothing}};
 
     /// The empty choice.
     pub fn nothing(alloc: Global) -> Choice

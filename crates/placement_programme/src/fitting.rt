@@ -1,9 +1,6 @@
 ghost use Rattle.std.specs.Prelude.{◌≡◌, ℕ, ◌+◌, ◌^◌, ◌<◌, ◌≤◌, ◌↔◌, IsTrue, true, map, length, replicate, slice_index};
 ghost use Rattle.std.specs.List.{All};
-ghost use Rattle.placement_programme.specs.Plain.{plain_var};
-ghost use Rattle.placement_programme.specs.Bounds.{AscendWithin, AreWeights};
-ghost use Rattle.placement_programme.specs.Views.{plain_side, plain_programme, plain_choice};
-ghost use Rattle.placement_programme.specs.Programme.{weight_in, load_in, Fits, FitsIn, IsFeasible};
+ghost use Rattle.placement_programme.specs.{Plain.{plain_var}, Bounds.{AscendWithin, AreWeights}, Views.{plain_side, plain_programme, plain_choice}, Programme.{weight_in, load_in, Fits, FitsIn, IsFeasible}};
 
 use crate::choices::Choice;
 use crate::limits::ascend_below;

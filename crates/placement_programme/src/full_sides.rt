@@ -1,6 +1,5 @@
 ghost use Rattle.std.specs.Prelude.{◌^◌, ◌<◌, map};
-ghost use Rattle.placement_programme.specs.Plain.{plain_full_var};
-ghost use Rattle.placement_programme.specs.Bounds.{IsWithinFullBounds, full_bounds_prop};
+ghost use Rattle.placement_programme.specs.{Plain.{plain_full_var}, Bounds.{IsWithinFullBounds, full_bounds_prop}};
 
 use crate::limits::is_within_full_bounds;
 use crate::variables::FullVar;
@@ -31,8 +30,7 @@ pub struct Full {
 
 impl FullSide {
     ghost use Rattle.std.specs.Prelude.{◌≡◌, map, MatchOption};
-    ghost use Rattle.placement_programme.specs.Plain.{PlainFullSide};
-    ghost use Rattle.placement_programme.specs.Views.{plain_full_side};
+    ghost use Rattle.placement_programme.specs.{Plain.{PlainFullSide}, Views.{plain_full_side}};
 
     /// The side of these parts, and None where it isn't within the bounds: a fixed cost and a sum of gains without
     /// their signs below 2^104, fewer than 2^17 rows, capacities and weights below 2^32, and the weights of each

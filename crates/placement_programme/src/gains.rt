@@ -1,9 +1,6 @@
 ghost use Rattle.std.specs.Prelude.{◌≡◌, ◌^◌, ◌<◌, ◌-ℤ◌, ◌≤ℤ◌, pos, map, length};
 ghost use Rattle.std.specs.List.{sum_by};
-ghost use Rattle.placement_programme.specs.Plain.{plain_var};
-ghost use Rattle.placement_programme.specs.Bounds.{AscendWithin};
-ghost use Rattle.placement_programme.specs.Views.{plain_side, plain_programme, plain_choice};
-ghost use Rattle.placement_programme.specs.Programme.{gain_at, Fits, net_gain, IsFeasible, gain, energy};
+ghost use Rattle.placement_programme.specs.{Plain.{plain_var}, Bounds.{AscendWithin}, Views.{plain_side, plain_programme, plain_choice}, Programme.{gain_at, Fits, net_gain, IsFeasible, gain, energy}};
 
 use crate::choices::Choice;
 use crate::sides::{Programme, Side};

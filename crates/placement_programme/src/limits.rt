@@ -1,7 +1,6 @@
 ghost use Rattle.std.specs.Prelude.{◌≡◌, ℕ, ◌^◌, ◌<◌, ◌≤◌, ◌↔◌, IsTrue, map, length, unsigned_abs};
 ghost use Rattle.std.specs.List.{All, sum_by};
-ghost use Rattle.placement_programme.specs.Plain.{plain_var, plain_full_var};
-ghost use Rattle.placement_programme.specs.Bounds.{AscendWithin, AreWeights, IsWithinBounds, IsWithinFullBounds, RowsWithin, row_of, value_of};
+ghost use Rattle.placement_programme.specs.{Plain.{plain_var, plain_full_var}, Bounds.{AscendWithin, AreWeights, IsWithinBounds, IsWithinFullBounds, RowsWithin, row_of, value_of}};
 
 use crate::rows::rows_ascend;
 use crate::variables::{FullVar, Var};
@@ -51,7 +50,14 @@ fn all_weigh(vars: &[Var], count: usize) -> bool
     vars.iter().all(|var| are_weights(&var.weights, count))
 }
 
-/// The same of plain variables.
+/// Whether the weights of each candidate are weights in `count` rows.
+fn all_full_weigh(vars: &[FullVar], count: usize) -> bool
+    ensures { IsTrue result ↔ All (λ v. AreWeights count v.weights.items) vars.now }
+{
+    vars.iter().all(|var| are_weights(&var.weights, count))
+}
+
+/// Whether the weights of each variable, as a plain one, are weights in `count` rows.
 fn weights_fit(vars: &[Var], count: usize) -> bool
     ensures { IsTrue result ↔ All (λ v. AreWeights count v.weights) (map plain_var vars.now) }
 {
@@ -80,14 +86,7 @@ pub(crate) fn is_within_bounds(fixed: u128, rows: &[u64], vars: &[Var]) -> bool
     few && gains_fit(vars) && capacities_fit(rows) && weights_fit(vars, rows.len())
 }
 
-/// Whether the weights of each candidate are weights in `count` rows.
-fn all_full_weigh(vars: &[FullVar], count: usize) -> bool
-    ensures { IsTrue result ↔ All (λ v. AreWeights count v.weights.items) vars.now }
-{
-    vars.iter().all(|var| are_weights(&var.weights, count))
-}
-
-/// The same of plain candidates.
+/// Whether the weights of each candidate, as a plain one, are weights in `count` rows.
 fn full_weights_fit(vars: &[FullVar], count: usize) -> bool
     ensures { IsTrue result ↔ All (λ v. AreWeights count v.weights) (map plain_full_var vars.now) }
 {

@@ -1,6 +1,5 @@
 ghost use Rattle.std.specs.Prelude.{◌≡◌, ℕ, ◌<◌, ◌≤◌, ◌↔◌, IsTrue, length, slice_index_or};
-ghost use Rattle.placement_programme.specs.Bounds.{RowsWithin, row_of};
-ghost use Rattle.placement_programme.specs.Programme.{weight_in};
+ghost use Rattle.placement_programme.specs.{Bounds.{RowsWithin, row_of}, Programme.{weight_in}};
 
 /// Whether the rows of some entries ascend, each once, below `count`.
 pub fn rows_ascend(entries: &[(u32, u64)], count: usize) -> bool

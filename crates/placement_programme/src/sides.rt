@@ -1,6 +1,5 @@
 ghost use Rattle.std.specs.Prelude.{◌^◌, ◌<◌, map};
-ghost use Rattle.placement_programme.specs.Plain.{plain_var};
-ghost use Rattle.placement_programme.specs.Bounds.{IsWithinBounds, bounds_prop};
+ghost use Rattle.placement_programme.specs.{Plain.{plain_var}, Bounds.{IsWithinBounds, bounds_prop}};
 
 use crate::limits::is_within_bounds;
 use crate::variables::Var;
@@ -31,8 +30,7 @@ pub struct Programme {
 
 impl Side {
     ghost use Rattle.std.specs.Prelude.{◌≡◌, map, MatchOption};
-    ghost use Rattle.placement_programme.specs.Plain.{PlainSide};
-    ghost use Rattle.placement_programme.specs.Views.{plain_side};
+    ghost use Rattle.placement_programme.specs.{Plain.{PlainSide}, Views.{plain_side}};
 
     /// The side of these parts, and None where it isn't within the bounds: a fixed cost and a sum of gains below
     /// 2^104, at most 4,000 variables, fewer than 2^17 rows, capacities and weights below 2^32, and the weights of

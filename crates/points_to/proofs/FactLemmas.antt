@@ -37,8 +37,7 @@ sites_inside g some i d inside =
     let (v, board, is) = some in
     let s = slice_index_or g.sites.items i d in
     let here : list_any (same_site s) g.sites.items ≡ true = list_any_at (same_site s) g.sites.items i d inside (same_site_itself s) in
-    let test : is_site_of_list v g.objects.items s ≡ true = sym (is.sites.exact s) ∙ here in
-    let below = (both (nat_lt s.object (length g.objects.items)) (any_below (gives_site v g.objects.items s) (length v.relocs)) test).0 in
+    let below = (both (nat_lt s.object (length g.objects.items)) (any_below (gives_site v g.objects.items s) (length v.relocs)) (sym (is.sites.exact s) ∙ here)).0 in
     grind (arith, nat_tests, below)
 
 two : (b : Bool) → (b ≡ true) ⊎ (b ≡ Bool.false)

@@ -2,8 +2,7 @@ ghost use Rattle.std.specs.Prelude.{◌≡◌, ◌<◌, ◌≤◌, length, repli
 ghost use Rattle.std.specs.List.{All};
 ghost use Rattle.std.specs.List.Sorted.{IsStrictlyIncreasing};
 ghost use Rattle.object_graph.specs.Lookups.{IsSomeGraph};
-ghost use Rattle.code_blocks.specs.Edges.{is_indirect_end};
-ghost use Rattle.code_blocks.specs.Numbers.{starts_of, end_at};
+ghost use Rattle.code_blocks.specs.{Edges.{is_indirect_end}, Numbers.{starts_of, end_at}};
 ghost use Rattle.reach_graph.specs.Reaching.{plain_rows};
 ghost use Rattle.points_to.specs.Nodes.{Adds, AreEdges, Upto, StepEdge, NextEdges, LeaveEdges, BlockEdges, ArrivalEdge, WordEdge, AllEdges, node_count};
 
@@ -23,9 +22,9 @@ fn push_steps(
     block: u32,
     numbers: &[u32],
 ) -> Result<(), AllocError>
+    requires numbers { All (λ d. d < nodes.blocks) numbers.now }
     requires room { length graph_edges.old ≡ node_count nodes.blocks nodes.objects }
     requires block { block < nodes.blocks }
-    requires numbers { All (λ d. d < nodes.blocks) numbers.now }
     ensures { OnOk result (Adds (Upto (length numbers.now) (StepEdge nodes.blocks block numbers.now)) (plain_rows graph_edges.old) (plain_rows graph_edges.new)) }
 {
     for i in 0..numbers.len() {
@@ -71,8 +70,8 @@ fn is_indirect(end: &End) -> bool
 fn push_leaving(
     graph_edges: &mut [Vec<Edge>],
     nodes: Nodes,
-    code: &Code,
     block: u32,
+    code: &Code,
 ) -> Result<(), AllocError>
     requires room { length graph_edges.old ≡ node_count nodes.blocks nodes.objects }
     requires block { block < nodes.blocks }
@@ -114,7 +113,7 @@ fn push_block(
     )?;
     push_rows(graph_edges, nodes, block, rows)?;
     push_next(graph_edges, nodes, code, block)?;
-    push_leaving(graph_edges, nodes, code, block)?;
+    push_leaving(graph_edges, nodes, block, code)?;
     push(graph_edges, nodes.end(block), nodes.memory())?;
     Ok(())
 }
@@ -143,8 +142,8 @@ fn push_blocks(
 /// Adds the edges from the way to any indirect leader to the block at an address.
 fn push_arrival(
     graph_edges: &mut [Vec<Edge>],
-    nodes: Nodes,
     code: &Code,
+    nodes: Nodes,
     i: usize,
 ) -> Result<(), AllocError>
     requires room { length graph_edges.old ≡ node_count nodes.blocks nodes.objects }
@@ -168,7 +167,7 @@ fn push_arrivals(graph_edges: &mut [Vec<Edge>], nodes: Nodes, code: &Code) -> Re
     ensures { OnOk result (Adds (Upto (length code.now.indirect.items) (ArrivalEdge code.now nodes.blocks)) (plain_rows graph_edges.old) (plain_rows graph_edges.new)) }
 {
     for i in 0..code.indirect.len() {
-        push_arrival(graph_edges, nodes, code, i)?;
+        push_arrival(graph_edges, code, nodes, i)?;
     }
     Ok(())
 }
@@ -193,15 +192,15 @@ fn push_words(graph_edges: &mut [Vec<Edge>], nodes: Nodes, graph: &Graph) -> Res
 /// Adds all edges of a program.
 fn push_all(
     graph_edges: &mut [Vec<Edge>],
-    nodes: Nodes,
     code: &Code,
     graph: &Graph,
+    nodes: Nodes,
 ) -> Result<(), AllocError>
     requires room { length graph_edges.old ≡ node_count nodes.blocks nodes.objects }
-    requires blocks { nodes.blocks ≡ length code.now.blocks.items }
-    requires objects { nodes.objects ≡ length graph.now.objects.items }
     requires ascending { IsStrictlyIncreasing (starts_of code.now) }
     requires graph { IsSomeGraph graph.now }
+    requires blocks { nodes.blocks ≡ length code.now.blocks.items }
+    requires objects { nodes.objects ≡ length graph.now.objects.items }
     ensures { OnOk result (Adds (AllEdges code.now graph.now nodes.blocks) (plain_rows graph_edges.old) (plain_rows graph_edges.new)) }
 {
     push_blocks(graph_edges, nodes, code, graph)?;
@@ -235,6 +234,6 @@ pub(crate) fn edges_of(
     ensures { IfOk result (λ rows. AreEdges code.now graph.now nodes.blocks nodes.objects (plain_rows rows.items)) }
 {
     let mut rows = no_edges(alloc, nodes.count())?;
-    push_all(&mut rows, nodes, code, graph)?;
+    push_all(&mut rows, code, graph, nodes)?;
     Ok(rows)
 }

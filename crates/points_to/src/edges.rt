@@ -48,9 +48,9 @@ fn push_place(
     places: Places,
     y: u8,
 ) -> Result<(), AllocError>
+    requires y { y < 32 }
     requires from { from < length graph_edges.old }
     requires base { base + 32 < 2 ^ 32 }
-    requires y { y < 32 }
     ensures { OnOk result (Adds (PlaceEdge from base places y) (plain_rows graph_edges.old) (plain_rows graph_edges.new)) }
 {
     if places.has(y) {

@@ -1,6 +1,5 @@
 ghost use Rattle.std.specs.Prelude.{◌≡◌, ◌≢◌, ◌⊎◌, ◌↔◌, ℕ, ◌<◌, List, [], ◌∷◌, length};
-ghost use Rattle.dataflow.specs.Points.{IsHolder, site_at};
-ghost use Rattle.dataflow.specs.Flows.{Passes};
+ghost use Rattle.dataflow.specs.{Points.{IsHolder, site_at}, Flows.{Passes}};
 ghost use Rattle.points_to.specs.Rows.{Has, row, AreRows};
 ghost use Rattle.object_graph.specs.declared.parts.Site.{Site};
 ghost use Rattle.code_blocks.specs.declared.parts.Unit.{Unit};

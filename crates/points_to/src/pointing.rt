@@ -3,8 +3,7 @@ ghost use Rattle.std.specs.List.Sorted.{IsStrictlyIncreasing};
 ghost use Rattle.reach_graph.specs.Reaching.{AreInside, plain_rows};
 ghost use Rattle.object_graph.specs.Lookups.{IsSomeGraph};
 ghost use Rattle.code_blocks.specs.Numbers.{starts_of};
-ghost use Rattle.points_to.specs.Nodes.{node_count};
-ghost use Rattle.points_to.specs.Tables.{AreGroups, IsTableOf, plain};
+ghost use Rattle.points_to.specs.{Nodes.{node_count}, Tables.{AreGroups, IsTableOf, plain}};
 
 use crate::blocks::edges_of;
 use crate::nodes::Nodes;

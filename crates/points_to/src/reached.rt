@@ -22,8 +22,7 @@ pub struct Reached {
 impl Reached {
     ghost use Rattle.std.specs.Prelude.{◌≡◌, ◌<◌, ◌↔◌, length, IfOk, IsTrue};
     ghost use Rattle.reach_graph.specs.Reaching.{HasMark};
-    ghost use Rattle.points_to.specs.Nodes.{node_count};
-    ghost use Rattle.points_to.specs.Tables.{plain, kept_word, Keeps};
+    ghost use Rattle.points_to.specs.{Nodes.{node_count}, Tables.{plain, kept_word, Keeps}};
 
     /// What is kept of the marks of all nodes.
     pub(crate) fn of(alloc: Global, nodes: Nodes, marks: &[u64]) -> Result<Reached, AllocError>

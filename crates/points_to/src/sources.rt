@@ -1,11 +1,9 @@
 ghost use Rattle.std.specs.Prelude.{◌≡◌, ◌<◌, ◌≤◌, List, length, OnOk, IfSome};
-ghost use Rattle.object_graph.specs.Lookups.{IsSomeGraph};
-ghost use Rattle.object_graph.specs.declared.parts.Site.{Site};
+ghost use Rattle.object_graph.specs.{Lookups.{IsSomeGraph}, declared.parts.Site.{Site}};
 ghost use Rattle.code_blocks.specs.declared.parts.Unit.{Unit};
 ghost use Rattle.dataflow.specs.Points.{site_at};
-ghost use Rattle.points_to.specs.Rows.{AreRows};
+ghost use Rattle.points_to.specs.{Rows.{AreRows}, Nodes.{Adds, SourceEdges, UnitEdges, node_count}};
 ghost use Rattle.reach_graph.specs.Reaching.{plain_rows};
-ghost use Rattle.points_to.specs.Nodes.{Adds, SourceEdges, UnitEdges, node_count};
 
 use crate::edges::push_places;
 use crate::flows::{Places, begin, go_back};

@@ -1,7 +1,6 @@
 ghost use Rattle.std.specs.Prelude.{◌≡◌, ◌+◌, ◌≤◌, length, IfOk};
 ghost use Rattle.reach_graph.specs.Reaching.{AreInside, plain_rows};
-ghost use Rattle.points_to.specs.Nodes.{node_count};
-ghost use Rattle.points_to.specs.Tables.{AreBare, Begins, IsReached, plain};
+ghost use Rattle.points_to.specs.{Nodes.{node_count}, Tables.{AreBare, Begins, IsReached, plain}};
 
 use crate::nodes::Nodes;
 use crate::reached::Reached;

@@ -1,7 +1,5 @@
 ghost use Rattle.std.specs.Prelude.{◌≡◌, [], IfOk, replicate};
-ghost use Rattle.profile_runner.specs.Counts.{plain_rows};
-ghost use Rattle.profile_runner.specs.Tallies.{plain_edges};
-ghost use Rattle.profile_runner.specs.Tally.{IsNew};
+ghost use Rattle.profile_runner.specs.{Counts.{plain_rows}, Tallies.{plain_edges}, Tally.{IsNew}};
 
 use crate::changes::Changes;
 use crate::counts::Edge;

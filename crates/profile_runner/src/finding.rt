@@ -1,9 +1,7 @@
 ghost use Rattle.std.specs.Prelude.{◌≡◌, ◌+◌, ◌<◌, true, false, Some, IfSome, length, slice_index};
 ghost use Rattle.std.specs.List.Sorted.{IsStrictlyIncreasing};
-ghost use Rattle.code_blocks.specs.Early.{has};
-ghost use Rattle.code_blocks.specs.Numbers.{starts_of, start_at};
-ghost use Rattle.profile_runner.specs.Transition.{is_going};
-ghost use Rattle.profile_runner.specs.Tallies.{IsBlockAt, IsNext};
+ghost use Rattle.code_blocks.specs.{Early.{has}, Numbers.{starts_of, start_at}};
+ghost use Rattle.profile_runner.specs.{Transition.{is_going}, Tallies.{IsBlockAt, IsNext}};
 
 use crate::counts::Edge;
 use code_blocks::Code;

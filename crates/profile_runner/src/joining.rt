@@ -1,8 +1,5 @@
 ghost use Rattle.std.specs.Prelude.{◌≡◌, ◌<◌, ℕ, List, length, IfOk};
-ghost use Rattle.profile_runner.specs.Transition.{Transition};
-ghost use Rattle.profile_runner.specs.Counts.{IsProfile};
-ghost use Rattle.profile_runner.specs.Tallies.{plain_edges, joined_below};
-ghost use Rattle.profile_runner.specs.Tally.{IsTally};
+ghost use Rattle.profile_runner.specs.{Transition.{Transition}, Counts.{IsProfile}, Tallies.{plain_edges, joined_below}, Tally.{IsTally}};
 
 use crate::counts::{Edge, Profile};
 use crate::tally::Tally;

@@ -1,7 +1,6 @@
 ghost use Rattle.std.specs.Prelude.{◌≡◌, ◌<◌, length, slice_index};
 ghost use Rattle.list_checks.specs.Sorted.{is_number};
-ghost use Rattle.profile_runner.specs.Counts.{plain_rows, row_of, entry};
-ghost use Rattle.profile_runner.specs.Tallies.{Adds, AddsIn, is_entry};
+ghost use Rattle.profile_runner.specs.{Counts.{plain_rows, row_of, entry}, Tallies.{Adds, AddsIn, is_entry}};
 
 /// One more at place `k`.
 #[inline(always)]

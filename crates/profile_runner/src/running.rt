@@ -1,12 +1,8 @@
 ghost use Rattle.std.specs.Prelude.{◌≡◌, ◌<◌, ℕ, Option, true, length, IfOk, OnOk};
 ghost use Rattle.std.specs.List.Sorted.{IsStrictlyIncreasing};
-ghost use Rattle.code_blocks.specs.Early.{has};
-ghost use Rattle.code_blocks.specs.Numbers.{starts_of};
-ghost use Rattle.object_machine.specs.Program.{Program};
-ghost use Rattle.object_machine.specs.Machine.{state_of, IsProgram};
-ghost use Rattle.profile_runner.specs.Tallies.{IsBlockAt, block_now};
-ghost use Rattle.profile_runner.specs.Tally.{HasRoom, IsNew};
-ghost use Rattle.profile_runner.specs.Running.{HasStarted, fault_of, IsMachineOf, IsCounted, IsAll, ReportsOfRun};
+ghost use Rattle.code_blocks.specs.{Early.{has}, Numbers.{starts_of}};
+ghost use Rattle.object_machine.specs.{Program.{Program}, Machine.{state_of, IsProgram}};
+ghost use Rattle.profile_runner.specs.{Tallies.{IsBlockAt, block_now}, Tally.{HasRoom, IsNew}, Running.{HasStarted, fault_of, IsMachineOf, IsCounted, IsAll, ReportsOfRun}};
 
 use crate::counts::Profile;
 use crate::fault::ProfileFault;

@@ -1,7 +1,5 @@
 ghost use Rattle.std.specs.Prelude.{◌≡◌, ◌<◌, ℕ, length};
-ghost use Rattle.profile_runner.specs.Counts.{plain_rows, row_of, entry};
-ghost use Rattle.profile_runner.specs.Standing.{entered};
-ghost use Rattle.profile_runner.specs.Tallies.{AddsIn, is_entry};
+ghost use Rattle.profile_runner.specs.{Counts.{plain_rows, row_of, entry}, Standing.{entered}, Tallies.{AddsIn, is_entry}};
 
 use crate::changes::Changes;
 use crate::counts::Edge;
@@ -30,8 +28,7 @@ pub(crate) struct Tally {
 
 impl Tally {
     ghost use Rattle.std.specs.Prelude.{OnOk};
-    ghost use Rattle.profile_runner.specs.Tally.{HasRoomToBegin, HasRoomForBlock, HasRoomToAccess, HasRoomToLead, HasRoom, HasBegun, HasAccessed, HasLed, HasCounted};
-    ghost use Rattle.profile_runner.specs.Tallies.{plain_edges, region_now, block_now};
+    ghost use Rattle.profile_runner.specs.{Tally.{HasRoomToBegin, HasRoomForBlock, HasRoomToAccess, HasRoomToLead, HasRoom, HasBegun, HasAccessed, HasLed, HasCounted}, Tallies.{plain_edges, region_now, block_now}};
 
     /// The edges that were taken from a block, as they are known so far.
     #[inline(always)]

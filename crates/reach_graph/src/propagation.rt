@@ -1,6 +1,5 @@
 ghost use Rattle.std.specs.Prelude.{◌≡◌, ◌<◌, ◌↔◌, ℕ, length, OnOk};
-ghost use Rattle.reach_graph.specs.Reaching.{HasMark, word_at, edge_in, plain_rows, AreInside, Reaches};
-ghost use Rattle.reach_graph.specs.Propagation.{IsGrown, IsPropagated, IsRow};
+ghost use Rattle.reach_graph.specs.{Reaching.{HasMark, word_at, edge_in, plain_rows, AreInside, Reaches}, Propagation.{IsGrown, IsPropagated, IsRow}};
 
 use crate::edges::Edge;
 use crate::marks::joined;

@@ -11,8 +11,7 @@ pub struct Queue {
 
 impl Queue {
     ghost use Rattle.std.specs.Prelude.{◌≡◌, ◌<◌, ◌+◌, ℕ, List, length, IfOk, OnOk};
-    ghost use Rattle.reach_graph.specs.Reaching.{word_at};
-    ghost use Rattle.reach_graph.specs.Queues.{IsQueue, IsAdded, IsTaken, StartsWith};
+    ghost use Rattle.reach_graph.specs.{Reaching.{word_at}, Queues.{IsQueue, IsAdded, IsTaken, StartsWith}};
 
     /// The nodes that have a mark. It fails only where no memory was left.
     pub fn of_marked(alloc: Global, marks: &[u64]) -> Result<Queue, AllocError>

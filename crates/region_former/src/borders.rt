@@ -1,12 +1,8 @@
 ghost use Rattle.std.specs.Prelude.{◌≡◌, ℕ, ◌+◌, ◌<◌, ◌≤◌, ◌==◌, ◌&&◌, ◌||◌, not, if◌then◌else◌, length, IfOk};
 ghost use Rattle.std.specs.List.{list_any};
-ghost use Rattle.code_blocks.specs.Early.{has};
-ghost use Rattle.code_blocks.specs.Numbers.{start_at, end_at};
+ghost use Rattle.code_blocks.specs.{Early.{has}, Numbers.{start_at, end_at}, Leads.{leads_to}};
 ghost use Rattle.list_checks.specs.Tests.{any_below};
-ghost use Rattle.region_former.specs.Flow.{block_count, IsOrderly};
-ghost use Rattle.code_blocks.specs.Leads.{leads_to};
-ghost use Rattle.region_former.specs.Borders.{region_in, comes_from_outside, is_border, first_unit, is_branch_unit, is_jal_unit, is_direct_unit, target_of, behind_branch, misses, misses_target, misses_next, is_barred, bars, becomes_none};
-ghost use Rattle.region_former.specs.Rows.{truth_at};
+ghost use Rattle.region_former.specs.{Flow.{block_count, IsOrderly}, Borders.{region_in, comes_from_outside, is_border, first_unit, is_branch_unit, is_jal_unit, is_direct_unit, target_of, behind_branch, misses, misses_target, misses_next, is_barred, bars, becomes_none}, Rows.{truth_at}};
 
 use crate::flow::successors_of;
 use code_blocks::{Code, End, Unit, has_address};
@@ -122,7 +118,7 @@ pub(crate) fn without_barred(
     ensures one_each { IfOk result (λ left. length left.items ≡ block_count code.now) }
     ensures left { IfOk result (λ left. (b : ℕ) → b < block_count code.now → region_in left.items b ≡ (if becomes_none code.now has_dead.now regions.now (region_in regions.now b) then 0 else region_in regions.now b)) }
 {
-    let barred = barred_regions(alloc, code, has_dead, count, regions)?;
+    let barred = barred_regions(alloc, code, regions, count, has_dead)?;
     let mut left = Vec::with_capacity(alloc, regions.len())?;
     for b in 0..regions.len() {
         left.push(if barred[regions[b] as usize] {
@@ -138,15 +134,15 @@ pub(crate) fn without_barred(
 fn barred_regions(
     alloc: Global,
     code: &Code,
-    has_dead: &[bool],
-    count: u32,
     regions: &[u32],
+    count: u32,
+    has_dead: &[bool],
 ) -> Result<Vec<bool>, AllocError>
+    requires few { count ≤ 8 }
     requires orderly { IsOrderly code.now }
+    requires within { (b : ℕ) → b < block_count code.now → region_in regions.now b ≤ count }
     requires one_each { length regions.now ≡ block_count code.now }
     requires dead { length has_dead.now ≡ block_count code.now }
-    requires few { count ≤ 8 }
-    requires within { (b : ℕ) → b < block_count code.now → region_in regions.now b ≤ count }
     ensures one_each { IfOk result (λ barred. length barred.items ≡ count + 1) }
     ensures barred { IfOk result (λ barred. (r : ℕ) → r ≤ count → truth_at barred.items r ≡ becomes_none code.now has_dead.now regions.now r) }
 {

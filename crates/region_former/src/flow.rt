@@ -1,8 +1,6 @@
 ghost use Rattle.std.specs.Prelude.{◌≡◌, ◌<◌, ℕ, length};
-ghost use Rattle.code_blocks.specs.Leads.{is_some_of, owner_at};
+ghost use Rattle.code_blocks.specs.{Leads.{is_some_of, owner_at}, Edges.{successors}, Numbers.{end_at}};
 ghost use Rattle.region_former.specs.Flow.{block_count, called_address, calls, IsPlace, IsOrderly};
-ghost use Rattle.code_blocks.specs.Edges.{successors};
-ghost use Rattle.code_blocks.specs.Numbers.{end_at};
 
 use crate::naming::function_of;
 use code_blocks::{Code, End};

@@ -1,14 +1,8 @@
 ghost use Rattle.std.specs.Prelude.{◌≡◌, ℕ, ◌<◌, ◌≤◌, length, IfOk, string_bytes, slice_index_or};
 ghost use Rattle.elf_reader.specs.File.{plain_view};
 ghost use Rattle.board_config.specs.Board.{plain_regions};
-ghost use Rattle.code_blocks.specs.Blocks.{IsCode};
-ghost use Rattle.region_former.specs.Naming.{AreOrdered};
-ghost use Rattle.region_former.specs.Faults.{ReportsFirst};
-ghost use Rattle.region_former.specs.Flow.{block_count, IsOrderly};
-ghost use Rattle.code_blocks.specs.Leads.{owner_at};
-ghost use Rattle.region_former.specs.Borders.{region_in};
-ghost use Rattle.region_former.specs.Regions.{region_fault, IsFormed};
-ghost use Rattle.region_former.specs.Made.{region_for, AreOfFunctions};
+ghost use Rattle.code_blocks.specs.{Blocks.{IsCode}, Leads.{owner_at}};
+ghost use Rattle.region_former.specs.{Naming.{AreOrdered}, Faults.{ReportsFirst}, Flow.{block_count, IsOrderly}, Borders.{region_in}, Regions.{region_fault, IsFormed}, Made.{region_for, AreOfFunctions}};
 
 use crate::borders::{borders, without_barred};
 use crate::fault::RegionFault;
@@ -56,8 +50,8 @@ fn function_regions(
     view: &ElfView,
     board: &Board,
 ) -> Result<FunctionRegions, RegionFault>
-    requires orderly { IsOrderly code.now }
     requires few { length board.now.regions.items ≤ 8 }
+    requires orderly { IsOrderly code.now }
     ensures fault { ReportsFirst result (region_fault (plain_view view.now) code.now board.now) }
     ensures regions { IfOk result (AreOfFunctions (plain_view view.now) code.now board.now) }
 {

@@ -1,11 +1,7 @@
 ghost use Rattle.std.specs.Prelude.{◌≡◌, ℕ, ◌+◌, ◌<◌, ◌≤◌, length, map, OnOk, IfOk, slice_index_or};
 ghost use Rattle.elf_reader.specs.File.{plain_view};
 ghost use Rattle.board_config.specs.Board.{plain_texts};
-ghost use Rattle.region_former.specs.Naming.{AreOrdered};
-ghost use Rattle.region_former.specs.Named.{AreNames};
-ghost use Rattle.region_former.specs.Listing.{list_at, listed_region, name_fault, list_fault, listing_fault};
-ghost use Rattle.region_former.specs.Listed.{AreListed, plain_lists};
-ghost use Rattle.region_former.specs.Faults.{ReportsFirst};
+ghost use Rattle.region_former.specs.{Naming.{AreOrdered}, Named.{AreNames}, Listing.{list_at, listed_region, name_fault, list_fault, listing_fault}, Listed.{AreListed, plain_lists}, Faults.{ReportsFirst}};
 
 use crate::fault::RegionFault;
 use crate::names::{FunctionNames, function_names};
@@ -28,7 +24,7 @@ pub(crate) fn listed_regions(
 {
     let names = function_names(alloc, view, code)?;
     let mut regions = vec![in alloc; 0; code.functions.len()]?;
-    match take_lists(alloc, &mut regions, &names, lists) {
+    match take_lists(&mut regions, &names, lists) {
         Ok(()) => Ok(regions),
         Err(fault) => Err(fault),
     }
@@ -36,7 +32,6 @@ pub(crate) fn listed_regions(
 
 /// Gives the functions of all lists their regions, where none has one.
 fn take_lists(
-    alloc: Global,
     regions: &mut [u32],
     names: &FunctionNames,
     lists: &[Vec<String>],
@@ -50,7 +45,7 @@ fn take_lists(
     ensures regions { OnOk result ((f : ℕ) → f < length names.now.code.now.functions.items → slice_index_or regions.new f 0 ≡ listed_region (plain_view names.now.view.now) names.now.code.now.functions.items (plain_lists lists.now) f (length lists.now)) }
 {
     for i in 0..lists.len() {
-        match take_list(alloc, regions, names, lists, i) {
+        match take_list(regions, names, lists, i) {
             Ok(()) => {}
             Err(fault) => return Err(fault),
         }
@@ -60,7 +55,6 @@ fn take_lists(
 
 /// Gives the functions of list `i` their region.
 fn take_list(
-    alloc: Global,
     regions: &mut [u32],
     names: &FunctionNames,
     lists: &[Vec<String>],
@@ -75,7 +69,7 @@ fn take_list(
     ensures listed { OnOk result (AreListed (plain_view names.now.view.now) names.now.code.now.functions.items (plain_lists lists.now) (i + 1) 0 regions.new) }
 {
     for j in 0..names_in(lists, i) {
-        match take_name(alloc, regions, names, lists, i, j) {
+        match take_name(regions, names, lists, i, j) {
             Ok(()) => {}
             Err(fault) => return Err(fault),
         }
@@ -93,7 +87,6 @@ fn names_in(lists: &[Vec<String>], i: usize) -> usize
 
 /// Gives the function of name `j` of list `i` its region.
 fn take_name(
-    alloc: Global,
     regions: &mut [u32],
     names: &FunctionNames,
     lists: &[Vec<String>],

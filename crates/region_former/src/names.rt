@@ -2,8 +2,7 @@ ghost use Rattle.std.specs.Prelude.{◌≡◌, ℕ, List, ◌<◌, length, IfOk,
 ghost use Rattle.list_checks.specs.First.{◌or_else◌};
 ghost use Rattle.elf_reader.specs.File.{plain_view};
 ghost use Rattle.loaded_file.specs.Records.{symbol_at};
-ghost use Rattle.region_former.specs.Naming.{function_named, named_by, AreOrdered};
-ghost use Rattle.region_former.specs.Named.{place_named, AreNames};
+ghost use Rattle.region_former.specs.{Naming.{function_named, named_by, AreOrdered}, Named.{place_named, AreNames}};
 
 use crate::naming::function_of_symbol;
 use code_blocks::Code;

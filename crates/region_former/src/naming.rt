@@ -1,8 +1,7 @@
 ghost use Rattle.std.specs.Prelude.{◌≡◌, ◌<◌, length, IfSome};
 ghost use Rattle.elf_reader.specs.File.{plain_view};
 ghost use Rattle.code_blocks.specs.Blocks.{IsFunctionOf};
-ghost use Rattle.region_former.specs.Naming.{function_at, is_named, named_by, function_named, AreOrdered};
-ghost use Rattle.region_former.specs.Named.{function_of_symbol};
+ghost use Rattle.region_former.specs.{Naming.{function_at, is_named, named_by, function_named, AreOrdered}, Named.{function_of_symbol}};
 
 use code_blocks::Code;
 use elf_reader::ElfView;

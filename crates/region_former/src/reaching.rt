@@ -1,12 +1,7 @@
 ghost use Rattle.std.specs.Prelude.{◌≡◌, ℕ, ◌+◌, ◌<◌, ◌≤◌, nat_lt, not, ◌&&◌, ◌||◌, [], if◌then◌else◌, min, length, IfOk, OnOk, slice_index_or};
 ghost use Rattle.std.specs.List.{list_any};
-ghost use Rattle.code_blocks.specs.Blocks.{count_below};
-ghost use Rattle.code_blocks.specs.Leads.{is_some_of};
-ghost use Rattle.region_former.specs.Flow.{block_count, leads_into, IsPlace, IsOrderly};
-ghost use Rattle.region_former.specs.Reaching.{is_of_driver, driver_calls, is_root, enters, root_count, root_region, IsReached};
-ghost use Rattle.region_former.specs.Propagation.{row_of, mark_at, first_mark, IsMark, region_by};
-ghost use Rattle.region_former.specs.Rows.{truth_at, leads_there, AreRows};
-ghost use Rattle.code_blocks.specs.Early.{has};
+ghost use Rattle.code_blocks.specs.{Blocks.{count_below}, Leads.{is_some_of}, Early.{has}};
+ghost use Rattle.region_former.specs.{Flow.{block_count, leads_into, IsPlace, IsOrderly}, Reaching.{is_of_driver, driver_calls, is_root, enters, root_count, root_region, IsReached}, Propagation.{row_of, mark_at, first_mark, IsMark, region_by}, Rows.{truth_at, leads_there, AreRows}};
 
 use crate::flow::{called_function, owner_of, successors_of};
 use crate::propagation::{Reached, propagate_out};
@@ -193,9 +188,9 @@ fn add_block(
     driver: Option<usize>,
     a: usize,
 ) -> Result<(), AllocError>
+    requires one_each { length rows.old ≡ length code.now.functions.items }
     requires orderly { IsOrderly code.now }
     requires below { a < block_count code.now }
-    requires one_each { length rows.old ≡ length code.now.functions.items }
     requires rows { AreRows code.now driver a rows.old }
     ensures one_each { OnOk result (length rows.new ≡ length code.now.functions.items) }
     ensures rows { OnOk result (AreRows code.now driver (a + 1) rows.new) }

@@ -1,12 +1,7 @@
 ghost use Rattle.std.specs.Prelude.{◌≡◌, ℕ, ◌<◌, map, length, IfOk};
 ghost use Rattle.std.specs.List.{All};
-ghost use Rattle.placement_programme.specs.Plain.{plain_var};
-ghost use Rattle.placement_programme.specs.Bounds.{AscendWithin, AreWeights};
-ghost use Rattle.placement_programme.specs.Views.{plain_programme, plain_choice};
-ghost use Rattle.placement_programme.specs.Programme.{side_for, IsFeasible};
-ghost use Rattle.placement_programme.specs.Rows.{first_twin};
-ghost use Rattle.relocator.specs.Slots.{region_of, vars_for, item_at, items_in, items_of};
-ghost use Rattle.relocator.specs.Laying.{HaveRegions};
+ghost use Rattle.placement_programme.specs.{Plain.{plain_var}, Bounds.{AscendWithin, AreWeights}, Views.{plain_programme, plain_choice}, Programme.{side_for, IsFeasible}, Rows.{first_twin}};
+ghost use Rattle.relocator.specs.{Slots.{region_of, vars_for, item_at, items_in, items_of}, Laying.{HaveRegions}};
 
 use placement_programme::{Choice, Programme, Var, VarName, weight_of};
 use std::alloc::{AllocError, Global};

@@ -1,6 +1,5 @@
 // Laws of the definitions: functions that do nothing, whose contracts are what is proved.
-ghost use Rattle.relocator.specs.Laws.{TwinsOfPairs, SlotsInside, SlotsDisjoint, SlotsApart, ObjectsInSlots, ObjectsStand, PlacesFit, HomesOffScratchpad, ObjectsOffCodeSlots, WholeSideHasSpace};
-ghost use Rattle.relocator.specs.Examples.{TableHasSpace};
+ghost use Rattle.relocator.specs.{Laws.{TwinsOfPairs, SlotsInside, SlotsDisjoint, SlotsApart, ObjectsInSlots, ObjectsStand, PlacesFit, HomesOffScratchpad, ObjectsOffCodeSlots, WholeSideHasSpace}, Examples.{TableHasSpace}};
 
 /// The regions of a pair are its twins.
 pub fn twins_of_pairs()

@@ -3,8 +3,7 @@ ghost use Rattle.elf_reader.specs.File.{PlainView};
 ghost use Rattle.board_config.specs.Board.{IsLawful};
 ghost use Rattle.object_graph.specs.Graphs.{IsGraph};
 ghost use Rattle.placement_programme.specs.Views.{plain_programme, plain_choice};
-ghost use Rattle.relocator.specs.Placing.{chosen_slots, ArePlaces};
-ghost use Rattle.relocator.specs.Laws.{CanLayOut};
+ghost use Rattle.relocator.specs.{Placing.{chosen_slots, ArePlaces}, Laws.{CanLayOut}};
 
 use crate::items::items;
 use crate::slots::{code_slots, slots};

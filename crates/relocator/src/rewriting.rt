@@ -1,9 +1,7 @@
 ghost use Rattle.std.specs.Prelude.{◌≡◌, ◌<◌};
-ghost use Rattle.rv32im.specs.Words.{upper_half};
-ghost use Rattle.rv32im.specs.Table.{IsInRange};
+ghost use Rattle.rv32im.specs.{Words.{upper_half}, Table.{IsInRange}};
 ghost use Rattle.object_graph.specs.declared.parts.SiteKind.TheVariants.{Hi, LowI, LowS};
-ghost use Rattle.relocator.specs.SiteWords.{IsRewritten, IsSiteWord};
-ghost use Rattle.relocator.specs.Gathering.{CanMake, CanRewrite};
+ghost use Rattle.relocator.specs.{SiteWords.{IsRewritten, IsSiteWord}, Gathering.{CanMake, CanRewrite}};
 
 use object_graph::SiteKind;
 use rv32im::{ImmKind, Instr, decode, encode, hi20, lo12};

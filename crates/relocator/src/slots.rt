@@ -1,7 +1,6 @@
 ghost use Rattle.std.specs.Prelude.{◌≡◌, ℕ, ◌+◌, ◌*◌, ◌/◌, ◌<◌, ◌^◌, ◌==◌, Bool, true, false, if◌then◌else◌, length, replicate, IfOk};
 ghost use Rattle.std.specs.List.{All};
-ghost use Rattle.relocator.specs.Slots.{pair_lane, lane_of, lane_count, pair_of, bytes_in, moved_on, first_slots, slots_of, is_code, code_slots};
-ghost use Rattle.relocator.specs.Laying.{AreRoomy, AreInLanes, next_in, AgreeBelow};
+ghost use Rattle.relocator.specs.{Slots.{pair_lane, lane_of, lane_count, pair_of, bytes_in, moved_on, first_slots, slots_of, is_code, code_slots}, Laying.{AreRoomy, AreInLanes, next_in, AgreeBelow}};
 
 use crate::items::Item;
 use placement_programme::VarName;

@@ -1,9 +1,7 @@
 ghost use Rattle.std.specs.Prelude.{◌≡◌, ℕ, ◌+◌, ◌*◌, ◌%◌, ◌<◌, ◌≤◌, List, [], ◌∷◌, length, replicate, set, slice_index, slice_index_or, IfOk};
 ghost use Rattle.object_graph.specs.declared.parts.Graph.{Graph};
 ghost use Rattle.cell_values.specs.Objects.{object_of};
-ghost use Rattle.relocator.specs.declared.slots.Slot.{Slot};
-ghost use Rattle.relocator.specs.Placing.{rows_of, IsTable};
-ghost use Rattle.relocator.specs.Laying.{CanStandAt, CanPut, CanPutAll, with_pair};
+ghost use Rattle.relocator.specs.{declared.slots.Slot.{Slot}, Placing.{rows_of, IsTable}, Laying.{CanStandAt, CanPut, CanPutAll, with_pair}};
 
 use crate::slots::{Slot, filled};
 use object_graph::Graph;

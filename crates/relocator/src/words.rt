@@ -4,11 +4,8 @@ ghost use Rattle.rv32im.specs.Words.{plus};
 ghost use Rattle.elf_reader.specs.File.{plain_view};
 ghost use Rattle.board_config.specs.declared.board.Board.{Board};
 ghost use Rattle.loaded_file.specs.Read.{IsRead};
-ghost use Rattle.object_graph.specs.Graphs.{IsGraph};
-ghost use Rattle.object_graph.specs.Gathered.{AreSeparate, AreInOrder};
-ghost use Rattle.relocator.specs.Placing.{place_at};
-ghost use Rattle.relocator.specs.SiteWords.{HasPlaces, AreSiteWords, IsNewAtSite, site_at, data_word_at, word_address, row_length};
-ghost use Rattle.relocator.specs.Gathering.{AreOfSites, AreOfWords, address_of, HasStart};
+ghost use Rattle.object_graph.specs.{Graphs.{IsGraph}, Gathered.{AreSeparate, AreInOrder}};
+ghost use Rattle.relocator.specs.{Placing.{place_at}, SiteWords.{HasPlaces, AreSiteWords, IsNewAtSite, site_at, data_word_at, word_address, row_length}, Gathering.{AreOfSites, AreOfWords, address_of, HasStart}};
 
 use crate::places::Places;
 use crate::rewriting::new_word;

@@ -27,10 +27,6 @@ rs2_of w = w / 1048576 % 32
 abbrev pub funct7_of : ℕ → ℕ
 funct7_of w = w / 33554432 % 128
 
--- U: bits 31..12, the upper part of a word
-abbrev pub u_immediate : ℕ → ℕ
-u_immediate w = w / 4096 % 1048576
-
 -- I: bits 31..20
 abbrev pub i_immediate : ℕ → ℤ
 i_immediate w = signed 2048 (w / 1048576 % 4096)
@@ -53,6 +49,10 @@ j_immediate w =
     signed 1048576
     (w / 2147483648 % 2 * 1048576 + w / 4096 % 256 * 4096 + w / 1048576 % 2 * 2048
     + w / 2097152 % 1024 * 2)
+
+-- U: bits 31..12, the upper part of a word
+abbrev pub u_immediate : ℕ → ℕ
+u_immediate w = w / 4096 % 1048576
 
 -- the word without its opcode and funct3, each bit in its place
 abbrev pub fence_bits_of : ℕ → ℕ

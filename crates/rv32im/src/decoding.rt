@@ -1,6 +1,5 @@
 ghost use Rattle.std.specs.Prelude.{◌≡◌, ◌≢◌, ℤ, MatchOption, IfSome, IfNone};
-ghost use Rattle.rv32im.specs.Fields.{opcode_of, funct3_of};
-ghost use Rattle.rv32im.specs.Table.{Means, MeansNothing, IsInRange, HasImm, IsImmInRange, branch_funct3, load_funct3, store_funct3, imm_funct3, reg_funct3, reg_funct7};
+ghost use Rattle.rv32im.specs.{Fields.{opcode_of, funct3_of}, Table.{Means, MeansNothing, IsInRange, HasImm, IsImmInRange, branch_funct3, load_funct3, store_funct3, imm_funct3, reg_funct3, reg_funct7}};
 
 use crate::fields::{
     b_imm, fence_bits, funct3, funct7, i_imm, j_imm, opcode, rd, rs1, rs2, s_imm, u_imm,

@@ -1,6 +1,5 @@
 // Laws of the definitions: functions that do nothing, whose contracts are what is proved.
-ghost use Rattle.rv32im.specs.Table.{OneWord, OneInstruction};
-ghost use Rattle.rv32im.specs.Acts.{ActsUsesOnly, ActsDefinesOnly, ActsKeepsWords};
+ghost use Rattle.rv32im.specs.{Table.{OneWord, OneInstruction}, Acts.{ActsUsesOnly, ActsDefinesOnly, ActsKeepsWords}};
 
 /// Two words below 2 ^ 32 that mean one instruction are equal.
 pub fn one_word()

@@ -1,5 +1,4 @@
-//! Halves and bytes of 32-bit words.
-//! The instructions of RV32IM: what each word means, and what each instruction does.
+//! The words and instructions of RV32IM: halves and bytes of a word, which instruction it means, and what each instruction does.
 #![tactic(auto)]
 
 mod calls;

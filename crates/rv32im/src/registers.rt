@@ -1,6 +1,5 @@
 ghost use Rattle.std.specs.Prelude.{ℕ, List, [], ◌∷◌, ◌++◌};
-ghost use Rattle.rv32im.specs.Acts.{without_zero, used, defined};
-ghost use Rattle.rv32im.specs.RegSet.{HasExactly};
+ghost use Rattle.rv32im.specs.{Acts.{without_zero, used, defined}, RegSet.{HasExactly}};
 
 use crate::instructions::{Instr, RegSet};
 

@@ -1,7 +1,5 @@
 ghost use Rattle.std.specs.Prelude.{◌≡◌, All, IfOk};
-ghost use Rattle.rv32im.specs.Words.{upper_half};
-ghost use Rattle.rv32im.specs.Table.{IsInRange};
-ghost use Rattle.rv32im.specs.Sequences.{load_immediate, jump_absolute, distance, inverse, MeanAll};
+ghost use Rattle.rv32im.specs.{Words.{upper_half}, Table.{IsInRange}, Sequences.{load_immediate, jump_absolute, distance, inverse, MeanAll}};
 
 use crate::encoding::encode;
 use crate::instructions::{BranchKind, ImmKind, Instr};

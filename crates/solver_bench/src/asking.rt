@@ -37,7 +37,7 @@ fn tell_answer(
         "solve" | "choose" | "trees" => tell_solution(rt, p, small_number(words)?, key),
         "search" => tell_searched(rt, p, small_number(words)?),
         "value" => tell_value(rt, p, &choice(rt.alloc(), words)?),
-        "check" => tell_bytes(rt, p, room, words),
+        "check" => tell_bytes(rt, words, p, room),
         "full" => tell_full_side(rt, small_number(words)?),
         "fill" => {
             let filled = fill(rt.alloc(), p)?;

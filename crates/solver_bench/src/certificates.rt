@@ -74,9 +74,9 @@ fn answer(
 /// written as these bytes, and the verdict of the check as it is read. An optimal or best found one has its choice told.
 pub(crate) fn tell_bytes(
     rt: &(impl Print + AllocGlobal),
+    words: &str,
     p: &Programme,
     room: &mut Room,
-    words: &str,
 ) -> Result<()>
     requires { RoomFits p.now room.old }
     ensures { RoomFits p.now room.new }

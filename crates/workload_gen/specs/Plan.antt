@@ -30,9 +30,9 @@ abbrev pub section_plan : SectionSpec → SectionPlan
 section_plan s =
     record {
       name = string_bytes s.name;
+      content = s.bytes.items;
       addr = s.addr;
       flags = s.flags;
-      content = s.bytes.items;
       empty = s.empty;
       relocs = s.relocs.items;
     }

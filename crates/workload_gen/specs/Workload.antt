@@ -62,6 +62,10 @@ lui rd a = upper_half a * 4096 + rd * 128 + 55
 abbrev pub addi : ℕ → ℕ → ℕ → ℕ
 addi rd rs imm = imm % 4096 * 1048576 + rs * 32768 + rd * 128 + 19
 
+-- -1 in twelve bits
+abbrev pub minus_one : ℕ
+minus_one = 4095
+
 -- `jal rd, distance` with a distance of 0 to 2 ^ 20 bytes forward (J-type)
 abbrev pub jal : ℕ → ℕ → ℕ
 jal rd distance =
@@ -97,10 +101,6 @@ ecall = 115
 
 abbrev pub ret : ℕ
 ret = 32871
-
--- -1 in twelve bits
-abbrev pub minus_one : ℕ
-minus_one = 4095
 
 -- main: x8 counts ten rounds, and x9 takes up what the kernels add
 abbrev pub calls_below : ℕ → ℕ → List ℕ

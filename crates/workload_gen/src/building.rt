@@ -1,7 +1,5 @@
 ghost use Rattle.std.specs.Prelude.{◌≡◌, ℕ, ◌+◌, ◌*◌, ◌%◌, ◌^◌, ◌++◌, ◌∷◌, [], map, length, codes, IfOk, OnOk};
-ghost use Rattle.workload_gen.specs.Plan.{section_plan, file_plan};
-ghost use Rattle.workload_gen.specs.Built.{asked, symbol_table_of, names_of, symbol_name, named_sections, planned_sections, relocation_sections, first_place, built};
-ghost use Rattle.workload_gen.specs.Planned.{plain_planned};
+ghost use Rattle.workload_gen.specs.{Plan.{section_plan, file_plan}, Built.{asked, symbol_table_of, names_of, symbol_name, named_sections, planned_sections, relocation_sections, first_place, built}, Planned.{plain_planned}};
 
 use crate::headers::{
     FILE_HEADER_SIZE, PROGRAM_HEADER_SIZE, SECTION_HEADER_SIZE, push_file_header,

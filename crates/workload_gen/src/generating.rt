@@ -1,14 +1,10 @@
 ghost use Rattle.std.specs.Prelude.{◌≡◌, ℕ, ◌+◌, ◌^◌, ◌<◌, ◌≤◌, ◌++◌, map, length, All, IfOk, OnOk};
-ghost use Rattle.workload_gen.specs.Plan.{section_plan, symbol_plan, file_plan};
+ghost use Rattle.workload_gen.specs.{Plan.{section_plan, symbol_plan, file_plan}, Built.{built}, Workload.{address_relocations, kernel_relocations_below, kernel_symbols_below, text_relocations, workload_plan, text_plan, tables_plan, out_plan, words_plan, kernel_symbol_plan}, Kernels.{IsSmall}, Parts.{symbol_plans}};
 ghost use Rattle.elf_writer.specs.Pieces.{words_bytes};
-ghost use Rattle.workload_gen.specs.Built.{built};
-ghost use Rattle.workload_gen.specs.Workload.{address_relocations, kernel_relocations_below, kernel_symbols_below, text_relocations, workload_plan, text_plan, tables_plan, out_plan, kernel_symbol_plan};
-ghost use Rattle.workload_gen.specs.Kernels.{IsSmall};
-ghost use Rattle.workload_gen.specs.Parts.{symbol_plans};
 
 use crate::building::build;
 use crate::kernels::{
-    Kernel, MAX_KERNELS, TABLES_START, draw_kernels, push_kernels, push_table_symbols, push_tables,
+    Kernel, MAX_KERNELS, TABLES_START, draw_kernels, push_kernels, push_table_symbols,
 };
 use crate::main_function::{
     KERNEL_SIZE, OUT_START, TEXT_START, kernel_start, main_size, push_main,
@@ -41,9 +37,8 @@ fn workload_spec(alloc: Global, seed: u32, kernels: u32) -> Result<FileSpec, All
     let drawn = draw_kernels(alloc, seed, kernels)?;
     let mut code = Vec::new(alloc);
     push_main(&mut code, kernels)?;
-    push_kernels(&mut code, &drawn)?;
     let mut tables = Vec::new(alloc);
-    push_tables(&mut tables, &drawn)?;
+    push_kernels(&mut code, &mut tables, &drawn)?;
     let text = text_section(alloc, kernels, &code)?;
     let rodata = table_section(alloc, &tables)?;
     let out = out_section(alloc)?;
@@ -59,41 +54,42 @@ fn text_section(alloc: Global, kernels: u32, code: &[u32]) -> Result<SectionSpec
     requires { kernels ≤ MAX_KERNELS }
     ensures { IfOk result (λ section. section_plan section ≡ text_plan kernels code.now) }
 {
-    Ok(SectionSpec {
-        name: String::from_str(alloc, ".text")?,
-        addr: TEXT_START,
-        flags: 6,
-        bytes: bytes_of_words(alloc, code)?,
-        empty: 0,
-        relocs: relocations_of_text(alloc, kernels)?,
-    })
+    let relocs = relocations_of_text(alloc, kernels)?;
+    words_section(alloc, ".text", TEXT_START, 6, code, relocs)
 }
 
 /// The section of the tables.
 fn table_section(alloc: Global, tables: &[u32]) -> Result<SectionSpec, AllocError>
     ensures { IfOk result (λ section. section_plan section ≡ tables_plan tables.now) }
 {
-    Ok(SectionSpec {
-        name: String::from_str(alloc, ".rodata")?,
-        addr: TABLES_START,
-        flags: 2,
-        bytes: bytes_of_words(alloc, tables)?,
-        empty: 0,
-        relocs: Vec::new(alloc),
-    })
+    words_section(alloc, ".rodata", TABLES_START, 2, tables, Vec::new(alloc))
 }
 
 /// The section of the sum.
 fn out_section(alloc: Global) -> Result<SectionSpec, AllocError>
     ensures { IfOk result (λ section. section_plan section ≡ out_plan) }
 {
+    words_section(alloc, ".data", OUT_START, 3, &[0], Vec::new(alloc))
+}
+
+/// A section of words.
+fn words_section(
+    alloc: Global,
+    name: &str,
+    addr: u32,
+    flags: u32,
+    words: &[u32],
+    relocs: Vec<Reloc>,
+) -> Result<SectionSpec, AllocError>
+    ensures { IfOk result (λ section. section_plan section ≡ words_plan name.now addr flags words.now relocs.items) }
+{
     Ok(SectionSpec {
-        name: String::from_str(alloc, ".data")?,
-        addr: OUT_START,
-        flags: 3,
-        bytes: Vec::from_slice(alloc, &[0; 4])?,
+        name: String::from_str(alloc, name)?,
+        addr,
+        flags,
         empty: 0,
-        relocs: Vec::new(alloc),
+        bytes: bytes_of_words(alloc, words)?,
+        relocs,
     })
 }
 

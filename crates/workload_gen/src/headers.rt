@@ -1,9 +1,7 @@
 //! The headers of a file that is to be built, and the contents of its sections.
 ghost use Rattle.std.specs.Prelude.{◌≡◌, ℕ, ◌+◌, ◌^◌, ◌<◌, ◌++◌, ◌∷◌, map, length, IfOk, OnOk};
-ghost use Rattle.workload_gen.specs.Plan.{section_plan};
+ghost use Rattle.workload_gen.specs.{Plan.{section_plan}, Built.{Planned, contents, section_header_bytes, section_headers, segment_flags, program_header_bytes, program_headers, file_header_bytes}, Planned.{plain_planned}};
 ghost use Rattle.elf_writer.specs.Pieces.{padded, zero_bytes, half_bytes};
-ghost use Rattle.workload_gen.specs.Built.{Planned, contents, section_header_bytes, section_headers, segment_flags, program_header_bytes, program_headers, file_header_bytes};
-ghost use Rattle.workload_gen.specs.Planned.{plain_planned};
 
 use crate::planned::{PlannedSection, name_size, size_in_memory};
 use crate::spec::SectionSpec;

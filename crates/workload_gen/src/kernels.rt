@@ -1,9 +1,7 @@
 //! The kernels of the workload, as they are drawn, and what they put into the file.
 ghost use Rattle.std.specs.Prelude.{◌≡◌, ℕ, ◌+◌, ◌*◌, ◌/◌, ◌<◌, ◌≤◌, List, [], ◌∷◌, ◌++◌, map, All, IfOk, OnOk};
 ghost use Rattle.std.specs.List.{flat_map};
-ghost use Rattle.workload_gen.specs.Plan.{symbol_plan};
-ghost use Rattle.workload_gen.specs.Workload.{next_state, table_below};
-ghost use Rattle.workload_gen.specs.Kernels.{IsSmall, drawn_kernels, kernel_code, kernel_table, table_symbol_plans};
+ghost use Rattle.workload_gen.specs.{Plan.{symbol_plan}, Workload.{next_state, table_below}, Kernels.{IsSmall, drawn_kernels, kernel_code, kernel_table, table_symbol_plans}};
 
 use crate::instructions::{add, addi, bne_back, lui, lw};
 use crate::spec::SymbolSpec;
@@ -143,24 +141,19 @@ pub(crate) fn draw_kernels(
     Ok(drawn)
 }
 
-/// Appends the instructions of kernels.
-pub(crate) fn push_kernels(words: &mut Vec<u32>, kernels: &[Kernel]) -> Result<(), AllocError>
+/// Appends the instructions of kernels, and their tables.
+pub(crate) fn push_kernels(
+    code: &mut Vec<u32>,
+    tables: &mut Vec<u32>,
+    kernels: &[Kernel],
+) -> Result<(), AllocError>
     requires { All IsSmall kernels.now }
-    ensures { OnOk result (words.new.items ≡ words.old.items ++ flat_map kernel_code kernels.now) }
+    ensures code { OnOk result (code.new.items ≡ code.old.items ++ flat_map kernel_code kernels.now) }
+    ensures tables { OnOk result (tables.new.items ≡ tables.old.items ++ flat_map kernel_table kernels.now) }
 {
     for kernel in kernels {
-        kernel.push_code(words)?;
-    }
-    Ok(())
-}
-
-/// Appends the tables of kernels.
-pub(crate) fn push_tables(words: &mut Vec<u32>, kernels: &[Kernel]) -> Result<(), AllocError>
-    requires { All IsSmall kernels.now }
-    ensures { OnOk result (words.new.items ≡ words.old.items ++ flat_map kernel_table kernels.now) }
-{
-    for kernel in kernels {
-        kernel.push_table(words)?;
+        kernel.push_code(code)?;
+        kernel.push_table(tables)?;
     }
     Ok(())
 }

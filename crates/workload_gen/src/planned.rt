@@ -1,9 +1,7 @@
 //! The sections of a file that is to be built, without their places.
 ghost use Rattle.std.specs.Prelude.{◌≡◌, ℕ, ◌+◌, ◌++◌, ◌∷◌, [], length, map, codes, string_bytes, IfOk, OnOk};
-ghost use Rattle.workload_gen.specs.Plan.{section_plan, symbol_plan, file_plan};
+ghost use Rattle.workload_gen.specs.{Plan.{section_plan, symbol_plan, file_plan}, Built.{kind_of, memory_size, asked, symbol_bytes, symbols_bytes, symbol_name, section_names_name, planned_name, symbol_table_of, names_of, relocation_bytes, relocations_bytes, relocation_name, relocations_of, names_section_of}, Planned.{plain_planned}};
 ghost use Rattle.elf_writer.specs.Pieces.{padded, string_table, zero_bytes};
-ghost use Rattle.workload_gen.specs.Built.{kind_of, memory_size, asked, symbol_bytes, symbols_bytes, symbol_name, section_names_name, planned_name, symbol_table_of, names_of, relocation_bytes, relocations_bytes, relocation_name, relocations_of, names_section_of};
-ghost use Rattle.workload_gen.specs.Planned.{plain_planned};
 
 use crate::spec::{FileSpec, SectionSpec, SymbolSpec};
 use crate::writing::{padded_size, push_half, push_words};

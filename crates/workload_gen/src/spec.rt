@@ -18,12 +18,12 @@ pub struct SectionSpec {
     pub name: String,
     /// Its first address.
     pub addr: u32,
-    /// `sh_flags`: 1 writable, 2 allocated, 4 executable.
-    pub flags: u32,
     /// Its bytes in the file.
     pub bytes: Vec<u8>,
     /// Where it is more than 0, the section has no bytes in the file and this many in memory (`SHT_NOBITS`).
     pub empty: u32,
+    /// `sh_flags`: 1 writable, 2 allocated, 4 executable.
+    pub flags: u32,
     /// The relocations that change it, by symbol numbers of the file. Their `section` plays no part.
     pub relocs: Vec<Reloc>,
 }

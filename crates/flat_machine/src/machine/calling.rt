@@ -7,8 +7,7 @@ use std::alloc::AllocError;
 
 impl<S: ByteStore> Flat<S> {
     ghost use Rattle.std.specs.Prelude.{◌≡◌, OnOk, OnErr};
-    ghost use Rattle.flat_machine.specs.Calls.{call, exited, written, read};
-    ghost use Rattle.flat_machine.specs.Machine.{state_of};
+    ghost use Rattle.flat_machine.specs.{Calls.{call, exited, written, read}, Machine.{state_of}};
 
     /// Does the call that the registers name.
     // A call of its own, since few steps are calls.

@@ -19,15 +19,8 @@ pub(crate) struct Telling;
 
 impl<S: ByteStore> Flat<S> {
     ghost use Rattle.std.specs.Prelude.{◌≡◌, ℕ, ◌<◌, length, MatchBool, None, IfOk, OnOk, OnErr};
-    ghost use Rattle.rv32im.specs.declared.instructions.Instr.{Instr};
-    ghost use Rattle.rv32im.specs.Table.{IsInRange};
-    ghost use Rattle.flat_machine.specs.declared.events.FlatOutcome.{FlatOutcome};
-    ghost use Rattle.flat_machine.specs.State.{trap};
-    ghost use Rattle.flat_machine.specs.Calls.{call};
-    ghost use Rattle.flat_machine.specs.Step.{performed};
-    ghost use Rattle.flat_machine.specs.Runs.{Steps};
-    ghost use Rattle.flat_machine.specs.Known.{IsKnown, AreKnown, instr_at, TakesStep, TellsStep};
-    ghost use Rattle.flat_machine.specs.Machine.{state_of};
+    ghost use Rattle.rv32im.specs.{declared.instructions.Instr.{Instr}, Table.{IsInRange}};
+    ghost use Rattle.flat_machine.specs.{declared.events.FlatOutcome.{FlatOutcome}, State.{trap}, Calls.{call}, Step.{performed}, Runs.{Steps}, Known.{IsKnown, AreKnown, instr_at, TakesStep, TellsStep}, Machine.{state_of}};
 
     /// Takes `n` steps, or fewer where the machine ends.
     pub(super) fn run_knowing(&mut self, n: u64, known: &mut [Known]) -> Result<(), AllocError>
@@ -143,8 +136,7 @@ impl<S: ByteStore> Flat<S> {
         requires known { let s = state_of S.byte_at self.old in AreKnown s.map s.hart.mem known.old }
         requires going { (state_of S.byte_at self.old).outcome ≡ FlatOutcome.GoesOn }
         requires in_range { IsInRange i }
-        ensures state { OnOk result (state_of S.byte_at self.new
-            ≡ performed (state_of S.byte_at self.old) i) }
+        ensures state { OnOk result (state_of S.byte_at self.new ≡ performed (state_of S.byte_at self.old) i) }
         ensures known { OnOk result (let t = state_of S.byte_at self.new in
             AreKnown t.map t.hart.mem known.new) }
         ensures err { OnErr result (state_of S.byte_at self.new ≡ state_of S.byte_at self.old) }
@@ -186,8 +178,7 @@ impl<S: ByteStore> Flat<S> {
         requires len { length known.old ≡ 4096 }
         requires known { let s = state_of S.byte_at self.old in AreKnown s.map s.hart.mem known.old }
         requires going { (state_of S.byte_at self.old).outcome ≡ FlatOutcome.GoesOn }
-        ensures state { state_of S.byte_at self.new
-            ≡ performed (state_of S.byte_at self.old) (Instr.Branch kind rs1 rs2 off) }
+        ensures state { state_of S.byte_at self.new ≡ performed (state_of S.byte_at self.old) (Instr.Branch kind rs1 rs2 off) }
         ensures known { let t = state_of S.byte_at self.new in AreKnown t.map t.hart.mem known.new }
     {
         if !takes(kind, self.register(rs1), self.register(rs2)) {

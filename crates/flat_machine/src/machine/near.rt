@@ -11,13 +11,8 @@ use std::alloc::AllocError;
 
 impl<S: ByteStore> Flat<S> {
     ghost use Rattle.std.specs.Prelude.{◌≡◌, ◌<◌, ◌≤◌, ℕ, List, length, IsTrue, OnOk, OnErr};
-    ghost use Rattle.rv32im.specs.declared.instructions.Instr.{Instr};
-    ghost use Rattle.rv32im.specs.Table.{IsInRange};
-    ghost use Rattle.flat_machine.specs.declared.known.Known.{Known};
-    ghost use Rattle.flat_machine.specs.Mapping.{can_access};
-    ghost use Rattle.flat_machine.specs.Step.{performed, accessed};
-    ghost use Rattle.flat_machine.specs.Known.{AreKnown};
-    ghost use Rattle.flat_machine.specs.Machine.{state_of};
+    ghost use Rattle.rv32im.specs.{declared.instructions.Instr.{Instr}, Table.{IsInRange}};
+    ghost use Rattle.flat_machine.specs.{declared.known.Known.{Known}, Mapping.{can_access}, Step.{performed, accessed}, Known.{AreKnown}, Machine.{state_of}};
 
     /// A load.
     // The kinds are told apart here, so that each has its own width and its own way into the store.
@@ -25,8 +20,7 @@ impl<S: ByteStore> Flat<S> {
     pub(super) fn load_near(&mut self, kind: LoadKind, rd: u8, rs1: u8, imm: i32)
         requires rd { rd < 32 }
         requires rs1 { rs1 < 32 }
-        ensures { state_of S.byte_at self.new
-            ≡ performed (state_of S.byte_at self.old) (Instr.Load kind rd rs1 imm) }
+        ensures { state_of S.byte_at self.new ≡ performed (state_of S.byte_at self.old) (Instr.Load kind rd rs1 imm) }
     {
         match kind {
             LoadKind::Lb => self.load_of(LoadKind::Lb, rd, rs1, imm),
@@ -42,8 +36,7 @@ impl<S: ByteStore> Flat<S> {
     fn load_of(&mut self, kind: LoadKind, rd: u8, rs1: u8, imm: i32)
         requires rd { rd < 32 }
         requires rs1 { rs1 < 32 }
-        ensures { state_of S.byte_at self.new
-            ≡ performed (state_of S.byte_at self.old) (Instr.Load kind rd rs1 imm) }
+        ensures { state_of S.byte_at self.new ≡ performed (state_of S.byte_at self.old) (Instr.Load kind rd rs1 imm) }
     {
         let at = self.register(rs1).wrapping_add_signed(imm);
         if self.is_near(at, load_bytes(kind)) {
@@ -60,8 +53,7 @@ impl<S: ByteStore> Flat<S> {
     fn load_far(&mut self, kind: LoadKind, rd: u8, rs1: u8, imm: i32)
         requires rd { rd < 32 }
         requires rs1 { rs1 < 32 }
-        ensures { state_of S.byte_at self.new
-            ≡ performed (state_of S.byte_at self.old) (Instr.Load kind rd rs1 imm) }
+        ensures { state_of S.byte_at self.new ≡ performed (state_of S.byte_at self.old) (Instr.Load kind rd rs1 imm) }
     {
         let at = self.register(rs1).wrapping_add_signed(imm);
         let _ = self.load(kind, rd, rs1, imm);
@@ -82,8 +74,7 @@ impl<S: ByteStore> Flat<S> {
         requires rs2 { rs2 < 32 }
         requires len { length known.old ≡ 4096 }
         requires known { let s = state_of S.byte_at self.old in AreKnown s.map s.hart.mem known.old }
-        ensures state { OnOk result (state_of S.byte_at self.new
-            ≡ performed (state_of S.byte_at self.old) (Instr.Store kind rs1 rs2 imm)) }
+        ensures state { OnOk result (state_of S.byte_at self.new ≡ performed (state_of S.byte_at self.old) (Instr.Store kind rs1 rs2 imm)) }
         ensures known { OnOk result (let t = state_of S.byte_at self.new in
             AreKnown t.map t.hart.mem known.new) }
         ensures err { OnErr result (state_of S.byte_at self.new ≡ state_of S.byte_at self.old) }
@@ -109,8 +100,7 @@ impl<S: ByteStore> Flat<S> {
         requires rs2 { rs2 < 32 }
         requires len { length known.old ≡ 4096 }
         requires known { let s = state_of S.byte_at self.old in AreKnown s.map s.hart.mem known.old }
-        ensures state { OnOk result (state_of S.byte_at self.new
-            ≡ performed (state_of S.byte_at self.old) (Instr.Store kind rs1 rs2 imm)) }
+        ensures state { OnOk result (state_of S.byte_at self.new ≡ performed (state_of S.byte_at self.old) (Instr.Store kind rs1 rs2 imm)) }
         ensures known { OnOk result (let t = state_of S.byte_at self.new in
             AreKnown t.map t.hart.mem known.new) }
         ensures err { OnErr result (state_of S.byte_at self.new ≡ state_of S.byte_at self.old) }
@@ -141,8 +131,7 @@ impl<S: ByteStore> Flat<S> {
         requires rs2 { rs2 < 32 }
         requires len { length known.old ≡ 4096 }
         requires known { let s = state_of S.byte_at self.old in AreKnown s.map s.hart.mem known.old }
-        ensures state { OnOk result (state_of S.byte_at self.new
-            ≡ performed (state_of S.byte_at self.old) (Instr.Store kind rs1 rs2 imm)) }
+        ensures state { OnOk result (state_of S.byte_at self.new ≡ performed (state_of S.byte_at self.old) (Instr.Store kind rs1 rs2 imm)) }
         ensures known { OnOk result (let t = state_of S.byte_at self.new in
             AreKnown t.map t.hart.mem known.new) }
         ensures err { OnErr result (state_of S.byte_at self.new ≡ state_of S.byte_at self.old) }
@@ -166,8 +155,7 @@ impl<S: ByteStore> Flat<S> {
         requires rs2 { rs2 < 32 }
         requires len { length known.old ≡ 4096 }
         requires known { let s = state_of S.byte_at self.old in AreKnown s.map s.hart.mem known.old }
-        ensures state { OnOk result (state_of S.byte_at self.new
-            ≡ performed (state_of S.byte_at self.old) (Instr.Store kind rs1 rs2 imm)) }
+        ensures state { OnOk result (state_of S.byte_at self.new ≡ performed (state_of S.byte_at self.old) (Instr.Store kind rs1 rs2 imm)) }
         ensures known { OnOk result (let t = state_of S.byte_at self.new in
             AreKnown t.map t.hart.mem known.new) }
         ensures err { OnErr result (state_of S.byte_at self.new ≡ state_of S.byte_at self.old) }

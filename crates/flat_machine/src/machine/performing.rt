@@ -11,9 +11,7 @@ use std::alloc::AllocError;
 impl<S: ByteStore> Flat<S> {
     ghost use Rattle.std.specs.Prelude.{◌≡◌, ◌<◌, IfOk, OnOk, OnErr, IfSome};
     ghost use Rattle.rv32im.specs.Table.{IsInRange};
-    ghost use Rattle.flat_machine.specs.State.{trap};
-    ghost use Rattle.flat_machine.specs.Step.{performed, accessed, next_state, next_access};
-    ghost use Rattle.flat_machine.specs.Machine.{state_of};
+    ghost use Rattle.flat_machine.specs.{State.{trap}, Step.{performed, accessed, next_state, next_access}, Machine.{state_of}};
 
     /// Does what a word was read as; one that means nothing is a trap. Tells of the access.
     // Inlined, as all that a step does: a call would pass the instruction by way of the stack.
@@ -42,8 +40,7 @@ impl<S: ByteStore> Flat<S> {
     #[inline(always)]
     fn perform(&mut self, i: Instr) -> Result<Option<FlatAccess>, AllocError>
         requires { IsInRange i }
-        ensures state { OnOk result (state_of S.byte_at self.new
-            ≡ performed (state_of S.byte_at self.old) i) }
+        ensures state { OnOk result (state_of S.byte_at self.new ≡ performed (state_of S.byte_at self.old) i) }
         ensures access { IfOk result (λ access. access ≡ accessed (state_of S.byte_at self.old) i) }
         ensures err { OnErr result (state_of S.byte_at self.new ≡ state_of S.byte_at self.old) }
     {
@@ -79,8 +76,7 @@ impl<S: ByteStore> Flat<S> {
     pub(super) fn lui(&mut self, rd: u8, imm: u32)
         requires rd { rd < 32 }
         requires imm { imm < 1048576 }
-        ensures { state_of S.byte_at self.new
-            ≡ performed (state_of S.byte_at self.old) (Instr.Lui rd imm) }
+        ensures { state_of S.byte_at self.new ≡ performed (state_of S.byte_at self.old) (Instr.Lui rd imm) }
     {
         self.write(rd, imm << 12);
     }
@@ -90,8 +86,7 @@ impl<S: ByteStore> Flat<S> {
     pub(super) fn auipc(&mut self, rd: u8, imm: u32)
         requires rd { rd < 32 }
         requires imm { imm < 1048576 }
-        ensures { state_of S.byte_at self.new
-            ≡ performed (state_of S.byte_at self.old) (Instr.Auipc rd imm) }
+        ensures { state_of S.byte_at self.new ≡ performed (state_of S.byte_at self.old) (Instr.Auipc rd imm) }
     {
         self.write(rd, self.pc.wrapping_add(imm << 12));
     }
@@ -100,8 +95,7 @@ impl<S: ByteStore> Flat<S> {
     #[inline(always)]
     pub(super) fn jal(&mut self, rd: u8, off: i32)
         requires { rd < 32 }
-        ensures { state_of S.byte_at self.new
-            ≡ performed (state_of S.byte_at self.old) (Instr.Jal rd off) }
+        ensures { state_of S.byte_at self.new ≡ performed (state_of S.byte_at self.old) (Instr.Jal rd off) }
     {
         self.jump(rd, self.pc.wrapping_add_signed(off));
     }
@@ -111,8 +105,7 @@ impl<S: ByteStore> Flat<S> {
     pub(super) fn jalr(&mut self, rd: u8, rs1: u8, imm: i32)
         requires rd { rd < 32 }
         requires rs1 { rs1 < 32 }
-        ensures { state_of S.byte_at self.new
-            ≡ performed (state_of S.byte_at self.old) (Instr.Jalr rd rs1 imm) }
+        ensures { state_of S.byte_at self.new ≡ performed (state_of S.byte_at self.old) (Instr.Jalr rd rs1 imm) }
     {
         let target = self.register(rs1).wrapping_add_signed(imm) & !1;
         self.jump(rd, target);
@@ -123,8 +116,7 @@ impl<S: ByteStore> Flat<S> {
     pub(super) fn branch(&mut self, kind: BranchKind, rs1: u8, rs2: u8, off: i32)
         requires rs1 { rs1 < 32 }
         requires rs2 { rs2 < 32 }
-        ensures { state_of S.byte_at self.new
-            ≡ performed (state_of S.byte_at self.old) (Instr.Branch kind rs1 rs2 off) }
+        ensures { state_of S.byte_at self.new ≡ performed (state_of S.byte_at self.old) (Instr.Branch kind rs1 rs2 off) }
     {
         let consumed = takes(kind, self.register(rs1), self.register(rs2));
         self.pc = self.pc.wrapping_add_signed(if consumed { off } else { 4 });
@@ -135,8 +127,7 @@ impl<S: ByteStore> Flat<S> {
     pub(super) fn op_imm(&mut self, kind: ImmKind, rd: u8, rs1: u8, imm: i32)
         requires rd { rd < 32 }
         requires rs1 { rs1 < 32 }
-        ensures { state_of S.byte_at self.new
-            ≡ performed (state_of S.byte_at self.old) (Instr.OpImm kind rd rs1 imm) }
+        ensures { state_of S.byte_at self.new ≡ performed (state_of S.byte_at self.old) (Instr.OpImm kind rd rs1 imm) }
     {
         let value = imm_result(kind, self.register(rs1), imm);
         self.write(rd, value);
@@ -148,8 +139,7 @@ impl<S: ByteStore> Flat<S> {
         requires rd { rd < 32 }
         requires rs1 { rs1 < 32 }
         requires rs2 { rs2 < 32 }
-        ensures { state_of S.byte_at self.new
-            ≡ performed (state_of S.byte_at self.old) (Instr.OpReg kind rd rs1 rs2) }
+        ensures { state_of S.byte_at self.new ≡ performed (state_of S.byte_at self.old) (Instr.OpReg kind rd rs1 rs2) }
     {
         let value = reg_result(kind, self.register(rs1), self.register(rs2));
         self.write(rd, value);
@@ -160,8 +150,7 @@ impl<S: ByteStore> Flat<S> {
     pub(super) fn load(&mut self, kind: LoadKind, rd: u8, rs1: u8, imm: i32) -> Option<FlatAccess>
         requires rd { rd < 32 }
         requires rs1 { rs1 < 32 }
-        ensures state { state_of S.byte_at self.new
-            ≡ performed (state_of S.byte_at self.old) (Instr.Load kind rd rs1 imm) }
+        ensures state { state_of S.byte_at self.new ≡ performed (state_of S.byte_at self.old) (Instr.Load kind rd rs1 imm) }
         ensures access { result
             ≡ accessed (state_of S.byte_at self.old) (Instr.Load kind rd rs1 imm) }
     {
@@ -186,8 +175,7 @@ impl<S: ByteStore> Flat<S> {
     ) -> Result<Option<FlatAccess>, AllocError>
         requires rs1 { rs1 < 32 }
         requires rs2 { rs2 < 32 }
-        ensures state { OnOk result (state_of S.byte_at self.new
-            ≡ performed (state_of S.byte_at self.old) (Instr.Store kind rs1 rs2 imm)) }
+        ensures state { OnOk result (state_of S.byte_at self.new ≡ performed (state_of S.byte_at self.old) (Instr.Store kind rs1 rs2 imm)) }
         ensures access { IfOk result (λ access. access
             ≡ accessed (state_of S.byte_at self.old) (Instr.Store kind rs1 rs2 imm)) }
         ensures err { OnErr result (state_of S.byte_at self.new ≡ state_of S.byte_at self.old) }

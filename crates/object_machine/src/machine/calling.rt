@@ -29,15 +29,9 @@ const NO_NUMBER: u32 = 8;
 impl Source {
     ghost use Rattle.std.specs.Prelude.{◌≡◌, ℕ, ◌+◌, ◌<◌, ◌≤◌, ◌++◌, take, drop, length, MatchOption, IfOk, OnOk, OnErr, Some, None};
     ghost use Rattle.list_checks.specs.First.{first_below};
-    ghost use Rattle.object_machine.specs.Flow.{falls_on};
-    ghost use Rattle.object_machine.specs.Calls.{a1, a7, answered, exits, plain_bytes, unread, appends, writes_from, writes, unwritten, put_input, with_input, reads_into, reads, consumed_count, calls_number, calls_by, a0, a2};
-    ghost use Rattle.cell_values.specs.Objects.{IsOfGraph};
-    ghost use Rattle.object_machine.specs.Memory.{cell_at};
-    ghost use Rattle.object_machine.specs.Places.{byte_place, read_fault, write_fault};
-    ghost use Rattle.object_machine.specs.Machine.{byte_cells, plain_of, stored_from, HasRoom};
+    ghost use Rattle.object_machine.specs.{Flow.{falls_on}, Calls.{a1, a7, answered, exits, plain_bytes, unread, appends, writes_from, writes, unwritten, put_input, with_input, reads_into, reads, consumed_count, calls_number, calls_by, a0, a2}, Memory.{cell_at}, Places.{byte_place, read_fault, write_fault}, Machine.{byte_cells, plain_of, stored_from, HasRoom}, Machine.{seen, seen_state, Becomes}};
+    ghost use Rattle.cell_values.specs.{Objects.{IsOfGraph}, Cells.{IsCellOfGraph}};
     ghost use Rattle.std.specs.List.{All};
-    ghost use Rattle.cell_values.specs.Cells.{IsCellOfGraph};
-    ghost use Rattle.object_machine.specs.Machine.{seen, seen_state, Becomes};
 
     /// Does the call that the registers name.
     #[cold]

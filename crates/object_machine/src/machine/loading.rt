@@ -8,16 +8,9 @@ use rv32im::LoadKind;
 
 impl Source {
     ghost use Rattle.std.specs.Prelude.{◌≡◌, ℕ, ◌+◌, ◌<◌};
-    ghost use Rattle.rv32im.specs.Acts.{load_width};
-    ghost use Rattle.rv32im.specs.declared.instructions.Instr.{Instr};
-    ghost use Rattle.cell_values.specs.Objects.{IsOfGraph};
-    ghost use Rattle.cell_values.specs.Cells.{IsCellOfGraph};
-    ghost use Rattle.cell_values.specs.Marks.{half_of_cells};
-    ghost use Rattle.object_machine.specs.Memory.{cell_at, loaded_value};
-    ghost use Rattle.object_machine.specs.Places.{read_fault};
-    ghost use Rattle.object_machine.specs.Step.{loads_from, acts, access_by};
-    ghost use Rattle.object_machine.specs.Spots.{where_of, HasByte, Spans};
-    ghost use Rattle.object_machine.specs.Machine.{seen, seen_state, Becomes};
+    ghost use Rattle.rv32im.specs.{Acts.{load_width}, declared.instructions.Instr.{Instr}};
+    ghost use Rattle.cell_values.specs.{Objects.{IsOfGraph}, Cells.{IsCellOfGraph}, Marks.{half_of_cells}};
+    ghost use Rattle.object_machine.specs.{Memory.{cell_at, loaded_value}, Places.{read_fault}, Step.{loads_from, acts, access_by}, Spots.{where_of, HasByte, Spans}, Machine.{seen, seen_state, Becomes}};
 
     // A kind is told apart before the access, so that its width is known where the access is inlined.
 

@@ -12,10 +12,7 @@ impl Source {
     ghost use Rattle.std.specs.Prelude.{◌≡◌, ◌+◌, ◌<◌, true, false, length, if◌then◌else◌, MatchOption};
     ghost use Rattle.rv32im.specs.Words.{offset};
     ghost use Rattle.cell_values.specs.Objects.{IsOfGraph};
-    ghost use Rattle.object_machine.specs.State.{wrote, trapped, faulted};
-    ghost use Rattle.object_machine.specs.Flow.{falls_on, jumps, jumps_by, branches};
-    ghost use Rattle.object_machine.specs.Units.{unit_in, IsUnitAt};
-    ghost use Rattle.object_machine.specs.Machine.{seen, seen_state, calls, Becomes};
+    ghost use Rattle.object_machine.specs.{State.{wrote, trapped, faulted}, Flow.{falls_on, jumps, jumps_by, branches}, Units.{unit_in, IsUnitAt}, Machine.{seen, seen_state, calls, Becomes}};
 
     /// The place of the unit behind the present one, if it may follow that.
     #[inline(always)]

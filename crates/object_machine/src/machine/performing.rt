@@ -7,12 +7,8 @@ use std::alloc::AllocError;
 
 impl Source {
     ghost use Rattle.std.specs.Prelude.{◌≡◌, ◌+◌, ◌<◌, length, IfOk, OnOk, OnErr};
-    ghost use Rattle.cell_values.specs.Objects.{IsOfGraph, objects_of};
-    ghost use Rattle.cell_values.specs.Operations.{op_imm, op_reg};
-    ghost use Rattle.object_machine.specs.State.{trapped, value};
-    ghost use Rattle.object_machine.specs.Step.{acts, access_by, one_word, upper_value, imm_result};
-    ghost use Rattle.object_machine.specs.Units.{Fits, FitsRead, IsFit};
-    ghost use Rattle.object_machine.specs.Machine.{here, seen, seen_state, next_by, accesses, Becomes};
+    ghost use Rattle.cell_values.specs.{Objects.{IsOfGraph, objects_of}, Operations.{op_imm, op_reg}};
+    ghost use Rattle.object_machine.specs.{State.{trapped, value}, Step.{acts, access_by, one_word, upper_value, imm_result}, Units.{Fits, FitsRead, IsFit}, Machine.{here, seen, seen_state, next_by, accesses, Becomes}};
 
     /// Performs the present unit. Tells of its access.
     #[inline(always)]

@@ -24,12 +24,7 @@ impl Source {
     ghost use Rattle.std.specs.Prelude.{◌≡◌, ◌+◌, ◌<◌, ◌≤◌, ◌%◌, ◌==◌, if◌then◌else◌, Some, None, length};
     ghost use Rattle.list_checks.specs.First.{first_below};
     ghost use Rattle.cell_values.specs.Objects.{IsGrain, IsOfGraph, object_of, objects_of, home_address};
-    ghost use Rattle.object_machine.specs.State.{value};
-    ghost use Rattle.object_machine.specs.Places.{located, byte_fault, fault_from, in_fixed, byte_place, write_fault, address_of};
-    ghost use Rattle.object_machine.specs.Step.{access_in};
-    ghost use Rattle.object_machine.specs.Units.{target_of, FitsSite};
-    ghost use Rattle.object_machine.specs.Spots.{where_of, IsWidth, HasByte, Spans};
-    ghost use Rattle.object_machine.specs.Machine.{seen, seen_state};
+    ghost use Rattle.object_machine.specs.{State.{value}, Places.{located, byte_fault, fault_from, in_fixed, byte_place, write_fault, address_of}, Step.{access_in}, Units.{target_of, FitsSite}, Spots.{where_of, IsWidth, HasByte, Spans}, Machine.{seen, seen_state}};
 
     /// The site that the present unit is.
     #[inline(always)]
@@ -236,8 +231,7 @@ impl Source {
 
 impl Spot {
     ghost use Rattle.std.specs.Prelude.{◌≡◌};
-    ghost use Rattle.object_machine.specs.Step.{access_in};
-    ghost use Rattle.object_machine.specs.Spots.{where_of};
+    ghost use Rattle.object_machine.specs.{Step.{access_in}, Spots.{where_of}};
 
     /// The access that a load or a store there is.
     #[inline(always)]

@@ -4,8 +4,7 @@ use cell_values::Val;
 impl Source {
     ghost use Rattle.std.specs.Prelude.{◌≡◌, ◌<◌};
     ghost use Rattle.cell_values.specs.Objects.{IsOfGraph};
-    ghost use Rattle.object_machine.specs.State.{value, wrote};
-    ghost use Rattle.object_machine.specs.Machine.{seen_state, Becomes};
+    ghost use Rattle.object_machine.specs.{State.{value, wrote}, Machine.{seen_state, Becomes}};
 
     /// The value in a register.
     #[inline(always)]

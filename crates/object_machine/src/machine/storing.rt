@@ -10,16 +10,9 @@ use std::alloc::AllocError;
 impl Source {
     ghost use Rattle.std.specs.Prelude.{◌≡◌, ℕ, ◌+◌, ◌<◌, take, length, IfOk, OnOk, OnErr};
     ghost use Rattle.std.specs.List.{All};
-    ghost use Rattle.rv32im.specs.Acts.{store_width};
-    ghost use Rattle.rv32im.specs.declared.instructions.Instr.{Instr};
-    ghost use Rattle.cell_values.specs.Objects.{IsOfGraph, object_of};
-    ghost use Rattle.cell_values.specs.Cells.{IsCellOfGraph, split};
-    ghost use Rattle.object_machine.specs.Memory.{stored_at, stored_cells};
-    ghost use Rattle.object_machine.specs.Flow.{falls_on};
-    ghost use Rattle.object_machine.specs.Places.{InFixed, InObject, write_fault};
-    ghost use Rattle.object_machine.specs.Step.{stores_to, acts, access_by};
-    ghost use Rattle.object_machine.specs.Spots.{where_of, IsWidth, HasByte, Spans};
-    ghost use Rattle.object_machine.specs.Machine.{seen, seen_state, Becomes};
+    ghost use Rattle.rv32im.specs.{Acts.{store_width}, declared.instructions.Instr.{Instr}};
+    ghost use Rattle.cell_values.specs.{Objects.{IsOfGraph, object_of}, Cells.{IsCellOfGraph, split}};
+    ghost use Rattle.object_machine.specs.{Memory.{stored_at, stored_cells}, Flow.{falls_on}, Places.{InFixed, InObject, write_fault}, Step.{stores_to, acts, access_by}, Spots.{where_of, IsWidth, HasByte, Spans}, Machine.{seen, seen_state, Becomes}};
 
     // A kind is told apart before the access, as by loads.
 

@@ -1,20 +1,7 @@
 use Rattle.std.proofs.Common.{◌∙◌, ◌+◌, length, length-set, get_or, refl, arith}
 use Rattle.placement_programme.specs.Bounds.{row_of, value_of}
-use Rattle.placement_programme.proofs.AscendLemmas.{row_below}
-use Rattle.branch_bound.proofs.LoadLemmas.{taken_less, entry_held}
+use Rattle.branch_bound.proofs.LoadLemmas.{row_inside, taken_less, entry_held}
 use Rattle.branch_bound.proofs.loads.subtract_weights.Goals as goal
-
-pub bounds-loads-entry : goal.bounds-loads-entry
-bounds-loads-entry c =
-    let below = row_below 0 (length c.args.loads.now) c.args.weights.now c.loop-entry.entry-index (0, 0) c.requires.weights.ascending c.loop-entry-test.true in
-    let same = c.loop-entry.invariant.room in
-    omega (arith, below, same)
-
-pub bounds-loads-entry-in-loop-entry : goal.bounds-loads-entry-in-loop-entry
-bounds-loads-entry-in-loop-entry c =
-    let below = row_below 0 (length c.args.loads.now) c.args.weights.now c.loop-entry.entry-index (0, 0) c.requires.weights.ascending c.loop-entry-test.true in
-    let same = c.loop-entry.invariant.room in
-    omega (arith, below, same)
 
 pub overflow_sub-loads : goal.overflow_sub-loads
 overflow_sub-loads c =
@@ -27,10 +14,9 @@ loop-entry-preserved c =
     let ws = c.args.weights.now in
     let i = c.loop-entry.entry-index in
     let at = row_of (get_or ws i (0, 0)) in
-    let below = row_below 0 (length c.args.loads.now) ws i (0, 0) c.requires.weights.ascending c.loop-entry-test.true in
-    let same = c.loop-entry.invariant.room in
+    let inside = row_inside ws c.args.loads.now c.loop-entry.loads i c.requires.weights c.loop-entry-test.true c.loop-entry.invariant.room in
     let enough = entry_held (length c.args.loads.now) ws c.args.loads.now c.loop-entry.loads i at (value_of (get_or ws i (0, 0))) (0, 0) c.requires.weights.ascending c.loop-entry-test.true refl refl (c.requires.enough at) c.loop-entry.invariant.values in
     record {
-      values = taken_less (length c.args.loads.now) ws c.args.loads.now c.loop-entry.loads i (i + 1) at (value_of (get_or ws i (0, 0))) (0, 0) c.requires.weights.ascending (omega arith) c.loop-entry-test.true (omega (arith, below, same)) refl refl enough c.loop-entry.invariant.values;
-      room = length-set c.loop-entry.loads at _ ∙ same;
+      values = taken_less (length c.args.loads.now) ws c.args.loads.now c.loop-entry.loads i (i + 1) at (value_of (get_or ws i (0, 0))) (0, 0) c.requires.weights.ascending (omega arith) c.loop-entry-test.true inside refl refl enough c.loop-entry.invariant.values;
+      room = length-set c.loop-entry.loads at _ ∙ c.loop-entry.invariant.room;
     }

@@ -5,6 +5,7 @@ use Rattle.placement_programme.specs.Views.{plain_side}
 use Rattle.certificate_checker.specs.declared.trees.Tree.{Tree}
 use Rattle.branch_bound.specs.declared.ranking.Ranked.{Ranked}
 use Rattle.branch_bound.specs.declared.visiting.Visit.{Visit}
+use Rattle.branch_bound.specs.declared.visiting.Visit.TheVariants.{Open}
 use Rattle.branch_bound.specs.Ranking.{PassedOver, number_at}
 use Rattle.branch_bound.specs.Searching.{IsKnown, IsTried, Opens, Reports, Visits, HasLevels}
 use Rattle.branch_bound.specs.Tallies.{ExceedsOnlyRowsOf}
@@ -38,13 +39,23 @@ raised_known s ranking best marks now place marked opens is = (
       (one_exceeds s marks (number_at ranking place) opens.greatest.inside marked (within_fits s marks opens.fails.within)),
 )
 
+opened : (s : PlainSide) (ranking : List Ranked) (best : ℕ) (marks : List Fixing) (found : Visit) (place : ℕ) → Visits s ranking best marks found → found ≡ Open place → Opens s ranking best marks place
+opened s ranking best marks found place visits is = subst (λ (v : Visit). Visits s ranking best marks v) is visits
+
+-- behind the tree of the child for one: the node was opened, and the child for zero differs from it in one mark
+second_child : (s : PlainSide) (ranking : List Ranked) (best : ℕ) (marks one behind zero : List Fixing) (found : Visit) (place : ℕ) (read : Option Tree) (tree : Tree) → Visits s ranking best marks found → found ≡ Open place → one ≡ slice_set marks (number_at ranking place) One → IfSome read (λ t. behind ≡ one) → read ≡ Some tree → zero ≡ slice_set behind (number_at ranking place) Zero → Opens s ranking best marks place × (zero ≡ slice_set marks (number_at ranking place) Zero)
+second_child s ranking best marks one behind zero found place read tree visits is raised kept some lowered = (
+  opened s ranking best marks found place visits is,
+  lowered ∙ zero_marks marks behind (number_at ranking place) (told_of read tree some kept ∙ raised),
+)
+
 pub search-requires : goal.search-requires
 search-requires t c =
     let s = plain_side c.args.task.now.side.now in
     let ranking = c.args.task.now.ranking.now in
     let marks = c.args.node.now.marks.items in
     let place = c.in-Open.found in
-    let opens = subst (λ (v : Visit). Visits s ranking c.visit.new.run.best.gain marks v) c.in-Open.is c.in_ok-tree.ensures.visits in
+    let opens = opened s ranking c.visit.new.run.best.gain marks _ place c.in_ok-tree.ensures.visits c.in-Open.is in
     let fewer = fewer_fixed marks c.fix_one.new.self.marks.items (number_at ranking place) One opens.greatest.holds refl c.fix_one.ensures.marks in
     let passed = passed_on s ranking c.visit.new.run.best.gain marks c.fix_one.new.self.marks.items place One opens one_not_free c.fix_one.ensures.marks in
     let known = raised_known s ranking c.visit.new.run.best.gain marks c.fix_one.new.self.marks.items place c.requires.tallies.marked opens c.fix_one.ensures.marks in
@@ -58,12 +69,12 @@ returns-in-None-clause-tells t c =
     let marks = c.args.node.now.marks.items in
     let j = number_at ranking c.in-Open.found in
     let best = c.visit.new.run.best.gain in
-    let grows = c.in_ok-tree.ensures.grows in
-    let used = c.in_ok-tree.ensures.left in
+    let grows = c.in_ok-tree.ensures.tried.grows in
+    let used = c.in_ok-tree.ensures.tried.left in
     let some = c.if-run-eq0.false in
     let from : start ≤ best = omega (arith, order, grows) in
-    let opens = subst (λ (v : Visit). Visits s ranking best marks v) c.in-Open.is c.in_ok-tree.ensures.visits in
-    let branches : Branches s start marks j best = record { from_start = from; fails = opens.fails; greatest = opens.greatest; here = c.in_ok-tree.ensures.here } in
+    let opens = opened s ranking best marks _ c.in-Open.found c.in_ok-tree.ensures.visits c.in-Open.is in
+    let branches : Branches s start marks j best = record { from_start = from; fails = opens.fails; greatest = opens.greatest; here = c.in_ok-tree.ensures.tried.here } in
     let told = subst (λ (ms : List Fixing). Reports s start ms c.search.new.run.best.gain c.visit.new.run.left c.search.new.run.left c.in_ok-search.field-0) c.fix_one.ensures.marks (c.in_ok-search.ensures.tells start from) in
     let first = subst (λ (o : Option Tree). Reports s start (slice_set marks j One) c.search.new.run.best.gain c.visit.new.run.left c.search.new.run.left o) c.in-None.is told in
     tells_first s start marks j best c.search.new.run.best.gain c.args.run.now.left c.visit.new.run.left c.search.new.run.left branches c.in_ok-search.ensures.grows (omega (arith, used, some)) first
@@ -75,67 +86,52 @@ search-requires-2 t c =
     let marks = c.args.node.now.marks.items in
     let place = c.in-Open.found in
     let j = number_at ranking place in
-    let opens = subst (λ (v : Visit). Visits s ranking c.visit.new.run.best.gain marks v) c.in-Open.is c.in_ok-tree.ensures.visits in
-    let kept = told_of c.in_ok-search.field-0 c.in-Some.tree c.in-Some.is c.in_ok-search.ensures.kept in
-    let zero_is = c.fix_zero.ensures.marks ∙ zero_marks marks c.search.new.node.marks.items j (kept ∙ c.fix_one.ensures.marks) in
-    let fewer = fewer_fixed marks c.fix_zero.new.self.marks.items j Zero opens.greatest.holds refl zero_is in
-    let passed = passed_on s ranking c.visit.new.run.best.gain marks c.fix_zero.new.self.marks.items place Zero opens zero_not_free zero_is in
-    let tried : IsTried s c.search.new.run.best.gain c.fix_zero.new.self.marks.items = zero_tried s c.visit.new.run.best.gain c.search.new.run.best.gain marks c.fix_zero.new.self.marks.items j opens.fails c.in_ok-tree.ensures.here c.in_ok-search.ensures.grows opens.greatest.holds zero_is in
+    let child = second_child (plain_side c.args.task.now.side.now) c.args.task.now.ranking.now c.visit.new.run.best.gain c.args.node.now.marks.items c.fix_one.new.self.marks.items c.search.new.node.marks.items c.fix_zero.new.self.marks.items _ c.in-Open.found c.in_ok-search.field-0 c.in-Some.tree c.in_ok-tree.ensures.visits c.in-Open.is c.fix_one.ensures.marks c.in_ok-search.ensures.kept c.in-Some.is c.fix_zero.ensures.marks in
+    let opens = child.0 in
+    let fewer = fewer_fixed marks c.fix_zero.new.self.marks.items j Zero child.0.greatest.holds refl child.1 in
+    let passed = passed_on s ranking c.visit.new.run.best.gain marks c.fix_zero.new.self.marks.items place Zero child.0 zero_not_free child.1 in
+    let tried : IsTried s c.search.new.run.best.gain c.fix_zero.new.self.marks.items = zero_tried s c.visit.new.run.best.gain c.search.new.run.best.gain marks c.fix_zero.new.self.marks.items j child.0.fails c.in_ok-tree.ensures.tried.here c.in_ok-search.ensures.grows child.0.greatest.holds child.1 in
     search rules
 
 pub returns-in-None-2-clause-tells : goal.returns-in-None-2-clause-tells
 returns-in-None-2-clause-tells t c =
     λ start order.
     let s = plain_side c.args.task.now.side.now in
-    let ranking = c.args.task.now.ranking.now in
     let marks = c.args.node.now.marks.items in
-    let j = number_at ranking c.in-Open.found in
-    let opens = subst (λ (v : Visit). Visits s ranking c.visit.new.run.best.gain marks v) c.in-Open.is c.in_ok-tree.ensures.visits in
-    let kept = told_of c.in_ok-search.field-0 c.in-Some.tree c.in-Some.is c.in_ok-search.ensures.kept in
-    let zero_is = c.fix_zero.ensures.marks ∙ zero_marks marks c.search.new.node.marks.items j (kept ∙ c.fix_one.ensures.marks) in
+    let j = number_at c.args.task.now.ranking.now c.in-Open.found in
+    let child = second_child (plain_side c.args.task.now.side.now) c.args.task.now.ranking.now c.visit.new.run.best.gain c.args.node.now.marks.items c.fix_one.new.self.marks.items c.search.new.node.marks.items c.fix_zero.new.self.marks.items _ c.in-Open.found c.in_ok-search.field-0 c.in-Some.tree c.in_ok-tree.ensures.visits c.in-Open.is c.fix_one.ensures.marks c.in_ok-search.ensures.kept c.in-Some.is c.fix_zero.ensures.marks in
     tells_second _ start _ _ _ _ _ _ _ _ _ c.in-Some.tree
-    (children s start c.args.run.now.best.gain marks c.fix_one.new.self.marks.items c.fix_zero.new.self.marks.items j c.visit.new.run.best.gain c.search.new.run.best.gain c.search-2.new.run.best.gain c.args.run.now.left c.visit.new.run.left c.search.new.run.left c.search-2.new.run.left _ _ _ _ order c.in_ok-tree.ensures.grows opens.fails opens.greatest c.in_ok-tree.ensures.here c.in_ok-search.ensures.grows c.in_ok-search-2.ensures.grows (omega (arith, c.in_ok-tree.ensures.left, c.if-run-eq0.false)) c.fix_one.ensures.marks zero_is c.in-Some.is c.in_ok-search.ensures.tells c.in-None-2.is c.in_ok-search-2.ensures.tells)
+    (children s start c.args.run.now.best.gain marks c.fix_one.new.self.marks.items c.fix_zero.new.self.marks.items j c.visit.new.run.best.gain c.search.new.run.best.gain c.search-2.new.run.best.gain c.args.run.now.left c.visit.new.run.left c.search.new.run.left c.search-2.new.run.left _ _ _ _ order c.in_ok-tree.ensures.tried.grows child.0.fails child.0.greatest c.in_ok-tree.ensures.tried.here c.in_ok-search.ensures.grows c.in_ok-search-2.ensures.grows (omega (arith, c.in_ok-tree.ensures.tried.left, c.if-run-eq0.false)) c.fix_one.ensures.marks child.1 c.in-Some.is c.in_ok-search.ensures.tells c.in-None-2.is c.in_ok-search-2.ensures.tells)
 
 pub returns-clause-kept : goal.returns-clause-kept
 returns-clause-kept t c =
-    let s = plain_side c.args.task.now.side.now in
-    let ranking = c.args.task.now.ranking.now in
     let marks = c.args.node.now.marks.items in
-    let j = number_at ranking c.in-Open.found in
-    let opens = subst (λ (v : Visit). Visits s ranking c.visit.new.run.best.gain marks v) c.in-Open.is c.in_ok-tree.ensures.visits in
-    let kept = told_of c.in_ok-search.field-0 c.in-Some.tree c.in-Some.is c.in_ok-search.ensures.kept in
-    let zero_is = c.fix_zero.ensures.marks ∙ zero_marks marks c.search.new.node.marks.items j (kept ∙ c.fix_one.ensures.marks) in
+    let j = number_at c.args.task.now.ranking.now c.in-Open.found in
+    let child = second_child (plain_side c.args.task.now.side.now) c.args.task.now.ranking.now c.visit.new.run.best.gain c.args.node.now.marks.items c.fix_one.new.self.marks.items c.search.new.node.marks.items c.fix_zero.new.self.marks.items _ c.in-Open.found c.in_ok-search.field-0 c.in-Some.tree c.in_ok-tree.ensures.visits c.in-Open.is c.fix_one.ensures.marks c.in_ok-search.ensures.kept c.in-Some.is c.fix_zero.ensures.marks in
     let kept_on = told_of c.in_ok-search-2.field-0 c.in-Some-2.tree c.in-Some-2.is c.in_ok-search-2.ensures.kept in
-    c.free.ensures.marks ∙ back_once marks c.search-2.new.node.marks.items j Zero Free (kept_on ∙ zero_is) (sym opens.greatest.holds)
+    c.free.ensures.marks ∙ back_once marks c.search-2.new.node.marks.items j Zero Free (kept_on ∙ child.1) (sym child.0.greatest.holds)
 
 pub returns-clause-levels : goal.returns-clause-levels
 returns-clause-levels t c =
-    let s = plain_side c.args.task.now.side.now in
-    let ranking = c.args.task.now.ranking.now in
     let marks = c.args.node.now.marks.items in
-    let j = number_at ranking c.in-Open.found in
-    let opens = subst (λ (v : Visit). Visits s ranking c.visit.new.run.best.gain marks v) c.in-Open.is c.in_ok-tree.ensures.visits in
-    let kept = told_of c.in_ok-search.field-0 c.in-Some.tree c.in-Some.is c.in_ok-search.ensures.kept in
-    let zero_is = c.fix_zero.ensures.marks ∙ zero_marks marks c.search.new.node.marks.items j (kept ∙ c.fix_one.ensures.marks) in
-    let inside = opens.greatest.inside in
+    let j = number_at c.args.task.now.ranking.now c.in-Open.found in
+    let child = second_child (plain_side c.args.task.now.side.now) c.args.task.now.ranking.now c.visit.new.run.best.gain c.args.node.now.marks.items c.fix_one.new.self.marks.items c.search.new.node.marks.items c.fix_zero.new.self.marks.items _ c.in-Open.found c.in_ok-search.field-0 c.in-Some.tree c.in_ok-tree.ensures.visits c.in-Open.is c.fix_one.ensures.marks c.in_ok-search.ensures.kept c.in-Some.is c.fix_zero.ensures.marks in
+    let inside = child.0.greatest.inside in
     let few = c.args.task.now.side.now.bounds.few_vars in
     let small : j < 2 ^ 32 = omega (arith, inside, few) in
     let first = subst (λ (ms : List Fixing). HasLevels (suc (count_by is_free ms)) c.in_ok-search.field-0) c.fix_one.ensures.marks c.in_ok-search.ensures.levels in
     let by_one = subst (λ (o : Option Tree). HasLevels (suc (count_by is_free (slice_set marks j One))) o) c.in-Some.is first in
-    let second = subst (λ (ms : List Fixing). HasLevels (suc (count_by is_free ms)) c.in_ok-search-2.field-0) zero_is c.in_ok-search-2.ensures.levels in
+    let second = subst (λ (ms : List Fixing). HasLevels (suc (count_by is_free ms)) c.in_ok-search-2.field-0) child.1 c.in_ok-search-2.ensures.levels in
     let by_zero = subst (λ (o : Option Tree). HasLevels (suc (count_by is_free (slice_set marks j Zero))) o) c.in-Some-2.is second in
-    levels_both marks j c.in-Some.tree c.in-Some-2.tree c.in_ok-branch_on.field-0 opens.greatest.holds small by_one by_zero c.in_ok-branch_on.ensures
+    levels_both marks j c.in-Some.tree c.in-Some-2.tree c.in_ok-branch_on.field-0 child.0.greatest.holds small by_one by_zero c.in_ok-branch_on.ensures
 
 pub returns-clause-tells : goal.returns-clause-tells
 returns-clause-tells t c =
     λ start order.
     let s = plain_side c.args.task.now.side.now in
-    let ranking = c.args.task.now.ranking.now in
     let marks = c.args.node.now.marks.items in
-    let j = number_at ranking c.in-Open.found in
-    let opens = subst (λ (v : Visit). Visits s ranking c.visit.new.run.best.gain marks v) c.in-Open.is c.in_ok-tree.ensures.visits in
-    let kept = told_of c.in_ok-search.field-0 c.in-Some.tree c.in-Some.is c.in_ok-search.ensures.kept in
-    let zero_is = c.fix_zero.ensures.marks ∙ zero_marks marks c.search.new.node.marks.items j (kept ∙ c.fix_one.ensures.marks) in
+    let j = number_at c.args.task.now.ranking.now c.in-Open.found in
+    let child = second_child (plain_side c.args.task.now.side.now) c.args.task.now.ranking.now c.visit.new.run.best.gain c.args.node.now.marks.items c.fix_one.new.self.marks.items c.search.new.node.marks.items c.fix_zero.new.self.marks.items _ c.in-Open.found c.in_ok-search.field-0 c.in-Some.tree c.in_ok-tree.ensures.visits c.in-Open.is c.fix_one.ensures.marks c.in_ok-search.ensures.kept c.in-Some.is c.fix_zero.ensures.marks in
     tells_both _ start _ _ _ _ _ _ _ _ _ c.in-Some.tree c.in-Some-2.tree c.in_ok-branch_on.field-0
-    (children s start c.args.run.now.best.gain marks c.fix_one.new.self.marks.items c.fix_zero.new.self.marks.items j c.visit.new.run.best.gain c.search.new.run.best.gain c.search-2.new.run.best.gain c.args.run.now.left c.visit.new.run.left c.search.new.run.left c.search-2.new.run.left _ _ _ _ order c.in_ok-tree.ensures.grows opens.fails opens.greatest c.in_ok-tree.ensures.here c.in_ok-search.ensures.grows c.in_ok-search-2.ensures.grows (omega (arith, c.in_ok-tree.ensures.left, c.if-run-eq0.false)) c.fix_one.ensures.marks zero_is c.in-Some.is c.in_ok-search.ensures.tells c.in-Some-2.is c.in_ok-search-2.ensures.tells)
+    (children s start c.args.run.now.best.gain marks c.fix_one.new.self.marks.items c.fix_zero.new.self.marks.items j c.visit.new.run.best.gain c.search.new.run.best.gain c.search-2.new.run.best.gain c.args.run.now.left c.visit.new.run.left c.search.new.run.left c.search-2.new.run.left _ _ _ _ order c.in_ok-tree.ensures.tried.grows child.0.fails child.0.greatest c.in_ok-tree.ensures.tried.here c.in_ok-search.ensures.grows c.in_ok-search-2.ensures.grows (omega (arith, c.in_ok-tree.ensures.tried.left, c.if-run-eq0.false)) c.fix_one.ensures.marks child.1 c.in-Some.is c.in_ok-search.ensures.tells c.in-Some-2.is c.in_ok-search-2.ensures.tells)
     c.in_ok-branch_on.ensures

@@ -3,10 +3,7 @@ use Rattle.branch_bound.proofs.side_searching.+search.Given as goal
 
 -- each node that is visited is one less that may be
 abbrev pub decreases-search : goal.decreases-search
-decreases-search l = 3 * l.best.now.left
+decreases-search l = 2 * l.best.now.left
 
 abbrev pub decreases-search_child : goal.decreases-search_child
-decreases-search_child l = 3 * l.best.now.left + 1
-
-abbrev pub decreases-search_children : goal.decreases-search_children
-decreases-search_children l = 3 * l.best.now.left + 2
+decreases-search_child l = 2 * l.best.now.left + 1

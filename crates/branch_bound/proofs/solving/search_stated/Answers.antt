@@ -57,35 +57,25 @@ found-requires-clause-trees c =
     let searched = searched_in p c.args.nodes c.in_ok-start.start.gain c.in_ok-first.first.gain best.gain off on c.in_ok-start.ensures.start c.in_ok-first.ensures.grows c.in_ok-off.ensures.grows c.in_ok-on.ensures.grows c.in_ok-best.ensures.grows c.in_ok-off.ensures.tells c.in_ok-on.ensures.tells in
     match_more (AreTreesOf p best.gain) c.in_ok-trees.trees (λ both. ends_within p c.args.nodes c.in_ok-start.start.gain off.best.gain on.best.gain best.gain off.left on.left off.tree on.tree (choice_of p best) searched c.in_ok-best.ensures.incumbent.accepted.gains both.0 both.1) c.in_ok-trees.ensures
 
-pub returns-clause-feasible : goal.returns-clause-feasible
-returns-clause-feasible c =
-    let p = plain_programme c.args.p.now in
-    subst (λ choice. IsFeasible p choice) (sym c.in_ok-answer.ensures.choice) c.in_ok-best.ensures.incumbent.accepted.feasible
-
-pub returns-clause-gain : goal.returns-clause-gain
-returns-clause-gain c =
-    let p = plain_programme c.args.p.now in
-    let best = c.in_ok-best.best in
-    subst (λ choice. pos 0 ≤ℤ gain p choice) (sym c.in_ok-answer.ensures.choice) (gain_from_zero p (choice_of p best) best.gain c.in_ok-best.ensures.incumbent.accepted.gains)
-
-pub returns-clause-reach : goal.returns-clause-reach
-returns-clause-reach c =
+pub returns-clause-ends : goal.returns-clause-ends
+returns-clause-ends c =
     let p = plain_programme c.args.p.now in
     let off = c.in_ok-off.off in
     let on = c.in_ok-on.on in
     let best = c.in_ok-best.best in
+    let chosen = sym c.in_ok-answer.ensures.choice in
+    let accepted = c.in_ok-best.ensures.incumbent.accepted in
     let searched = searched_in p c.args.nodes c.in_ok-start.start.gain c.in_ok-first.first.gain best.gain off on c.in_ok-start.ensures.start c.in_ok-first.ensures.grows c.in_ok-off.ensures.grows c.in_ok-on.ensures.grows c.in_ok-best.ensures.grows c.in_ok-off.ensures.tells c.in_ok-on.ensures.tells in
-    subst (λ choice. ReachesFirst p c.args.nodes choice) (sym c.in_ok-answer.ensures.choice)
-    (reaches_first p c.args.nodes c.in_ok-start.start.gain off.best.gain on.best.gain best.gain off.left on.left off.tree on.tree (choice_of p best) searched c.in_ok-best.ensures.incumbent.accepted.gains)
-
-pub returns-clause-grown : goal.returns-clause-grown
-returns-clause-grown c =
-    let p = plain_programme c.args.p.now in
-    subst (λ choice. CannotGrow p choice) (sym c.in_ok-answer.ensures.choice) c.in_ok-best.ensures.cannot
-
-pub returns-clause-enough : goal.returns-clause-enough
-returns-clause-enough c =
-    enough_nodes (plain_programme c.args.p.now) c.args.nodes (plain_certificate c.in_ok-answer.answer.certificate) c.in_ok-answer.answer.status c.in_ok-answer.ensures.status
+    record {
+      feasible = subst (λ choice. IsFeasible p choice) chosen accepted.feasible;
+      not_below_0 = subst (λ choice. pos 0 ≤ℤ gain p choice) chosen (gain_from_zero p (choice_of p best) best.gain accepted.gains);
+      reach = subst (λ choice. ReachesFirst p c.args.nodes choice) chosen (reaches_first p c.args.nodes c.in_ok-start.start.gain off.best.gain on.best.gain best.gain off.left on.left off.tree on.tree (choice_of p best) searched accepted.gains);
+      grown = subst (λ choice. CannotGrow p choice) chosen c.in_ok-best.ensures.cannot;
+      same = c.in_ok-answer.ensures.same;
+      range = c.in_ok-answer.ensures.range;
+      status = c.in_ok-answer.ensures.status;
+      enough = enough_nodes p c.args.nodes (plain_certificate c.in_ok-answer.answer.certificate) c.in_ok-answer.answer.status c.in_ok-answer.ensures.status;
+    }
 
 pub returns-clause-other : goal.returns-clause-other
 returns-clause-other c =

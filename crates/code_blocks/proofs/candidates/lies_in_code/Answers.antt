@@ -20,8 +20,8 @@ returns-in-Some c =
 
 pub returns-in-None : goal.returns-in-None
 returns-in-None c =
+    let s = c.index-symbol.result.now in
     let view = c.args.file.now.view.now in
     let v = plain_view view in
-    let s = c.index-symbol.result.now in
     let here : symbol_at v c.args.k ≡ plain_symbol s = get_or-map plain_symbol view.symbols.items c.args.k s no_symbol c.requires.below ∙ ap plain_symbol (sym c.index-symbol.ensures) in
     subst (λ (t : PlainSymbol). false ≡ any_below (holds_range Code v t.value t.size) (length v.sections)) (sym here) (sym c.in-None.ensures)

@@ -7,4 +7,4 @@ returns c =
     let v = plain_view c.args.file.now.view.now in
     those_arranged _ _ _ c.arrange.ensures.ascending c.arrange.ensures.same
     (λ a.
-    are_leaders v c.args.pairs.now a _ _ _ c.requires.pairs (c.requires.early a) (c.in_ok-add_pair_targets.ensures a) (c.in_ok-add_pair_returns.ensures a))
+    are_leaders v c.args.pairs.now a _ _ _ c.requires.pairs (c.requires.early a) (c.in_ok-add_pair_leaders.ensures a) (c.in_ok-add_pair_leaders-2.ensures a))

@@ -42,9 +42,8 @@ loop-i-preserved c =
     let v = plain_view c.args.file.now.view.now in
     let n = ((section_at v c.args.k).addr + (section_at v c.args.k).size - c.args.start) / 4 in
     let below : c.loop-i.i < n = omega (arith, c.words_from-i-end.ensures, c.loop-i-test.true) in
-    let made = c.unit_at.ensures in
-    let is = is_unit v c.args.leaders.now c.unit_at.result (c.args.start + 4 * c.loop-i.i) c.word_in-word.result c.requires.leaders c.word_in-word.ensures made.at made.words made.raw made.instr in
-    walked_more v c.args.start n c.loop-i.i c.loop-i.units.items _ c.unit_at.result c.loop-i.invariant c.in_ok-push.ensures.items below is made.at
+    let is = is_unit v c.args.leaders.now c.unit_at.result (c.args.start + 4 * c.loop-i.i) c.word_in-word.result c.requires.leaders c.word_in-word.ensures c.unit_at.ensures.at c.unit_at.ensures.words c.unit_at.ensures.raw c.unit_at.ensures.instr in
+    walked_more v c.args.start n c.loop-i.i c.loop-i.units.items _ c.unit_at.result c.loop-i.invariant c.in_ok-push.ensures.items below is c.unit_at.ensures.at
     (sym c.end_behind.ensures ∙ no_end c.end_behind.result c.in_default.not-Some)
 
 pub returns : goal.returns

@@ -37,15 +37,15 @@ returns-clause-words c =
 pub returns-clause-sound : goal.returns-clause-sound
 returns-clause-sound c =
     let code = c.args.code.now in
+    let items = c.in_ok-push-2.ensures.items in
     let n = length code.blocks.items in
     let old = c.loop-block.before.items in
+    let longer = length_push old 0 in
     let all : c.loop-block.block ≡ n = omega (arith, c.loop-block-test.false, c.loop-block.auto.block-end, c.len-block-end.ensures, code.blocks.ok.0) in
     let size : length old ≡ n = c.loop-block.invariant.size ∙ all in
-    let items = c.in_ok-push-2.ensures.items in
-    let longer = length_push old 0 in
+    let first = subst (λ (m : ℕ). AreFirst code c.args.graph.now.sites.items c.args.asked.now m old) all c.loop-block.invariant.first in
     let whole : length (old ++ 0 ∷ []) ≡ n + 1 = omega (arith, longer, size) in
     let count : c.len.result ≡ n + 1 = omega (arith, c.len.ensures, c.push-2.new.self.ok.0, ap length items, whole) in
     let places : c.in_ok-behind.behind.items ≡ replicate (n + 1) 1 = c.in_ok-behind.ensures.items_if_clones_equal (λ y same. same) ∙ ap (λ (m : ℕ). replicate m 1) count in
-    let first = subst (λ (m : ℕ). AreFirst code c.args.graph.now.sites.items c.args.asked.now m old) all c.loop-block.invariant.first in
     subst (λ (ws : List ℕ). AreSound code c.args.graph.now c.args.asked.now c.in_ok-behind.behind.items ws) (sym {A = List ℕ} items)
     (first_sound code c.args.graph.now c.args.asked.now c.in_ok-behind.behind.items (old ++ 0 ∷ []) places whole (get_or_push old 0 0 n size) (first_still code c.args.graph.now.sites.items c.args.asked.now n 0 old size first))

@@ -8,10 +8,10 @@ use Rattle.dataflow.proofs.transfers.registers_before.Goals as goal
 
 pub loop-k-preserved : goal.loop-k-preserved
 loop-k-preserved c =
+    let units = c.args.units.now in
     let g = c.args.graph.now in
     let sites = g.sites.items in
     let behind = c.args.behind in
-    let units = c.args.units.now in
     let k = c.loop-k.k in
     let u = slice_index_or units (k - 1) no_unit in
     let found = site_found g u.at c.site_at.result c.requires.graph c.site_at.ensures in

@@ -8,14 +8,12 @@ use Rattle.object_graph.proofs.span_lookup.count_begun.Goals as goal
 
 pub returns-clause-begun : goal.returns-clause-begun
 returns-clause-begun c k before =
-    let begins = λ (r : Range). nat_le r.base c.args.address in
     let parted = IsPartitionedBy-leb (λ r. r.base) _ c.args.address (by_start (λ r. r.base) (λ r. r.size) c.args.ranges.now c.requires) in
-    let point = IsPartitionPoint-from_clause begins _ _ c.partition_point.ensures.partitioned parted (λ a r q k. search rules) in
+    let point = IsPartitionPoint-from_clause (λ (r : Range). nat_le r.base c.args.address) _ _ c.partition_point.ensures.partitioned parted (λ a r q k. search rules) in
     leb-true _ _ (point.0 k no_area (omega arith) before)
 
 pub returns-clause-later : goal.returns-clause-later
 returns-clause-later c k behind below =
-    let begins = λ (r : Range). nat_le r.base c.args.address in
     let parted = IsPartitionedBy-leb (λ r. r.base) _ c.args.address (by_start (λ r. r.base) (λ r. r.size) c.args.ranges.now c.requires) in
-    let point = IsPartitionPoint-from_clause begins _ _ c.partition_point.ensures.partitioned parted (λ a r q k. search rules) in
+    let point = IsPartitionPoint-from_clause (λ (r : Range). nat_le r.base c.args.address) _ _ c.partition_point.ensures.partitioned parted (λ a r q k. search rules) in
     above _ _ (point.1 k no_area behind below)

@@ -15,12 +15,12 @@ loop-i-init c = record {
 -- where row of entry `i` stands among the rows
 pub overflow_add-loads : goal.overflow_add-loads
 overflow_add-loads c =
-    let ws = c.args.weights.now in
     let i = c.loop-i.i in
-    let row = row_of (get_or ws i (0, 0)) in
-    let inside : i < length ws = omega (arith, c.loop-i-test.true, c.count_before-i-end.ensures.bound) in
+    let inside : i < length c.args.weights.now = omega (arith, c.loop-i-test.true, c.count_before-i-end.ensures.bound) in
     let from = c.count_before-i.ensures.behind i (omega (arith, c.loop-i.auto.i)) inside in
     let to = c.count_before-i-end.ensures.before i (omega (arith, c.loop-i-test.true)) in
+    let ws = c.args.weights.now in
+    let row = row_of (get_or ws i (0, 0)) in
     let below : row - c.args.low < length c.loop-i.loads = omega (arith, from, to, c.loop-i.invariant.len) in
     let so_far = c.loop-i.invariant.sums (row - c.args.low) below in
     let here : c.args.low + (row - c.args.low) ≡ row = omega (arith, from) in

@@ -8,9 +8,9 @@ use Rattle.points_to.proofs.blocks.push_next.Goals as goal
 
 pub returns : goal.returns
 returns c =
-    let n = c.args.nodes.blocks in
-    let b = c.args.block in
     let code = c.args.code.now in
+    let b = c.args.block in
+    let n = c.args.nodes.blocks in
     let numbers = c.successors-numbers.result.items in
     let old = plain_rows c.args.graph_edges.now in
     let new = plain_rows c.push_steps.new.graph_edges in

@@ -7,10 +7,10 @@ use Rattle.points_to.proofs.edges.push_rows.Goals as goal
 
 pub loop-x-preserved : goal.loop-x-preserved
 loop-x-preserved c =
+    let x = c.loop-x.x in
+    let rows = c.args.rows.now in
     let n = c.args.nodes.blocks in
     let b = c.args.block in
-    let rows = c.args.rows.now in
-    let x = c.loop-x.x in
     let register : 0 < x = omega arith in
     adds_more x (RowEdge n b rows) _ _ _ c.loop-x.invariant (adds_same (Upto 32 (PlaceEdge (entry b x) (end_of n b 0) (row rows x))) (RowEdge n b rows x) _ _ c.in_ok-push_row.ensures (λ f t. row_one n b x rows (row rows x) f t register refl))
 

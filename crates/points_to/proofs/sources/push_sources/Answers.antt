@@ -27,10 +27,10 @@ returns-in-Some c sites us at are =
 
 pub returns-then-loads : goal.returns-then-loads
 returns-then-loads c sites us at are =
-    let n = c.args.nodes.blocks in
-    let b = c.args.block in
     let u = c.args.unit.now in
     let rows = c.args.rows.now in
+    let n = c.args.nodes.blocks in
+    let b = c.args.block in
     let old = plain_rows c.args.graph_edges.now in
     let new = plain_rows c.push_places-then-loads.new.graph_edges in
     let e = c.written-to.ensures in

@@ -9,9 +9,9 @@ use Rattle.region_former.proofs.borders.mark_barred.Goals as goal
 pub loop-b-preserved : goal.loop-b-preserved
 loop-b-preserved c =
     let code = c.args.code.now in
+    let b = c.loop-b.b in
     let regions = c.args.regions.now in
     let dead = c.args.has_dead.now in
-    let b = c.loop-b.b in
     let below : b < block_count code = omega (arith, c.loop-b-test.true, c.requires.borders) in
     record {
       len = c.bar.ensures.len ∙ c.loop-b.invariant.len;

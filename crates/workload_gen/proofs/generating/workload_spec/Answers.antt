@@ -44,17 +44,17 @@ returns c =
     let drawn : List Kernel = c.in_ok-drawn.drawn.items in
     let main : c.push_main.new.words.items ≡ main_words k =
     c.in_ok-push_main.ensures ∙ ap (λ (words : List ℕ). words ++ main_words k) c.new-code.ensures.items in
-    let code : c.push_kernels.new.words.items ≡ main_words k ++ flat_map kernel_code drawn =
-    c.in_ok-push_kernels.ensures ∙ (λ i. main i ++ flat_map kernel_code (c.deref.ensures.value i)) in
-    let tables : c.push_tables.new.words.items ≡ flat_map kernel_table drawn =
-    c.in_ok-push_tables.ensures
-    ∙ (λ i. c.new-tables.ensures.items i ++ flat_map kernel_table (c.deref-2.ensures.value i)) in
+    let code : c.push_kernels.new.code.items ≡ main_words k ++ flat_map kernel_code drawn =
+    c.in_ok-push_kernels.ensures.code ∙ (λ i. main i ++ flat_map kernel_code (c.deref.ensures.value i)) in
+    let tables : c.push_kernels.new.tables.items ≡ flat_map kernel_table drawn =
+    c.in_ok-push_kernels.ensures.tables
+    ∙ (λ i. c.new-tables.ensures.items i ++ flat_map kernel_table (c.deref.ensures.value i)) in
     plan_of
     c.args.seed
     k
     drawn
-    c.push_kernels.new.words.items
-    c.push_tables.new.words.items
+    c.push_kernels.new.code.items
+    c.push_kernels.new.tables.items
     c.in_ok-vec.field-0.items
     c.in_ok-workload_symbols.field-0.items
     c.in_ok-text.text
@@ -64,7 +64,7 @@ returns c =
     code
     tables
     c.in_ok-vec.ensures.items
-    (c.in_ok-text.ensures ∙ ap (text_plan k) c.deref-3.ensures.value)
-    (c.in_ok-rodata.ensures ∙ ap tables_plan c.deref-4.ensures.value)
+    (c.in_ok-text.ensures ∙ ap (text_plan k) c.deref-2.ensures.value)
+    (c.in_ok-rodata.ensures ∙ ap tables_plan c.deref-3.ensures.value)
     c.in_ok-out.ensures
-    (c.in_ok-workload_symbols.ensures ∙ ap (symbol_plans k) c.deref-5.ensures.value)
+    (c.in_ok-workload_symbols.ensures ∙ ap (symbol_plans k) c.deref-4.ensures.value)

@@ -11,13 +11,20 @@ overflow_sub-self c =
     let gain = c.gain_of_var.ensures in
     omega (arith, term, gain)
 
-pub returns-in-Zero-clause-tallies : goal.returns-in-Zero-clause-tallies
-returns-in-Zero-clause-tallies c =
-    tallies_set (plain_side c.args.side.now) c.args.self.now _ c.args.number Zero Zero c.requires.number c.requires.tallies (ap (λ ms. fixing_of ms c.args.number) (sym c.deref.ensures.value) ∙ (sym c.fixing_of.ensures ∙ c.in-Zero.is)) refl refl (λ row. refl) refl refl
+pub returns-in-Zero : goal.returns-in-Zero
+returns-in-Zero c =
+    let is = ap (λ ms. fixing_of ms c.args.number) (sym c.deref.ensures.value) ∙ (sym c.fixing_of.ensures ∙ c.in-Zero.is) in
+    record {
+      tallies = tallies_set (plain_side c.args.side.now) c.args.self.now _ c.args.number Zero Zero c.requires.number c.requires.tallies is refl refl (λ row. refl) refl refl;
+      marks = refl;
+    }
 
-pub returns-in-Free-clause-tallies : goal.returns-in-Free-clause-tallies
-returns-in-Free-clause-tallies c =
+pub returns-in-Free : goal.returns-in-Free
+returns-in-Free c =
     let is = ap (λ ms. fixing_of ms c.args.number) (sym c.deref.ensures.value) ∙ (sym c.fixing_of.ensures ∙ c.in-Free.is) in
     let term = bound_term (plain_side c.args.side.now) c.args.self.now c.args.number Free c.requires.number c.requires.tallies is in
     let gain = c.gain_of_var.ensures in
-    tallies_set (plain_side c.args.side.now) c.args.self.now _ c.args.number Free Zero c.requires.number c.requires.tallies is refl refl (λ row. refl) refl (omega (arith, term, gain))
+    record {
+      tallies = tallies_set (plain_side c.args.side.now) c.args.self.now _ c.args.number Free Zero c.requires.number c.requires.tallies is refl refl (λ row. refl) refl (omega (arith, term, gain));
+      marks = refl;
+    }

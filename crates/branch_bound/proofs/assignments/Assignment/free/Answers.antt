@@ -13,14 +13,15 @@ overflow_add-self c =
     let gain = c.gain_of_var.ensures in
     omega (arith, so_far, more, gain)
 
-pub returns-clause-tallies : goal.returns-clause-tallies
-returns-clause-tallies c =
+pub returns : goal.returns
+returns c =
     let s = plain_side c.args.side.now in
+    let before = c.args.self.now.marks.items in
     let gain = c.gain_of_var.ensures in
-    tallies_set s c.fix_zero.new.self _ c.args.number Zero Free c.requires.number c.fix_zero.ensures.tallies
-    (zero_there s c.args.self.now.marks.items c.fix_zero.new.self.marks.items c.args.number c.requires.number c.requires.tallies.marked c.fix_zero.ensures.marks)
-    refl refl (λ row. refl) refl (omega (arith, gain))
-
-pub returns-clause-marks : goal.returns-clause-marks
-returns-clause-marks c =
-    ap (λ ms. slice_set ms c.args.number Free) c.fix_zero.ensures.marks ∙ set_twice c.args.self.now.marks.items c.args.number Zero Free
+    record {
+      tallies =
+          tallies_set s c.fix_zero.new.self _ c.args.number Zero Free c.requires.number c.fix_zero.ensures.tallies
+          (zero_there s before c.fix_zero.new.self.marks.items c.args.number c.requires.number c.requires.tallies.marked c.fix_zero.ensures.marks)
+          refl refl (λ row. refl) refl (omega (arith, gain));
+      marks = ap (λ ms. slice_set ms c.args.number Free) c.fix_zero.ensures.marks ∙ set_twice before c.args.number Zero Free;
+    }

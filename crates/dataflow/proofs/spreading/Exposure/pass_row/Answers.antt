@@ -8,10 +8,10 @@ use Rattle.dataflow.proofs.spreading.Exposure.pass_row.Goals as goal
 
 pub loop-i-preserved : goal.loop-i-preserved
 loop-i-preserved c =
+    let i = c.loop-i.i in
     let code = c.args.code.now in
     let g = c.args.graph.now in
     let row = c.args.row.now in
-    let i = c.loop-i.i in
     let e = edge_at row i in
     let by = c.args.by in
     let old = c.loop-i.self in

@@ -1,11 +1,11 @@
 use Rattle.std.proofs.Common.{arith}
 use Rattle.elf_reader.specs.File.{plain_view}
 use Rattle.loaded_file.specs.Code.{is_code_word}
-use Rattle.code_blocks.specs.Pairs.{leads_to}
+use Rattle.code_blocks.specs.PairLeaders.{pair_leads}
 use Rattle.code_blocks.proofs.PairLemmas.{listed_more}
-use Rattle.code_blocks.proofs.strata.add_pair_targets.Goals as goal
+use Rattle.code_blocks.proofs.strata.add_pair_leaders.Goals as goal
 
 pub loop-pair-preserved : goal.loop-pair-preserved
 loop-pair-preserved c a =
     let v = plain_view c.args.file.now.view.now in
-    listed_more _ _ _ (is_code_word v a) (leads_to v a) c.args.pairs.now c.loop-pair.pair-index (omega arith) (c.loop-pair.invariant a) (c.in_ok-add_pair_target.ensures a)
+    listed_more _ _ _ (is_code_word v a) (pair_leads c.args.rule v a) c.args.pairs.now c.loop-pair.pair-index (omega arith) (c.loop-pair.invariant a) (c.in_ok-add_pair_leader.ensures a)

@@ -1,7 +1,0 @@
-use Rattle.std.proofs.Common.{◌≡◌, None}
-use Rattle.list_checks.specs.First.{first_below}
-use Rattle.elf_reader.specs.SectionChecks.{header_place_fault}
-use Rattle.elf_reader.proofs.section_checks.check_table.Given as goal
-
-abbrev pub invariant-loop-k : goal.invariant-loop-k
-invariant-loop-k l = first_below (header_place_fault l.bytes) l.k ≡ None
