@@ -1,11 +1,10 @@
 -- A result that keeps the meaning of a program is like it where it is looked at.
-use Rattle.std.proofs.Common.{◌≡◌, ℕ, ◌+◌, ◌-◌, ◌*◌, ◌≤◌, ◌⊎◌, inl, inr, List, [], ◌++◌, length, refl, sym, ◌∙◌, ap, subst, arith, length-append}
+use Rattle.std.proofs.Common.{◌≡◌, ℕ, ◌+◌, ◌-◌, ◌*◌, ◌≤◌, ◌⊎◌, inl, inr, List, [], ◌++◌, length, sym, ◌∙◌, ap, subst, arith, length-append}
 use Rattle.std.proofs.lemmas.List.{append-nil, nil_from_length}
 use Rattle.rv32im.specs.Table.{OneInstruction}
 use Rattle.board_config.specs.declared.board.Board.{Board}
 use Rattle.flat_machine.specs.State.{State}
 use Rattle.flat_machine.specs.Runs as flat_runs
-use Rattle.flat_machine.specs.declared.events.FlatOutcome.{FlatOutcome}
 use Rattle.flat_machine.specs.declared.events.FlatOutcome.TheVariants as flat
 use Rattle.flat_machine.proofs.Runs as flat_lemmas
 use Rattle.flat_machine.proofs.Outputs.{steps_extend}
@@ -19,24 +18,15 @@ use Rattle.simulation.specs.Laws.{EndsAlike, Keeps}
 use Rattle.simulation.proofs.PairedRuns.{paired_first}
 use Rattle.result_laws.specs.HomeLaws.{program_in, source_start, file_start}
 use Rattle.result_laws.specs.ResultLaws.{most_steps}
+use Rattle.result_laws.specs.Walks.{IsNoFault}
 use Rattle.compare_runner.specs.declared.comparing.Comparison.{Comparison}
 use Rattle.compare_runner.specs.declared.comparing.Comparison.TheVariants.{Differs}
 use Rattle.compare_runner.specs.Comparing.{RunsUntil, IsFar, AreAlike, Reports, JudgesRun}
 use Rattle.compare_runner.specs.Laws.{ComparesFiles, KeptNeverDiffers, KeptRunsNeverDiffer, GoesOnFor, KeptGoesOn, KeptRunsGoOn}
+use Rattle.compare_runner.proofs.SplitRuns.{steps_between, going_before}
 use Rattle.compare_runner.proofs.UntilLemmas.{not_past, holds_at}
 
-abbrev IsNoFault : Outcome → Type 0
-IsNoFault (AddressFault pc why) = ⊥
-IsNoFault o = Unit {0}
-
 -- ---- runs and lists
-
--- what is left of a longer run behind a shorter one
-steps_between : OneInstruction → (j k : ℕ) (s t u : State) → j ≤ k → flat_runs.Steps j s t → flat_runs.Steps k s u → flat_runs.Steps (k - j) t u
-steps_between one j k s t u le first all =
-    let sum : k ≡ j + (k - j) = omega (arith, le) in
-    let parts = flat_lemmas.steps_cut j (k - j) s u (subst (λ (i : ℕ). flat_runs.Steps i s u) sum all) in
-    subst (λ (x : State). flat_runs.Steps (k - j) x u) (flat_lemmas.one_run one j s parts.0 t parts.1.0 first) parts.1.1
 
 -- nothing was added to a list that is no longer
 nothing_more : (xs ys more : List ℕ) → xs ≡ ys ++ more → length xs ≤ length ys → ys ≡ xs
@@ -53,7 +43,7 @@ module _ (one : OneInstruction) (most : ℕ) (start t u : State) (m j : ℕ) (wi
   reached o n far until =
       let past = not_past State flat_runs.Steps (IsFar o n) (flat_lemmas.one_run one) most start m t j u until ran far in (
         holds_at State flat_runs.Steps (IsFar o n) (flat_lemmas.one_run one) most start m t j u until within ran far,
-        steps_between one m j start t u past until.ran ran,
+        steps_between m j start t u past until.ran ran,
       )
 
   -- one that has caught up has written no more than one that wrote the same
@@ -117,26 +107,18 @@ runs_never_differ one file out board g input n at keeps graph bytes compares =
 
 -- ---- where the program goes on
 
-goes_at : (o : FlatOutcome) (k : ℕ) (t u : State) → t.outcome ≡ o → flat_runs.Steps k t u → u.outcome ≡ flat.GoesOn → t.outcome ≡ flat.GoesOn
-goes_at flat.GoesOn k t u is rest going = is
-goes_at (flat.Exited code) k t u is rest going =
-    ap (λ (x : State). x.outcome) (sym (flat_lemmas.ended_steps k t u (subst flat_runs.HasEnded (sym is) tt) rest)) ∙ going
-goes_at (flat.Trapped pc) k t u is rest going =
-    ap (λ (x : State). x.outcome) (sym (flat_lemmas.ended_steps k t u (subst flat_runs.HasEnded (sym is) tt) rest)) ∙ going
-
-goes_for : OneInstruction → (out : List ℕ) (board : Board) (input : List ℕ) (n bound : ℕ) (s : SourceState) → s.outcome ≡ GoesOn → Keeps n bound s (file_start out board input) → GoesOnFor out board input n
-goes_for one out board input n bound s going keeps j t few steps =
+goes_for : (out : List ℕ) (board : Board) (input : List ℕ) (n bound : ℕ) (s : SourceState) → s.outcome ≡ GoesOn → Keeps n bound s (file_start out board input) → GoesOnFor out board input n
+goes_for out board input n bound s going keeps j t few steps =
     let k = keeps.0 in
     let u = keeps.1.0 in
     let long = keeps.1.1.0.least going in
     let ends : EndsAlike GoesOn s u = subst (λ (o : Outcome). EndsAlike o s u) going keeps.1.1.1.1 in
-    let rest = steps_between one j k (file_start out board input) t u (omega (arith, few, long)) steps keeps.1.1.1.0 in
-    goes_at t.outcome (k - j) t u refl rest ends.0
+    going_before j k (file_start out board input) t u (omega (arith, few, long)) steps keeps.1.1.1.0 ends.0
 
-pub kept_goes_on : OneInstruction → KeptGoesOn
-kept_goes_on one file out board g input n s keeps graph bytes steps going =
-    goes_for one out board input n ((n + 1) * most_steps board) s going (keeps g input n s graph bytes steps)
+pub kept_goes_on : KeptGoesOn
+kept_goes_on file out board g input n s keeps graph bytes steps going =
+    goes_for out board input n ((n + 1) * most_steps board) s going (keeps g input n s graph bytes steps)
 
-pub kept_runs_go_on : OneInstruction → KeptRunsGoOn
-kept_runs_go_on one file out board g input n s keeps graph bytes steps going =
-    goes_for one out board input n ((n + 1) * most_steps board) s going (keeps g input n s graph bytes steps)
+pub kept_runs_go_on : KeptRunsGoOn
+kept_runs_go_on file out board g input n s keeps graph bytes steps going =
+    goes_for out board input n ((n + 1) * most_steps board) s going (keeps g input n s graph bytes steps)
