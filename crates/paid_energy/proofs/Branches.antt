@@ -8,7 +8,6 @@ use Rattle.rv32im.specs.Table.{Means, MeansNothing}
 use Rattle.rv32im.specs.declared.instructions.BranchKind.{BranchKind}
 use Rattle.rv32im.specs.declared.instructions.Instr.{Instr}
 use Rattle.rv32im.specs.declared.instructions.Instr.TheVariants as instr
-use Rattle.elf_reader.specs.File.{PlainView, view_in}
 use Rattle.board_config.specs.declared.board.Board.{Board}
 use Rattle.flat_machine.specs.State.{State}
 use Rattle.loaded_file.specs.Code.{image_word}
@@ -24,26 +23,24 @@ use Rattle.code_blocks.specs.declared.ends.End.TheVariants as ends
 use Rattle.block_splitter.specs.declared.unit_kind.UnitKind.{UnitKind}
 use Rattle.block_splitter.specs.declared.unit_kind.UnitKind.TheVariants.{Plain, Upper}
 use Rattle.block_splitter.specs.Forms.{Body, body_of, body_at, unit_in, is_site, straight_kind, branch_kind, tail_kind, indirect_kind, last_kind, kind_of}
+use Rattle.result_laws.proofs.Setting.{setting}
 use Rattle.result_laws.proofs.Ends.{EndsSo}
 use Rattle.result_laws.proofs.CopyUnits.{block_at, unit_of_block, last_test}
 use Rattle.cell_values.specs.Comparisons.{compare}
 use Rattle.cell_values.proofs.Branches.{comparisons_stand}
 use Rattle.object_machine.specs.declared.events.Outcome.TheVariants.{GoesOn}
 use Rattle.object_machine.specs.Flow.{branches}
-use Rattle.object_machine.specs.Program.{Program}
 use Rattle.object_machine.specs.State.{SourceState, value, faulted}
 use Rattle.object_machine.specs.Step.{Reads, next_state}
 use Rattle.object_machine.specs.Paired.{at_start}
-use Rattle.simulation.specs.Setups.{Setup}
 use Rattle.simulation.proofs.OneUnit.{Before}
 use Rattle.simulation.proofs.Resets.{all_made}
 use Rattle.simulation.proofs.Steps.{Operand, reads_on, first_read, second_read, next_acts}
-use Rattle.result_laws.specs.HomeLaws.{unnamed_in}
-use Rattle.result_laws.specs.LiveUnits.{code_unit, StandsThere, live_at}
+use Rattle.result_laws.specs.LiveUnits.{code_unit, StandsThere}
 use Rattle.result_laws.proofs.CodeUnits.{inside}
 use Rattle.result_laws.proofs.LiveUnits.{liveness_keeps}
 use Rattle.result_laws.specs.ChosenPlacement.{ChosenPlacement}
-use Rattle.result_laws.specs.PlacedLaws.{IsPlacedResult, setup_of}
+use Rattle.result_laws.specs.PlacedLaws.{IsPlacedResult}
 use Rattle.result_laws.specs.Matching.{Match}
 use Rattle.result_laws.proofs.PlacedChosen.{sound}
 use Rattle.result_laws.proofs.UnitEvents.{one_reading}
@@ -77,17 +74,7 @@ jumped s n true a is going = ap (λ (x : SourceState). x.pc) is
 jumped s n false a is going = absurd (cc (sym (ap (λ (x : SourceState). x.outcome) is) ∙ going))
 
 module _ (file out : List ℕ) (board : Board) (g : Graph) (c : Code) (pl : ChosenPlacement) (result : IsPlacedResult file out board g c pl) (s : SourceState) (t : State) (match : Match file out board g c pl result.view.plan s t) where
-  abbrev v : PlainView
-  v = view_in file
-
-  abbrev p : Program
-  p = unnamed_in file board g
-
-  abbrev l : Setup
-  l = setup_of file out board g pl
-
-  abbrev live : ℕ → ℕ → Type 0
-  live = live_at c
+  open (setting file out board g c pl result) use {v, p, l, live}
 
   -- both machines are before the unit
   pub before : Before p l live match.region s at_start t

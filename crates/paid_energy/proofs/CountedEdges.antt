@@ -1,21 +1,15 @@
 -- From the counted unit of one transition to that of the next: control comes to a copied block by an entry, unless its call is
 -- inward.
-use Rattle.std.proofs.Common.{◌≡◌, ◌∙◌, ◌⊎◌, inl, inr, ℕ, suc, ◌<◌, Bool, true, false, not, ◌&&◌, ◌||◌, List, length, Option, Some, refl, sym, ap, subst, arith}
-use Rattle.std.specs.Prelude.{Contains, slice_index_or, ◌==◌}
-use Rattle.std.specs.List.{list_any}
+use Rattle.std.proofs.Common.{◌≡◌, ◌∙◌, ◌⊎◌, inl, inr, ℕ, suc, ◌<◌, Bool, true, false, not, ◌&&◌, List, length, Option, Some, refl, sym, ap, subst, arith}
+use Rattle.std.specs.Prelude.{Contains}
 use Rattle.std.proofs.lemmas.Bool.{both_ways}
-use Rattle.std.proofs.lemmas.Bool.Decides.{nat_tests}
-use Rattle.std.proofs.lemmas.List.Folds.{list_any_at}
-use Rattle.list_checks.specs.Tests.{any_below}
 use Rattle.list_checks.proofs.TestLemmas.{any_at}
 use Rattle.list_checks.proofs.SortedLemmas.{counted}
 use Rattle.board_config.specs.declared.board.Board.{Board}
 use Rattle.object_graph.specs.declared.parts.Graph.{Graph}
 use Rattle.code_blocks.specs.Early.{has}
-use Rattle.code_blocks.specs.Leaders.{is_function_at, makes_address, pair_comes_back, link_comes_back, is_leader, is_indirect}
-use Rattle.code_blocks.specs.Words.{any_code_word}
-use Rattle.code_blocks.proofs.LeaderLemmas.{leader_is_code, left_passes, right_passes, both_pass}
-use Rattle.loaded_file.specs.Code.{is_code_word}
+use Rattle.code_blocks.specs.Leaders.{is_leader}
+use Rattle.code_blocks.proofs.LeaderLemmas.{left_passes, right_passes, both_pass}
 use Rattle.code_blocks.proofs.EntryLemmas.{entry_leads}
 use Rattle.code_blocks.specs.Edges.{successors}
 use Rattle.code_blocks.specs.Numbers.{starts_of, start_at, end_at}
@@ -31,23 +25,24 @@ use Rattle.block_splitter.specs.Pieces.{is_entry}
 use Rattle.profile_runner.specs.Standing.{number_of, begins, block_of}
 use Rattle.profile_runner.specs.Transition.{Transition, transition_at}
 use Rattle.profile_runner.proofs.FindLemmas.{block_found}
-use Rattle.energy_model.specs.Energy.{Scene, Taken, piece_of, is_checked, may_stay, comes_from_outside}
+use Rattle.energy_model.specs.Energy.{is_checked, may_stay, comes_from_outside}
 use Rattle.paid_energy.specs.Inward.{calls, is_within, leads_inward, inward_calls}
 use Rattle.result_laws.proofs.Entries.{entry_indirect, successor_found}
 use Rattle.paid_energy.specs.Counted.{IsCountedAt}
 use Rattle.result_laws.specs.LiveUnits.{StandsThere, ComesNext, UnitsStand}
 use Rattle.result_laws.specs.HomeLaws.{unnamed_in}
-use Rattle.elf_reader.specs.File.{PlainView, view_in}
+use Rattle.elf_reader.specs.File.{view_in}
 use Rattle.result_laws.proofs.CodeUnits.{units_stand}
 use Rattle.result_laws.specs.ChosenPlacement.{ChosenPlacement}
 use Rattle.result_laws.specs.ChosenPlacement.{piece_of as placed_piece}
 use Rattle.result_laws.specs.PlacedView.{is_served, IsUncopied}
 use Rattle.result_laws.specs.PlacedLaws.{IsPlacedResult}
-use Rattle.paid_energy.specs.WalkCosts.{placed_scene, placed_names, HasRegionsOfSide}
+use Rattle.paid_energy.specs.WalkCosts.{HasRegionsOfSide}
 use Rattle.paid_energy.proofs.CountedForms.{ComesHome, entry_served, border_served, begun_first, begun_start, first_begun, block_below}
 use Rattle.paid_energy.proofs.CountedForms as forms
 use Rattle.paid_energy.proofs.KindEnds.{body_ends}
 use Rattle.paid_energy.proofs.Pieces.{IsPieceOf, piece_there, piece_is}
+use Rattle.paid_energy.proofs.PlacedScene.{scene_in, step_in}
 
 -- where a block that leads to another isn't left so that control stays in a piece, it ends in a call
 leading_calls : (e : End) (a : ℕ) → may_stay e ≡ false → Contains (successors e) a → calls e ≡ true
@@ -71,14 +66,7 @@ along c _ _ _ _ (direct b k d last leads) = inr (last, (refl, inl leads))
 along c _ _ _ _ (indirect b k d last leads) = inr (last, (refl, inr leads))
 
 module _ (file out : List ℕ) (board : Board) (g : Graph) (c : Code) (pl : ChosenPlacement) (result : IsPlacedResult file out board g c pl) (side : HasRegionsOfSide pl) where
-  abbrev w : Scene
-  w = placed_scene board g c pl
-
-  abbrev taken : Taken
-  taken = placed_names board pl
-
-  abbrev named : ℕ → Option BlockRange
-  named b = piece_of taken.names b
+  open (scene_in board g c pl) use {w, taken, named}
 
   units : UnitsStand (view_in file) (unnamed_in file board g) c
   units = units_stand file board g c result.accepted result.code
@@ -123,14 +111,7 @@ module _ (file out : List ℕ) (board : Board) (g : Graph) (c : Code) (pl : Chos
         }
 
   module _ (ts : List Transition) (j : ℕ) (below : j < length ts) (here : IsCountedAt c pl.regions pl.borders ts j) (next : IsCountedAt c pl.regions pl.borders ts (suc j)) (u v : ℕ) (at : (transition_at ts j).at ≡ u) (next_at : (transition_at ts (suc j)).at ≡ v) (comes : ComesNext c (block_of (starts_of c) ts j) here.unit v) (goes_on : (transition_at ts j).goes_on ≡ true) (goes : (transition_at ts j).next ≡ v) (none : inward_calls w c taken ts ≡ 0) where
-    abbrev b : ℕ
-    b = block_of (starts_of c) ts j
-
-    abbrev d : ℕ
-    d = block_of (starts_of c) ts (suc j)
-
-    abbrev begun : Bool
-    begun = begins (starts_of c) ts (suc j)
+    open (step_in c ts j) use {b, d, begun}
 
     abbrev Comes : Type 0
     Comes = ComesHome file out board g c pl result side ts (suc j) next v next_at

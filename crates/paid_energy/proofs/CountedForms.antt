@@ -8,7 +8,6 @@ use Rattle.std.proofs.lemmas.Bool.Decides.{nat_tests}
 use Rattle.std.proofs.lemmas.List.Elements.{All-contains}
 use Rattle.std.proofs.lemmas.List.Folds.{list_any_at}
 use Rattle.list_checks.proofs.TestLemmas.{either, neither, both, any_at}
-use Rattle.elf_reader.specs.File.{PlainView, view_in}
 use Rattle.board_config.specs.declared.board.Board.{Board}
 use Rattle.flat_machine.specs.declared.events.FlatEvent.{FlatEvent}
 use Rattle.object_graph.specs.Sites.{in_range}
@@ -26,13 +25,13 @@ use Rattle.block_splitter.specs.Pieces.{is_entry}
 use Rattle.profile_runner.specs.Standing.{begins, block_of, current}
 use Rattle.profile_runner.specs.Transition.{Transition, transition_at}
 use Rattle.profile_runner.proofs.FindLemmas.{block_found}
-use Rattle.energy_model.specs.Energy.{Scene, Taken, piece_of, is_checked, unit_number, comes_from_outside}
+use Rattle.energy_model.specs.Energy.{is_checked, unit_number, comes_from_outside}
 use Rattle.paid_energy.specs.Counted.{IsCountedAt}
 use Rattle.patch_code.specs.Serving.{ServingStub}
-use Rattle.patch_code.specs.Overlay.{OverlayPlan}
 use Rattle.patch_code.specs.Served.{body_at as stub_body}
 use Rattle.result_laws.specs.HomeLaws.{unnamed_in}
 use Rattle.result_laws.specs.LiveUnits.{StandsThere, UnitsStand}
+use Rattle.result_laws.proofs.Setting.{setting}
 use Rattle.result_laws.proofs.CodeUnits.{units_stand, block_of as leader_block}
 use Rattle.result_laws.proofs.Lists.{element_found}
 use Rattle.result_laws.proofs.Loaded.{IsKept}
@@ -45,8 +44,9 @@ use Rattle.result_laws.specs.Walks.{leaving_fetched, BlockEntered, Bare, ByStub,
 use Rattle.result_laws.proofs.Apart.{home_kept, body_in_patch, jump_in_patch, copy_in_spm, in_spm}
 use Rattle.result_laws.proofs.StubWords.{border}
 use Rattle.paid_energy.specs.CountedWalks.{StandsAsCounted, IsCountedUnit, has_way, enters_by_stub, arrives_by_stub}
-use Rattle.paid_energy.specs.WalkCosts.{placed_scene, placed_names, HasRegionsOfSide}
+use Rattle.paid_energy.specs.WalkCosts.{HasRegionsOfSide}
 use Rattle.paid_energy.proofs.Pieces.{piece_is, none_there, none_is}
+use Rattle.paid_energy.proofs.PlacedScene.{scene_in}
 
 all_pass : (a b c : Bool) → a ≡ true → b ≡ true → c ≡ true → a && (b && c) ≡ true
 all_pass true true c a_is b_is c_is = c_is
@@ -64,20 +64,8 @@ middle_fails true false c middle = refl
 middle_fails true true c middle = absurd (cc (middle refl))
 
 module _ (file out : List ℕ) (board : Board) (g : Graph) (c : Code) (pl : ChosenPlacement) (result : IsPlacedResult file out board g c pl) (side : HasRegionsOfSide pl) where
-  abbrev v : PlainView
-  v = view_in file
-
-  abbrev plan : OverlayPlan
-  plan = result.view.plan
-
-  abbrev w : Scene
-  w = placed_scene board g c pl
-
-  abbrev taken : Taken
-  taken = placed_names board pl
-
-  abbrev named : ℕ → Option BlockRange
-  named b = piece_of taken.names b
+  open (setting file out board g c pl result) use {v, plan}
+  open (scene_in board g c pl) use {w, taken, named}
 
   units : UnitsStand v (unnamed_in file board g) c
   units = units_stand file board g c result.accepted result.code

@@ -3,7 +3,6 @@ use Rattle.std.proofs.Common.{◌≡◌, ◌∙◌, ◌⊎◌, inl, inr, ℕ, su
 use Rattle.std.specs.Prelude.{Contains, is_some, ◌||◌}
 use Rattle.std.proofs.lemmas.Bool.{both_ways}
 use Rattle.rv32im.specs.Acts.{Registers}
-use Rattle.elf_reader.specs.File.{PlainView, view_in}
 use Rattle.board_config.specs.declared.board.Board.{Board}
 use Rattle.flat_machine.specs.declared.events.FlatEvent.{FlatEvent}
 use Rattle.flat_machine.specs.Lines.{words_from}
@@ -23,16 +22,14 @@ use Rattle.block_splitter.specs.Copies.{Copy, is_inside, kind_in, place_of, addr
 use Rattle.block_splitter.proofs.LookupLemmas.{inside_at}
 use Rattle.result_laws.specs.Kinds.{takes}
 use Rattle.result_laws.specs.CopyLaws.{falls_to, place_behind}
+use Rattle.result_laws.proofs.Setting.{setting}
 use Rattle.result_laws.proofs.CopiedUnits.{held_below}
-use Rattle.object_machine.specs.Program.{Program}
 use Rattle.patch_code.specs.Serving.{ServingStub}
-use Rattle.patch_code.specs.Overlay.{OverlayPlan}
 use Rattle.patch_code.specs.Served.{body_at as stub_body}
-use Rattle.profile_runner.specs.Standing.{begins, block_of, current}
+use Rattle.profile_runner.specs.Standing.{block_of, current}
 use Rattle.profile_runner.specs.Transition.{Transition, transition_at}
-use Rattle.energy_model.specs.Energy.{Scene, Taken, piece_of, is_checked, may_stay, comes_from_outside}
+use Rattle.energy_model.specs.Energy.{is_checked, may_stay, comes_from_outside}
 use Rattle.paid_energy.specs.Counted.{IsCountedAt}
-use Rattle.result_laws.specs.HomeLaws.{unnamed_in}
 use Rattle.result_laws.specs.LiveUnits.{StandsThere, ComesNext, UnitsStand}
 use Rattle.result_laws.proofs.CodeUnits.{units_stand}
 use Rattle.result_laws.specs.Entries.{RunsIn}
@@ -54,6 +51,7 @@ use Rattle.paid_energy.proofs.CountedForms.{ComesHome, Came, IsHome, home_came, 
 use Rattle.paid_energy.proofs.CountedForms as forms
 use Rattle.paid_energy.proofs.KindEnds.{last_passes, earlier_passes, body_ends}
 use Rattle.paid_energy.proofs.Pieces.{IsPieceOf, piece_there, piece_is, one_piece}
+use Rattle.paid_energy.proofs.PlacedScene.{scene_in, step_in}
 
 -- ---- which words lead home
 
@@ -96,23 +94,8 @@ two_falls true false at size last_is falls_is same = cc
 two_falls false falls at size last_is falls_is same = cc
 
 module _ (file out : List ℕ) (board : Board) (g : Graph) (c : Code) (pl : ChosenPlacement) (result : IsPlacedResult file out board g c pl) (side : HasRegionsOfSide pl) (ts : List Transition) (none : inward_calls (placed_scene board g c pl) c (placed_names board pl) ts ≡ 0) where
-  abbrev v : PlainView
-  v = view_in file
-
-  abbrev p : Program
-  p = unnamed_in file board g
-
-  abbrev plan : OverlayPlan
-  plan = result.view.plan
-
-  abbrev w : Scene
-  w = placed_scene board g c pl
-
-  abbrev taken : Taken
-  taken = placed_names board pl
-
-  abbrev named : ℕ → Option BlockRange
-  named b = piece_of taken.names b
+  open (setting file out board g c pl result) use {v, p, plan}
+  open (scene_in board g c pl) use {w, taken, named}
 
   abbrev now : ℕ → ℕ
   now i = current (starts_of c) pl.regions ts i
@@ -123,14 +106,7 @@ module _ (file out : List ℕ) (board : Board) (g : Graph) (c : Code) (pl : Chos
   -- ---- from one counted unit to the next
 
   module _ (j : ℕ) (below : j < length ts) (here : IsCountedAt c pl.regions pl.borders ts j) (next : IsCountedAt c pl.regions pl.borders ts (suc j)) (u a : ℕ) (at : (transition_at ts j).at ≡ u) (next_at : (transition_at ts (suc j)).at ≡ a) (comes : ComesNext c (block_of (starts_of c) ts j) here.unit a) (goes_on : (transition_at ts j).goes_on ≡ true) (goes : (transition_at ts j).next ≡ a) (r : ℕ) (few : r ≤ pl.count) (region : r ≡ now (suc j)) where
-    abbrev b : ℕ
-    b = block_of (starts_of c) ts j
-
-    abbrev d : ℕ
-    d = block_of (starts_of c) ts (suc j)
-
-    abbrev begun : Bool
-    begun = begins (starts_of c) ts (suc j)
+    open (step_in c ts j) use {b, d, begun}
 
     abbrev Comes : Type 0
     Comes = ComesHome file out board g c pl result side ts (suc j) next a next_at

@@ -20,7 +20,6 @@ use Rattle.object_machine.specs.State.{SourceState}
 use Rattle.object_machine.specs.Step.{Reads, next_state}
 use Rattle.patch_code.specs.StubLaws.{started}
 use Rattle.patch_code.specs.Start.{start_run}
-use Rattle.patch_code.specs.Overlay.{OverlayPlan}
 use Rattle.profile_runner.specs.Standing.{block_of, current}
 use Rattle.profile_runner.specs.Transition.{Transition, transition_at, is_going}
 use Rattle.profile_runner.specs.Transitions.{TransitionsFrom, FirstOf, Transitions, transition_of}
@@ -28,8 +27,9 @@ use Rattle.energy_model.proofs.StepLemmas.{first_transition}
 use Rattle.paid_energy.specs.Counted.{IsCountedAt}
 use Rattle.paid_energy.proofs.Counted.{regions_are_counted}
 use Rattle.simulation.proofs.Unnamed.{next_same}
-use Rattle.result_laws.specs.HomeLaws.{program_in, unnamed_in, source_start, file_start}
+use Rattle.result_laws.specs.HomeLaws.{program_in, source_start, file_start}
 use Rattle.result_laws.specs.LiveUnits.{StandsThere, ComesNext}
+use Rattle.result_laws.proofs.Setting.{setting}
 use Rattle.result_laws.proofs.LiveUnits.{steps_lead_on}
 use Rattle.result_laws.specs.ChosenPlacement.{ChosenPlacement}
 use Rattle.result_laws.specs.PlacedView.{IsUncopied, start_plan}
@@ -62,14 +62,7 @@ some_from (suc n) p u s ts going ended transitions =
     omega (arith, count)
 
 module _ (file out : List ℕ) (board : Board) (g : Graph) (c : Code) (pl : ChosenPlacement) (result : IsPlacedResult file out board g c pl) (side : HasRegionsOfSide pl) (ts : List Transition) (none : inward_calls (placed_scene board g c pl) c (placed_names board pl) ts ≡ 0) (input : List ℕ) (count : ℕ) (last : SourceState) (run : Transitions (program_in file board g) count (source_start file board g input) ts last) (ended : last.outcome ≡ GoesOn → ⊥) where
-  abbrev p : Program
-  p = program_in file board g
-
-  abbrev q : Program
-  q = unnamed_in file board g
-
-  abbrev plan : OverlayPlan
-  plan = result.view.plan
+  open (setting file out board g c pl result) use {p as q, named as p, plan}
 
   abbrev now : ℕ → ℕ
   now i = current (starts_of c) pl.regions ts i

@@ -18,11 +18,11 @@ use Rattle.object_machine.specs.Paired.{Origins, at_start, origins_after, is_pai
 use Rattle.simulation.specs.Setups.{Setup}
 use Rattle.simulation.specs.Made.{AreMade}
 use Rattle.simulation.specs.Relation.{Alike, After, Tells}
-use Rattle.simulation.specs.Rules.{LiveRules, all_live}
+use Rattle.simulation.specs.Rules.{all_live}
 use Rattle.simulation.specs.Laws.{at_home, IsUnit, OfBlock, ReachedBy, Behind}
 use Rattle.simulation.specs.Forms.{WordsAt, InWords}
 use Rattle.simulation.specs.Folds.{Folds, KeepsTold}
-use Rattle.simulation.proofs.AtHome.{made_at_start}
+use Rattle.simulation.proofs.AtHome.{all_live_rules, made_at_start}
 use Rattle.simulation.proofs.AnyForms.{form_leads, home_words}
 use Rattle.simulation.proofs.MadeSteps.{StayMade, next_made}
 use Rattle.simulation.proofs.OneUnit.{Before}
@@ -35,14 +35,6 @@ use Rattle.result_laws.proofs.Fetches.{WordsFetch}
 use Rattle.result_laws.proofs.Walking.{fine_told}
 use Rattle.result_laws.proofs.UnitEvents as events
 use Rattle.paid_energy.specs.HomeWalks.{home_fetched, HomeUnitRuns, HomeWalks, NoSteps, Ended, Step, PairedRunsWalkHome}
-
-all_live_rules : (p : Program) → LiveRules p all_live
-all_live_rules p =
-    record {
-      uses = λ u k i single reads has. tt;
-      keeps = λ s i k going single reads next lives other. tt;
-      passes = λ s read k going pair next lives other. tt;
-    }
 
 module _ (file : List ℕ) (board : Board) (g : Graph) (accepted : IsAccepted file board g) where
   abbrev p : Program

@@ -84,20 +84,17 @@ body_ends (x ∷ xs) (suc b) = body_ends xs b
 
 -- ---- where control falls
 
+falls_on : (e : End) (next : ℕ) → falls_to e ≡ Some next → (may_stay e ≡ true) × (falls_behind false e ≡ true)
+falls_on (ends.Fall behind) next is = (refl, refl)
+falls_on (ends.Branch target behind) next is = (refl, refl)
+falls_on (ends.Jump target) next is = absurd (cc)
+falls_on (ends.Call target back link) next is = absurd (cc)
+falls_on (ends.Tail target) next is = absurd (cc)
+falls_on (ends.Indirect back) next is = absurd (cc)
+falls_on ends.Stop next is = absurd (cc)
+
 pub falls_stays : (e : End) (next : ℕ) → falls_to e ≡ Some next → may_stay e ≡ true
-falls_stays (ends.Fall behind) next is = refl
-falls_stays (ends.Branch target behind) next is = refl
-falls_stays (ends.Jump target) next is = cc
-falls_stays (ends.Call target back link) next is = cc
-falls_stays (ends.Tail target) next is = cc
-falls_stays (ends.Indirect back) next is = cc
-falls_stays ends.Stop next is = cc
+falls_stays e next is = (falls_on e next is).0
 
 pub falls_untaken : (e : End) (next : ℕ) → falls_to e ≡ Some next → falls_behind false e ≡ true
-falls_untaken (ends.Fall behind) next is = refl
-falls_untaken (ends.Branch target behind) next is = refl
-falls_untaken (ends.Jump target) next is = cc
-falls_untaken (ends.Call target back link) next is = cc
-falls_untaken (ends.Tail target) next is = cc
-falls_untaken (ends.Indirect back) next is = cc
-falls_untaken ends.Stop next is = cc
+falls_untaken e next is = (falls_on e next is).1

@@ -7,7 +7,6 @@ use Rattle.rv32im.specs.Table.{Means}
 use Rattle.rv32im.specs.declared.instructions.Instr.{Instr}
 use Rattle.rv32im.specs.declared.instructions.Instr.TheVariants as instr
 use Rattle.rv32im.proofs.Meaning.{same_instruction}
-use Rattle.elf_reader.specs.File.{PlainView, view_in}
 use Rattle.board_config.specs.declared.board.Board.{Board}
 use Rattle.flat_machine.specs.declared.events.FlatEvent.{FlatEvent}
 use Rattle.flat_machine.specs.declared.events.FlatOutcome.{FlatOutcome}
@@ -28,6 +27,7 @@ use Rattle.block_splitter.specs.Copies.{is_inside, kind_in, place_of, address_of
 use Rattle.result_laws.specs.Copied.{unit_words}
 use Rattle.result_laws.specs.Kinds.{takes}
 use Rattle.result_laws.specs.CopyLaws.{unit_at}
+use Rattle.result_laws.proofs.Setting.{setting}
 use Rattle.result_laws.proofs.CopiedUnits.{held_below}
 use Rattle.result_laws.proofs.Counts.{runs_count}
 use Rattle.result_laws.proofs.FirstUnits.{Halts}
@@ -37,11 +37,10 @@ use Rattle.object_machine.specs.declared.events.Outcome.TheVariants.{GoesOn, Exi
 use Rattle.object_machine.specs.Program.{Program}
 use Rattle.object_machine.specs.State.{SourceState}
 use Rattle.object_machine.specs.Step.{Reads, next_state}
-use Rattle.patch_code.specs.Overlay.{OverlayPlan}
 use Rattle.patch_code.specs.Served.{body_at as stub_body}
 use Rattle.profile_runner.specs.Transition.{Transition}
 use Rattle.profile_runner.specs.Transitions.{TransitionsFrom, FirstOf, Transitions}
-use Rattle.result_laws.specs.HomeLaws.{program_in, unnamed_in}
+use Rattle.result_laws.specs.HomeLaws.{program_in}
 use Rattle.result_laws.specs.ChosenPlacement.{ChosenPlacement, copy_in}
 use Rattle.result_laws.specs.ChosenPlacement.{piece_of as placed_piece}
 use Rattle.result_laws.specs.PlacedLaws.{IsPlacedResult}
@@ -140,14 +139,7 @@ ends_here t es going short =
 -- ---- walks of placed results
 
 module _ (file out : List ℕ) (board : Board) (g : Graph) (c : Code) (pl : ChosenPlacement) (result : IsPlacedResult file out board g c pl) where
-  abbrev v : PlainView
-  v = view_in file
-
-  abbrev q : Program
-  q = unnamed_in file board g
-
-  abbrev plan : OverlayPlan
-  plan = result.view.plan
+  open (setting file out board g c pl result) use {v, p as q, plan}
 
   -- an environment call is one word at each form
   last_word : (regs : Registers) (u a : ℕ) (stands : StandsAs c g pl plan u a) → is_call_pair v u ≡ false → Means (image_word v u) instr.Ecall → length (unit_fetched q c g pl plan regs u a stands) ≡ 1

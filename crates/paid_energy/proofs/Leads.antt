@@ -8,7 +8,6 @@ use Rattle.rv32im.specs.Acts.{Registers}
 use Rattle.rv32im.specs.declared.instructions.BranchKind.{BranchKind}
 use Rattle.rv32im.specs.declared.instructions.Instr.{Instr}
 use Rattle.rv32im.proofs.Meaning.{same_instruction}
-use Rattle.elf_reader.specs.File.{PlainView, view_in}
 use Rattle.board_config.specs.declared.board.Board.{Board}
 use Rattle.flat_machine.specs.declared.events.FlatEvent.{FlatEvent}
 use Rattle.flat_machine.specs.Lines.{words_from}
@@ -27,18 +26,16 @@ use Rattle.block_splitter.specs.Copies.{Copy, is_inside, kind_in, words_before, 
 use Rattle.result_laws.specs.Copied.{Lands, unit_words}
 use Rattle.result_laws.specs.Kinds.{takes}
 use Rattle.result_laws.specs.CopyLaws.{falls_to, place_behind, is_branch_kind}
+use Rattle.result_laws.proofs.Setting.{setting}
 use Rattle.result_laws.proofs.Falls.{leads_inside}
 use Rattle.result_laws.proofs.Places.{units_follow}
 use Rattle.patch_code.specs.Serving.{ServingStub}
-use Rattle.patch_code.specs.Overlay.{OverlayPlan}
 use Rattle.patch_code.specs.Served.{body_at as stub_body}
 use Rattle.object_machine.specs.declared.events.Outcome.{Outcome}
 use Rattle.object_machine.specs.declared.events.Outcome.TheVariants.{GoesOn}
-use Rattle.object_machine.specs.Program.{Program}
 use Rattle.object_machine.specs.State.{SourceState}
 use Rattle.object_machine.specs.Step.{Reads, next_state}
 use Rattle.object_machine.specs.Paired.{at_start, origins_after, is_paired_step}
-use Rattle.simulation.specs.Setups.{Setup}
 use Rattle.simulation.specs.Relation.{After, Tells, LeadsTold}
 use Rattle.simulation.specs.Forms.{IsAt, IsRowKind}
 use Rattle.simulation.proofs.AnyForms.{form_leads}
@@ -47,13 +44,13 @@ use Rattle.simulation.proofs.Jumps.{run_leads}
 use Rattle.simulation.proofs.Steps.{is_at}
 use Rattle.simulation.proofs.Unnamed.{paired}
 use Rattle.energy_model.specs.Energy.{may_stay}
-use Rattle.result_laws.specs.HomeLaws.{program_in, unnamed_in}
-use Rattle.result_laws.specs.LiveUnits.{StandsThere, live_at}
+use Rattle.result_laws.specs.HomeLaws.{program_in}
+use Rattle.result_laws.specs.LiveUnits.{StandsThere}
 use Rattle.result_laws.proofs.CodeUnits.{units_stand}
 use Rattle.result_laws.specs.Entries.{RunsIn}
 use Rattle.result_laws.specs.ChosenPlacement.{ChosenPlacement, piece_of, copy_in}
 use Rattle.result_laws.specs.PlacedView.{IsUncopied, Serves}
-use Rattle.result_laws.specs.PlacedLaws.{IsPlacedResult, setup_of}
+use Rattle.result_laws.specs.PlacedLaws.{IsPlacedResult}
 use Rattle.result_laws.specs.PlacedForms.{StandsAs, AtHome, InCopy, InStub, MayRun}
 use Rattle.result_laws.specs.Walks.{address_in, unit_fetched, UnitRuns}
 use Rattle.result_laws.proofs.Blocks.{unit_low}
@@ -76,20 +73,7 @@ going_told o tells es is told = subst (λ x. Tells x tells es) is told
 -- ---- from a copy
 
 module _ (file out : List ℕ) (board : Board) (g : Graph) (c : Code) (pl : ChosenPlacement) (result : IsPlacedResult file out board g c pl) where
-  abbrev v : PlainView
-  v = view_in file
-
-  abbrev p : Program
-  p = unnamed_in file board g
-
-  abbrev l : Setup
-  l = setup_of file out board g pl
-
-  abbrev live : ℕ → ℕ → Type 0
-  live = live_at c
-
-  abbrev plan : OverlayPlan
-  plan = result.view.plan
+  open (setting file out board g c pl result) use {v, p, l, live, plan}
 
   module _ (r u n b k : ℕ) (inside : n < length pl.pieces) (held : holds_block b (piece_of pl n).range ≡ true) (stands : StandsThere c u b k) (may : RunsIn pl.regions b r) where
     abbrev cp : Copy

@@ -36,3 +36,4 @@ pub mod LastSteps
 pub mod SameScenes
 pub mod PaidRuns
 pub mod Counted
+pub mod PlacedScene

@@ -16,7 +16,7 @@ use Rattle.region_former.specs.declared.table.RegionTable.{RegionTable}
 use Rattle.block_splitter.specs.declared.block_range.BlockRange.{BlockRange}
 use Rattle.block_splitter.specs.declared.piece.Piece.{Piece}
 use Rattle.block_splitter.specs.Forms.{holds_block}
-use Rattle.block_splitter.specs.Pieces.{is_entry, range_of, is_range_of, IsPiece}
+use Rattle.block_splitter.specs.Pieces.{is_entry, range_of, is_range_of, IsPiece, ArePieces}
 use Rattle.placement_programme.specs.Bounds.{AscendWithin}
 use Rattle.placement_programme.specs.Plain.{PlainVar, PlainSide, PlainProgramme, PlainChoice}
 use Rattle.placement_programme.specs.Programme.{Fits, side_for}
@@ -27,7 +27,7 @@ use Rattle.placement_candidates.specs.Adding.{no_kept, kept_name}
 use Rattle.placement_candidates.specs.Whole.{names_of, taken_of as names_taken}
 use Rattle.result_laws.specs.Choices.{IsOfPiece, IsCandidateFor, IsVarFor, IsSideFor, IsChoiceFor}
 use Rattle.relink_core.proofs.BlockOrder.{collected_are}
-use Rattle.paid_energy.specs.Inward.{IsListed, ArePiecesOf, AreByBlock}
+use Rattle.paid_energy.specs.Inward.{is_within, IsListed, ArePiecesOf, AreByBlock}
 
 -- ---- entries
 
@@ -137,3 +137,8 @@ some_listed pieces names b (Some range) are same = are b range (sym same)
 
 pub same_table : (m n : ℕ) (names : List VarName) (xs ys : List (Option BlockRange)) → AreByBlock m names xs → m ≡ n → ys ≡ xs → AreByBlock n names ys
 same_table m n names xs ys are count same = subst (λ k. AreByBlock k names ys) count (subst (AreByBlock m names) (sym same) are)
+
+-- whether a block lies inside what is copied with another, as the code tells it
+pub within_taken : (c : Code) (g : Graph) (had pieces : List Piece) (here named : Option BlockRange) (b : ℕ) (told : Bool) → ((c : Code) (g : Graph) → ArePieces c g had → b < length c.blocks.items → told ≡ is_within c here b) → had ≡ pieces → ArePieces c g pieces → b < length c.blocks.items → here ≡ named → told ≡ is_within c named b
+within_taken c g had pieces here named b told tells had_is are below here_is =
+    tells c g (subst (ArePieces c g) (sym had_is) are) below ∙ ap (λ (o : Option BlockRange). is_within c o b) here_is

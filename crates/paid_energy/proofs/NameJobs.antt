@@ -11,16 +11,16 @@ use Rattle.code_blocks.specs.declared.parts.Code.{Code}
 use Rattle.placement_programme.specs.declared.variables.VarName.{VarName}
 use Rattle.placement_programme.specs.declared.variables.VarName.TheVariants.{StaticData, StaticCode, OverlayData, OverlayCode, KeptData}
 use Rattle.patch_code.specs.declared.job.CopyJob.{CopyJob}
-use Rattle.relocator.specs.declared.slots.Slot.{Slot}
 use Rattle.relocator.specs.Slots.{pair_of, is_code}
 use Rattle.relocator.specs.Placing.{puts}
 use Rattle.relocator.specs.Laws.{IsPresent, slot_at}
 use Rattle.relocator.proofs.WeightLemmas.{IsAmong}
-use Rattle.result_laws.specs.ChosenJobs.{Images, is_static, is_overlaid, is_kept, home_jobs, back_home, job_into, jobs_home, entering, leaving, code_number, start_jobs}
+use Rattle.result_laws.specs.ChosenJobs.{is_static, is_overlaid, is_kept, home_jobs, back_home, job_into, jobs_home, entering, leaving, code_number, start_jobs}
+use Rattle.result_laws.proofs.Setting.{setting}
 use Rattle.result_laws.proofs.JobChosen.{among}
 use Rattle.result_laws.proofs.ListLemmas.{job_at}
 use Rattle.energy_model.specs.Energy.{Scene, object_rounds, piece_rounds, into_price, back_price, start_job, enter_job, leave_job, kept_enter_job, kept_leave_job, comes_to_pair}
-use Rattle.result_laws.specs.ChosenPlacement.{ChosenPlacement, slots_in, images_in, piece_of, NamesRange}
+use Rattle.result_laws.specs.ChosenPlacement.{ChosenPlacement, piece_of, NamesRange}
 use Rattle.relink_core.specs.Names.{name_of_slot}
 use Rattle.result_laws.specs.PlacedLaws.{IsPlacedResult}
 use Rattle.result_laws.proofs.Standing.{laid}
@@ -52,11 +52,7 @@ if_not : (test : Bool) (x : ℕ) → test ≡ false → (if test then x else 0) 
 if_not test x is = ap (λ (b : Bool). if b then x else 0) is
 
 module _ (file out : List ℕ) (board : Board) (g : Graph) (c : Code) (pl : ChosenPlacement) (result : IsPlacedResult file out board g c pl) where
-  abbrev slots : List Slot
-  slots = slots_in board pl
-
-  abbrev images : Images
-  images = images_in pl
+  open (setting file out board g c pl result) use {slots, images}
 
   abbrev w : Scene
   w = placed_scene board g c pl

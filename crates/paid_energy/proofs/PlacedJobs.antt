@@ -1,6 +1,6 @@
 -- What the jobs of a result cost: those of the start stub and of switches, as their names are counted.
 use Rattle.std.proofs.Common.{◌≡◌, ◌∙◌, ◌⊎◌, inl, inr, ℕ, zero, suc, ◌+◌, ◌-◌, ◌*◌, ◌/◌, ◌%◌, ◌<◌, ◌≤◌, ◌==◌, Bool, true, false, ◌&&◌, if◌then◌else◌, List, [], ◌∷◌, length, slice_index_or, refl, sym, ap, subst, arith}
-use Rattle.elf_reader.specs.File.{PlainView, view_in}
+use Rattle.elf_reader.specs.File.{view_in}
 use Rattle.elf_reader.specs.Image.{image_of}
 use Rattle.board_config.specs.declared.board.Board.{Board}
 use Rattle.object_graph.specs.declared.parts.Graph.{Graph}
@@ -11,23 +11,23 @@ use Rattle.block_splitter.specs.Forms.{is_site, copy_words}
 use Rattle.patch_code.specs.declared.job.CopyJob.{CopyJob}
 use Rattle.patch_code.specs.Jobs.{unit_bytes, turns}
 use Rattle.patch_code.specs.Layout.{image_places}
-use Rattle.patch_code.specs.Overlay.{OverlayPlan, overlay_images_at}
+use Rattle.patch_code.specs.Overlay.{overlay_images_at}
 use Rattle.patch_code.proofs.Serves.{serving_aligned}
-use Rattle.relocator.specs.declared.slots.Slot.{Slot}
 use Rattle.relocator.specs.Placing.{puts}
 use Rattle.relocator.specs.Laws.{no_slot, slot_at}
 use Rattle.relocator.proofs.FitLemmas.{are_laid}
-use Rattle.result_laws.specs.ChosenJobs.{Images, into_slot, back_home, from_image, code_number}
+use Rattle.result_laws.specs.ChosenJobs.{into_slot, back_home, from_image, code_number}
 use Rattle.result_laws.specs.JobLaws.{HaveBytes, ReadsHome, ReadsImage, GoesIn, GoesHome}
 use Rattle.result_laws.specs.Memories.{IsOfCode}
 use Rattle.result_laws.specs.SwitchLaws.{CanStart}
+use Rattle.result_laws.proofs.Setting.{setting}
 use Rattle.result_laws.proofs.JobChosen.{grain_is, slot_ends}
 use Rattle.result_laws.proofs.Fitting.{object_in, object_home}
 use Rattle.result_laws.proofs.PatchHomes.{images_lie_so}
 use Rattle.result_laws.specs.SetupLaws.{IsOverlay}
 use Rattle.result_laws.proofs.PlanStanding.{starts}
 use Rattle.energy_model.specs.Energy.{object_rounds, piece_rounds, into_price, back_price}
-use Rattle.result_laws.specs.ChosenPlacement.{ChosenPlacement, slots_in, images_in, piece_of}
+use Rattle.result_laws.specs.ChosenPlacement.{ChosenPlacement, piece_of}
 use Rattle.result_laws.specs.PlacedLaws.{IsPlacedResult}
 use Rattle.result_laws.proofs.PlacedChosen.{piece_chosen, number_below, piece_image, is_overlay}
 use Rattle.result_laws.proofs.Standing.{laid}
@@ -75,17 +75,7 @@ image_even at (ws ∷ images) zero even = even
 image_even at (ws ∷ images) (suc n) even = image_even (at + 4 * length ws) images n (omega (arith, even))
 
 module _ (file out : List ℕ) (board : Board) (g : Graph) (c : Code) (pl : ChosenPlacement) (result : IsPlacedResult file out board g c pl) where
-  abbrev v : PlainView
-  v = view_in file
-
-  abbrev slots : List Slot
-  slots = slots_in board pl
-
-  abbrev images : Images
-  images = images_in pl
-
-  abbrev plan : OverlayPlan
-  plan = result.view.plan
+  open (setting file out board g c pl result) use {v, plan, slots, images}
 
   overlay : IsOverlay file board g pl.count pl.programme pl.choice images
   overlay = is_overlay file out board g c pl result

@@ -5,7 +5,6 @@ use Rattle.std.specs.Prelude.{All}
 use Rattle.std.specs.List.{list_any}
 use Rattle.std.proofs.lemmas.Bool.Decides.{nat_tests}
 use Rattle.std.proofs.lemmas.List.Elements.{All-head, All-tail}
-use Rattle.elf_reader.specs.File.{PlainView, view_in}
 use Rattle.board_config.specs.declared.board.Board.{Board}
 use Rattle.board_config.specs.declared.board.Range.{Range}
 use Rattle.flat_machine.specs.Mapping.{in_range}
@@ -20,11 +19,12 @@ use Rattle.relocator.specs.Placing.{puts}
 use Rattle.relocator.specs.Laws.{slot_at}
 use Rattle.relocator.proofs.WeightLemmas.{IsAmong}
 use Rattle.relocator.proofs.FitLemmas.{are_laid}
+use Rattle.result_laws.proofs.Setting.{setting}
 use Rattle.result_laws.proofs.JobChosen.{InScratchpad, where_is, among, object_inside}
 use Rattle.energy_model.specs.Energy.{brings, is_of_pair}
 use Rattle.energy_model.specs.Energy as energy
 use Rattle.result_laws.proofs.Ranges.{patch_off_spm}
-use Rattle.result_laws.specs.ChosenPlacement.{ChosenPlacement, slots_in, places_in}
+use Rattle.result_laws.specs.ChosenPlacement.{ChosenPlacement, places_in}
 use Rattle.relink_core.specs.Names.{name_of_slot}
 use Rattle.result_laws.specs.PlacedLaws.{IsPlacedResult}
 use Rattle.result_laws.proofs.Standing.{laid}
@@ -70,11 +70,7 @@ pub inside_range : (r : Range) (a : ℕ) → r.base ≤ a → a < r.base + r.siz
 inside_range r a from to = grind (arith, nat_tests, from, to)
 
 module _ (file out : List ℕ) (board : Board) (g : Graph) (c : Code) (pl : ChosenPlacement) (result : IsPlacedResult file out board g c pl) where
-  abbrev v : PlainView
-  v = view_in file
-
-  abbrev slots : List Slot
-  slots = slots_in board pl
+  open (setting file out board g c pl result) use {v, slots}
 
   -- ---- objects
 

@@ -6,7 +6,7 @@ use Rattle.rv32im.specs.Acts.{Registers}
 use Rattle.rv32im.specs.Table.{Means}
 use Rattle.rv32im.specs.declared.instructions.Instr.TheVariants as instr
 use Rattle.rv32im.proofs.Meaning.{same_instruction}
-use Rattle.elf_reader.specs.File.{PlainView, view_in}
+use Rattle.elf_reader.specs.File.{PlainView}
 use Rattle.loaded_file.specs.Code.{image_word}
 use Rattle.board_config.specs.declared.board.Board.{Board}
 use Rattle.flat_machine.specs.Lines.{words_from}
@@ -21,6 +21,7 @@ use Rattle.block_splitter.specs.Forms.{Body, body_at, unit_in, is_last, is_site,
 use Rattle.block_splitter.specs.Copies.{Copy, is_inside, kind_in, place_of, address_of}
 use Rattle.result_laws.specs.Kinds.{takes}
 use Rattle.result_laws.specs.Copied.{unit_words}
+use Rattle.result_laws.proofs.Setting.{setting}
 use Rattle.result_laws.proofs.CopiedUnits.{held_below}
 use Rattle.result_laws.proofs.Counts.{runs_count}
 use Rattle.result_laws.specs.CopyLaws.{IsCopyOf, falls_to, place_behind, is_branch_kind, unit_at}
@@ -28,7 +29,6 @@ use Rattle.result_laws.proofs.FirstUnits.{Halts}
 use Rattle.result_laws.proofs.KindFacts.{CallsBack, IsKindBy, FallsLast, kinds_so}
 use Rattle.result_laws.proofs.Places.{unit_fits, block_fits}
 use Rattle.relink_core.proofs.ServingMade.{displaced_count as displaced_length}
-use Rattle.patch_code.specs.Overlay.{OverlayPlan}
 use Rattle.patch_code.specs.Served.{body_at as stub_body}
 use Rattle.patch_code.specs.Serving.{ServingStub}
 use Rattle.energy_model.specs.Energy.{Scene, words_in_piece}
@@ -155,11 +155,7 @@ some_cost board true xs n f is = is
 some_cost board false xs n f is = omega arith
 
 module _ (file out : List ℕ) (board : Board) (g : Graph) (c : Code) (pl : ChosenPlacement) (result : IsPlacedResult file out board g c pl) where
-  abbrev v : PlainView
-  v = view_in file
-
-  abbrev plan : OverlayPlan
-  plan = result.view.plan
+  open (setting file out board g c pl result) use {v, plan}
 
   abbrev w : Scene
   w = placed_scene board g c pl

@@ -4,7 +4,6 @@ use Rattle.rv32im.specs.Acts.{Registers, load_width, store_width}
 use Rattle.rv32im.specs.Table.{Means}
 use Rattle.rv32im.specs.declared.instructions.Instr.{Instr}
 use Rattle.rv32im.specs.declared.instructions.Instr.TheVariants.{Load, Store, Ecall}
-use Rattle.elf_reader.specs.File.{PlainView, view_in}
 use Rattle.loaded_file.specs.Code.{image_word}
 use Rattle.board_config.specs.declared.board.Board.{Board}
 use Rattle.board_config.specs.declared.board.Prices.{Prices}
@@ -30,12 +29,10 @@ use Rattle.object_machine.specs.State.{SourceState, value}
 use Rattle.object_machine.specs.Step.{Reads, next_state, access_in, access_by, access_of}
 use Rattle.profile_runner.specs.Transition.{Transition, is_going, transition_at}
 use Rattle.profile_runner.specs.Transitions.{transition_of}
-use Rattle.energy_model.specs.Energy.{Scene, Taken, is_checked, block_in, block_at, unit_number, region_with, words_in_piece, words_at_home, form_words, fetch_price, words_price, is_fast_access, data_price, access_price}
+use Rattle.energy_model.specs.Energy.{is_checked, block_in, block_at, unit_number, region_with, words_in_piece, words_at_home, form_words, fetch_price, words_price, is_fast_access, data_price, access_price}
 use Rattle.energy_model.specs.Energy as energy
-use Rattle.patch_code.specs.Overlay.{OverlayPlan}
 use Rattle.simulation.specs.Unnamed.{unnamed}
 use Rattle.simulation.proofs.Unnamed.{next_same}
-use Rattle.result_laws.specs.HomeLaws.{program_in, unnamed_in}
 use Rattle.result_laws.specs.LiveUnits.{StandsThere}
 use Rattle.result_laws.specs.ChosenPlacement.{ChosenPlacement, places_in, piece_of}
 use Rattle.result_laws.specs.PlacedLaws.{IsPlacedResult}
@@ -45,7 +42,6 @@ use Rattle.paid_energy.specs.Costs.{run_cost}
 use Rattle.paid_energy.proofs.CostLemmas.{fetches_cost, accesses_cost, run_cost_parts}
 use Rattle.paid_energy.specs.Leading.{GoesAs}
 use Rattle.paid_energy.specs.CountedWalks.{StandsAsCounted, IsCountedUnit, leaving_of}
-use Rattle.paid_energy.specs.WalkCosts.{placed_scene, placed_names}
 use Rattle.paid_energy.proofs.AccessCosts.{is_quick, unit_cost}
 use Rattle.paid_energy.proofs.CodeFacts.{pair_reads, UnitFacts, unit_facts}
 use Rattle.paid_energy.proofs.Exits.{exits_call}
@@ -53,6 +49,8 @@ use Rattle.paid_energy.proofs.HomePrices.{IsSlow, code_slow, fixed_slow}
 use Rattle.paid_energy.proofs.HomePrices as home
 use Rattle.paid_energy.proofs.PlacedPrices.{object_fast}
 use Rattle.paid_energy.proofs.PlacedUnits.{copy_row, copy_last, stub_row, stub_last}
+use Rattle.result_laws.proofs.Setting.{setting}
+use Rattle.paid_energy.proofs.PlacedScene.{scene_in}
 
 -- ---- accesses don't look at names of sites
 
@@ -88,23 +86,8 @@ quick_is names r None = refl
 quick_is names r (Some a) = refl
 
 module _ (file out : List ℕ) (board : Board) (g : Graph) (c : Code) (pl : ChosenPlacement) (result : IsPlacedResult file out board g c pl) where
-  abbrev v : PlainView
-  v = view_in file
-
-  abbrev p : Program
-  p = program_in file board g
-
-  abbrev q : Program
-  q = unnamed_in file board g
-
-  abbrev plan : OverlayPlan
-  plan = result.view.plan
-
-  abbrev w : Scene
-  w = placed_scene board g c pl
-
-  abbrev taken : Taken
-  taken = placed_names board pl
+  open (setting file out board g c pl result) use {v, p as q, named as p, plan}
+  open (scene_in board g c pl) use {w, taken}
 
   abbrev prices : Prices
   prices = board.prices

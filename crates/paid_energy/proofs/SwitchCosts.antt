@@ -23,13 +23,12 @@ use Rattle.patch_code.specs.Checking.{saved_registers, saves_accesses, restores_
 use Rattle.patch_code.specs.Counts.{kept_unless, side_jobs}
 use Rattle.patch_code.proofs.Counts.{switch_runs_jobs_so}
 use Rattle.patch_code.specs.Start.{StartPlan, start_at as stub_start, start_bytes, start_run}
-use Rattle.patch_code.specs.Overlay.{OverlayPlan, switching, rest_bytes}
-use Rattle.relocator.specs.declared.slots.Slot.{Slot}
+use Rattle.patch_code.specs.Overlay.{switching, rest_bytes}
 use Rattle.relocator.specs.Laws.{slot_at}
 use Rattle.relocator.proofs.WeightLemmas.{IsAmong}
 use Rattle.result_laws.specs.ChosenJobs.{is_overlaid, is_kept, entering, leaving}
 use Rattle.energy_model.specs.Energy.{Scene, enter_job, leave_job, kept_enter_job, kept_leave_job, is_of_pair, comes_to_pair, fence_words, switch_words, switch_price, stub_energy, back_price, object_rounds}
-use Rattle.result_laws.specs.ChosenPlacement.{ChosenPlacement, slots_in, images_in}
+use Rattle.result_laws.specs.ChosenPlacement.{ChosenPlacement, images_in}
 use Rattle.result_laws.specs.PlacedLaws.{IsPlacedResult}
 use Rattle.result_laws.specs.Walks.{PlanRuns}
 use Rattle.paid_energy.specs.Costs.{fetch_cost, access_cost, run_cost}
@@ -44,6 +43,7 @@ use Rattle.paid_energy.proofs.PlacedPrices.{of_pair, inside_range, patch_slow}
 use Rattle.paid_energy.proofs.SlotJobs.{none_costs}
 use Rattle.paid_energy.proofs.Tests.{other_numbers}
 use Rattle.paid_energy.proofs.SwitchWords.{region_is, fence_is, switch_run}
+use Rattle.result_laws.proofs.Setting.{setting}
 
 -- ---- events in main memory
 
@@ -72,23 +72,23 @@ module _ (board : Board) where
   slow_write : (a : ℕ) → IsSlow board a → access_cost board (write_at a) ≡ board.prices.main_write
   slow_write a slow = ap (λ (b : Bool). if b then board.prices.spm_write else board.prices.main_write) slow
 
+  -- accesses to words one behind the other, each of which costs the same
+  each_cost : (access : ℕ → FlatAccess) (all : List ℕ → ℕ → List FlatAccess) (price : ℕ) → ((at : ℕ) → all [] at ≡ []) → ((x : ℕ) (xs : List ℕ) (at : ℕ) → all (x ∷ xs) at ≡ access at ∷ all xs (at + 4)) → ((a : ℕ) → IsSlow board a → access_cost board (access a) ≡ price) → (xs : List ℕ) (at : ℕ) → ((a : ℕ) → at ≤ a → a < at + 4 * length xs → IsSlow board a) → accesses_cost board (all xs at) ≡ length xs * price
+  each_cost access all price none some cost [] at slow =
+      let empty = ap (accesses_cost board) (none at) in omega (arith, empty)
+  each_cost access all price none some cost (x ∷ xs) at slow =
+      let parts = ap (accesses_cost board) (some x xs at) in
+      let first = cost at (slow at (omega arith) (omega arith)) in
+      let rest = each_cost access all price none some cost xs (at + 4) (λ a low high. slow a (omega (arith, low)) (omega (arith, high))) in
+      let more = sum_by-cons (access_cost board) (access at) (all xs (at + 4)) in
+      let whole : suc (length xs) * price ≡ price + length xs * price = grind arith in
+      omega (arith, parts, first, rest, more, whole)
+
   saves_cost : (xs : List ℕ) (at : ℕ) → ((a : ℕ) → at ≤ a → a < at + 4 * length xs → IsSlow board a) → accesses_cost board (saves_accesses xs at) ≡ length xs * board.prices.main_write
-  saves_cost [] at slow = omega arith
-  saves_cost (x ∷ xs) at slow =
-      let first = slow_write at (slow at (omega arith) (omega arith)) in
-      let rest = saves_cost xs (at + 4) (λ a low high. slow a (omega (arith, low)) (omega (arith, high))) in
-      let more = sum_by-cons (access_cost board) (write_at at) (saves_accesses xs (at + 4)) in
-      let whole : suc (length xs) * board.prices.main_write ≡ board.prices.main_write + length xs * board.prices.main_write = grind arith in
-      omega (arith, first, rest, more, whole)
+  saves_cost = each_cost write_at saves_accesses board.prices.main_write (λ at. refl) (λ x xs at. refl) slow_write
 
   restores_cost : (xs : List ℕ) (at : ℕ) → ((a : ℕ) → at ≤ a → a < at + 4 * length xs → IsSlow board a) → accesses_cost board (restores_accesses xs at) ≡ length xs * board.prices.main_read
-  restores_cost [] at slow = omega arith
-  restores_cost (x ∷ xs) at slow =
-      let first = slow_read at (slow at (omega arith) (omega arith)) in
-      let rest = restores_cost xs (at + 4) (λ a low high. slow a (omega (arith, low)) (omega (arith, high))) in
-      let more = sum_by-cons (access_cost board) (read_at at) (restores_accesses xs (at + 4)) in
-      let whole : suc (length xs) * board.prices.main_read ≡ board.prices.main_read + length xs * board.prices.main_read = grind arith in
-      omega (arith, first, rest, more, whole)
+  restores_cost = each_cost read_at restores_accesses board.prices.main_read (λ at. refl) (λ x xs at. refl) slow_read
 
   -- nine reads and eight writes, and those of the jobs
   switch_accessed : (w : SwitchPlan (List CopyJob)) (s r : ℕ) → ((a : ℕ) → w.base ≤ a → a < w.base + 64 → IsSlow board a) → accesses_cost board (switch_accesses w s r) ≡ 9 * board.prices.main_read + 8 * board.prices.main_write + accesses_cost board (jobs_accesses (switch_jobs w s r))
@@ -109,14 +109,10 @@ module _ (board : Board) where
       omega (arith, first, last, saves, restores, one, two, three, four, five)
 
 module _ (file out : List ℕ) (board : Board) (g : Graph) (c : Code) (pl : ChosenPlacement) (result : IsPlacedResult file out board g c pl) where
-  abbrev plan : OverlayPlan
-  plan = result.view.plan
+  open (setting file out board g c pl result) use {plan, slots}
 
   abbrev p : SwitchPlan (List CopyJob)
   p = switching plan
-
-  abbrev slots : List Slot
-  slots = slots_in board pl
 
   abbrev w : Scene
   w = placed_scene board g c pl

@@ -1,7 +1,6 @@
 -- A walk that is counted costs the energy of its run: its steps' costs are summed, each with the way to its unit.
 use Rattle.std.proofs.Common.{◌≡◌, ◌∙◌, ℕ, zero, suc, ◌+◌, ◌<◌, List, ◌∷◌, ◌++◌, length, Option, refl, sym, ap, subst, arith}
 use Rattle.rv32im.specs.declared.instructions.Instr.{Instr}
-use Rattle.elf_reader.specs.File.{PlainView, view_in}
 use Rattle.board_config.specs.declared.board.Board.{Board}
 use Rattle.flat_machine.specs.State.{State}
 use Rattle.flat_machine.specs.declared.events.FlatEvent.{FlatEvent}
@@ -21,11 +20,12 @@ use Rattle.energy_model.specs.Energy.{Scene, Taken, block_at, unit_number, words
 use Rattle.energy_model.proofs.StepLemmas.{first_transition}
 use Rattle.patch_code.specs.Overlay.{OverlayPlan}
 use Rattle.simulation.proofs.Unnamed.{next_same}
-use Rattle.result_laws.specs.HomeLaws.{program_in, unnamed_in, source_start, file_start}
+use Rattle.result_laws.specs.HomeLaws.{program_in, source_start, file_start}
 use Rattle.result_laws.specs.LiveUnits.{StandsThere}
 use Rattle.result_laws.specs.ChosenPlacement.{ChosenPlacement}
 use Rattle.result_laws.specs.PlacedLaws.{IsPlacedResult}
 use Rattle.result_laws.specs.Walks.{IsNoFault, leaving_fetched, UnitRuns, ArrivalRuns, StepRuns, On, Ends, Walks, NoSteps, Ended, Step}
+use Rattle.result_laws.proofs.Setting.{setting}
 use Rattle.result_laws.proofs.Counting.{none_ended, ended_on, one_read}
 use Rattle.paid_energy.specs.Costs.{run_cost}
 use Rattle.paid_energy.proofs.CostLemmas.{run_cost_joined, fetches_cost}
@@ -38,6 +38,7 @@ use Rattle.paid_energy.proofs.Transitions.{IsFrom, from_start, behind_first, Has
 use Rattle.paid_energy.proofs.StepCosts.{going_cost, ending_cost}
 use Rattle.paid_energy.proofs.SwitchCosts.{start_costs}
 use Rattle.paid_energy.proofs.WayCosts.{told_none, entering_cost}
+use Rattle.paid_energy.proofs.PlacedScene.{scene_in}
 
 fine_exit : (o : Outcome) (code : ℕ) → o ≡ Exited code → IsNoFault o
 fine_exit o code is = subst IsNoFault (sym is) tt
@@ -58,23 +59,8 @@ some_behind p zero code s t ts going exits run =
 some_behind p (suc n) code s t ts going exits run = some_transitions p (suc n) s t ts (omega arith) going run
 
 module _ (file out : List ℕ) (board : Board) (g : Graph) (c : Code) (pl : ChosenPlacement) (result : IsPlacedResult file out board g c pl) (sides : HasRegionsOfSide pl) (whole : List Transition) where
-  abbrev v : PlainView
-  v = view_in file
-
-  abbrev p : Program
-  p = program_in file board g
-
-  abbrev q : Program
-  q = unnamed_in file board g
-
-  abbrev plan : OverlayPlan
-  plan = result.view.plan
-
-  abbrev w : Scene
-  w = placed_scene board g c pl
-
-  abbrev taken : Taken
-  taken = placed_names board pl
+  open (setting file out board g c pl result) use {v, p as q, named as p, plan}
+  open (scene_in board g c pl) use {w, taken}
 
   abbrev energy_at : ℕ → ℕ
   energy_at i = step_energy w taken whole i

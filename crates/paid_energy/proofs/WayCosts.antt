@@ -4,7 +4,6 @@ use Rattle.std.specs.Prelude.{Contains, is_some}
 use Rattle.std.proofs.lemmas.Bool.{both_ways}
 use Rattle.std.proofs.lemmas.List.Sums.{sum_by-cons}
 use Rattle.std.proofs.lemmas.List.Elements.{All-nil, All-cons, All-contains}
-use Rattle.elf_reader.specs.File.{PlainView, view_in}
 use Rattle.board_config.specs.declared.board.Board.{Board}
 use Rattle.board_config.specs.declared.board.Prices.{Prices}
 use Rattle.flat_machine.specs.Lines.{words_from}
@@ -14,15 +13,16 @@ use Rattle.code_blocks.specs.Early.{has}
 use Rattle.code_blocks.specs.Numbers.{starts_of, start_at}
 use Rattle.code_blocks.specs.declared.parts.Code.{Code}
 use Rattle.block_splitter.specs.declared.block_range.BlockRange.{BlockRange}
+use Rattle.result_laws.proofs.Setting.{setting}
 use Rattle.result_laws.proofs.Counts.{runs_count}
 use Rattle.patch_code.specs.Told.{accesses, read_at}
 use Rattle.dataflow.specs.Overlaid.{region_in, is_border}
 use Rattle.profile_runner.specs.Standing.{number_of, begins, block_of}
 use Rattle.profile_runner.specs.Transition.{Transition, transition_at}
 use Rattle.profile_runner.proofs.FindLemmas.{block_found}
-use Rattle.energy_model.specs.Energy.{Scene, Taken, is_checked, block_at, region_before, region_with, comes_from_outside, arrival_words, arrival_price, way_price, switch_price, change_price}
+use Rattle.energy_model.specs.Energy.{is_checked, block_at, region_before, region_with, comes_from_outside, arrival_words, arrival_price, way_price, switch_price, change_price}
 use Rattle.energy_model.specs.Energy as energy
-use Rattle.patch_code.specs.Overlay.{OverlayPlan, serving_place}
+use Rattle.patch_code.specs.Overlay.{serving_place}
 use Rattle.patch_code.specs.Served.{IsServedInside}
 use Rattle.patch_code.specs.Served.{body_at as stub_body}
 use Rattle.patch_code.specs.Serving.{ServingStub, jumps_to, test_bytes, body_bytes}
@@ -36,7 +36,7 @@ use Rattle.result_laws.specs.Walks.{AreEvents, body_fetched, StubPasses, Uncheck
 use Rattle.paid_energy.specs.Costs.{access_cost, run_cost}
 use Rattle.paid_energy.proofs.CostLemmas.{run_cost_joined, fetches_cost, accesses_cost, run_cost_parts}
 use Rattle.paid_energy.specs.CountedWalks.{has_way, enters_by_stub, arrives_by_stub}
-use Rattle.paid_energy.specs.WalkCosts.{placed_scene, placed_names, HasRegionsOfSide}
+use Rattle.paid_energy.specs.WalkCosts.{HasRegionsOfSide}
 use Rattle.paid_energy.proofs.CountedForms.{checked_border}
 use Rattle.paid_energy.proofs.CodeFacts.{unit_facts}
 use Rattle.paid_energy.proofs.Fetching.{slow_fetches, from_each}
@@ -44,6 +44,7 @@ use Rattle.paid_energy.proofs.HomePrices.{IsSlow, code_slow}
 use Rattle.paid_energy.proofs.Pieces.{piece_is, none_is}
 use Rattle.paid_energy.proofs.Tests.{equal_numbers, other_numbers}
 use Rattle.paid_energy.proofs.SwitchCosts.{control_slow, plan_run, plan_slow, slow_read, switch_costs}
+use Rattle.paid_energy.proofs.PlacedScene.{scene_in}
 
 -- ---- truth values
 
@@ -79,17 +80,8 @@ arrival_by prices false true test body first last some = omega (arith, first, la
 arrival_by prices false false test body first last some = cc
 
 module _ (file out : List ℕ) (board : Board) (g : Graph) (c : Code) (pl : ChosenPlacement) (result : IsPlacedResult file out board g c pl) (sides : HasRegionsOfSide pl) where
-  abbrev v : PlainView
-  v = view_in file
-
-  abbrev plan : OverlayPlan
-  plan = result.view.plan
-
-  abbrev w : Scene
-  w = placed_scene board g c pl
-
-  abbrev taken : Taken
-  taken = placed_names board pl
+  open (setting file out board g c pl result) use {v, plan}
+  open (scene_in board g c pl) use {w, taken}
 
   abbrev fetch : ℕ
   fetch = board.prices.main_fetch

@@ -1,5 +1,4 @@
 pub use Rattle.energy_model.specs.Energy
-pub use Rattle.relink_core.specs.Walks
 pub mod Costs
 pub mod FlatRuns
 pub mod Inward

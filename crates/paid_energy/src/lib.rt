@@ -14,6 +14,6 @@ pub use inward_calls::inward;
 pub use laws::{ended_runs_for, inward_is_counted, one_run_for};
 pub use paying::{PaidRun, paid};
 pub use walk_laws::{
-    branches_go, forms_are_counted, home_costs_energy, paid_is_modelled, paired_runs_walk_home,
+    branches_go, forms_are_counted, home_costs_energy, paired_runs_walk_home, results_pay,
     units_lead, walk_costs_energy,
 };

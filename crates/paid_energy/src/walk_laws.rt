@@ -1,5 +1,5 @@
 // Laws of the definitions: functions that do nothing, whose contracts are what is proved.
-ghost use Rattle.paid_energy.specs.{Leading.{UnitsLead, BranchesGo}, CountedWalks.{FormsAreCounted}, HomeWalks.{PairedRunsWalkHome}, WalkCosts.{HomeCostsEnergy, WalkCostsEnergy}, Laws.{PaidIsModelled}};
+ghost use Rattle.paid_energy.specs.{Leading.{UnitsLead, BranchesGo}, CountedWalks.{FormsAreCounted}, HomeWalks.{PairedRunsWalkHome}, WalkCosts.{HomeCostsEnergy, WalkCostsEnergy}, Laws.{ResultsPay}};
 
 /// The words of a unit from which the program goes on lead the flat machine on by the unit's form: at home to the next unit's
 /// home; in a copy to the next unit's copy, behind the copy where control falls out of the piece, or home; and in a stub home,
@@ -37,9 +37,9 @@ pub fn walk_costs_energy()
     ensures { WalkCostsEnergy }
 {}
 
-/// Where a program exits, the result for a feasible choice exits with the same code within as many steps as are enough; and
-/// where the run makes no inward call, it pays the energy of the run with what is taken. Where nothing is taken that is said
-/// of paired runs.
-pub fn paid_is_modelled()
-    ensures { PaidIsModelled }
+/// Where a program exits, each file that realises a feasible choice exits with the same code within as many steps as are
+/// enough; and where the run makes no inward call, that file pays the energy of the run with what is taken. Where nothing is
+/// taken that is said of paired runs.
+pub fn results_pay()
+    ensures { ResultsPay }
 {}

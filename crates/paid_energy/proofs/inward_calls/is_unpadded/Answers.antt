@@ -1,9 +1,8 @@
-use Rattle.std.proofs.Common.{◌∙◌, List, Option, IfSome, slice_index_or, None, refl, sym, ap, subst}
-use Rattle.block_splitter.specs.declared.block_range.BlockRange.{BlockRange}
+use Rattle.std.proofs.Common.{◌∙◌, List, IfSome, slice_index_or, None, refl, sym, subst}
 use Rattle.block_splitter.specs.declared.piece.Piece.{Piece}
 use Rattle.block_splitter.specs.Pieces.{ArePieces}
-use Rattle.paid_energy.specs.Inward.{is_within, IsListed}
-use Rattle.paid_energy.proofs.Listed.{some_listed}
+use Rattle.paid_energy.specs.Inward.{IsListed}
+use Rattle.paid_energy.proofs.Listed.{some_listed, within_taken}
 use Rattle.paid_energy.proofs.inward_calls.is_unpadded.Goals as goal
 
 pub is_within-requires-clause-listed : goal.is_within-requires-clause-listed
@@ -21,18 +20,14 @@ is_within-requires-clause-are c =
 
 pub returns-then-is_within : goal.returns-then-is_within
 returns-then-is_within c names table =
-    let a = c.args.a.now in
     let (file, (board, analysis)) = c.requires.analysis in
-    let within = c.is_within.ensures a.code a.graph (subst (ArePieces a.code a.graph) (sym c.deref.ensures.value) analysis.pieces) c.requires.to
-    ∙ ap (λ (o : Option BlockRange). is_within a.code o c.args.edge.now.to) (table.are c.args.edge.now.from c.requires.from) in
+    let within = within_taken c.args.a.now.code c.args.a.now.graph _ _ _ _ _ _ c.is_within.ensures c.deref.ensures.value analysis.pieces c.requires.to (table.are c.args.edge.now.from c.requires.from) in
     let yes = sym within ∙ c.if-is_within.true in
     rw (yes, c.is_checked.ensures) refl
 
 pub returns-else-is_within : goal.returns-else-is_within
 returns-else-is_within c names table =
-    let a = c.args.a.now in
     let (file, (board, analysis)) = c.requires.analysis in
-    let within = c.is_within.ensures a.code a.graph (subst (ArePieces a.code a.graph) (sym c.deref.ensures.value) analysis.pieces) c.requires.to
-    ∙ ap (λ (o : Option BlockRange). is_within a.code o c.args.edge.now.to) (table.are c.args.edge.now.from c.requires.from) in
+    let within = within_taken c.args.a.now.code c.args.a.now.graph _ _ _ _ _ _ c.is_within.ensures c.deref.ensures.value analysis.pieces c.requires.to (table.are c.args.edge.now.from c.requires.from) in
     let no = sym within ∙ c.if-is_within.false in
     rw (no, c.if-is_within.false) refl

@@ -1,7 +1,7 @@
 use Rattle.std.proofs.Common.{◌≡◌, ◌+◌, subst, sym, ap, ◌∙◌, arith}
 use Rattle.flat_machine.specs.Machine.{state_of}
 use Rattle.paid_energy.specs.Costs.{fetch_cost, told_cost}
-use Rattle.paid_energy.proofs.RunLemmas.{PaidSoFar, nothing_paid, paid_more, whole_run}
+use Rattle.paid_energy.proofs.RunLemmas.{PaidSoFar, nothing_paid, paid_more}
 use Rattle.paid_energy.proofs.paying.pay_steps.Goals as goal
 
 pub loop-preserved : goal.loop-preserved
