@@ -1,7 +1,6 @@
 -- Words of a copy at which no unit of it begins are at no form of a unit that stands there in the same region: copies that are
 -- in the scratchpad together share no byte.
 use Rattle.std.proofs.Common.{◌≡◌, ◌∙◌, ◌⊎◌, ℕ, ◌+◌, ◌*◌, ◌<◌, Bool, true, false, if◌then◌else◌, List, length, Some, sym, ap, subst, arith}
-use Rattle.elf_reader.specs.File.{PlainView, view_in}
 use Rattle.board_config.specs.declared.board.Board.{Board}
 use Rattle.object_graph.specs.Sites.{in_range}
 use Rattle.object_graph.specs.declared.parts.Graph.{Graph}
@@ -11,11 +10,11 @@ use Rattle.block_splitter.specs.Forms.{body_at, holds_block, fall_out_size}
 use Rattle.block_splitter.specs.Copies.{Copy, is_inside, kind_in, place_of, address_of}
 use Rattle.result_laws.specs.Copied.{unit_words}
 use Rattle.result_laws.specs.CopyLaws.{falls_to, place_behind}
+use Rattle.result_laws.proofs.Setting.{setting}
 use Rattle.result_laws.proofs.Falls.{fall_size}
 use Rattle.relocator.specs.Laws.{IsPresent, slot_at}
 use Rattle.result_laws.specs.ChosenJobs.{code_number}
 use Rattle.result_laws.proofs.JobChosen.{same_slot}
-use Rattle.patch_code.specs.Overlay.{OverlayPlan}
 use Rattle.result_laws.specs.LiveUnits.{StandsThere}
 use Rattle.result_laws.specs.Entries.{RunsIn}
 use Rattle.result_laws.specs.ChosenPlacement.{ChosenPlacement, slots_in, piece_of, copy_in}
@@ -30,11 +29,7 @@ use Rattle.address_trace.proofs.CodeRegions.{here_by_region}
 use Rattle.address_trace.proofs.Ranges.{StandsInCopy, word_in_spm, unit_within, behind_within, only_copy}
 
 module _ (file out : List ℕ) (board : Board) (g : Graph) (c : Code) (pl : ChosenPlacement) (result : IsPlacedResult file out board g c pl) where
-  abbrev v : PlainView
-  v = view_in file
-
-  abbrev plan : OverlayPlan
-  plan = result.view.plan
+  open (setting file out board g c pl result) use {v, plan}
 
   abbrev copy : ℕ → Copy
   copy n = copy_in c g pl n

@@ -11,13 +11,10 @@ use Rattle.object_graph.specs.declared.parts.Graph.{Graph}
 use Rattle.code_blocks.specs.declared.parts.Code.{Code}
 use Rattle.cell_values.specs.Stands.{Places}
 use Rattle.object_machine.specs.declared.events.Outcome.TheVariants.{GoesOn}
-use Rattle.object_machine.specs.Program.{Program}
 use Rattle.object_machine.specs.State.{SourceState}
 use Rattle.object_machine.specs.Step.{Reads, next_state}
 use Rattle.simulation.specs.Laws.{EndsAlike}
 use Rattle.simulation.proofs.Unnamed.{next_same}
-use Rattle.patch_code.specs.Overlay.{OverlayPlan}
-use Rattle.result_laws.specs.HomeLaws.{program_in, unnamed_in}
 use Rattle.result_laws.specs.ChosenPlacement.{ChosenPlacement, places_in}
 use Rattle.result_laws.specs.PlacedLaws.{IsPlacedResult}
 use Rattle.result_laws.specs.Walks.{IsNoFault, StepRuns, On, Ends, Walks, NoSteps, Ended, Step}
@@ -29,16 +26,10 @@ use Rattle.address_trace.proofs.OffForms.{AreWordsOff}
 use Rattle.address_trace.proofs.OutcomeLemmas.{goes_or_over, ended_not, ends_flat, one_end}
 use Rattle.address_trace.proofs.MovedRegions.{HasRegions, IsRegion}
 use Rattle.address_trace.proofs.MovedSteps as steps
+use Rattle.result_laws.proofs.Setting.{setting}
 
 module _ (file out : List ℕ) (board : Board) (g : Graph) (c : Code) (regions : List ℕ) (pl : ChosenPlacement) (result : IsPlacedResult file out board g c pl) (units : List UnitAt) (forms : AreUnitsAt (IsUnitAt board c g pl result.view.plan) units) (has : HasRegions regions pl) (off : AreWordsOff file out board g c pl result units) where
-  abbrev plan : OverlayPlan
-  plan = result.view.plan
-
-  abbrev p : Program
-  p = program_in file board g
-
-  abbrev q : Program
-  q = unnamed_in file board g
+  open (setting file out board g c pl result) use {p as q, named as p, plan}
 
   abbrev w : TracedProgram
   w = steps.w file out board g c regions pl result units forms has off

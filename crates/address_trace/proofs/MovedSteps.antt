@@ -17,12 +17,9 @@ use Rattle.code_blocks.specs.declared.parts.Code.{Code}
 use Rattle.cell_values.specs.Stands.{Places}
 use Rattle.object_machine.specs.declared.events.Access.{Access}
 use Rattle.object_machine.specs.declared.events.Outcome.TheVariants.{GoesOn}
-use Rattle.object_machine.specs.Program.{Program}
 use Rattle.object_machine.specs.State.{SourceState}
 use Rattle.object_machine.specs.Step.{Reads, next_state, access_of}
 use Rattle.simulation.proofs.Unnamed.{next_same}
-use Rattle.patch_code.specs.Overlay.{OverlayPlan}
-use Rattle.result_laws.specs.HomeLaws.{program_in, unnamed_in}
 use Rattle.result_laws.specs.ResultLaws.{most_steps}
 use Rattle.result_laws.specs.ChosenPlacement.{ChosenPlacement, places_in}
 use Rattle.result_laws.specs.PlacedLaws.{IsPlacedResult}
@@ -45,16 +42,10 @@ use Rattle.address_trace.proofs.CodeRegions.{places_same}
 use Rattle.address_trace.proofs.ListedForms.{all_always, arrives_at_form}
 use Rattle.address_trace.proofs.ArrivalLengths.{step_few}
 use Rattle.address_trace.proofs.MovedRegions.{HasRegions, IsRegion, region_goes}
+use Rattle.result_laws.proofs.Setting.{setting}
 
 module _ (file out : List ℕ) (board : Board) (g : Graph) (c : Code) (regions : List ℕ) (pl : ChosenPlacement) (result : IsPlacedResult file out board g c pl) (units : List UnitAt) (forms : AreUnitsAt (IsUnitAt board c g pl result.view.plan) units) (has : HasRegions regions pl) (off : AreWordsOff file out board g c pl result units) where
-  abbrev plan : OverlayPlan
-  plan = result.view.plan
-
-  abbrev p : Program
-  p = program_in file board g
-
-  abbrev q : Program
-  q = unnamed_in file board g
+  open (setting file out board g c pl result) use {p as q, named as p, plan}
 
   abbrev pub w : TracedProgram
   w = record { program = p; starts = starts_of c; regions = regions; units = units; board = board }

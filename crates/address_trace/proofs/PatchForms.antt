@@ -9,7 +9,6 @@ use Rattle.rv32im.specs.Sequences.{load_immediate, distance}
 use Rattle.rv32im.specs.declared.instructions.Instr.TheVariants as instr
 use Rattle.rv32im.proofs.SequenceLemmas.{mean_count}
 use Rattle.board_config.specs.declared.board.Board.{Board}
-use Rattle.elf_reader.specs.File.{PlainView, view_in}
 use Rattle.flat_machine.specs.declared.events.FlatEvent.{FlatEvent}
 use Rattle.object_graph.specs.Sites.{in_range}
 use Rattle.object_graph.specs.declared.parts.Graph.{Graph}
@@ -29,6 +28,7 @@ use Rattle.patch_code.specs.Serving.{ServingStub, jumps_to, body_bytes, serving_
 use Rattle.patch_code.specs.Overlay.{OverlayPlan, serving_place}
 use Rattle.patch_code.specs.Served.{body_at}
 use Rattle.result_laws.specs.LiveUnits.{StandsThere}
+use Rattle.result_laws.proofs.Setting.{setting}
 use Rattle.result_laws.proofs.CodeUnits.{first, units_stand}
 use Rattle.result_laws.proofs.Loaded.{IsKept}
 use Rattle.result_laws.proofs.HomeNumbers.{same_number}
@@ -92,11 +92,7 @@ module _ (sites : List Patch) (at : ℕ) (u : Unit) (words : List ℕ) where
   own_behind taken Halt is = All-nil Is
 
 module _ (file out : List ℕ) (board : Board) (g : Graph) (c : Code) (pl : ChosenPlacement) (result : IsPlacedResult file out board g c pl) where
-  abbrev v : PlainView
-  v = view_in file
-
-  abbrev plan : OverlayPlan
-  plan = result.view.plan
+  open (setting file out board g c pl result) use {v, plan}
 
   -- no form of the unit at `home` stands at an address
   abbrev Off : ℕ → ℕ → Type 0

@@ -3,7 +3,6 @@
 use Rattle.std.proofs.Common.{◌≡◌, ℕ, ◌+◌, ◌-◌, ◌*◌, ◌<◌, ◌≤◌, true, false, List, length, Some, sym, subst, arith}
 use Rattle.std.specs.Prelude.{Contains}
 use Rattle.std.proofs.lemmas.Bool.{both_ways}
-use Rattle.elf_reader.specs.File.{PlainView, view_in}
 use Rattle.board_config.specs.declared.board.Board.{Board}
 use Rattle.object_graph.specs.Sites.{in_range}
 use Rattle.object_graph.specs.declared.parts.Graph.{Graph}
@@ -14,6 +13,7 @@ use Rattle.code_blocks.specs.declared.parts.Code.{Code}
 use Rattle.block_splitter.specs.Forms.{holds_block, copy_size}
 use Rattle.block_splitter.specs.Copies.{Copy, is_inside, kind_in, place_of, address_of}
 use Rattle.result_laws.specs.CopyLaws.{falls_to, place_behind}
+use Rattle.result_laws.proofs.Setting.{setting}
 use Rattle.result_laws.proofs.Places.{unit_fits}
 use Rattle.result_laws.proofs.CopiedUnits.{held_below}
 use Rattle.patch_code.specs.Start.{start_at as stub_start, start_bytes}
@@ -81,11 +81,7 @@ stands_as board c g pl plan x (InStub b stub there listed serves uncopied at reg
     subst (λ (a : ℕ). StandsAs c g pl plan x.home a) (sym at) (forms.InStub x.home b stub there listed serves uncopied)
 
 module _ (file out : List ℕ) (board : Board) (g : Graph) (c : Code) (pl : ChosenPlacement) (result : IsPlacedResult file out board g c pl) where
-  abbrev v : PlainView
-  v = view_in file
-
-  abbrev plan : OverlayPlan
-  plan = result.view.plan
+  open (setting file out board g c pl result) use {v, plan}
 
   -- ---- homes
 

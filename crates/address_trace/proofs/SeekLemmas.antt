@@ -1,5 +1,6 @@
 -- Steps of the flat machine up to the first behind which something holds.
-use Rattle.std.proofs.Common.{◌≡◌, inl, inr, ℕ, suc, ◌+◌, ◌<◌, ◌≤◌, Bool, List, [], ◌∷◌, ◌++◌, length, refl, sym, ◌∙◌, ap, subst, arith, length-append}
+use Rattle.std.proofs.Common.{◌≡◌, inl, inr, ℕ, suc, ◌+◌, ◌<◌, ◌≤◌, Bool, List, [], ◌∷◌, ◌++◌, length, Option, Some, None, refl, sym, ◌∙◌, ap, subst, arith, length-append}
+use Rattle.std.specs.Prelude.{MatchOption}
 use Rattle.std.proofs.lemmas.Bool.{cases_lt}
 use Rattle.rv32im.specs.Table.{OneInstruction}
 use Rattle.board_config.specs.declared.board.Range.{Range}
@@ -109,7 +110,7 @@ module _ (one : OneInstruction) (patch : Range) (next : Next) (most : ℕ) (s m 
       r.first.first fs u (omega (arith, less)) (subst (λ (x : State). Does fs x u) state does.1.1)
       (subst (λ (x : FlatEvent). Finds patch next (in_range patch x.at) fs u) event comes)
 
-  pub came_by : (k : ℕ) (t : State) (came : Came) → StopsAfter (Finds patch next (in_range patch e.at)) m k t → k < most → came.steps ≡ k + 1 → came.access ≡ e.access → CameBy (Comes patch next) most s came t
+  came_by : (k : ℕ) (t : State) (came : Came) → StopsAfter (Finds patch next (in_range patch e.at)) m k t → k < most → came.steps ≡ k + 1 → came.access ≡ e.access → CameBy (Comes patch next) most s came t
   came_by k t came r below steps access =
       let count = r.count in
       record {
@@ -132,5 +133,17 @@ module _ (one : OneInstruction) (patch : Range) (next : Next) (most : ℕ) (s m 
       nowhere fs u (omega (arith, few)) (subst (λ (x : State). Does fs x u) state does.1.1)
       (subst (λ (x : FlatEvent). Finds patch next (in_range patch x.at) fs u) event comes)
 
-  pub comes_never : StopsNotBelow (Finds patch next (in_range patch e.at)) most m → StopsNever (Comes patch next) most s
+  comes_never : StopsNotBelow (Finds patch next (in_range patch e.at)) most m → StopsNever (Comes patch next) most s
   comes_never nowhere es t few does comes = never_from nowhere es t few does comes
+
+  -- the same of what the code has: what the first step tells of the patch range, and what the search behind it found
+  pub came_found : (before : Bool) (found : Option ℕ) (k : ℕ) (t : State) (came : Came) → before ≡ in_range patch e.at → found ≡ Some k → MatchOption found (StopsNotBelow (Finds patch next before) most m) (λ j. (j < most) × StopsAfter (Finds patch next before) m j t) → came.steps ≡ k + 1 → came.access ≡ e.access → CameBy (Comes patch next) most s came t
+  came_found before found k t came before_is is r steps access =
+      let there = subst (λ (o : Option ℕ). MatchOption o (StopsNotBelow (Finds patch next before) most m) (λ j. (j < most) × StopsAfter (Finds patch next before) m j t)) is r in
+      came_by k t came (subst (λ (b : Bool). StopsAfter (Finds patch next b) m k t) before_is there.1) there.0 steps access
+
+  pub never_found : (before : Bool) (found : Option ℕ) (t : State) → before ≡ in_range patch e.at → found ≡ None → MatchOption found (StopsNotBelow (Finds patch next before) most m) (λ j. (j < most) × StopsAfter (Finds patch next before) m j t) → StopsNever (Comes patch next) most s
+  never_found before found t before_is is r =
+      comes_never
+      (subst (λ (b : Bool). StopsNotBelow (Finds patch next b) most m) before_is
+      (subst (λ (o : Option ℕ). MatchOption o (StopsNotBelow (Finds patch next before) most m) (λ j. (j < most) × StopsAfter (Finds patch next before) m j t)) is r))

@@ -86,12 +86,12 @@ module _ (w : TracedProgram) (region : ℕ) (s s' : SourceState) (read : Option 
       }
 
   -- what the code tells where the machine comes there
-  pub told_came : (t t' : State) (came : Came) (told : Option TracedStep) → CameBy (Comes w.board.patch (next_by e.outcome sought)) (most_steps w.board) t came t' → MatchOption told (CanTell e.access came.access → ⊥) (λ x. CanTell e.access came.access × (x ≡ told_step e region t.hart.pc came)) → MatchOption told (IsLostStep w region s read t) (λ x. IsTracedStep w region s read t x t')
+  told_came : (t t' : State) (came : Came) (told : Option TracedStep) → CameBy (Comes w.board.patch (next_by e.outcome sought)) (most_steps w.board) t came t' → MatchOption told (CanTell e.access came.access → ⊥) (λ x. CanTell e.access came.access × (x ≡ told_step e region t.hart.pc came)) → MatchOption told (IsLostStep w region s read t) (λ x. IsTracedStep w region s read t x t')
   told_came t t' came None c can = lost_silent t t' came c can
   told_came t t' came (Some x) c is = told_of t t' came x c is.0 is.1
 
   -- the same of what the code has: the place and the bound that it computes, and the address of the form
-  pub told_by : (patch : Range) (search : Next) (most at : ℕ) (t t' : State) (came : Came) (told : Option TracedStep) → patch ≡ w.board.patch → search ≡ next_by e.outcome sought → most ≡ most_steps w.board → at ≡ t.hart.pc → CameBy (Comes patch search) most t came t' → MatchOption told (CanTell e.access came.access → ⊥) (λ x. CanTell e.access came.access × (x ≡ told_step e region at came)) → MatchOption told (IsLostStep w region s read t) (λ x. IsTracedStep w region s read t x t')
+  told_by : (patch : Range) (search : Next) (most at : ℕ) (t t' : State) (came : Came) (told : Option TracedStep) → patch ≡ w.board.patch → search ≡ next_by e.outcome sought → most ≡ most_steps w.board → at ≡ t.hart.pc → CameBy (Comes patch search) most t came t' → MatchOption told (CanTell e.access came.access → ⊥) (λ x. CanTell e.access came.access × (x ≡ told_step e region at came)) → MatchOption told (IsLostStep w region s read t) (λ x. IsTracedStep w region s read t x t')
   told_by patch search most at t t' came told patch_is search_is most_is at_is c can =
       told_came t t' came told
       (subst (λ (m : ℕ). CameBy (Comes w.board.patch (next_by e.outcome sought)) m t came t') most_is
@@ -99,12 +99,20 @@ module _ (w : TracedProgram) (region : ℕ) (s s' : SourceState) (read : Option 
       (subst (λ (r : Range). CameBy (Comes r search) most t came t') patch_is c)))
       (subst (λ (a : ℕ). MatchOption told (CanTell e.access came.access → ⊥) (λ x. CanTell e.access came.access × (x ≡ told_step e region a came))) at_is can)
 
-  pub lost_by : (patch : Range) (search : Next) (most : ℕ) (t : State) → patch ≡ w.board.patch → search ≡ next_by e.outcome sought → most ≡ most_steps w.board → StopsNever (Comes patch search) most t → IsLostStep w region s read t
+  lost_by : (patch : Range) (search : Next) (most : ℕ) (t : State) → patch ≡ w.board.patch → search ≡ next_by e.outcome sought → most ≡ most_steps w.board → StopsNever (Comes patch search) most t → IsLostStep w region s read t
   lost_by patch search most t patch_is search_is most_is never =
       lost_nowhere t
       (subst (λ (m : ℕ). StopsNever (Comes w.board.patch (next_by e.outcome sought)) m t) most_is
       (subst (λ (y : Next). StopsNever (Comes w.board.patch y) most t) search_is
       (subst (λ (r : Range). StopsNever (Comes r search) most t) patch_is never)))
+
+  -- where the code looked for the machine, whether it came there or not
+  pub told_found : (patch : Range) (search : Next) (most at : ℕ) (t t' : State) (found : Option Came) (told : Option TracedStep) → patch ≡ w.board.patch → search ≡ next_by e.outcome sought → most ≡ most_steps w.board → at ≡ t.hart.pc → MatchOption found (StopsNever (Comes patch search) most t) (λ came. CameBy (Comes patch search) most t came t') → MatchOption found (told ≡ None) (λ came. MatchOption told (CanTell e.access came.access → ⊥) (λ x. CanTell e.access came.access × (x ≡ told_step e region at came))) → MatchOption told (IsLostStep w region s read t) (λ x. IsTracedStep w region s read t x t')
+  told_found patch search most at t t' None told patch_is search_is most_is at_is never none =
+      subst (λ (o : Option TracedStep). MatchOption o (IsLostStep w region s read t) (λ x. IsTracedStep w region s read t x t')) (sym none)
+      (lost_by patch search most t patch_is search_is most_is never)
+  told_found patch search most at t t' (Some came) told patch_is search_is most_is at_is c can =
+      told_by patch search most at t t' came told patch_is search_is most_is at_is c can
 
   pub traces : (t t' : State) (region' : ℕ) (told : Option TracedStep) → region' ≡ region_in w region s' → MatchOption told (IsLostStep w region s read t) (λ x. IsTracedStep w region s read t x t') → TracesStep w region s t region' s' t' told
   traces t t' region' told region_is is =

@@ -18,27 +18,25 @@ use Rattle.block_splitter.specs.declared.unit_kind.UnitKind.TheVariants.{Plain}
 use Rattle.block_splitter.specs.Forms.{is_site, kind_of, body_at as body_of}
 use Rattle.object_machine.specs.declared.events.Outcome.{Outcome}
 use Rattle.object_machine.specs.declared.events.Outcome.TheVariants.{GoesOn}
-use Rattle.object_machine.specs.Program.{Program}
 use Rattle.object_machine.specs.State.{SourceState}
 use Rattle.object_machine.specs.Step.{Reads, next_state}
 use Rattle.object_machine.specs.Paired.{at_start, origins_after, is_paired_step}
 use Rattle.patch_code.specs.Serving.{ServingStub}
-use Rattle.patch_code.specs.Overlay.{OverlayPlan}
 use Rattle.patch_code.specs.Served.{body_at}
-use Rattle.simulation.specs.Setups.{Setup}
 use Rattle.simulation.specs.Relation.{After, Tells, LeadsTold}
 use Rattle.simulation.proofs.AnyForms.{form_leads}
 use Rattle.simulation.proofs.OneUnit.{Before}
 use Rattle.simulation.proofs.Resets.{all_made}
 use Rattle.simulation.proofs.Unnamed.{paired}
-use Rattle.result_laws.specs.HomeLaws.{program_in, unnamed_in}
-use Rattle.result_laws.specs.LiveUnits.{StandsThere, live_at}
+use Rattle.result_laws.specs.HomeLaws.{program_in}
+use Rattle.result_laws.specs.LiveUnits.{StandsThere}
+use Rattle.result_laws.proofs.Setting.{setting}
 use Rattle.result_laws.proofs.CodeUnits.{units_stand}
 use Rattle.result_laws.proofs.LiveUnits.{liveness_keeps}
 use Rattle.result_laws.specs.Entries.{RunsIn}
 use Rattle.result_laws.specs.ChosenPlacement.{ChosenPlacement}
 use Rattle.result_laws.specs.PlacedView.{IsUncopied, Serves}
-use Rattle.result_laws.specs.PlacedLaws.{IsPlacedResult, setup_of}
+use Rattle.result_laws.specs.PlacedLaws.{IsPlacedResult}
 use Rattle.result_laws.specs.PlacedForms.{StandsAs, AtHome, InCopy, InStub, MayRun}
 use Rattle.result_laws.specs.Walks.{address_in, unit_fetched, UnitRuns}
 use Rattle.result_laws.proofs.Apart.{jump_in_patch}
@@ -53,17 +51,7 @@ going_told GoesOn tells es is told = told
 going_told o tells es is told = subst (λ x. Tells x tells es) is told
 
 module _ (file out : List ℕ) (board : Board) (g : Graph) (c : Code) (pl : ChosenPlacement) (result : IsPlacedResult file out board g c pl) where
-  abbrev p : Program
-  p = unnamed_in file board g
-
-  abbrev l : Setup
-  l = setup_of file out board g pl
-
-  abbrev live : ℕ → ℕ → Type 0
-  live = live_at c
-
-  abbrev plan : OverlayPlan
-  plan = result.view.plan
+  open (setting file out board g c pl result) use {p, l, live, plan}
 
   -- where a displaced unit leads, if the unit at `home` is next: there, or into the patch range
   abbrev pub IsLeft : (home to : ℕ) → Type 0

@@ -1,5 +1,5 @@
 -- Steps of a trace, one after the other.
-use Rattle.std.proofs.Common.{◌≡◌, ℕ, suc, ◌+◌, ◌-◌, ◌<◌, ◌≤◌, Bool, true, false, List, [], ◌∷◌, ◌++◌, length, Some, None, refl, sym, ◌∙◌, ap, subst, arith, append_assoc, length-append}
+use Rattle.std.proofs.Common.{◌≡◌, ℕ, suc, ◌+◌, ◌-◌, ◌<◌, ◌≤◌, Bool, true, false, List, [], ◌∷◌, ◌++◌, length, Option, Some, None, refl, sym, ◌∙◌, ap, subst, arith, append_assoc, length-append}
 use Rattle.std.specs.Prelude.{flat_map}
 use Rattle.std.proofs.lemmas.List.{append-nil, flat_map_more}
 use Rattle.elf_reader.specs.File.{PlainView}
@@ -11,7 +11,7 @@ use Rattle.object_machine.specs.Step.{next_state}
 use Rattle.object_machine.specs.Runs.{HasEnded}
 use Rattle.address_trace.specs.declared.marks.TracedStep.{TracedStep}
 use Rattle.address_trace.specs.declared.tracing.TraceText.{TraceText}
-use Rattle.address_trace.specs.Comings.{IsAtForm}
+use Rattle.address_trace.specs.Comings.{IsAtForm, region_behind}
 use Rattle.address_trace.specs.Marks.{start_text, step_text}
 use Rattle.address_trace.specs.Seeking.{StopsAfter, StartsWithin}
 use Rattle.address_trace.specs.Stepping.{TracesStep}
@@ -81,7 +81,18 @@ module _ (w : TracedProgram) (line : TracedStep → List ℕ) (n region : ℕ) (
         let m = n - suc k in
         ends_with (suc m) true (omega (arith, few)) (Lost m region' s' t' step.read going step.reads step.is)
 
+-- what is told of the next step is what the code has of it
+pub step_told : (w : TracedProgram) (region : ℕ) (s : SourceState) (t : State) (region' : ℕ) (s' : SourceState) (t' : State) (had told : Option TracedStep) → had ≡ told → TracesStep w region s t region' s' t' had → TracesStep w region s t region' s' t' told
+step_told w region s t region' s' t' had told is step =
+    subst (λ (o : Option TracedStep). TracesStep w region s t region' s' t' o) is step
+
 -- ---- from the starts
+
+-- where the program begins, as the code has it
+pub first_place : (w : TracedProgram) (region home : ℕ) (source s : SourceState) → source ≡ s → home ≡ source.pc → region ≡ region_behind w.starts w.regions 0 home → (region ≡ region_in w 0 s) × (home ≡ s.pc)
+first_place w region home source s source_is home_is region_is =
+    let here = home_is ∙ ap (λ (x : SourceState). x.pc) source_is in
+    (region_is ∙ ap (λ (a : ℕ). region_behind w.starts w.regions 0 a) here, here)
 
 pub tells : (v : PlainView) (objects : List Object) (w : TracedProgram) (n : ℕ) (s : SourceState) (t : State) (region home start : ℕ) (source : SourceState) (flat first : State) (old : List ℕ) (text : TraceText) → region ≡ region_in w 0 s → home ≡ s.pc → source ≡ s → flat ≡ t → StopsAfter (IsAtForm w.units w.board 0 region home) flat start first → old ≡ start_text start → TracedAll w (step_text v objects) n region source first old text.bytes.items text.steps text.lost → TellsTrace v objects w n s t text
 tells v objects w n s t region home start source flat first old text region_is home_is source_is flat_is after head all =

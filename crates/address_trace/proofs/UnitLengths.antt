@@ -6,13 +6,12 @@ use Rattle.rv32im.specs.Acts.{Registers}
 use Rattle.rv32im.specs.Table.{Means}
 use Rattle.rv32im.specs.declared.instructions.Instr.{Instr}
 use Rattle.rv32im.specs.declared.instructions.Instr.TheVariants as instr
-use Rattle.elf_reader.specs.File.{PlainView, view_in}
+use Rattle.elf_reader.specs.File.{PlainView}
 use Rattle.board_config.specs.declared.board.Board.{Board}
 use Rattle.loaded_file.specs.Code.{image_word}
 use Rattle.flat_machine.specs.State.{State}
 use Rattle.flat_machine.specs.declared.events.FlatEvent.{FlatEvent}
 use Rattle.object_graph.specs.declared.parts.Graph.{Graph}
-use Rattle.object_machine.specs.Program.{Program}
 use Rattle.object_machine.specs.State.{SourceState}
 use Rattle.object_machine.specs.Step.{Reads}
 use Rattle.code_blocks.specs.Leaders.{is_call_pair}
@@ -25,13 +24,12 @@ use Rattle.block_splitter.specs.Copies.{is_inside, kind_in, place_of, address_of
 use Rattle.result_laws.specs.Copied.{unit_words}
 use Rattle.result_laws.specs.Kinds.{takes}
 use Rattle.result_laws.specs.CopyLaws.{unit_at}
+use Rattle.result_laws.proofs.Setting.{setting}
 use Rattle.result_laws.proofs.CopiedUnits.{held_below}
 use Rattle.result_laws.proofs.Counts.{runs_count}
 use Rattle.result_laws.proofs.FirstUnits.{Halts}
 use Rattle.result_laws.proofs.KindFacts.{CallsBack, IsKindBy, FallsLast, kinds_so}
-use Rattle.patch_code.specs.Overlay.{OverlayPlan}
 use Rattle.patch_code.specs.Served.{body_at as stub_body}
-use Rattle.result_laws.specs.HomeLaws.{unnamed_in}
 use Rattle.result_laws.specs.ChosenPlacement.{ChosenPlacement, piece_of, copy_in}
 use Rattle.result_laws.specs.PlacedLaws.{IsPlacedResult}
 use Rattle.result_laws.specs.PlacedForms.{StandsAs, AtHome, InCopy, InStub}
@@ -117,14 +115,7 @@ home_few true u = (omega arith, omega arith)
 home_few false u = (omega arith, omega arith)
 
 module _ (file out : List ℕ) (board : Board) (g : Graph) (c : Code) (pl : ChosenPlacement) (result : IsPlacedResult file out board g c pl) where
-  abbrev v : PlainView
-  v = view_in file
-
-  abbrev q : Program
-  q = unnamed_in file board g
-
-  abbrev plan : OverlayPlan
-  plan = result.view.plan
+  open (setting file out board g c pl result) use {v, p as q, plan}
 
   fetched_few : (regs : Registers) (u a : ℕ) (stands : StandsAs c g pl plan u a) → AreFew (length (unit_fetched q c g pl plan regs u a stands))
   fetched_few regs _ _ (AtHome u b k there bare) = home_few (is_call_pair v u) u

@@ -23,13 +23,14 @@ use Rattle.object_machine.specs.Paired.{Origins, origins_after, is_paired_step}
 use Rattle.simulation.specs.Setups.{Setup}
 use Rattle.simulation.specs.Made.{AreMade}
 use Rattle.simulation.specs.Relation.{Alike, After, Tells}
-use Rattle.simulation.specs.Rules.{LiveRules, all_live}
+use Rattle.simulation.specs.Rules.{all_live}
 use Rattle.simulation.specs.Laws.{EndsAlike, at_home, IsUnit, OfBlock, ReachedBy, Behind}
 use Rattle.simulation.specs.Forms.{WordsAt, InWords}
 use Rattle.simulation.proofs.AnyForms.{form_leads, home_words}
 use Rattle.simulation.proofs.MadeSteps.{next_made}
 use Rattle.simulation.proofs.OneUnit.{Before}
 use Rattle.simulation.proofs.Unnamed.{next_same}
+use Rattle.simulation.proofs.AtHome.{all_live_rules}
 use Rattle.result_laws.specs.HomeLaws.{IsAccepted, program_in, unnamed_in, setup_in}
 use Rattle.result_laws.specs.LiveUnits.{StandsThere, ComesNext}
 use Rattle.result_laws.specs.ResultLaws.{most_steps}
@@ -70,26 +71,13 @@ second_by false u es (f ∷ []) rest e are whole some =
     let same = length-map es address_in in
     let parts : length es ≡ suc (suc (length rest)) = ap (λ (xs : List FlatEvent). length xs) whole in
     absurd (omega (arith, count, same, parts))
-second_by true u es (f ∷ h ∷ fs) rest e are whole some =
+second_by pair u es (f ∷ h ∷ fs) rest e are whole some =
+    let most = (fetched_by pair u).1 in
     let count = ap (λ (xs : List ℕ). length xs) are in
     let same = length-map es address_in in
     let parts = ap (λ (xs : List FlatEvent). length xs) whole in
     let both = length-append fs (e ∷ rest) in
-    absurd (omega (arith, count, same, parts, both))
-second_by false u es (f ∷ h ∷ fs) rest e are whole some =
-    let count = ap (λ (xs : List ℕ). length xs) are in
-    let same = length-map es address_in in
-    let parts = ap (λ (xs : List FlatEvent). length xs) whole in
-    let both = length-append fs (e ∷ rest) in
-    absurd (omega (arith, count, same, parts, both))
-
-all_live_rules : (p : Program) → LiveRules p all_live
-all_live_rules p =
-    record {
-      uses = λ u k i single reads has. tt;
-      keeps = λ s i k going single reads next lives other. tt;
-      passes = λ s read k going pair next lives other. tt;
-    }
+    absurd (omega (arith, most, count, same, parts, both))
 
 -- `apart` says that no unit begins with the second word of another
 module _ (file : List ℕ) (board : Board) (g : Graph) (c : Code) (accepted : IsAccepted file board g) (code : IsCode (view_in file) c) (regions : List ℕ) (units : List UnitAt) (forms : AreUnitsAt (IsAtHome c) units) (apart : (u e j : ℕ) → is_call_pair (view_in file) u ≡ true → StandsThere c (u + 4) e j → ⊥) where

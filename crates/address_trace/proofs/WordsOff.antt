@@ -6,7 +6,6 @@ use Rattle.std.proofs.lemmas.Bool.{both_ways}
 use Rattle.std.proofs.lemmas.List.Elements.{All-nil, All-cons, All-weaker}
 use Rattle.rv32im.specs.Acts.{Registers}
 use Rattle.rv32im.specs.declared.instructions.Instr.{Instr}
-use Rattle.elf_reader.specs.File.{PlainView, view_in}
 use Rattle.board_config.specs.declared.board.Board.{Board}
 use Rattle.flat_machine.specs.Lines.{words_from}
 use Rattle.flat_machine.specs.Runs.{Does}
@@ -23,14 +22,13 @@ use Rattle.result_laws.specs.Copied.{unit_words}
 use Rattle.result_laws.specs.Kinds.{takes}
 use Rattle.result_laws.specs.CopyLaws.{falls_to, place_behind}
 use Rattle.patch_code.specs.Told.{IsFrom}
-use Rattle.object_machine.specs.Program.{Program}
 use Rattle.object_machine.specs.State.{SourceState}
 use Rattle.object_machine.specs.Step.{Reads, next_state}
 use Rattle.patch_code.specs.Start.{start_at as stub_start, start_bytes}
-use Rattle.patch_code.specs.Overlay.{OverlayPlan}
 use Rattle.patch_code.specs.Served.{body_at}
-use Rattle.result_laws.specs.HomeLaws.{unnamed_in, source_start}
+use Rattle.result_laws.specs.HomeLaws.{source_start}
 use Rattle.result_laws.specs.LiveUnits.{StandsThere}
+use Rattle.result_laws.proofs.Setting.{setting}
 use Rattle.result_laws.proofs.CodeUnits.{first, units_stand}
 use Rattle.result_laws.proofs.Loaded.{refuted}
 use Rattle.result_laws.specs.Entries.{RunsIn}
@@ -50,14 +48,7 @@ use Rattle.address_trace.proofs.Ranges.{IsOff, home_off, pair_off, unit_in_spm, 
 use Rattle.address_trace.proofs.StubExits.{LeavesStub, stubs_are_left}
 
 module _ (file out : List ℕ) (board : Board) (g : Graph) (c : Code) (pl : ChosenPlacement) (result : IsPlacedResult file out board g c pl) (units : List UnitAt) (are : AreUnitsAt (IsUnitAt board c g pl result.view.plan) units) where
-  abbrev v : PlainView
-  v = view_in file
-
-  abbrev p : Program
-  p = unnamed_in file board g
-
-  abbrev plan : OverlayPlan
-  plan = result.view.plan
+  open (setting file out board g c pl result) use {v, p, plan}
 
   abbrev copy : ℕ → Copy
   copy n = copy_in c g pl n

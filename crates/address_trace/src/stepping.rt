@@ -1,5 +1,5 @@
 //! A step of a program, and those of its result.
-ghost use Rattle.std.specs.Prelude.{◌≡◌, ◌<◌, ◌^◌, ℕ, IfOk, MatchBool, MatchOption};
+ghost use Rattle.std.specs.Prelude.{◌≡◌, ◌<◌, ◌^◌, ℕ, None, IfOk, MatchBool, MatchOption};
 ghost use Rattle.flat_machine.specs.Machine as flat_machine_specs;
 ghost use Rattle.code_blocks.specs.Numbers.{starts_of};
 ghost use Rattle.object_machine.specs.{Program.{Program}, Machine.{state_of, IsProgram}};
@@ -110,6 +110,17 @@ fn told_step(event: &Event, region: u32, at: u32, came: Came) -> Option<TracedSt
     })
 }
 
+/// The same where the result may not have come along, of which nothing is told.
+fn told_behind(event: &Event, region: u32, at: u32, came: Option<Came>) -> Option<TracedStep>
+    ensures { MatchOption came (result ≡ None)
+        (λ found. MatchOption result (CanTell event.now.access found.access → ⊥) (λ x. CanTell event.now.access found.access × (x ≡ told_step event.now region at found))) }
+{
+    match came {
+        Some(came) => told_step(event, region, at, came),
+        None => None,
+    }
+}
+
 /// Takes a step of a program that goes on, and those of its result that belong to it. Tells nothing where the step can't be
 /// traced.
 ///
@@ -138,8 +149,6 @@ pub(crate) fn trace_step<S: ByteStore>(
     };
     *region = to;
     let next = next_by(event.outcome, sought);
-    match seek_next(flat, &next, &of.board.patch, most_steps(of.board))? {
-        Some(came) => Ok(told_step(&event, from, at, came)),
-        None => Ok(None),
-    }
+    let came = seek_next(flat, &next, &of.board.patch, most_steps(of.board))?;
+    Ok(told_behind(&event, from, at, came))
 }
