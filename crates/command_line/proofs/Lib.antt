@@ -19,3 +19,5 @@ pub mod Comparing
 pub mod Paying
 pub mod FirstSteps
 pub mod Tracing
+pub mod Promises
+pub mod AfterPaid

@@ -96,7 +96,8 @@ pub one_command : (words : List (List ℕ)) (one other : PlainCommand) → IsCom
 one_command words one other is is' =
     let same = sym (spelled_is words one is.spelled) ∙ spelled_is words other is'.spelled in cc
 
-held_is : (known : Option (Option (List ℕ))) (told given : List ℕ)
+-- what a shelf holds under a name is what it tells
+pub held_is : (known : Option (Option (List ℕ))) (told given : List ℕ)
     → known ≡ Some (Some told) → IfSome known (λ held. held ≡ Some given) → given ≡ told
 held_is None told given e h = absurd (cc)
 held_is (Some held) told given e h = cc

@@ -36,11 +36,12 @@ use Rattle.result_laws.specs.Choices.{IsChoiceFor}
 use Rattle.relink_core.specs.Choices.{IsAnalysisOf}
 use Rattle.printed_lines.specs.Endings.{IsAddressFault}
 use Rattle.paid_energy.specs.FlatRuns.{PaysRun}
-use Rattle.paid_energy.specs.Inward.{counted_inward}
+use Rattle.paid_energy.specs.Inward.{inward_calls, counted_inward}
 use Rattle.relink_core.proofs.KeepsLemmas.{passes}
 use Rattle.relink_core.proofs.ResultsRead.{results_are_read}
 use Rattle.paid_energy.proofs.InwardLemmas.{inward_counted}
-use Rattle.paid_energy.specs.Laws.{enough_steps, PaidIsModelled}
+use Rattle.paid_energy.specs.Laws.{enough_steps, IsPassed, ResultsPay}
+use Rattle.paid_energy.proofs.PaidRuns.{each_run_pays}
 use Rattle.elf_reader.specs.Faults.{first_fault}
 use Rattle.elf_reader.specs.declared.fault.ElfFault.{ElfFault}
 use Rattle.elf_reader.specs.declared.fault.ElfFault.TheVariants as elf
@@ -122,10 +123,10 @@ elf_rejected file o p choice out fault realises told =
 
 -- ---- the lines
 
-one_number : (m n : ℕ) → pos m ≡ pos n → m ≡ n
+pub one_number : (m n : ℕ) → pos m ≡ pos n → m ≡ n
 one_number m n same = cc (same)
 
-module _ (law : PaidIsModelled) (board_text file input cert text : List ℕ) (o : Opened) (m : MeasuredProgramme) (says : Bool) (choice : PlainChoice) (bytes : AreBytes input) (is : IsOpened board_text file o) (counts : CountsFor o input m) (accepted : AcceptsChoice (plain_programme m.programme) cert says choice) (made : MakesLines file o m choice input text) where
+module _ (law : ResultsPay) (board_text file input cert text : List ℕ) (o : Opened) (m : MeasuredProgramme) (says : Bool) (choice : PlainChoice) (bytes : AreBytes input) (is : IsOpened board_text file o) (counts : CountsFor o input m) (accepted : AcceptsChoice (plain_programme m.programme) cert says choice) (made : MakesLines file o m choice input text) where
   abbrev makes : MakesOf file o.board input cert made.out
   makes = makes_of board_text file input cert made.out o m says choice is counts accepted made.realises
 
@@ -141,14 +142,20 @@ module _ (law : PaidIsModelled) (board_text file input cert text : List ℕ) (o 
       let run = subst (λ n. PaysRun o.board (enough_steps o.board (is_nothing taken) n) (file_start made.out o.board input) runs.outcome runs.steps runs.paid) counts.same.run.profile.steps runs.run in
       let modelled : energy w taken states.transitions ≡ made.tells.modelled = one_number (energy w taken states.transitions) made.tells.modelled (sym (counts.states.energies choice feasible) ∙ sym made.tells.modelled_is) in
       let inward = inward_counted same_instruction a.view o.board a.graph a.code a.regions m.profile states.transitions taken counts.same in
-      let told = law file made.out o.board a p choice input o.board.steps states.transitions states.last code runs.steps runs.paid runs.outcome is.analysed feasible bytes made.realises made.keeps made.walks states.run exits in
+      let passed : IsPassed file o.board a.graph a.code =
+      record { bytes = is.analysed.bytes; lawful = is.analysed.lawful; no_fault = is.analysed.passes; graph = is.analysed.graph; code = is.analysed.code } in
+      let most = enough_steps o.board (is_nothing taken) (length states.transitions) in
+      let start = file_start made.out o.board input in
+      let calls = inward_calls w a.code taken states.transitions in
+      let told_so = each_run_pays same_instruction o.board most start runs.outcome runs.steps runs.paid code calls (energy w taken states.transitions) run in
+      let told = law file made.out o.board a.graph a.code a.regions p choice input o.board.steps states.transitions states.last code passed feasible bytes made.realises states.run exits in
       record {
         outcome = runs.outcome;
         steps = runs.steps;
         paid = runs.paid;
         run = run;
-        exits = λ paired. (told paired run).0;
-        equal = λ paired none. (told paired run).1 none ∙ modelled;
+        exits = λ paired. (told_so (told paired)).0;
+        equal = λ paired none. (told_so (told paired)).1 none ∙ modelled;
         text_is = runs.text_is ∙ ap (paid_text runs.outcome runs.paid) inward;
       }
 

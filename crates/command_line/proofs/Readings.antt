@@ -1,14 +1,11 @@
 -- Reading names one by one.
-use Rattle.std.proofs.Common.{◌≡◌, inl, inr, ℕ, suc, List, [], ◌∷◌, ◌++◌, map, ap, get_or, length, ◌<◌, refl, subst, arith}
-use Rattle.std.specs.List.{Contains}
+use Rattle.std.proofs.Common.{◌≡◌, inl, inr, ℕ, zero, suc, List, [], ◌∷◌, ◌++◌, map, take, drop, ap, get_or, length, ◌<◌, refl, subst, arith}
 use Rattle.shelf_io.specs.Shelf.{ShelfView, Holds}
-use Rattle.std.proofs.lemmas.List.Elements.{Contains-get_or}
-use Rattle.std.proofs.lemmas.List.{get_or-map, length-map}
 use Rattle.std.specs.Global.{Global}
 use Rattle.std.proofs.Common.{Vec}
 use Rattle.command_language.specs.Command.{Named, plain_named}
 use Rattle.command_language.specs.declared.commands.NamedWord.{NamedWord}
-use Rattle.command_line.specs.Reading.{contents, HoldsAll, RejectsRead, RejectsReads, one_fails, memory_wanting}
+use Rattle.command_line.specs.Reading.{contents, HoldsAll, IsReached, RejectsRead, RejectsReads, one_fails, memory_wanting}
 use Rattle.command_language.specs.declared.faults.CommandFault.{CommandFault}
 
 -- one more name
@@ -28,7 +25,7 @@ held_size shelf (m ∷ names) (x ∷ texts) h = ap suc (held_size shelf names te
 
 -- the fault of one read
 pub one_rejected : (names : List Named) (n : Named) (old mid new : ShelfView) (fault : CommandFault)
-    → Contains names n → mid ≡ old → RejectsRead n mid new fault → RejectsReads names old new fault
+    → IsReached old names n → mid ≡ old → RejectsRead n mid new fault → RejectsReads names old new fault
 one_rejected names n old mid new fault is_read same r =
     elim (subst (λ (s : ShelfView). RejectsRead n s new fault) same r) [
       | inl failed ↦ one_fails n is_read failed.0 failed.1
@@ -40,11 +37,25 @@ pub contents_more : (texts : List (Vec ℕ Global)) (text : Vec ℕ Global) → 
 contents_more [] text = refl
 contents_more (x ∷ texts) text = ap (λ more. x.items ∷ more) (contents_more texts text)
 
--- a word is one of the names
-pub is_named : (words : List NamedWord) (i : ℕ) (d : NamedWord) → i < length words → Contains (map plain_named words) (plain_named (get_or words i d))
-is_named words i d below =
-    let held = Contains-get_or (map plain_named words) i (plain_named d) (rw (length-map words plain_named) below) in
-    subst (Contains (map plain_named words)) (get_or-map plain_named words i d (plain_named d) below) held
+-- the names of words, about one of them
+names_about : (words : List NamedWord) (i : ℕ) (d : NamedWord) → i < length words
+    → map plain_named words ≡ map plain_named (take i words) ++ plain_named (get_or words i d) ∷ map plain_named (drop (suc i) words)
+names_about [] i d below = absurd (omega (arith, below))
+names_about (w ∷ words) zero d below = refl
+names_about (w ∷ words) (suc i) d below =
+    let less : i < length words = omega (arith, below) in ap (λ ns. plain_named w ∷ ns) (names_about words i d less)
+
+-- a word is reached whose names before it were read
+pub is_reached : (shelf : ShelfView) (words : List NamedWord) (i : ℕ) (d : NamedWord) (texts : List (List ℕ)) → i < length words
+    → HoldsAll shelf (map plain_named (take i words)) texts → IsReached shelf (map plain_named words) (plain_named (get_or words i d))
+is_reached shelf words i d texts below holds =
+    record {
+      before = map plain_named (take i words);
+      behind = map plain_named (drop (suc i) words);
+      names_are = names_about words i d below;
+      texts = texts;
+      holds = holds;
+    }
 
 -- the bytes of no text, and of one, two, three and four texts, one by one
 pub contents_of_none : (texts : List (Vec ℕ Global)) → length texts ≡ 0 → [] ≡ contents texts

@@ -19,3 +19,5 @@ pub mod InputTexts
 pub mod Performing
 pub mod ListedTexts
 pub mod Answers
+pub mod Promise
+pub mod AfterPaid

@@ -1,13 +1,12 @@
 -- Which names a command reads behind those of its words: those that a text of these lists.
 use Rattle.std.specs.Prelude.{◌≡◌, ◌⊎◌, ℕ, List, [], ◌∷◌, ◌++◌, map, Option, Some, None}
-use Rattle.std.specs.List.{Contains}
 use Rattle.shelf_io.specs.Shelf.{ShelfView, LogsFailed}
 use Rattle.shelf_io.specs.declared.shelves.CallKind.TheVariants.{Read}
 use Rattle.command_language.specs.Command.{PlainCommand, mix_command, check_mix_command, Named, named, reads, writes}
 use Rattle.command_language.specs.Lines.{MixLine, broken_at, mix_lines}
 use Rattle.command_language.specs.declared.faults.CommandFault.{CommandFault}
 use Rattle.command_language.specs.declared.faults.CommandFault.TheVariants as command_fault
-use Rattle.command_line.specs.Reading.{HoldsAll, RejectsReads}
+use Rattle.command_line.specs.Reading.{HoldsAll, IsReached}
 
 -- a name that a line lists has the place of the text
 abbrev pub listed_name : MixLine → Named
@@ -43,15 +42,15 @@ all_reads command inputs = reads command ++ further_reads command inputs
 abbrev pub HoldsInputs : ShelfView → PlainCommand → List (List ℕ) → Type 0
 HoldsInputs shelf command inputs = HoldsAll shelf (all_reads command inputs) inputs
 
--- the command reads a name that is listed by texts that the shelf holds
+-- the command reads a name that is listed by texts that the shelf holds, and has read those before it
 pub record ReadsListed (shelf : ShelfView) (command : PlainCommand) (read : Named) : Type 0 where
   pub texts : List (List ℕ)
   pub holds : HoldsAll shelf (reads command) texts
-  pub listed : Contains (further_reads command texts) read
+  pub listed : IsReached shelf (further_reads command texts) read
 
--- the command reads a name
+-- the command reads a name, and has read those before it
 abbrev pub ReadsName : ShelfView → PlainCommand → Named → Type 0
-ReadsName shelf command read = Contains (reads command) read ⊎ ReadsListed shelf command read
+ReadsName shelf command read = IsReached shelf (reads command) read ⊎ ReadsListed shelf command read
 
 -- reading the names of a command was rejected
 pub data RejectsNames (command : PlainCommand) (old new : ShelfView) (fault : CommandFault) : Type 0 where

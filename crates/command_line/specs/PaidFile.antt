@@ -16,10 +16,8 @@ use Rattle.energy_model.specs.Energy.{Taken, is_nothing}
 use Rattle.energy_model.specs.Scenes.{scene_of}
 use Rattle.placement_candidates.specs.Whole.{taken_of as names_taken}
 use Rattle.result_laws.specs.HomeLaws.{file_start}
-use Rattle.relink_core.specs.Choices.{KeepsMeaning}
 use Rattle.relink_core.specs.Placed.{taken_of, Realises}
 use Rattle.relink_core.specs.ResultFaults.{IsOfSize}
-use Rattle.relink_core.specs.Walks.{WalksBeside}
 use Rattle.relinking.specs.ProgrammeOfRun.{CountsProgramme}
 use Rattle.relinking.specs.declared.stating.MeasuredProgramme.{MeasuredProgramme}
 use Rattle.paid_energy.specs.FlatRuns.{PaysRun}
@@ -147,8 +145,6 @@ pub record TellsRun (o : Opened) (m : MeasuredProgramme) (choice : PlainChoice) 
 pub record MakesLines (file : List ℕ) (o : Opened) (m : MeasuredProgramme) (choice : PlainChoice) (input text : List ℕ) : Type 0 where
   pub out : List ℕ
   pub realises : Realises file o.board o.analysis.graph o.analysis.code o.analysis.regions (taken_of (plain_programme m.programme) choice) out
-  pub keeps : KeepsMeaning (taken_of (plain_programme m.programme) choice) file out o.board
-  pub walks : WalksBeside file out o.board o.analysis.graph o.analysis.code o.analysis.regions (taken_of (plain_programme m.programme) choice)
   pub sound : first_fault out ≡ None
   pub tells : TellsRun o m choice (file_start out o.board input) text
 

@@ -1,6 +1,5 @@
 -- What reading the names of a command gives.
-use Rattle.std.specs.Prelude.{◌≡◌, ◌⊎◌, ℕ, List, [], ◌∷◌, map, Vec}
-use Rattle.std.specs.List.{Contains}
+use Rattle.std.specs.Prelude.{◌≡◌, ◌⊎◌, ℕ, List, [], ◌∷◌, ◌++◌, map, Vec}
 use Rattle.std.specs.Global.{Global}
 use Rattle.shelf_io.specs.declared.shelves.CallKind.TheVariants.{Read}
 use Rattle.shelf_io.specs.Shelf.{ShelfView, Holds, LogsFailed}
@@ -24,8 +23,16 @@ abbrev pub RejectsRead : Named → ShelfView → ShelfView → CommandFault → 
 RejectsRead n old new fault =
     ((fault ≡ command_fault.Read n.place) × LogsFailed Read n.name old new) ⊎ ((fault ≡ command_fault.Memory) × (new ≡ old))
 
--- so was reading several names
+-- one of several names that are read in their order: those before it were read
+pub record IsReached (shelf : ShelfView) (names : List Named) (read : Named) : Type 0 where
+  pub before : List Named
+  pub behind : List Named
+  pub names_are : names ≡ before ++ read ∷ behind
+  pub texts : List (List ℕ)
+  pub holds : HoldsAll shelf before texts
+
+-- so was reading several names, one after the other
 pub data RejectsReads (names : List Named) (old new : ShelfView) (fault : CommandFault) : Type 0 where
-  one_fails : (n : Named) → Contains names n → fault ≡ command_fault.Read n.place → LogsFailed Read n.name old new
+  one_fails : (n : Named) → IsReached old names n → fault ≡ command_fault.Read n.place → LogsFailed Read n.name old new
       → RejectsReads names old new fault
   memory_wanting : fault ≡ command_fault.Memory → new ≡ old → RejectsReads names old new fault

@@ -18,7 +18,7 @@ use elf_reader::ElfView;
 use flat_machine::Flat;
 use object_machine::Outcome;
 use paged_store::PageStore;
-use paid_energy::{PaidRun, inward, paid, paid_is_modelled};
+use paid_energy::{PaidRun, inward, paid, results_pay};
 use placement_programme::{Choice, energy};
 use printed_lines::ending_line;
 use relink_core::realise;
@@ -66,7 +66,7 @@ fn choice_lines(
     ensures ok { IfOk result (λ lines. (board_text file : List ℕ) → IsOpened board_text file opened.now → PaysTo file board_text input.now cert.now (string_bytes lines)) }
     ensures err { IfErr result (λ fault. (board_text file : List ℕ) → IsOpened board_text file opened.now → RejectsPaid board_text file input.now cert.now fault) }
 {
-    paid_is_modelled();
+    results_pay();
     match accepted_choice(alloc, &measured.programme, cert) {
         Ok(accepted) => match made_lines(alloc, opened, measured, &accepted.choice, input) {
             Ok(lines) => Ok(lines),

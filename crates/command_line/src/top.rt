@@ -1,6 +1,6 @@
 ghost use Rattle.std.specs.Prelude.{◌≡◌, ◌≢◌, None};
 ghost use Rattle.command_language.specs.Command.{texts};
-ghost use Rattle.command_line.specs.Answers.{IsDone, TellsRun, EndsRejected, Answers};
+ghost use Rattle.command_line.specs.{Answers.{IsDone, TellsRun, EndsRejected, Answers}, Promise.{KeepsPromise}, AfterPaid.{PrintsPaid}};
 
 use crate::diagnostic::Diagnostic;
 use crate::observing::{NoObserver, Observer};
@@ -23,6 +23,14 @@ pub struct CommandOutcome {
 /// shelf; prints to a sink; and gives the exit status: 0 where the command did what it is for, and
 /// else the status of the one fault line that is put (docs/COMMAND_LINE.md).
 pub fn run<S: Shelf, K: Sink>(alloc: Global, words: &[String], shelf: &mut S, out: &mut K) -> u8
+    // With status 0 of `relink` and `mix`, OUT does what FILE does, on each input on which its program meets no address fault.
+    ensures promise { result ≡ 0 → KeepsPromise (texts words.now) (S.view shelf.old) (S.view shelf.new) }
+
+    // And OUT pays what is printed behind `after`, where the measured runs exit and make no inward call.
+    ensures pays { result ≡ 0 → PrintsPaid (texts words.now)
+        (S.view shelf.old) (S.view shelf.new)
+        (K.view out.old) (K.view out.new) }
+
     // With status 0 the command's result stands on the shelf, and its text was printed.
     ensures done { result ≡ 0 → IsDone (texts words.now)
         (S.view shelf.old) (S.view shelf.new)
@@ -50,6 +58,10 @@ pub fn run_command<S: Shelf, K: Sink, O: Observer>(
     out: &mut K,
     observer: &mut O,
 ) -> CommandOutcome
+    ensures promise { result.status ≡ 0 → KeepsPromise (texts words.now) (S.view shelf.old) (S.view shelf.new) }
+    ensures pays { result.status ≡ 0 → PrintsPaid (texts words.now)
+        (S.view shelf.old) (S.view shelf.new)
+        (K.view out.old) (K.view out.new) }
     ensures done { result.status ≡ 0 → IsDone (texts words.now)
         (S.view shelf.old) (S.view shelf.new)
         (K.view out.old) (K.view out.new) }
@@ -71,10 +83,14 @@ pub fn run_command<S: Shelf, K: Sink, O: Observer>(
         };
     };
     match perform_command(alloc, &command, shelf, out, observer) {
-        Ok(measured) => CommandOutcome {
-            status: 0,
-            measured,
-        },
+        Ok(measured) => {
+            compare_runner::kept_does_what_file_does();
+            paid_energy::results_pay();
+            CommandOutcome {
+                status: 0,
+                measured,
+            }
+        }
         Err(diagnostic) => CommandOutcome {
             status: diagnostic.tell(out),
             measured: None,

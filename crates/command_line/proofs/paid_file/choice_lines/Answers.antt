@@ -13,7 +13,7 @@ made_lines-requires-clause-feasible c =
 
 pub returns-in-Ok-made_lines-clause-ok : goal.returns-in-Ok-made_lines-clause-ok
 returns-in-Ok-made_lines-clause-ok c board_text file is =
-    pays_to c.paid_is_modelled.ensures board_text file c.args.input.now c.args.cert.now (string_bytes c.in-Ok-made_lines.lines) c.args.opened.now c.args.measured.now c.in-Ok.accepted.optimal (plain_choice c.in-Ok.accepted.choice)
+    pays_to c.results_pay.ensures board_text file c.args.input.now c.args.cert.now (string_bytes c.in-Ok-made_lines.lines) c.args.opened.now c.args.measured.now c.in-Ok.accepted.optimal (plain_choice c.in-Ok.accepted.choice)
     (bytes_read c.args.input.now (λ i. omega (arith, c.type_inv.input i))) is c.requires.counts c.in-Ok.ensures.ok (c.in-Ok-made_lines.ensures.ok file is.analysed)
 
 pub returns-in-Ok-clause-err : goal.returns-in-Ok-clause-err

@@ -30,8 +30,6 @@ returns-in-Ok-clause-ok c file is =
     record {
       out = out;
       realises = c.in_ok-made.ensures.realises file is;
-      keeps = c.in_ok-made.ensures.keeps file is;
-      walks = c.in_ok-made.ensures.walks file is;
       sound = subst (λ (bs : List ℕ). first_fault bs ≡ None) c.deref.ensures.value c.in_ok-view.ensures.fault;
       tells = subst (λ (v : PlainView). TellsRun o c.args.measured.now (plain_choice c.args.choice.now) (start_of v.entry v.segments (mapped_ranges o.board) c.args.input.now) (string_bytes c.in-Ok.lines)) (same_view out view is_file) c.in-Ok.ensures;
     }
