@@ -1,5 +1,6 @@
 # Start code with what other start codes do, each behind a name, in front of ../crt0.S:
-# SET_TRAPS sets the trap handler, CLEAR_ZEROS clears .bss, COPY_DATA copies .data from its load address, SET_GP sets gp.
+# SET_TRAPS sets the trap handler, CLEAR_ZEROS clears .bss, COPY_DATA copies .data from its load address, SET_GP sets gp,
+# MIX_PARTS makes an address of parts that don't belong together, which leads to another word, and exits by that.
     .section .text.start, "ax", @progbits
     .globl _start
     .type _start, @function
@@ -39,8 +40,28 @@ _start:
     j    1b
 2:
 #endif
+#ifdef MIX_PARTS
+    nop
+    auipc a0, %pcrel_hi(mixed)
+    lw    a0, %lo(mixed)(a0)
+    bnez  a0, 1f
+    li    a7, 93
+    ecall
+1:
+#endif
     j    usual_start
     .size _start, . - _start
+
+#ifdef MIX_PARTS
+    .section .rodata.mixed, "a", @progbits
+    .balign 4
+    .globl mixed
+    .type mixed, @object
+mixed:
+    .word 1
+    .size mixed, . - mixed
+    .word 0
+#endif
 
 #define _start usual_start
 #include "../crt0.S"

@@ -9,18 +9,14 @@ const DIFFERENCE: u8 = 11;
 const HEX: u8 = 14;
 
 /// Why something that a command reads beside FILE was refused, or differs from it, by the status of the command. Where a
-/// board is read a difference is that of a result. It fails only where no memory was left.
+/// board is read a difference is that of a result, of which more is known later. It fails only where no memory was left.
 pub fn explain_status(notes: &mut Notes, status: u8, has_board: bool) -> Result<(), AllocError> {
     match status {
         CERTIFICATE => notes.say_cause(
             "the certificate is cut off, was changed, or is one of another file, board or input",
             "give the certificate that relink wrote for this file, this board and this input",
         ),
-        DIFFERENCE if has_board => notes.say_cause(
-            "the result does not do on this input what the program does",
-            "relink this file for this board again, and compare it with what is written then",
-        ),
-        DIFFERENCE => notes.say_cause(
+        DIFFERENCE if !has_board => notes.say_cause(
             "the text in Intel HEX spells other bytes than the file loads, or another entry",
             "write the text of this file anew, by hex",
         ),

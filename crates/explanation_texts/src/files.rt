@@ -26,36 +26,39 @@ pub fn say_unwritten(notes: &mut Notes, place: usize, word: &str) -> Result<(), 
     )
 }
 
-/// A word that leads to a file which the command has read or written under another name. It fails only where no memory was
-/// left.
+/// Which file a command has read or written under another name, where it was to write that of a word.
+#[derive(Clone, Copy)]
+pub enum UsedFile {
+    /// The one to which the word leads.
+    Named,
+    /// The one where the new file would be made, beside it.
+    Beside,
+}
+
+/// A word whose file was not written, since a file of the command stands there. It fails only where no memory was left.
 pub fn say_used(
     notes: &mut Notes,
     place: usize,
     word: &str,
+    used: UsedFile,
     used_as: &str,
 ) -> Result<(), AllocError> {
+    let (before, behind, cure) = match used {
+        UsedFile::Named => (
+            "leads to the file",
+            "; nothing more was written there",
+            "give the name of another file",
+        ),
+        UsedFile::Beside => (
+            "can't be written: its new content is first put beside it, under the name of the file",
+            "; what stood there is as it was",
+            "rename that file, or give another name to write to",
+        ),
+    };
     begin_word(notes, place, word)?;
-    put_used(notes, "leads to the file", used_as)?;
-    notes.end("; nothing more was written there")?;
-    notes.say_first("give the name of another file")
-}
-
-/// A word beside which a file that the command has read or written stands where the new file would be made. It fails only
-/// where no memory was left.
-pub fn say_new_name_used(
-    notes: &mut Notes,
-    place: usize,
-    word: &str,
-    used_as: &str,
-) -> Result<(), AllocError> {
-    begin_word(notes, place, word)?;
-    put_used(
-        notes,
-        "can't be written: its new content is first put beside it, under the name of the file",
-        used_as,
-    )?;
-    notes.end("; what stood there is as it was")?;
-    notes.say_first("rename that file, or give another name to write to")
+    put_used(notes, before, used_as)?;
+    notes.end(behind)?;
+    notes.say_first(cure)
 }
 
 /// Goes on with a line by a file that the command has used under a name.

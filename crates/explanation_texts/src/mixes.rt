@@ -36,6 +36,15 @@ pub fn say_faulty_input(notes: &mut Notes, line: u64) -> Result<(), AllocError> 
     )
 }
 
+/// The input of a mix whose run is not paired, by the number of its line, from 1. It fails only where no memory was left.
+pub fn say_unpaired_input(notes: &mut Notes, line: u64) -> Result<(), AllocError> {
+    say_line(
+        notes,
+        line,
+        " names the first input whose run is not paired",
+    )
+}
+
 fn say_line(notes: &mut Notes, line: u64, words: &'static str) -> Result<(), AllocError> {
     notes.say(&[
         Piece::Text("line "),

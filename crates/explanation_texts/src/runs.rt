@@ -87,7 +87,7 @@ pub fn say_still_running(
 }
 
 /// A line of words, a place, and the instruction that stands there.
-fn say_instruction(
+pub(crate) fn say_instruction(
     notes: &mut Notes,
     file: &UncheckedFile,
     words: &str,

@@ -22,6 +22,8 @@ pub struct Command {
     pub result: Option<usize>,
     /// The place of a further ELF file that it reads.
     pub beside: Option<usize>,
+    /// Whether it tells where the program's run is not paired.
+    pub tells_pairing: bool,
     /// How many words behind its own name what it reads.
     pub reads: usize,
     /// The places of what it writes, in this order.
@@ -42,6 +44,7 @@ const NONE: Command = Command {
     mix: None,
     result: None,
     beside: None,
+    tells_pairing: false,
     reads: 0,
     writes: &[],
     numbers: "",
@@ -79,6 +82,7 @@ const COMMANDS: [Command; 13] = [
         operands: "FILE BOARD INPUT OUT CERT",
         purpose: "moves what saves energy, and writes the new file under OUT",
         result: Some(4),
+        tells_pairing: true,
         writes: &[5, 4],
         ..MEASURED
     },
@@ -95,6 +99,7 @@ const COMMANDS: [Command; 13] = [
         board: Some(3),
         input: Some(4),
         beside: Some(2),
+        tells_pairing: true,
         reads: 4,
         ..MEASURED
     },
@@ -102,6 +107,7 @@ const COMMANDS: [Command; 13] = [
         word: "check",
         operands: "FILE BOARD INPUT CERT",
         purpose: "checks a certificate that relink wrote",
+        tells_pairing: true,
         reads: 4,
         ..MEASURED
     },
@@ -127,6 +133,7 @@ const COMMANDS: [Command; 13] = [
         purpose: "relinks FILE for several inputs, which MIX lists with weights",
         mix: Some(3),
         result: Some(4),
+        tells_pairing: true,
         reads: 3,
         writes: &[5, 4],
         ..ANALYSED
@@ -136,6 +143,7 @@ const COMMANDS: [Command; 13] = [
         operands: "FILE BOARD MIX CERT",
         purpose: "checks a certificate that mix wrote",
         mix: Some(3),
+        tells_pairing: true,
         reads: 4,
         ..ANALYSED
     },

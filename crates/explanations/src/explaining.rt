@@ -2,11 +2,14 @@ ghost use Rattle.std.specs.Prelude.{ℕ, List};
 ghost use Rattle.board_config.specs.Board.{IsLawful};
 ghost use Rattle.relink_core.specs.Choices.{IsAnalysisOf};
 
+use crate::comparing::explain_comparison;
 use crate::files::explain_unread;
 use crate::inputs::{Inputs, inputs_of};
 use crate::mixes::explain_mix;
+use crate::pairing::{explain_pairing, may_be_unpaired};
 use crate::pinned::explain_pinned;
 use crate::runs::{explain_end, explain_run};
+use crate::subject::Subject;
 use board_config::{Board, read_board};
 use code_blocks::CodeFault;
 use command_language::CommandFault;
@@ -16,7 +19,7 @@ use explanation_texts::{
     say_listed_twice, say_many_blocks, say_small_patch, say_unknown_function,
 };
 use region_former::RegionFault;
-use relink_core::{AnalyseFault, Analysis, analyse};
+use relink_core::{AnalyseFault, analyse};
 use std::alloc::AllocError;
 use unchecked_file::UncheckedFile;
 
@@ -83,10 +86,10 @@ fn explain_done(notes: &mut Notes, inputs: &Inputs) -> Result<(), AllocError> {
     if let Some(end) = &inputs.end {
         explain_end(notes, &inputs.unchecked(), end)?;
     }
-    match inputs.moved {
-        Some(_) => explain_files(notes, inputs),
-        None => Ok(()),
+    if inputs.moved.is_some() || inputs.goes_on || may_be_unpaired(inputs) {
+        return explain_files(notes, inputs);
     }
+    Ok(())
 }
 
 /// A file, for a board where the command has one.
@@ -182,19 +185,33 @@ fn explain_sound(
     requires lawful { IsLawful board.now }
 {
     let analysis = analyse(inputs.alloc, file, board)?;
-    explain_analysed(notes, inputs, board, &analysis)?;
+    let subject = Subject {
+        inputs: *inputs,
+        board,
+        analysis,
+    };
+    explain_subject(notes, &subject)?;
     Ok(())
 }
 
-/// A file that was analysed: its run, and what of it stays.
-fn explain_analysed(
-    notes: &mut Notes,
-    inputs: &Inputs,
-    board: &Board,
-    analysis: &Analysis<'_>,
-) -> Result<(), AllocError>
-    requires { (file : List ℕ) × IsAnalysisOf file board.now analysis.now }
+/// A file that was analysed: its run, what it does beside its result, and what of it stays.
+fn explain_subject(notes: &mut Notes, subject: &Subject) -> Result<(), AllocError>
+    requires { (file : List ℕ) × IsAnalysisOf file subject.now.board.now subject.now.analysis }
 {
-    explain_run(notes, inputs, board, analysis)?;
-    explain_pinned(notes, inputs, board, &analysis.view, &analysis.graph)
+    explain_run(notes, subject)?;
+    let inputs = &subject.inputs;
+    if inputs.beside.is_some() {
+        return explain_comparison(notes, subject);
+    }
+    if inputs.status == 0 {
+        explain_pairing(notes, subject)?;
+    }
+    let analysis = &subject.analysis;
+    explain_pinned(
+        notes,
+        inputs,
+        subject.board,
+        &analysis.view,
+        &analysis.graph,
+    )
 }

@@ -2,8 +2,8 @@ use crate::inputs::text_of;
 use crate::mixes::explain_unread_input;
 use command_line::InputTexts;
 use explanation_texts::{
-    Command, Notes, say_certificate_alone, say_new_name_used, say_unprinted, say_unread,
-    say_unwritten, say_used,
+    Command, Notes, UsedFile, say_certificate_alone, say_unprinted, say_unread, say_unwritten,
+    say_used,
 };
 use shelf_io::{FailedWrite, WriteCause};
 use std::alloc::AllocError;
@@ -60,9 +60,11 @@ fn explain_failed(
     let name = failed.name.as_str();
     match &failed.cause {
         WriteCause::Outside => say_unwritten(notes, place, name)?,
-        WriteCause::Used(used_as) => say_used(notes, place, name, used_as.as_str())?,
+        WriteCause::Used(used_as) => {
+            say_used(notes, place, name, UsedFile::Named, used_as.as_str())?;
+        }
         WriteCause::NewNameUsed(used_as) => {
-            say_new_name_used(notes, place, name, used_as.as_str())?;
+            say_used(notes, place, name, UsedFile::Beside, used_as.as_str())?;
         }
     }
     match before {

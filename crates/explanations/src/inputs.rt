@@ -5,6 +5,9 @@ use relinking::MeasuredEnd;
 use std::alloc::Global;
 use unchecked_file::UncheckedFile;
 
+/// What is printed where a result does what its program does, and the program goes on.
+const SAME_AND_RUNNING: &[u8] = b"same\nrunning\n";
+
 /// What a command read, and what came of it.
 #[derive(Clone, Copy)]
 pub(crate) struct Inputs<'a> {
@@ -24,6 +27,10 @@ pub(crate) struct Inputs<'a> {
     pub(crate) moved: Option<bool>,
     /// A further ELF file that the command read.
     pub(crate) beside: Option<&'a [u8]>,
+    /// Whether the command tells where the program's run is not paired.
+    pub(crate) tells_pairing: bool,
+    /// Whether it compared a result with the program, and the program went on.
+    pub(crate) goes_on: bool,
     /// The status that the command has where its result is written.
     pub(crate) status: u8,
     /// How the run ended by which the command measured the program.
@@ -49,6 +56,10 @@ pub(crate) fn inputs_of<'a>(
         Ok(prepared) => (0, prepared.measured, has_moved(command, file, prepared)),
         Err(fault) => (fault.status(), None, None),
     };
+    let goes_on = match made {
+        Ok(prepared) => prepared.text.as_slice() == SAME_AND_RUNNING,
+        Err(_) => false,
+    };
     Some(Inputs {
         alloc,
         file,
@@ -59,6 +70,8 @@ pub(crate) fn inputs_of<'a>(
         listed: texts.listed,
         moved,
         beside: text_of(texts, command.beside),
+        tells_pairing: command.tells_pairing,
+        goes_on,
         status,
         end,
     })

@@ -2,14 +2,17 @@
 #![tactic(auto)]
 
 mod census;
+mod comparing;
 mod explainer;
 mod explaining;
 mod files;
 mod inputs;
 mod mixes;
 mod names;
+mod pairing;
 mod pinned;
 mod runs;
 mod section_map;
+mod subject;
 
 pub use explainer::Explainer;

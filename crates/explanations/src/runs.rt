@@ -1,9 +1,8 @@
 ghost use Rattle.std.specs.Prelude.{ℕ, List};
 ghost use Rattle.relink_core.specs.Choices.{IsAnalysisOf};
 
-use crate::inputs::Inputs;
 use crate::names::{name_at, object_name, section_at, section_name};
-use board_config::Board;
+use crate::subject::Subject;
 use elf_reader::ElfView;
 use explanation_texts::{
     Involved, Notes, explain_fault, is_anchor, say_faulty_input, say_load_address,
@@ -11,10 +10,10 @@ use explanation_texts::{
 };
 use fault_trail::{AddressFault, fault_of_run};
 use object_graph::Graph;
-use object_machine::{Outcome, Source};
+use object_machine::Outcome;
 use relink_core::Analysis;
 use relinking::MeasuredEnd;
-use std::alloc::{AllocError, Global};
+use std::alloc::AllocError;
 use unchecked_file::UncheckedFile;
 
 /// The statuses of address faults: of a measured run, and of one beside a result.
@@ -23,80 +22,42 @@ const ADDRESS_FAULTS: [u8; 2] = [8, 12];
 /// The reason of an access to an object that may move by a plain number.
 const BY_NUMBER: u32 = 4;
 
-/// A run that met an address fault, if this is the status of one. The run is followed again, up to the fault.
-pub(crate) fn explain_run(
-    notes: &mut Notes,
-    inputs: &Inputs,
-    board: &Board,
-    analysis: &Analysis<'_>,
-) -> Result<(), AllocError>
-    requires { (file : List ℕ) × IsAnalysisOf file board.now analysis.now }
+/// A run that met an address fault, if this is the status of one: of the inputs that a mix lists, it is the first whose run
+/// meets one. The run is followed again, up to the fault.
+pub(crate) fn explain_run(notes: &mut Notes, subject: &Subject) -> Result<(), AllocError>
+    requires { (file : List ℕ) × IsAnalysisOf file subject.now.board.now subject.now.analysis }
 {
+    let inputs = &subject.inputs;
     if !ADDRESS_FAULTS.contains(&inputs.status) {
         return Ok(());
     }
     if let Some(input) = inputs.input {
-        if let Some(fault) = fault_on(inputs.alloc, analysis, board, input)? {
-            explain_faulted(notes, &inputs.unchecked(), analysis, &fault)?;
+        if let Some(fault) = fault_on(subject, input)? {
+            explain_faulted(notes, &inputs.unchecked(), &subject.analysis, &fault)?;
         }
         return Ok(());
     }
-    explain_listed(notes, inputs, board, analysis)
-}
-
-/// The first of the inputs of a mix whose run meets an address fault.
-fn explain_listed(
-    notes: &mut Notes,
-    inputs: &Inputs,
-    board: &Board,
-    analysis: &Analysis<'_>,
-) -> Result<(), AllocError>
-    requires { (file : List ℕ) × IsAnalysisOf file board.now analysis.now }
-{
     for (place, input) in inputs.listed.iter().enumerate() {
-        if let Some(fault) = fault_on(inputs.alloc, analysis, board, input)? {
+        if let Some(fault) = fault_on(subject, input)? {
             say_faulty_input(notes, place as u64 + 1)?;
-            return explain_faulted(notes, &inputs.unchecked(), analysis, &fault);
+            return explain_faulted(notes, &inputs.unchecked(), &subject.analysis, &fault);
         }
     }
     Ok(())
 }
 
 /// The address fault of the program's run on an input, if it meets one.
-fn fault_on(
-    alloc: Global,
-    analysis: &Analysis<'_>,
-    board: &Board,
-    input: &[u8],
-) -> Result<Option<AddressFault>, AllocError>
-    requires { (file : List ℕ) × IsAnalysisOf file board.now analysis.now }
+fn fault_on(subject: &Subject, input: &[u8]) -> Result<Option<AddressFault>, AllocError>
+    requires { (file : List ℕ) × IsAnalysisOf file subject.now.board.now subject.now.analysis }
 {
-    let mut source = machine(alloc, analysis, board, input)?;
+    let mut source = subject.machine(input)?;
+    let analysis = &subject.analysis;
     fault_of_run(
-        alloc,
+        subject.inputs.alloc,
         &mut source,
         &analysis.code,
         &analysis.graph,
-        board.steps,
-    )
-}
-
-/// A machine at the entry of a program.
-fn machine(
-    alloc: Global,
-    analysis: &Analysis<'_>,
-    board: &Board,
-    input: &[u8],
-) -> Result<Source, AllocError>
-    requires { (file : List ℕ) × IsAnalysisOf file board.now analysis.now }
-{
-    Source::new(
-        alloc,
-        &analysis.view,
-        &analysis.graph,
-        &analysis.code,
-        board,
-        input,
+        subject.board.steps,
     )
 }
 

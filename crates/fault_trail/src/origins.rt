@@ -21,6 +21,8 @@ pub struct Origin {
     pub object: u32,
     /// How the value was made.
     pub way: Way,
+    /// The address of the AUIPC that made it, where it is the upper part and no LUI did.
+    pub auipc: Option<u32>,
 }
 
 /// What is known of a value: the number that it is where all objects are at home, and its origin.
@@ -43,14 +45,15 @@ pub(crate) fn number(number: u32) -> Trace {
     }
 }
 
-/// What a LUI or an AUIPC makes.
-pub(crate) fn upper(number: u32, site: Option<Site>) -> Trace {
+/// What a LUI makes, or the AUIPC at an address.
+pub(crate) fn upper(number: u32, auipc: Option<u32>, site: Option<Site>) -> Trace {
     Trace {
         number: Some(number),
         origin: match site {
             Some(site) => Some(Origin {
                 object: site.object,
                 way: Way::Upper,
+                auipc,
             }),
             None => None,
         },
@@ -82,18 +85,27 @@ fn lower(upper: Option<Origin>, object: u32) -> Origin {
         ) => Way::CopiedUpper,
         _ => Way::Address,
     };
-    Origin { object, way }
+    of_object(object, way)
+}
+
+/// An origin of which no AUIPC is known.
+pub(crate) fn of_object(object: u32, way: Way) -> Origin {
+    Origin {
+        object,
+        way,
+        auipc: None,
+    }
 }
 
 /// The origin of a value with an immediate added, or otherwise changed.
 fn kept(kind: ImmKind, origin: Option<Origin>) -> Option<Origin> {
-    let Origin { object, way } = origin?;
+    let Origin { object, way, .. } = origin?;
     let way = match (kind, way) {
         (ImmKind::Addi, Way::Upper) => Way::CopiedUpper,
         (ImmKind::Addi, way) => way,
         _ => Way::Computed,
     };
-    Some(Origin { object, way })
+    Some(of_object(object, way))
 }
 
 /// What an operation on two values makes.
@@ -151,10 +163,7 @@ fn doubtful(first: Origin, second: Origin) -> Origin {
 
 /// The origin of a value that arithmetic changed.
 fn computed(origin: Origin) -> Origin {
-    Origin {
-        object: origin.object,
-        way: Way::Computed,
-    }
+    of_object(origin.object, Way::Computed)
 }
 
 /// The origin of a difference. That of two addresses in one object is a number; else the subtracted one is what it
@@ -169,10 +178,7 @@ fn subtracted(origin: Origin, taken: Origin) -> Option<Origin> {
 /// The origin of a value with a number added.
 fn added(origin: Origin) -> Origin {
     match origin.way {
-        Way::Upper => Origin {
-            object: origin.object,
-            way: Way::CopiedUpper,
-        },
+        Way::Upper => of_object(origin.object, Way::CopiedUpper),
         _ => origin,
     }
 }

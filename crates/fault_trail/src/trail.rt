@@ -1,4 +1,4 @@
-use crate::origins::{Origin, Trace, UNKNOWN, Way, combined, number, upper, with_immediate};
+use crate::origins::{Trace, UNKNOWN, Way, combined, number, of_object, upper, with_immediate};
 use crate::units::TracedUnit;
 use object_graph::{DataWord, Graph};
 use rv32im::{A0, Instr, LoadKind, StoreKind};
@@ -41,10 +41,7 @@ impl Trail {
     fn put_data(&mut self, word: &DataWord) {
         let trace = Trace {
             number: None,
-            origin: Some(Origin {
-                object: word.object,
-                way: Way::Address,
-            }),
+            origin: Some(of_object(word.object, Way::Address)),
         };
         self.store(word.at, trace);
     }
@@ -96,9 +93,9 @@ impl Trail {
             return;
         }
         match unit.instr {
-            Some(Instr::Lui { rd, imm }) => self.set(rd, upper(imm << 12, unit.site)),
+            Some(Instr::Lui { rd, imm }) => self.set(rd, upper(imm << 12, None, unit.site)),
             Some(Instr::Auipc { rd, imm }) => {
-                self.set(rd, upper(at.wrapping_add(imm << 12), unit.site));
+                self.set(rd, upper(at.wrapping_add(imm << 12), Some(at), unit.site));
             }
             Some(Instr::Jal { rd, .. } | Instr::Jalr { rd, .. }) => {
                 self.set(rd, number(at.wrapping_add(4)));

@@ -1,8 +1,17 @@
-use crate::origins::Origin;
+use crate::origins::{Origin, of_object};
 use code_blocks::{Code, Unit};
 use object_graph::{Graph, Site};
 use rv32im::Instr;
 use std::alloc::{AllocError, Global};
+
+/// A low part of an address that is relative to the pc (PCREL_LO12).
+#[derive(Clone, Copy)]
+pub struct PairedLow {
+    /// The address of its instruction.
+    pub at: u32,
+    /// The address of the AUIPC that its relocation names.
+    pub auipc: u32,
+}
 
 /// A unit of code.
 #[derive(Clone, Copy)]
@@ -11,17 +20,19 @@ pub(crate) struct TracedUnit {
     pub(crate) words: u32,
     /// The site of its first word.
     pub(crate) site: Option<Site>,
+    /// The address of the AUIPC that its relocation names, where it is relative to the pc.
+    pub(crate) named: Option<u32>,
 }
 
 impl TracedUnit {
     /// The origin of its base: at a site that of the site, unless nothing is known of the base.
     pub(crate) fn origin_at_site(&self, base: Option<Origin>) -> Option<Origin> {
-        let Origin { object, way } = base?;
+        let Origin { object, way, .. } = base?;
         let object = match self.site {
             Some(site) => site.object,
             None => object,
         };
-        Some(Origin { object, way })
+        Some(of_object(object, way))
     }
 }
 
@@ -57,6 +68,7 @@ impl UnitTable {
                     instr: unit.instr,
                     words: unit.words,
                     site: None,
+                    named: None,
                 });
             }
         }
@@ -66,6 +78,18 @@ impl UnitTable {
         let place = self.place(site.at);
         if let Some(Some(unit)) = self.units.get_mut(place) {
             unit.site = Some(site);
+        }
+    }
+
+    /// Notes which AUIPC each of these low parts belongs to: of several at one instruction that of the first counts.
+    pub(crate) fn name_uppers(&mut self, lows: &[PairedLow]) {
+        for low in lows {
+            let place = self.place(low.at);
+            if let Some(Some(unit)) = self.units.get_mut(place) {
+                if unit.named.is_none() {
+                    unit.named = Some(low.auipc);
+                }
+            }
         }
     }
 

@@ -1,0 +1,86 @@
+use crate::notes::{Notes, Piece};
+use crate::places::put_place;
+use crate::runs::say_instruction;
+use fault_trail::Unpaired;
+use std::alloc::AllocError;
+use unchecked_file::UncheckedFile;
+
+/// The objects of whose addresses a unit takes parts that don't belong together, by name.
+#[derive(Clone, Copy)]
+pub struct MixedParts<'a> {
+    /// That of the low part; empty where there is none.
+    pub low: &'a [u8],
+    /// That of the upper part.
+    pub upper: &'a [u8],
+}
+
+/// That a measured run is not paired. It fails only where no memory was left.
+pub fn say_measured_unpaired(notes: &mut Notes) -> Result<(), AllocError> {
+    notes.say_words("the measured run is not paired: FILE may do something else than its program")
+}
+
+/// The first unit by which a run is not paired. It fails only where no memory was left.
+pub fn say_unpaired(
+    notes: &mut Notes,
+    file: &UncheckedFile,
+    unpaired: &Unpaired,
+    parts: &MixedParts,
+) -> Result<(), AllocError> {
+    say_instruction(
+        notes,
+        file,
+        "the first instruction that is not paired stands",
+        unpaired.pc,
+    )?;
+    match unpaired.object {
+        Some(_) => say_added(notes, file, unpaired, parts),
+        None => say_taken(notes, file, unpaired, parts),
+    }
+}
+
+/// A low part that is added to another upper part than its own.
+fn say_added(
+    notes: &mut Notes,
+    file: &UncheckedFile,
+    unpaired: &Unpaired,
+    parts: &MixedParts,
+) -> Result<(), AllocError> {
+    notes.begin("it adds the low part of an address in ")?;
+    notes.put(&[Piece::Name(parts.low), Piece::Text(" to ")])?;
+    put_upper(notes, file, unpaired, parts)?;
+    notes.end(", which its relocation does not name")?;
+    notes.say_first("make the address by lui, or by the upper part that the relocation names")
+}
+
+/// An upper part whose low bits are taken as they are.
+fn say_taken(
+    notes: &mut Notes,
+    file: &UncheckedFile,
+    unpaired: &Unpaired,
+    parts: &MixedParts,
+) -> Result<(), AllocError> {
+    notes.begin("it takes the low bits of ")?;
+    put_upper(notes, file, unpaired, parts)?;
+    notes.end(", which are those of the pc")?;
+    notes.say_first("make the address by lui, or add its low part before it is copied")
+}
+
+/// Goes on with a line by an upper part, and where it was made.
+fn put_upper(
+    notes: &mut Notes,
+    file: &UncheckedFile,
+    unpaired: &Unpaired,
+    parts: &MixedParts,
+) -> Result<(), AllocError> {
+    notes.put(&[
+        Piece::Text("the upper part of an address in "),
+        Piece::Name(parts.upper),
+    ])?;
+    match unpaired.upper {
+        Some(address) => {
+            notes.put(&[Piece::Text(" that stands")])?;
+            put_place(notes, file, address)
+        }
+        None => notes.put(&[Piece::Text(" that a lui made")]),
+    }
+}

@@ -1,0 +1,172 @@
+ghost use Rattle.std.specs.Prelude.{ℕ, List};
+ghost use Rattle.relink_core.specs.Choices.{IsAnalysisOf};
+
+use crate::pairing::{explain_pairing, makes_relative};
+use crate::subject::Subject;
+use board_config::Board;
+use explanation_texts::{
+    Notes, ResultEnd, say_compared, say_ended_early, say_file_differs, say_more_steps,
+    say_result_differs,
+};
+use flat_machine::{Flat, FlatOutcome};
+use object_machine::{Outcome, Source};
+use paged_store::PageStore;
+use std::alloc::{AllocError, Global};
+
+/// The status of a result that differs from its program.
+const DIFFERENCE: u8 = 11;
+
+/// What a program did on an input, on the machine whose objects have no addresses.
+#[derive(Drop)]
+struct ProgramRun {
+    /// How many steps it took.
+    steps: u64,
+    outcome: Outcome,
+    /// What it wrote.
+    written: Vec<u8>,
+}
+
+/// Whether FILE and RESULT do what the program does, and how far they were compared.
+pub(crate) fn explain_comparison(notes: &mut Notes, subject: &Subject) -> Result<(), AllocError>
+    requires { (file : List ℕ) × IsAnalysisOf file subject.now.board.now subject.now.analysis }
+{
+    let inputs = &subject.inputs;
+    let board = subject.board;
+    let analysis = &subject.analysis;
+    let (Some(input), Some(relinked)) = (inputs.input, inputs.beside) else {
+        return Ok(());
+    };
+    let differs = inputs.status == DIFFERENCE;
+    let is_relative = makes_relative(&analysis.view, &analysis.graph);
+    if !differs && inputs.status != 0 {
+        return Ok(());
+    }
+    if !is_relative && !inputs.goes_on {
+        return explain_result(notes, differs);
+    }
+    let run = run_program(subject, input)?;
+    if is_relative && !does_same(inputs.alloc, inputs.file, board, input, &run)? {
+        say_file_differs(notes, differs)?;
+        return explain_pairing(notes, subject);
+    }
+    if inputs.goes_on {
+        return explain_running(notes, relinked, board, input, &run);
+    }
+    explain_result(notes, differs)
+}
+
+/// A result whose file does what the program does.
+fn explain_result(notes: &mut Notes, differs: bool) -> Result<(), AllocError> {
+    if differs {
+        say_result_differs(notes)
+    } else {
+        Ok(())
+    }
+}
+
+fn run_program(subject: &Subject, input: &[u8]) -> Result<ProgramRun, AllocError>
+    requires { (file : List ℕ) × IsAnalysisOf file subject.now.board.now subject.now.analysis }
+{
+    let mut source = subject.machine(input)?;
+    let steps = steps_to_end(&mut source, subject.board.steps)?;
+    Ok(ProgramRun {
+        steps,
+        outcome: source.outcome(),
+        written: source.output().to_vec(subject.inputs.alloc)?,
+    })
+}
+
+/// Takes steps until a program ends, or so many were taken, and tells how many it took.
+fn steps_to_end(source: &mut Source, most: u64) -> Result<u64, AllocError> {
+    for k in 0..most {
+        if source.outcome() != Outcome::GoesOn {
+            return Ok(k);
+        }
+        source.step()?;
+    }
+    Ok(most)
+}
+
+/// The flat machine at the entry of a file; `None` for what is no ELF file.
+fn flat_machine(
+    alloc: Global,
+    bytes: &[u8],
+    board: &Board,
+    input: &[u8],
+) -> Result<Option<Flat<PageStore>>, AllocError> {
+    match elf_reader::read(alloc, bytes) {
+        Ok(view) => Ok(Some(Flat::new(alloc, &view, board, input, PageStore::new(alloc))?)),
+        Err(_) => Ok(None),
+    }
+}
+
+/// Whether a file, as it is, does what its program did. In a paired run it takes one or two steps for each of the program's.
+fn does_same(
+    alloc: Global,
+    bytes: &[u8],
+    board: &Board,
+    input: &[u8],
+    run: &ProgramRun,
+) -> Result<bool, AllocError> {
+    let Some(mut machine) = flat_machine(alloc, bytes, board, input)? else {
+        return Ok(true);
+    };
+    let early = machine.run(run.steps)?;
+    if run.outcome == Outcome::GoesOn && early != FlatOutcome::GoesOn {
+        return Ok(false);
+    }
+    let outcome = machine.run(run.steps)?;
+    Ok(are_alike(run, outcome, machine.output()))
+}
+
+fn are_alike(run: &ProgramRun, other: FlatOutcome, bytes: &[u8]) -> bool {
+    let written = run.written.as_slice();
+    match (run.outcome, other) {
+        (Outcome::GoesOn, _) => bytes.starts_with(written),
+        (Outcome::Exited(code), FlatOutcome::Exited(other)) => code == other && bytes == written,
+        (Outcome::Trapped { .. }, FlatOutcome::Trapped { .. }) => bytes == written,
+        _ => false,
+    }
+}
+
+/// A result of a program that goes on: how far it was compared, and whether it ended within as many steps.
+fn explain_running(
+    notes: &mut Notes,
+    relinked: &[u8],
+    board: &Board,
+    input: &[u8],
+    run: &ProgramRun,
+) -> Result<(), AllocError> {
+    let Some(mut machine) = flat_machine(notes.alloc(), relinked, board, input)? else {
+        return Ok(());
+    };
+    let most = most_steps(board, run.steps);
+    let compared = steps_to_write(&mut machine, run.written.len(), most)?;
+    say_compared(notes, run.steps, compared)?;
+    match machine.run(run.steps.saturating_sub(compared))? {
+        FlatOutcome::Exited(code) => say_ended_early(notes, ResultEnd::Exited(code)),
+        FlatOutcome::Trapped { pc } => say_ended_early(notes, ResultEnd::Trapped { pc }),
+        FlatOutcome::GoesOn => say_more_steps(notes),
+    }
+}
+
+/// How many steps a result is compared at most, of a program that took so many.
+fn most_steps(board: &Board, steps: u64) -> u64 {
+    let each = u64::from(board.spm.size) * 12 + 256;
+    steps.saturating_add(1).saturating_mul(each)
+}
+
+/// Takes steps until so many bytes are written, or `most` were taken, and tells how many it took.
+fn steps_to_write(
+    machine: &mut Flat<PageStore>,
+    written: usize,
+    most: u64,
+) -> Result<u64, AllocError> {
+    for k in 0..most {
+        if machine.output().len() >= written {
+            return Ok(k);
+        }
+        machine.step()?;
+    }
+    Ok(most)
+}
