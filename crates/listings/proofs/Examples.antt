@@ -8,13 +8,14 @@ use Rattle.patch_code.specs.Start.{StartPlan, CanStart, Spares}
 use Rattle.patch_code.specs.PlainStubs.{PlainStub, CanJump}
 use Rattle.patch_code.specs.Layout.{CodePlan, CanStand, SparesRest, alone}
 use Rattle.patch_code.proofs.Alone.{alone_stands}
+use Rattle.listings.proofs.RegionPlans.{start_with, starts_with}
 
 -- one job of words, from behind the stub
 abbrev pub image : CopyJob
 image = record { from = 589960; to = 16777216; bytes = 48 }
 
 abbrev pub one : StartPlan
-one = record { base = 589824; entry = 65536; fence_i = false; jobs = image ∷ [] }
+one = start_with false (image ∷ [])
 
 image_is : IsJob image
 image_is = record { some = omega arith; source = omega arith; target = omega arith; disjoint = inl (omega arith) }
@@ -22,14 +23,8 @@ image_is = record { some = omega arith; source = omega arith; target = omega ari
 one_starts : CanStart one
 unfolding copying
 one_starts =
-    record {
-      aligned = refl;
-      entry = omega arith;
-      jobs = All-cons IsJob image [] image_is (All-nil IsJob);
-      spared = All-cons (Spares one) image [] (inr (omega arith)) (All-nil (Spares one));
-      ends = omega arith;
-      reach = (omega arith, refl);
-    }
+    starts_with false (image ∷ []) (All-cons IsJob image [] image_is (All-nil IsJob))
+    (All-cons (Spares one) image [] (inr (omega arith)) (All-nil (Spares one))) (omega arith) (omega arith, refl)
 
 pub one_stands : CanStand (alone one)
 one_stands = alone_stands one one_starts
@@ -61,7 +56,7 @@ abbrev pub pair : CopyJob
 pair = record { from = 65585; to = 16777233; bytes = 2 }
 
 abbrev pub two : StartPlan
-two = record { base = 589824; entry = 65536; fence_i = true; jobs = table ∷ pair ∷ [] }
+two = start_with true (table ∷ pair ∷ [])
 
 table_is : IsJob table
 table_is = record { some = omega arith; source = omega arith; target = omega arith; disjoint = inl (omega arith) }
@@ -72,16 +67,9 @@ pair_is = record { some = omega arith; source = omega arith; target = omega arit
 two_start : CanStart two
 unfolding copying
 two_start =
-    record {
-      aligned = refl;
-      entry = omega arith;
-      jobs = All-cons IsJob table (pair ∷ []) table_is (All-cons IsJob pair [] pair_is (All-nil IsJob));
-      spared =
-          All-cons (Spares two) table (pair ∷ []) (inr (omega arith))
-          (All-cons (Spares two) pair [] (inr (omega arith)) (All-nil (Spares two)));
-      ends = omega arith;
-      reach = (omega arith, refl);
-    }
+    starts_with true (table ∷ pair ∷ []) (All-cons IsJob table (pair ∷ []) table_is (All-cons IsJob pair [] pair_is (All-nil IsJob)))
+    (All-cons (Spares two) table (pair ∷ []) (inr (omega arith))
+    (All-cons (Spares two) pair [] (inr (omega arith)) (All-nil (Spares two)))) (omega arith) (omega arith, refl)
 
 pub two_stand : CanStand (alone two)
 two_stand = alone_stands two two_start

@@ -9,24 +9,16 @@ use Rattle.patch_code.specs.Jobs.{copying, IsJob}
 use Rattle.patch_code.specs.Switching.{routine}
 use Rattle.patch_code.specs.Start.{StartPlan, CanStart, Spares, start_bytes}
 use Rattle.patch_code.specs.Serving.{ServingStub, jumps_to}
-use Rattle.listings.proofs.RegionExample.{lists_of}
 use Rattle.patch_code.specs.Overlay.{OverlayPlan, CanServe, CanMove, CanChange, CanHold, SparesWords, rest_bytes}
+use Rattle.listings.proofs.RegionPlans.{start_with, starts_with, plan_with, serves, changes}
 
 -- ---- the start stub
 
 abbrev pub start : StartPlan
-start = record { base = 589824; entry = 65536; fence_i = true; jobs = [] }
+start = start_with true []
 
 starts : CanStart start
-starts =
-    record {
-      aligned = refl;
-      entry = omega arith;
-      jobs = All-nil IsJob;
-      spared = All-nil (Spares start);
-      ends = omega arith;
-      reach = (omega arith, refl);
-    }
+starts = starts_with true [] (All-nil IsJob) (All-nil (Spares start)) (omega arith) (omega arith, refl)
 
 -- ---- jobs
 
@@ -102,20 +94,9 @@ third_stub = record { home = 65552; temp = 18; region = 3; body = jumps_to 65740
 
 abbrev pub pair : OverlayPlan
 pair =
-    record {
-      start = record { base = 589824; entry = 65536; fence_i = true; jobs = [] };
-      stubs = first_stub ∷ second_stub ∷ [];
-      twins = false;
-      regions = 2;
-      leave = lists_of ((record { from = 16777216; to = 66048; bytes = 8 } ∷ []) ∷ [] ∷ []);
-      enter =
-          lists_of
-          ((record { from = 66048; to = 16777216; bytes = 8 } ∷ record { from = 66057; to = 16777233; bytes = 5 } ∷ [])
-          ∷ (record { from = 66064; to = 16777216; bytes = 8 } ∷ []) ∷ []);
-      kept_leave = lists_of ([] ∷ [] ∷ []);
-      kept_enter = lists_of ([] ∷ [] ∷ []);
-      images = [];
-    }
+    plan_with start false 2 (first_stub ∷ second_stub ∷ []) ((record { from = 16777216; to = 66048; bytes = 8 } ∷ []) ∷ [] ∷ [])
+    ((record { from = 66048; to = 16777216; bytes = 8 } ∷ record { from = 66057; to = 16777233; bytes = 5 } ∷ [])
+    ∷ (record { from = 66064; to = 16777216; bytes = 8 } ∷ []) ∷ []) ([] ∷ [] ∷ []) ([] ∷ [] ∷ []) []
 
 pair_bytes : start_bytes pair.start + rest_bytes pair ≡ 464
 unfolding copying routine
@@ -126,46 +107,22 @@ pair_small = omega (arith, pair_bytes)
 
 pair_changes : (i : ℕ) → i < 2 → CanChange pair i
 pair_changes zero below =
-    record {
-      leave = table_home pair refl pair_small;
-      enter = table_in pair refl pair_small;
-      kept_leave = All-nil (CanMove pair);
-      kept_enter = All-nil (CanMove pair);
-      short_leave = omega arith;
-      short_enter = omega arith;
-    }
+    changes pair 0 (table_home pair refl pair_small) (table_in pair refl pair_small)
+    (All-nil (CanMove pair), All-nil (CanMove pair)) (omega arith) (omega arith)
 pair_changes (suc zero) below =
-    record {
-      leave = All-nil (CanMove pair);
-      enter = code_in pair refl pair_small;
-      kept_leave = All-nil (CanMove pair);
-      kept_enter = All-nil (CanMove pair);
-      short_leave = omega arith;
-      short_enter = omega arith;
-    }
+    changes pair 1 (All-nil (CanMove pair)) (code_in pair refl pair_small)
+    (All-nil (CanMove pair), All-nil (CanMove pair)) (omega arith) (omega arith)
 pair_changes (suc (suc i)) below = absurd (omega (arith, below))
 
 pair_first : CanServe pair first_stub
 unfolding copying routine
 pair_first =
-    record {
-      above = omega arith;
-      below = omega arith;
-      region = omega arith;
-      body = (refl, omega arith);
-      reach = (omega arith, refl);
-    }
+    serves pair first_stub (omega arith) (omega arith) (omega arith) (refl, omega arith) (omega arith, refl)
 
 pair_second : CanServe pair second_stub
 unfolding copying routine
 pair_second =
-    record {
-      above = omega arith;
-      below = omega arith;
-      region = omega arith;
-      body = (refl, omega arith);
-      reach = (omega arith, refl);
-    }
+    serves pair second_stub (omega arith) (omega arith) (omega arith) (refl, omega arith) (omega arith, refl)
 
 -- homes that ascend are apart
 apart_before : (a b : ℕ) (homes : List ℕ) → a < b → AllPairs (λ (x y : ℕ). x ≡ y → ⊥) (b ∷ homes) → All (λ (y : ℕ). b < y) homes → AllPairs (λ (x y : ℕ). x ≡ y → ⊥) (a ∷ b ∷ homes)
@@ -198,30 +155,15 @@ pair_stands =
 
 abbrev pub twins : OverlayPlan
 twins =
-    record {
-      start = record { base = 589824; entry = 65536; fence_i = true; jobs = [] };
-      stubs = first_stub ∷ second_stub ∷ third_stub ∷ [];
-      twins = true;
-      regions = 3;
-      leave =
-          lists_of
-          ((record { from = 16777216; to = 66048; bytes = 8 } ∷ []) ∷ []
-          ∷ (record { from = 16777248; to = 66088; bytes = 6 } ∷ []) ∷ []);
-      enter =
-          lists_of
-          ((record { from = 66048; to = 16777216; bytes = 8 } ∷ record { from = 66057; to = 16777233; bytes = 5 } ∷ [])
-          ∷ (record { from = 66064; to = 16777216; bytes = 8 } ∷ [])
-          ∷ (record { from = 66088; to = 16777248; bytes = 6 } ∷ []) ∷ []);
-      kept_leave =
-          lists_of
-          ((record { from = 16777248; to = 66072; bytes = 12 } ∷ [])
-          ∷ (record { from = 16777248; to = 66072; bytes = 12 } ∷ []) ∷ [] ∷ []);
-      kept_enter =
-          lists_of
-          ((record { from = 66072; to = 16777248; bytes = 12 } ∷ [])
-          ∷ (record { from = 66072; to = 16777248; bytes = 12 } ∷ []) ∷ [] ∷ []);
-      images = [];
-    }
+    plan_with start true 3 (first_stub ∷ second_stub ∷ third_stub ∷ [])
+    ((record { from = 16777216; to = 66048; bytes = 8 } ∷ []) ∷ [] ∷ (record { from = 16777248; to = 66088; bytes = 6 } ∷ []) ∷ [])
+    ((record { from = 66048; to = 16777216; bytes = 8 } ∷ record { from = 66057; to = 16777233; bytes = 5 } ∷ [])
+    ∷ (record { from = 66064; to = 16777216; bytes = 8 } ∷ [])
+    ∷ (record { from = 66088; to = 16777248; bytes = 6 } ∷ []) ∷ [])
+    ((record { from = 16777248; to = 66072; bytes = 12 } ∷ [])
+    ∷ (record { from = 16777248; to = 66072; bytes = 12 } ∷ []) ∷ [] ∷ [])
+    ((record { from = 66072; to = 16777248; bytes = 12 } ∷ [])
+    ∷ (record { from = 66072; to = 16777248; bytes = 12 } ∷ []) ∷ [] ∷ []) []
 
 twins_bytes : start_bytes twins.start + rest_bytes twins ≡ 896
 unfolding copying routine
@@ -232,66 +174,30 @@ twins_small = omega (arith, twins_bytes)
 
 twins_changes : (i : ℕ) → i < 3 → CanChange twins i
 twins_changes zero below =
-    record {
-      leave = table_home twins refl twins_small;
-      enter = table_in twins refl twins_small;
-      kept_leave = kept_home twins refl twins_small;
-      kept_enter = kept_in twins refl twins_small;
-      short_leave = omega arith;
-      short_enter = omega arith;
-    }
+    changes twins 0 (table_home twins refl twins_small) (table_in twins refl twins_small)
+    (kept_home twins refl twins_small, kept_in twins refl twins_small) (omega arith) (omega arith)
 twins_changes (suc zero) below =
-    record {
-      leave = All-nil (CanMove twins);
-      enter = code_in twins refl twins_small;
-      kept_leave = kept_home twins refl twins_small;
-      kept_enter = kept_in twins refl twins_small;
-      short_leave = omega arith;
-      short_enter = omega arith;
-    }
+    changes twins 1 (All-nil (CanMove twins)) (code_in twins refl twins_small)
+    (kept_home twins refl twins_small, kept_in twins refl twins_small) (omega arith) (omega arith)
 twins_changes (suc (suc zero)) below =
-    record {
-      leave = third_home twins refl twins_small;
-      enter = third_in twins refl twins_small;
-      kept_leave = All-nil (CanMove twins);
-      kept_enter = All-nil (CanMove twins);
-      short_leave = omega arith;
-      short_enter = omega arith;
-    }
+    changes twins 2 (third_home twins refl twins_small) (third_in twins refl twins_small)
+    (All-nil (CanMove twins), All-nil (CanMove twins)) (omega arith) (omega arith)
 twins_changes (suc (suc (suc i))) below = absurd (omega (arith, below))
 
 twins_first : CanServe twins first_stub
 unfolding copying routine
 twins_first =
-    record {
-      above = omega arith;
-      below = omega arith;
-      region = omega arith;
-      body = (refl, omega arith);
-      reach = (omega arith, refl);
-    }
+    serves twins first_stub (omega arith) (omega arith) (omega arith) (refl, omega arith) (omega arith, refl)
 
 twins_second : CanServe twins second_stub
 unfolding copying routine
 twins_second =
-    record {
-      above = omega arith;
-      below = omega arith;
-      region = omega arith;
-      body = (refl, omega arith);
-      reach = (omega arith, refl);
-    }
+    serves twins second_stub (omega arith) (omega arith) (omega arith) (refl, omega arith) (omega arith, refl)
 
 twins_third : CanServe twins third_stub
 unfolding copying routine
 twins_third =
-    record {
-      above = omega arith;
-      below = omega arith;
-      region = omega arith;
-      body = (refl, omega arith);
-      reach = (omega arith, refl);
-    }
+    serves twins third_stub (omega arith) (omega arith) (omega arith) (refl, omega arith) (omega arith, refl)
 
 pub twins_stand : CanHold twins
 twins_stand =

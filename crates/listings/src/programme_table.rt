@@ -1,54 +1,34 @@
 //! The programme of a placement that a run states, and the best choice of it.
-ghost use Rattle.std.specs.Prelude.{◌≤◌, List, ℕ};
-ghost use Rattle.board_config.specs.Board.{IsLawful};
-ghost use Rattle.relink_core.specs.Choices.{IsAnalysisOf};
+ghost use Rattle.std.specs.Prelude.{◌≤◌};
 
 use crate::printing::{
     end_line, print_line, print_number, print_numbers, print_text, print_value, print_value_line,
 };
-use crate::profile_table::print_fault;
-use anyhow::Result;
-use board_config::Board;
+use anyhow::{Result, bail};
 use placement_programme::{Choice, Programme, Side, Var, VarName, gain_of};
-use relink_core::Analysis;
-use relinking::{find_choice, programme_of_run};
+use relinking::find_choice;
 
-/// The programme that a run with this input states for the board's steps, with its least energy, or the run's fault.
+/// Lists a table of the programme that a run states: `programme`, all of it with its least energy, or `choice`, the least
+/// energy and what the choice takes.
 pub(crate) fn print_programme(
     rt: &(impl Print + AllocGlobal),
-    analysis: &Analysis<'_>,
-    board: &Board,
-    input: &[u8],
+    table: &str,
+    programme: &Programme,
+    nodes: u64,
 ) -> Result<()>
-    requires lawful { IsLawful board.now }
-    requires analysed { (file : List ℕ) × IsAnalysisOf file board.now analysis.now }
+    requires { 1 ≤ nodes }
 {
-    match programme_of_run(rt.alloc(), analysis, board, input) {
-        Ok(measured) => {
-            print_sides(rt, &measured.programme)?;
-            print_best(rt, &measured.programme, board.nodes)?;
+    match table {
+        "programme" => {
+            print_sides(rt, programme)?;
+            print_best(rt, programme, nodes)?;
             Ok(())
         }
-        Err(fault) => print_fault(rt, &fault),
-    }
-}
-
-/// The least energy of that programme, and what the choice takes.
-pub(crate) fn print_choice(
-    rt: &(impl Print + AllocGlobal),
-    analysis: &Analysis<'_>,
-    board: &Board,
-    input: &[u8],
-) -> Result<()>
-    requires lawful { IsLawful board.now }
-    requires analysed { (file : List ℕ) × IsAnalysisOf file board.now analysis.now }
-{
-    match programme_of_run(rt.alloc(), analysis, board, input) {
-        Ok(measured) => {
-            let choice = print_best(rt, &measured.programme, board.nodes)?;
-            print_taken(rt, &measured.programme, &choice)
+        "choice" => {
+            let choice = print_best(rt, programme, nodes)?;
+            print_taken(rt, programme, &choice)
         }
-        Err(fault) => print_fault(rt, &fault),
+        _ => bail!("a table has no known name"),
     }
 }
 

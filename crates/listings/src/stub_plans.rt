@@ -48,15 +48,18 @@ fn plan_of(
     }
 }
 
+/// A job that copies bytes.
+pub(crate) fn job(from: u32, to: u32, bytes: u32) -> CopyJob
+    ensures { result ≡ record { from = from; to = to; bytes = bytes } }
+{
+    CopyJob { from, to, bytes }
+}
+
 /// The words behind the plain stub, to the scratchpad.
 fn piece_job() -> CopyJob
     ensures { result ≡ record { from = 589960; to = 16777216; bytes = 48 } }
 {
-    CopyJob {
-        from: 0x0009_0088,
-        to: 0x0100_0000,
-        bytes: 48,
-    }
+    job(0x0009_0088, 0x0100_0000, 48)
 }
 
 /// One job of words.
@@ -75,16 +78,8 @@ fn plan_of_bytes(alloc: Global) -> Result<StubPlan, AllocError>
     ensures can { IfOk result (λ plan. CanStand (code_plan plan)) }
     ensures plain { IfOk result IsPlainPlan }
 {
-    let table = CopyJob {
-        from: 0x0001_0028,
-        to: 0x0100_0000,
-        bytes: 8,
-    };
-    let pair = CopyJob {
-        from: 0x0001_0031,
-        to: 0x0100_0011,
-        bytes: 2,
-    };
+    let table = job(0x0001_0028, 0x0100_0000, 8);
+    let pair = job(0x0001_0031, 0x0100_0011, 2);
     let start = vec![in alloc; table, pair]?;
     Ok(plan_of(alloc, true, start, Vec::new(alloc), Vec::new(alloc)))
 }
@@ -121,27 +116,30 @@ fn plan_named(alloc: Global, name: &str) -> Result<StubPlan>
     }
 }
 
+/// The stub of the entry at `home` in a region, which goes to an address.
+pub(crate) fn stub(home: u32, temp: u8, region: u32, to: u32) -> Stub
+    ensures { serving_stub result ≡ record { home = home; temp = temp; region = region; body = jumps_to to } }
+{
+    Stub {
+        home,
+        temp,
+        region,
+        body: Body::Jump { to },
+    }
+}
+
 /// The stub of an entry in a region: it jumps to the copy that the region's job brings in.
 fn region_stub() -> Stub
     ensures { serving_stub result ≡ record { home = 65568; temp = 5; region = 1; body = jumps_to 16777216 } }
 {
-    Stub {
-        home: 0x0001_0020,
-        temp: 5,
-        region: 1,
-        body: Body::Jump { to: 0x0100_0000 },
-    }
+    stub(0x0001_0020, 5, 1, 0x0100_0000)
 }
 
 /// The job that brings the copy in, from its image.
 fn enter_job() -> CopyJob
     ensures { result ≡ record { from = 590092; to = 16777216; bytes = 8 } }
 {
-    CopyJob {
-        from: 0x0009_010c,
-        to: 0x0100_0000,
-        bytes: 8,
-    }
+    job(0x0009_010c, 0x0100_0000, 8)
 }
 
 /// One region with these jobs.

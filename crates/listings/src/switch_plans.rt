@@ -1,29 +1,11 @@
 //! Plans whose code switches between regions, and that code among the words of a file.
 ghost use Rattle.std.specs.Prelude.{◌≡◌, [], ◌∷◌, map, length, IfOk};
-ghost use Rattle.patch_code.specs.{Serving.{jumps_to}, Overlay.{CanHold}, StubPlans.{HasLists, overlay_plan, serving_stub, jobs_of}};
+ghost use Rattle.patch_code.specs.{Overlay.{CanHold}, StubPlans.{HasLists, overlay_plan, jobs_of}};
 
-use crate::stub_plans::tell_places;
+use crate::stub_plans::{job, stub, tell_places};
 use anyhow::{Result, bail};
-use patch_code::{Body, CopyJob, Stub, StubPlan, sizes, stubs};
+use patch_code::{CopyJob, StubPlan, sizes, stubs};
 use std::alloc::{AllocError, Global};
-
-fn job(from: u32, to: u32, bytes: u32) -> CopyJob
-    ensures { result ≡ record { from = from; to = to; bytes = bytes } }
-{
-    CopyJob { from, to, bytes }
-}
-
-/// The stub of the entry at `home` in a region, which goes to an address.
-fn stub(home: u32, temp: u8, region: u32, to: u32) -> Stub
-    ensures { serving_stub result ≡ record { home = home; temp = temp; region = region; body = jumps_to to } }
-{
-    Stub {
-        home,
-        temp,
-        region,
-        body: Body::Jump { to },
-    }
-}
 
 /// The jobs of two regions.
 fn of_two(

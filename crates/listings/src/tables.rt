@@ -14,12 +14,13 @@ use crate::large::large_file;
 use crate::moved::print_moved;
 use crate::piece_table::print_pieces;
 use crate::printing::{print_line, print_text};
-use crate::profile_table::print_profile;
-use crate::programme_table::{print_choice, print_programme};
+use crate::profile_table::{print_fault, print_profile};
+use crate::programme_table::print_programme;
 use anyhow::{Context, Result, bail};
 use board_config::{Board, read_board};
 use elf_reader::{ElfView, read};
 use relink_core::{Analysis, analyse};
+use relinking::programme_of_run;
 use std::fs;
 use std::rt::Files;
 
@@ -116,10 +117,9 @@ fn list_run_table(
 {
     print_title(rt, table)?;
     let input = fs::read(rt, input)?;
-    match table {
-        "programme" => print_programme(rt, analysis, board, &input),
-        "choice" => print_choice(rt, analysis, board, &input),
-        _ => bail!("a table has no known name"),
+    match programme_of_run(rt.alloc(), analysis, board, &input) {
+        Ok(measured) => print_programme(rt, table, &measured.programme, board.nodes),
+        Err(fault) => print_fault(rt, &fault),
     }
 }
 

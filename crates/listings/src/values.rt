@@ -116,11 +116,19 @@ pub(crate) fn tell_operation(rt: &(impl Print + AllocGlobal), text: &str) -> Res
     }
 }
 
-/// The grain, the operation and the first value.
-fn tell_asked(rt: &impl Print, grain: u32, kind: &impl Debug, a: &Val) -> Result<()> {
-    print_number(rt, "", u64::from(grain))?;
+/// The grain, an operation, its two values, and what it makes of them.
+fn tell_made(
+    rt: &impl Print,
+    asked: &Operation,
+    kind: &impl Debug,
+    b: &impl Debug,
+    made: &impl Debug,
+) -> Result<()> {
+    print_number(rt, "", u64::from(asked.grain))?;
     print_value(rt, " ", kind)?;
-    print_value(rt, " ", a)
+    print_value(rt, " ", &asked.a)?;
+    print_value(rt, " ", b)?;
+    print_value_line(rt, ": ", made)
 }
 
 fn tell_registers(rt: &impl Print, kind: RegKind, asked: &Operation, graph: &Graph) -> Result<()>
@@ -128,11 +136,8 @@ fn tell_registers(rt: &impl Print, kind: RegKind, asked: &Operation, graph: &Gra
     requires a { IsOfGraph graph.now asked.now.a }
     requires b { IsOfGraph graph.now asked.now.b }
 {
-    let Operation { grain, a, b, .. } = asked;
-    let made = op_reg(kind, a, b, graph);
-    tell_asked(rt, *grain, &kind, a)?;
-    print_value(rt, " ", b)?;
-    print_value_line(rt, ": ", &made)
+    let made = op_reg(kind, &asked.a, &asked.b, graph);
+    tell_made(rt, asked, &kind, &asked.b, &made)
 }
 
 fn tell_immediate(
@@ -145,22 +150,16 @@ fn tell_immediate(
     requires grain { IsGrain graph.now.grain }
     requires a { IsOfGraph graph.now asked.now.a }
 {
-    let Operation { grain, a, .. } = asked;
-    let made = op_imm(kind, a, imm, graph);
-    tell_asked(rt, *grain, &kind, a)?;
-    print_value(rt, " ", &imm)?;
-    print_value_line(rt, ": ", &made)
+    let made = op_imm(kind, &asked.a, imm, graph);
+    tell_made(rt, asked, &kind, &imm, &made)
 }
 
 fn tell_branch(rt: &impl Print, kind: BranchKind, asked: &Operation, graph: &Graph) -> Result<()>
     requires a { IsOfGraph graph.now asked.now.a }
     requires b { IsOfGraph graph.now asked.now.b }
 {
-    let Operation { grain, a, b, .. } = asked;
-    let taken = compare(kind, a, b, graph);
-    tell_asked(rt, *grain, &kind, a)?;
-    print_value(rt, " ", b)?;
-    print_value_line(rt, ": ", &taken)
+    let taken = compare(kind, &asked.a, &asked.b, graph);
+    tell_made(rt, asked, &kind, &asked.b, &taken)
 }
 
 /// `GRAIN VALUE OBJECT OFFSET`: the address that a low part of an address of the object makes of the value.

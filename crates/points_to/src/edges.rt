@@ -1,6 +1,6 @@
 ghost use Rattle.std.specs.Prelude.{◌≡◌, ◌+◌, ◌<◌, ◌≤◌, ◌^◌, length, OnOk};
 ghost use Rattle.reach_graph.specs.Reaching.{plain_rows};
-ghost use Rattle.points_to.specs.Nodes.{Adds, Upto, OneEdge, PlaceEdge, RegisterEdge, RowEdge, entry, end_of, node_count, full_edge};
+ghost use Rattle.points_to.specs.Nodes.{Adds, Upto, OneEdge, PlaceEdge, RegisterEdge, RowEdge, node_count, full_edge};
 
 use crate::flows::Places;
 use crate::nodes::Nodes;
@@ -90,28 +90,12 @@ pub(crate) fn push_rows(
     ensures { OnOk result (Adds (Upto 32 (RowEdge nodes.blocks block rows.now)) (plain_rows graph_edges.old) (plain_rows graph_edges.new)) }
 {
     for x in 1..32 {
-        push_row(graph_edges, nodes, block, x, rows[x as usize])?;
+        push_places(
+            graph_edges,
+            nodes.entry(block) + x,
+            nodes.end(block),
+            rows[x as usize],
+        )?;
     }
     Ok(())
-}
-
-/// Adds those from one register, by its row.
-fn push_row(
-    graph_edges: &mut [Vec<Edge>],
-    nodes: Nodes,
-    block: u32,
-    x: u32,
-    places: Places,
-) -> Result<(), AllocError>
-    requires room { length graph_edges.old ≡ node_count nodes.blocks nodes.objects }
-    requires block { block < nodes.blocks }
-    requires x { x < 32 }
-    ensures { OnOk result (Adds (Upto 32 (PlaceEdge (entry block x) (end_of nodes.blocks block 0) places)) (plain_rows graph_edges.old) (plain_rows graph_edges.new)) }
-{
-    push_places(
-        graph_edges,
-        nodes.entry(block) + x,
-        nodes.end(block),
-        places,
-    )
 }
