@@ -35,6 +35,9 @@ pub struct Case {
     #[serde(default)]
     pub failing_puts: Vec<u64>,
     pub calls: Vec<Call>,
+    /// The names of a file, a board and an input on which the file's program is seen to run safely before the calls.
+    #[serde(default)]
+    pub safe: Vec<String>,
     /// What stands under names after the calls, where that is not what stood there before.
     #[serde(default)]
     pub after: BTreeMap<String, Wanted>,

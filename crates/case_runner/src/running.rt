@@ -5,6 +5,7 @@ use crate::contents::{bytes_of, has_parts};
 use crate::lists::{Call, Case, Content, List, Wanted};
 use crate::outside::Outside;
 use anyhow::{Result, bail};
+use command_line::is_seen_safe;
 use std::alloc::{AllocError, Global};
 use std::collections::BTreeMap;
 use std::ops::Range;
@@ -55,6 +56,9 @@ fn difference_at(
     let mut before = BTreeMap::new(rt.alloc());
     add_contents(rt, name, &list.files, None, &mut before)?;
     add_contents(rt, name, &case.files, length, &mut before)?;
+    if let Some(difference) = safety_difference(rt.alloc(), &before, &case.safe)? {
+        return Ok(Some(difference));
+    }
     let mut outside = Outside::new(rt.alloc(), &before, case)?;
     if let Some(difference) = called_difference(rt.alloc(), &mut outside, &case.calls, length)? {
         return Ok(Some(difference));
@@ -78,6 +82,24 @@ fn add_contents(
         held.insert(name.clone()?, bytes)?;
     }
     Ok(())
+}
+
+/// The difference of a program that must be seen to run safely, by the names of its file, of a board and of an input.
+fn safety_difference(alloc: Global, held: &Held, names: &[String]) -> Result<Option<String>> {
+    let [file, board, input] = names else {
+        return match names {
+            [] => Ok(None),
+            _ => bail!("`safe` has three names"),
+        };
+    };
+    let (Some(file), Some(board), Some(input)) = (held.get(file), held.get(board), held.get(input))
+    else {
+        bail!("`safe` names what the case doesn't give");
+    };
+    match is_seen_safe(alloc, file, board, input) {
+        Ok(true) => Ok(None),
+        _ => Ok(Some(String::from_str(alloc, "is not seen to run safely")?)),
+    }
 }
 
 /// The first call that answers or prints something else than it must.
