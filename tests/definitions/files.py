@@ -187,8 +187,14 @@ def compare_view(options: Options, ours: list[str], theirs: str, name: str, tall
 
 
 def shown(line: str) -> str:
-    """A line with its name's control characters as readelf shows them."""
-    return "".join(f"^{chr(ord(it) ^ 64)}" if ord(it) < 32 or ord(it) == 127 else it for it in line)
+    """A line as `readelf` prints it: control characters by a caret, and bytes that are no ASCII by their number."""
+    return "".join(shown_byte(it) for it in line)
+
+
+def shown_byte(it: str) -> str:
+    if ord(it) < 32 or ord(it) == 127:
+        return f"^{chr(ord(it) ^ 64)}"
+    return it if ord(it) < 128 else f"<{ord(it):02X}>"
 
 
 def with_name_of_section(line: str, other: str, sections: list[tuple], tally: Tally) -> str:
