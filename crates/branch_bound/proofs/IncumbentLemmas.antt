@@ -1,5 +1,5 @@
 -- Incumbents of a programme.
-use Rattle.std.proofs.Common.{◌≡◌, ℕ, ◌+◌, ◌-◌, ◌<◌, ◌≤◌, pos, Bool, true, false, List, [], ◌∷◌, length, Option, Some, None, IsSomeAnd, sym, ap, subst, arith}
+use Rattle.std.proofs.Common.{◌≡◌, ℕ, ◌+◌, ◌<◌, ◌≤◌, pos, Bool, true, false, List, [], ◌∷◌, length, Option, Some, None, IsSomeAnd, sym, ap, subst, arith}
 use Rattle.std.proofs.lemmas.Int.{ints}
 use Rattle.placement_programme.specs.Plain.{PlainSide, PlainProgramme}
 use Rattle.placement_programme.specs.Programme.{Fits, taken_gains, side_for, gain, gain_on, net_gain}

@@ -19,3 +19,4 @@ pub mod SolveLemmas
 pub mod ChoiceLemmas
 pub mod ListLemmas
 pub mod ShownLemmas
+pub mod GuidedLemmas

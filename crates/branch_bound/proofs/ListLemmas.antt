@@ -12,6 +12,7 @@ use Rattle.certificate_checker.specs.Nodes.{PlainCertificate}
 use Rattle.certificate_checker.specs.Shows.{all_free}
 use Rattle.certificate_checker.specs.Rules.{load_of, bound, kept_at, moved_at, OverHolds, DualHolds}
 use Rattle.certificate_checker.proofs.Children.{zero_not_free}
+use Rattle.branch_bound.specs.StatedLists.{StatedListsExist}
 use Rattle.branch_bound.specs.Greatest.{Greatest, GainsMore}
 use Rattle.branch_bound.specs.Assignments.{FailsEveryLeafRule, IsGreatestFree}
 use Rattle.branch_bound.specs.Entries.{Splits, StatedFrom, alone, split, StatedOn, vars_on, all_vars}
@@ -156,7 +157,7 @@ has_list s start (suc k) marks few =
       | inr none ↦ one_entry s start marks (suc k) none
     ]
 
-all_free_few : (s : PlainSide) → count_by is_free (all_free s) ≤ length s.vars
+pub all_free_few : (s : PlainSide) → count_by is_free (all_free s) ≤ length s.vars
 all_free_few s =
     let counted = count_by-le-length is_free (all_free s) in
     let all = length-replicate {A = Fixing} (length s.vars) Free in
@@ -180,18 +181,30 @@ two_powers a (suc b) =
     let some = one_power a in
     subst (λ n. 2 ^ suc a + 2 ^ suc (suc b) ≤ 2 ^ suc n + 2) (sym next) (omega (arith, rest, of_sum, of_b, of_a, some))
 
-short_lists : (p : PlainProgramme) (n : ℕ) (c : PlainChoice) → EndsWithin p n c → 2 ^ (all_vars p + 1) ≤ n → ⊥
-short_lists p n c ends enough =
-    let start = ends.1.0 in
+pub stated_lists_exist : StatedListsExist
+stated_lists_exist p start =
     let off = list_on (Some p.off) start in
     let on = list_on p.on start in
-    let more = ends.1.1.2 off.0 on.0 record { off_list = off.1.0; on_list = on.1.0 } in
     let first = off.1.1 in
     let second = on.1.1 in
     let both = two_powers (length p.off.vars) (vars_on p.on) in
-    let next : all_vars p + 1 ≡ suc (length p.off.vars + vars_on p.on) = omega arith in
-    let limit : 2 ^ suc (length p.off.vars + vars_on p.on) ≤ n = subst (λ m. 2 ^ m ≤ n) next enough in
-    omega (arith, more, first, second, both, limit)
+    let next : suc (length p.off.vars + vars_on p.on) ≡ all_vars p + 1 = omega arith in (
+      off.0,
+      (
+        on.0,
+        (
+          record { off_list = off.1.0; on_list = on.1.0 },
+          subst (λ m. length off.0 + length on.0 ≤ 2 ^ m) next (omega (arith, first, second, both)),
+        ),
+      ),
+    )
+
+short_lists : (p : PlainProgramme) (n : ℕ) (c : PlainChoice) → EndsWithin p n c → 2 ^ (all_vars p + 1) ≤ n → ⊥
+short_lists p n c ends enough =
+    let lists = stated_lists_exist p ends.1.0 in
+    let more = ends.1.1.2 lists.0 lists.1.0 lists.1.1.0 in
+    let few = lists.1.1.1 in
+    omega (arith, more, few, enough)
 
 -- so a budget of 2 to the power of all variables and one more is enough
 pub enough_nodes : (p : PlainProgramme) (n : ℕ) (c : PlainCertificate) (status : Status) → Certifies p n c status → 2 ^ (all_vars p + 1) ≤ n → status ≡ Optimal

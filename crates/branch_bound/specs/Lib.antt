@@ -9,6 +9,8 @@ pub use Rattle.certificate_checker.specs.Reading
 pub mod Incumbents
 pub mod Visits
 pub mod Rounds
+pub mod Guided
+pub mod FirstSearch
 pub mod Greatest
 pub mod Assignments
 pub mod Greedy
@@ -18,3 +20,4 @@ pub mod Ranking
 pub mod Tallies
 pub mod Searching
 pub mod Solving
+pub mod StatedLists

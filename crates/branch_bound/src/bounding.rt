@@ -1,3 +1,4 @@
+use crate::guiding::{DualSolution, Guide, NodeBound};
 use crate::lagrangian::{BoundStatus, LagrangianDual};
 use crate::layout::Layout;
 use crate::live::LiveVars;
@@ -15,26 +16,6 @@ pub(crate) struct DualBound {
     layout: Option<Layout>,
     /// The multipliers of the last node, from which the next one's begin, of each row up to the last knapsack row.
     multipliers: Vec<u64>,
-}
-
-/// A dual solution: multipliers that may bound the gain, with the scale of the gains.
-#[derive(Drop)]
-pub(crate) struct DualSolution {
-    pub scale: u32,
-    pub multipliers: Vec<(u32, u64)>,
-}
-
-/// What the bound says of a node.
-#[derive(Drop)]
-pub(crate) struct NodeBound {
-    /// A row that the variables fixed to one exceed.
-    pub exceeded: Option<u32>,
-    /// A choice below the node that gains more than what was asked, as the numbers of its variables.
-    pub candidate: Option<Vec<u32>>,
-    /// What may show that nothing below the node gains more than what was asked, or than the candidate.
-    pub dual: Option<DualSolution>,
-    /// The variable to branch on.
-    pub branch: Option<u32>,
 }
 
 fn nothing() -> NodeBound {
@@ -158,9 +139,12 @@ fn bound_of(
     Ok(found)
 }
 
-impl DualBound {
-    /// Of a side.
-    pub(crate) fn new(alloc: Global, side: &Side) -> Result<DualBound, AllocError> {
+impl Guide for DualBound {
+    ghost use Rattle.branch_bound.specs.FirstSearch.{any_answer};
+
+    ghost answers = { any_answer };
+
+    fn of(alloc: Global, side: &Side) -> Result<DualBound, AllocError> {
         let layout = Layout::of(alloc, side)?;
         let rows = match &layout {
             Some(layout) => layout.knapsack_end,
@@ -173,9 +157,7 @@ impl DualBound {
         })
     }
 
-    /// What the bound says of a node that fixes the variables so. It is
-    /// asked whether anything gains more than `best`, which has the fixed cost taken off.
-    pub(crate) fn at_node(
+    fn at_node(
         &mut self,
         alloc: Global,
         side: &Side,

@@ -1,10 +1,10 @@
-ghost use Rattle.std.specs.Prelude.{◌^◌, ◌<◌, ◌≤◌, ◌↔◌, IsTrue, length, IfSome, IfOk};
+ghost use Rattle.std.specs.Prelude.{ℕ, ◌^◌, ◌<◌, ◌≤◌, ◌↔◌, IsTrue, length, MatchOption, IfOk};
 ghost use Rattle.std.specs.List.{All};
 ghost use Rattle.placement_programme.specs.{Bounds.{value_of}, Views.{plain_side}};
 ghost use Rattle.certificate_checker.specs.{Rules.{BranchHolds, DualHolds}, RowWise.{rows_of, IsOfSide}, Spelling.{IsDualInRange}};
-ghost use Rattle.branch_bound.specs.Visits.{ShownBelow, IsVisited};
+ghost use Rattle.branch_bound.specs.{Visits.{ShownBelow, IsVisited}, Guided.{CannotBranch, Leads}};
 
-use crate::bounding::DualSolution;
+use crate::guiding::DualSolution;
 use crate::side_visiting::Visit;
 use certificate_checker::{Fixing, Tree, Weighed, branch_holds, dual_holds_by_row, keeps_rule};
 use placement_programme::Side;
@@ -111,7 +111,9 @@ fn fathom(
 /// The first variable that is free.
 fn first_free(side: &Side, marks: &[Fixing]) -> Option<u32>
     requires { length (plain_side side.now).vars ≤ length marks.now }
+    ensures { MatchOption result ((j : ℕ) → BranchHolds (plain_side side.now) marks.now j → ⊥) (BranchHolds (plain_side side.now) marks.now) }
 {
+    let _side = side;
     for number in 0..4000 {
         if branch_holds(side, marks, number) {
             return Some(number);
@@ -123,16 +125,12 @@ fn first_free(side: &Side, marks: &[Fixing]) -> Option<u32>
 /// A variable to branch on: the one that is suggested, if it is free, else the first free one.
 fn open(side: &Side, marks: &[Fixing], suggested: Option<u32>) -> Option<u32>
     requires { length (plain_side side.now).vars ≤ length marks.now }
-    ensures { IfSome result (BranchHolds (plain_side side.now) marks.now) }
+    ensures { MatchOption result (CannotBranch (plain_side side.now) marks.now suggested) (BranchHolds (plain_side side.now) marks.now) }
 {
-    let number = match suggested {
-        Some(number) => number,
-        None => first_free(side, marks)?,
-    };
-    if branch_holds(side, marks, number) {
-        Some(number)
-    } else {
-        None
+    match suggested {
+        Some(number) if branch_holds(side, marks, number) => Some(number),
+        Some(_) => None,
+        None => first_free(side, marks),
     }
 }
 
@@ -148,7 +146,8 @@ pub(crate) fn fathom_or_branch(
     requires best { best ≤ 2 ^ 104 }
     requires marked { length (plain_side side.now).vars ≤ length marks.now }
     requires dual { ShownBelow (plain_side side.now) best marks.now 1 dual }
-    ensures { IsVisited (plain_side side.now) best marks.now result }
+    ensures visited { IsVisited (plain_side side.now) best marks.now result }
+    ensures leads { Leads (plain_side side.now) marks.now suggested result }
 {
     if let Some(tree) = fathom(side, best, marks, exceeded, dual) {
         return Visit::Closed(tree);

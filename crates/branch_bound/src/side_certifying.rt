@@ -1,10 +1,11 @@
-ghost use Rattle.std.specs.Prelude.{◌≡◌, ◌≤◌, IfOk, IfSome, OnOk, length, option_map, Some};
+ghost use Rattle.std.specs.Prelude.{◌≡◌, ◌≤◌, IfOk, OnOk, length, option_map, is_some, ◌&&◌, false};
 ghost use Rattle.std.proofs.Common.{replicate};
 ghost use Rattle.placement_programme.specs.{Plain.{PlainProgramme}, Views.{plain_side, plain_programme}};
 ghost use Rattle.certificate_checker.specs.{RowWise.{rows_of, IsOfSide}, Shows.{all_free, Shows}, Reading.{most_levels}, Spelling.{IsInRange}, Views.{plain_certificate}};
-ghost use Rattle.branch_bound.specs.{Incumbents.{IsSound}, Rounds.{IsRound}, Visits.{ShownBelow, ShownOn}};
+ghost use Rattle.branch_bound.specs.{Incumbents.{IsSound}, Rounds.{IsRound}, Visits.{ShownBelow, ShownOn}, Entries.{vars_on}, Guided.{SearchesSide, SearchesOn, has_ended}, FirstSearch.{nodes_within, SearchesBoth, FirstSearch, IfUnfinished}};
 
 use crate::bounding::DualBound;
+use crate::guiding::Guide;
 use crate::side_incumbents::Incumbent;
 use crate::side_searching::{Task, search};
 use crate::side_visiting::{OnSide, Round};
@@ -40,20 +41,28 @@ const SECOND_ROUND: RoundLimit = RoundLimit {
     needs_off: true,
 };
 
+/// How many variables the side with overlay has, if there is one.
+fn vars_on(p: &Programme) -> usize
+    ensures { result ≡ vars_on (plain_programme p.now).on }
+{
+    match &p.on {
+        Some(side) => side.vars.len(),
+        None => 0,
+    }
+}
+
 impl RoundLimit {
     /// How many nodes of a side of a programme, at most so many.
-    fn nodes_of(self, p: &Programme, most: u64) -> u64 {
-        let on = match &p.on {
-            Some(side) => side.vars.len(),
-            None => 0,
-        };
-        let vars = p.off.vars.len().max(on) as u64;
+    fn nodes_of(self, p: &Programme, most: u64) -> u64
+        ensures { result ≡ nodes_within self.nodes self.vars (plain_programme p.now) most }
+    {
+        let vars = p.off.vars.len().max(vars_on(p)) as u64;
         most.min(self.nodes).min(self.vars / vars.max(1))
     }
 }
 
 #[tactic(auto, unfolding(certificate_checker::specs::Reading::most_levels))]
-fn search_from(
+fn search_from<G: Guide>(
     alloc: Global,
     task: &Task,
     marks: &mut [Fixing],
@@ -65,16 +74,17 @@ fn search_from(
     ensures sound { OnOk result (IsSound (plain_programme task.now.programme.now) best.new) }
     ensures grows { OnOk result (best.old.gain ≤ best.new.gain) }
     ensures shown { IfOk result (ShownBelow (plain_side task.now.side.now) best.new.gain (all_free (plain_side task.now.side.now)) most_levels) }
+    ensures searches { IfOk result (λ tree. SearchesSide G.answers (plain_programme task.now.programme.now) task.now.on (plain_side task.now.side.now) best.old.left best.old.gain (is_some tree) best.new.gain) }
 {
-    let mut bound = DualBound::new(alloc, task.side)?;
-    match search(alloc, task, &mut bound, marks, MOST_LEVELS, best) {
+    let mut guide = G::of(alloc, task.side)?;
+    match search(alloc, task, &mut guide, marks, MOST_LEVELS, best) {
         Ok(tree) => Ok(tree),
         Err(error) => Err(error),
     }
 }
 
 /// Searches a side. None where the nodes that are left don't suffice.
-fn search_side(
+fn search_side<G: Guide>(
     alloc: Global,
     p: &Programme,
     side: &Side,
@@ -85,6 +95,7 @@ fn search_side(
     ensures sound { OnOk result (IsSound (plain_programme p.now) best.new) }
     ensures grows { OnOk result (best.old.gain ≤ best.new.gain) }
     ensures shown { IfOk result (ShownBelow (plain_side side.now) best.new.gain (all_free (plain_side side.now)) most_levels) }
+    ensures searches { IfOk result (λ tree. SearchesSide G.answers (plain_programme p.now) on (plain_side side.now) best.old.left best.old.gain (is_some tree) best.new.gain) }
 {
     let mut marks = free_marks(alloc, side)?;
     let by_row = RowWise::of(alloc, side)?;
@@ -94,21 +105,26 @@ fn search_side(
         by_row: &by_row,
         on,
     };
-    match search_from(alloc, &task, &mut marks, best) {
+    match search_from::<G>(alloc, &task, &mut marks, best) {
         Ok(tree) => Ok(tree),
         Err(error) => Err(error),
     }
 }
 
-fn search_on(alloc: Global, p: &Programme, best: &mut Incumbent) -> Result<OnSide, AllocError>
+fn search_on<G: Guide>(
+    alloc: Global,
+    p: &Programme,
+    best: &mut Incumbent,
+) -> Result<OnSide, AllocError>
     requires sound { IsSound (plain_programme p.now) best.old }
     ensures sound { OnOk result (IsSound (plain_programme p.now) best.new) }
     ensures grows { OnOk result (best.old.gain ≤ best.new.gain) }
     ensures shown { IfOk result (ShownOn (option_map plain_side p.now.on) best.new.gain) }
+    ensures searches { IfOk result (λ on. SearchesOn G.answers (plain_programme p.now) (plain_programme p.now).on best.old.left best.old.gain (has_ended on) best.new.gain) }
 {
     match &p.on {
         None => Ok(OnSide::Absent),
-        Some(side) => match search_side(alloc, p, side, true, best)? {
+        Some(side) => match search_side::<G>(alloc, p, side, true, best)? {
             Some(tree) => Ok(OnSide::Shown(tree)),
             None => Ok(OnSide::Unfinished),
         },
@@ -116,7 +132,8 @@ fn search_on(alloc: Global, p: &Programme, best: &mut Incumbent) -> Result<OnSid
 }
 
 fn first_incumbent(alloc: Global) -> Incumbent
-    ensures { (p : PlainProgramme) → IsSound p result }
+    ensures sound { (p : PlainProgramme) → IsSound p result }
+    ensures gain { result.gain ≡ 0 }
 {
     Incumbent {
         choice: Choice::nothing(alloc),
@@ -130,7 +147,8 @@ fn finish_round(p: &Programme, off: Option<Tree>, on: OnSide, best: Incumbent) -
     requires sound { IsSound (plain_programme p.now) best }
     requires off { ShownBelow (plain_side p.now.off) best.gain (all_free (plain_side p.now.off)) most_levels off }
     requires on { ShownOn (option_map plain_side p.now.on) best.gain on }
-    ensures { IsRound (plain_programme p.now) result }
+    ensures round { IsRound (plain_programme p.now) result }
+    ensures unfinished { IfUnfinished (λ gain. (gain ≡ best.gain) × ((is_some off && has_ended on) ≡ false)) result }
 {
     let _p = p;
     let Some(off) = off else {
@@ -152,7 +170,7 @@ fn finish_round(p: &Programme, off: Option<Tree>, on: OnSide, best: Incumbent) -
 }
 
 /// Searches both sides, with at most `most` nodes each.
-fn search_round(
+fn search_round<G: Guide>(
     alloc: Global,
     p: &Programme,
     limit: RoundLimit,
@@ -160,17 +178,34 @@ fn search_round(
     mut best: Incumbent,
 ) -> Result<Round, AllocError>
     requires sound { IsSound (plain_programme p.now) best }
-    ensures { IfOk result (IsRound (plain_programme p.now)) }
+    ensures round { IfOk result (IsRound (plain_programme p.now)) }
+    ensures searches { IfOk result (IfUnfinished (SearchesBoth G.answers (plain_programme p.now) (nodes_within limit.nodes limit.vars (plain_programme p.now) most) limit.needs_off best.gain)) }
 {
     let nodes = limit.nodes_of(p, most);
     best.left = nodes;
-    let off = search_side(alloc, p, &p.off, false, &mut best)?;
+    let off = search_side::<G>(alloc, p, &p.off, false, &mut best)?;
     if off.is_none() && limit.needs_off {
         return Ok(Round::Unfinished(best));
     }
     best.left = nodes;
-    let on = search_on(alloc, p, &mut best)?;
+    let on = search_on::<G>(alloc, p, &mut best)?;
     Ok(finish_round(p, off, on, best))
+}
+
+/// What `certify` finds with a guide.
+pub(crate) fn certify_guided<G: Guide>(
+    alloc: Global,
+    p: &Programme,
+    nodes: u64,
+) -> Result<Round, AllocError>
+    ensures round { IfOk result (IsRound (plain_programme p.now)) }
+    ensures searches { IfOk result (IfUnfinished (FirstSearch G.answers (plain_programme p.now) nodes)) }
+{
+    let best = first_incumbent(alloc);
+    match search_round::<G>(alloc, p, FIRST_ROUND, nodes, best)? {
+        Round::Certified(certificate) => Ok(Round::Certified(certificate)),
+        Round::Unfinished(best) => search_round::<G>(alloc, p, SECOND_ROUND, nodes, best),
+    }
 }
 
 /// A certificate that shows its choice to be best, if a search of at most `nodes` nodes on each side comes to its end, and
@@ -182,9 +217,5 @@ fn search_round(
 pub fn certify(alloc: Global, p: &Programme, nodes: u64) -> Result<Round, AllocError>
     ensures { IfOk result (IsRound (plain_programme p.now)) }
 {
-    let best = first_incumbent(alloc);
-    match search_round(alloc, p, FIRST_ROUND, nodes, best)? {
-        Round::Certified(certificate) => Ok(Round::Certified(certificate)),
-        Round::Unfinished(best) => search_round(alloc, p, SECOND_ROUND, nodes, best),
-    }
+    certify_guided::<DualBound>(alloc, p, nodes)
 }

@@ -1,17 +1,19 @@
 ghost use Rattle.std.specs.Prelude.{◌≡◌, ℕ, pos, ◌^◌, ◌<◌, ◌≤◌, ◌≤ℤ◌, ◌+◌, MatchOption, IfOk};
 ghost use Rattle.placement_programme.specs.{Programme.{IsFeasible, gain}, Views.{plain_side, plain_programme, plain_choice}};
 ghost use Rattle.certificate_checker.specs.{Shows.{all_free}, Spelling.{IsInRange}, Reading.{most_levels}, Views.{plain_certificate}};
-ghost use Rattle.branch_bound.specs.{Incumbents.{IsSound}, Entries.{all_vars}, declared.outcomes.Status.TheVariants.{Optimal}, Growing.{CannotGrow}, Searching.{Reports, HasLevels, KeepsIncumbent, IsIncumbent, choice_of}, Solving.{ReportsOn, ReachesFirst, EndsWithin, AreTreesOf, Certifies, IsSearched}};
+ghost use Rattle.branch_bound.specs.{Incumbents.{IsSound}, Entries.{all_vars}, declared.outcomes.Status.TheVariants.{Optimal}, Growing.{CannotGrow}, Searching.{Reports, HasLevels, KeepsIncumbent, IsIncumbent, choice_of}, Solving.{ReportsOn, ReachesFirst, EndsWithin, AreTreesOf, Certifies, IsSearched}, FirstSearch.{KeepsFirst, any_answer}};
 
 use crate::assignments::Assignment;
+use crate::bounding::DualBound;
 use crate::certifying::trees_of;
 use crate::finishing::{choice_from, finish};
+use crate::guiding::Guide;
 use crate::incumbents::Incumbent;
 use crate::outcomes::{Found, Outcome, Status, Trees};
 use crate::ranking::ranking;
 use crate::running::Running;
 use crate::searching::{Task, search};
-use crate::side_certifying::certify;
+use crate::side_certifying::certify_guided;
 use crate::side_visiting::Round;
 use crate::starting::{begin, better};
 use certificate_checker::{Certificate, free_marks};
@@ -163,6 +165,25 @@ fn shown(alloc: Global, certificate: Certificate) -> Result<Found, AllocError>
     })
 }
 
+/// What `solve` finds with a guide of its first search.
+fn solve_guided<G: Guide>(alloc: Global, p: &Programme, nodes: u64) -> Result<Found, AllocError>
+    requires { 1 ≤ nodes }
+    ensures ends { IfOk result (IsSearched (plain_programme p.now) nodes) }
+    ensures first { IfOk result (KeepsFirst G.answers (plain_programme p.now) nodes) }
+{
+    match certify_guided::<G>(alloc, p, nodes)? {
+        Round::Certified(certificate) => {
+            let start = begin(alloc, p)?;
+            let found = shown(alloc, certificate)?;
+            Ok(found)
+        }
+        Round::Unfinished(best) => match search_stated(alloc, p, nodes, &best) {
+            Ok(found) => Ok(found),
+            Err(error) => Err(error),
+        },
+    }
+}
+
 /// The best choice of a programme that branch and bound finds within a budget of nodes, which is at least 1.
 ///
 /// First it tries a search that a bound guides, in two rounds of at most so many nodes a side. Where that comes to its end,
@@ -175,21 +196,15 @@ pub fn solve(alloc: Global, p: &Programme, nodes: u64) -> Result<Found, AllocErr
     ensures feasible { IfOk result (λ f. IsFeasible (plain_programme p.now) (plain_choice f.choice)) }
     ensures gain { IfOk result (λ f. pos 0 ≤ℤ gain (plain_programme p.now) (plain_choice f.choice)) }
     ensures reach { IfOk result (λ f. ReachesFirst (plain_programme p.now) nodes (plain_choice f.choice)) }
+    ensures first { IfOk result (KeepsFirst any_answer (plain_programme p.now) nodes) }
     ensures grown { IfOk result (λ f. CannotGrow (plain_programme p.now) (plain_choice f.choice)) }
     ensures same { IfOk result (λ f. plain_choice f.certificate.choice ≡ plain_choice f.choice) }
     ensures range { IfOk result (λ f. IsInRange (plain_certificate f.certificate)) }
     ensures status { IfOk result (λ f. Certifies (plain_programme p.now) nodes (plain_certificate f.certificate) f.status) }
     ensures enough { IfOk result (λ f. 2 ^ (all_vars (plain_programme p.now) + 1) ≤ nodes → f.status ≡ Optimal) }
 {
-    match certify(alloc, p, nodes)? {
-        Round::Certified(certificate) => {
-            let start = begin(alloc, p)?;
-            let found = shown(alloc, certificate)?;
-            Ok(found)
-        }
-        Round::Unfinished(best) => match search_stated(alloc, p, nodes, &best) {
-            Ok(found) => Ok(found),
-            Err(error) => Err(error),
-        },
+    match solve_guided::<DualBound>(alloc, p, nodes) {
+        Ok(found) => Ok(found),
+        Err(error) => Err(error),
     }
 }

@@ -1,0 +1,80 @@
+-- From the visit of a node and the searches of its children to the search below it.
+use Rattle.std.proofs.Common.{◌≡◌, inl, inr, ℕ, suc, ◌-◌, ◌<◌, ◌≤◌, Bool, true, false, ◌&&◌, List, slice_set, length, Option, Some, None, is_some, Result, Ok, Err, IfOk, refl, sym, subst, arith}
+use Rattle.std.specs.List.{count_by}
+use Rattle.std.proofs.lemmas.Int.{ints}
+use Rattle.placement_programme.specs.Plain.{PlainSide, PlainProgramme, PlainChoice}
+use Rattle.certificate_checker.specs.Fixings.{is_free, fixing_of}
+use Rattle.certificate_checker.specs.Shows.{all_free, IsAccepted}
+use Rattle.certificate_checker.specs.declared.fixings.Fixing.{Fixing}
+use Rattle.certificate_checker.specs.declared.fixings.Fixing.TheVariants.{Zero, One, Free}
+use Rattle.certificate_checker.specs.declared.trees.Tree.{Tree}
+use Rattle.branch_bound.specs.Guided.{Gains, Asks, Stand, Spends, Searches, broken, branched, SearchesSide, SearchesOn}
+use Rattle.branch_bound.specs.FirstSearch.{nodes_within, SearchesBoth, FirstSearch, IfUnfinished}
+use Rattle.branch_bound.specs.declared.side_visiting.Round.{Round}
+use Rattle.branch_bound.specs.declared.side_visiting.Round.TheVariants.{Certified, Unfinished}
+use Rattle.branch_bound.specs.declared.guiding.NodeBound.{NodeBound}
+use Rattle.branch_bound.specs.declared.side_visiting.Visit.{Visit}
+use Rattle.branch_bound.specs.declared.side_visiting.Visit.TheVariants.{Open}
+use Rattle.branch_bound.proofs.ListLemmas.{all_free_few}
+use Rattle.branch_bound.proofs.MarkLemmas.{fewer_free}
+
+pub none_some : (o : Option Tree) → ((tree : Tree) → o ≡ Some tree → ⊥) → is_some o ≡ false
+none_some None none = refl
+none_some (Some tree) none = absurd (none tree refl)
+
+-- a choice that is accepted gains one number
+pub gains_once : (p : PlainProgramme) (c : PlainChoice) (best : ℕ) → IsAccepted p c best → Gains p c best
+gains_once p c best is gains other =
+    let here = is.gains in
+    let there = other.gains in
+    omega (arith, ints, here, there)
+
+-- there are more levels than free variables, at the root and at a child
+pub root_deep : (s : PlainSide) (marks : List Fixing) → length s.vars ≤ 4000 → marks ≡ all_free s → count_by is_free marks < 4097
+root_deep s marks few is =
+    let counted = all_free_few s in
+    subst (λ ms. count_by is_free ms < 4097) (sym is) (omega (arith, counted, few))
+
+pub child_deep : (marks : List Fixing) (j : ℕ) (f : Fixing) (levels : ℕ) → fixing_of marks j ≡ Free → is_free f ≡ false → count_by is_free marks < levels → count_by is_free (slice_set marks j f) < levels - 1
+child_deep marks j f levels unfixed fixed deep =
+    let fewer = fewer_free marks j f unfixed fixed in
+    omega (arith, fewer, deep)
+
+-- what is told of a round without a certificate
+pub unfinished_more : (P Q : ℕ → Type 0) (r : Round) → ((n : ℕ) → P n → Q n) → IfUnfinished P r → IfUnfinished Q r
+unfinished_more P Q (Certified c) more told = tt
+unfinished_more P Q (Unfinished best) more told = more best.gain told
+
+-- both rounds, the second one from what the first one came upon
+pub rounds_told : {G E : Type 0} (answers : G → PlainSide → List Fixing → ℕ → NodeBound → G → Type 0) (p : PlainProgramme) (budget first : ℕ) (r : Result Round E) → SearchesBoth answers p (nodes_within 1000 1000000 p budget) false 0 first → IfOk r (IfUnfinished (SearchesBoth answers p (nodes_within 10000 8000000 p budget) true first)) → IfOk r (IfUnfinished (FirstSearch answers p budget))
+rounds_told answers p budget first (Ok round) one two =
+    unfinished_more (SearchesBoth answers p (nodes_within 10000 8000000 p budget) true first) (FirstSearch answers p budget) round (λ n told. (first, (one, told))) two
+rounds_told answers p budget first (Err e) one two = two
+
+module _ {G : Type 0} (answers : G → PlainSide → List Fixing → ℕ → NodeBound → G → Type 0) (p : PlainProgramme) (nodes budget : ℕ) (needs : Bool) (best between : ℕ) (is : nodes ≡ budget) where
+  -- a round that leaves the on side out
+  pub left_out : (off : Bool) → needs ≡ true → off ≡ false → SearchesSide answers p false p.off nodes best off between → SearchesBoth answers p budget needs best between
+  left_out off needed none by_off =
+      subst (λ n. SearchesBoth answers p n needs best between) is (off, (between, (by_off, inl (needed, none, refl))))
+
+  -- a round of both sides
+  pub both_sides : (off on : Bool) (last : ℕ) → SearchesSide answers p false p.off nodes best off between → SearchesOn answers p p.on nodes between on last → (more : ℕ) → (more ≡ last) × ((off && on) ≡ false) → SearchesBoth answers p budget needs best more
+  both_sides off on last by_off by_on more told =
+      subst (λ n. SearchesBoth answers p n needs best more) is
+      (off, (between, (by_off, inr (on, (subst (λ n. SearchesOn answers p p.on nodes between on n) (sym told.0) by_on, told.1)))))
+
+module _ {G : Type 0} (answers : G → PlainSide → List Fixing → ℕ → NodeBound → G → Type 0) (p : PlainProgramme) (on : Bool) (s : PlainSide) (marks : List Fixing) where
+  pub spent_on : (old new : Stand G) (visit found : Visit) → visit ≡ found → Asks answers p on s marks old.guide old.best new.best new.guide visit → old.left ≡ suc new.left → Spends answers p on s marks old found new
+  spent_on old new visit found is asks less =
+      record { asks = subst (λ v. Asks answers p on s marks old.guide old.best new.best new.guide v) is asks; spends = less }
+
+  -- the search of the first child comes to no end
+  pub broken_off : (old between new : Stand G) (var : ℕ) (one : Option Tree) → Spends answers p on s marks old (Open var) between → is_some one ≡ false → Searches answers p on s (slice_set marks var One) between (is_some one) new → Searches answers p on s marks old false new
+  broken_off old between new var one spends none first =
+      broken spends (subst (λ b. Searches answers p on s (slice_set marks var One) between b new) none first)
+
+  -- it does, and then the other child is searched
+  pub both_searched : (kept : List Fixing) (old first second new : Stand G) (var : ℕ) (one zero : Option Tree) (ended : Bool) → Spends answers p on s marks old (Open var) first → is_some one ≡ true → Searches answers p on s (slice_set marks var One) first (is_some one) second → kept ≡ marks → is_some zero ≡ ended → Searches answers p on s (slice_set kept var Zero) second (is_some zero) new → Searches answers p on s marks old ended new
+  both_searched kept old first second new var one zero ended spends some ones same ends zeroes =
+      branched spends (subst (λ b. Searches answers p on s (slice_set marks var One) first b second) some ones)
+      (subst (λ b. Searches answers p on s (slice_set marks var Zero) second b new) ends (subst (λ ms. Searches answers p on s (slice_set ms var Zero) second (is_some zero) new) same zeroes))

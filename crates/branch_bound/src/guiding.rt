@@ -1,0 +1,48 @@
+ghost use Rattle.std.specs.Prelude.{ℕ, List, IfOk};
+ghost use Rattle.placement_programme.specs.{Plain.{PlainSide}, Views.{plain_side}};
+ghost use Rattle.certificate_checker.specs.declared.fixings.Fixing.{Fixing};
+ghost use Rattle.branch_bound.specs.declared.guiding.NodeBound.{NodeBound};
+
+use certificate_checker::Fixing;
+use placement_programme::Side;
+use std::alloc::{AllocError, Global};
+
+/// A dual solution: multipliers that may bound the gain, with the scale of the gains.
+#[derive(Drop)]
+pub(crate) struct DualSolution {
+    pub scale: u32,
+    pub multipliers: Vec<(u32, u64)>,
+}
+
+/// What a guide answers of a node. The search tests all of it.
+#[derive(Drop)]
+pub(crate) struct NodeBound {
+    /// A row that the variables fixed to one exceed.
+    pub exceeded: Option<u32>,
+    /// A choice below the node that gains more than what was asked, as the numbers of its variables.
+    pub candidate: Option<Vec<u32>>,
+    /// What may show that nothing below the node gains more than what was asked, or than the candidate.
+    pub dual: Option<DualSolution>,
+    /// The variable to branch on.
+    pub branch: Option<u32>,
+}
+
+/// What leads the first search of a side from node to node.
+pub(crate) trait Guide: Sized + Drop {
+    // what it answers of a node, asked whether anything below it gains more than so much
+    ghost answers: { Self → PlainSide → List Fixing → ℕ → NodeBound → Self → Type 0 };
+
+    /// Of a side.
+    fn of(alloc: Global, side: &Side) -> Result<Self, AllocError>;
+
+    /// What it answers of a node that fixes the variables so. It is asked whether anything gains more than `best`, which has
+    /// the fixed cost taken off.
+    fn at_node(
+        &mut self,
+        alloc: Global,
+        side: &Side,
+        marks: &[Fixing],
+        best: u128,
+    ) -> Result<NodeBound, AllocError>
+        ensures { IfOk result (λ answer. answers self.old (plain_side side.now) marks.now best answer self.new) };
+}
