@@ -36,5 +36,7 @@ pub use diagnostic::Diagnostic;
 pub use input_texts::InputTexts;
 pub use laws::compared_runs_safely;
 pub use observing::{NoObserver, Observer};
+pub use opening::{Opened, open};
+pub use relinking::MeasuredEnd;
 pub use safety::is_seen_safe;
 pub use top::{CommandOutcome, run, run_command};

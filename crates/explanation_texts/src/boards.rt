@@ -51,6 +51,9 @@ const VALUES: [&str; 20] = [
     "true or false",
 ];
 
+/// How an ELF file begins.
+const ELF_MAGIC: &[u8] = b"\x7fELF";
+
 /// A line of a text, without its newline.
 #[derive(Clone, Copy)]
 struct Line<'a> {
@@ -80,6 +83,9 @@ pub fn explain_board(notes: &mut Notes, text: &[u8], fault: &BoardFault) -> Resu
 
 /// Where a text is no TOML, and why.
 fn say_syntax(notes: &mut Notes, text: &[u8]) -> Result<(), AllocError> {
+    if text.starts_with(ELF_MAGIC) {
+        return notes.say_cause("the board is an ELF file", "write FILE before BOARD");
+    }
     let Err(error) = toml::table_from_slice(notes.alloc(), text) else {
         return Ok(());
     };

@@ -1,5 +1,8 @@
 use std::alloc::{AllocError, Global};
 
+/// The most bytes of a file or of a word of the command line that are shown.
+const MOST_SHOWN: usize = 100;
+
 /// A part of a line.
 #[derive(Clone, Copy)]
 pub(crate) enum Piece<'a> {
@@ -108,7 +111,7 @@ impl Notes {
         match *piece {
             Piece::Text(text) => self.add(text),
             Piece::Name(name) => self.push_name(name),
-            Piece::Bare(name) => self.text.extend_from_slice(name),
+            Piece::Bare(name) => self.push_bytes(name),
             Piece::Number(number) => self.push_number(number),
             Piece::Signed(number) => self.push_signed(number),
             Piece::Hex(word) => self.push_hex(word),
@@ -116,10 +119,30 @@ impl Notes {
     }
 
     fn push_name(&mut self, name: &[u8]) -> Result<(), AllocError> {
-        self.text.push(b'`')?;
-        self.text.extend_from_slice(name)?;
-        self.text.push(b'`')?;
+        self.add("`")?;
+        self.push_bytes(name)?;
+        self.add("`")
+    }
+
+    /// Adds bytes that may come from a file: what is not printable in ASCII is escaped, and what is long is cut off.
+    fn push_bytes(&mut self, bytes: &[u8]) -> Result<(), AllocError> {
+        let shown = bytes.get(..MOST_SHOWN).unwrap_or(bytes);
+        for byte in shown {
+            self.push_byte(*byte)?;
+        }
+        if shown.len() < bytes.len() {
+            self.add("..")?;
+        }
         Ok(())
+    }
+
+    fn push_byte(&mut self, byte: u8) -> Result<(), AllocError> {
+        if byte == b' ' || byte.is_ascii_graphic() {
+            self.text.push(byte)?;
+            return Ok(());
+        }
+        let escaped = format!(in self.alloc; "\\x{byte:02x}")?;
+        self.add(escaped.as_str())
     }
 
     fn push_number(&mut self, number: u64) -> Result<(), AllocError> {

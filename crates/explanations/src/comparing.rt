@@ -1,5 +1,5 @@
 ghost use Rattle.std.specs.Prelude.{ℕ, List};
-ghost use Rattle.relink_core.specs.Choices.{IsAnalysisOf};
+ghost use Rattle.command_line.specs.Analysed.{IsOpened};
 
 use crate::pairing::{explain_pairing, makes_relative};
 use crate::subject::Subject;
@@ -28,11 +28,11 @@ struct ProgramRun {
 
 /// Whether FILE and RESULT do what the program does, and how far they were compared.
 pub(crate) fn explain_comparison(notes: &mut Notes, subject: &Subject) -> Result<(), AllocError>
-    requires { (file : List ℕ) × IsAnalysisOf file subject.now.board.now subject.now.analysis }
+    requires { (board_text : List ℕ) × ((file : List ℕ) × IsOpened board_text file subject.now.opened) }
 {
     let inputs = &subject.inputs;
-    let board = subject.board;
-    let analysis = &subject.analysis;
+    let board = &subject.opened.board;
+    let analysis = &subject.opened.analysis;
     let (Some(input), Some(relinked)) = (inputs.input, inputs.beside) else {
         return Ok(());
     };
@@ -65,10 +65,10 @@ fn explain_result(notes: &mut Notes, differs: bool) -> Result<(), AllocError> {
 }
 
 fn run_program(subject: &Subject, input: &[u8]) -> Result<ProgramRun, AllocError>
-    requires { (file : List ℕ) × IsAnalysisOf file subject.now.board.now subject.now.analysis }
+    requires { (board_text : List ℕ) × ((file : List ℕ) × IsOpened board_text file subject.now.opened) }
 {
     let mut source = subject.machine(input)?;
-    let steps = steps_to_end(&mut source, subject.board.steps)?;
+    let steps = steps_to_end(&mut source, subject.opened.board.steps)?;
     Ok(ProgramRun {
         steps,
         outcome: source.outcome(),

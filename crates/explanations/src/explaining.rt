@@ -1,6 +1,5 @@
 ghost use Rattle.std.specs.Prelude.{ℕ, List};
-ghost use Rattle.board_config.specs.Board.{IsLawful};
-ghost use Rattle.relink_core.specs.Choices.{IsAnalysisOf};
+ghost use Rattle.command_line.specs.Analysed.{IsOpened};
 
 use crate::comparing::explain_comparison;
 use crate::files::explain_unread;
@@ -9,22 +8,20 @@ use crate::mixes::explain_mix;
 use crate::pairing::{explain_pairing, may_be_unpaired};
 use crate::pinned::explain_pinned;
 use crate::runs::{explain_end, explain_run};
+use crate::savings::explain_saved;
 use crate::subject::Subject;
-use board_config::{Board, read_board};
+use board_config::read_board;
 use code_blocks::CodeFault;
 use command_language::CommandFault;
-use command_line::{InputTexts, PreparedResult};
+use command_line::{InputTexts, PreparedResult, open};
 use explanation_texts::{
     Command, Notes, explain_board, explain_elf, explain_layout, explain_no_code, explain_status,
     say_listed_twice, say_many_blocks, say_small_patch, say_unknown_function,
 };
 use region_former::RegionFault;
-use relink_core::{AnalyseFault, analyse};
+use relink_core::AnalyseFault;
 use std::alloc::AllocError;
 use unchecked_file::UncheckedFile;
-
-/// The status of a mix of which a line breaks a rule.
-const BAD_MIX: u8 = 13;
 
 /// What is to be said of what a command read and made.
 pub(crate) fn explain_seen(
@@ -39,9 +36,10 @@ pub(crate) fn explain_seen(
         Err(CommandFault::Read { place }) => {
             explain_unread(notes, words, command, texts, *place as usize)
         }
-        _ => match inputs_of(notes.alloc(), command, texts, made) {
-            Some(inputs) => explain_inputs(notes, words, command, &inputs),
-            None => Ok(()),
+        _ => match (inputs_of(notes.alloc(), command, texts, made), made) {
+            (Some(inputs), Ok(_)) => explain_done(notes, &inputs),
+            (Some(inputs), Err(fault)) => explain_rejected(notes, words, command, &inputs, fault),
+            (None, _) => Ok(()),
         },
     }
 }
@@ -65,91 +63,84 @@ fn explain_list(
     }
 }
 
-fn explain_inputs(
+/// A command that has no result, by its fault.
+fn explain_rejected(
     notes: &mut Notes,
     words: &[String],
     command: &Command,
     inputs: &Inputs,
+    fault: &CommandFault,
 ) -> Result<(), AllocError> {
-    if inputs.status == 0 {
-        return explain_done(notes, inputs);
-    }
     explain_status(notes, inputs.status, inputs.board.is_some())?;
-    if inputs.status == BAD_MIX {
-        return explain_list(notes, words, command, inputs);
+    match fault {
+        CommandFault::BadMix { .. } => explain_list(notes, words, command, inputs),
+        CommandFault::Board(fault) => explain_board(notes, inputs.board_text(), fault),
+        CommandFault::Analyse(fault) => explain_refusal(notes, inputs, fault),
+        CommandFault::Elf(_) => {
+            explain_file(notes, &inputs.unchecked())?;
+            explain_beside(notes, inputs)
+        }
+        _ => explain_analysed(notes, inputs),
     }
-    explain_files(notes, inputs)
 }
 
 /// A command that did what it is for.
 fn explain_done(notes: &mut Notes, inputs: &Inputs) -> Result<(), AllocError> {
+    explain_saved(notes, inputs)?;
     if let Some(end) = &inputs.end {
         explain_end(notes, &inputs.unchecked(), end)?;
     }
     if inputs.moved.is_some() || inputs.goes_on || may_be_unpaired(inputs) {
-        return explain_files(notes, inputs);
+        return explain_analysed(notes, inputs);
     }
     Ok(())
 }
 
-/// A file, for a board where the command has one.
-fn explain_files(notes: &mut Notes, inputs: &Inputs) -> Result<(), AllocError> {
-    match inputs.board {
-        Some(text) => explain_for_board(notes, inputs, text),
-        None => explain_file(notes, inputs),
-    }
-}
-
-/// A file that a command reads alone.
-fn explain_file(notes: &mut Notes, inputs: &Inputs) -> Result<(), AllocError> {
-    match elf_reader::read(inputs.alloc, inputs.file) {
-        Ok(_) => Ok(()),
-        Err(fault) => explain_elf(notes, &inputs.unchecked(), &fault),
-    }
-}
-
-/// A file for the text of a board.
-fn explain_for_board(notes: &mut Notes, inputs: &Inputs, text: &[u8]) -> Result<(), AllocError> {
-    match read_board(inputs.alloc, text) {
-        Ok(board) => explain_for(notes, inputs, &board),
-        Err(fault) => explain_board(notes, text, &fault),
-    }
-}
-
-/// A file for a board: why it is not analysed, or what is to be said of it.
-fn explain_for(notes: &mut Notes, inputs: &Inputs, board: &Board) -> Result<(), AllocError>
-    requires lawful { IsLawful board.now }
-{
+/// A file that the command analysed for the board.
+fn explain_analysed(notes: &mut Notes, inputs: &Inputs) -> Result<(), AllocError> {
     if !inputs.analyses {
-        return explain_file(notes, inputs);
-    }
-    match explain_sound(notes, inputs.file, inputs, board) {
-        Ok(()) => explain_beside(notes, inputs),
-        Err(fault) => explain_refusal(notes, &inputs.unchecked(), board, &fault),
-    }
-}
-
-/// A further ELF file, where it is why the command was refused.
-fn explain_beside(notes: &mut Notes, inputs: &Inputs) -> Result<(), AllocError> {
-    let Some(bytes) = inputs.beside else {
         return Ok(());
-    };
-    match elf_reader::read(inputs.alloc, bytes) {
-        Ok(_) => Ok(()),
-        Err(fault) => explain_elf(notes, &UncheckedFile { bytes }, &fault),
+    }
+    match open(inputs.alloc, inputs.file, inputs.board_text()) {
+        Ok(opened) => {
+            let subject = Subject {
+                inputs: *inputs,
+                opened,
+            };
+            explain_subject(notes, &subject)
+        }
+        Err(_) => Ok(()),
     }
 }
 
-/// Why a file is not analysed for a board. It fails only where no memory was left.
+/// An ELF file, where it can't be read.
+fn explain_file(notes: &mut Notes, file: &UncheckedFile) -> Result<(), AllocError> {
+    match elf_reader::read(notes.alloc(), file.bytes) {
+        Ok(_) => Ok(()),
+        Err(fault) => explain_elf(notes, file, &fault),
+    }
+}
+
+/// A further ELF file, where it can't be read.
+fn explain_beside(notes: &mut Notes, inputs: &Inputs) -> Result<(), AllocError> {
+    match inputs.beside {
+        Some(bytes) => explain_file(notes, &UncheckedFile { bytes }),
+        None => Ok(()),
+    }
+}
+
+/// Why a file is not analysed for the board.
 fn explain_refusal(
     notes: &mut Notes,
-    file: &UncheckedFile,
-    board: &Board,
+    inputs: &Inputs,
     fault: &AnalyseFault,
 ) -> Result<(), AllocError> {
     match fault {
-        AnalyseFault::Elf(fault) => explain_elf(notes, file, fault),
-        AnalyseFault::Graph(fault) => explain_layout(notes, file, board, fault),
+        AnalyseFault::Elf(fault) => explain_elf(notes, &inputs.unchecked(), fault),
+        AnalyseFault::Graph(fault) => match read_board(inputs.alloc, inputs.board_text()) {
+            Ok(board) => explain_layout(notes, &inputs.unchecked(), &board, fault),
+            Err(_) => Ok(()),
+        },
         AnalyseFault::PatchTooSmall { need, have } => say_small_patch(notes, *need, *have),
         AnalyseFault::Code(fault) => explain_code(notes, fault),
         AnalyseFault::Region(fault) => explain_regions(notes, fault),
@@ -175,28 +166,9 @@ fn explain_regions(notes: &mut Notes, fault: &RegionFault) -> Result<(), AllocEr
     }
 }
 
-/// What is to be said of a file that can be analysed. The error is why it can't, or `Memory`.
-fn explain_sound(
-    notes: &mut Notes,
-    file: &[u8],
-    inputs: &Inputs,
-    board: &Board,
-) -> Result<(), AnalyseFault>
-    requires lawful { IsLawful board.now }
-{
-    let analysis = analyse(inputs.alloc, file, board)?;
-    let subject = Subject {
-        inputs: *inputs,
-        board,
-        analysis,
-    };
-    explain_subject(notes, &subject)?;
-    Ok(())
-}
-
 /// A file that was analysed: its run, what it does beside its result, and what of it stays.
 fn explain_subject(notes: &mut Notes, subject: &Subject) -> Result<(), AllocError>
-    requires { (file : List ℕ) × IsAnalysisOf file subject.now.board.now subject.now.analysis }
+    requires { (board_text : List ℕ) × ((file : List ℕ) × IsOpened board_text file subject.now.opened) }
 {
     explain_run(notes, subject)?;
     let inputs = &subject.inputs;
@@ -206,11 +178,11 @@ fn explain_subject(notes: &mut Notes, subject: &Subject) -> Result<(), AllocErro
     if inputs.status == 0 {
         explain_pairing(notes, subject)?;
     }
-    let analysis = &subject.analysis;
+    let analysis = &subject.opened.analysis;
     explain_pinned(
         notes,
         inputs,
-        subject.board,
+        &subject.opened.board,
         &analysis.view,
         &analysis.graph,
     )

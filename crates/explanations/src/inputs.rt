@@ -1,7 +1,7 @@
+use crate::savings::saved_in;
 use command_language::CommandFault;
-use command_line::{InputTexts, PreparedResult};
+use command_line::{InputTexts, MeasuredEnd, PreparedResult};
 use explanation_texts::Command;
-use relinking::MeasuredEnd;
 use std::alloc::Global;
 use unchecked_file::UncheckedFile;
 
@@ -25,6 +25,8 @@ pub(crate) struct Inputs<'a> {
     pub(crate) listed: &'a [Vec<u8>],
     /// Whether something of the file moved, where it was relinked.
     pub(crate) moved: Option<bool>,
+    /// How many thousandths of the energy a choice saves, where the command reports that.
+    pub(crate) saved: Option<u64>,
     /// A further ELF file that the command read.
     pub(crate) beside: Option<&'a [u8]>,
     /// Whether the command tells where the program's run is not paired.
@@ -42,6 +44,11 @@ impl<'a> Inputs<'a> {
     pub(crate) fn unchecked(&self) -> UncheckedFile<'a> {
         UncheckedFile { bytes: self.file }
     }
+
+    /// The text of the board; empty where the command has none.
+    pub(crate) fn board_text(&self) -> &'a [u8] {
+        self.board.unwrap_or_default()
+    }
 }
 
 /// What a command read, and what came of it; `None` where it reads no ELF file.
@@ -56,9 +63,9 @@ pub(crate) fn inputs_of<'a>(
         Ok(prepared) => (0, prepared.measured, has_moved(command, file, prepared)),
         Err(fault) => (fault.status(), None, None),
     };
-    let goes_on = match made {
-        Ok(prepared) => prepared.text.as_slice() == SAME_AND_RUNNING,
-        Err(_) => false,
+    let report = match made {
+        Ok(prepared) => prepared.text.as_slice(),
+        Err(_) => &[],
     };
     Some(Inputs {
         alloc,
@@ -69,9 +76,10 @@ pub(crate) fn inputs_of<'a>(
         mix: text_of(texts, command.mix),
         listed: texts.listed,
         moved,
+        saved: saved_in(report),
         beside: text_of(texts, command.beside),
         tells_pairing: command.tells_pairing,
-        goes_on,
+        goes_on: report == SAME_AND_RUNNING,
         status,
         end,
     })

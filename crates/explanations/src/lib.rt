@@ -12,6 +12,7 @@ mod names;
 mod pairing;
 mod pinned;
 mod runs;
+mod savings;
 mod section_map;
 mod subject;
 

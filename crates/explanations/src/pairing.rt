@@ -1,5 +1,5 @@
 ghost use Rattle.std.specs.Prelude.{ℕ, List};
-ghost use Rattle.relink_core.specs.Choices.{IsAnalysisOf};
+ghost use Rattle.command_line.specs.Analysed.{IsOpened};
 
 use crate::inputs::Inputs;
 use crate::names::object_name;
@@ -59,10 +59,10 @@ fn is_site(graph: &Graph, address: u32) -> bool {
 
 /// The first of the program's runs that is not paired. They are followed again.
 pub(crate) fn explain_pairing(notes: &mut Notes, subject: &Subject) -> Result<(), AllocError>
-    requires { (file : List ℕ) × IsAnalysisOf file subject.now.board.now subject.now.analysis }
+    requires { (board_text : List ℕ) × ((file : List ℕ) × IsOpened board_text file subject.now.opened) }
 {
     let inputs = &subject.inputs;
-    let analysis = &subject.analysis;
+    let analysis = &subject.opened.analysis;
     if !inputs.tells_pairing || !makes_relative(&analysis.view, &analysis.graph) {
         return Ok(());
     }
@@ -104,17 +104,17 @@ fn unpaired_on(
     lows: &[PairedLow],
     input: &[u8],
 ) -> Result<Option<Unpaired>, AllocError>
-    requires { (file : List ℕ) × IsAnalysisOf file subject.now.board.now subject.now.analysis }
+    requires { (board_text : List ℕ) × ((file : List ℕ) × IsOpened board_text file subject.now.opened) }
 {
     let mut source = subject.machine(input)?;
-    let analysis = &subject.analysis;
+    let analysis = &subject.opened.analysis;
     unpaired_of_run(
         subject.inputs.alloc,
         &mut source,
         &analysis.code,
         &analysis.graph,
         lows,
-        subject.board.steps,
+        subject.opened.board.steps,
     )
 }
 

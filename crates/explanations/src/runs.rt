@@ -1,8 +1,9 @@
 ghost use Rattle.std.specs.Prelude.{ℕ, List};
-ghost use Rattle.relink_core.specs.Choices.{IsAnalysisOf};
+ghost use Rattle.command_line.specs.Analysed.{IsOpened};
 
 use crate::names::{name_at, object_name, section_at, section_name};
 use crate::subject::Subject;
+use command_line::MeasuredEnd;
 use elf_reader::ElfView;
 use explanation_texts::{
     Involved, Notes, explain_fault, is_anchor, say_faulty_input, say_load_address,
@@ -12,7 +13,6 @@ use fault_trail::{AddressFault, fault_of_run};
 use object_graph::Graph;
 use object_machine::Outcome;
 use relink_core::Analysis;
-use relinking::MeasuredEnd;
 use std::alloc::AllocError;
 use unchecked_file::UncheckedFile;
 
@@ -25,7 +25,7 @@ const BY_NUMBER: u32 = 4;
 /// A run that met an address fault, if this is the status of one: of the inputs that a mix lists, it is the first whose run
 /// meets one. The run is followed again, up to the fault.
 pub(crate) fn explain_run(notes: &mut Notes, subject: &Subject) -> Result<(), AllocError>
-    requires { (file : List ℕ) × IsAnalysisOf file subject.now.board.now subject.now.analysis }
+    requires { (board_text : List ℕ) × ((file : List ℕ) × IsOpened board_text file subject.now.opened) }
 {
     let inputs = &subject.inputs;
     if !ADDRESS_FAULTS.contains(&inputs.status) {
@@ -33,14 +33,14 @@ pub(crate) fn explain_run(notes: &mut Notes, subject: &Subject) -> Result<(), Al
     }
     if let Some(input) = inputs.input {
         if let Some(fault) = fault_on(subject, input)? {
-            explain_faulted(notes, &inputs.unchecked(), &subject.analysis, &fault)?;
+            explain_faulted(notes, &inputs.unchecked(), &subject.opened.analysis, &fault)?;
         }
         return Ok(());
     }
     for (place, input) in inputs.listed.iter().enumerate() {
         if let Some(fault) = fault_on(subject, input)? {
             say_faulty_input(notes, place as u64 + 1)?;
-            return explain_faulted(notes, &inputs.unchecked(), &subject.analysis, &fault);
+            return explain_faulted(notes, &inputs.unchecked(), &subject.opened.analysis, &fault);
         }
     }
     Ok(())
@@ -48,16 +48,16 @@ pub(crate) fn explain_run(notes: &mut Notes, subject: &Subject) -> Result<(), Al
 
 /// The address fault of the program's run on an input, if it meets one.
 fn fault_on(subject: &Subject, input: &[u8]) -> Result<Option<AddressFault>, AllocError>
-    requires { (file : List ℕ) × IsAnalysisOf file subject.now.board.now subject.now.analysis }
+    requires { (board_text : List ℕ) × ((file : List ℕ) × IsOpened board_text file subject.now.opened) }
 {
     let mut source = subject.machine(input)?;
-    let analysis = &subject.analysis;
+    let analysis = &subject.opened.analysis;
     fault_of_run(
         subject.inputs.alloc,
         &mut source,
         &analysis.code,
         &analysis.graph,
-        subject.board.steps,
+        subject.opened.board.steps,
     )
 }
 

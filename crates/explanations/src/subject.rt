@@ -1,32 +1,23 @@
 ghost use Rattle.std.specs.Prelude.{ℕ, List};
-ghost use Rattle.relink_core.specs.Choices.{IsAnalysisOf};
+ghost use Rattle.command_line.specs.Analysed.{IsOpened};
 
 use crate::inputs::Inputs;
-use board_config::Board;
+use command_line::Opened;
 use object_machine::Source;
-use relink_core::Analysis;
 use std::alloc::AllocError;
 
-/// The program of a file that was analysed for a board, with what a command read and made.
+/// The program of a file that was opened for a board, with what a command read and made.
 #[derive(Drop)]
-pub(crate) struct Subject<'t, 'b, 'f> {
-    pub(crate) inputs: Inputs<'t>,
-    pub(crate) board: &'b Board,
-    pub(crate) analysis: Analysis<'f>,
+pub(crate) struct Subject<'a> {
+    pub(crate) inputs: Inputs<'a>,
+    pub(crate) opened: Opened<'a>,
 }
 
-impl Subject<'_, '_, '_> {
+impl Subject<'_> {
     /// A machine at the entry of the program, with an input.
     pub(crate) fn machine(&self, input: &[u8]) -> Result<Source, AllocError>
-        requires { (file : List ℕ) × IsAnalysisOf file self.now.board.now self.now.analysis }
+        requires { (board_text : List ℕ) × ((file : List ℕ) × IsOpened board_text file self.now.opened) }
     {
-        Source::new(
-            self.inputs.alloc,
-            &self.analysis.view,
-            &self.analysis.graph,
-            &self.analysis.code,
-            self.board,
-            input,
-        )
+        self.opened.machine(self.inputs.alloc, input)
     }
 }

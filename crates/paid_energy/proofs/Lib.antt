@@ -37,3 +37,10 @@ pub mod SameScenes
 pub mod PaidRuns
 pub mod Counted
 pub mod PlacedScene
+pub mod AlikeWords
+pub mod AlikeCopies
+pub mod AlikeMoves
+pub mod AlikeStubs
+pub mod AlikePieces
+pub mod AlikeMemory
+pub mod AlikeResults

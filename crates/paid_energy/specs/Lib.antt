@@ -8,3 +8,4 @@ pub mod WalkCosts
 pub mod CountedWalks
 pub mod Laws
 pub mod Counted
+pub mod Alike

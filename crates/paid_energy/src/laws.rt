@@ -1,5 +1,5 @@
 // Laws of the definitions: functions that do nothing, whose contracts are what is proved.
-ghost use Rattle.paid_energy.specs.{FlatRuns.{OneRunFor, EndedRunsFor}, Inward.{InwardIsCounted}};
+ghost use Rattle.paid_energy.specs.{FlatRuns.{OneRunFor, EndedRunsFor}, Inward.{InwardIsCounted}, Alike.{ResultsStartAlike}};
 
 /// A machine runs in one way until it ends or a bound of steps is reached.
 pub fn one_run_for()
@@ -19,3 +19,9 @@ pub fn inward_is_counted()
 {
     rv32im::one_instruction();
 }
+
+/// Two files that realise the same for a file start alike with any input: at one address, with the same registers and the same
+/// byte at each address of memory. So they run alike, step by step, and pay the same.
+pub fn results_start_alike()
+    ensures { ResultsStartAlike }
+{}

@@ -11,7 +11,7 @@ mod walk_laws;
 
 pub use count_laws::regions_are_counted;
 pub use inward_calls::inward;
-pub use laws::{ended_runs_for, inward_is_counted, one_run_for};
+pub use laws::{ended_runs_for, inward_is_counted, one_run_for, results_start_alike};
 pub use paying::{PaidRun, paid};
 pub use walk_laws::{
     branches_go, forms_are_counted, home_costs_energy, paired_runs_walk_home, results_pay,

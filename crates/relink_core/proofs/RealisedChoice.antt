@@ -30,7 +30,6 @@ use Rattle.result_laws.specs.Choices.{IsChoiceFor}
 use Rattle.result_laws.specs.PlacementLaws.{regions_on}
 use Rattle.result_laws.specs.PlacedLaws.{IsPlacedResult}
 use Rattle.result_laws.proofs.Keeping.{placed_result_keeps}
-use Rattle.result_laws.proofs.Walking.{placed_walks}
 use Rattle.relink_core.specs.declared.code_regions.CodeRegions.{CodeRegions}
 use Rattle.relink_core.specs.declared.copy_source.CopySource.{CopySource}
 use Rattle.relink_core.specs.declared.placed_copy.PlacedCopy.{PlacedCopy}
@@ -45,7 +44,6 @@ use Rattle.relink_core.specs.Placed.{Taken, MovesItems, Realises, hands_on, move
 use Rattle.relink_core.specs.Regions.{AreRegions}
 use Rattle.relink_core.specs.Sides.{blocks_on}
 use Rattle.relink_core.specs.Standing.{HasBytes, IsCopiedRange, IsKnownName, AreStanding}
-use Rattle.relink_core.specs.Walks.{WalksBeside}
 use Rattle.relink_core.specs.Written.{AreSiteRegions}
 use Rattle.relink_core.specs.declared.analysis.Analysis.{Analysis}
 use Rattle.relink_core.specs.declared.choosing.TakenNames.{TakenNames}
@@ -140,10 +138,6 @@ meaning_kept file board a t r (Some m) is made =
     let moved = made.1.moved in
     runs_keep_meaning t.on t.items file r.bytes.items board made.0
     (placed_result_keeps file r.bytes.items board a.graph a.code moved.pl (is_placed file board a t r.bytes.items is moved))
-
-pub walks_beside : (file : List ℕ) (board : Board) (a : Analysis) (t : Taken) (out : List ℕ) → IsAnalysisOf file board a → WalksBeside file out board a.graph a.code a.regions t
-unfolding is_placed
-walks_beside file board a t out is moved = placed_walks file out board a.graph a.code moved.pl (is_placed file board a t out is moved)
 
 -- ---- where it stands
 

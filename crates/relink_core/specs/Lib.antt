@@ -19,7 +19,6 @@ pub mod MovedRanges
 pub mod Written
 pub mod Placed
 pub mod ResultFaults
-pub mod Walks
 pub mod Standing
 pub mod Sides
 pub mod Chosen

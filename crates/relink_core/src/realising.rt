@@ -2,7 +2,7 @@
 ghost use Rattle.std.specs.Prelude.{◌≡◌, ◌⊎◌, ℕ, ◌<◌, true, false, List, [], length, IfOk};
 ghost use Rattle.placement_programme.specs.{Views.{plain_programme, plain_choice}, Plain.{PlainProgramme, PlainChoice}};
 ghost use Rattle.result_laws.specs.Choices.{IsChoiceFor};
-ghost use Rattle.relink_core.specs.{Choices.{IsAnalysisOf, KeepsMeaning}, Chosen.{AreRegionsOf, IsTakenBy, HaveWords}, MadeResults.{IsMadeFor}, Placed.{taken_of, Realises}, Standing.{AreStanding}, Walks.{WalksBeside}};
+ghost use Rattle.relink_core.specs.{Choices.{IsAnalysisOf, KeepsMeaning}, Chosen.{AreRegionsOf, IsTakenBy, HaveWords}, MadeResults.{IsMadeFor}, Placed.{taken_of, Realises}, Standing.{AreStanding}};
 
 use crate::analysis::Analysis;
 use crate::choosing::{TakenNames, code_regions, taken_names};
@@ -149,7 +149,6 @@ pub fn realise(
     ensures made { IfOk result (λ r. (file : List ℕ) → IsAnalysisOf file board.now a.now → IsMadeFor file board.now a.now (plain_programme p.now) (plain_choice c.now) r) }
     ensures realises { IfOk result (λ r. (file : List ℕ) → IsAnalysisOf file board.now a.now → Realises file board.now a.now.graph a.now.code a.now.regions (taken_of (plain_programme p.now) (plain_choice c.now)) r.bytes.items) }
     ensures keeps { IfOk result (λ r. (file : List ℕ) → IsAnalysisOf file board.now a.now → KeepsMeaning (taken_of (plain_programme p.now) (plain_choice c.now)) file r.bytes.items board.now) }
-    ensures walks { IfOk result (λ r. (file : List ℕ) → IsAnalysisOf file board.now a.now → WalksBeside file r.bytes.items board.now a.now.graph a.now.code a.now.regions (taken_of (plain_programme p.now) (plain_choice c.now))) }
     ensures stands { IfOk result (λ r. AreStanding board.now a.now.graph a.now.code a.now.regions (plain_programme p.now) (plain_choice c.now) r.names.items r.copies.items r.places) }
 {
     let taken = taken_names(alloc, a, board, p, c)?;

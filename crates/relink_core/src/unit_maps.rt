@@ -4,7 +4,7 @@ ghost use Rattle.std.specs.List.{filter_map};
 ghost use Rattle.board_config.specs.declared.board.Board.{Board};
 ghost use Rattle.placement_programme.specs.Views.{plain_programme, plain_choice};
 ghost use Rattle.result_laws.specs.Choices.{IsChoiceFor};
-ghost use Rattle.relink_core.specs.{Choices.{IsAnalysisOf}, MadeResults.{MadeForms}, Padding.{home_of}, Placed.{Taken, taken_of}, UnitMaps.{region_named, regions_named, IsAtHome, AreUnitsAt, MakesWithUnits}, UnitSets.{CollectedForms, CanCollect}, Walks.{WalksBeside}};
+ghost use Rattle.relink_core.specs.{Choices.{IsAnalysisOf}, MadeResults.{MadeForms}, Padding.{home_of}, Placed.{Taken, taken_of}, UnitMaps.{region_named, regions_named, IsAtHome, AreUnitsAt, MakesWithUnits}, UnitSets.{CollectedForms, CanCollect}};
 
 use crate::analysis::Analysis;
 use crate::copy_source::CopySource;
@@ -158,8 +158,7 @@ pub fn realise_units(
 ) -> Result<RealisedUnits, AllocError>
     requires analysis { (file : List ℕ) × IsAnalysisOf file board.now a.now }
     requires choice { IsChoiceFor board.now a.now.graph a.now.code a.now.regions a.now.pieces.items (plain_programme p.now) (plain_choice c.now) }
-    ensures makes { IfOk result (λ r. (file : List ℕ) → IsAnalysisOf file board.now a.now → MakesWithUnits file board.now a.now.graph a.now.code a.now.regions (taken_of (plain_programme p.now) (plain_choice c.now)) r.bytes.items r.units.items) }
-    ensures walks { IfOk result (λ r. (file : List ℕ) → IsAnalysisOf file board.now a.now → WalksBeside file r.bytes.items board.now a.now.graph a.now.code a.now.regions (taken_of (plain_programme p.now) (plain_choice c.now))) }
+    ensures { IfOk result (λ r. (file : List ℕ) → IsAnalysisOf file board.now a.now → MakesWithUnits file board.now a.now.graph a.now.code a.now.regions (taken_of (plain_programme p.now) (plain_choice c.now)) r.bytes.items r.units.items) }
 {
     let made = realise(alloc, a, board, p, c)?;
     match unit_map(alloc, a, &made) {

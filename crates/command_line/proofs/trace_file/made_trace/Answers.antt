@@ -24,7 +24,7 @@ returns-in_err-view-clause-err c =
     let made = c.in_ok-made.made in
     rw (p.1, p.2)
     (λ file is. elf_rejected file o programme choice made.bytes.items _
-    (realised file o.board o.analysis.graph o.analysis.code o.analysis.regions (taken_of programme choice) made.bytes.items made.units.items (c.in_ok-made.ensures.makes file is))
+    (realised file o.board o.analysis.graph o.analysis.code o.analysis.regions (taken_of programme choice) made.bytes.items made.units.items (c.in_ok-made.ensures file is))
     (rw (sym c.deref.ensures.value) c.in_err-view.ensures.fault))
 
 pub view_trace-requires-clause-ordered : goal.view_trace-requires-clause-ordered
@@ -33,7 +33,7 @@ view_trace-requires-clause-ordered c =
     let made = c.in_ok-made.made in
     rw c.deref-2.ensures.value
     (in_order c.requires.opened.0 o.board o.analysis.graph o.analysis.code o.analysis.regions (taken_of (plain_programme c.args.measured.now.programme) (plain_choice c.args.choice.now)) made.bytes.items made.units.items
-    (c.in_ok-made.ensures.makes c.requires.opened.0 c.requires.opened.1))
+    (c.in_ok-made.ensures c.requires.opened.0 c.requires.opened.1))
 
 pub view_trace-requires-clause-starts : goal.view_trace-requires-clause-starts
 view_trace-requires-clause-starts c =
@@ -44,7 +44,7 @@ view_trace-requires-clause-starts c =
     let view = c.in_ok-view.view in
     let is_file : IsFile made.bytes.items view = subst (λ (bs : List ℕ). IsFile bs view) c.deref.ensures.value c.in_ok-view.ensures.file in
     rw c.deref-2.ensures.value
-    (may_start file o (plain_programme c.args.measured.now.programme) (plain_choice c.args.choice.now) c.args.input.now made.bytes.items made.units.items is (c.in_ok-made.ensures.makes file is) (plain_view view) (same_view made.bytes.items view is_file)
+    (may_start file o (plain_programme c.args.measured.now.programme) (plain_choice c.args.choice.now) c.args.input.now made.bytes.items made.units.items is (c.in_ok-made.ensures file is) (plain_view view) (same_view made.bytes.items view is_file)
     c.results_start.ensures (bytes_read c.args.input.now (λ i. omega (arith, c.type_inv.input i))))
 
 pub returns-in-Ok-clause-ok : goal.returns-in-Ok-clause-ok
@@ -54,6 +54,6 @@ returns-in-Ok-clause-ok c file is =
     let view = c.in_ok-view.view in
     let lines = c.in-Ok.lines in
     let is_file : IsFile made.bytes.items view = subst (λ (bs : List ℕ). IsFile bs view) c.deref.ensures.value c.in_ok-view.ensures.file in
-    makes_trace file o (plain_programme c.args.measured.now.programme) (plain_choice c.args.choice.now) c.args.input.now made.bytes.items made.units.items is (c.in_ok-made.ensures.makes file is) (plain_view view) (same_view made.bytes.items view is_file)
+    makes_trace file o (plain_programme c.args.measured.now.programme) (plain_choice c.args.choice.now) c.args.input.now made.bytes.items made.units.items is (c.in_ok-made.ensures file is) (plain_view view) (same_view made.bytes.items view is_file)
     c.args.count lines.text.items (string_bytes lines.line) (subst (λ (bs : List ℕ). first_fault bs ≡ None) c.deref.ensures.value c.in_ok-view.ensures.fault)
     (subst (λ (us : List UnitAt). TellsLines o (plain_view view) us c.args.input.now c.args.count lines.text.items (string_bytes lines.line)) c.deref-2.ensures.value c.in-Ok.ensures)

@@ -1,5 +1,4 @@
-use Rattle.std.proofs.Common.{◌∙◌, List, map, refl, sym, ap, subst}
-use Rattle.elf_reader.specs.File.{plain_view}
+use Rattle.std.proofs.Common.{◌∙◌, List, map, refl, sym, ap}
 use Rattle.placement_programme.specs.Views.{plain_choice}
 use Rattle.patch_code.specs.declared.stub_plan.Stub.{Stub}
 use Rattle.relink_core.specs.Padding.{home_of}

@@ -1,6 +1,5 @@
-use Rattle.placement_programme.specs.Views.{plain_programme, plain_choice}
-use Rattle.relink_core.specs.Placed.{taken_of}
-use Rattle.relink_core.proofs.RealisedChoice.{realised, meaning_kept, walks_beside}
+use Rattle.placement_programme.specs.Views.{plain_programme}
+use Rattle.relink_core.proofs.RealisedChoice.{realised, meaning_kept}
 use Rattle.relink_core.proofs.realising.realise.Goals as goal
 
 pub unmoved_result-requires : goal.unmoved_result-requires
@@ -22,9 +21,6 @@ pub returns-in-Ok-clause-keeps : goal.returns-in-Ok-clause-keeps
 returns-in-Ok-clause-keeps c = λ file is.
     meaning_kept file c.args.board.now c.args.a.now _ c.in-Ok.made _ is (c.in-Ok.ensures file (plain_programme c.args.p.now) is c.in_ok-taken.ensures).forms
 
-pub returns-in-Ok-clause-walks : goal.returns-in-Ok-clause-walks
-returns-in-Ok-clause-walks c = λ file is. walks_beside file c.args.board.now c.args.a.now (taken_of (plain_programme c.args.p.now) (plain_choice c.args.c.now)) c.in-Ok.made.bytes.items is
-
 pub returns-in-Ok-clause-stands : goal.returns-in-Ok-clause-stands
 returns-in-Ok-clause-stands c =
     let (file, is) = c.requires.analysis in
@@ -40,9 +36,6 @@ returns-in-Ok-moved_result-clause-realises c = λ file is.
 pub returns-in-Ok-moved_result-clause-keeps : goal.returns-in-Ok-moved_result-clause-keeps
 returns-in-Ok-moved_result-clause-keeps c = λ file is.
     meaning_kept file c.args.board.now c.args.a.now _ c.in-Ok-moved_result.made _ is (c.in-Ok-moved_result.ensures file (plain_programme c.args.p.now) is c.in_ok-taken.ensures).forms
-
-pub returns-in-Ok-moved_result-clause-walks : goal.returns-in-Ok-moved_result-clause-walks
-returns-in-Ok-moved_result-clause-walks c = λ file is. walks_beside file c.args.board.now c.args.a.now (taken_of (plain_programme c.args.p.now) (plain_choice c.args.c.now)) c.in-Ok-moved_result.made.bytes.items is
 
 pub returns-in-Ok-moved_result-clause-stands : goal.returns-in-Ok-moved_result-clause-stands
 returns-in-Ok-moved_result-clause-stands c =

@@ -7,6 +7,6 @@ unit_map-requires c =
     let (file, is) = c.requires.analysis in
     (file, c.args.board.now, taken_of (plain_programme c.args.p.now) (plain_choice c.args.c.now), (c.in_ok-made.ensures.made file is).forms)
 
-pub returns-in-Ok-clause-makes : goal.returns-in-Ok-clause-makes
-returns-in-Ok-clause-makes c = λ file is.
+pub returns-in-Ok : goal.returns-in-Ok
+returns-in-Ok c = λ file is.
     c.in-Ok.ensures file c.args.board.now (taken_of (plain_programme c.args.p.now) (plain_choice c.args.c.now)) (c.in_ok-made.ensures.made file is).forms
