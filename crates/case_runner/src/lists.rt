@@ -53,6 +53,9 @@ pub struct Call {
     pub status: u8,
     /// What is printed, with `{length}` for the length at which files are cut off. Where this is missing, it is not looked at.
     pub prints: Option<String>,
+    /// Lines that standard error has, beside others. Where there are none, it is not looked at.
+    #[serde(default)]
+    pub stderr: Vec<String>,
     /// Whether `clap` takes the words too. Where this is missing, it is not asked.
     pub clap: Option<bool>,
 }

@@ -1,7 +1,8 @@
 //! The outside of a case, in memory: its files, and what its calls print.
 
 use crate::lists::Case;
-use command_line::run;
+use command_line::{run, run_command};
+use explanations::Explainer;
 use shelf_io::{MemShelf, MemSink, Shelf};
 use std::alloc::{AllocError, Global};
 use std::collections::BTreeMap;
@@ -42,13 +43,23 @@ impl Outside {
     }
 
     /// Does what the words of a command line ask for, and gives its status.
-    pub fn call(&mut self, words: &str) -> Result<u8, AllocError> {
-        let mut list = Vec::new(self.alloc);
-        for word in words.split(' ') {
-            list.push(String::from_str(self.alloc, word)?)?;
-        }
+    pub fn call(&mut self, words: &[String]) -> u8 {
         self.before = self.sink.bytes().len();
-        Ok(run(self.alloc, &list, &mut self.shelf, &mut self.sink))
+        run(self.alloc, words, &mut self.shelf, &mut self.sink)
+    }
+
+    /// Does what the words of a command line ask for, and gives its status and what standard error says of it.
+    pub fn explained_call(&mut self, words: &[String]) -> (u8, Vec<u8>) {
+        self.before = self.sink.bytes().len();
+        let mut explainer = Explainer::new(self.alloc, words);
+        let outcome = run_command(
+            self.alloc,
+            words,
+            &mut self.shelf,
+            &mut self.sink,
+            &mut explainer,
+        );
+        (outcome.status, explainer.into_text(outcome.status, None))
     }
 
     /// What the last call printed.

@@ -110,12 +110,49 @@ fn called_difference(
     length: Option<u64>,
 ) -> Result<Option<String>> {
     for call in calls {
-        let status = outside.call(&call.words)?;
+        let (status, explained) = made_call(alloc, outside, call)?;
         if let Some(difference) = call_difference(alloc, call, length, status, outside.printed())? {
+            return Ok(Some(difference));
+        }
+        if let Some(difference) = explained_difference(alloc, call, &explained)? {
             return Ok(Some(difference));
         }
         if let Some(difference) = clap_difference(alloc, call)? {
             return Ok(Some(difference));
+        }
+    }
+    Ok(None)
+}
+
+/// Makes a call, and gives its status and what standard error says of it, which is nothing where it is not looked at.
+fn made_call(
+    alloc: Global,
+    outside: &mut Outside,
+    call: &Call,
+) -> Result<(u8, Vec<u8>), AllocError> {
+    let mut words = Vec::new(alloc);
+    for word in call.words.split(' ') {
+        words.push(String::from_str(alloc, word)?)?;
+    }
+    Ok(match call.stderr.is_empty() {
+        true => (outside.call(&words), Vec::new(alloc)),
+        false => outside.explained_call(&words),
+    })
+}
+
+/// The first line that standard error must have and has not.
+fn explained_difference(
+    alloc: Global,
+    call: &Call,
+    explained: &[u8],
+) -> Result<Option<String>, AllocError> {
+    let explained = String::from_utf8_lossy(alloc, explained)?;
+    for wanted in &call.stderr {
+        if !explained.lines().any(|line| line == wanted.as_str()) {
+            let words = &call.words;
+            return Ok(Some(format!(in alloc;
+                "`{words}` standard error, expected {wanted:?} in {explained:?}"
+            )?));
         }
     }
     Ok(None)
