@@ -23,7 +23,7 @@ class Socket:
     def __init__(self, url):
         host, path = url.removeprefix("ws://").split("/", 1)
         name, port = host.split(":")
-        self.socket = socket.create_connection((name, int(port)), timeout=60)
+        self.socket = socket.create_connection((name, int(port)), timeout=300)
         key = base64.b64encode(os.urandom(16)).decode()
         self.socket.sendall(f"GET /{path} HTTP/1.1\r\nHost: {host}\r\nUpgrade: websocket\r\nConnection: Upgrade\r\n"
                             f"Sec-WebSocket-Key: {key}\r\nSec-WebSocket-Version: 13\r\n\r\n".encode())
@@ -79,14 +79,14 @@ class Browser:
         return self
 
     def __exit__(self, *_):
-        self.process.terminate()
-        self.process.wait(30)
+        self.process.kill()
+        self.process.wait()
         shutil.rmtree(self.folder, ignore_errors=True)
 
     def page_address(self):
         """The browser writes its port into its folder."""
         name = os.path.join(self.folder, "DevToolsActivePort")
-        for _ in range(300):
+        for _ in range(1200):
             if os.path.exists(name) and (lines := open(name, encoding="ascii").read().split()):
                 with urllib.request.urlopen(f"http://127.0.0.1:{lines[0]}/json") as answer:
                     pages = [page for page in json.load(answer) if page["type"] == "page"]
@@ -119,7 +119,7 @@ class Browser:
 
     def open(self, url):
         self.call("Page.navigate", url=url)
-        for _ in range(300):
+        for _ in range(1200):
             if self.ask("document.readyState") == "complete" and self.ask("location.href") != "about:blank":
                 return
             time.sleep(0.1)
