@@ -167,8 +167,8 @@ def draw_scratchpads(picture, run, main):
     for region in regions:
         y = picture.height
         name, functions = region_name(run, region)
-        picture.text(20, y + 14, f"scratchpad, {name}" if not region else name)
-        picture.text(20, y + 28, clip(functions, 108, 11) if region else "", "small soft")
+        picture.text(20, y + 14, name if region else "scratchpad")
+        picture.text(20, y + 28, clip(functions, 108, 11) if region else name, "small soft")
         spm.draw(picture, y, run.stands_in(region))
         picture.height += 44
     spm.draw_scale(picture, picture.height - 9, run.items)
