@@ -3,9 +3,10 @@
 static char input[256], output[128];
 static int input_count, input_at, output_count;
 
-static int call(int number, const void *bytes, int count)
+/* The flat machine ignores the descriptor. Linux, as qemu-riscv32 has it, reads 0 and prints 1. */
+static int call(int number, int descriptor, const void *bytes, int count)
 {
-    register int a0 asm("a0") = 0;
+    register int a0 asm("a0") = descriptor;
     register const void *a1 asm("a1") = bytes;
     register int a2 asm("a2") = count;
     register int a7 asm("a7") = number;
@@ -15,7 +16,7 @@ static int call(int number, const void *bytes, int count)
 
 int read_input(void *bytes, int count)
 {
-    return call(63, bytes, count);
+    return call(63, 0, bytes, count);
 }
 
 int next_byte(void)
@@ -31,7 +32,7 @@ int next_byte(void)
 
 void flush(void)
 {
-    call(64, output, output_count);
+    call(64, 1, output, output_count);
     output_count = 0;
 }
 
@@ -62,11 +63,15 @@ void put_number(int number)
         put_byte(digits[--count]);
 }
 
+#ifdef __cplusplus
+extern "C" {
+#endif
+
 /* Compilers make calls of these two from loops and from assignments of structures. */
 void *memcpy(void *to, const void *from, unsigned count)
 {
-    char *target = to;
-    const char *source = from;
+    char *target = (char *)to;
+    const char *source = (const char *)from;
     while (count--)
         *target++ = *source++;
     return to;
@@ -74,8 +79,12 @@ void *memcpy(void *to, const void *from, unsigned count)
 
 void *memset(void *to, int byte, unsigned count)
 {
-    char *target = to;
+    char *target = (char *)to;
     while (count--)
         *target++ = byte;
     return to;
 }
+
+#ifdef __cplusplus
+}
+#endif

@@ -2,6 +2,10 @@
 #ifndef CALLS_H
 #define CALLS_H
 
+#ifdef __cplusplus
+extern "C" {
+#endif
+
 /* Puts at most `count` bytes of the input at `bytes`. Answers how many; 0 at its end. */
 int read_input(void *bytes, int count);
 
@@ -14,5 +18,9 @@ void put_number(int number);
 
 /* Writes what is collected. Call it once more at the end. */
 void flush(void);
+
+#ifdef __cplusplus
+}
+#endif
 
 #endif
