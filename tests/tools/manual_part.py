@@ -158,9 +158,11 @@ def offered_by_bash(lines: list[str], folder: str) -> list[list[str]]:
 def offered_by_zsh(lines: list[str], folder: str) -> list[list[str]]:
     """What zsh offers behind lines that are typed into it."""
     words = ["zsh", "-f", str(HERE / "complete.zsh"), str(SHARE / ZSH.rpartition("/")[0])]
-    done = subprocess.run(words, input="\n".join(lines) + "\n", cwd=folder, capture_output=True, text=True)
-    blocks = done.stdout.split("\n\n")[:-1]
-    return [block.split("\n")[1:] for block in blocks]
+    try:
+        done = subprocess.run(words, input="\n".join(lines) + "\n", cwd=folder, capture_output=True, text=True, timeout=300)
+    except subprocess.TimeoutExpired:
+        return []
+    return [block.split("\n")[1:] for block in done.stdout.split("\n\n")[:-1]]
 
 
 def try_lines(tally: Tally, shell: str, lines: list[tuple[str, list[str]]], offered: list[list[str]]) -> None:
