@@ -221,14 +221,13 @@ class Code:
             words += 2
         return words
 
-    def piece_at(self, home, size):
-        """The starts of the blocks of the piece that begins at `home`, and whose copy has `size` bytes. The report doesn't
-        tell where a piece ends, but pieces that begin with the same block have copies of different sizes."""
+    def pieces_at(self, home, size):
+        """The pieces that begin at `home`, and whose copy has `size` bytes: of each the starts of its blocks. The report
+        doesn't tell where a piece ends. Mostly one piece alone has a copy of that size."""
         first = bisect_left(self.starts, home)
         if first == len(self.starts) or self.starts[first] != home:
-            return None
-        fitting = [last for last in self.ends_of_pieces(first) if 4 * self.copy_words(first, last) == size]
-        return self.starts[first:fitting[0] + 1] if len(fitting) == 1 else None
+            return []
+        return [self.starts[first:last + 1] for last in self.ends_of_pieces(first) if 4 * self.copy_words(first, last) == size]
 
     def ends_of_pieces(self, first):
         """The last blocks of a function, a loop or a block that begins there."""

@@ -103,12 +103,30 @@ class Run:
 
     def piece_of(self, number, line):
         home = int(line.told, 16)
-        blocks = self.code.piece_at(home, line.size)
-        if blocks is None:
+        pieces = self.code.pieces_at(home, line.size)
+        if not pieces:
             sys.exit(f"no piece of code at {home:#010x} has a copy of {line.size} bytes")
+        blocks = pieces[0] if len(pieces) == 1 else self.traced_piece(pieces, line)
         home_bytes = sum(4 * self.code.blocks[start].words for start in blocks)
         name = self.name_of(home) + self.shape_of(blocks)
         return Item(number, line.regions, "code", line.place, line.size, home, name, blocks, home_bytes)
+
+    def traced_piece(self, pieces, line):
+        """Of pieces whose copies have one size, the one whose blocks a trace sees in the copy, and no others. A block that
+        the run doesn't reach makes no difference."""
+        longest = max(pieces, key=len)
+        block_of = {at: start for start in longest for at, _ in self.code.blocks[start].units}
+        traced = self.trace or self.commands.trace(MOST_TRACED)
+        inside, outside = set(), set()
+        for step in traced[1] if traced else []:
+            start = block_of.get(step.home)
+            if start is not None:
+                (inside if line.place <= step.place < line.place + line.size else outside).add(start)
+        fitting = [piece for piece in pieces if inside <= set(piece) and not outside & set(piece)]
+        reached = {tuple(start for start in piece if start in self.profile.blocks) for piece in fitting}
+        if len(reached) != 1:
+            sys.exit(f"several pieces of code at {line.told} have a copy of {line.size} bytes, and `trace` doesn't tell which moved")
+        return fitting[0]
 
     def shape_of(self, blocks):
         function = self.code.blocks[blocks[0]].function

@@ -155,6 +155,13 @@ function blockTable(part) {
   }));
 }
 
+// What of an energy after is paid in the scratchpad. Words that moved tell it by what they save.
+function fastOf(part, before, after) {
+  const { main_fetch: slow, spm_fetch: fast } = facts.board.price;
+  if (part.kind === "function") return slow > fast ? (before - after) / (slow - fast) * fast : 0;
+  return part.items.length ? after : 0;
+}
+
 // When the part's energy is spent: a column for each slice of the run. What is saved is pale.
 function lane(part) {
   const table = part.kind === "function" ? "functions" : "objects", key = part.key === null ? "none" : part.key;
@@ -163,7 +170,8 @@ function lane(part) {
   return make("div", "lane", ...values.map(([before, after], k) => {
     const left = after === null ? before : Math.min(after, before);
     const column = make("span", "");
-    for (const [kind, value] of [["saved", before - left], [part.fast ? "spm" : "main", left]]) {
+    const fast = Math.min(left, fastOf(part, before, left));
+    for (const [kind, value] of [["saved", before - left], ["spm", fast], ["main", left - fast]]) {
       const piece = make("i", kind);
       piece.style.height = 100 * value / high + "%";
       column.append(piece);

@@ -29,7 +29,7 @@ def draw_regions(picture, run, line):
     picture.text(20, y + 16, "current region")
     for first, last, region in line.spans:
         x, width = LEFT + first * scale, (last - first) * scale
-        colour = REGION_COLOURS[region] if region >= 0 else "#c9a227"
+        colour = REGION_COLOURS[region] if region >= 0 else "#856800"
         name, functions = region_name(run, region) if region > 0 else ("none" if region == 0 else "several", "")
         picture.box(x, y, max(width, 0.6), 24, "", colour, f"{name} {functions}: steps {first} to {last}")
         for label in (f"{name}: {functions}" if functions else name, name, str(region)):
@@ -157,7 +157,7 @@ def time_picture(run, line, title):
     picture.say(f"{line.steps:,} steps, by {source}. " + regions_told(run, line))
     picture.height += 26 if run.regions() and 0 < len(line.switches) <= TOLD else 12
     top = picture.height
-    if run.regions() or len(line.spans) > 1:
+    if run.regions():
         draw_regions(picture, run, line)
     draw_switches(picture, run, line, top)
     picture.height += 8

@@ -127,6 +127,8 @@ class Traced:
         return places[0]
 
     def spans(self):
+        if not self.run.regions():
+            return [(0, len(self.steps), 0)], []
         spans, switches, current, since = [], [], 0, 0
         for number, step in enumerate(self.steps):
             if step.home not in self.run.code.leaders:
@@ -201,7 +203,10 @@ class Profiled:
     # ---- the current region
 
     def spans(self, edges):
-        """A part in which blocks of one region alone begin has that region. Others are cut in halves while calls are left."""
+        """A part in which blocks of one region alone begin has that region. Others are cut in halves while calls are left.
+        Where nothing is overlaid no region ever becomes current."""
+        if not self.run.regions():
+            return [(0, self.count, 0)], []
         spans, current = [], 0
         stack = [(first, last) for first, last in zip(edges, edges[1:])][::-1]
         while stack:
