@@ -37,5 +37,5 @@ pub use objects::{
 pub use pairing::{MixedParts, say_measured_unpaired, say_unpaired};
 pub use refusals::{explain_elf, explain_layout, explain_no_code};
 pub use runs::{Involved, explain_fault, say_still_running, say_trapped};
-pub use savings::{Measured, say_saved};
+pub use savings::{Measured, MovedCode, say_more_code, say_moved_code, say_saved};
 pub use usage::{Command, command_of, explain_words};

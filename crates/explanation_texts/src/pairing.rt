@@ -33,36 +33,31 @@ pub fn say_unpaired(
         unpaired.pc,
     )?;
     match unpaired.object {
-        Some(_) => say_added(notes, file, unpaired, parts),
-        None => say_taken(notes, file, unpaired, parts),
+        Some(_) => {
+            notes.begin("it adds the low part of an address in ")?;
+            notes.put(&[Piece::Name(parts.low), Piece::Text(" to ")])?;
+        }
+        None => notes.begin("it takes the low bits of ")?,
     }
+    put_upper(notes, file, unpaired, parts)?;
+    let (behind, cure) = end_of(unpaired);
+    notes.end(behind)?;
+    notes.say_first(cure)
 }
 
-/// A low part that is added to another upper part than its own.
-fn say_added(
-    notes: &mut Notes,
-    file: &UncheckedFile,
-    unpaired: &Unpaired,
-    parts: &MixedParts,
-) -> Result<(), AllocError> {
-    notes.begin("it adds the low part of an address in ")?;
-    notes.put(&[Piece::Name(parts.low), Piece::Text(" to ")])?;
-    put_upper(notes, file, unpaired, parts)?;
-    notes.end(", which its relocation does not name")?;
-    notes.say_first("make the address by lui, or by the upper part that the relocation names")
-}
-
-/// An upper part whose low bits are taken as they are.
-fn say_taken(
-    notes: &mut Notes,
-    file: &UncheckedFile,
-    unpaired: &Unpaired,
-    parts: &MixedParts,
-) -> Result<(), AllocError> {
-    notes.begin("it takes the low bits of ")?;
-    put_upper(notes, file, unpaired, parts)?;
-    notes.end(", which are those of the pc")?;
-    notes.say_first("make the address by lui, or add its low part before it is copied")
+/// How a line on a unit ends, and the cure: of a low part that is added to another upper part than its own, or of an upper part
+/// whose low bits are taken as they are.
+fn end_of(unpaired: &Unpaired) -> (&'static str, &'static str) {
+    match unpaired.object {
+        Some(_) => (
+            ", which its relocation does not name",
+            "make the address by lui, or by the upper part that the relocation names",
+        ),
+        None => (
+            ", which are those of the pc",
+            "make the address by lui, or add its low part before it is copied",
+        ),
+    }
 }
 
 /// Goes on with a line by an upper part, and where it was made.

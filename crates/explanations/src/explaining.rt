@@ -37,7 +37,7 @@ pub(crate) fn explain_seen(
             explain_unread(notes, words, command, texts, *place as usize)
         }
         _ => match (inputs_of(notes.alloc(), command, texts, made), made) {
-            (Some(inputs), Ok(_)) => explain_done(notes, &inputs),
+            (Some(inputs), Ok(prepared)) => explain_done(notes, &inputs, prepared),
             (Some(inputs), Err(fault)) => explain_rejected(notes, words, command, &inputs, fault),
             (None, _) => Ok(()),
         },
@@ -85,8 +85,12 @@ fn explain_rejected(
 }
 
 /// A command that did what it is for.
-fn explain_done(notes: &mut Notes, inputs: &Inputs) -> Result<(), AllocError> {
-    explain_saved(notes, inputs)?;
+fn explain_done(
+    notes: &mut Notes,
+    inputs: &Inputs,
+    prepared: &PreparedResult<'_>,
+) -> Result<(), AllocError> {
+    explain_saved(notes, inputs, &prepared.text)?;
     if let Some(end) = &inputs.end {
         explain_end(notes, &inputs.unchecked(), end)?;
     }

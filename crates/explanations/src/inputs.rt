@@ -1,4 +1,3 @@
-use crate::savings::saved_in;
 use command_language::CommandFault;
 use command_line::{InputTexts, MeasuredEnd, PreparedResult};
 use explanation_texts::Command;
@@ -25,8 +24,6 @@ pub(crate) struct Inputs<'a> {
     pub(crate) listed: &'a [Vec<u8>],
     /// Whether something of the file moved, where it was relinked.
     pub(crate) moved: Option<bool>,
-    /// How many thousandths of the energy a choice saves, where the command reports that.
-    pub(crate) saved: Option<u64>,
     /// A further ELF file that the command read.
     pub(crate) beside: Option<&'a [u8]>,
     /// Whether the command tells where the program's run is not paired.
@@ -76,7 +73,6 @@ pub(crate) fn inputs_of<'a>(
         mix: text_of(texts, command.mix),
         listed: texts.listed,
         moved,
-        saved: saved_in(report),
         beside: text_of(texts, command.beside),
         tells_pairing: command.tells_pairing,
         goes_on: report == SAME_AND_RUNNING,

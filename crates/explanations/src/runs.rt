@@ -50,8 +50,8 @@ pub(crate) fn explain_run(notes: &mut Notes, subject: &Subject) -> Result<(), Al
 fn fault_on(subject: &Subject, input: &[u8]) -> Result<Option<AddressFault>, AllocError>
     requires { (board_text : List ℕ) × ((file : List ℕ) × IsOpened board_text file subject.now.opened) }
 {
-    let mut source = subject.machine(input)?;
     let analysis = &subject.opened.analysis;
+    let mut source = subject.machine(input)?;
     fault_of_run(
         subject.inputs.alloc,
         &mut source,
