@@ -1,0 +1,1 @@
+"""What tools/explore is made of."""
