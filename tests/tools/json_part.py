@@ -36,7 +36,7 @@ OTHER_NAMES: list[Callable[[bytes], bytes]] = [
     lambda name: "Ä\u2028\ufffd".encode() + name,
 ]
 
-# A text of each kind, and its object, written by hand from docs/COMMAND_LINE.md. The file is sums.elf.
+# A text of each kind, and its object, written by hand from tools/JSON.md. The file is sums.elf.
 EXPECTED: list[tuple[str, bytes, dict[str, Any]]] = [
     ("run", b"exited 255\n", {"status": 0, "outcome": "exited", "code": 255}),
     ("run", b"trapped\n", {"status": 0, "outcome": "trapped"}),
