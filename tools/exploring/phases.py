@@ -11,7 +11,7 @@ from .code import Code
 from .store import Answer, Question, Store
 
 WINDOW = 4000  # steps
-WINDOWS = 300  # at most, of one input
+WINDOWS = 150  # at most, of one input
 PROFILED = 2_000_000_000  # steps of all profiles of one input, at most, where that leaves LEAST windows
 LEAST = 16
 HOT = 32  # functions by which windows are compared
