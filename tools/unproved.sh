@@ -23,7 +23,7 @@ keep_program() {
 
 compile_unproved() {
     say "compiling the program without proofs, which takes some two to four minutes"
-    mkdir -p "$unproved" && (build=$unproved && copy_sources) || return
+    (build=$unproved && copy_sources) || return
     rm -rf "$unproved/tmp" "$unproved/kept"
     mkdir -p "$unproved/tmp"
     (cd "$unproved/crates/spmlink" && TMPDIR=$unproved/tmp exec rt try -- --version </dev/null >"$unproved/log" 2>&1) &
@@ -39,6 +39,9 @@ run_unproved() {
         say "'rt' of the Rattle kit is not on the PATH"
         exit 126
     fi
+    mkdir -p "$unproved"
+    exec 9>"$unproved/lock"
+    flock 9
     if [ ! -x "$unproved/program" ] || [ -n "$(newer_than_unproved)" ]; then
         if ! compile_unproved; then
             cat "$unproved/log" >&2
@@ -46,6 +49,7 @@ run_unproved() {
             exit 126
         fi
     fi
+    exec 9>&-
     say "NOTHING OF THIS PROGRAM IS PROVED: it is for a first look; ./spmlink without the word unproved is proved"
     exec "$unproved/program" "$@"
 }
