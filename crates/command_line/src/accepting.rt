@@ -11,17 +11,17 @@ use std::alloc::Global;
 
 /// The choice of a certificate that is accepted.
 #[derive(Drop)]
-pub(crate) struct AcceptedChoice {
-    pub(crate) choice: Choice,
+pub struct AcceptedChoice {
+    pub choice: Choice,
     /// Whether the certificate's trees show that the choice is best. Else it has none.
-    pub(crate) optimal: bool,
+    pub optimal: bool,
 }
 
 /// Reads a certificate for a programme, and checks it: its choice.
 ///
 /// The error is the first byte at which the text breaks the grammar, or how its certificate fails. `Memory` comes only where no
 /// memory was left.
-pub(crate) fn accepted_choice(
+pub fn accepted_choice(
     alloc: Global,
     programme: &Programme,
     cert: &[u8],

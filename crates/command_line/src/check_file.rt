@@ -3,13 +3,32 @@ ghost use Rattle.placement_programme.specs.{Plain.{PlainChoice}, Programme.{IsFe
 ghost use Rattle.command_line.specs.{Measured.{MeasuresTo}, CheckFile.{ChecksTo, RejectsChecked, ReportsText, RejectsText}};
 
 use crate::accepting::accepted_choice;
-use crate::measured_text::MeasuredText;
+use crate::chosen::ChosenPlacement;
 use crate::opening::open;
 use command_language::CommandFault;
-use placement_programme::Programme;
+use placement_programme::{Choice, Programme};
 use printed_lines::choice_report;
-use relinking::programme_of_run;
+use relinking::{MeasuredEnd, programme_of_run};
 use std::alloc::Global;
+
+/// The result of a `check` command, before it is printed.
+#[derive(Drop)]
+pub struct CheckedFile {
+    /// How the certificate's choice was found, and what the run costs with it, in lines.
+    pub report: String,
+    /// How the measured run ended.
+    pub end: MeasuredEnd,
+    /// The certificate's choice.
+    pub chosen: ChosenPlacement,
+}
+
+/// A choice whose certificate holds.
+#[derive(Drop)]
+pub struct CheckedChoice {
+    /// How it was found, and what the runs cost with it, in lines.
+    pub report: String,
+    pub choice: Choice,
+}
 
 /// Checks a certificate for the programme that the run of a file's program states, with nothing but the files, and tells
 /// in lines how the certificate's choice was found and what the run costs with it.
@@ -23,19 +42,23 @@ pub fn check_file(
     board: &[u8],
     input: &[u8],
     cert: &[u8],
-) -> Result<MeasuredText, CommandFault>
-    ensures ok { IfOk result (λ made. ChecksTo file.now board.now input.now cert.now made.text.items) }
+) -> Result<CheckedFile, CommandFault>
+    ensures ok { IfOk result (λ made. ChecksTo file.now board.now input.now cert.now (string_bytes made.report)) }
     ensures end { IfOk result (λ made. MeasuresTo file.now board.now input.now made.end) }
     ensures err { IfErr result (RejectsChecked board.now file.now input.now cert.now) }
 {
     let opened = open(alloc, file, board)?;
     let measured = programme_of_run(alloc, &opened.analysis, &opened.board, input)?;
     match checked(alloc, &measured.programme, opened.board.nodes, cert) {
-        Ok(report) => {
-            let text = report.into_bytes();
-            let end = measured.end;
-            Ok(MeasuredText { text, end })
-        }
+        Ok(checked) => Ok(CheckedFile {
+            report: checked.report,
+            end: measured.end,
+            chosen: ChosenPlacement {
+                programme: measured.programme,
+                choice: checked.choice,
+                profile: Some(measured.profile),
+            },
+        }),
         Err(fault) => Err(fault),
     }
 }
@@ -46,19 +69,17 @@ pub fn checked(
     programme: &Programme,
     nodes: u64,
     cert: &[u8],
-) -> Result<String, CommandFault>
+) -> Result<CheckedChoice, CommandFault>
     requires within { (c : PlainChoice) → IsFeasible (plain_programme programme.now) c → gain (plain_programme programme.now) c ≤ℤ pos programme.now.base }
-    ensures ok { IfOk result (λ report. ReportsText (plain_programme programme.now) nodes cert.now (string_bytes report)) }
+    ensures ok { IfOk result (λ made. ReportsText (plain_programme programme.now) nodes cert.now (string_bytes made.report)) }
     ensures err { IfErr result (RejectsText (plain_programme programme.now) cert.now) }
 {
     match accepted_choice(alloc, programme, cert) {
-        Ok(accepted) => Ok(choice_report(
-            alloc,
-            programme,
-            &accepted.choice,
-            accepted.optimal,
-            nodes,
-        )?),
+        Ok(accepted) => {
+            let choice = accepted.choice;
+            let report = choice_report(alloc, programme, &choice, accepted.optimal, nodes)?;
+            Ok(CheckedChoice { report, choice })
+        }
         Err(fault) => Err(fault),
     }
 }

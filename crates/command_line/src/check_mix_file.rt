@@ -3,10 +3,20 @@ ghost use Rattle.relinking.specs.MixOfRuns.{plain_input, AreSomeInputs};
 ghost use Rattle.command_line.specs.MixFile.{ChecksMixTo, RejectsCheckedRuns};
 
 use crate::check_file::checked;
+use crate::chosen::ChosenPlacement;
 use crate::opening::open;
 use command_language::CommandFault;
 use relinking::{WeightedBytes, programme_of_runs};
 use std::alloc::Global;
+
+/// The result of a `checkmix` command, before it is printed.
+#[derive(Drop)]
+pub struct CheckedMix {
+    /// How the certificate's choice was found, and what the runs cost with it by weight, in lines.
+    pub report: String,
+    /// The certificate's choice.
+    pub chosen: ChosenPlacement,
+}
 
 /// Checks a certificate for the programme that the runs of a file's program on several inputs state together, with
 /// nothing but the files, and tells in lines how the certificate's choice was found and what the runs cost with it.
@@ -20,15 +30,22 @@ pub fn check_mix_file(
     board: &[u8],
     inputs: &[WeightedBytes<'_>],
     cert: &[u8],
-) -> Result<String, CommandFault>
+) -> Result<CheckedMix, CommandFault>
     requires { AreSomeInputs (map plain_input inputs.now) }
-    ensures ok { IfOk result (λ report. ChecksMixTo file.now board.now (map plain_input inputs.now) cert.now (string_bytes report)) }
+    ensures ok { IfOk result (λ made. ChecksMixTo file.now board.now (map plain_input inputs.now) cert.now (string_bytes made.report)) }
     ensures err { IfErr result (RejectsCheckedRuns board.now file.now (map plain_input inputs.now) cert.now) }
 {
     let opened = open(alloc, file, board)?;
     let programme = programme_of_runs(alloc, &opened.analysis, &opened.board, inputs)?;
     match checked(alloc, &programme, opened.board.nodes, cert) {
-        Ok(report) => Ok(report),
+        Ok(checked) => Ok(CheckedMix {
+            report: checked.report,
+            chosen: ChosenPlacement {
+                programme,
+                choice: checked.choice,
+                profile: None,
+            },
+        }),
         Err(fault) => Err(fault),
     }
 }

@@ -4,6 +4,7 @@ ghost use Rattle.command_line.specs.{Diagnostic.{IsDiagnosticOf}, Delivery.{AreP
 ghost use Rattle.command_language.specs.declared.faults.CommandFault.TheVariants as command_fault;
 ghost use Rattle.shelf_io.specs.Shelf.{SetsName};
 
+use crate::chosen::ChosenPlacement;
 use crate::diagnostic::Diagnostic;
 use crate::printing::put_piece;
 use command_language::CommandFault;
@@ -49,6 +50,8 @@ pub struct PreparedResult<'a> {
     pub print_fault: Diagnostic,
     /// How the run ended that the command measured, if it measured one.
     pub measured: Option<MeasuredEnd>,
+    /// What the command chose, or whose certificate it checked.
+    pub chosen: Option<ChosenPlacement>,
 }
 
 impl<'a> PreparedResult<'a> {
@@ -62,6 +65,7 @@ impl<'a> PreparedResult<'a> {
         alloc: Global,
         text: Vec<u8>,
         measured: Option<MeasuredEnd>,
+        chosen: Option<ChosenPlacement>,
     ) -> Result<PreparedResult<'a>, AllocError>
         ensures outputs { IfOk result (λ prepared. ArePrepared [] [] prepared.outputs.items) }
         ensures text { IfOk result (λ prepared. prepared.text ≡ text) }
@@ -74,6 +78,7 @@ impl<'a> PreparedResult<'a> {
             text,
             print_fault,
             measured,
+            chosen,
         })
     }
 
@@ -99,6 +104,7 @@ impl<'a> PreparedResult<'a> {
             text,
             print_fault,
             measured,
+            chosen: None,
         })
     }
 
@@ -109,6 +115,7 @@ impl<'a> PreparedResult<'a> {
         second: Output<'a>,
         text: Vec<u8>,
         measured: Option<MeasuredEnd>,
+        chosen: Option<ChosenPlacement>,
     ) -> Result<PreparedResult<'a>, AllocError>
         ensures outputs { IfOk result (λ prepared. prepared.outputs.items ≡ first.entry ∷ second.entry ∷ []) }
         ensures text { IfOk result (λ prepared. prepared.text ≡ text) }
@@ -122,6 +129,7 @@ impl<'a> PreparedResult<'a> {
             text,
             print_fault,
             measured,
+            chosen,
         })
     }
 }

@@ -5,6 +5,7 @@
 mod accepting;
 mod check_file;
 mod check_mix_file;
+mod chosen;
 mod compare_files;
 mod delivery;
 mod diagnostic;
@@ -31,12 +32,16 @@ mod show_file;
 mod top;
 mod trace_file;
 
+pub use accepting::{AcceptedChoice, accepted_choice};
+pub use chosen::ChosenPlacement;
 pub use delivery::{Output, PreparedResult};
 pub use diagnostic::Diagnostic;
 pub use input_texts::InputTexts;
 pub use laws::compared_runs_safely;
 pub use observing::{NoObserver, Observer};
 pub use opening::{Opened, open};
+pub use placement_programme::{Side, Var, VarName};
+pub use profile_runner::Profile;
 pub use relinking::MeasuredEnd;
 pub use safety::is_seen_safe;
 pub use top::{CommandOutcome, run, run_command};

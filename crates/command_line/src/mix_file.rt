@@ -1,10 +1,11 @@
-ghost use Rattle.std.specs.Prelude.{IfOk, IfErr, map};
+ghost use Rattle.std.specs.Prelude.{◌≡◌, IfOk, IfErr, map};
 ghost use Rattle.relinking.specs.MixOfRuns.{plain_input, AreSomeInputs};
 ghost use Rattle.command_line.specs.MixFile.{MixesTo, RejectsRuns};
 
+use crate::chosen::ChosenPlacement;
 use crate::opening::open;
 use command_language::CommandFault;
-use relinking::{WeightedBytes, relink_report, relink_runs};
+use relinking::{Relinked, WeightedBytes, relink_report, relink_runs};
 use std::alloc::Global;
 
 /// The result of a `mix` command, before any of it is written.
@@ -16,6 +17,8 @@ pub struct MixedFile {
     pub file: Vec<u8>,
     /// How the choice was found, what it saves by weight, and where stands what has moved, in lines.
     pub report: Vec<u8>,
+    /// What was chosen.
+    pub chosen: ChosenPlacement,
 }
 
 /// Relinks a file for a board and several inputs with weights. The program is run on each input to measure it, for the
@@ -36,9 +39,25 @@ pub fn mix_file(
     let opened = open(alloc, file, board)?;
     let relinked = relink_runs(alloc, &opened.analysis, &opened.board, inputs)?;
     let report = relink_report(alloc, &opened.analysis, &opened.board, &relinked)?;
-    Ok(MixedFile {
+    Ok(mixed_file(relinked, report))
+}
+
+/// The parts of a file that was relinked, with the report on it.
+fn mixed_file(relinked: Relinked, report: Vec<u8>) -> MixedFile
+    ensures certificate { result.certificate ≡ relinked.certificate }
+    ensures file { result.file ≡ relinked.result.bytes }
+    ensures report { result.report ≡ report }
+{
+    let result = relinked.result;
+    let found = relinked.found;
+    MixedFile {
         certificate: relinked.certificate,
-        file: relinked.result.bytes,
+        file: result.bytes,
         report,
-    })
+        chosen: ChosenPlacement {
+            programme: relinked.programme,
+            choice: found.choice,
+            profile: None,
+        },
+    }
 }

@@ -57,7 +57,8 @@ fn mixed_result<'a>(
         Ok(mixed) => {
             let first = Output::new(alloc, 5, cert, mixed.certificate)?;
             let second = Output::new(alloc, 4, out, mixed.file)?;
-            Ok(PreparedResult::written_twice(alloc, first, second, mixed.report, None)?)
+            let chosen = Some(mixed.chosen);
+            Ok(PreparedResult::written_twice(alloc, first, second, mixed.report, None, chosen)?)
         }
         Err(fault) => Err(fault),
     }
@@ -103,7 +104,11 @@ fn checked_result<'a>(
 {
     let inputs = weighted_texts(alloc, &listed.lines, listed.texts)?;
     match check_mix_file(alloc, &texts[0], &texts[1], &inputs, &texts[3]) {
-        Ok(report) => Ok(PreparedResult::printed(alloc, report.into_bytes(), None)?),
+        Ok(checked) => {
+            let text = checked.report.into_bytes();
+            let chosen = Some(checked.chosen);
+            Ok(PreparedResult::printed(alloc, text, None, chosen)?)
+        }
         Err(fault) => Err(fault),
     }
 }

@@ -1,9 +1,10 @@
-ghost use Rattle.std.specs.Prelude.{IfOk, IfErr};
+ghost use Rattle.std.specs.Prelude.{◌≡◌, IfOk, IfErr};
 ghost use Rattle.command_line.specs.{ProgramRun.{RejectsProfiled}, RelinkFile.{RelinksTo}, Measured.{MeasuresTo}};
 
+use crate::chosen::ChosenPlacement;
 use crate::opening::open;
 use command_language::CommandFault;
-use relinking::{MeasuredEnd, relink_analysed, relink_report};
+use relinking::{MeasuredEnd, RelinkedRun, relink_analysed, relink_report};
 use std::alloc::Global;
 
 /// The result of a `relink` command, before any of it is written.
@@ -17,6 +18,8 @@ pub struct RelinkedFile {
     pub report: Vec<u8>,
     /// How the measured run ended.
     pub end: MeasuredEnd,
+    /// What was chosen.
+    pub chosen: ChosenPlacement,
 }
 
 /// Relinks a file for a board. The program is run on the input to measure it, for the board's steps.
@@ -35,13 +38,29 @@ pub fn relink_file(
 {
     let opened = open(alloc, file, board)?;
     let made = relink_analysed(alloc, &opened.analysis, &opened.board, input)?;
-    let end = made.end;
+    let report = relink_report(alloc, &opened.analysis, &opened.board, &made.relinked)?;
+    Ok(relinked_file(made, report))
+}
+
+/// The parts of a file that was relinked by one run, with the report on it.
+fn relinked_file(made: RelinkedRun, report: Vec<u8>) -> RelinkedFile
+    ensures certificate { result.certificate ≡ made.relinked.certificate }
+    ensures file { result.file ≡ made.relinked.result.bytes }
+    ensures report { result.report ≡ report }
+    ensures end { result.end ≡ made.end }
+{
     let relinked = made.relinked;
-    let report = relink_report(alloc, &opened.analysis, &opened.board, &relinked)?;
-    Ok(RelinkedFile {
+    let result = relinked.result;
+    let found = relinked.found;
+    RelinkedFile {
         certificate: relinked.certificate,
-        file: relinked.result.bytes,
+        file: result.bytes,
         report,
-        end,
-    })
+        end: made.end,
+        chosen: ChosenPlacement {
+            programme: relinked.programme,
+            choice: found.choice,
+            profile: Some(made.profile),
+        },
+    }
 }

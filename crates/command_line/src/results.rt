@@ -124,7 +124,8 @@ fn prepare_relink<'a>(
             let first = Output::new(alloc, 5, cert, relinked.certificate)?;
             let second = Output::new(alloc, 4, out, relinked.file)?;
             let end = Some(relinked.end);
-            Ok(PreparedResult::written_twice(alloc, first, second, relinked.report, end)?)
+            let chosen = Some(relinked.chosen);
+            Ok(PreparedResult::written_twice(alloc, first, second, relinked.report, end, chosen)?)
         }
         Err(fault) => Err(fault),
     }
@@ -138,7 +139,7 @@ fn prepare_profile<'a>(alloc: Global, texts: &[Vec<u8>]) -> Result<PreparedResul
         → RejectsInputs (profile_command f b i) (contents texts.now) fault) }
 {
     match profile_file(alloc, &texts[0], &texts[1], &texts[2]) {
-        Ok(made) => Ok(PreparedResult::printed(alloc, made.text, Some(made.end))?),
+        Ok(made) => Ok(PreparedResult::printed(alloc, made.text, Some(made.end), None)?),
         Err(fault) => Err(fault),
     }
 }
@@ -151,7 +152,7 @@ fn prepare_compare<'a>(alloc: Global, texts: &[Vec<u8>]) -> Result<PreparedResul
         → RejectsInputs (compare_command f r b i) (contents texts.now) fault) }
 {
     match compare_files(alloc, &texts[0], &texts[1], &texts[2], &texts[3]) {
-        Ok(text) => Ok(PreparedResult::printed(alloc, text, None)?),
+        Ok(text) => Ok(PreparedResult::printed(alloc, text, None, None)?),
         Err(fault) => Err(fault),
     }
 }
@@ -164,7 +165,11 @@ fn prepare_check<'a>(alloc: Global, texts: &[Vec<u8>]) -> Result<PreparedResult<
         → RejectsInputs (check_command f b i c) (contents texts.now) fault) }
 {
     match check_file(alloc, &texts[0], &texts[1], &texts[2], &texts[3]) {
-        Ok(made) => Ok(PreparedResult::printed(alloc, made.text, Some(made.end))?),
+        Ok(made) => {
+            let text = made.report.into_bytes();
+            let chosen = Some(made.chosen);
+            Ok(PreparedResult::printed(alloc, text, Some(made.end), chosen)?)
+        }
         Err(fault) => Err(fault),
     }
 }
@@ -177,7 +182,7 @@ fn prepare_paid<'a>(alloc: Global, texts: &[Vec<u8>]) -> Result<PreparedResult<'
         → RejectsInputs (paid_command f b i c) (contents texts.now) fault) }
 {
     match paid_file(alloc, &texts[0], &texts[1], &texts[2], &texts[3]) {
-        Ok(made) => Ok(PreparedResult::printed(alloc, made.text, Some(made.end))?),
+        Ok(made) => Ok(PreparedResult::printed(alloc, made.text, Some(made.end), None)?),
         Err(fault) => Err(fault),
     }
 }
@@ -212,7 +217,7 @@ fn prepare_show<'a>(alloc: Global, texts: &[Vec<u8>]) -> Result<PreparedResult<'
         → RejectsInputs (show_command f b) (contents texts.now) fault) }
 {
     match show_file(alloc, &texts[0], &texts[1]) {
-        Ok(text) => Ok(PreparedResult::printed(alloc, text, None)?),
+        Ok(text) => Ok(PreparedResult::printed(alloc, text, None, None)?),
         Err(fault) => Err(fault),
     }
 }
@@ -273,7 +278,7 @@ fn prepare_hex_check<'a>(
     match check_hex(alloc, &texts[0], &texts[1]) {
         Ok(()) => {
             let text = String::from_str(alloc, "same\n")?;
-            Ok(PreparedResult::printed(alloc, text.into_bytes(), None)?)
+            Ok(PreparedResult::printed(alloc, text.into_bytes(), None, None)?)
         }
         Err(fault) => Err(fault),
     }

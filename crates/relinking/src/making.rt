@@ -11,7 +11,7 @@ use crate::stating::programme_of_run;
 use board_config::Board;
 use branch_bound::Found;
 use placement_programme::Programme;
-use profile_runner::ProfileFault;
+use profile_runner::{Profile, ProfileFault};
 use relink_core::{Analysis, Realised, realise};
 use std::alloc::{AllocError, Global};
 
@@ -34,6 +34,8 @@ pub struct RelinkedRun {
     pub relinked: Relinked,
     /// How the run ended.
     pub end: MeasuredEnd,
+    /// What the run did, counted.
+    pub profile: Profile,
 }
 
 /// Relinks a file that is analysed: what its run on the input makes worth while, found with the board's budget of nodes,
@@ -54,7 +56,12 @@ pub fn relink_analysed(
     match relink_programme(alloc, analysis, board, measured.programme) {
         Ok(relinked) => {
             let end = measured.end;
-            Ok(RelinkedRun { relinked, end })
+            let profile = measured.profile;
+            Ok(RelinkedRun {
+                relinked,
+                end,
+                profile,
+            })
         }
         Err(error) => Err(ProfileFault::from(error)),
     }

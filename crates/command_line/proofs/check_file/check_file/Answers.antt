@@ -40,7 +40,7 @@ returns-in-Ok-clause-ok c =
       accepts = is.accepts;
       programme = programme;
       states = states_of c.args.board.now c.args.file.now c.args.input.now o programme is c.in_ok-measured.ensures.ok.states;
-      reports = rw c.into_bytes-text.ensures.value c.in-Ok.ensures.ok;
+      reports = c.in-Ok.ensures.ok;
     }
 
 pub returns-in-Ok-clause-end : goal.returns-in-Ok-clause-end

@@ -46,7 +46,8 @@ returns-clause-ok c =
     let made = c.in_ok-relinked.ensures.ok file is.analysed in
     let p = plain_programme relinked.programme in
     let choice = plain_choice relinked.found.choice in
-    record {
+    let parts = c.mixed_file.ensures in
+    rw (parts.certificate, parts.file, parts.report) record {
       board = o.board;
       accepts = is.accepts;
       programme = p;

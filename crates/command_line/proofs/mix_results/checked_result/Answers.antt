@@ -28,11 +28,11 @@ returns-in-Ok-clause-ok c f b m k =
     let board = c.deref-3.result.now in
     let cert = c.deref-5.result.now in
     let texts = four_with_third c.args.texts.now c.index-texts-0.result c.index-texts-1.result c.index-texts-3.result file board cert c.requires.texts c.index-texts-0.is c.index-texts-1.is c.index-texts-3.is c.deref-2.ensures.value c.deref-3.ensures.value c.deref-5.ensures.value in
-    let is = subst (λ (ps : List WeightedInput). ChecksMixTo file board ps cert (string_bytes c.in-Ok.report)) inputs c.in-Ok.ensures.ok in
+    let is = subst (λ (ps : List WeightedInput). ChecksMixTo file board ps cert (string_bytes c.in-Ok.checked.report)) inputs c.in-Ok.ensures.ok in
     let made = c.in_ok-printed-in-Ok.ensures in
     record {
       outputs = [];
-      yields = rw (made.text, c.into_bytes.ensures.value) (checks_mix f b m k file board mix cert listed refl (ap (λ ts. ts ++ listed) (sym texts)) refl c.requires.listed.unbroken is);
+      yields = rw (made.text, c.into_bytes-text.ensures.value) (checks_mix f b m k file board mix cert listed refl (ap (λ ts. ts ++ listed) (sym texts)) refl c.requires.listed.unbroken is);
       prepared_outputs = made.outputs;
       print_fault = made.print_fault;
       measured = measures_none refl made.measured;

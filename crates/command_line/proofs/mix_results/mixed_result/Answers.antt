@@ -1,4 +1,5 @@
-use Rattle.std.proofs.Common.{◌∷◌, [], ◌++◌, ℕ, List, map, refl, sym, subst, ap, ◌∙◌}
+use Rattle.std.proofs.Common.{◌∷◌, [], ◌++◌, ℕ, List, map, refl, sym, subst, ap, ◌∙◌, inl}
+use Rattle.std.proofs.lemmas.Result.{err_from_is_err_and}
 use Rattle.command_language.specs.Lines.{plain_input}
 use Rattle.relinking.specs.MixOfRuns.{WeightedInput}
 use Rattle.relinking.specs.MixOfRuns as together
@@ -52,3 +53,13 @@ returns-clause-err c f b m =
     subst (λ (ts : List (List ℕ)). RejectsInputs (mix_command f b m c.args.out.now c.args.cert.now) (ts ++ listed) fault) texts
     (mix_rejected f b m c.args.out.now c.args.cert.now file board mix listed fault c.requires.listed.unbroken
     (subst (λ (ps : List WeightedInput). RejectsRuns board file ps fault) inputs c.in-Err.ensures.err))
+
+pub returns-in_err-first-in-Ok-clause-err : goal.returns-in_err-first-in-Ok-clause-err
+returns-in_err-first-in-Ok-clause-err c =
+    let p = err_from_is_err_and c.from_residual-in_err-first-in-Ok.result c.from_residual-in_err-first-in-Ok.ensures.1 in
+    rw (p.1, p.2) (λ f b m. inl refl)
+
+pub returns-in_err-second-in-Ok-clause-err : goal.returns-in_err-second-in-Ok-clause-err
+returns-in_err-second-in-Ok-clause-err c =
+    let p = err_from_is_err_and c.from_residual-in_err-second-in-Ok.result c.from_residual-in_err-second-in-Ok.ensures.1 in
+    rw (p.1, p.2) (λ f b m. inl refl)

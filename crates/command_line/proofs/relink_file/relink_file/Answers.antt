@@ -45,7 +45,8 @@ returns-clause-ok c =
     let relinked = c.in_ok-made.made.relinked in
     let p = plain_programme relinked.programme in
     let choice = plain_choice relinked.found.choice in
-    record {
+    let parts = c.relinked_file.ensures in
+    rw (parts.certificate, parts.file, parts.report) record {
       board = o.board;
       accepts = is.accepts;
       programme = p;
@@ -61,4 +62,4 @@ pub returns-clause-end : goal.returns-clause-end
 returns-clause-end c =
     let o = c.in_ok-opened.opened in
     let is = c.in_ok-opened.ensures.ok in
-    ends_in_file c.args.file.now c.args.board.now c.args.input.now o c.in_ok-made.made.end is (c.in_ok-made.ensures.ok c.args.file.now is.analysed).ended
+    rw c.relinked_file.ensures.end (ends_in_file c.args.file.now c.args.board.now c.args.input.now o c.in_ok-made.made.end is (c.in_ok-made.ensures.ok c.args.file.now is.analysed).ended)
