@@ -1,6 +1,7 @@
 # Start code with what other start codes do, each behind a name, in front of ../crt0.S:
 # SET_TRAPS sets the trap handler, CLEAR_ZEROS clears .bss, COPY_DATA copies .data from its load address, SET_GP sets gp,
 # MIX_PARTS makes an address of parts that don't belong together, which leads to another word, and exits by that.
+# CROWD and INWARD have a function for program.c: one that reads all registers, and one that calls a label inside itself.
     .section .text.start, "ax", @progbits
     .globl _start
     .type _start, @function
@@ -61,6 +62,42 @@ mixed:
     .word 1
     .size mixed, . - mixed
     .word 0
+#endif
+
+#ifdef CROWD
+    .section .text.called, "ax", @progbits
+    .globl called
+    .type called, @function
+called:
+    .irp register, t0, t1, t2, s0, s1, a1, a2, a3, a4, a5, a6, a7, s2, s3, s4, s5, s6, s7, s8, s9, s10, s11, t3, t4, t5, t6
+    sw   \register, -4(sp)
+    .endr
+    ret
+    .size called, . - called
+#endif
+
+#ifdef INWARD
+    .section .text.called, "ax", @progbits
+    .globl called
+    .type called, @function
+called:
+    mv   t1, ra
+    li   t0, 1000
+1:  jal  ra, inner
+    j    2f
+inner:
+    .rept 20
+    addi a0, a0, 1
+    .endr
+    ret
+2:  .rept 20
+    xori a0, a0, 1
+    .endr
+    addi t0, t0, -1
+    bnez t0, 1b
+    mv   ra, t1
+    ret
+    .size called, . - called
 #endif
 
 #define _start usual_start

@@ -1,8 +1,7 @@
 //! The outside of a case, in memory: its files, and what its calls print.
 
 use crate::lists::Case;
-use command_line::{run, run_command};
-use explanations::Explainer;
+use explanations::{Explainer, run, run_command};
 use shelf_io::{MemShelf, MemSink, Shelf};
 use std::alloc::{AllocError, Global};
 use std::collections::BTreeMap;

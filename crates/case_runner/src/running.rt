@@ -5,7 +5,7 @@ use crate::contents::{bytes_of, has_parts};
 use crate::lists::{Call, Case, Content, List, Wanted};
 use crate::outside::Outside;
 use anyhow::{Result, bail};
-use command_line::is_seen_safe;
+use explanations::is_seen_safe;
 use std::alloc::{AllocError, Global};
 use std::collections::BTreeMap;
 use std::ops::Range;
@@ -23,7 +23,7 @@ pub fn first_difference(
 ) -> Result<Option<String>> {
     match case.lengths.as_slice() {
         [] => difference_at(rt, name, list, case, None),
-        [from, to] => cut_difference(rt, name, list, case, *from..*to),
+        [from, to] => cut_difference(rt, *from..*to, name, list, case),
         _ => bail!("`lengths` are two numbers"),
     }
 }
@@ -31,10 +31,10 @@ pub fn first_difference(
 /// The first difference at one of the lengths at which the case's files are cut off.
 fn cut_difference(
     rt: &(impl Files + AllocGlobal),
+    lengths: Range<u64>,
     name: &str,
     list: &List,
     case: &Case,
-    lengths: Range<u64>,
 ) -> Result<Option<String>> {
     for length in lengths {
         if let Some(difference) = difference_at(rt, name, list, case, Some(length))? {

@@ -1,7 +1,7 @@
 use crate::cures::text_at;
 use crate::notes::{Notes, Piece};
 use board_config::BoardFault;
-use std::alloc::AllocError;
+use std::alloc::{AllocError, Global};
 
 /// The keys by their numbers, from 1 on. Those of the table `price` follow the table.
 const KEYS: [&str; 20] = [
@@ -178,15 +178,17 @@ fn line_at(text: &[u8], place: usize) -> Line<'_> {
 /// The first line that begins with a key and an equals sign.
 fn line_of_key<'a>(text: &'a [u8], key: &[u8]) -> Option<Line<'a>> {
     let mut number: u64 = 0;
+    let mut start: usize = 0;
     for line in text.split(|byte| *byte == b'\n') {
         number = number.saturating_add(1);
         if begins_with_key(line, key) {
             return Some(Line {
                 number,
-                start: 0,
+                start,
                 text: line,
             });
         }
+        start = start.saturating_add(line.len()).saturating_add(1);
     }
     None
 }
@@ -201,4 +203,44 @@ fn begins_with_key(line: &[u8], key: &[u8]) -> bool {
 /// Whether a board gives a key, by a line that begins with it.
 pub fn gives_key(text: &[u8], key: &[u8]) -> bool {
     line_of_key(text, key).is_some()
+}
+
+/// The text of a board with further names in its list `fix`. It fails only where no memory was left.
+pub fn text_with_fixed(alloc: Global, text: &[u8], names: &[&[u8]]) -> Result<Vec<u8>, AllocError> {
+    let mut changed = Vec::new(alloc);
+    let place = place_in_list(text, b"fix");
+    let kept = text.get(..place.unwrap_or_default()).unwrap_or_default();
+    changed.extend_from_slice(kept)?;
+    if place.is_none() {
+        changed.extend_from_slice(b"fix = [")?;
+    }
+    for name in names {
+        push_quoted(&mut changed, name)?;
+        changed.extend_from_slice(b", ")?;
+    }
+    if place.is_none() {
+        changed.extend_from_slice(b"]\n")?;
+    }
+    changed.extend_from_slice(text.get(kept.len()..).unwrap_or_default())?;
+    Ok(changed)
+}
+
+/// Where the names begin of a list that a board gives.
+fn place_in_list(text: &[u8], key: &[u8]) -> Option<usize> {
+    let line = line_of_key(text, key)?;
+    let bracket = line.text.iter().position(|byte| *byte == b'[')?;
+    Some(line.start.saturating_add(bracket).saturating_add(1))
+}
+
+/// Adds a name as TOML has it in quotes.
+pub(crate) fn push_quoted(text: &mut Vec<u8>, name: &[u8]) -> Result<(), AllocError> {
+    text.push(b'"')?;
+    for byte in name {
+        if matches!(*byte, b'"' | b'\\') {
+            text.push(b'\\')?;
+        }
+        text.push(*byte)?;
+    }
+    text.push(b'"')?;
+    Ok(())
 }

@@ -35,13 +35,13 @@ pub fn say_file_differs(notes: &mut Notes, result_differs: bool) -> Result<(), A
 /// A program that went on at the end of the board's steps, and how many steps of its result were compared. It fails only
 /// where no memory was left.
 pub fn say_compared(notes: &mut Notes, steps: u64, compared: u64) -> Result<(), AllocError> {
-    notes.say(&[
-        Piece::Text("the board allows "),
+    notes.begin("the board allows ")?;
+    notes.put(&[
         Piece::Number(steps),
         Piece::Text(" steps, and the program went on; RESULT wrote its bytes in "),
         Piece::Number(compared),
-        Piece::Text(" steps, and was compared no further"),
-    ])
+    ])?;
+    notes.end(" steps, and was compared no further")
 }
 
 /// What to do where a program went on, and so did its result. It fails only where no memory was left.

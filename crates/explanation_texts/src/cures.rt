@@ -38,3 +38,8 @@ pub(crate) fn text_at(table: &[&'static str], place: u32) -> &'static str {
         None => "",
     }
 }
+
+/// What stands in front of a name of a list, by the place of the name.
+pub(crate) fn before_name(place: usize, first: &'static str) -> &'static str {
+    if place == 0 { first } else { ", " }
+}

@@ -226,13 +226,8 @@ fn put_address(
     base: &str,
 ) -> Result<(), AllocError> {
     put_registers(notes, &[register])?;
-    notes.put(&[
-        Piece::Text(","),
-        Piece::Signed(offset),
-        Piece::Text("("),
-        Piece::Text(base),
-        Piece::Text(")"),
-    ])
+    notes.put(&[Piece::Text(","), Piece::Signed(offset)])?;
+    notes.put(&[Piece::Text("("), Piece::Text(base), Piece::Text(")")])
 }
 
 /// The name of the register whose number is in the last five bits.

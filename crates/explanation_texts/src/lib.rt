@@ -6,6 +6,7 @@ mod boards;
 mod comparisons;
 mod cures;
 mod files;
+mod fixes;
 mod instructions;
 mod mixes;
 mod notes;
@@ -13,20 +14,26 @@ mod objects;
 mod pairing;
 mod places;
 mod refusals;
+mod regions;
 mod relocations;
 mod runs;
 mod savings;
+mod staying;
 mod usage;
 
 pub use answers::{
     explain_status, say_listed_twice, say_many_blocks, say_small_patch, say_unknown_function,
 };
-pub use boards::{explain_board, gives_key};
+pub use boards::{explain_board, gives_key, text_with_fixed};
 pub use comparisons::{
     ResultEnd, say_compared, say_ended_early, say_file_differs, say_more_steps, say_result_differs,
 };
 pub use files::{
     UsedFile, say_certificate_alone, say_unprinted, say_unread, say_unwritten, say_used,
+};
+pub use fixes::{
+    FixEnd, FixList, may_keep, say_fault_cure, say_fix, say_further_fault, say_more_faults,
+    say_no_list,
 };
 pub use mixes::{say_bad_line, say_faulty_input, say_unpaired_input, say_unread_input};
 pub use notes::Notes;
@@ -36,6 +43,13 @@ pub use objects::{
 };
 pub use pairing::{MixedParts, say_measured_unpaired, say_unpaired};
 pub use refusals::{explain_elf, explain_layout, explain_no_code};
+pub use regions::{
+    Barrier, InwardCall, say_full_patch, say_idle_driver, say_inward, say_lost_region,
+};
 pub use runs::{Involved, explain_fault, say_still_running, say_trapped};
-pub use savings::{Measured, MovedCode, say_more_code, say_moved_code, say_saved};
+pub use savings::{
+    Measured, MovedItem, MovedPart, Standing, Used, say_fixed_cost, say_more_items, say_moved_item,
+    say_overlay_room, say_patch_room, say_saved, say_scratchpad_room,
+};
+pub use staying::{Room, StayingItem, StayingReason, say_staying, say_staying_rest};
 pub use usage::{Command, command_of, explain_words};

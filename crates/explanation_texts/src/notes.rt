@@ -1,3 +1,4 @@
+use crate::boards::push_quoted;
 use std::alloc::{AllocError, Global};
 
 /// The most bytes of a file or of a word of the command line that are shown.
@@ -10,8 +11,8 @@ pub(crate) enum Piece<'a> {
     Text(&'a str),
     /// A name of a file or of the command line, in backquotes. It needn't be UTF-8.
     Name(&'a [u8]),
-    /// A name without backquotes.
-    Bare(&'a [u8]),
+    /// A whole name as a board has it, in quotes.
+    Quoted(&'a [u8]),
     /// A number in decimal.
     Number(u64),
     /// An immediate operand in decimal.
@@ -111,7 +112,7 @@ impl Notes {
         match *piece {
             Piece::Text(text) => self.add(text),
             Piece::Name(name) => self.push_name(name),
-            Piece::Bare(name) => self.push_bytes(name),
+            Piece::Quoted(name) => push_quoted(&mut self.text, name),
             Piece::Number(number) => self.push_number(number),
             Piece::Signed(number) => self.push_signed(number),
             Piece::Hex(word) => self.push_hex(word),

@@ -1,3 +1,4 @@
+use crate::cures::before_name;
 use crate::notes::{Notes, Piece};
 use std::alloc::AllocError;
 use unchecked_file::{RawSegment, UncheckedFile};
@@ -50,12 +51,7 @@ struct LabelCure {
     first: &'static str,
 }
 
-const LABEL_CURES: [LabelCure; 6] = [
-    LabelCure {
-        start: ANCHOR,
-        end: b"",
-        first: "compile with -fno-section-anchors",
-    },
+const LABEL_CURES: [LabelCure; 5] = [
     LabelCure {
         start: b"__start_",
         end: b"",
@@ -121,8 +117,19 @@ pub fn say_short_run(notes: &mut Notes) -> Result<(), AllocError> {
     notes.say_first("measure a longer run, as on a longer input: a copy is paid once")
 }
 
-/// Objects of a section that stay, why, and what frees them. It fails only where no memory was left.
-pub fn say_pinned(notes: &mut Notes, section: &PinnedSection) -> Result<(), AllocError> {
+/// How the names end of output sections that have a library's objects alone, as in examples/board.ld.
+const LIBRARY: &[u8] = b".library";
+
+/// How many sources are told at most.
+const TOLD_SOURCES: usize = 4;
+
+/// Objects of a section that stay, why, and what frees them. The sources are those that have anchors in it. It fails only where
+/// no memory was left.
+pub fn say_pinned(
+    notes: &mut Notes,
+    section: &PinnedSection,
+    sources: &[&[u8]],
+) -> Result<(), AllocError> {
     match section.rule {
         Rule::Zeros => {
             say_stay(notes, section, "`bss` of the board is \"fixed\"")?;
@@ -130,7 +137,7 @@ pub fn say_pinned(notes: &mut Notes, section: &PinnedSection) -> Result<(), Allo
                 "write bss = \"movable\" into the board, if no start code clears the section by its addresses",
             )
         }
-        Rule::Label(label) => say_label(notes, section, &label),
+        Rule::Label(label) => say_label(notes, section, &label, sources),
         Rule::Other => say_stay(
             notes,
             section,
@@ -169,7 +176,12 @@ fn put_stay(notes: &mut Notes, section: &PinnedSection) -> Result<(), AllocError
     ])
 }
 
-fn say_label(notes: &mut Notes, section: &PinnedSection, label: &Label) -> Result<(), AllocError> {
+fn say_label(
+    notes: &mut Notes,
+    section: &PinnedSection,
+    label: &Label,
+    sources: &[&[u8]],
+) -> Result<(), AllocError> {
     notes.begin("")?;
     put_stay(notes, section)?;
     notes.put(&[
@@ -181,7 +193,45 @@ fn say_label(notes: &mut Notes, section: &PinnedSection, label: &Label) -> Resul
         Piece::Name(label.name),
     ])?;
     notes.end(", and so none may move")?;
+    if is_anchor(label.name) {
+        return say_anchor_cure(notes, section.name, sources);
+    }
     notes.say_first(cure_of(section.name, label))
+}
+
+/// What frees objects from anchors, and the sources that have these.
+fn say_anchor_cure(notes: &mut Notes, section: &[u8], sources: &[&[u8]]) -> Result<(), AllocError> {
+    if section.ends_with(LIBRARY) {
+        return notes.say_first(
+            "a library was compiled with anchors: objects of its own stay, and no others; no cure is needed",
+        );
+    }
+    notes.begin("first: compile with -fno-section-anchors or -fdata-sections")?;
+    for (place, source) in sources.iter().enumerate() {
+        if place < TOLD_SOURCES {
+            put_source(notes, place, source)?;
+        }
+    }
+    if let Some(more) = sources.len().checked_sub(TOLD_SOURCES) {
+        if more != 0 {
+            notes.put(&[
+                Piece::Text(" and of "),
+                Piece::Number(more as u64),
+                Piece::Text(" more sources"),
+            ])?;
+        }
+    }
+    notes.end(if sources.is_empty() {
+        ""
+    } else {
+        "); a library that you don't compile gets an output section of its own, as .rodata.library in examples/board.ld"
+    })
+}
+
+/// Goes on with a line by a source that has anchors, by its place in their list.
+fn put_source(notes: &mut Notes, place: usize, source: &[u8]) -> Result<(), AllocError> {
+    let before = before_name(place, " (the anchors are of ");
+    notes.put(&[Piece::Text(before), Piece::Name(source)])
 }
 
 /// What frees objects from a label.
@@ -213,15 +263,15 @@ pub fn say_load_address(
     file: &UncheckedFile,
     segment: &RawSegment,
 ) -> Result<(), AllocError> {
-    notes.say(&[
-        Piece::Text("the segment of "),
+    notes.begin("the segment of ")?;
+    notes.put(&[
         Piece::Name(file.first_section(segment)),
         Piece::Text(" runs at "),
         Piece::Hex(segment.vaddr),
         Piece::Text(", and its load address is "),
         Piece::Hex(segment.paddr),
-        Piece::Text(": it is loaded where it runs, and nothing is loaded there"),
     ])?;
+    notes.end(": it is loaded where it runs, and nothing is loaded there")?;
     notes.say_first(
         "leave AT> out of the linker script, and the loop that copies the section out of the start code",
     )

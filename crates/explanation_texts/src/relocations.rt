@@ -2,7 +2,7 @@ use crate::cures::{Cure, CureRow, cure_of, text_at};
 use crate::notes::{Notes, Piece};
 use crate::places::put_place;
 use std::alloc::AllocError;
-use unchecked_file::UncheckedFile;
+use unchecked_file::{RawRelocation, UncheckedFile};
 
 /// The names of the kinds of relocations (RISC-V psABI, "Relocations").
 const KINDS: [&str; 60] = [
@@ -69,19 +69,12 @@ const KINDS: [&str; 60] = [
 ];
 
 /// What kinds of relocations come of, and what avoids them.
-const CURES: [CureRow; 4] = [
+const CURES: [CureRow; 3] = [
     CureRow {
         numbers: &[20],
         cure: Cure {
             cause: "position-independent code takes the address from a table",
             first: "compile and assemble with -fno-pie, and link with -no-pie",
-        },
-    },
-    CureRow {
-        numbers: &[6, 7, 8, 9, 10, 11, 21, 22, 29, 30, 31, 32, 49, 50],
-        cure: Cure {
-            cause: "the symbol is thread-local, as `errno` is: it is found by the tp register",
-            first: "link functions that set no errno in front of the C library",
         },
     },
     CureRow {
@@ -105,6 +98,28 @@ const OTHER: Cure = Cure {
     first: "link a static executable for -march=rv32im -mabi=ilp32, without -shared and -pie",
 };
 
+/// The kinds of thread-local symbols.
+const THREAD_LOCAL: [u32; 14] = [6, 7, 8, 9, 10, 11, 21, 22, 29, 30, 31, 32, 49, 50];
+
+/// How many uses of thread-local symbols are told.
+const TOLD_USES: usize = 8;
+
+/// The thread-local variable of the C library.
+const ERRNO: &[u8] = b"errno";
+
+const ERRNO_CURE: &str =
+    "errno is the C library's: link functions of your own that set none, in place of those above, in front of it; where your own sources name errno, compile these with -D__PICOLIBC_ERRNO_FUNCTION=NAME, where int *NAME(void) is yours";
+
+const VARIABLE_CURE: &str =
+    "leave _Thread_local (thread_local, __thread) out of the declarations, or take the switch of the library that does so";
+
+/// A use of a thread-local symbol, by a function.
+#[derive(Clone, Copy, PartialEq, Eq)]
+struct ThreadLocalUse<'a> {
+    symbol: &'a [u8],
+    function: &'a [u8],
+}
+
 /// A relocation of a kind that is not supported.
 pub(crate) fn say_unsupported(
     notes: &mut Notes,
@@ -125,7 +140,75 @@ pub(crate) fn say_unsupported(
         notes.end("")?;
         say_changed(notes, file, relocation.at)?;
     }
+    if THREAD_LOCAL.contains(&kind) {
+        return say_thread_local(notes, file);
+    }
     cure_of(&CURES, kind, OTHER).say(notes)
+}
+
+/// The thread-local symbols that relocations name, each once for each function that uses it, and what to do.
+fn say_thread_local(notes: &mut Notes, file: &UncheckedFile) -> Result<(), AllocError> {
+    notes.say_words("the symbol is thread-local: it is found by the tp register. All such are:")?;
+    let mut uses = Vec::new(notes.alloc());
+    for index in 0..file.relocations() {
+        if let Some(relocation) = file.relocation(index) {
+            note_use(notes, file, &relocation, &mut uses)?;
+        }
+    }
+    match uses.len().checked_sub(TOLD_USES) {
+        None | Some(0) => {}
+        Some(more) => notes.say_number("  and ", more as u64, " more")?,
+    }
+    say_owners(notes, &uses)
+}
+
+/// Tells a use of a thread-local symbol that was not told before.
+fn note_use<'a>(
+    notes: &mut Notes,
+    file: &UncheckedFile<'a>,
+    relocation: &RawRelocation<'a>,
+    uses: &mut Vec<ThreadLocalUse<'a>>,
+) -> Result<(), AllocError> {
+    if !THREAD_LOCAL.contains(&relocation.kind) {
+        return Ok(());
+    }
+    let found = ThreadLocalUse {
+        symbol: relocation.symbol,
+        function: match file.code_symbol(relocation.at) {
+            Some(function) => function.name,
+            None => &[],
+        },
+    };
+    if uses.contains(&found) {
+        return Ok(());
+    }
+    uses.push(found)?;
+    if uses.len() > TOLD_USES {
+        return Ok(());
+    }
+    notes.begin("  ")?;
+    notes.put(&[Piece::Name(relocation.symbol)])?;
+    let source = file.source_of(relocation);
+    if !source.is_empty() {
+        notes.put(&[Piece::Text(" of "), Piece::Name(source)])?;
+    }
+    notes.put(&[Piece::Text(", used")])?;
+    put_place(notes, file, relocation.at)?;
+    notes.end("")
+}
+
+/// What to do, by whose the symbols are: the C library's `errno`, or variables of other sources.
+fn say_owners(notes: &mut Notes, uses: &[ThreadLocalUse]) -> Result<(), AllocError> {
+    let errors = uses.iter().filter(|found| found.symbol == ERRNO).count();
+    if errors == 0 {
+        return notes.say_first(VARIABLE_CURE);
+    }
+    notes.say_first(ERRNO_CURE)?;
+    if errors == uses.len() {
+        return Ok(());
+    }
+    notes.begin("then, of the others: ")?;
+    notes.end(VARIABLE_CURE)
 }
 
 /// Goes on with a line by the name of a kind, or its number where it has none.

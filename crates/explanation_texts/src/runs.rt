@@ -1,20 +1,13 @@
 use crate::cures::text_at;
 use crate::instructions::end_by_instruction;
 use crate::notes::{Notes, Piece};
-use crate::objects::say_load_address;
 use crate::places::put_place;
-use fault_trail::{AddressFault, Way};
+use fault_trail::{AddressFault, Origin, Way};
 use std::alloc::AllocError;
 use unchecked_file::UncheckedFile;
 
-/// The greatest word, as the number -1.
-const MINUS_ONE: u32 = u32::MAX;
-
-/// The reason of an access to what is no data.
-const NO_DATA: u32 = 3;
-
 /// What the reasons of address faults mean, by their numbers.
-const REASONS: [&str; 10] = [
+pub(crate) const REASONS: [&str; 10] = [
     "",
     "it reads or writes outside the object that it addresses",
     "its address is not aligned",
@@ -27,25 +20,13 @@ const REASONS: [&str; 10] = [
     "it writes into an object that is not writable",
 ];
 
-/// What to do where no object is known, by the numbers of the reasons.
-const CURES: [&str; 10] = [
-    "",
-    "correct the program",
-    "correct the program",
-    "keep constants out of sections with code (.rodata of its own), and copy nothing from load addresses",
-    "link with -Wl,--emit-relocs, and clear or copy no section by its addresses",
-    "compile with -mno-explicit-relocs or -fno-ivopts, or keep the object by `fix` of the board",
-    "keep symbols and relocations (strip -g alone), and jump to functions by their names",
-    "keep the objects that are compared by `fix` of the board",
-    "do not write addresses out",
-    "correct the program",
-];
-
 /// What is known by name of an address fault. Empty names are not known.
 #[derive(Clone, Copy)]
 pub struct Involved<'a> {
     /// The object of whose address the value was made.
     pub object: &'a [u8],
+    /// The object of whose address the other operand of a comparison was made.
+    pub other: &'a [u8],
     /// The object or the section that has the byte at the address.
     pub bytes: &'a [u8],
     /// Whether the file has symbols.
@@ -108,22 +89,30 @@ pub fn explain_fault(
     say_instruction(notes, file, "address fault", fault.pc)?;
     notes.say_words(text_at(&REASONS, fault.why))?;
     if let Some(origin) = fault.culprit.origin {
-        say_origin(notes, involved.object, origin.way)?;
+        say_origin(notes, file, involved.object, &origin)?;
     }
-    if let Some(address) = fault.culprit.address {
-        say_address(notes, address, involved.bytes)?;
+    if let Some(origin) = fault.culprit.other {
+        say_origin(notes, file, involved.other, &origin)?;
     }
-    match file.segment_loaded_apart() {
-        Some(segment) if fault.why == NO_DATA => say_load_address(notes, file, &segment),
-        _ => say_cure(notes, fault, involved),
+    match fault.culprit.address {
+        Some(address) => say_address(notes, address, involved.bytes),
+        None => Ok(()),
     }
 }
 
-/// The object of whose address the value was made, and how.
-fn say_origin(notes: &mut Notes, object: &[u8], way: Way) -> Result<(), AllocError> {
+/// The object of whose address a value was made, and how.
+fn say_origin(
+    notes: &mut Notes,
+    file: &UncheckedFile,
+    object: &[u8],
+    origin: &Origin,
+) -> Result<(), AllocError> {
     notes.begin("the value comes of the address of ")?;
-    notes.put(&[Piece::Name(object)])?;
-    notes.end(way_text(way))
+    notes.put(&[Piece::Name(object), Piece::Text(way_text(origin.way))])?;
+    if let Some(at) = origin.made {
+        put_place(notes, file, at)?;
+    }
+    notes.end("")
 }
 
 fn way_text(way: Way) -> &'static str {
@@ -132,6 +121,7 @@ fn way_text(way: Way) -> &'static str {
         Way::Address => "",
         Way::CopiedUpper => ", of which the upper part was copied to another register",
         Way::Computed => ", with which other arithmetic was done than to add a number",
+        Way::Tested => ", of which it was asked as a value whether it is null (p == 0)",
     }
 }
 
@@ -144,67 +134,4 @@ fn say_address(notes: &mut Notes, address: u32, holder: &[u8]) -> Result<(), All
     }
     notes.put(&[Piece::Text(", of "), Piece::Name(holder)])?;
     notes.end("")
-}
-
-/// What to do first.
-fn say_cure(
-    notes: &mut Notes,
-    fault: &AddressFault,
-    involved: &Involved,
-) -> Result<(), AllocError> {
-    if !involved.has_symbols {
-        return notes.say_first(
-            "the file has no symbols: strip by strip -g alone, before relink, and link without -s",
-        );
-    }
-    if !involved.has_relocations {
-        return notes.say_first("the file has no relocations: link with -Wl,--emit-relocs");
-    }
-    if involved.object.is_empty() {
-        return notes.say_first(cure_text(fault, involved));
-    }
-    notes.say(&[
-        Piece::Text("first: "),
-        Piece::Text(flag_text(fault, involved)),
-        Piece::Text("keep it by fix = [\""),
-        Piece::Bare(involved.object),
-        Piece::Text("\"] in the board"),
-    ])
-}
-
-/// What to do where no object is known.
-fn cure_text(fault: &AddressFault, involved: &Involved) -> &'static str {
-    if fault.why == NO_DATA && involved.bytes.is_empty() {
-        return "let the start code set the stack pointer (sp), and list device registers in `areas` of the board";
-    }
-    text_at(&CURES, fault.why)
-}
-
-/// What else than to keep the object, with the word that follows.
-fn flag_text(fault: &AddressFault, involved: &Involved) -> &'static str {
-    match fault.why {
-        1 => "correct the program, or ",
-        5 => unknown_cure(fault),
-        7 => comparison_cure(fault, involved),
-        _ => "",
-    }
-}
-
-/// What to do where what an address means is not known.
-fn unknown_cure(fault: &AddressFault) -> &'static str {
-    match fault.culprit.origin {
-        Some(origin) if origin.way == Way::Computed => "compile with -fno-ivopts, or ",
-        _ => "compile with -mno-explicit-relocs, or ",
-    }
-}
-
-/// What to do where an address is compared.
-fn comparison_cure(fault: &AddressFault, involved: &Involved) -> &'static str {
-    if fault.culprit.compared == Some(MINUS_ONE) {
-        return "tell failure by NULL in place of (void *)-1, or ";
-    }
-    if involved.has_anchors {
-        return "compile with -fno-section-anchors (an anchor keeps the other object), or ";
-    }
-    ""
 }

@@ -16,45 +16,175 @@ pub enum Measured {
 
 /// How many thousandths of the energy a choice saves. It fails only where no memory was left.
 pub fn say_saved(notes: &mut Notes, thousandths: u64, of: Measured) -> Result<(), AllocError> {
-    notes.say(&[
-        Piece::Text("saves "),
+    notes.begin("saves ")?;
+    put_percent(notes, thousandths)?;
+    notes.end(match of {
+        Measured::Run => " of the energy of the measured run",
+        Measured::Steps =>
+            " of the energy of the measured steps, and may save less of the whole run",
+        Measured::Mix => " of the energy of the listed runs",
+    })
+}
+
+/// Goes on with a line by thousandths, in percent.
+fn put_percent(notes: &mut Notes, thousandths: u64) -> Result<(), AllocError> {
+    notes.put(&[
         Piece::Number(thousandths / 10),
         Piece::Text("."),
         Piece::Number(thousandths % 10),
-        Piece::Text(match of {
-            Measured::Run => " % of the energy of the measured run",
-            Measured::Steps =>
-                " % of the energy of the measured steps, and may save less of the whole run",
-            Measured::Mix => " % of the energy of the listed runs",
-        }),
+        Piece::Text(" %"),
     ])
 }
 
-/// A piece of code that moved.
+/// When an item stands in the scratchpad.
 #[derive(Clone, Copy)]
-pub struct MovedCode<'a> {
-    /// The line of the report on it.
-    pub line: &'a str,
-    /// Its address in the program's file.
-    pub home: u32,
+pub enum Standing {
+    Throughout,
+    /// While this region is current.
+    InRegion(u32),
+    /// While either region of this pair of twins is current.
+    InTwins(u32),
 }
 
-/// Where in the program a piece of code is that moved. It fails only where no memory was left.
-pub fn say_moved_code(
+/// What moved.
+#[derive(Clone, Copy)]
+pub enum MovedPart<'a> {
+    /// Code, with its address in the program's file and its bytes there.
+    Code { home: u32, bytes: u32 },
+    Object { name: &'a [u8], bytes: u32 },
+}
+
+/// An item that moved, and thousandths of the energy.
+#[derive(Clone, Copy)]
+pub struct MovedItem<'a> {
+    pub standing: Standing,
+    pub part: MovedPart<'a>,
+    /// What it saves.
+    pub saved: u64,
+    /// What it costs before, where one run was measured.
+    pub before: Option<u64>,
+}
+
+/// An item that moved, and what that saves. It fails only where no memory was left.
+pub fn say_moved_item(
     notes: &mut Notes,
+    item: &MovedItem,
     file: &UncheckedFile,
-    code: &MovedCode,
 ) -> Result<(), AllocError> {
     notes.begin("")?;
+    put_standing(notes, item.standing)?;
+    put_part(notes, file, item.part)?;
+    notes.put(&[Piece::Text(": ")])?;
+    match item.before {
+        Some(before) => {
+            put_percent(notes, before)?;
+            notes.put(&[Piece::Text(" of the energy before, ")])?;
+            put_percent(notes, before.saturating_sub(item.saved))?;
+            notes.end(" after")
+        }
+        None => {
+            notes.put(&[Piece::Text("saves ")])?;
+            put_percent(notes, item.saved)?;
+            notes.end("")
+        }
+    }
+}
+
+fn put_standing(notes: &mut Notes, standing: Standing) -> Result<(), AllocError> {
+    match standing {
+        Standing::Throughout => notes.put(&[Piece::Text("throughout, ")]),
+        Standing::InRegion(region) => notes.put(&[
+            Piece::Text("in region "),
+            Piece::Number(u64::from(region)),
+            Piece::Text(", "),
+        ]),
+        Standing::InTwins(pair) => notes.put(&[
+            Piece::Text("in both regions of pair "),
+            Piece::Number(u64::from(pair)),
+            Piece::Text(", "),
+        ]),
+    }
+}
+
+fn put_part(notes: &mut Notes, file: &UncheckedFile, part: MovedPart) -> Result<(), AllocError> {
+    match part {
+        MovedPart::Code { home, bytes } => {
+            notes.put(&[
+                Piece::Number(u64::from(bytes)),
+                Piece::Text(" bytes of code"),
+            ])?;
+            put_place(notes, file, home)
+        }
+        MovedPart::Object { name, bytes } => notes.put(&[
+            Piece::Number(u64::from(bytes)),
+            Piece::Text(" bytes of "),
+            Piece::Name(name),
+        ]),
+    }
+}
+
+/// How many more items moved, and how many thousandths of the energy they save. It fails only where no memory was left.
+pub fn say_more_items(notes: &mut Notes, count: u64, saved: u64) -> Result<(), AllocError> {
+    notes.begin("")?;
     notes.put(&[
-        Piece::Name(code.line.as_bytes()),
-        Piece::Text(" is the code"),
+        Piece::Number(count),
+        Piece::Text(" more items that moved save "),
     ])?;
-    put_place(notes, file, code.home)?;
+    put_percent(notes, saved)?;
     notes.end("")
 }
 
-/// How many more pieces of code moved. It fails only where no memory was left.
-pub fn say_more_code(notes: &mut Notes, count: u64) -> Result<(), AllocError> {
-    notes.say_number("", count, " more pieces of code moved")
+/// How many thousandths of the energy are spent by a result whatever moves in it; nothing where that is none. It fails only
+/// where no memory was left.
+pub fn say_fixed_cost(notes: &mut Notes, thousandths: u64) -> Result<(), AllocError> {
+    if thousandths == 0 {
+        return Ok(());
+    }
+    notes.begin("the start of the program and changes of region cost ")?;
+    put_percent(notes, thousandths)?;
+    notes.end("")
+}
+
+/// How many bytes of some room are used.
+#[derive(Clone, Copy)]
+pub struct Used {
+    pub bytes: u64,
+    pub of: u64,
+}
+
+/// How full the scratchpad is, where nothing is overlaid. It fails only where no memory was left.
+pub fn say_scratchpad_room(notes: &mut Notes, used: Used) -> Result<(), AllocError> {
+    notes.begin("")?;
+    put_used(notes, used)?;
+    notes.end(" bytes of the scratchpad are used")
+}
+
+/// How full the scratchpad is before a region is entered, and while each region is current, in order. It fails only where no
+/// memory was left.
+pub fn say_overlay_room(notes: &mut Notes, used: &[Used]) -> Result<(), AllocError> {
+    notes.begin("of the scratchpad are used")?;
+    for (region, used) in used.iter().enumerate() {
+        notes.put(&[Piece::Text(if region == 0 { " " } else { ", " })])?;
+        put_used(notes, *used)?;
+        notes.put(&[
+            Piece::Text(" bytes in region "),
+            Piece::Number(region as u64),
+        ])?;
+    }
+    notes.end("")
+}
+
+/// How full the patch range is, behind what each result has there. It fails only where no memory was left.
+pub fn say_patch_room(notes: &mut Notes, used: Used) -> Result<(), AllocError> {
+    notes.begin("")?;
+    put_used(notes, used)?;
+    notes.end(" bytes of the patch range are used for what moved")
+}
+
+fn put_used(notes: &mut Notes, used: Used) -> Result<(), AllocError> {
+    notes.put(&[
+        Piece::Number(used.bytes),
+        Piece::Text(" of "),
+        Piece::Number(used.of),
+    ])
 }

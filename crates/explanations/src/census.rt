@@ -4,6 +4,20 @@ use loaded_file::{ByteRange, LoadedFile, counts, object_ranges, symbol_value, ta
 use object_graph::{Graph, is_alias};
 use std::alloc::{AllocError, Global};
 
+/// The objects of a section.
+#[derive(Clone, Copy)]
+pub(crate) struct SectionObjects {
+    /// How many may not move.
+    pub(crate) fixed: u64,
+    /// A label that pins them.
+    pub(crate) label: Option<LabelUse>,
+}
+
+const NO_OBJECTS: SectionObjects = SectionObjects {
+    fixed: 0,
+    label: None,
+};
+
 /// A label by which a relocation leads into an object.
 #[derive(Clone, Copy)]
 pub(crate) struct LabelUse {
@@ -15,15 +29,6 @@ pub(crate) struct LabelUse {
     pub(crate) home: u32,
 }
 
-/// The objects of a section.
-#[derive(Clone, Copy)]
-pub(crate) struct SectionObjects {
-    /// How many may not move.
-    pub(crate) fixed: u64,
-    /// A label that pins them.
-    pub(crate) label: Option<LabelUse>,
-}
-
 /// The objects of a file.
 #[derive(Drop)]
 pub(crate) struct ObjectCensus {
@@ -32,11 +37,6 @@ pub(crate) struct ObjectCensus {
     /// Those of each section.
     pub(crate) sections: Vec<SectionObjects>,
 }
-
-const NO_OBJECTS: SectionObjects = SectionObjects {
-    fixed: 0,
-    label: None,
-};
 
 /// Counts the objects of a file, and finds for each section a label that pins its objects. It fails only where no
 /// memory was left.

@@ -4,19 +4,23 @@ ghost use Rattle.command_line.specs.Analysed.{IsOpened};
 use crate::comparing::explain_comparison;
 use crate::files::explain_unread;
 use crate::inputs::{Inputs, inputs_of};
+use crate::inward::explain_inward;
 use crate::mixes::explain_mix;
 use crate::pairing::{explain_pairing, may_be_unpaired};
 use crate::pinned::explain_pinned;
+use crate::regions::{explain_patch, explain_regions};
+use crate::room::explain_room;
 use crate::runs::{explain_end, explain_run};
-use crate::savings::explain_saved;
+use crate::savings::{explain_saved, explain_taken};
+use crate::staying::explain_staying;
 use crate::subject::Subject;
 use board_config::read_board;
 use code_blocks::CodeFault;
 use command_language::CommandFault;
-use command_line::{InputTexts, PreparedResult, open};
+use command_line::{ChosenPlacement, InputTexts, PreparedResult, open};
 use explanation_texts::{
     Command, Notes, explain_board, explain_elf, explain_layout, explain_no_code, explain_status,
-    say_listed_twice, say_many_blocks, say_small_patch, say_unknown_function,
+    gives_key, say_listed_twice, say_many_blocks, say_small_patch, say_unknown_function,
 };
 use region_former::RegionFault;
 use relink_core::AnalyseFault;
@@ -80,7 +84,7 @@ fn explain_rejected(
             explain_file(notes, &inputs.unchecked())?;
             explain_beside(notes, inputs)
         }
-        _ => explain_analysed(notes, inputs),
+        _ => explain_analysed(notes, inputs, None),
     }
 }
 
@@ -90,18 +94,30 @@ fn explain_done(
     inputs: &Inputs,
     prepared: &PreparedResult<'_>,
 ) -> Result<(), AllocError> {
-    explain_saved(notes, inputs, &prepared.text)?;
+    let chosen = prepared.chosen.as_ref();
+    if let Some(chosen) = chosen {
+        explain_saved(notes, inputs, chosen)?;
+    }
     if let Some(end) = &inputs.end {
         explain_end(notes, &inputs.unchecked(), end)?;
     }
-    if inputs.moved.is_some() || inputs.goes_on || may_be_unpaired(inputs) {
-        return explain_analysed(notes, inputs);
+    if chosen.is_some()
+        || inputs.goes_on
+        || gives_key(inputs.board_text(), b"regions")
+        || gives_key(inputs.board_text(), b"driver")
+        || may_be_unpaired(inputs)
+    {
+        return explain_analysed(notes, inputs, chosen);
     }
     Ok(())
 }
 
 /// A file that the command analysed for the board.
-fn explain_analysed(notes: &mut Notes, inputs: &Inputs) -> Result<(), AllocError> {
+fn explain_analysed(
+    notes: &mut Notes,
+    inputs: &Inputs,
+    chosen: Option<&ChosenPlacement>,
+) -> Result<(), AllocError> {
     if !inputs.analyses {
         return Ok(());
     }
@@ -111,7 +127,7 @@ fn explain_analysed(notes: &mut Notes, inputs: &Inputs) -> Result<(), AllocError
                 inputs: *inputs,
                 opened,
             };
-            explain_subject(notes, &subject)
+            explain_subject(notes, &subject, chosen)
         }
         Err(_) => Ok(()),
     }
@@ -147,7 +163,7 @@ fn explain_refusal(
         },
         AnalyseFault::PatchTooSmall { need, have } => say_small_patch(notes, *need, *have),
         AnalyseFault::Code(fault) => explain_code(notes, fault),
-        AnalyseFault::Region(fault) => explain_regions(notes, fault),
+        AnalyseFault::Region(fault) => explain_unlisted(notes, fault),
         AnalyseFault::Memory => Ok(()),
     }
 }
@@ -162,7 +178,7 @@ fn explain_code(notes: &mut Notes, fault: &CodeFault) -> Result<(), AllocError> 
 }
 
 /// Why a program can't have the regions of a board.
-fn explain_regions(notes: &mut Notes, fault: &RegionFault) -> Result<(), AllocError> {
+fn explain_unlisted(notes: &mut Notes, fault: &RegionFault) -> Result<(), AllocError> {
     match fault {
         RegionFault::UnknownFunction { name } => say_unknown_function(notes, name.as_str()),
         RegionFault::TwoRegions { name } => say_listed_twice(notes, name.as_str()),
@@ -171,23 +187,39 @@ fn explain_regions(notes: &mut Notes, fault: &RegionFault) -> Result<(), AllocEr
 }
 
 /// A file that was analysed: its run, what it does beside its result, and what of it stays.
-fn explain_subject(notes: &mut Notes, subject: &Subject) -> Result<(), AllocError>
+fn explain_subject(
+    notes: &mut Notes,
+    subject: &Subject,
+    chosen: Option<&ChosenPlacement>,
+) -> Result<(), AllocError>
     requires { (board_text : List ℕ) × ((file : List ℕ) × IsOpened board_text file subject.now.opened) }
 {
     explain_run(notes, subject)?;
+    if let Some(chosen) = chosen {
+        explain_chosen(notes, subject, chosen)?;
+    }
     let inputs = &subject.inputs;
     if inputs.beside.is_some() {
         return explain_comparison(notes, subject);
     }
+    let board = &subject.opened.board;
+    let analysis = &subject.opened.analysis;
     if inputs.status == 0 {
         explain_pairing(notes, subject)?;
+        explain_regions(notes, inputs, board, analysis)?;
+        explain_patch(notes, inputs, board)?;
     }
-    let analysis = &subject.opened.analysis;
-    explain_pinned(
-        notes,
-        inputs,
-        &subject.opened.board,
-        &analysis.view,
-        &analysis.graph,
-    )
+    explain_pinned(notes, inputs, board, &analysis.view, &analysis.graph)
+}
+
+/// What a choice takes, what room that leaves, and what stays.
+fn explain_chosen(
+    notes: &mut Notes,
+    subject: &Subject,
+    chosen: &ChosenPlacement,
+) -> Result<(), AllocError> {
+    explain_taken(notes, subject, chosen)?;
+    explain_room(notes, chosen, subject.opened.analysis.regions.count)?;
+    explain_staying(notes, subject, chosen)?;
+    explain_inward(notes, subject, chosen)
 }

@@ -2,7 +2,7 @@ use command_language::CommandFault;
 use command_line::{InputTexts, MeasuredEnd, PreparedResult};
 use explanation_texts::Command;
 use std::alloc::Global;
-use unchecked_file::UncheckedFile;
+use unchecked_file::{RawSegment, UncheckedFile};
 
 /// What is printed where a result does what its program does, and the program goes on.
 const SAME_AND_RUNNING: &[u8] = b"same\nrunning\n";
@@ -24,6 +24,8 @@ pub(crate) struct Inputs<'a> {
     pub(crate) listed: &'a [Vec<u8>],
     /// Whether something of the file moved, where it was relinked.
     pub(crate) moved: Option<bool>,
+    /// The segment that was added, where something moved.
+    pub(crate) added: Option<RawSegment>,
     /// A further ELF file that the command read.
     pub(crate) beside: Option<&'a [u8]>,
     /// Whether the command tells where the program's run is not paired.
@@ -53,14 +55,15 @@ pub(crate) fn inputs_of<'a>(
     alloc: Global,
     command: &Command,
     texts: &InputTexts<'a>,
-    made: Result<&PreparedResult<'_>, &CommandFault>,
+    made: Result<&'a PreparedResult<'_>, &CommandFault>,
 ) -> Option<Inputs<'a>> {
     let file = text_of(texts, command.file)?;
-    let (status, end, moved) = match made {
-        Ok(prepared) => (0, prepared.measured, has_moved(command, file, prepared)),
+    let (status, end, relinked) = match made {
+        Ok(prepared) => (0, prepared.measured, result_of(command, prepared)),
         Err(fault) => (fault.status(), None, None),
     };
-    let report = match made {
+    let moved = relinked.map(|bytes| bytes != file);
+    let report: &'a [u8] = match made {
         Ok(prepared) => prepared.text.as_slice(),
         Err(_) => &[],
     };
@@ -73,6 +76,7 @@ pub(crate) fn inputs_of<'a>(
         mix: text_of(texts, command.mix),
         listed: texts.listed,
         moved,
+        added: added_segment(relinked, moved),
         beside: text_of(texts, command.beside),
         tells_pairing: command.tells_pairing,
         goes_on: report == SAME_AND_RUNNING,
@@ -87,12 +91,20 @@ pub(crate) fn text_of<'a>(texts: &InputTexts<'a>, place: Option<usize>) -> Optio
     Some(text.as_slice())
 }
 
-/// Whether what a file was relinked to, which is ready to be written, is another file; `None` where it was not relinked.
-fn has_moved(command: &Command, file: &[u8], prepared: &PreparedResult<'_>) -> Option<bool> {
+/// What a file was relinked to, which is ready to be written; `None` where it was not relinked.
+fn result_of<'a>(command: &Command, prepared: &'a PreparedResult<'_>) -> Option<&'a [u8]> {
     for (place, output) in command.writes.iter().zip(&prepared.outputs) {
         if Some(*place) == command.result {
-            return Some(output.bytes.as_slice() != file);
+            return Some(output.bytes.as_slice());
         }
     }
     None
+}
+
+/// The last segment of a result, where something moved.
+fn added_segment(relinked: Option<&[u8]>, moved: Option<bool>) -> Option<RawSegment> {
+    match (relinked, moved) {
+        (Some(bytes), Some(true)) => UncheckedFile { bytes }.last_segment(),
+        _ => None,
+    }
 }

@@ -3,17 +3,24 @@
 
 mod census;
 mod comparing;
+mod energies;
 mod explainer;
 mod explaining;
 mod files;
+mod fixing;
 mod inputs;
+mod inward;
 mod mixes;
 mod names;
 mod pairing;
 mod pinned;
+mod regions;
+mod room;
 mod runs;
 mod savings;
 mod section_map;
+mod staying;
 mod subject;
 
+pub use command_line::{is_seen_safe, run, run_command};
 pub use explainer::Explainer;

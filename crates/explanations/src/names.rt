@@ -1,5 +1,10 @@
 use elf_reader::{ElfView, STT_OBJECT, Section};
+use explanation_texts::is_anchor;
 use object_graph::Graph;
+use std::alloc::{AllocError, Global};
+
+/// `st_info`: the symbol names a source file, of which the local symbols behind it are.
+const FILE_SYMBOL: u8 = 4;
 
 /// `sh_flags`: the section has memory when the program runs.
 const ALLOCATED: u32 = 2;
@@ -58,4 +63,27 @@ pub(crate) fn name_at<'a>(view: &ElfView<'a>, address: u32) -> &'a [u8] {
         }
     }
     &[]
+}
+
+/// The names of the sources that have anchors in a section, as far as the file tells them, each once.
+pub(crate) fn anchor_sources<'a>(
+    alloc: Global,
+    view: &ElfView<'a>,
+    section: usize,
+) -> Result<Vec<&'a [u8]>, AllocError> {
+    let mut sources: Vec<&'a [u8]> = Vec::new(alloc);
+    let mut source: &'a [u8] = &[];
+    for symbol in &view.symbols {
+        if symbol.kind == FILE_SYMBOL {
+            source = symbol.name;
+        }
+        if is_anchor(symbol.name)
+            && symbol.section as usize == section
+            && !source.is_empty()
+            && !sources.contains(&source)
+        {
+            sources.push(source)?;
+        }
+    }
+    Ok(sources)
 }

@@ -1,6 +1,6 @@
 use crate::census::{LabelUse, ObjectCensus, SectionObjects, census};
 use crate::inputs::Inputs;
-use crate::names::{name_at, section_name, section_of_number, symbol_name};
+use crate::names::{anchor_sources, name_at, section_name, section_of_number, symbol_name};
 use board_config::{Board, Prices};
 use elf_reader::{ElfView, SHT_NOBITS};
 use explanation_texts::{
@@ -158,7 +158,10 @@ fn say_section(
     objects: &Option<PinnedObjects>,
 ) -> Result<(), AllocError> {
     match objects {
-        Some(objects) => say_pinned(notes, &pinned_section(view, objects)),
+        Some(objects) => {
+            let sources = anchor_sources(notes.alloc(), view, objects.section)?;
+            say_pinned(notes, &pinned_section(view, objects), &sources)
+        }
         None => Ok(()),
     }
 }

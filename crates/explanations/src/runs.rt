@@ -1,18 +1,18 @@
 ghost use Rattle.std.specs.Prelude.{ℕ, List};
 ghost use Rattle.command_line.specs.Analysed.{IsOpened};
 
+use crate::fixing::explain_fixes;
 use crate::names::{name_at, object_name, section_at, section_name};
 use crate::subject::Subject;
 use command_line::MeasuredEnd;
 use elf_reader::ElfView;
 use explanation_texts::{
-    Involved, Notes, explain_fault, is_anchor, say_faulty_input, say_load_address,
-    say_still_running, say_trapped,
+    Involved, Notes, explain_fault, is_anchor, may_keep, say_fault_cure, say_faulty_input,
+    say_load_address, say_still_running, say_trapped,
 };
-use fault_trail::{AddressFault, fault_of_run};
+use fault_trail::{AddressFault, Origin, follow_run};
 use object_graph::Graph;
 use object_machine::Outcome;
-use relink_core::Analysis;
 use std::alloc::AllocError;
 use unchecked_file::UncheckedFile;
 
@@ -20,45 +20,105 @@ use unchecked_file::UncheckedFile;
 const ADDRESS_FAULTS: [u8; 2] = [8, 12];
 
 /// The reason of an access to an object that may move by a plain number.
-const BY_NUMBER: u32 = 4;
+pub(crate) const BY_NUMBER: u32 = 4;
 
-/// A run that met an address fault, if this is the status of one: of the inputs that a mix lists, it is the first whose run
-/// meets one. The run is followed again, up to the fault.
+/// An address fault, and what it involves.
+#[derive(Clone, Copy)]
+pub(crate) struct NamedFault<'a> {
+    pub(crate) fault: AddressFault,
+    pub(crate) involved: Involved<'a>,
+    /// The section that has the byte that is addressed; empty where there is none.
+    pub(crate) section: &'a [u8],
+    /// The line of the mix that lists the input, where one does.
+    line: Option<u64>,
+}
+
+/// The program's runs on its inputs, up to the first address fault.
+#[derive(Clone, Copy)]
+pub(crate) struct FaultyRuns<'a> {
+    /// How many steps they took.
+    pub(crate) steps: u64,
+    pub(crate) fault: Option<NamedFault<'a>>,
+}
+
+/// A run that met an address fault, if this is the status of one, with the objects by which it meets none where these are
+/// kept: of the inputs that a mix lists, it is the first whose run meets one. The run is followed again, up to the fault.
 pub(crate) fn explain_run(notes: &mut Notes, subject: &Subject) -> Result<(), AllocError>
     requires { (board_text : List ℕ) × ((file : List ℕ) × IsOpened board_text file subject.now.opened) }
 {
-    let inputs = &subject.inputs;
-    if !ADDRESS_FAULTS.contains(&inputs.status) {
+    let file = subject.inputs.unchecked();
+    if !ADDRESS_FAULTS.contains(&subject.inputs.status) {
         return Ok(());
     }
-    if let Some(input) = inputs.input {
-        if let Some(fault) = fault_on(subject, input)? {
-            explain_faulted(notes, &inputs.unchecked(), &subject.opened.analysis, &fault)?;
-        }
+    let Some(first) = faulty_runs(subject, u64::MAX)?.fault else {
         return Ok(());
+    };
+    if let Some(line) = first.line {
+        say_faulty_input(notes, line)?;
     }
-    for (place, input) in inputs.listed.iter().enumerate() {
-        if let Some(fault) = fault_on(subject, input)? {
-            say_faulty_input(notes, place as u64 + 1)?;
-            return explain_faulted(notes, &inputs.unchecked(), &subject.opened.analysis, &fault);
-        }
+    explain_fault(notes, &file, &first.fault, &first.involved)?;
+    if may_keep(&file, &first.fault, &first.involved) {
+        return explain_fixes(notes, subject, &first);
     }
-    Ok(())
+    say_fault_cure(notes, &file, &first.fault, &first.involved)
 }
 
-/// The address fault of the program's run on an input, if it meets one.
-fn fault_on(subject: &Subject, input: &[u8]) -> Result<Option<AddressFault>, AllocError>
+/// The program's runs up to the first address fault, in so many steps at most.
+pub(crate) fn faulty_runs<'a>(
+    subject: &Subject<'a>,
+    most_steps: u64,
+) -> Result<FaultyRuns<'a>, AllocError>
+    requires { (board_text : List ℕ) × ((file : List ℕ) × IsOpened board_text file subject.now.opened) }
+{
+    if let Some(input) = subject.inputs.input {
+        return faulty_run(subject, input, None, most_steps);
+    }
+    let mut runs = FaultyRuns {
+        steps: 0,
+        fault: None,
+    };
+    for (place, input) in subject.inputs.listed.iter().enumerate() {
+        let left = most_steps.saturating_sub(runs.steps);
+        let run = faulty_run(subject, input, Some(place as u64 + 1), left)?;
+        runs.steps = runs.steps.saturating_add(run.steps);
+        if run.fault.is_some() {
+            runs.fault = run.fault;
+            break;
+        }
+    }
+    Ok(runs)
+}
+
+/// The program's run on an input, which a line of a mix may list.
+fn faulty_run<'a>(
+    subject: &Subject<'a>,
+    input: &[u8],
+    line: Option<u64>,
+    most_steps: u64,
+) -> Result<FaultyRuns<'a>, AllocError>
     requires { (board_text : List ℕ) × ((file : List ℕ) × IsOpened board_text file subject.now.opened) }
 {
     let analysis = &subject.opened.analysis;
     let mut source = subject.machine(input)?;
-    fault_of_run(
+    let run = follow_run(
         subject.inputs.alloc,
         &mut source,
         &analysis.code,
         &analysis.graph,
-        subject.opened.board.steps,
-    )
+        subject.opened.board.steps.min(most_steps),
+    )?;
+    Ok(FaultyRuns {
+        steps: run.steps,
+        fault: match run.fault {
+            Some(fault) => Some(NamedFault {
+                fault,
+                involved: involved_in(&analysis.view, &analysis.graph, &fault),
+                section: section_of(&analysis.view, &fault),
+                line,
+            }),
+            None => None,
+        },
+    })
 }
 
 /// A measured run that did not come to its program's end.
@@ -77,21 +137,11 @@ pub(crate) fn explain_end(
     }
 }
 
-/// A run that met an address fault.
-fn explain_faulted(
-    notes: &mut Notes,
-    file: &UncheckedFile,
-    analysis: &Analysis<'_>,
-    fault: &AddressFault,
-) -> Result<(), AllocError> {
-    let involved = involved_in(&analysis.view, &analysis.graph, fault);
-    explain_fault(notes, file, fault, &involved)
-}
-
 /// What is known by name of an address fault.
 fn involved_in<'a>(view: &ElfView<'a>, graph: &Graph, fault: &AddressFault) -> Involved<'a> {
     Involved {
         object: kept_object(view, graph, fault),
+        other: origin_name(view, graph, &fault.culprit.other),
         bytes: addressed(view, fault),
         has_symbols: view.symbols.len() > 1,
         has_relocations: !view.relocs.is_empty(),
@@ -99,12 +149,19 @@ fn involved_in<'a>(view: &ElfView<'a>, graph: &Graph, fault: &AddressFault) -> I
     }
 }
 
-/// The object to be kept where nothing else helps: that of the value, or else the one that is addressed by a number.
+/// The object to be kept: that of the value, or else the one that is addressed by a number.
 fn kept_object<'a>(view: &ElfView<'a>, graph: &Graph, fault: &AddressFault) -> &'a [u8] {
     match (fault.culprit.origin, fault.culprit.address) {
-        (Some(origin), _) => object_name(view, graph, origin.object),
         (None, Some(address)) if fault.why == BY_NUMBER => name_at(view, address),
-        _ => &[],
+        (origin, _) => origin_name(view, graph, &origin),
+    }
+}
+
+/// The object of whose address a value was made; empty where none is known.
+fn origin_name<'a>(view: &ElfView<'a>, graph: &Graph, origin: &Option<Origin>) -> &'a [u8] {
+    match origin {
+        Some(origin) => object_name(view, graph, origin.object),
+        None => &[],
     }
 }
 
@@ -114,9 +171,18 @@ fn addressed<'a>(view: &ElfView<'a>, fault: &AddressFault) -> &'a [u8] {
         return &[];
     };
     let name = name_at(view, address);
-    if !name.is_empty() {
-        return name;
+    if name.is_empty() {
+        section_of(view, fault)
+    } else {
+        name
     }
+}
+
+/// The section that has the byte at the address; empty where there is none.
+fn section_of<'a>(view: &ElfView<'a>, fault: &AddressFault) -> &'a [u8] {
+    let Some(address) = fault.culprit.address else {
+        return &[];
+    };
     match section_at(view, address) {
         Some(place) => section_name(view, place),
         None => &[],

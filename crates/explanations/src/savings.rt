@@ -1,41 +1,84 @@
+use crate::energies::HomeEnergies;
 use crate::inputs::Inputs;
-use explanation_texts::{Measured, MovedCode, Notes, say_more_code, say_moved_code, say_saved};
+use crate::names::object_name;
+use crate::subject::Subject;
+use command_line::{ChosenPlacement, Side, Var, VarName};
+use explanation_texts::{
+    Measured, MovedItem, MovedPart, Notes, Standing, say_fixed_cost, say_more_items,
+    say_moved_item, say_saved,
+};
 use object_machine::Outcome;
-use std::alloc::AllocError;
-use std::str;
-use unchecked_file::UncheckedFile;
+use relink_core::Analysis;
+use std::alloc::{AllocError, Global};
 
-/// The most pieces of code that are told.
-const TOLD_PIECES: u64 = 10;
+/// The most items that are told.
+const TOLD_ITEMS: usize = 10;
 
-/// How much of the energy is saved and which code moved, where a command's report tells that.
-pub(crate) fn explain_saved(
-    notes: &mut Notes,
-    inputs: &Inputs,
-    report: &[u8],
-) -> Result<(), AllocError> {
-    match saved_thousandths(report) {
-        Some(thousandths) => {
-            say_saved(notes, thousandths, measured_of(inputs))?;
-            explain_moved_code(notes, &inputs.unchecked(), report)
-        }
-        None => Ok(()),
+/// An item that a choice takes, with energies in price units.
+#[derive(Clone, Copy)]
+struct TakenItem {
+    name: VarName,
+    /// What it saves.
+    gain: u128,
+    /// What it costs at home, where one run was measured.
+    before: Option<u128>,
+}
+
+/// The side of a choice, if the programme has it.
+pub(crate) fn side_of(chosen: &ChosenPlacement) -> Option<&Side> {
+    if chosen.choice.on {
+        chosen.programme.on.as_ref()
+    } else {
+        Some(&chosen.programme.off)
     }
 }
 
-/// How many thousandths of the energy are saved, by a report whose second and third line tell it before and after.
-fn saved_thousandths(report: &[u8]) -> Option<u64> {
-    let mut lines = report.split(|byte| *byte == b'\n').skip(1);
-    let before = energy_behind(lines.next(), "before ")?;
-    let after = energy_behind(lines.next(), "after ")?;
-    let saved = before.checked_sub(after)?.checked_mul(1000)?;
-    u64::try_from(saved.checked_div(before)?).ok()
+/// The variables that a choice takes, in order.
+pub(crate) fn taken_variables<'a>(
+    alloc: Global,
+    side: &'a Side,
+    take: &[u32],
+) -> Result<Vec<&'a Var>, AllocError> {
+    let mut taken = Vec::new(alloc);
+    for number in take {
+        if let Some(variable) = side.vars.get(*number as usize) {
+            taken.push(variable)?;
+        }
+    }
+    Ok(taken)
 }
 
-/// The energy behind a word of a report's line, in price units.
-fn energy_behind(line: Option<&[u8]>, word: &str) -> Option<u128> {
-    let text = str::from_utf8(line?).ok()?;
-    text.strip_prefix(word)?.parse::<u128>().ok()
+/// How many thousandths of a whole an energy is, rounded down.
+pub(crate) fn thousandths(energy: u128, whole: u128) -> u64 {
+    match energy.saturating_mul(1000).checked_div(whole) {
+        Some(share) => u64::try_from(share).unwrap_or(u64::MAX),
+        None => 0,
+    }
+}
+
+/// How much of the energy a choice saves.
+pub(crate) fn explain_saved(
+    notes: &mut Notes,
+    inputs: &Inputs,
+    chosen: &ChosenPlacement,
+) -> Result<(), AllocError> {
+    let base = chosen.programme.base;
+    let saved = saved_by(chosen);
+    say_saved(notes, thousandths(saved, base), measured_of(inputs))
+}
+
+/// What a choice saves: what its variables gain, less the fixed cost of their side.
+fn saved_by(chosen: &ChosenPlacement) -> u128 {
+    let Some(side) = side_of(chosen) else {
+        return 0;
+    };
+    let mut gains: u128 = 0;
+    for number in &chosen.choice.take {
+        if let Some(variable) = side.vars.get(*number as usize) {
+            gains = gains.saturating_add(variable.gain);
+        }
+    }
+    gains.saturating_sub(side.fixed)
 }
 
 fn measured_of(inputs: &Inputs) -> Measured {
@@ -46,37 +89,139 @@ fn measured_of(inputs: &Inputs) -> Measured {
     }
 }
 
-fn explain_moved_code(
+/// What moved, by what it saves: where in the program it is, when it stands in the scratchpad, and what it costs before and
+/// after.
+pub(crate) fn explain_taken(
     notes: &mut Notes,
-    file: &UncheckedFile,
-    report: &[u8],
+    subject: &Subject,
+    chosen: &ChosenPlacement,
 ) -> Result<(), AllocError> {
-    let mut count: u64 = 0;
-    for line in report.split(|byte| *byte == b'\n') {
-        if let Some(code) = moved_code(line) {
-            if count < TOLD_PIECES {
-                say_moved_code(notes, file, &code)?;
-            }
-            count = count.saturating_add(1);
-        }
+    let Some(side) = side_of(chosen) else {
+        return Ok(());
+    };
+    let analysis = &subject.opened.analysis;
+    let items = taken_items(notes.alloc(), subject, chosen, side)?;
+    let base = chosen.programme.base;
+    for item in items.iter().rev().take(TOLD_ITEMS) {
+        let told = moved_item(analysis, item, base);
+        say_moved_item(notes, &told, &subject.inputs.unchecked())?;
     }
-    match count.checked_sub(TOLD_PIECES) {
-        None | Some(0) => Ok(()),
-        Some(more) => say_more_code(notes, more),
+    explain_more(notes, &items, base)?;
+    if items.is_empty() {
+        return Ok(());
+    }
+    say_fixed_cost(notes, thousandths(side.fixed, base))
+}
+
+/// The items that a choice takes, by what they save, ascending.
+fn taken_items(
+    alloc: Global,
+    subject: &Subject,
+    chosen: &ChosenPlacement,
+    side: &Side,
+) -> Result<Vec<TakenItem>, AllocError> {
+    let mut items = Vec::new(alloc);
+    for variable in &taken_variables(alloc, side, &chosen.choice.take)? {
+        items.push(TakenItem {
+            name: variable.name,
+            gain: variable.gain,
+            before: home_energy(subject, chosen, variable.name),
+        })?;
+    }
+    items.sort_unstable_by_key(|item| item.gain);
+    Ok(items)
+}
+
+/// What an item costs at home, where one run was measured.
+fn home_energy(subject: &Subject, chosen: &ChosenPlacement, name: VarName) -> Option<u128> {
+    let energies = HomeEnergies {
+        code: &subject.opened.analysis.code,
+        prices: &subject.opened.board.prices,
+        profile: chosen.profile.as_ref()?,
+    };
+    Some(energies.of_item(name))
+}
+
+/// What the items save that are not told one by one.
+fn explain_more(notes: &mut Notes, items: &[TakenItem], base: u128) -> Result<(), AllocError> {
+    let count = items.len().saturating_sub(TOLD_ITEMS);
+    let mut gain: u128 = 0;
+    for item in items.iter().take(count) {
+        gain = gain.saturating_add(item.gain);
+    }
+    if count == 0 {
+        return Ok(());
+    }
+    say_more_items(notes, count as u64, thousandths(gain, base))
+}
+
+fn moved_item<'a>(analysis: &Analysis<'a>, item: &TakenItem, base: u128) -> MovedItem<'a> {
+    MovedItem {
+        standing: standing_of(item.name),
+        part: part_of(analysis, item.name),
+        saved: thousandths(item.gain, base),
+        before: match item.before {
+            Some(before) => Some(thousandths(before, base)),
+            None => None,
+        },
     }
 }
 
-/// The piece of code that a line of a report tells of: `static code PLACE BYTES HOME`, or with `overlay REGION` in place of
-/// `static`.
-fn moved_code(line: &[u8]) -> Option<MovedCode<'_>> {
-    let line = str::from_utf8(line).ok()?;
-    let (side, code) = line.split_once(" code ")?;
-    if side != "static" && side.strip_prefix("overlay ")?.parse::<u64>().is_err() {
-        return None;
+fn standing_of(name: VarName) -> Standing {
+    match name {
+        VarName::StaticData { .. } | VarName::StaticCode { .. } => Standing::Throughout,
+        VarName::OverlayData { region, .. } | VarName::OverlayCode { region, .. } => {
+            Standing::InRegion(region)
+        }
+        VarName::KeptData { pair, .. } => Standing::InTwins(pair),
     }
-    let home = code.rsplit_once(' ')?.1.strip_prefix("0x")?;
-    Some(MovedCode {
-        line,
-        home: u32::from_str_radix(home, 16).ok()?,
-    })
+}
+
+fn part_of<'a>(analysis: &Analysis<'a>, name: VarName) -> MovedPart<'a> {
+    match name {
+        VarName::StaticCode { first, last } | VarName::OverlayCode { first, last, .. } => {
+            code_part(analysis, first as usize, last as usize)
+        }
+        VarName::StaticData { object }
+        | VarName::OverlayData { object, .. }
+        | VarName::KeptData { object, .. } => MovedPart::Object {
+            name: object_name(&analysis.view, &analysis.graph, object),
+            bytes: match analysis.graph.objects.get(object as usize) {
+                Some(object) => object.size,
+                None => 0,
+            },
+        },
+    }
+}
+
+/// Code from its first to its last block.
+fn code_part<'a>(analysis: &Analysis<'_>, first: usize, last: usize) -> MovedPart<'a> {
+    let mut words: u32 = 0;
+    for block in first..last.saturating_add(1) {
+        words = words.saturating_add(words_of(analysis, block));
+    }
+    MovedPart::Code {
+        home: home_of(analysis, first),
+        bytes: words.saturating_mul(4),
+    }
+}
+
+/// The address of a block at home; 0 where there is none.
+pub(crate) fn home_of(analysis: &Analysis<'_>, block: usize) -> u32 {
+    match analysis.code.blocks.get(block) {
+        Some(block) => block.start,
+        None => 0,
+    }
+}
+
+/// How many words a block has at home.
+pub(crate) fn words_of(analysis: &Analysis<'_>, block: usize) -> u32 {
+    let Some(block) = analysis.code.blocks.get(block) else {
+        return 0;
+    };
+    let mut words: u32 = 0;
+    for unit in &block.units {
+        words = words.saturating_add(unit.words);
+    }
+    words
 }

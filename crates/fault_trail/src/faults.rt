@@ -23,51 +23,66 @@ pub struct AddressFault {
 pub struct Culprit {
     /// Of which object's address it was made.
     pub origin: Option<Origin>,
+    /// Of which object's address the other operand of a comparison was made.
+    pub other: Option<Origin>,
     /// The number with which the unit compares it.
     pub compared: Option<u32>,
     /// The address that the unit has, as the file has its objects.
     pub address: Option<u32>,
 }
 
-/// Runs a machine that stands at its entry for some steps, and tells the address fault that it meets; `None` where it
-/// meets none. It fails only where no memory was left.
-pub fn fault_of_run(
+/// A run that was followed.
+#[derive(Clone, Copy)]
+pub struct FollowedRun {
+    /// How many steps it took.
+    pub steps: u64,
+    /// The address fault that it met, if it met one.
+    pub fault: Option<AddressFault>,
+}
+
+/// Runs a machine that stands at its entry for some steps, and tells the address fault that it meets. It fails only where no
+/// memory was left.
+pub fn follow_run(
     alloc: Global,
     source: &mut Source,
     code: &Code,
     graph: &Graph,
     steps: u64,
-) -> Result<Option<AddressFault>, AllocError> {
+) -> Result<FollowedRun, AllocError> {
     let units = UnitTable::new(alloc, code, graph)?;
     let mut trail = Trail::new(alloc, graph)?;
-    let outcome = follow(source, &units, &mut trail, steps)?;
-    match outcome {
-        Outcome::AddressFault { pc, why } => Ok(Some(AddressFault {
+    let taken = follow(source, &units, &mut trail, steps)?;
+    let fault = match source.outcome() {
+        Outcome::AddressFault { pc, why } => Some(AddressFault {
             pc,
             why,
             culprit: culprit_at(&trail, units.unit_at(pc)),
-        })),
-        _ => Ok(None),
-    }
+        }),
+        _ => None,
+    };
+    Ok(FollowedRun {
+        steps: taken,
+        fault,
+    })
 }
 
-/// Takes steps until the machine ends, and follows each that it performs.
+/// Takes steps until the machine ends, follows each that it performs, and counts them.
 fn follow(
     source: &mut Source,
     units: &UnitTable,
     trail: &mut Trail,
     steps: u64,
-) -> Result<Outcome, AllocError> {
-    for _ in 0..steps {
+) -> Result<u64, AllocError> {
+    for taken in 0..steps {
         let event = source.step()?;
         if event.outcome != Outcome::GoesOn {
-            return Ok(event.outcome);
+            return Ok(taken);
         }
         if let Some(unit) = units.unit_at(event.at) {
-            trail.follow(event.at, &unit);
+            trail.follow(event.at, &unit, event.access);
         }
     }
-    Ok(Outcome::GoesOn)
+    Ok(steps)
 }
 
 fn culprit_at(trail: &Trail, unit: Option<TracedUnit>) -> Culprit {
@@ -82,6 +97,7 @@ fn culprit_of(trail: &Trail, unit: &TracedUnit) -> Culprit {
     match unit.instr {
         Some(Instr::Load { rs1, imm, .. } | Instr::Store { rs1, imm, .. }) => Culprit {
             origin: unit.origin_at_site(trail.register(rs1).origin),
+            other: None,
             compared: None,
             address: trail.address(rs1, imm),
         },
@@ -95,6 +111,7 @@ fn culprit_of(trail: &Trail, unit: &TracedUnit) -> Culprit {
 fn alone(origin: Option<Origin>) -> Culprit {
     Culprit {
         origin,
+        other: None,
         compared: None,
         address: None,
     }
@@ -108,6 +125,7 @@ fn compared(first: Trace, second: Trace) -> Culprit {
     };
     Culprit {
         origin: value.origin,
+        other: other.origin,
         compared: other.number,
         address: None,
     }
@@ -120,6 +138,7 @@ fn called(first: Trace, second: Trace) -> Culprit {
             Some(origin) => Some(origin),
             None => first.origin,
         },
+        other: None,
         compared: None,
         address: second.number,
     }

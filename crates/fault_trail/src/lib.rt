@@ -8,7 +8,7 @@ mod pairing;
 mod trail;
 mod units;
 
-pub use faults::{AddressFault, Culprit, fault_of_run};
+pub use faults::{AddressFault, Culprit, FollowedRun, follow_run};
 pub use origins::{Origin, Way};
 pub use pairing::{Unpaired, unpaired_of_run};
 pub use units::PairedLow;

@@ -12,6 +12,8 @@ pub enum Way {
     CopiedUpper,
     /// It came of the address by other arithmetic.
     Computed,
+    /// It is the answer to whether the address is null, which the program keeps as a value.
+    Tested,
 }
 
 /// The object of whose address a value was made.
@@ -23,6 +25,8 @@ pub struct Origin {
     pub way: Way,
     /// The address of the AUIPC that made it, where it is the upper part and no LUI did.
     pub auipc: Option<u32>,
+    /// The address of the unit that first did other arithmetic, where one did.
+    pub made: Option<u32>,
 }
 
 /// What is known of a value: the number that it is where all objects are at home, and its origin.
@@ -54,6 +58,7 @@ pub(crate) fn upper(number: u32, auipc: Option<u32>, site: Option<Site>) -> Trac
                 object: site.object,
                 way: Way::Upper,
                 auipc,
+                made: None,
             }),
             None => None,
         },
@@ -69,7 +74,7 @@ pub(crate) fn with_immediate(kind: ImmKind, operand: Trace, imm: i32, site: Opti
         },
         origin: match site {
             Some(site) => Some(lower(operand.origin, site.object)),
-            None => kept(kind, operand.origin),
+            None => kept(kind, imm, operand.origin),
         },
     }
 }
@@ -94,18 +99,49 @@ pub(crate) fn of_object(object: u32, way: Way) -> Origin {
         object,
         way,
         auipc: None,
+        made: None,
+    }
+}
+
+/// The origin of a value that was made of another one.
+fn changed(origin: Origin, way: Way) -> Origin {
+    Origin {
+        object: origin.object,
+        way,
+        auipc: None,
+        made: origin.made,
+    }
+}
+
+/// A value, with the unit at an address as the one that did other arithmetic, where none did before.
+pub(crate) fn made_at(trace: Trace, at: u32) -> Trace {
+    let Some(origin) = trace.origin else {
+        return trace;
+    };
+    if origin.made.is_some() || !matches!(origin.way, Way::Computed | Way::Tested) {
+        return trace;
+    }
+    Trace {
+        number: trace.number,
+        origin: Some(Origin {
+            object: origin.object,
+            way: origin.way,
+            auipc: None,
+            made: Some(at),
+        }),
     }
 }
 
 /// The origin of a value with an immediate added, or otherwise changed.
-fn kept(kind: ImmKind, origin: Option<Origin>) -> Option<Origin> {
-    let Origin { object, way, .. } = origin?;
-    let way = match (kind, way) {
+fn kept(kind: ImmKind, imm: i32, origin: Option<Origin>) -> Option<Origin> {
+    let origin = origin?;
+    let way = match (kind, origin.way) {
         (ImmKind::Addi, Way::Upper) => Way::CopiedUpper,
         (ImmKind::Addi, way) => way,
+        (ImmKind::Sltiu, Way::Address) if imm == 1 => Way::Tested,
         _ => Way::Computed,
     };
-    Some(of_object(object, way))
+    Some(changed(origin, way))
 }
 
 /// What an operation on two values makes.
@@ -163,7 +199,7 @@ fn doubtful(first: Origin, second: Origin) -> Origin {
 
 /// The origin of a value that arithmetic changed.
 fn computed(origin: Origin) -> Origin {
-    of_object(origin.object, Way::Computed)
+    changed(origin, Way::Computed)
 }
 
 /// The origin of a difference. That of two addresses in one object is a number; else the subtracted one is what it
@@ -178,7 +214,7 @@ fn subtracted(origin: Origin, taken: Origin) -> Option<Origin> {
 /// The origin of a value with a number added.
 fn added(origin: Origin) -> Origin {
     match origin.way {
-        Way::Upper => of_object(origin.object, Way::CopiedUpper),
+        Way::Upper => changed(origin, Way::CopiedUpper),
         _ => origin,
     }
 }

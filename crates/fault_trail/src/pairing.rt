@@ -42,7 +42,7 @@ pub fn unpaired_of_run(
             if let Some(unpaired) = unpaired_at(&trail, event.at, &unit) {
                 return Ok(Some(unpaired));
             }
-            trail.follow(event.at, &unit);
+            trail.follow(event.at, &unit, event.access);
         }
     }
     Ok(None)

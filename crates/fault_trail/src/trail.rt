@@ -1,24 +1,32 @@
-use crate::origins::{Trace, UNKNOWN, Way, combined, number, of_object, upper, with_immediate};
+use crate::origins::{
+    Trace, UNKNOWN, Way, combined, made_at, number, of_object, upper, with_immediate,
+};
 use crate::units::TracedUnit;
 use object_graph::{DataWord, Graph};
-use rv32im::{A0, Instr, LoadKind, StoreKind};
+use object_machine::Access;
+use rv32im::{A0, A1, A2, A7, Instr, LoadKind, StoreKind};
 use std::alloc::{AllocError, Global};
 
 /// How many stored words are remembered at most, a power of 2.
-const SLOTS: usize = 65_536;
+const SLOTS: u32 = 262_144;
 
-/// A stored word.
-#[derive(Clone, Copy)]
-struct Slot {
-    address: u32,
-    trace: Trace,
-}
+/// The number of the call that reads the input.
+const READ: u32 = 63;
 
 /// Where the values of a run come from. It may forget, and then knows less.
 #[derive(Drop)]
 pub(crate) struct Trail {
     registers: [Trace; 32],
     slots: Vec<Slot>,
+    /// The homes of the objects that may move, by their numbers.
+    homes: Vec<u32>,
+}
+
+/// A stored word.
+#[derive(Clone, Copy)]
+struct Slot {
+    address: u32,
+    trace: Trace,
 }
 
 impl Trail {
@@ -29,8 +37,9 @@ impl Trail {
             trace: UNKNOWN,
         };
         let mut trail = Trail {
-            registers: [UNKNOWN; 32],
-            slots: vec![in alloc; empty; SLOTS]?,
+            registers: [number(0); 32],
+            slots: vec![in alloc; empty; SLOTS as usize]?,
+            homes: homes_of(alloc, graph)?,
         };
         for word in &graph.data_words {
             trail.put_data(word);
@@ -40,10 +49,16 @@ impl Trail {
 
     fn put_data(&mut self, word: &DataWord) {
         let trace = Trace {
-            number: None,
+            number: self.address_in(word.object, word.offset),
             origin: Some(of_object(word.object, Way::Address)),
         };
         self.store(word.at, trace);
+    }
+
+    /// The address of a byte of an object.
+    fn address_in(&self, object: u32, offset: u32) -> Option<u32> {
+        let home = self.homes.get(object as usize)?;
+        Some(home.wrapping_add(offset))
     }
 
     /// What is known of a register.
@@ -70,7 +85,7 @@ impl Trail {
     }
 
     fn slot(address: u32) -> usize {
-        (address / 4) as usize % SLOTS
+        (address / 4 % SLOTS) as usize
     }
 
     fn store(&mut self, address: u32, trace: Trace) {
@@ -86,8 +101,8 @@ impl Trail {
         }
     }
 
-    /// Follows a unit at an address that the machine performed.
-    pub(crate) fn follow(&mut self, at: u32, unit: &TracedUnit) {
+    /// Follows a unit at an address that the machine performed, with its access to an object, if it made one.
+    pub(crate) fn follow(&mut self, at: u32, unit: &TracedUnit, access: Option<Access>) {
         if unit.words == 2 {
             self.follow_call(at, unit);
             return;
@@ -100,10 +115,36 @@ impl Trail {
             Some(Instr::Jal { rd, .. } | Instr::Jalr { rd, .. }) => {
                 self.set(rd, number(at.wrapping_add(4)));
             }
-            Some(Instr::Ecall) => self.set(A0, UNKNOWN),
-            Some(Instr::Load { .. } | Instr::Store { .. }) => self.follow_access(unit),
-            Some(Instr::OpImm { .. } | Instr::OpReg { .. }) => self.follow_operation(unit),
+            Some(Instr::Ecall) => self.follow_ecall(),
+            Some(Instr::Load { .. } | Instr::Store { .. }) => self.follow_access(unit, access),
+            Some(Instr::OpImm { .. } | Instr::OpReg { .. }) => self.follow_operation(at, unit),
             _ => {}
+        }
+    }
+
+    /// A call: what it reads takes the place of what was stored there.
+    fn follow_ecall(&mut self) {
+        let arguments = (
+            self.register(A7).number,
+            self.register(A1).number,
+            self.register(A2).number,
+        );
+        if let (Some(READ), Some(start), Some(count)) = arguments {
+            self.forget(start, count);
+        }
+        self.set(A0, UNKNOWN);
+    }
+
+    /// Forgets the words that have some bytes from an address on.
+    fn forget(&mut self, start: u32, count: u32) {
+        let words = count.min(SLOTS * 4) / 4 + 2;
+        for k in 0..words {
+            let address = (start & !3).wrapping_add(k.wrapping_mul(4));
+            if let Some(slot) = self.slots.get_mut(Trail::slot(address)) {
+                if slot.address == address {
+                    slot.trace = UNKNOWN;
+                }
+            }
         }
     }
 
@@ -114,10 +155,18 @@ impl Trail {
         }
     }
 
-    fn follow_access(&mut self, unit: &TracedUnit) {
+    /// Where an access to an object was, which the machine knows, or else one elsewhere.
+    fn accessed(&self, access: Option<Access>, rs1: u8, imm: i32) -> Option<u32> {
+        match access {
+            Some(access) => self.address_in(access.object, access.offset),
+            None => self.address(rs1, imm),
+        }
+    }
+
+    fn follow_access(&mut self, unit: &TracedUnit, access: Option<Access>) {
         match unit.instr {
             Some(Instr::Load { kind, rd, rs1, imm }) => {
-                let trace = self.load_trace(kind, self.address(rs1, imm));
+                let trace = self.load_trace(kind, self.accessed(access, rs1, imm));
                 self.set(rd, trace);
             }
             Some(
@@ -127,7 +176,7 @@ impl Trail {
                     rs2,
                     imm,
                 },
-            ) => self.follow_store(kind, self.address(rs1, imm), rs2),
+            ) => self.follow_store(kind, self.accessed(access, rs1, imm), rs2),
             _ => {}
         }
     }
@@ -135,7 +184,8 @@ impl Trail {
     fn load_trace(&self, kind: LoadKind, address: Option<u32>) -> Trace {
         match (kind, address) {
             (LoadKind::Lw, Some(address)) => self.loaded(address),
-            _ => UNKNOWN,
+            (_, Some(address)) => part_of(self.loaded(address & !3)),
+            (_, None) => UNKNOWN,
         }
     }
 
@@ -145,21 +195,39 @@ impl Trail {
         };
         match kind {
             StoreKind::Sw => self.store(address, self.register(rs2)),
-            StoreKind::Sb | StoreKind::Sh => self.store(address & !3, UNKNOWN),
+            StoreKind::Sb | StoreKind::Sh => {
+                self.store(address & !3, part_of(self.register(rs2)));
+            }
         }
     }
 
-    fn follow_operation(&mut self, unit: &TracedUnit) {
+    fn follow_operation(&mut self, at: u32, unit: &TracedUnit) {
         match unit.instr {
             Some(Instr::OpImm { kind, rd, rs1, imm }) => {
                 let trace = with_immediate(kind, self.register(rs1), imm, unit.site);
-                self.set(rd, trace);
+                self.set(rd, made_at(trace, at));
             }
             Some(Instr::OpReg { kind, rd, rs1, rs2 }) => {
                 let trace = combined(kind, self.register(rs1), self.register(rs2));
-                self.set(rd, trace);
+                self.set(rd, made_at(trace, at));
             }
             _ => {}
         }
     }
+}
+
+/// What is known of a part of a value.
+fn part_of(trace: Trace) -> Trace {
+    Trace {
+        number: None,
+        origin: trace.origin,
+    }
+}
+
+fn homes_of(alloc: Global, graph: &Graph) -> Result<Vec<u32>, AllocError> {
+    graph
+        .objects
+        .iter()
+        .map(|object| object.home)
+        .collect(alloc)
 }

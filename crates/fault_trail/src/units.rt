@@ -1,4 +1,4 @@
-use crate::origins::{Origin, of_object};
+use crate::origins::Origin;
 use code_blocks::{Code, Unit};
 use object_graph::{Graph, Site};
 use rv32im::Instr;
@@ -27,12 +27,11 @@ pub(crate) struct TracedUnit {
 impl TracedUnit {
     /// The origin of its base: at a site that of the site, unless nothing is known of the base.
     pub(crate) fn origin_at_site(&self, base: Option<Origin>) -> Option<Origin> {
-        let Origin { object, way, .. } = base?;
-        let object = match self.site {
-            Some(site) => site.object,
-            None => object,
-        };
-        Some(of_object(object, way))
+        let mut origin = base?;
+        if let Some(site) = self.site {
+            origin.object = site.object;
+        }
+        Some(origin)
     }
 }
 

@@ -3,8 +3,7 @@
 //! writes and checks Intel HEX.
 #![tactic(auto)]
 
-use command_line::run_command;
-use explanations::Explainer;
+use explanations::{Explainer, run_command};
 use shelf_io::{DirShelf, OutSink, Sink};
 use std::env;
 use std::io::{self, ErrorKind};

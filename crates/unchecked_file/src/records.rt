@@ -10,6 +10,9 @@ const SYMBOL_SIZE: u32 = 16;
 
 const RELOCATION_SIZE: u32 = 12;
 
+/// `st_info`: the symbol names a source file.
+const FILE_SYMBOL: u32 = 4;
+
 /// `sh_flags`: the section has memory when the program runs.
 const ALLOCATED: u32 = 2;
 
@@ -69,8 +72,13 @@ pub struct RawSymbol<'a> {
 pub struct RawRelocation<'a> {
     /// The address of what it changes.
     pub at: u32,
+    /// Its kind (RISC-V psABI, "Relocations").
+    pub kind: u32,
     /// The name of its symbol.
     pub symbol: &'a [u8],
+    /// The number of its symbol, and the section of the table that has it.
+    number: u32,
+    table: RawSection,
     /// The name of the section that it changes.
     pub section: &'a [u8],
 }
@@ -133,6 +141,12 @@ impl<'a> UncheckedFile<'a> {
         }
     }
 
+    /// The last program header, if there is one.
+    pub fn last_segment(&self) -> Option<RawSegment> {
+        let last = self.half(0, 44).checked_sub(1)?;
+        Some(self.segment(last))
+    }
+
     /// The name of section `k`.
     pub fn section_name(&self, k: u32) -> &'a [u8] {
         let names = self.section(self.half(0, 50));
@@ -160,6 +174,31 @@ impl<'a> UncheckedFile<'a> {
             kind: self.half(at, 12) & 15,
             section: self.half(at, 14),
         }
+    }
+
+    /// The name of the source file of a relocation's symbol, where that is local and the file tells it: the last symbol before
+    /// it that names a file does.
+    pub fn source_of(&self, relocation: &RawRelocation) -> &'a [u8] {
+        let table = &relocation.table;
+        let mut source: &'a [u8] = &[];
+        if relocation.number < table.info {
+            for k in 0..relocation.number.min(table.size / SYMBOL_SIZE) {
+                let symbol = self.symbol(table, k);
+                if symbol.kind == FILE_SYMBOL {
+                    source = symbol.name;
+                }
+            }
+        }
+        source
+    }
+
+    /// How many relocations change sections with memory.
+    pub fn relocations(&self) -> u32 {
+        let mut count: u32 = 0;
+        for k in 0..self.section_count() {
+            count = count.saturating_add(self.relocation_count(&self.section(k)));
+        }
+        count
     }
 
     /// The last function or label in the section of `address` at it or before it, by the first symbol table.
@@ -264,9 +303,13 @@ impl<'a> UncheckedFile<'a> {
     fn relocation_of(&self, section: &RawSection, index: u32) -> RawRelocation<'a> {
         let at = UncheckedFile::record(section.offset, RELOCATION_SIZE, index);
         let symbols = self.section(section.link);
+        let info = self.word(at, 4);
         RawRelocation {
             at: self.word(at, 0),
-            symbol: self.symbol(&symbols, self.word(at, 4) >> 8).name,
+            kind: info & 0xff,
+            symbol: self.symbol(&symbols, info >> 8).name,
+            number: info >> 8,
+            table: symbols,
             section: self.section_name(section.info),
         }
     }

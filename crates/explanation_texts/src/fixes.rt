@@ -1,0 +1,248 @@
+use crate::cures::{before_name, text_at};
+use crate::notes::{Notes, Piece};
+use crate::objects::say_load_address;
+use crate::runs::{Involved, REASONS, say_instruction};
+use fault_trail::{AddressFault, Origin, Way};
+use std::alloc::AllocError;
+use unchecked_file::UncheckedFile;
+
+/// The greatest word, as the number -1.
+const MINUS_ONE: u32 = u32::MAX;
+
+/// The reason of an access to what is no data.
+const NO_DATA: u32 = 3;
+
+/// What to do where no object is known, by the numbers of the reasons.
+const CURES: [&str; 10] = [
+    "",
+    "correct the program",
+    "correct the program",
+    "keep constants out of sections with code (.rodata of its own), and copy nothing from load addresses",
+    "link with -Wl,--emit-relocs, and clear or copy no section by its addresses",
+    "compile with -mno-explicit-relocs or -fno-ivopts, or keep objects by `fix` of the board",
+    "keep symbols and relocations (strip -g alone), and jump to functions by their names",
+    "keep the objects that are compared by `fix` of the board",
+    "do not write addresses out",
+    "correct the program",
+];
+
+/// What a search for objects to keep came to.
+#[derive(Clone, Copy, PartialEq, Eq)]
+pub enum FixEnd {
+    /// With these kept the run meets no address fault.
+    Whole,
+    /// It ended at its bound of runs or steps.
+    Cut,
+    /// The run meets an address fault even with all objects kept.
+    Useless,
+}
+
+/// A list of objects to keep.
+#[derive(Clone, Copy)]
+pub struct FixList<'a> {
+    /// What the board keeps already.
+    pub kept: &'a [String],
+    /// What else is to be kept.
+    pub names: &'a [&'a [u8]],
+    /// How many runs were tried.
+    pub runs: u64,
+    /// What these came to.
+    pub end: FixEnd,
+}
+
+/// A cure that is due before any object is kept, if one is.
+#[derive(Clone, Copy)]
+enum EarlyCure {
+    Symbols,
+    Relocations,
+    LoadAddress,
+}
+
+/// Whether objects are to be kept at all, because of an address fault: not where something else is to be done first.
+pub fn may_keep(file: &UncheckedFile, fault: &AddressFault, involved: &Involved) -> bool {
+    early_cure(file, fault, involved).is_none()
+}
+
+fn early_cure(
+    file: &UncheckedFile,
+    fault: &AddressFault,
+    involved: &Involved,
+) -> Option<EarlyCure> {
+    if fault.why == NO_DATA && file.segment_loaded_apart().is_some() {
+        return Some(EarlyCure::LoadAddress);
+    }
+    if !involved.has_symbols {
+        return Some(EarlyCure::Symbols);
+    }
+    if involved.has_relocations {
+        None
+    } else {
+        Some(EarlyCure::Relocations)
+    }
+}
+
+/// What to do about an address fault where no list of objects was sought, or none helps. It fails only where no memory was
+/// left.
+pub fn say_fault_cure(
+    notes: &mut Notes,
+    file: &UncheckedFile,
+    fault: &AddressFault,
+    involved: &Involved,
+) -> Result<(), AllocError> {
+    match early_cure(file, fault, involved) {
+        Some(EarlyCure::LoadAddress) => match file.segment_loaded_apart() {
+            Some(segment) => say_load_address(notes, file, &segment),
+            None => Ok(()),
+        },
+        Some(EarlyCure::Symbols) => notes.say_first(
+            "the file has no symbols: strip by strip -g alone, before relink, and link without -s",
+        ),
+        Some(EarlyCure::Relocations) => {
+            notes.say_first("the file has no relocations: link with -Wl,--emit-relocs")
+        }
+        None => notes.say_first(cure_text(fault, involved)),
+    }
+}
+
+/// What to do where no object is known.
+fn cure_text(fault: &AddressFault, involved: &Involved) -> &'static str {
+    if fault.why == NO_DATA && involved.bytes.is_empty() {
+        return "let the start code set the stack pointer (sp), and list device registers in `areas` of the board";
+    }
+    text_at(&CURES, fault.why)
+}
+
+/// An address fault that the run meets where what the ones before involve is kept. It fails only where no memory was left.
+pub fn say_further_fault(
+    notes: &mut Notes,
+    file: &UncheckedFile,
+    fault: &AddressFault,
+    involved: &Involved<'_>,
+) -> Result<(), AllocError> {
+    say_instruction(notes, file, "with that kept, address fault", fault.pc)?;
+    notes.begin("  ")?;
+    notes.put(&[Piece::Text(text_at(&REASONS, fault.why))])?;
+    put_involved(notes, ": ", involved.object)?;
+    put_involved(notes, ", and of ", involved.other)?;
+    if involved.object.is_empty() && involved.other.is_empty() {
+        put_involved(notes, ": ", involved.bytes)?;
+    }
+    notes.end("")
+}
+
+fn put_involved(notes: &mut Notes, words: &str, name: &[u8]) -> Result<(), AllocError> {
+    if name.is_empty() {
+        return Ok(());
+    }
+    notes.put(&[Piece::Text(words), Piece::Name(name)])
+}
+
+/// How many more address faults there were on the way to a list. It fails only where no memory was left.
+pub fn say_more_faults(notes: &mut Notes, count: u64) -> Result<(), AllocError> {
+    notes.say_number("", count, " more address faults were met likewise")
+}
+
+/// That the run meets an address fault even with all objects kept. It fails only where no memory was left.
+pub fn say_no_list(
+    notes: &mut Notes,
+    file: &UncheckedFile,
+    fault: &AddressFault,
+) -> Result<(), AllocError> {
+    let reason = text_at(&REASONS, fault.why);
+    notes.say_words("no list of `fix` helps: with all objects kept,")?;
+    say_instruction(notes, file, "  address fault", fault.pc)?;
+    notes.begin("  ")?;
+    notes.end(reason)
+}
+
+/// The list, as one line of the board, and what else lets the objects move. It fails only where no memory was left.
+pub fn say_fix(
+    notes: &mut Notes,
+    list: &FixList,
+    fault: &AddressFault,
+    involved: &Involved,
+) -> Result<(), AllocError> {
+    notes.begin("first: write the next line into the board")?;
+    notes.put(&[
+        Piece::Text(if list.kept.is_empty() {
+            ""
+        } else {
+            " in place of its `fix`"
+        }),
+        Piece::Text(if list.end == FixEnd::Whole {
+            ": with it this run meets no address fault, as "
+        } else {
+            ": with it this run comes further; a list with which it meets no address fault was not found in "
+        }),
+        Piece::Number(list.runs),
+        Piece::Text(if list.runs == 1 { " run" } else { " runs" }),
+    ])?;
+    notes.end(if list.end == FixEnd::Whole {
+        " showed"
+    } else {
+        ""
+    })?;
+    say_list(notes, list)?;
+    match other_cure(fault, involved) {
+        "" => Ok(()),
+        cure => {
+            notes.begin("or ")?;
+            notes.end(cure)
+        }
+    }
+}
+
+/// The line of the board.
+fn say_list(notes: &mut Notes, list: &FixList) -> Result<(), AllocError> {
+    notes.begin("fix = [")?;
+    for (place, name) in list.kept.iter().enumerate() {
+        let before = before_name(place, "");
+        notes.put(&[Piece::Text(before), Piece::Quoted(name.as_bytes())])?;
+    }
+    let first = if list.kept.is_empty() { "" } else { ", " };
+    for (place, name) in list.names.iter().enumerate() {
+        let before = before_name(place, first);
+        notes.put(&[Piece::Text(before), Piece::Quoted(name)])?;
+    }
+    notes.end("]")
+}
+
+/// What else than to keep the object.
+fn other_cure(fault: &AddressFault, involved: &Involved) -> &'static str {
+    if is_made(fault, Way::Tested) {
+        return "branch on the pointer, in place of keeping whether it is null as a number";
+    }
+    match fault.why {
+        1 => "correct the program",
+        4 => "clear or copy no section by its addresses",
+        5 | 7 if is_made(fault, Way::Computed) => {
+            "compile with -fno-ivopts, where the source does no such arithmetic: no hash of a pointer, no bits in it, no sentinel"
+        }
+        5 => "compile with -mno-explicit-relocs",
+        7 => comparison_cure(fault, involved),
+        _ => "",
+    }
+}
+
+/// Whether a value of a fault was made so.
+fn is_made(fault: &AddressFault, way: Way) -> bool {
+    has_way(&fault.culprit.origin, way) || has_way(&fault.culprit.other, way)
+}
+
+fn has_way(origin: &Option<Origin>, way: Way) -> bool {
+    match origin {
+        Some(origin) => origin.way == way,
+        None => false,
+    }
+}
+
+/// What to do where an address is compared.
+fn comparison_cure(fault: &AddressFault, involved: &Involved) -> &'static str {
+    if fault.culprit.compared == Some(MINUS_ONE) {
+        return "tell failure by NULL in place of (void *)-1";
+    }
+    if involved.has_anchors {
+        return "compile with -fno-section-anchors (an anchor keeps the other object)";
+    }
+    ""
+}

@@ -1,0 +1,97 @@
+use crate::cures::before_name;
+use crate::notes::{Notes, Piece};
+use crate::places::put_place;
+use board_config::Range;
+use std::alloc::AllocError;
+use unchecked_file::UncheckedFile;
+
+/// A place by which control enters a region, and can't be led there.
+#[derive(Clone, Copy)]
+pub struct Barrier<'a> {
+    /// The function.
+    pub function: &'a [u8],
+    /// The address of the block.
+    pub leader: u32,
+}
+
+/// A region that the board lists became none. It fails only where no memory was left.
+pub fn say_lost_region(
+    notes: &mut Notes,
+    file: &UncheckedFile,
+    number: u64,
+    barriers: &[Barrier],
+) -> Result<(), AllocError> {
+    notes.say_number(
+        "region ",
+        number,
+        " of the board became none; the other regions of the list work without it",
+    )?;
+    for barrier in barriers {
+        notes.begin("  control enters it")?;
+        put_place(notes, file, barrier.leader)?;
+        notes.end(", where no register from x5 to x31 is dead")?;
+    }
+    if barriers.is_empty() {
+        return notes.say_words(
+            "  the first instruction where control enters it can't be led there",
+        );
+    }
+    notes.begin("first: leave out of its list")?;
+    for (place, barrier) in barriers.iter().enumerate() {
+        let before = before_name(place, " ");
+        notes.put(&[Piece::Text(before), Piece::Name(barrier.function)])?;
+    }
+    notes.end(", and keep the others")
+}
+
+/// The functions that the board's driver calls make no regions. It fails only where no memory was left.
+pub fn say_idle_driver(notes: &mut Notes, driver: &str) -> Result<(), AllocError> {
+    notes.say(&[
+        Piece::Text("no region comes of what `driver` of the board, "),
+        Piece::Name(driver.as_bytes()),
+        Piece::Text(", calls"),
+    ])?;
+    notes.say_first(
+        "let `driver` be the function that calls the phases one after the other, or list their functions by `regions`",
+    )
+}
+
+/// How much of the patch range a result takes, where that is most of it. It fails only where no memory was left.
+pub fn say_full_patch(notes: &mut Notes, patch: &Range, taken: u32) -> Result<(), AllocError> {
+    notes.say(&[
+        Piece::Text("the result takes "),
+        Piece::Number(u64::from(taken)),
+        Piece::Text(" of the "),
+        Piece::Number(u64::from(patch.size)),
+        Piece::Text(" bytes of `patch` of the board: a larger range may let more move"),
+    ])
+}
+
+/// A call from a piece of code to a block of the same piece that is no entry of it.
+#[derive(Clone, Copy)]
+pub struct InwardCall {
+    /// The address of the call.
+    pub at: u32,
+    /// Where it leads.
+    pub target: u32,
+}
+
+/// How many inward calls the measured run makes, and one of them. It fails only where no memory was left.
+pub fn say_inward(
+    notes: &mut Notes,
+    file: &UncheckedFile,
+    call: &InwardCall,
+    count: u64,
+) -> Result<(), AllocError> {
+    notes.say_number(
+        "the measured run makes ",
+        count,
+        " inward calls, so it may pay more than `after`: the command paid tells what it pays",
+    )?;
+    notes.begin("  code that moved calls,")?;
+    put_place(notes, file, call.at)?;
+    notes.put(&[Piece::Text(", what stays at home,")])?;
+    put_place(notes, file, call.target)?;
+    notes.end("")?;
+    notes.say_first("make what is called an entry: .type LABEL, @function, in front of its label")
+}
