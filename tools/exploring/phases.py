@@ -1,6 +1,7 @@
 """The phases of a run: windows of it, how many steps each function takes in each, and which windows are alike."""
 from __future__ import annotations
 
+import math
 import random
 from bisect import bisect_right
 from collections import Counter
@@ -74,8 +75,8 @@ class Profiler:
         steps = whole.number("steps") or 1
         count = window_count(steps)
         cuts = [Question("profile", self.board.with_keys({"steps": str(max(1, steps * it // count))}), number)
-                for it in range(1, count)]
-        sums = [self.steps(it) for it in [*self.store.ask_all(cuts), whole]]
+                for it in reversed(range(1, count))]  # the longest first, so that no processor is left with it at the end
+        sums = [self.steps(it) for it in [*reversed(self.store.ask_all(cuts)), whole]]
         return [after - before for before, after in zip([Window(), *sums], sums)]
 
 
@@ -95,7 +96,7 @@ def points_of(windows: list[Window], names: list[str]) -> list[list[float]]:
 
 
 def distance(one: list[float], other: list[float]) -> float:
-    return sum((a - b) ** 2 for a, b in zip(one, other))
+    return math.dist(one, other) ** 2
 
 
 def centre_of(points: list[list[float]]) -> list[float]:
@@ -132,9 +133,15 @@ def groups_of(windows: list[Window], names: list[str], count: int) -> list[int]:
     return min(grouped(points, count, draw) for _ in range(STARTS))[1]
 
 
-def shared_out(windows: list[Window], groups: list[int], names: list[str], share: float) -> Lists:
+def steps_by_group(windows: list[Window], groups: list[int]) -> dict[int, Window]:
+    sums = {group: Window() for group in sorted(set(groups))}
+    for window, group in zip(windows, groups):
+        sums[group].update(window)
+    return sums
+
+
+def shared_out(sums: dict[int, Window], names: list[str], share: float) -> Lists:
     """Each function in the group that has most of its steps, where it has at least that share of them."""
-    sums = {group: sum((it for it, one in zip(windows, groups) if one == group), Window()) for group in set(groups)}
     lists: dict[int, list[str]] = {}
     for name in names:
         group = max(sums, key=lambda it: sums[it][name])
@@ -155,6 +162,6 @@ def by_phases(windows: list[Window], names: list[str]) -> list[Lists]:
     if len(windows) < 2 or len(hot) < 2:
         return []
     for count in GROUPS:
-        groups = groups_of(windows, hot[:HOT], count)
-        found += [shared_out(windows, groups, hot, share) for share in SHARES]
+        sums = steps_by_group(windows, groups_of(windows, hot[:HOT], count))
+        found += [shared_out(sums, hot, share) for share in SHARES]
     return found

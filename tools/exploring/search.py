@@ -1,11 +1,12 @@
 """The search over lists of regions. Each trial is a real `relink`, which takes overlay only where that saves."""
 from __future__ import annotations
 
+from concurrent.futures import ThreadPoolExecutor
 from itertools import combinations, islice
 from typing import Iterator
 
 from .boards import Board, Lists
-from .phases import Window, by_phases, functions_of, groups_of, hottest, shared_out
+from .phases import Window, by_phases, functions_of, groups_of, hottest, shared_out, steps_by_group
 from .store import Hear, Question, Store
 
 REGIONS = 8
@@ -48,9 +49,16 @@ class Search:
         self.tried: dict[Lists, float] = {}
 
     def first_lists(self) -> list[Lists]:
+        """The windows are put together while spmlink is asked what the drivers give."""
         singles = [tuple((it,) for it in self.hot[:count]) for count in range(1, REGIONS + 1)]
         executed = hottest(self.windows, sorted({name for it in self.windows for name in it}))
-        return [*by_phases(self.windows, self.names), *singles, *by_drivers(self.store, self.board, executed)]
+        with ThreadPoolExecutor(1) as aside:
+            drivers = aside.submit(by_drivers, self.store, self.board, executed)
+            try:
+                return [*by_phases(self.windows, self.names), *singles, *drivers.result()]
+            except BaseException:
+                self.store.stop(())  # also what is asked aside
+                raise
 
     def ordered(self, lists: Lists) -> Lists:
         """One spelling of the same lists: regions by the window in which they begin."""
@@ -96,11 +104,12 @@ class Search:
             parts = [Window({name: it[name] for name in names}) for it in self.windows]
             running = [it for it in parts if sum(it.values())]
             if len(names) > 1 and len(running) > 1 and len(lists) < REGIONS:
-                groups = groups_of(running, list(names), 2)
-                yield lists[:number] + shared_out(running, groups, list(names), 0) + lists[number + 1:]
+                sums = steps_by_group(running, groups_of(running, list(names), 2))
+                yield lists[:number] + shared_out(sums, list(names), 0) + lists[number + 1:]
 
-    def run(self) -> None:
-        self.try_all(self.first_lists())
+    def run(self, given: Lists) -> None:
+        """`given` are the lists of the board."""
+        self.try_all([given, *self.first_lists()])
         for start in self.best_lists()[:CLIMBS]:
             self.climb(start, (self.trials - len(self.tried)) // 2)
 
