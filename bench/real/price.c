@@ -1,7 +1,8 @@
 /* Runs an ELF file for RV32IM and tells how many words it fetches and how often it loads and stores, in the scratchpad and
    elsewhere. It shares no code with spmlink.
 
-   price FILE BASE SIZE <input >output; on standard error: steps, and the accesses elsewhere and in BASE to BASE + SIZE */
+   price FILE BASE SIZE [COUNTS] <input >output; on standard error: steps, and the accesses elsewhere and in BASE to BASE + SIZE.
+   COUNTS gets a line for each word that was accessed: its address, how often it was fetched, loaded and stored. */
 #include <stdint.h>
 #include <stdio.h>
 #include <stdlib.h>
@@ -17,8 +18,12 @@ enum { MEMORY = 0x02000000 };
 static uint8_t memory[MEMORY];
 static u32 x[32], base, size;
 static u64 steps, near, far;
+static struct { u32 times[3]; } counts[MEMORY / 4];
+static const char *counts_name;
 
-static uint8_t *at(u32 address, u32 count)
+enum { FETCH, LOAD, STORE };
+
+static uint8_t *at(u32 address, u32 count, int kind)
 {
     if (address > MEMORY - count || address & (count - 1)) {
         fprintf(stderr, "trap at access %08x\n", address);
@@ -28,24 +33,25 @@ static uint8_t *at(u32 address, u32 count)
         near++;
     else
         far++;
+    counts[address / 4].times[kind]++;
     return memory + address;
 }
 
-static u32 load(u32 address, u32 count)
+static u32 load(u32 address, u32 count, int kind)
 {
     u32 word = 0;
-    memcpy(&word, at(address, count), count);
+    memcpy(&word, at(address, count, kind), count);
     return word;
 }
 
 static void store(u32 address, u32 word, u32 count)
 {
-    memcpy(at(address, count), &word, count);
+    memcpy(at(address, count, STORE), &word, count);
 }
 
 static u32 loaded(u32 kind, u32 address)
 {
-    u32 word = load(address, 1u << (kind & 3));
+    u32 word = load(address, 1u << (kind & 3), LOAD);
     return kind == 0 ? (u32)(int8_t)word : kind == 1 ? (u32)(int16_t)word : word;
 }
 
@@ -91,12 +97,25 @@ static u32 combined(u32 kind, int other, u32 a, u32 b)
     }
 }
 
+static void tell_counts(void)
+{
+    FILE *to = counts_name ? fopen(counts_name, "w") : NULL;
+    for (u32 k = 0; to && k < MEMORY / 4; k++) {
+        const u32 *it = counts[k].times;
+        if (it[FETCH] | it[LOAD] | it[STORE])
+            fprintf(to, "%u %u %u %u\n", 4 * k, it[FETCH], it[LOAD], it[STORE]);
+    }
+    if (to)
+        fclose(to);
+}
+
 /* Calls 63, 64 and 93. Their bytes cost nothing. */
 static void call(void)
 {
     u32 count = 0;
     if (x[17] == 93) {
         fflush(stdout);
+        tell_counts();
         fprintf(stderr, "%llu %llu %llu\n", (unsigned long long)steps, (unsigned long long)far, (unsigned long long)near);
         exit(x[10] & 255);
     }
@@ -109,7 +128,7 @@ static void call(void)
 
 static void step(u32 *pc)
 {
-    u32 word = load(*pc, 4), next = *pc + 4, result = 0;
+    u32 word = load(*pc, 4, FETCH), next = *pc + 4, result = 0;
     u32 rd = word >> 7 & 31, kind = word >> 12 & 7, a = x[word >> 15 & 31], b = x[word >> 20 & 31];
     s32 low = (s32)word >> 20;
     steps++;
@@ -158,11 +177,12 @@ static u32 word_at(const uint8_t *bytes)
 int main(int count, char **words)
 {
     static uint8_t file[1 << 24];
-    FILE *from = count == 4 ? fopen(words[1], "rb") : NULL;
+    FILE *from = count == 4 || count == 5 ? fopen(words[1], "rb") : NULL;
     if (!from || fread(file, 1, sizeof file, from) < 52)
         return 97;
     base = strtoul(words[2], NULL, 0);
     size = strtoul(words[3], NULL, 0);
+    counts_name = words[4];
     for (int k = 0; k < (file[44] | file[45] << 8); k++) {
         const uint8_t *header = file + word_at(file + 28) + 32 * k;
         if (word_at(header) == 1)
