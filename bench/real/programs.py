@@ -57,9 +57,12 @@ PROGRAMS = {
                     "adler32.c compress.c crc32.c deflate.c inffast.c inflate.c inftrees.c trees.c uncompr.c zutil.c",
                     [], TEXTS),
     "bearssl": Program("bearssl", "-Iinc -Isrc",
+                       "src/rsa/rsa_i15_pub.c src/int/i15_decode.c src/int/i15_decmod.c src/int/i15_ninv15.c src/int/i15_tmont.c "
+                       "src/int/i15_modpow2.c src/int/i15_encode.c src/int/i15_montmul.c src/int/i15_muladd.c src/int/i15_fmont.c "
+                       "src/int/i15_bitlen.c src/int/i15_sub.c src/int/i15_add.c src/int/i15_rshift.c src/int/i32_div32.c "
                        "src/hash/sha2small.c src/codec/enc32be.c src/codec/dec32be.c src/codec/dec32le.c src/codec/enc32le.c "
-                       "src/codec/ccopy.c src/symcipher/aes_ct.c src/symcipher/aes_ct_enc.c src/symcipher/aes_ct_cbcenc.c "
-                       "src/symcipher/chacha20_ct.c src/symcipher/poly1305_ctmul.c src/ec/ec_c25519_m15.c", [], TEXTS),
+                       "src/codec/ccopy.c src/symcipher/aes_common.c src/symcipher/aes_big_enc.c src/symcipher/aes_big_cbcenc.c "
+                       "src/symcipher/chacha20_ct.c src/symcipher/poly1305_ctmul.c", [], TEXTS),
 }
 
 

@@ -1,12 +1,12 @@
-/* What a sender does: agrees on a key by X25519, hashes its input by SHA-256, enciphers it by AES-CBC, and then by ChaCha20 with
-   Poly1305. All are the portable ones of BearSSL, in constant time. */
+/* Raises a number as RSA does to check a signature, hashes its input by SHA-256, enciphers it by AES-CBC, and then by ChaCha20
+   with Poly1305: portable parts of BearSSL, as one that sends a file uses them one after the other. */
 #include "layer.h"
 #include "bearssl.h"
 #include <string.h>
 
 static br_sha256_context sha;
-static br_aes_ct_cbcenc_keys aes;
-static unsigned char shared[32], text[ROOM];
+static br_aes_big_cbcenc_keys aes;
+static unsigned char modulus[128], exponent[3] = {1, 0, 1}, signature[128], text[ROOM];
 
 static void put_hex(const unsigned char *bytes, int count)
 {
@@ -19,31 +19,33 @@ static void put_hex(const unsigned char *bytes, int count)
     put_bytes(line, 2 * count + 1);
 }
 
-static void agree(void)
+static int raise_signature(void)
 {
-    unsigned char secret[32];
-    for (int k = 0; k < 32; k++) {
-        secret[k] = 3 * k + 5;
-        shared[k] = k ? 0 : 9;
+    br_rsa_public_key key = {modulus, sizeof modulus, exponent, sizeof exponent};
+    for (int k = 0; k < 128; k++) {
+        modulus[k] = 193 + 37 * k;
+        signature[k] = 11 + 91 * k;
     }
-    br_ec_c25519_m15.mul(shared, 32, secret, 32, BR_EC_curve25519);
-    put_hex(shared, 32);
+    modulus[127] |= 1;
+    int done = br_rsa_i15_public(signature, sizeof signature, &key);
+    put_hex(signature, 32);
+    return done;
 }
 
 int main(void)
 {
     unsigned count = read_input() & ~15u;
     unsigned char sum[32], start[16] = {0}, tag[16];
-    agree();
+    int done = raise_signature();
     br_sha256_init(&sha);
     br_sha256_update(&sha, input, count);
     br_sha256_out(&sha, sum);
     put_hex(sum, 32);
     memcpy(text, input, count);
-    br_aes_ct_cbcenc_init(&aes, shared, 32);
-    br_aes_ct_cbcenc_run(&aes, start, text, count);
-    put_hex(text + (count ? count - 16 : 0), 16);
-    br_poly1305_ctmul_run(shared, sum, text, count, sum, 32, tag, br_chacha20_ct_run, 1);
+    br_aes_big_cbcenc_init(&aes, signature, 32);
+    br_aes_big_cbcenc_run(&aes, start, text, count);
+    put_hex(start, 16);
+    br_poly1305_ctmul_run(signature, sum, text, count, sum, 32, tag, br_chacha20_ct_run, 1);
     put_hex(tag, 16);
-    return 0;
+    return done ? 0 : 1;
 }
