@@ -55,7 +55,7 @@ PROGRAMS = {
                         "src/stream/chacha/chacha_ivctr32.c src/stream/chacha/chacha_crypt.c", [], TEXTS),
     "zlib": Program("zlib", "-I.",
                     "adler32.c compress.c crc32.c deflate.c inffast.c inflate.c inftrees.c trees.c uncompr.c zutil.c",
-                    [], TEXTS),
+                    ["unpacked"], TEXTS),
     "bearssl": Program("bearssl", "-Iinc -Isrc",
                        "src/rsa/rsa_i15_pub.c src/int/i15_decode.c src/int/i15_decmod.c src/int/i15_ninv15.c src/int/i15_tmont.c "
                        "src/int/i15_modpow2.c src/int/i15_encode.c src/int/i15_montmul.c src/int/i15_muladd.c src/int/i15_fmont.c "
