@@ -16,6 +16,8 @@ pub(crate) struct DualBound {
     layout: Option<Layout>,
     /// The multipliers of the last node, from which the next one's begin, of each row up to the last knapsack row.
     multipliers: Vec<u64>,
+    /// What the first node's bound shows of the side, if it has been asked.
+    first: Option<u128>,
 }
 
 fn nothing() -> NodeBound {
@@ -31,6 +33,12 @@ fn scaled_target(side: &Side, layout: &Layout, best: u128) -> u64 {
     let gains = best.saturating_add(side.fixed);
     let scaled = gains.saturating_mul(u128::from(layout.scale));
     u64::try_from(scaled).unwrap_or(u64::MAX)
+}
+
+/// A bound of the gains of a side, the fixed cost taken off, from one in the layout's units.
+fn unscaled(side: &Side, layout: &Layout, value: u64) -> u128 {
+    let gains = u128::from(value) / u128::from(layout.scale.max(1));
+    gains.saturating_sub(side.fixed)
 }
 
 /// The multipliers of the packing rows: what each adds to the reach.
@@ -154,6 +162,7 @@ impl Guide for DualBound {
         Ok(DualBound {
             layout,
             multipliers,
+            first: None,
         })
     }
 
@@ -184,7 +193,13 @@ impl Guide for DualBound {
             candidate: None,
         };
         let found = bound_of(alloc, layout, &mut dual_problem)?;
+        let value = unscaled(side, layout, dual_problem.relaxation.value);
+        self.first = self.first.or(Some(value));
         self.multipliers = dual_problem.multipliers;
         Ok(found)
+    }
+
+    fn bound(&self) -> Option<u128> {
+        self.first
     }
 }

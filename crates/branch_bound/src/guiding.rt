@@ -45,4 +45,8 @@ pub(crate) trait Guide: Sized + Drop {
         best: u128,
     ) -> Result<NodeBound, AllocError>
         ensures { IfOk result (λ answer. answers self.old (plain_side side.now) marks.now best answer self.new) };
+
+    /// What no choice of the side gains more than, as it was found at the first node, the fixed cost taken off. It is only
+    /// for those who wait.
+    fn bound(&self) -> Option<u128>;
 }

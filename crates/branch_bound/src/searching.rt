@@ -8,15 +8,17 @@ use crate::assignments::Assignment;
 use crate::closing::plain_dual;
 use crate::improving::improve;
 use crate::ranking::{Ranked, first_free};
-use crate::running::Running;
+use crate::running::{Running, tell_nodes};
 use crate::visiting::Visit;
 use certificate_checker::{Tree, branch_on};
 use placement_programme::Side;
+use shelf_io::Progress;
 use std::alloc::{AllocError, Global};
 
 /// What a search is for: a side of a programme, off or on.
 #[derive(Drop)]
 pub(crate) struct Task<'a> {
+    pub alloc: Global,
     pub side: &'a Side,
     pub on: bool,
     /// Its variables in the order in which the search branches.
@@ -112,12 +114,12 @@ fn visit(
 /// variable to zero takes what its parent takes, which is known then. Where there is a tree the assignment is as it was
 /// before; where there is none the search is over, and it isn't set back.
 pub(crate) fn search(
-    alloc: Global,
     task: &Task,
     node: &mut Assignment,
     place: usize,
     run: &mut Running,
     raised: Option<u32>,
+    progress: &dyn Progress,
 ) -> Result<Option<Tree>, AllocError>
     requires ranking { IsRanking (plain_side task.now.side.now) task.now.ranking.now }
     requires tallies { AreTallies (plain_side task.now.side.now) node.old }
@@ -136,21 +138,22 @@ pub(crate) fn search(
         return Ok(None);
     }
     run.left -= 1;
-    let found = match visit(alloc, task, node, place, run, raised)? {
+    tell_nodes(progress, run);
+    let found = match visit(task.alloc, task, node, place, run, raised)? {
         Visit::Closed(tree) => return Ok(Some(tree)),
         Visit::Open(found) => found,
     };
     let number = task.ranking[found].number;
     node.fix_one(task.side, number as usize);
-    let one = match search(alloc, task, node, found + 1, run, Some(number))? {
+    let one = match search(task, node, found + 1, run, Some(number), progress)? {
         None => return Ok(None),
         Some(tree) => tree,
     };
     node.fix_zero(task.side, number as usize);
-    let zero = match search(alloc, task, node, found + 1, run, None)? {
+    let zero = match search(task, node, found + 1, run, None, progress)? {
         None => return Ok(None),
         Some(tree) => tree,
     };
     node.free(task.side, number as usize);
-    Ok(Some(branch_on(alloc, number, zero, one)?))
+    Ok(Some(branch_on(task.alloc, number, zero, one)?))
 }

@@ -11,6 +11,7 @@ use crate::side_searching::{Task, search};
 use crate::side_visiting::{OnSide, Round};
 use certificate_checker::{Certificate, Fixing, RowWise, Tree, free_marks};
 use placement_programme::{Choice, Programme, Side};
+use shelf_io::{NoProgress, Progress};
 use std::alloc::{AllocError, Global};
 
 /// How many levels the text of a certificate's tree may have, the root being one.
@@ -67,6 +68,7 @@ fn search_from<G: Guide>(
     task: &Task,
     marks: &mut [Fixing],
     best: &mut Incumbent,
+    progress: &dyn Progress,
 ) -> Result<Option<Tree>, AllocError>
     requires by_row { IsOfSide (plain_side task.now.side.now) (rows_of task.now.by_row.now) }
     requires marks { marks.old ≡ all_free (plain_side task.now.side.now) }
@@ -77,8 +79,12 @@ fn search_from<G: Guide>(
     ensures searches { IfOk result (λ tree. SearchesSide G.answers (plain_programme task.now.programme.now) task.now.on (plain_side task.now.side.now) best.old.left best.old.gain (is_some tree) best.new.gain) }
 {
     let mut guide = G::of(alloc, task.side)?;
+    progress.nodes(best.left, best.gain, None);
     match search(alloc, task, &mut guide, marks, MOST_LEVELS, best) {
-        Ok(tree) => Ok(tree),
+        Ok(tree) => {
+            progress.nodes(best.left, best.gain, guide.bound());
+            Ok(tree)
+        }
         Err(error) => Err(error),
     }
 }
@@ -90,6 +96,7 @@ fn search_side<G: Guide>(
     side: &Side,
     on: bool,
     best: &mut Incumbent,
+    progress: &dyn Progress,
 ) -> Result<Option<Tree>, AllocError>
     requires sound { IsSound (plain_programme p.now) best.old }
     ensures sound { OnOk result (IsSound (plain_programme p.now) best.new) }
@@ -105,7 +112,7 @@ fn search_side<G: Guide>(
         by_row: &by_row,
         on,
     };
-    match search_from::<G>(alloc, &task, &mut marks, best) {
+    match search_from::<G>(alloc, &task, &mut marks, best, progress) {
         Ok(tree) => Ok(tree),
         Err(error) => Err(error),
     }
@@ -115,6 +122,7 @@ fn search_on<G: Guide>(
     alloc: Global,
     p: &Programme,
     best: &mut Incumbent,
+    progress: &dyn Progress,
 ) -> Result<OnSide, AllocError>
     requires sound { IsSound (plain_programme p.now) best.old }
     ensures sound { OnOk result (IsSound (plain_programme p.now) best.new) }
@@ -124,7 +132,7 @@ fn search_on<G: Guide>(
 {
     match &p.on {
         None => Ok(OnSide::Absent),
-        Some(side) => match search_side::<G>(alloc, p, side, true, best)? {
+        Some(side) => match search_side::<G>(alloc, p, side, true, best, progress)? {
             Some(tree) => Ok(OnSide::Shown(tree)),
             None => Ok(OnSide::Unfinished),
         },
@@ -176,6 +184,7 @@ fn search_round<G: Guide>(
     limit: RoundLimit,
     most: u64,
     mut best: Incumbent,
+    progress: &dyn Progress,
 ) -> Result<Round, AllocError>
     requires sound { IsSound (plain_programme p.now) best }
     ensures round { IfOk result (IsRound (plain_programme p.now)) }
@@ -183,12 +192,12 @@ fn search_round<G: Guide>(
 {
     let nodes = limit.nodes_of(p, most);
     best.left = nodes;
-    let off = search_side::<G>(alloc, p, &p.off, false, &mut best)?;
+    let off = search_side::<G>(alloc, p, &p.off, false, &mut best, progress)?;
     if off.is_none() && limit.needs_off {
         return Ok(Round::Unfinished(best));
     }
     best.left = nodes;
-    let on = search_on::<G>(alloc, p, &mut best)?;
+    let on = search_on::<G>(alloc, p, &mut best, progress)?;
     Ok(finish_round(p, off, on, best))
 }
 
@@ -197,14 +206,15 @@ pub(crate) fn certify_guided<G: Guide>(
     alloc: Global,
     p: &Programme,
     nodes: u64,
+    progress: &dyn Progress,
 ) -> Result<Round, AllocError>
     ensures round { IfOk result (IsRound (plain_programme p.now)) }
     ensures searches { IfOk result (IfUnfinished (FirstSearch G.answers (plain_programme p.now) nodes)) }
 {
     let best = first_incumbent(alloc);
-    match search_round::<G>(alloc, p, FIRST_ROUND, nodes, best)? {
+    match search_round::<G>(alloc, p, FIRST_ROUND, nodes, best, progress)? {
         Round::Certified(certificate) => Ok(Round::Certified(certificate)),
-        Round::Unfinished(best) => search_round::<G>(alloc, p, SECOND_ROUND, nodes, best),
+        Round::Unfinished(best) => search_round::<G>(alloc, p, SECOND_ROUND, nodes, best, progress),
     }
 }
 
@@ -217,5 +227,5 @@ pub(crate) fn certify_guided<G: Guide>(
 pub fn certify(alloc: Global, p: &Programme, nodes: u64) -> Result<Round, AllocError>
     ensures { IfOk result (IsRound (plain_programme p.now)) }
 {
-    certify_guided::<DualBound>(alloc, p, nodes)
+    certify_guided::<DualBound>(alloc, p, nodes, &NoProgress)
 }

@@ -18,6 +18,7 @@ use crate::side_visiting::Round;
 use crate::starting::{begin, better};
 use certificate_checker::{Certificate, free_marks};
 use placement_programme::{Choice, Programme, Side};
+use shelf_io::Progress;
 use std::alloc::{AllocError, Global};
 
 /// Searches a side.
@@ -27,6 +28,7 @@ fn search_side(
     on: bool,
     best: Incumbent,
     left: u64,
+    progress: &dyn Progress,
 ) -> Result<Outcome, AllocError>
     requires { best.gain ≤ 2 ^ 104 }
     ensures grows { IfOk result (λ o. best.gain ≤ o.best.gain) }
@@ -37,13 +39,14 @@ fn search_side(
 {
     let ranking = ranking(alloc, side)?;
     let task = Task {
+        alloc,
         side,
         on,
         ranking: &ranking,
     };
     let mut root = Assignment::of(alloc, side, free_marks(alloc, side)?)?;
     let mut run = Running { best, left };
-    let tree = search(alloc, &task, &mut root, 0, &mut run, None)?;
+    let tree = search(&task, &mut root, 0, &mut run, None, progress)?;
     let Running { best, left } = run;
     Ok(Outcome { best, left, tree })
 }
@@ -54,6 +57,7 @@ fn search_on(
     p: &Programme,
     best: Incumbent,
     left: u64,
+    progress: &dyn Progress,
 ) -> Result<Outcome, AllocError>
     requires small { best.gain ≤ 2 ^ 104 }
     requires incumbent { IsIncumbent (plain_programme p.now) best }
@@ -69,7 +73,7 @@ fn search_on(
             left,
             tree: None,
         }),
-        Some(side) => search_side(alloc, side, true, best, left),
+        Some(side) => search_side(alloc, side, true, best, left, progress),
     }
 }
 
@@ -123,6 +127,7 @@ fn search_stated(
     p: &Programme,
     nodes: u64,
     other: &crate::side_incumbents::Incumbent,
+    progress: &dyn Progress,
 ) -> Result<Found, AllocError>
     requires nodes { 1 ≤ nodes }
     requires sound { IsSound (plain_programme p.now) other.now }
@@ -131,9 +136,9 @@ fn search_stated(
 {
     let start = begin(alloc, p)?;
     let first = better(alloc, p, start, other)?;
-    let off = search_side(alloc, &p.off, false, first, nodes)?;
+    let off = search_side(alloc, &p.off, false, first, nodes, progress)?;
     let Outcome { best, left, tree } = off;
-    let on = search_on(alloc, p, best, left)?;
+    let on = search_on(alloc, p, best, left, progress)?;
     let best = finish(alloc, p, on.best)?;
     let trees = trees_of(alloc, p, tree, on.tree, best.gain)?;
     let answer = found(alloc, p, &best, trees, nodes)?;
@@ -166,18 +171,23 @@ fn shown(alloc: Global, certificate: Certificate) -> Result<Found, AllocError>
 }
 
 /// What `solve` finds with a guide of its first search.
-fn solve_guided<G: Guide>(alloc: Global, p: &Programme, nodes: u64) -> Result<Found, AllocError>
+fn solve_guided<G: Guide>(
+    alloc: Global,
+    p: &Programme,
+    nodes: u64,
+    progress: &dyn Progress,
+) -> Result<Found, AllocError>
     requires { 1 ≤ nodes }
     ensures ends { IfOk result (IsSearched (plain_programme p.now) nodes) }
     ensures first { IfOk result (KeepsFirst G.answers (plain_programme p.now) nodes) }
 {
-    match certify_guided::<G>(alloc, p, nodes)? {
+    match certify_guided::<G>(alloc, p, nodes, progress)? {
         Round::Certified(certificate) => {
             let start = begin(alloc, p)?;
             let found = shown(alloc, certificate)?;
             Ok(found)
         }
-        Round::Unfinished(best) => match search_stated(alloc, p, nodes, &best) {
+        Round::Unfinished(best) => match search_stated(alloc, p, nodes, &best, progress) {
             Ok(found) => Ok(found),
             Err(error) => Err(error),
         },
@@ -191,7 +201,12 @@ fn solve_guided<G: Guide>(alloc: Global, p: &Programme, nodes: u64) -> Result<Fo
 /// best that was found.
 ///
 /// It fails only where no memory was left.
-pub fn solve(alloc: Global, p: &Programme, nodes: u64) -> Result<Found, AllocError>
+pub fn solve(
+    alloc: Global,
+    p: &Programme,
+    nodes: u64,
+    progress: &dyn Progress,
+) -> Result<Found, AllocError>
     requires { 1 ≤ nodes }
     ensures feasible { IfOk result (λ f. IsFeasible (plain_programme p.now) (plain_choice f.choice)) }
     ensures gain { IfOk result (λ f. pos 0 ≤ℤ gain (plain_programme p.now) (plain_choice f.choice)) }
@@ -203,7 +218,7 @@ pub fn solve(alloc: Global, p: &Programme, nodes: u64) -> Result<Found, AllocErr
     ensures status { IfOk result (λ f. Certifies (plain_programme p.now) nodes (plain_certificate f.certificate) f.status) }
     ensures enough { IfOk result (λ f. 2 ^ (all_vars (plain_programme p.now) + 1) ≤ nodes → f.status ≡ Optimal) }
 {
-    match solve_guided::<DualBound>(alloc, p, nodes) {
+    match solve_guided::<DualBound>(alloc, p, nodes, progress) {
         Ok(found) => Ok(found),
         Err(error) => Err(error),
     }

@@ -2,7 +2,7 @@
 
 use crate::lists::Case;
 use explanations::{Explainer, run, run_command};
-use shelf_io::{MemShelf, MemSink, Shelf};
+use shelf_io::{MemShelf, MemSink, NoProgress, Shelf};
 use std::alloc::{AllocError, Global};
 use std::collections::BTreeMap;
 
@@ -50,7 +50,7 @@ impl Outside {
     /// Does what the words of a command line ask for, and gives its status and what standard error says of it.
     pub fn explained_call(&mut self, words: &[String]) -> (u8, Vec<u8>) {
         self.before = self.sink.bytes().len();
-        let mut explainer = Explainer::new(self.alloc, words);
+        let mut explainer = Explainer::new(self.alloc, words, &NoProgress);
         let outcome = run_command(
             self.alloc,
             words,

@@ -9,6 +9,7 @@ use command_language::CommandFault;
 use placement_programme::{Choice, Programme};
 use printed_lines::choice_report;
 use relinking::{MeasuredEnd, programme_of_run};
+use shelf_io::Progress;
 use std::alloc::Global;
 
 /// The result of a `check` command, before it is printed.
@@ -42,13 +43,14 @@ pub fn check_file(
     board: &[u8],
     input: &[u8],
     cert: &[u8],
+    progress: &dyn Progress,
 ) -> Result<CheckedFile, CommandFault>
     ensures ok { IfOk result (λ made. ChecksTo file.now board.now input.now cert.now (string_bytes made.report)) }
     ensures end { IfOk result (λ made. MeasuresTo file.now board.now input.now made.end) }
     ensures err { IfErr result (RejectsChecked board.now file.now input.now cert.now) }
 {
     let opened = open(alloc, file, board)?;
-    let measured = programme_of_run(alloc, &opened.analysis, &opened.board, input)?;
+    let measured = programme_of_run(alloc, &opened.analysis, &opened.board, input, progress)?;
     match checked(alloc, &measured.programme, opened.board.nodes, cert) {
         Ok(checked) => Ok(CheckedFile {
             report: checked.report,

@@ -7,6 +7,7 @@ use crate::chosen::ChosenPlacement;
 use crate::opening::open;
 use command_language::CommandFault;
 use relinking::{WeightedBytes, programme_of_runs};
+use shelf_io::Progress;
 use std::alloc::Global;
 
 /// The result of a `checkmix` command, before it is printed.
@@ -30,13 +31,14 @@ pub fn check_mix_file(
     board: &[u8],
     inputs: &[WeightedBytes<'_>],
     cert: &[u8],
+    progress: &dyn Progress,
 ) -> Result<CheckedMix, CommandFault>
     requires { AreSomeInputs (map plain_input inputs.now) }
     ensures ok { IfOk result (λ made. ChecksMixTo file.now board.now (map plain_input inputs.now) cert.now (string_bytes made.report)) }
     ensures err { IfErr result (RejectsCheckedRuns board.now file.now (map plain_input inputs.now) cert.now) }
 {
     let opened = open(alloc, file, board)?;
-    let programme = programme_of_runs(alloc, &opened.analysis, &opened.board, inputs)?;
+    let programme = programme_of_runs(alloc, &opened.analysis, &opened.board, inputs, progress)?;
     match checked(alloc, &programme, opened.board.nodes, cert) {
         Ok(checked) => Ok(CheckedMix {
             report: checked.report,

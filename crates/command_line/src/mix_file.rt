@@ -6,6 +6,7 @@ use crate::chosen::ChosenPlacement;
 use crate::opening::open;
 use command_language::CommandFault;
 use relinking::{Relinked, WeightedBytes, relink_report, relink_runs};
+use shelf_io::Progress;
 use std::alloc::Global;
 
 /// The result of a `mix` command, before any of it is written.
@@ -31,13 +32,14 @@ pub fn mix_file(
     file: &[u8],
     board: &[u8],
     inputs: &[WeightedBytes<'_>],
+    progress: &dyn Progress,
 ) -> Result<MixedFile, CommandFault>
     requires { AreSomeInputs (map plain_input inputs.now) }
     ensures ok { IfOk result (λ r. MixesTo file.now board.now (map plain_input inputs.now) r.certificate.items r.file.items r.report.items) }
     ensures err { IfErr result (RejectsRuns board.now file.now (map plain_input inputs.now)) }
 {
     let opened = open(alloc, file, board)?;
-    let relinked = relink_runs(alloc, &opened.analysis, &opened.board, inputs)?;
+    let relinked = relink_runs(alloc, &opened.analysis, &opened.board, inputs, progress)?;
     let report = relink_report(alloc, &opened.analysis, &opened.board, &relinked)?;
     Ok(mixed_file(relinked, report))
 }

@@ -8,6 +8,7 @@ use crate::input_texts::InputTexts;
 use crate::mix_file::mix_file;
 use crate::mix_inputs::{ListedTexts, weighted_texts};
 use command_language::{CommandFault, read_mix};
+use shelf_io::Progress;
 use std::alloc::Global;
 
 /// Makes the result of relinking for what a mix lists.
@@ -16,6 +17,7 @@ pub fn prepare_mix<'a>(
     out: &'a str,
     cert: &'a str,
     inputs: &InputTexts<'_>,
+    progress: &dyn Progress,
 ) -> Result<PreparedResult<'a>, CommandFault>
     requires texts { length inputs.now.texts.now ≡ 3 }
     requires listed { length inputs.now.listed.now ≡ length (listed_names (cert.now ∷ out.now ∷ []) (third (contents inputs.now.texts.now))) }
@@ -28,7 +30,7 @@ pub fn prepare_mix<'a>(
         Ok(lines) => {
             let texts = inputs.listed;
             let listed = ListedTexts { lines, texts };
-            match mixed_result(alloc, out, cert, inputs.texts, &listed) {
+            match mixed_result(alloc, out, cert, inputs.texts, &listed, progress) {
                 Ok(prepared) => Ok(prepared),
                 Err(fault) => Err(fault),
             }
@@ -44,6 +46,7 @@ fn mixed_result<'a>(
     cert: &'a str,
     texts: &[Vec<u8>],
     listed: &ListedTexts<'_>,
+    progress: &dyn Progress,
 ) -> Result<PreparedResult<'a>, CommandFault>
     requires texts { length texts.now ≡ 3 }
     requires listed { Lists (cert.now ∷ out.now ∷ []) (third (contents texts.now)) listed.now }
@@ -53,7 +56,7 @@ fn mixed_result<'a>(
         → RejectsInputs (mix_command f b m out.now cert.now) (contents texts.now ++ contents listed.now.texts.now) fault) }
 {
     let inputs = weighted_texts(alloc, &listed.lines, listed.texts)?;
-    match mix_file(alloc, &texts[0], &texts[1], &inputs) {
+    match mix_file(alloc, &texts[0], &texts[1], &inputs, progress) {
         Ok(mixed) => {
             let first = Output::new(alloc, 5, cert, mixed.certificate)?;
             let second = Output::new(alloc, 4, out, mixed.file)?;
@@ -68,6 +71,7 @@ fn mixed_result<'a>(
 pub fn prepare_check_mix<'a>(
     alloc: Global,
     inputs: &InputTexts<'_>,
+    progress: &dyn Progress,
 ) -> Result<PreparedResult<'a>, CommandFault>
     requires texts { length inputs.now.texts.now ≡ 4 }
     requires listed { length inputs.now.listed.now ≡ length (listed_names [] (third (contents inputs.now.texts.now))) }
@@ -80,7 +84,7 @@ pub fn prepare_check_mix<'a>(
         Ok(lines) => {
             let texts = inputs.listed;
             let listed = ListedTexts { lines, texts };
-            match checked_result(alloc, inputs.texts, &listed) {
+            match checked_result(alloc, inputs.texts, &listed, progress) {
                 Ok(prepared) => Ok(prepared),
                 Err(fault) => Err(fault),
             }
@@ -94,6 +98,7 @@ fn checked_result<'a>(
     alloc: Global,
     texts: &[Vec<u8>],
     listed: &ListedTexts<'_>,
+    progress: &dyn Progress,
 ) -> Result<PreparedResult<'a>, CommandFault>
     requires texts { length texts.now ≡ 4 }
     requires listed { Lists [] (third (contents texts.now)) listed.now }
@@ -103,7 +108,7 @@ fn checked_result<'a>(
         → RejectsInputs (check_mix_command f b m c) (contents texts.now ++ contents listed.now.texts.now) fault) }
 {
     let inputs = weighted_texts(alloc, &listed.lines, listed.texts)?;
-    match check_mix_file(alloc, &texts[0], &texts[1], &inputs, &texts[3]) {
+    match check_mix_file(alloc, &texts[0], &texts[1], &inputs, &texts[3], progress) {
         Ok(checked) => {
             let text = checked.report.into_bytes();
             let chosen = Some(checked.chosen);

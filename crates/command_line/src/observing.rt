@@ -1,6 +1,7 @@
 use crate::delivery::PreparedResult;
 use crate::input_texts::InputTexts;
 use command_language::CommandFault;
+use shelf_io::NoProgress;
 
 /// Who is shown what a command read and made.
 pub trait Observer {
@@ -13,11 +14,7 @@ pub trait Observer {
     );
 }
 
-/// One who looks at nothing.
-#[derive(Clone, Copy)]
-pub struct NoObserver;
-
-impl Observer for NoObserver {
+impl Observer for NoProgress {
     fn observe(
         &mut self,
         _inputs: &InputTexts<'_>,

@@ -23,6 +23,7 @@ use placement_programme::{Choice, energy};
 use printed_lines::ending_line;
 use relink_core::realise;
 use relinking::{MeasuredProgramme, programme_of_run};
+use shelf_io::Progress;
 use std::alloc::{AllocError, Global};
 
 /// Checks a certificate as `check` does, runs the file that realises its choice, and tells in lines what the run of the file's
@@ -36,13 +37,14 @@ pub fn paid_file(
     board: &[u8],
     input: &[u8],
     cert: &[u8],
+    progress: &dyn Progress,
 ) -> Result<MeasuredText, CommandFault>
     ensures ok { IfOk result (λ made. PaysTo file.now board.now input.now cert.now made.text.items) }
     ensures end { IfOk result (λ made. MeasuresTo file.now board.now input.now made.end) }
     ensures err { IfErr result (RejectsPaid board.now file.now input.now cert.now) }
 {
     let opened = open(alloc, file, board)?;
-    let measured = programme_of_run(alloc, &opened.analysis, &opened.board, input)?;
+    let measured = programme_of_run(alloc, &opened.analysis, &opened.board, input, progress)?;
     match choice_lines(alloc, &opened, &measured, input, cert) {
         Ok(lines) => {
             let text = lines.into_bytes();

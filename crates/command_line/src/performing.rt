@@ -10,12 +10,12 @@ use crate::reading::read_inputs;
 use crate::results::prepare_result;
 use command_language::{Command, CommandFault};
 use relinking::MeasuredEnd;
-use shelf_io::{Shelf, Sink};
+use shelf_io::{Progress, Shelf, Sink};
 use std::alloc::Global;
 
 /// Does what a command asks for, and tells how the run ended that it measured, if it measured one. The observer is shown
 /// what it read and made, before any of it is written.
-pub fn perform_command<S: Shelf, K: Sink, O: Observer>(
+pub fn perform_command<S: Shelf, K: Sink, O: Observer + Progress>(
     alloc: Global,
     command: &Command<'_>,
     shelf: &mut S,
@@ -48,7 +48,7 @@ pub fn perform_command<S: Shelf, K: Sink, O: Observer>(
 }
 
 /// Does it with the texts under the names that it reads.
-fn perform_read<S: Shelf, K: Sink, O: Observer>(
+fn perform_read<S: Shelf, K: Sink, O: Observer + Progress>(
     alloc: Global,
     command: &Command<'_>,
     inputs: &InputTexts<'_>,
@@ -66,7 +66,7 @@ fn perform_read<S: Shelf, K: Sink, O: Observer>(
         (S.view shelf.old) (S.view shelf.new)
         (K.view out.old) (K.view out.new)) }
 {
-    match prepare_result(alloc, command, inputs) {
+    match prepare_result(alloc, command, inputs, &*observer) {
         Ok(prepared) => {
             observer.observe(inputs, Ok(&prepared));
             let measured = prepared.measured;
@@ -80,7 +80,7 @@ fn perform_read<S: Shelf, K: Sink, O: Observer>(
 }
 
 /// Shows a fault to the observer, and makes its line.
-fn reject<O: Observer>(
+fn reject<O: Observer + Progress>(
     alloc: Global,
     inputs: &InputTexts<'_>,
     fault: &CommandFault,

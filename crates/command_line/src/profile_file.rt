@@ -6,6 +6,7 @@ use crate::opening::open;
 use command_language::CommandFault;
 use printed_lines::profile_lines;
 use relinking::measured_run;
+use shelf_io::Progress;
 use std::alloc::Global;
 
 /// Runs the program of a file for the board's steps, and tells what happened in lines.
@@ -17,13 +18,14 @@ pub fn profile_file(
     file: &[u8],
     board: &[u8],
     input: &[u8],
+    progress: &dyn Progress,
 ) -> Result<MeasuredText, CommandFault>
     ensures ok { IfOk result (λ made. ProfilesTo file.now board.now input.now made.text.items) }
     ensures end { IfOk result (λ made. MeasuresTo file.now board.now input.now made.end) }
     ensures err { IfErr result (RejectsProfiled board.now file.now input.now) }
 {
     let opened = open(alloc, file, board)?;
-    let measured = measured_run(alloc, &opened.analysis, &opened.board, input)?;
+    let measured = measured_run(alloc, &opened.analysis, &opened.board, input, progress)?;
     let text = profile_lines(
         alloc,
         &opened.analysis.view,

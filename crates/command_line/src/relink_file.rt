@@ -5,6 +5,7 @@ use crate::chosen::ChosenPlacement;
 use crate::opening::open;
 use command_language::CommandFault;
 use relinking::{MeasuredEnd, RelinkedRun, relink_analysed, relink_report};
+use shelf_io::Progress;
 use std::alloc::Global;
 
 /// The result of a `relink` command, before any of it is written.
@@ -31,13 +32,14 @@ pub fn relink_file(
     file: &[u8],
     board: &[u8],
     input: &[u8],
+    progress: &dyn Progress,
 ) -> Result<RelinkedFile, CommandFault>
     ensures ok { IfOk result (λ r. RelinksTo file.now board.now input.now r.certificate.items r.file.items r.report.items) }
     ensures end { IfOk result (λ r. MeasuresTo file.now board.now input.now r.end) }
     ensures err { IfErr result (RejectsProfiled board.now file.now input.now) }
 {
     let opened = open(alloc, file, board)?;
-    let made = relink_analysed(alloc, &opened.analysis, &opened.board, input)?;
+    let made = relink_analysed(alloc, &opened.analysis, &opened.board, input, progress)?;
     let report = relink_report(alloc, &opened.analysis, &opened.board, &made.relinked)?;
     Ok(relinked_file(made, report))
 }

@@ -15,6 +15,7 @@ use crate::run_file::run_file;
 use crate::show_file::show_file;
 use crate::trace_file::trace_file;
 use command_language::{Command, CommandFault};
+use shelf_io::Progress;
 use std::alloc::{AllocError, Global};
 use workload_gen::workload;
 
@@ -23,6 +24,7 @@ pub fn prepare_result<'a>(
     alloc: Global,
     command: &Command<'a>,
     inputs: &InputTexts<'_>,
+    progress: &dyn Progress,
 ) -> Result<PreparedResult<'a>, CommandFault>
     requires numbers { HasNumbers (plain_command command.now) }
     requires texts { length inputs.now.texts.now ≡ length (reads (plain_command command.now)) }
@@ -36,11 +38,13 @@ pub fn prepare_result<'a>(
             Ok(prepared) => Ok(prepared),
             Err(fault) => Err(fault),
         },
-        Command::Relink { out, cert, .. } => match prepare_relink(alloc, out, cert, texts) {
+        Command::Relink { out, cert, .. } => match prepare_relink(
+            alloc, out, cert, texts, progress,
+        ) {
             Ok(prepared) => Ok(prepared),
             Err(fault) => Err(fault),
         },
-        Command::Profile { .. } => match prepare_profile(alloc, texts) {
+        Command::Profile { .. } => match prepare_profile(alloc, texts, progress) {
             Ok(prepared) => Ok(prepared),
             Err(fault) => Err(fault),
         },
@@ -48,11 +52,11 @@ pub fn prepare_result<'a>(
             Ok(prepared) => Ok(prepared),
             Err(fault) => Err(fault),
         },
-        Command::Check { .. } => match prepare_check(alloc, texts) {
+        Command::Check { .. } => match prepare_check(alloc, texts, progress) {
             Ok(prepared) => Ok(prepared),
             Err(fault) => Err(fault),
         },
-        Command::Paid { .. } => match prepare_paid(alloc, texts) {
+        Command::Paid { .. } => match prepare_paid(alloc, texts, progress) {
             Ok(prepared) => Ok(prepared),
             Err(fault) => Err(fault),
         },
@@ -60,11 +64,11 @@ pub fn prepare_result<'a>(
             Ok(prepared) => Ok(prepared),
             Err(fault) => Err(fault),
         },
-        Command::Mix { out, cert, .. } => match prepare_mix(alloc, out, cert, inputs) {
+        Command::Mix { out, cert, .. } => match prepare_mix(alloc, out, cert, inputs, progress) {
             Ok(prepared) => Ok(prepared),
             Err(fault) => Err(fault),
         },
-        Command::CheckMix { .. } => match prepare_check_mix(alloc, inputs) {
+        Command::CheckMix { .. } => match prepare_check_mix(alloc, inputs, progress) {
             Ok(prepared) => Ok(prepared),
             Err(fault) => Err(fault),
         },
@@ -112,6 +116,7 @@ fn prepare_relink<'a>(
     out: &'a str,
     cert: &'a str,
     texts: &[Vec<u8>],
+    progress: &dyn Progress,
 ) -> Result<PreparedResult<'a>, CommandFault>
     requires { length texts.now ≡ 3 }
     ensures ok { IfOk result (λ prepared. (f b i : List ℕ)
@@ -119,7 +124,7 @@ fn prepare_relink<'a>(
     ensures err { IfErr result (λ fault. (f b i : List ℕ)
         → RejectsInputs (relink_command f b i out.now cert.now) (contents texts.now) fault) }
 {
-    match relink_file(alloc, &texts[0], &texts[1], &texts[2]) {
+    match relink_file(alloc, &texts[0], &texts[1], &texts[2], progress) {
         Ok(relinked) => {
             let first = Output::new(alloc, 5, cert, relinked.certificate)?;
             let second = Output::new(alloc, 4, out, relinked.file)?;
@@ -131,14 +136,18 @@ fn prepare_relink<'a>(
     }
 }
 
-fn prepare_profile<'a>(alloc: Global, texts: &[Vec<u8>]) -> Result<PreparedResult<'a>, CommandFault>
+fn prepare_profile<'a>(
+    alloc: Global,
+    texts: &[Vec<u8>],
+    progress: &dyn Progress,
+) -> Result<PreparedResult<'a>, CommandFault>
     requires { length texts.now ≡ 3 }
     ensures ok { IfOk result (λ prepared. (f b i : List ℕ)
         → IsPreparedFor (profile_command f b i) (contents texts.now) prepared) }
     ensures err { IfErr result (λ fault. (f b i : List ℕ)
         → RejectsInputs (profile_command f b i) (contents texts.now) fault) }
 {
-    match profile_file(alloc, &texts[0], &texts[1], &texts[2]) {
+    match profile_file(alloc, &texts[0], &texts[1], &texts[2], progress) {
         Ok(made) => Ok(PreparedResult::printed(alloc, made.text, Some(made.end), None)?),
         Err(fault) => Err(fault),
     }
@@ -157,14 +166,18 @@ fn prepare_compare<'a>(alloc: Global, texts: &[Vec<u8>]) -> Result<PreparedResul
     }
 }
 
-fn prepare_check<'a>(alloc: Global, texts: &[Vec<u8>]) -> Result<PreparedResult<'a>, CommandFault>
+fn prepare_check<'a>(
+    alloc: Global,
+    texts: &[Vec<u8>],
+    progress: &dyn Progress,
+) -> Result<PreparedResult<'a>, CommandFault>
     requires { length texts.now ≡ 4 }
     ensures ok { IfOk result (λ prepared. (f b i c : List ℕ)
         → IsPreparedFor (check_command f b i c) (contents texts.now) prepared) }
     ensures err { IfErr result (λ fault. (f b i c : List ℕ)
         → RejectsInputs (check_command f b i c) (contents texts.now) fault) }
 {
-    match check_file(alloc, &texts[0], &texts[1], &texts[2], &texts[3]) {
+    match check_file(alloc, &texts[0], &texts[1], &texts[2], &texts[3], progress) {
         Ok(made) => {
             let text = made.report.into_bytes();
             let chosen = Some(made.chosen);
@@ -174,14 +187,18 @@ fn prepare_check<'a>(alloc: Global, texts: &[Vec<u8>]) -> Result<PreparedResult<
     }
 }
 
-fn prepare_paid<'a>(alloc: Global, texts: &[Vec<u8>]) -> Result<PreparedResult<'a>, CommandFault>
+fn prepare_paid<'a>(
+    alloc: Global,
+    texts: &[Vec<u8>],
+    progress: &dyn Progress,
+) -> Result<PreparedResult<'a>, CommandFault>
     requires { length texts.now ≡ 4 }
     ensures ok { IfOk result (λ prepared. (f b i c : List ℕ)
         → IsPreparedFor (paid_command f b i c) (contents texts.now) prepared) }
     ensures err { IfErr result (λ fault. (f b i c : List ℕ)
         → RejectsInputs (paid_command f b i c) (contents texts.now) fault) }
 {
-    match paid_file(alloc, &texts[0], &texts[1], &texts[2], &texts[3]) {
+    match paid_file(alloc, &texts[0], &texts[1], &texts[2], &texts[3], progress) {
         Ok(made) => Ok(PreparedResult::printed(alloc, made.text, Some(made.end), None)?),
         Err(fault) => Err(fault),
     }

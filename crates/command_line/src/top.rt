@@ -3,11 +3,11 @@ ghost use Rattle.command_language.specs.Command.{texts};
 ghost use Rattle.command_line.specs.{Answers.{IsDone, TellsRun, EndsRejected, Answers}, Promise.{KeepsPromise}, AfterPaid.{PrintsPaid}};
 
 use crate::diagnostic::Diagnostic;
-use crate::observing::{NoObserver, Observer};
+use crate::observing::Observer;
 use crate::performing::perform_command;
 use command_language::{CommandFault, parse};
 use relinking::MeasuredEnd;
-use shelf_io::{Shelf, Sink};
+use shelf_io::{NoProgress, Progress, Shelf, Sink};
 use std::alloc::Global;
 
 /// What came of a command.
@@ -46,12 +46,12 @@ pub fn run<S: Shelf, K: Sink>(alloc: Global, words: &[String], shelf: &mut S, ou
         (S.view shelf.old) (S.view shelf.new)
         (K.view out.old) (K.view out.new) }
 {
-    run_command(alloc, words, shelf, out, &mut NoObserver).status
+    run_command(alloc, words, shelf, out, &mut NoProgress).status
 }
 
 /// Does the same, and also tells how the run ended by which the command measured a program. The observer is shown what the
 /// command read and made, before any of it is written; words that are no command are not shown.
-pub fn run_command<S: Shelf, K: Sink, O: Observer>(
+pub fn run_command<S: Shelf, K: Sink, O: Observer + Progress>(
     alloc: Global,
     words: &[String],
     shelf: &mut S,

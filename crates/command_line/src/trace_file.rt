@@ -14,6 +14,7 @@ use elf_reader::ElfView;
 use placement_programme::Choice;
 use relink_core::{UnitAt, realise_units};
 use relinking::{MeasuredEnd, MeasuredProgramme, programme_of_run};
+use shelf_io::NoProgress;
 use std::alloc::{AllocError, Global};
 
 /// The result of a `trace` command, before any of it is written.
@@ -51,7 +52,7 @@ pub fn trace_file(
     ensures err { IfErr result (RejectsPaid board.now file.now input.now cert.now) }
 {
     let opened = open(alloc, file, board)?;
-    let measured = programme_of_run(alloc, &opened.analysis, &opened.board, input)?;
+    let measured = programme_of_run(alloc, &opened.analysis, &opened.board, input, &NoProgress)?;
     match choice_trace(alloc, &opened, &measured, input, cert, count) {
         Ok(lines) => Ok(TracedFile {
             text: lines.text,

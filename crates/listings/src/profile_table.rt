@@ -11,6 +11,7 @@ use object_machine::Outcome;
 use profile_runner::{Edge, Profile, ProfileFault};
 use relink_core::Analysis;
 use relinking::measured_run;
+use shelf_io::NoProgress;
 
 /// The counts of a run without input for the board's steps, or its fault.
 pub(crate) fn print_profile(
@@ -20,7 +21,7 @@ pub(crate) fn print_profile(
 ) -> Result<()>
     requires { (file : List ℕ) × IsAnalysisOf file board.now analysis.now }
 {
-    match measured_run(rt.alloc(), analysis, board, b"") {
+    match measured_run(rt.alloc(), analysis, board, b"", &NoProgress) {
         Ok(measured) => print_counts(rt, &measured.profile),
         Err(fault) => print_fault(rt, &fault),
     }

@@ -7,6 +7,7 @@ use crate::printing::{
 use anyhow::{Result, bail};
 use placement_programme::{Choice, Programme, Side, Var, VarName, gain_of};
 use relinking::find_choice;
+use shelf_io::NoProgress;
 
 /// Lists a table of the programme that a run states: `programme`, all of it with its least energy, or `choice`, the least
 /// energy and what the choice takes.
@@ -66,7 +67,7 @@ fn print_var(rt: &impl Print, var: &Var) -> Result<()> {
 fn print_best(rt: &(impl Print + AllocGlobal), programme: &Programme, nodes: u64) -> Result<Choice>
     requires { 1 ≤ nodes }
 {
-    let solution = find_choice(rt.alloc(), programme, nodes)?;
+    let solution = find_choice(rt.alloc(), programme, nodes, &NoProgress)?;
     let found = solution.found;
     let choice = found.choice;
     let gain = gain_of(programme, &choice);

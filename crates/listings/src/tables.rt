@@ -21,6 +21,7 @@ use board_config::{Board, read_board};
 use elf_reader::{ElfView, read};
 use relink_core::{Analysis, analyse};
 use relinking::programme_of_run;
+use shelf_io::NoProgress;
 use std::fs;
 use std::rt::Files;
 
@@ -117,7 +118,7 @@ fn list_run_table(
 {
     print_title(rt, table)?;
     let input = fs::read(rt, input)?;
-    match programme_of_run(rt.alloc(), analysis, board, &input) {
+    match programme_of_run(rt.alloc(), analysis, board, &input, &NoProgress) {
         Ok(measured) => print_programme(rt, table, &measured.programme, board.nodes),
         Err(fault) => print_fault(rt, &fault),
     }

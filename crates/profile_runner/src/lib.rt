@@ -16,4 +16,4 @@ mod tally;
 pub use counts::{Edge, Profile};
 pub use fault::ProfileFault;
 pub use laws::{transitions_are_determined, transitions_are_few, transitions_are_steps};
-pub use running::profile;
+pub use running::{Parts, profile};

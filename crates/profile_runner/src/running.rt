@@ -14,10 +14,22 @@ use code_blocks::Code;
 use object_graph::Graph;
 use object_machine::{Outcome, Source};
 use region_former::RegionTable;
+use shelf_io::Progress;
 use std::alloc::{AllocError, Global};
 
+/// After how many steps those who wait are told how far a run is.
+const TOLD_STEPS: u64 = 65_536;
+
+/// What is known of a program whose run is counted.
+#[derive(Clone, Copy)]
+pub struct Parts<'a> {
+    pub code: &'a Code,
+    pub graph: &'a Graph,
+    pub regions: &'a RegionTable,
+}
+
 /// Runs a program for `n` steps, or until it ends, and counts what happens. The machine must be at the start of
-/// a block, as it is at the start; `code`, `graph` and `regions` are those of its program.
+/// a block, as it is at the start; the parts are those of its program.
 ///
 /// Each step takes the time of a look-up among the edges from its block, where it ends that, and little else.
 ///
@@ -25,22 +37,21 @@ use std::alloc::{AllocError, Global};
 pub fn profile(
     alloc: Global,
     source: &mut Source,
-    code: &Code,
-    graph: &Graph,
-    regions: &RegionTable,
+    parts: &Parts<'_>,
     n: u64,
+    progress: &dyn Progress,
 ) -> Result<Profile, ProfileFault>
-    requires started { HasStarted graph.now code.now source.old }
-    requires regions { length regions.now.of_block.items ≡ length code.now.blocks.items }
+    requires started { HasStarted parts.now.graph.now parts.now.code.now source.old }
+    requires regions { length parts.now.regions.now.of_block.items ≡ length parts.now.code.now.blocks.items }
     requires some { 0 < n }
     ensures program { OnOk result ((p : Program) → IsProgram p source.old → IsProgram p source.new) }
-    ensures run { (p : Program) → IsProgram p source.old → ReportsOfRun (starts_of code.now) regions.now.of_block.items regions.now.count (length graph.now.objects.items) p n (state_of p source.old) (state_of p source.new) result }
+    ensures run { (p : Program) → IsProgram p source.old → ReportsOfRun (starts_of parts.now.code.now) parts.now.regions.now.of_block.items parts.now.regions.now.count (length parts.now.graph.now.objects.items) p n (state_of p source.old) (state_of p source.new) result }
 {
-    let first = first_block(code, source.at());
-    let blocks = code.blocks.len();
-    let objects = graph.objects.len();
-    let mut tally = nothing_counted(alloc, blocks, objects, regions.count, first)?;
-    take_steps(&mut tally, source, code, regions, first, n)?;
+    let first = first_block(parts.code, source.at());
+    let blocks = parts.code.blocks.len();
+    let objects = parts.graph.objects.len();
+    let mut tally = nothing_counted(alloc, blocks, objects, parts.regions.count, first)?;
+    take_steps(&mut tally, source, parts, first, n, progress)?;
     if let Some(fault) = fault_of(&source.outcome()) {
         return Err(fault);
     }
@@ -73,26 +84,35 @@ fn first_block(code: &Code, address: u32) -> u32
 fn take_steps(
     tally: &mut Tally,
     source: &mut Source,
-    code: &Code,
-    regions: &RegionTable,
+    parts: &Parts<'_>,
     first: u32,
     n: u64,
+    progress: &dyn Progress,
 ) -> Result<(), AllocError>
-    requires machine { IsMachineOf (starts_of code.now) source.old }
-    requires regions { length regions.now.of_block.items ≡ length code.now.blocks.items }
-    requires begins { (p : Program) → IsProgram p source.old → IsBlockAt (starts_of code.now) (state_of p source.old).pc (Some first) }
-    requires nothing { (size : ℕ) × IsNew (length code.now.blocks.items) size regions.now.count first tally.old }
+    requires machine { IsMachineOf (starts_of parts.now.code.now) source.old }
+    requires regions { length parts.now.regions.now.of_block.items ≡ length parts.now.code.now.blocks.items }
+    requires begins { (p : Program) → IsProgram p source.old → IsBlockAt (starts_of parts.now.code.now) (state_of p source.old).pc (Some first) }
+    requires nothing { (size : ℕ) × IsNew (length parts.now.code.now.blocks.items) size parts.now.regions.now.count first tally.old }
     ensures program { OnOk result ((p : Program) → IsProgram p source.old → IsProgram p source.new) }
-    ensures run { OnOk result ((p : Program) (size : ℕ) → IsProgram p source.old → IsNew (length code.now.blocks.items) size regions.now.count first tally.old → IsAll (starts_of code.now) regions.now.of_block.items regions.now.count size p (state_of p source.old) (state_of p source.new) n tally.new) }
+    ensures run { OnOk result ((p : Program) (size : ℕ) → IsProgram p source.old → IsNew (length parts.now.code.now.blocks.items) size parts.now.regions.now.count first tally.old → IsAll (starts_of parts.now.code.now) parts.now.regions.now.of_block.items parts.now.regions.now.count size p (state_of p source.old) (state_of p source.new) n tally.new) }
 {
     let mut coming = Some(first);
-    for _ in 0..n {
+    for taken in 0..n {
         if !is_going(&source.outcome()) {
             break;
         }
-        coming = count_step(tally, source, code, regions, coming)?;
+        tell_steps(progress, taken, n);
+        coming = count_step(tally, source, parts.code, parts.regions, coming)?;
     }
     Ok(())
+}
+
+/// Tells how far a run is, behind every so many steps.
+#[inline(always)]
+fn tell_steps(progress: &dyn Progress, taken: u64, most: u64) {
+    if taken % TOLD_STEPS == 0 {
+        progress.steps(taken, most);
+    }
 }
 
 /// Takes a step and counts it. It tells the block that begins behind it, if the machine goes on and one does;

@@ -13,6 +13,7 @@ use branch_bound::Found;
 use placement_programme::Programme;
 use profile_runner::{Profile, ProfileFault};
 use relink_core::{Analysis, Realised, realise};
+use shelf_io::Progress;
 use std::alloc::{AllocError, Global};
 
 /// A file that was relinked.
@@ -47,13 +48,14 @@ pub fn relink_analysed(
     analysis: &Analysis<'_>,
     board: &Board,
     input: &[u8],
+    progress: &dyn Progress,
 ) -> Result<RelinkedRun, ProfileFault>
     requires { (file : List ℕ) × IsAnalysisOf file board.now analysis.now }
     ensures ok { IfOk result (λ r. (file : List ℕ) → IsAnalysisOf file board.now analysis.now → RelinksBy file board.now analysis.now.graph analysis.now.code analysis.now.regions analysis.now.pieces.items input.now r) }
     ensures err { IfErr result (λ fault. ReportsCounts (plain_view analysis.now.view) board.now analysis.now.graph analysis.now.code analysis.now.regions input.now (Err fault)) }
 {
-    let measured = programme_of_run(alloc, analysis, board, input)?;
-    match relink_programme(alloc, analysis, board, measured.programme) {
+    let measured = programme_of_run(alloc, analysis, board, input, progress)?;
+    match relink_programme(alloc, analysis, board, measured.programme, progress) {
         Ok(relinked) => {
             let end = measured.end;
             let profile = measured.profile;
@@ -75,14 +77,15 @@ pub fn relink_runs(
     analysis: &Analysis<'_>,
     board: &Board,
     inputs: &[WeightedBytes<'_>],
+    progress: &dyn Progress,
 ) -> Result<Relinked, ProfileFault>
     requires analysis { (file : List ℕ) × IsAnalysisOf file board.now analysis.now }
     requires inputs { AreSomeInputs (map plain_input inputs.now) }
     ensures ok { IfOk result (λ r. (file : List ℕ) → IsAnalysisOf file board.now analysis.now → RelinksTogether file board.now analysis.now.graph analysis.now.code analysis.now.regions analysis.now.pieces.items (map plain_input inputs.now) r) }
     ensures err { IfErr result (FaultsFirst (plain_view analysis.now.view) board.now analysis.now.graph analysis.now.code analysis.now.regions (map plain_input inputs.now)) }
 {
-    let programme = programme_of_runs(alloc, analysis, board, inputs)?;
-    match relink_programme(alloc, analysis, board, programme) {
+    let programme = programme_of_runs(alloc, analysis, board, inputs, progress)?;
+    match relink_programme(alloc, analysis, board, programme, progress) {
         Ok(relinked) => Ok(relinked),
         Err(error) => Err(ProfileFault::from(error)),
     }
@@ -95,13 +98,14 @@ fn relink_programme(
     analysis: &Analysis<'_>,
     board: &Board,
     programme: Programme,
+    progress: &dyn Progress,
 ) -> Result<Relinked, AllocError>
     requires analysis { (file : List ℕ) × IsAnalysisOf file board.now analysis.now }
     requires choices { AreChoicesFor board.now analysis.now.graph analysis.now.code analysis.now.regions analysis.now.pieces.items (plain_programme programme) }
     ensures programme { IfOk result (λ r. plain_programme r.programme ≡ plain_programme programme) }
     ensures made { IfOk result (λ r. (file : List ℕ) → IsAnalysisOf file board.now analysis.now → IsRelinkedFor file board.now analysis.now.graph analysis.now.code analysis.now.regions analysis.now.pieces.items r) }
 {
-    let solution = find_choice(alloc, &programme, board.nodes)?;
+    let solution = find_choice(alloc, &programme, board.nodes, progress)?;
     let result = realise(alloc, analysis, board, &programme, &solution.found.choice)?;
     Ok(Relinked {
         result,

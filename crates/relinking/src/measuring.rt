@@ -5,8 +5,9 @@ ghost use Rattle.relinking.specs.{Runs.{ReportsCounts}, MeasuredRuns.{EndsSo}};
 
 use board_config::Board;
 use object_machine::{Outcome, Source};
-use profile_runner::{Profile, ProfileFault, profile};
+use profile_runner::{Parts, Profile, ProfileFault, profile};
 use relink_core::Analysis;
+use shelf_io::Progress;
 use std::alloc::Global;
 
 /// How a measured run ended.
@@ -36,6 +37,7 @@ pub fn measured_run(
     analysis: &Analysis<'_>,
     board: &Board,
     input: &[u8],
+    progress: &dyn Progress,
 ) -> Result<MeasuredRun, ProfileFault>
     requires { (file : List ℕ) × IsAnalysisOf file board.now analysis.now }
     ensures ok { IfOk result (λ measured. ReportsCounts (plain_view analysis.now.view) board.now analysis.now.graph analysis.now.code analysis.now.regions input.now (Ok measured.profile)) }
@@ -50,14 +52,12 @@ pub fn measured_run(
         board,
         input,
     )?;
-    match profile(
-        alloc,
-        &mut source,
-        &analysis.code,
-        &analysis.graph,
-        &analysis.regions,
-        board.steps,
-    ) {
+    let parts = Parts {
+        code: &analysis.code,
+        graph: &analysis.graph,
+        regions: &analysis.regions,
+    };
+    match profile(alloc, &mut source, &parts, board.steps, progress) {
         Ok(profile) => {
             let end = MeasuredEnd {
                 steps: profile.steps,

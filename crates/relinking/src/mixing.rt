@@ -12,6 +12,7 @@ use placement_candidates::{Part, mix, select};
 use placement_programme::Programme;
 use profile_runner::ProfileFault;
 use relink_core::Analysis;
+use shelf_io::Progress;
 use std::alloc::{AllocError, Global};
 
 /// An input of a program, and how much its run counts.
@@ -29,13 +30,14 @@ fn part_of_run(
     board: &Board,
     input: &WeightedBytes<'_>,
     objects: &[u32],
+    progress: &dyn Progress,
 ) -> Result<Part, ProfileFault>
     requires analysis { (file : List ℕ) × IsAnalysisOf file board.now analysis.now }
     requires overlaid { AreOverlaidObjects analysis.now.code analysis.now.graph analysis.now.regions objects.now }
     ensures ok { IfOk result (λ part. IsPartOf analysis.now.view board.now analysis.now.graph analysis.now.code analysis.now.regions analysis.now.pieces.items objects.now (plain_input input.now) (plain_part part)) }
     ensures err { IfErr result (λ fault. ReportsCounts (plain_view analysis.now.view) board.now analysis.now.graph analysis.now.code analysis.now.regions input.now.bytes.now (Err fault)) }
 {
-    match full_of_run(alloc, analysis, board, input.bytes, objects) {
+    match full_of_run(alloc, analysis, board, input.bytes, objects, progress) {
         Ok(measured) => Ok(Part {
             weight: input.weight,
             full: measured.full,
@@ -62,6 +64,7 @@ fn parts_of_runs(
     board: &Board,
     inputs: &[WeightedBytes<'_>],
     objects: &[u32],
+    progress: &dyn Progress,
 ) -> Result<Vec<Part>, ProfileFault>
     requires analysis { (file : List ℕ) × IsAnalysisOf file board.now analysis.now }
     requires overlaid { AreOverlaidObjects analysis.now.code analysis.now.graph analysis.now.regions objects.now }
@@ -71,7 +74,7 @@ fn parts_of_runs(
 {
     let mut parts = Vec::new(alloc);
     for k in 0..inputs.len() {
-        let part = match part_of_run(alloc, analysis, board, &inputs[k], objects) {
+        let part = match part_of_run(alloc, analysis, board, &inputs[k], objects, progress) {
             Ok(part) => part,
             Err(fault) => return Err(fault),
         };
@@ -101,6 +104,7 @@ pub fn programme_of_runs(
     analysis: &Analysis<'_>,
     board: &Board,
     inputs: &[WeightedBytes<'_>],
+    progress: &dyn Progress,
 ) -> Result<Programme, ProfileFault>
     requires analysis { (file : List ℕ) × IsAnalysisOf file board.now analysis.now }
     requires inputs { AreSomeInputs (map plain_input inputs.now) }
@@ -108,7 +112,7 @@ pub fn programme_of_runs(
     ensures err { IfErr result (FaultsFirst (plain_view analysis.now.view) board.now analysis.now.graph analysis.now.code analysis.now.regions (map plain_input inputs.now)) }
 {
     let objects = objects_of(alloc, analysis)?;
-    let parts = parts_of_runs(alloc, analysis, board, inputs, &objects)?;
+    let parts = parts_of_runs(alloc, analysis, board, inputs, &objects, progress)?;
     match programme_of_parts(alloc, &parts) {
         Ok(programme) => Ok(programme),
         Err(error) => Err(ProfileFault::from(error)),

@@ -12,6 +12,7 @@ use placement_candidates::{Measured, overlaid_objects, select, whole_full};
 use placement_programme::{Full, Programme};
 use profile_runner::{Profile, ProfileFault};
 use relink_core::Analysis;
+use shelf_io::Progress;
 use std::alloc::{AllocError, Global};
 
 /// What a run states.
@@ -58,6 +59,7 @@ pub(crate) fn full_of_run(
     board: &Board,
     input: &[u8],
     objects: &[u32],
+    progress: &dyn Progress,
 ) -> Result<MeasuredFull, ProfileFault>
     requires analysis { (file : List ℕ) × IsAnalysisOf file board.now analysis.now }
     requires overlaid { AreOverlaidObjects analysis.now.code analysis.now.graph analysis.now.regions objects.now }
@@ -65,7 +67,7 @@ pub(crate) fn full_of_run(
     ensures end { IfOk result (λ measured. EndsSo (plain_view analysis.now.view) board.now analysis.now.graph input.now measured.end) }
     ensures err { IfErr result (λ fault. ReportsCounts (plain_view analysis.now.view) board.now analysis.now.graph analysis.now.code analysis.now.regions input.now (Err fault)) }
 {
-    let measured = measured_run(alloc, analysis, board, input)?;
+    let measured = measured_run(alloc, analysis, board, input, progress)?;
     let tables = Measured {
         profile: &measured.profile,
         graph: &analysis.graph,
@@ -94,6 +96,7 @@ pub fn programme_of_run(
     analysis: &Analysis<'_>,
     board: &Board,
     input: &[u8],
+    progress: &dyn Progress,
 ) -> Result<MeasuredProgramme, ProfileFault>
     requires { (file : List ℕ) × IsAnalysisOf file board.now analysis.now }
     ensures ok { IfOk result (λ measured. CountsProgramme analysis.now.view board.now analysis.now.graph analysis.now.code analysis.now.regions analysis.now.pieces.items input.now (plain_programme measured.programme) measured.profile) }
@@ -101,7 +104,7 @@ pub fn programme_of_run(
     ensures err { IfErr result (λ fault. ReportsCounts (plain_view analysis.now.view) board.now analysis.now.graph analysis.now.code analysis.now.regions input.now (Err fault)) }
 {
     let objects = objects_of(alloc, analysis)?;
-    let measured = full_of_run(alloc, analysis, board, input, &objects)?;
+    let measured = full_of_run(alloc, analysis, board, input, &objects, progress)?;
     match select(alloc, &measured.full) {
         Ok(programme) => {
             let end = measured.end;

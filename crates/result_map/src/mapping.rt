@@ -13,6 +13,7 @@ use placement_programme::{Choice, Programme};
 use region_former::RegionTable;
 use relink_core::{realise, unit_map};
 use relinking::{MeasuredProgramme, programme_of_run};
+use shelf_io::NoProgress;
 use std::alloc::{AllocError, Global};
 
 /// Checks a certificate as `check` does, makes the file that realises its choice, and tells in rows what stands where in it.
@@ -29,7 +30,7 @@ pub fn map_file(
     ensures err { IfErr result (RejectsPaid board.now file.now input.now cert.now) }
 {
     let opened = open(alloc, file, board)?;
-    let measured = programme_of_run(alloc, &opened.analysis, &opened.board, input)?;
+    let measured = programme_of_run(alloc, &opened.analysis, &opened.board, input, &NoProgress)?;
     match choice_map(alloc, &opened, &measured, input, cert) {
         Ok(text) => Ok(text),
         Err(fault) => Err(fault),

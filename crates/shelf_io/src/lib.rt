@@ -1,4 +1,4 @@
-//! The outside of a program: named files, and a stream of bytes. Each may fail, and says so.
+//! The outside of a program: named files, and a stream of bytes, which may fail and say so; and who is told how far it is.
 #![tactic(auto)]
 
 mod fault_log;
@@ -6,6 +6,7 @@ mod folder;
 mod memory_shelf;
 mod memory_sink;
 mod output;
+mod progress;
 mod shelves;
 mod sinks;
 mod used_files;
@@ -15,6 +16,7 @@ pub use folder::DirShelf;
 pub use memory_shelf::MemShelf;
 pub use memory_sink::MemSink;
 pub use output::OutSink;
+pub use progress::{NoProgress, Progress};
 pub use shelves::{CallKind, Shelf, ShelfFault};
 pub use sinks::{Sink, SinkFault};
 pub use used_files::{FailedWrite, WriteCause};

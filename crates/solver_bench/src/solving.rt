@@ -4,6 +4,7 @@ use certificate_checker::{Tree, accepted};
 use placement_programme::{
     Choice, FullSide, FullVar, Programme, VarName, energy, feasible, gain_of,
 };
+use shelf_io::NoProgress;
 use std::alloc::Global;
 
 /// How many nodes are visited at most, as where a board does not say it.
@@ -33,7 +34,7 @@ fn energy_of(p: &Programme, found: &Found) -> Option<u128> {
 
 /// Solves a programme, and tells the least energy and the nodes of the certificate.
 pub(crate) fn tell_least(rt: &(impl Print + AllocGlobal), p: &Programme) -> Result<()> {
-    let found = solve(rt.alloc(), p, NODES)?;
+    let found = solve(rt.alloc(), p, NODES, &NoProgress)?;
     let energy = energy_of(p, &found).context("the choice is not feasible")?;
     let off = nodes_of_side(&found.certificate.off);
     let nodes = off.saturating_add(nodes_of_side(&found.certificate.on));
@@ -55,7 +56,7 @@ pub(crate) fn tell_solution(
     if nodes == 0 {
         bail!("no nodes");
     }
-    let found = solve(rt.alloc(), p, nodes)?;
+    let found = solve(rt.alloc(), p, nodes, &NoProgress)?;
     match key {
         "solve" => {
             let energy = energy_of(p, &found).context("the choice is not feasible")?;

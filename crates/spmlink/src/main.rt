@@ -3,12 +3,15 @@
 //! writes and checks Intel HEX.
 #![tactic(auto)]
 
+mod terminal;
+
 use explanations::{Explainer, run_command};
 use shelf_io::{DirShelf, OutSink, Sink};
 use std::env;
-use std::io::{self, ErrorKind};
+use std::io::{self, ErrorKind, IsTerminal};
 use std::process::ExitCode;
 use std::rt::Env;
+use terminal::Terminal;
 
 /// The words of the command line, without the program's name. A word that is not UTF-8 is in no
 /// command, so there are no words then.
@@ -31,12 +34,15 @@ fn main(rt: HostRuntime) -> ExitCode {
         let _ = rt.print("error 9 memory 0 0\n");
         return ExitCode::from(9);
     };
+    let terminal = Terminal::new(&rt, rt.stderr().is_terminal());
     let mut shelf = DirShelf::new(&rt, rt.alloc());
     let mut out = OutSink::new(rt.stdout());
-    let mut explainer = Explainer::new(rt.alloc(), &words);
+    let mut explainer = Explainer::new(rt.alloc(), &words, &terminal);
     let outcome = run_command(rt.alloc(), &words, &mut shelf, &mut out, &mut explainer);
     let failed = shelf.take_failed_write();
     let text = explainer.into_text(outcome.status, failed.as_ref());
+    terminal.clear();
     let _ = OutSink::new(rt.stderr()).put(&text);
+    terminal.tell_times();
     ExitCode::from(outcome.status)
 }

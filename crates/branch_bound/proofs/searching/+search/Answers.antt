@@ -50,7 +50,7 @@ second_child s ranking best marks one behind zero found place read tree visits i
 )
 
 pub search-requires : goal.search-requires
-search-requires t c =
+search-requires g t c =
     let s = plain_side c.args.task.now.side.now in
     let ranking = c.args.task.now.ranking.now in
     let marks = c.args.node.now.marks.items in
@@ -62,7 +62,7 @@ search-requires t c =
     search rules
 
 pub returns-in-None-clause-tells : goal.returns-in-None-clause-tells
-returns-in-None-clause-tells t c =
+returns-in-None-clause-tells g t c =
     λ start order.
     let s = plain_side c.args.task.now.side.now in
     let ranking = c.args.task.now.ranking.now in
@@ -80,7 +80,7 @@ returns-in-None-clause-tells t c =
     tells_first s start marks j best c.search.new.run.best.gain c.args.run.now.left c.visit.new.run.left c.search.new.run.left branches c.in_ok-search.ensures.grows (omega (arith, used, some)) first
 
 pub search-requires-2 : goal.search-requires-2
-search-requires-2 t c =
+search-requires-2 g t c =
     let s = plain_side c.args.task.now.side.now in
     let ranking = c.args.task.now.ranking.now in
     let marks = c.args.node.now.marks.items in
@@ -94,7 +94,7 @@ search-requires-2 t c =
     search rules
 
 pub returns-in-None-2-clause-tells : goal.returns-in-None-2-clause-tells
-returns-in-None-2-clause-tells t c =
+returns-in-None-2-clause-tells g t c =
     λ start order.
     let s = plain_side c.args.task.now.side.now in
     let marks = c.args.node.now.marks.items in
@@ -104,7 +104,7 @@ returns-in-None-2-clause-tells t c =
     (children s start c.args.run.now.best.gain marks c.fix_one.new.self.marks.items c.fix_zero.new.self.marks.items j c.visit.new.run.best.gain c.search.new.run.best.gain c.search-2.new.run.best.gain c.args.run.now.left c.visit.new.run.left c.search.new.run.left c.search-2.new.run.left _ _ _ _ order c.in_ok-tree.ensures.tried.grows child.0.fails child.0.greatest c.in_ok-tree.ensures.tried.here c.in_ok-search.ensures.grows c.in_ok-search-2.ensures.grows (omega (arith, c.in_ok-tree.ensures.tried.left, c.if-run-eq0.false)) c.fix_one.ensures.marks child.1 c.in-Some.is c.in_ok-search.ensures.tells c.in-None-2.is c.in_ok-search-2.ensures.tells)
 
 pub returns-clause-kept : goal.returns-clause-kept
-returns-clause-kept t c =
+returns-clause-kept g t c =
     let marks = c.args.node.now.marks.items in
     let j = number_at c.args.task.now.ranking.now c.in-Open.found in
     let child = second_child (plain_side c.args.task.now.side.now) c.args.task.now.ranking.now c.visit.new.run.best.gain c.args.node.now.marks.items c.fix_one.new.self.marks.items c.search.new.node.marks.items c.fix_zero.new.self.marks.items _ c.in-Open.found c.in_ok-search.field-0 c.in-Some.tree c.in_ok-tree.ensures.visits c.in-Open.is c.fix_one.ensures.marks c.in_ok-search.ensures.kept c.in-Some.is c.fix_zero.ensures.marks in
@@ -112,7 +112,7 @@ returns-clause-kept t c =
     c.free.ensures.marks ∙ back_once marks c.search-2.new.node.marks.items j Zero Free (kept_on ∙ child.1) (sym child.0.greatest.holds)
 
 pub returns-clause-levels : goal.returns-clause-levels
-returns-clause-levels t c =
+returns-clause-levels g t c =
     let marks = c.args.node.now.marks.items in
     let j = number_at c.args.task.now.ranking.now c.in-Open.found in
     let child = second_child (plain_side c.args.task.now.side.now) c.args.task.now.ranking.now c.visit.new.run.best.gain c.args.node.now.marks.items c.fix_one.new.self.marks.items c.search.new.node.marks.items c.fix_zero.new.self.marks.items _ c.in-Open.found c.in_ok-search.field-0 c.in-Some.tree c.in_ok-tree.ensures.visits c.in-Open.is c.fix_one.ensures.marks c.in_ok-search.ensures.kept c.in-Some.is c.fix_zero.ensures.marks in
@@ -126,7 +126,7 @@ returns-clause-levels t c =
     levels_both marks j c.in-Some.tree c.in-Some-2.tree c.in_ok-branch_on.field-0 child.0.greatest.holds small by_one by_zero c.in_ok-branch_on.ensures
 
 pub returns-clause-tells : goal.returns-clause-tells
-returns-clause-tells t c =
+returns-clause-tells g t c =
     λ start order.
     let s = plain_side c.args.task.now.side.now in
     let marks = c.args.node.now.marks.items in

@@ -15,20 +15,20 @@ use Rattle.branch_bound.proofs.SolveLemmas.{closes_side, closes_on, reaches_firs
 use Rattle.branch_bound.proofs.solving.search_stated.Goals as goal
 
 pub finish-requires-clause-start : goal.finish-requires-clause-start
-finish-requires-clause-start c =
+finish-requires-clause-start g c =
     let raised = c.in_ok-first.ensures.grows in
     let first = c.in_ok-off.ensures.grows in
     let second = c.in_ok-on.ensures.grows in
     (c.in_ok-start.start.gain, (c.in_ok-start.ensures.start, omega (arith, raised, first, second)))
 
 pub trees_of-requires-clause-off : goal.trees_of-requires-clause-off
-trees_of-requires-clause-off c =
+trees_of-requires-clause-off g c =
     let second = c.in_ok-on.ensures.grows in
     let last = c.in_ok-best.ensures.grows in
     closes_side (plain_programme c.args.p.now).off c.in_ok-start.start.gain c.in_ok-off.off.best.gain c.in_ok-best.best.gain c.args.nodes c.in_ok-off.off.left c.in_ok-off.off.tree (omega (arith, second, last)) (c.in_ok-off.ensures.tells c.in_ok-start.start.gain c.in_ok-first.ensures.grows)
 
 pub trees_of-requires-clause-on : goal.trees_of-requires-clause-on
-trees_of-requires-clause-on c =
+trees_of-requires-clause-on g c =
     let raised = c.in_ok-first.ensures.grows in
     let first = c.in_ok-off.ensures.grows in
     closes_on (plain_programme c.args.p.now).on c.in_ok-start.start.gain c.in_ok-on.on.best.gain c.in_ok-best.best.gain c.in_ok-off.off.left c.in_ok-on.on.left c.in_ok-on.on.tree c.in_ok-best.ensures.grows (c.in_ok-on.ensures.tells c.in_ok-start.start.gain (omega (arith, raised, first)))
@@ -49,7 +49,7 @@ searched_in p nodes start first best off on is raised by_off_grows by_on_grows l
     }
 
 pub found-requires-clause-trees : goal.found-requires-clause-trees
-found-requires-clause-trees c =
+found-requires-clause-trees g c =
     let p = plain_programme c.args.p.now in
     let off = c.in_ok-off.off in
     let on = c.in_ok-on.on in
@@ -58,7 +58,7 @@ found-requires-clause-trees c =
     match_more (AreTreesOf p best.gain) c.in_ok-trees.trees (λ both. ends_within p c.args.nodes c.in_ok-start.start.gain off.best.gain on.best.gain best.gain off.left on.left off.tree on.tree (choice_of p best) searched c.in_ok-best.ensures.incumbent.accepted.gains both.0 both.1) c.in_ok-trees.ensures
 
 pub returns-clause-ends : goal.returns-clause-ends
-returns-clause-ends c =
+returns-clause-ends g c =
     let p = plain_programme c.args.p.now in
     let off = c.in_ok-off.off in
     let on = c.in_ok-on.on in
@@ -78,7 +78,7 @@ returns-clause-ends c =
     }
 
 pub returns-clause-other : goal.returns-clause-other
-returns-clause-other c =
+returns-clause-other g c =
     let p = plain_programme c.args.p.now in
     let best = c.in_ok-best.best in
     let gains = c.in_ok-best.ensures.incumbent.accepted.gains in

@@ -12,13 +12,13 @@ use Rattle.command_line.proofs.MixResults.{four_with_third, inputs_listed, some_
 use Rattle.command_line.proofs.mix_results.checked_result.Goals as goal
 
 pub check_mix_file-requires : goal.check_mix_file-requires
-check_mix_file-requires c =
+check_mix_file-requires g c =
     let are = ap (map together.plain_input) c.deref-4.ensures.value ∙ c.in_ok-inputs.ensures
     ∙ (λ i. inputs_of (map plain_input (c.deref.ensures.value i)) (contents c.args.listed.now.texts.now)) in
     some_listed [] (third (contents c.args.texts.now)) c.args.listed.now _ c.requires.listed are
 
 pub returns-in-Ok-clause-ok : goal.returns-in-Ok-clause-ok
-returns-in-Ok-clause-ok c f b m k =
+returns-in-Ok-clause-ok g c f b m k =
     let mix = third (contents c.args.texts.now) in
     let listed = contents c.args.listed.now.texts.now in
     let are = ap (map together.plain_input) c.deref-4.ensures.value ∙ c.in_ok-inputs.ensures
@@ -39,7 +39,7 @@ returns-in-Ok-clause-ok c f b m k =
     }
 
 pub returns-clause-err : goal.returns-clause-err
-returns-clause-err c f b m k =
+returns-clause-err g c f b m k =
     let mix = third (contents c.args.texts.now) in
     let listed = contents c.args.listed.now.texts.now in
     let are = ap (map together.plain_input) c.deref-4.ensures.value ∙ c.in_ok-inputs.ensures

@@ -13,13 +13,13 @@ use Rattle.command_line.proofs.MixResults.{three_with_third, inputs_listed, some
 use Rattle.command_line.proofs.mix_results.mixed_result.Goals as goal
 
 pub mix_file-requires : goal.mix_file-requires
-mix_file-requires c =
+mix_file-requires g c =
     let are = ap (map together.plain_input) c.deref-4.ensures.value ∙ c.in_ok-inputs.ensures
     ∙ (λ i. inputs_of (map plain_input (c.deref.ensures.value i)) (contents c.args.listed.now.texts.now)) in
     some_listed (c.args.cert.now ∷ c.args.out.now ∷ []) (third (contents c.args.texts.now)) c.args.listed.now _ c.requires.listed are
 
 pub returns-in-Ok-clause-ok : goal.returns-in-Ok-clause-ok
-returns-in-Ok-clause-ok c f b m =
+returns-in-Ok-clause-ok g c f b m =
     let mix = third (contents c.args.texts.now) in
     let listed = contents c.args.listed.now.texts.now in
     let are = ap (map together.plain_input) c.deref-4.ensures.value ∙ c.in_ok-inputs.ensures
@@ -40,7 +40,7 @@ returns-in-Ok-clause-ok c f b m =
     }
 
 pub returns-clause-err : goal.returns-clause-err
-returns-clause-err c f b m =
+returns-clause-err g c f b m =
     let mix = third (contents c.args.texts.now) in
     let listed = contents c.args.listed.now.texts.now in
     let are = ap (map together.plain_input) c.deref-4.ensures.value ∙ c.in_ok-inputs.ensures
@@ -55,11 +55,11 @@ returns-clause-err c f b m =
     (subst (λ (ps : List WeightedInput). RejectsRuns board file ps fault) inputs c.in-Err.ensures.err))
 
 pub returns-in_err-first-in-Ok-clause-err : goal.returns-in_err-first-in-Ok-clause-err
-returns-in_err-first-in-Ok-clause-err c =
+returns-in_err-first-in-Ok-clause-err g c =
     let p = err_from_is_err_and c.from_residual-in_err-first-in-Ok.result c.from_residual-in_err-first-in-Ok.ensures.1 in
     rw (p.1, p.2) (λ f b m. inl refl)
 
 pub returns-in_err-second-in-Ok-clause-err : goal.returns-in_err-second-in-Ok-clause-err
-returns-in_err-second-in-Ok-clause-err c =
+returns-in_err-second-in-Ok-clause-err g c =
     let p = err_from_is_err_and c.from_residual-in_err-second-in-Ok.result c.from_residual-in_err-second-in-Ok.ensures.1 in
     rw (p.1, p.2) (λ f b m. inl refl)

@@ -9,7 +9,7 @@ use Rattle.command_line.proofs.MixResults.{third_of, check_mix_broken}
 use Rattle.command_line.proofs.mix_results.prepare_check_mix.Goals as goal
 
 pub checked_result-requires-clause-listed : goal.checked_result-requires-clause-listed
-checked_result-requires-clause-listed c =
+checked_result-requires-clause-listed g c =
     let size = c.requires.texts in
     let text = third_of c.args.inputs.now.texts.now c.index-inputs-2.result c.deref.result.now (omega (arith, size)) c.index-inputs-2.is c.deref.ensures.value in
     lists_of [] (third (contents c.args.inputs.now.texts.now)) _
@@ -17,7 +17,7 @@ checked_result-requires-clause-listed c =
     (subst (λ (t : List ℕ). map plain_input c.in-Ok.lines.items ≡ mix_lines t) (sym text) c.in-Ok.ensures.ok.1) c.requires.listed
 
 pub returns-clause-err : goal.returns-clause-err
-returns-clause-err c f b m k =
+returns-clause-err g c f b m k =
     let size = c.requires.texts in
     let text = third_of c.args.inputs.now.texts.now c.index-inputs-2.result c.deref.result.now (omega (arith, size)) c.index-inputs-2.is c.deref.ensures.value in
     rw c.from.ensures

@@ -7,7 +7,7 @@ use Rattle.command_line.proofs.Readings.{contents_of_four}
 use Rattle.command_line.proofs.results.prepare_check.Goals as goal
 
 pub returns-in_ok-printed-in-Ok-clause-ok : goal.returns-in_ok-printed-in-Ok-clause-ok
-returns-in_ok-printed-in-Ok-clause-ok c f b i k =
+returns-in_ok-printed-in-Ok-clause-ok g c f b i k =
     let are = contents_of_four c.args.texts.now c.index-texts-0.result c.index-texts-1.result c.index-texts-2.result c.index-texts-3.result _ _ _ _ c.requires c.index-texts-0.is c.index-texts-1.is c.index-texts-2.is c.index-texts-3.is c.deref.ensures.value c.deref-2.ensures.value c.deref-3.ensures.value c.deref-4.ensures.value in
     let made = c.in_ok-printed-in-Ok.ensures in
     record {
@@ -19,6 +19,6 @@ returns-in_ok-printed-in-Ok-clause-ok c f b i k =
     }
 
 pub returns-in-Err-clause-err : goal.returns-in-Err-clause-err
-returns-in-Err-clause-err c f b i k =
+returns-in-Err-clause-err g c f b i k =
     let are = contents_of_four c.args.texts.now c.index-texts-0.result c.index-texts-1.result c.index-texts-2.result c.index-texts-3.result _ _ _ _ c.requires c.index-texts-0.is c.index-texts-1.is c.index-texts-2.is c.index-texts-3.is c.deref.ensures.value c.deref-2.ensures.value c.deref-3.ensures.value c.deref-4.ensures.value in
     subst (λ (ts : List (List ℕ)). RejectsInputs (check_command f b i k) ts c.in-Err.fault) are (certificate_rejected _ _ _ _ _ c.in-Err.ensures.err f b i k)

@@ -8,7 +8,7 @@ use Rattle.command_line.proofs.Readings.{contents_of_three}
 use Rattle.command_line.proofs.results.prepare_relink.Goals as goal
 
 pub returns-in_ok-written_twice-in-Ok-clause-ok : goal.returns-in_ok-written_twice-in-Ok-clause-ok
-returns-in_ok-written_twice-in-Ok-clause-ok c f b i =
+returns-in_ok-written_twice-in-Ok-clause-ok g c f b i =
     let are = contents_of_three c.args.texts.now c.index-texts-0.result c.index-texts-1.result c.index-texts-2.result _ _ _ c.requires c.index-texts-0.is c.index-texts-1.is c.index-texts-2.is c.deref.ensures.value c.deref-2.ensures.value c.deref-3.ensures.value in
     let made = c.in_ok-written_twice-in-Ok.ensures in
     record {
@@ -20,16 +20,16 @@ returns-in_ok-written_twice-in-Ok-clause-ok c f b i =
     }
 
 pub returns-in-Err-clause-err : goal.returns-in-Err-clause-err
-returns-in-Err-clause-err c f b i =
+returns-in-Err-clause-err g c f b i =
     let are = contents_of_three c.args.texts.now c.index-texts-0.result c.index-texts-1.result c.index-texts-2.result _ _ _ c.requires c.index-texts-0.is c.index-texts-1.is c.index-texts-2.is c.deref.ensures.value c.deref-2.ensures.value c.deref-3.ensures.value in
     subst (λ (ts : List (List ℕ)). RejectsInputs (relink_command f b i c.args.out.now c.args.cert.now) ts c.in-Err.fault) are (relink_rejected _ _ _ _ c.in-Err.ensures.err f b i _ _)
 
 pub returns-in_err-first-in-Ok-clause-err : goal.returns-in_err-first-in-Ok-clause-err
-returns-in_err-first-in-Ok-clause-err c =
+returns-in_err-first-in-Ok-clause-err g c =
     let p = err_from_is_err_and c.from_residual.result c.from_residual.ensures.1 in
     rw (p.1, p.2) (λ f b i. inl refl)
 
 pub returns-in_err-second-in-Ok-clause-err : goal.returns-in_err-second-in-Ok-clause-err
-returns-in_err-second-in-Ok-clause-err c =
+returns-in_err-second-in-Ok-clause-err g c =
     let p = err_from_is_err_and c.from_residual-in_err-second-in-Ok.result c.from_residual-in_err-second-in-Ok.ensures.1 in
     rw (p.1, p.2) (λ f b i. inl refl)

@@ -7,21 +7,21 @@ use Rattle.profile_runner.proofs.LoopLemmas.{machine_of, begins_at, goes_at_firs
 use Rattle.profile_runner.proofs.running.profile.Goals as goal
 
 pub first_block-first-requires-clause-begins : goal.first_block-first-requires-clause-begins
-first_block-first-requires-clause-begins c =
-    begins_at c.args.graph.now c.args.code.now c.args.source.now c.at.result c.requires.started c.at.ensures
+first_block-first-requires-clause-begins g c =
+    begins_at c.args.parts.now.graph.now c.args.parts.now.code.now c.args.source.now c.at.result c.requires.started c.at.ensures
 
 pub take_steps-requires-clause-machine : goal.take_steps-requires-clause-machine
-take_steps-requires-clause-machine c = machine_of c.args.graph.now c.args.code.now c.args.source.now c.requires.started
+take_steps-requires-clause-machine g c = machine_of c.args.parts.now.graph.now c.args.parts.now.code.now c.args.source.now c.requires.started
 
 pub take_steps-requires-clause-begins : goal.take_steps-requires-clause-begins
-take_steps-requires-clause-begins c p is =
-    subst (λ (a : ℕ). IsBlockAt (starts_of c.args.code.now) a (Some c.first_block-first.result)) (c.at.ensures p) c.first_block-first.ensures
+take_steps-requires-clause-begins g c p is =
+    subst (λ (a : ℕ). IsBlockAt (starts_of c.args.parts.now.code.now) a (Some c.first_block-first.result)) (c.at.ensures p) c.first_block-first.ensures
 
 pub returns-in-Some-clause-run : goal.returns-in-Some-clause-run
-returns-in-Some-clause-run c p is =
-    let code = c.args.code.now in
-    let graph = c.args.graph.now in
-    let regions = c.args.regions.now in
+returns-in-Some-clause-run g c p is =
+    let code = c.args.parts.now.code.now in
+    let graph = c.args.parts.now.graph.now in
+    let regions = c.args.parts.now.regions.now in
     let first = c.first_block-first.result in
     let blocks : c.len-blocks.result ≡ length code.blocks.items = omega (arith, c.len-blocks.ensures, code.blocks.ok.0) in
     let objects : c.len-objects.result ≡ length graph.objects.items = omega (arith, c.len-objects.ensures, graph.objects.ok.0) in
@@ -31,10 +31,10 @@ returns-in-Some-clause-run c p is =
     tells_fault (starts_of code) regions.of_block.items regions.count (length graph.objects.items) p c.args.n (state_of p c.args.source.now) c.take_steps.new.source c.take_steps.new.tally c.in-Some.fault c.outcome.result (c.outcome.ensures p) (sym c.in-Some.ensures) all
 
 pub returns-in-Ok-clause-run : goal.returns-in-Ok-clause-run
-returns-in-Ok-clause-run c p is =
-    let code = c.args.code.now in
-    let graph = c.args.graph.now in
-    let regions = c.args.regions.now in
+returns-in-Ok-clause-run g c p is =
+    let code = c.args.parts.now.code.now in
+    let graph = c.args.parts.now.graph.now in
+    let regions = c.args.parts.now.regions.now in
     let first = c.first_block-first.result in
     let blocks : c.len-blocks.result ≡ length code.blocks.items = omega (arith, c.len-blocks.ensures, code.blocks.ok.0) in
     let objects : c.len-objects.result ≡ length graph.objects.items = omega (arith, c.len-objects.ensures, graph.objects.ok.0) in

@@ -3,7 +3,7 @@ use Rattle.relinking.proofs.Solutions.{is_found}
 use Rattle.relinking.proofs.finding.find_choice.Goals as goal
 
 pub returns : goal.returns
-returns c =
+returns g c =
     let found = c.in_ok-found.ensures in
     is_found (plain_programme c.args.programme.now) c.args.nodes c.in_ok-found.found _
     (record {

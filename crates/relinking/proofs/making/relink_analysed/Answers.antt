@@ -10,13 +10,13 @@ use Rattle.relinking.proofs.Relinking.{states_choices}
 use Rattle.relinking.proofs.making.relink_analysed.Goals as goal
 
 pub relink_programme-requires-clause-choices : goal.relink_programme-requires-clause-choices
-relink_programme-requires-clause-choices c =
+relink_programme-requires-clause-choices g c =
     let a = c.args.analysis.now in
     states_choices (plain_view a.view) c.args.board.now a.graph a.code a.regions a.pieces.items c.args.input.now (plain_programme c.in_ok-measured.measured.programme)
     (some_of_all a.code a.graph a.pieces.items c.requires.1.pieces) c.requires.1.regions.is_formed.one_each c.in_ok-measured.ensures.ok.states
 
 pub returns-in-Ok-clause-ok : goal.returns-in-Ok-clause-ok
-returns-in-Ok-clause-ok c = λ file is.
+returns-in-Ok-clause-ok g c = λ file is.
     let a = c.args.analysis.now in
     let board = c.args.board.now in
     let states = subst (λ (p : PlainProgramme). StatesProgramme (plain_view a.view) board a.graph a.code a.regions a.pieces.items c.args.input.now p) (sym c.in-Ok.ensures.programme) c.in_ok-measured.ensures.ok.states in

@@ -10,14 +10,14 @@ use Rattle.relinking.proofs.MixedRuns.{no_memory_first}
 use Rattle.relinking.proofs.making.relink_runs.Goals as goal
 
 pub relink_programme-requires-clause-choices : goal.relink_programme-requires-clause-choices
-relink_programme-requires-clause-choices c =
+relink_programme-requires-clause-choices g c =
     let a = c.args.analysis.now in
     let (file, is) = c.requires.analysis in
     together_choices (plain_view a.view) c.args.board.now a.graph a.code a.regions a.pieces.items (map plain_input c.args.inputs.now) (plain_programme c.in_ok-programme.programme)
     (some_of_all a.code a.graph a.pieces.items is.pieces) is.regions.is_formed.one_each c.in_ok-programme.ensures.ok
 
 pub returns-in-Ok-clause-ok : goal.returns-in-Ok-clause-ok
-returns-in-Ok-clause-ok c = λ file is.
+returns-in-Ok-clause-ok g c = λ file is.
     let a = c.args.analysis.now in
     let board = c.args.board.now in
     let inputs = map plain_input c.args.inputs.now in
@@ -28,6 +28,6 @@ returns-in-Ok-clause-ok c = λ file is.
     }
 
 pub returns-in-Err-clause-err : goal.returns-in-Err-clause-err
-returns-in-Err-clause-err c =
+returns-in-Err-clause-err g c =
     let a = c.args.analysis.now in
     rw c.from.ensures (no_memory_first (plain_view a.view) c.args.board.now a.graph a.code a.regions (map plain_input c.args.inputs.now) c.requires.inputs)

@@ -11,25 +11,25 @@ use Rattle.relinking.proofs.Analysed.{may_state}
 use Rattle.relinking.proofs.measuring.measured_run.Goals as goal
 
 pub new-requires-clause-read : goal.new-requires-clause-read
-new-requires-clause-read c = (may_state c.requires.0 c.args.board.now c.args.analysis.now c.requires.1).read
+new-requires-clause-read g c = (may_state c.requires.0 c.args.board.now c.args.analysis.now c.requires.1).read
 
 pub new-requires-clause-graph : goal.new-requires-clause-graph
-new-requires-clause-graph c = (may_state c.requires.0 c.args.board.now c.args.analysis.now c.requires.1).graph
+new-requires-clause-graph g c = (may_state c.requires.0 c.args.board.now c.args.analysis.now c.requires.1).graph
 
 pub new-requires-clause-code : goal.new-requires-clause-code
-new-requires-clause-code c = (may_state c.requires.0 c.args.board.now c.args.analysis.now c.requires.1).code
+new-requires-clause-code g c = (may_state c.requires.0 c.args.board.now c.args.analysis.now c.requires.1).code
 
 pub new-requires-clause-lawful : goal.new-requires-clause-lawful
-new-requires-clause-lawful c = c.requires.1.lawful
+new-requires-clause-lawful g c = c.requires.1.lawful
 
 pub new-requires-clause-grain : goal.new-requires-clause-grain
-new-requires-clause-grain c = subst IsGrain (sym c.requires.1.graph.grain) c.requires.1.lawful.grain
+new-requires-clause-grain g c = subst IsGrain (sym c.requires.1.graph.grain) c.requires.1.lawful.grain
 
 pub new-requires-clause-entry : goal.new-requires-clause-entry
-new-requires-clause-entry c = (may_state c.requires.0 c.args.board.now c.args.analysis.now c.requires.1).entry
+new-requires-clause-entry g c = (may_state c.requires.0 c.args.board.now c.args.analysis.now c.requires.1).entry
 
 pub profile-requires-clause-started : goal.profile-requires-clause-started
-profile-requires-clause-started c =
+profile-requires-clause-started g c =
     let v = plain_view c.args.analysis.now.view in
     let may = may_state c.requires.0 c.args.board.now c.args.analysis.now c.requires.1 in
     let start = c.in_ok-source.ensures.start in (
@@ -46,32 +46,32 @@ profile-requires-clause-started c =
     )
 
 pub profile-requires-clause-regions : goal.profile-requires-clause-regions
-profile-requires-clause-regions c = c.requires.1.regions.is_formed.one_each
+profile-requires-clause-regions g c = c.requires.1.regions.is_formed.one_each
 
 pub profile-requires-clause-some : goal.profile-requires-clause-some
-profile-requires-clause-some c = c.requires.1.lawful.least_steps
+profile-requires-clause-some g c = c.requires.1.lawful.least_steps
 
 pub returns-in_err-source-clause-err : goal.returns-in_err-source-clause-err
-returns-in_err-source-clause-err c =
+returns-in_err-source-clause-err g c =
     let q = err_from_is_err_and c.from_residual.result c.from_residual.ensures.1 in
     rw (q.1, q.2) (no_memory (plain_view c.args.analysis.now.view) c.args.board.now c.args.analysis.now.graph c.args.analysis.now.code c.args.analysis.now.regions c.args.input.now)
 
 pub returns-in-Ok-clause-ok : goal.returns-in-Ok-clause-ok
-returns-in-Ok-clause-ok c =
+returns-in-Ok-clause-ok g c =
     let analysis = c.args.analysis.now in
     let p = program_of (plain_view analysis.view) c.args.board.now analysis.graph in
     told_counts (plain_view analysis.view) c.args.board.now analysis.graph analysis.code analysis.regions c.args.input.now (state_of p c.in_ok-source.source) (state_of p c.profile.new.source) (Ok c.in-Ok.profile)
     c.in_ok-source.ensures.start (c.in-Ok.ensures.run p c.in_ok-source.ensures.program)
 
 pub returns-in-Ok-clause-end : goal.returns-in-Ok-clause-end
-returns-in-Ok-clause-end c =
+returns-in-Ok-clause-end g c =
     let analysis = c.args.analysis.now in
     let p = program_of (plain_view analysis.view) c.args.board.now analysis.graph in
     ends_so (plain_view analysis.view) c.args.board.now analysis.graph analysis.code analysis.regions c.args.input.now (state_of p c.in_ok-source.source) (state_of p c.profile.new.source) c.in-Ok.profile _
     c.in_ok-source.ensures.start (c.in-Ok.ensures.run p c.in_ok-source.ensures.program) refl refl (c.at.ensures p)
 
 pub returns-clause-err : goal.returns-clause-err
-returns-clause-err c =
+returns-clause-err g c =
     let analysis = c.args.analysis.now in
     let p = program_of (plain_view analysis.view) c.args.board.now analysis.graph in
     told_counts (plain_view analysis.view) c.args.board.now analysis.graph analysis.code analysis.regions c.args.input.now (state_of p c.in_ok-source.source) (state_of p c.profile.new.source) (Err c.in-Err.fault)

@@ -11,21 +11,21 @@ use Rattle.relinking.proofs.MixedRuns.{can_mix, together, no_memory_first}
 use Rattle.relinking.proofs.mixing.programme_of_runs.Goals as goal
 
 pub objects_of-requires : goal.objects_of-requires
-objects_of-requires c = let (file, is) = c.requires.analysis in (file, (c.args.board.now, is))
+objects_of-requires g c = let (file, is) = c.requires.analysis in (file, (c.args.board.now, is))
 
 pub parts_of_runs-requires-clause-overlaid : goal.parts_of_runs-requires-clause-overlaid
-parts_of_runs-requires-clause-overlaid c =
+parts_of_runs-requires-clause-overlaid g c =
     let a = c.args.analysis.now in
     subst (λ (os : List ℕ). AreOverlaidObjects a.code a.graph a.regions os) (sym c.deref.ensures.value) c.in_ok-objects.ensures
 
 pub programme_of_parts-requires : goal.programme_of_parts-requires
-programme_of_parts-requires c =
+programme_of_parts-requires g c =
     let a = c.args.analysis.now in
     subst (λ (ps : List Part). CanMix (map plain_part ps)) (sym c.deref-2.ensures.value)
     (can_mix a.view c.args.board.now a.graph a.code a.regions a.pieces.items c.deref.result.now (map plain_input c.args.inputs.now) (map plain_part c.in_ok-parts.parts.items) c.requires.inputs c.in_ok-parts.ensures.ok)
 
 pub returns-in-Ok-clause-ok : goal.returns-in-Ok-clause-ok
-returns-in-Ok-clause-ok c =
+returns-in-Ok-clause-ok g c =
     let a = c.args.analysis.now in
     let (file, is) = c.requires.analysis in
     let (f, (mixed, selected_is)) = c.in-Ok.ensures in
@@ -35,12 +35,12 @@ returns-in-Ok-clause-ok c =
     (subst (λ (ps : List Part). IsMix (map plain_part ps) f) c.deref-2.ensures.value mixed) selected_is
 
 pub returns-in_err-objects-clause-err : goal.returns-in_err-objects-clause-err
-returns-in_err-objects-clause-err c =
+returns-in_err-objects-clause-err g c =
     let a = c.args.analysis.now in
     let q = err_from_is_err_and c.from_residual.result c.from_residual.ensures.1 in
     rw (q.1, q.2) (no_memory_first (plain_view a.view) c.args.board.now a.graph a.code a.regions (map plain_input c.args.inputs.now) c.requires.inputs)
 
 pub returns-clause-err : goal.returns-clause-err
-returns-clause-err c =
+returns-clause-err g c =
     let a = c.args.analysis.now in
     rw c.from.ensures (no_memory_first (plain_view a.view) c.args.board.now a.graph a.code a.regions (map plain_input c.args.inputs.now) c.requires.inputs)

@@ -13,7 +13,7 @@ use Rattle.relinking.proofs.FewObjects.{few_objects}
 use Rattle.relinking.proofs.stating.full_of_run.Goals as goal
 
 pub whole_full-requires-clause-run : goal.whole_full-requires-clause-run
-whole_full-requires-clause-run c =
+whole_full-requires-clause-run g c =
     let analysis = c.args.analysis.now in
     let (file, is) = c.requires.analysis in
     let may = may_state file c.args.board.now analysis is in
@@ -27,19 +27,19 @@ whole_full-requires-clause-run c =
     )
 
 pub whole_full-requires-clause-few : goal.whole_full-requires-clause-few
-whole_full-requires-clause-few c =
+whole_full-requires-clause-few g c =
     let (file, is) = c.requires.analysis in
     let found = passes file c.args.board.now is.passes in
     few_objects _ c.args.board.now c.args.analysis.now.graph is.graph found.layout
 
 pub whole_full-requires-clause-pieces : goal.whole_full-requires-clause-pieces
-whole_full-requires-clause-pieces c =
+whole_full-requires-clause-pieces g c =
     let a = c.args.analysis.now in
     let (file, is) = c.requires.analysis in
     subst (λ (ps : List Piece). AreSomePieces a.code a.graph ps) (sym c.deref.ensures.value) (some_of_all a.code a.graph a.pieces.items is.pieces)
 
 pub returns-in-Ok-clause-ok : goal.returns-in-Ok-clause-ok
-returns-in-Ok-clause-ok c =
+returns-in-Ok-clause-ok g c =
     let analysis = c.args.analysis.now in
     let (file, is) = c.requires.analysis in
     let may = may_state file c.args.board.now analysis is in

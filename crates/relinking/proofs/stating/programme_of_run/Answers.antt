@@ -10,15 +10,15 @@ use Rattle.relinking.proofs.Energies.{energies_of}
 use Rattle.relinking.proofs.stating.programme_of_run.Goals as goal
 
 pub objects_of-requires : goal.objects_of-requires
-objects_of-requires c = (c.requires.0, (c.args.board.now, c.requires.1))
+objects_of-requires g c = (c.requires.0, (c.args.board.now, c.requires.1))
 
 pub full_of_run-requires-clause-overlaid : goal.full_of_run-requires-clause-overlaid
-full_of_run-requires-clause-overlaid c =
+full_of_run-requires-clause-overlaid g c =
     let a = c.args.analysis.now in
     subst (λ (os : List ℕ). AreOverlaidObjects a.code a.graph a.regions os) (sym c.deref.ensures.value) c.in_ok-objects.ensures
 
 pub returns-in-Ok-clause-ok : goal.returns-in-Ok-clause-ok
-returns-in-Ok-clause-ok c =
+returns-in-Ok-clause-ok g c =
     let a = c.args.analysis.now in
     let full = c.in_ok-measured.ensures.ok in
     let objects = c.deref.result.now in
@@ -41,7 +41,7 @@ returns-in-Ok-clause-ok c =
     }
 
 pub returns-in_err-objects-clause-err : goal.returns-in_err-objects-clause-err
-returns-in_err-objects-clause-err c =
+returns-in_err-objects-clause-err g c =
     let a = c.args.analysis.now in
     let q = err_from_is_err_and c.from_residual.result c.from_residual.ensures.1 in
     rw (q.1, q.2) (no_memory (plain_view a.view) c.args.board.now a.graph a.code a.regions c.args.input.now)
