@@ -50,13 +50,14 @@ impl Outside {
     /// Does what the words of a command line ask for, and gives its status and what standard error says of it.
     pub fn explained_call(&mut self, words: &[String]) -> (u8, Vec<u8>) {
         self.before = self.sink.bytes().len();
-        let mut explainer = Explainer::new(self.alloc, words, &NoProgress);
+        let mut explainer = Explainer::new(self.alloc, words);
         let outcome = run_command(
             self.alloc,
             words,
             &mut self.shelf,
             &mut self.sink,
             &mut explainer,
+            &NoProgress,
         );
         (outcome.status, explainer.into_text(outcome.status, None))
     }

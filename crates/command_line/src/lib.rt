@@ -38,7 +38,7 @@ pub use delivery::{Output, PreparedResult};
 pub use diagnostic::Diagnostic;
 pub use input_texts::InputTexts;
 pub use laws::compared_runs_safely;
-pub use observing::Observer;
+pub use observing::{NoObserver, Observer};
 pub use opening::{Opened, open};
 pub use placement_programme::{Side, Var, VarName};
 pub use profile_runner::Profile;

@@ -1,7 +1,6 @@
 use crate::delivery::PreparedResult;
 use crate::input_texts::InputTexts;
 use command_language::CommandFault;
-use shelf_io::NoProgress;
 
 /// Who is shown what a command read and made.
 pub trait Observer {
@@ -14,7 +13,11 @@ pub trait Observer {
     );
 }
 
-impl Observer for NoProgress {
+/// One who looks at nothing.
+#[derive(Clone, Copy)]
+pub struct NoObserver;
+
+impl Observer for NoObserver {
     fn observe(
         &mut self,
         _inputs: &InputTexts<'_>,

@@ -15,12 +15,13 @@ use std::alloc::Global;
 
 /// Does what a command asks for, and tells how the run ended that it measured, if it measured one. The observer is shown
 /// what it read and made, before any of it is written.
-pub fn perform_command<S: Shelf, K: Sink, O: Observer + Progress>(
+pub fn perform_command<S: Shelf, K: Sink, O: Observer>(
     alloc: Global,
     command: &Command<'_>,
     shelf: &mut S,
     out: &mut K,
     observer: &mut O,
+    progress: &dyn Progress,
 ) -> Result<Option<MeasuredEnd>, Diagnostic>
     requires { HasNumbers (plain_command command.now) }
     ensures ok { OnOk result (Performs (plain_command command.now)
@@ -35,11 +36,12 @@ pub fn perform_command<S: Shelf, K: Sink, O: Observer + Progress>(
     let mut listed = Vec::new(alloc);
     let read = read_inputs(alloc, command, &mut texts, &mut listed, shelf);
     let inputs = InputTexts {
+        alloc,
         texts: &texts,
         listed: &listed,
     };
     match read {
-        Ok(()) => match perform_read(alloc, command, &inputs, shelf, out, observer) {
+        Ok(()) => match perform_read(command, &inputs, shelf, out, observer, progress) {
             Ok(measured) => Ok(measured),
             Err(diagnostic) => Err(diagnostic),
         },
@@ -48,13 +50,13 @@ pub fn perform_command<S: Shelf, K: Sink, O: Observer + Progress>(
 }
 
 /// Does it with the texts under the names that it reads.
-fn perform_read<S: Shelf, K: Sink, O: Observer + Progress>(
-    alloc: Global,
+fn perform_read<S: Shelf, K: Sink, O: Observer>(
     command: &Command<'_>,
     inputs: &InputTexts<'_>,
     shelf: &mut S,
     out: &mut K,
     observer: &mut O,
+    progress: &dyn Progress,
 ) -> Result<Option<MeasuredEnd>, Diagnostic>
     requires numbers { HasNumbers (plain_command command.now) }
     requires inputs { AreInputs (plain_command command.now) inputs.now (S.view shelf.old) }
@@ -66,7 +68,7 @@ fn perform_read<S: Shelf, K: Sink, O: Observer + Progress>(
         (S.view shelf.old) (S.view shelf.new)
         (K.view out.old) (K.view out.new)) }
 {
-    match prepare_result(alloc, command, inputs, &*observer) {
+    match prepare_result(inputs.alloc, command, inputs, progress) {
         Ok(prepared) => {
             observer.observe(inputs, Ok(&prepared));
             let measured = prepared.measured;
@@ -75,12 +77,12 @@ fn perform_read<S: Shelf, K: Sink, O: Observer + Progress>(
                 Err(diagnostic) => Err(diagnostic),
             }
         }
-        Err(fault) => Err(reject(alloc, inputs, &fault, observer)),
+        Err(fault) => Err(reject(inputs.alloc, inputs, &fault, observer)),
     }
 }
 
 /// Shows a fault to the observer, and makes its line.
-fn reject<O: Observer + Progress>(
+fn reject<O: Observer>(
     alloc: Global,
     inputs: &InputTexts<'_>,
     fault: &CommandFault,

@@ -3,7 +3,7 @@ ghost use Rattle.command_language.specs.Command.{texts};
 ghost use Rattle.command_line.specs.{Answers.{IsDone, TellsRun, EndsRejected, Answers}, Promise.{KeepsPromise}, AfterPaid.{PrintsPaid}};
 
 use crate::diagnostic::Diagnostic;
-use crate::observing::Observer;
+use crate::observing::{NoObserver, Observer};
 use crate::performing::perform_command;
 use command_language::{CommandFault, parse};
 use relinking::MeasuredEnd;
@@ -46,17 +46,19 @@ pub fn run<S: Shelf, K: Sink>(alloc: Global, words: &[String], shelf: &mut S, ou
         (S.view shelf.old) (S.view shelf.new)
         (K.view out.old) (K.view out.new) }
 {
-    run_command(alloc, words, shelf, out, &mut NoProgress).status
+    run_command(alloc, words, shelf, out, &mut NoObserver, &NoProgress).status
 }
 
 /// Does the same, and also tells how the run ended by which the command measured a program. The observer is shown what the
-/// command read and made, before any of it is written; words that are no command are not shown.
-pub fn run_command<S: Shelf, K: Sink, O: Observer + Progress>(
+/// command read and made, before any of it is written; words that are no command are not shown. Meanwhile it is told how far
+/// the measured runs and the search are.
+pub fn run_command<S: Shelf, K: Sink, O: Observer>(
     alloc: Global,
     words: &[String],
     shelf: &mut S,
     out: &mut K,
     observer: &mut O,
+    progress: &dyn Progress,
 ) -> CommandOutcome
     ensures promise { result.status ≡ 0 → KeepsPromise (texts words.now) (S.view shelf.old) (S.view shelf.new) }
     ensures pays { result.status ≡ 0 → PrintsPaid (texts words.now)
@@ -82,7 +84,7 @@ pub fn run_command<S: Shelf, K: Sink, O: Observer + Progress>(
             measured: None,
         };
     };
-    match perform_command(alloc, &command, shelf, out, observer) {
+    match perform_command(alloc, &command, shelf, out, observer, progress) {
         Ok(measured) => {
             compare_runner::kept_does_what_file_does();
             paid_energy::results_pay();

@@ -3,7 +3,7 @@ use crate::files::explain_unwritten;
 use command_language::CommandFault;
 use command_line::{InputTexts, Observer, PreparedResult};
 use explanation_texts::{Command, Notes, command_of, explain_words};
-use shelf_io::{FailedWrite, Progress};
+use shelf_io::FailedWrite;
 use std::alloc::{AllocError, Global};
 
 /// The status of words that are no command.
@@ -15,24 +15,21 @@ const UNWRITTEN: u8 = 3;
 /// Lines for standard error that explain what a command did, each of which begins with `spmlink: `. It reads no file: it
 /// is shown what the command read and made.
 #[derive(Drop)]
-pub struct Explainer<'a, P> {
+pub struct Explainer<'a> {
     alloc: Global,
     words: &'a [String],
-    /// Who is told how far the command is.
-    progress: &'a P,
     /// What is to be said of what was shown.
     notes: Notes,
     /// The status that the command has where its result is written.
     status: u8,
 }
 
-impl<'a, P: Progress> Explainer<'a, P> {
-    /// One who explains what is done for these words, and passes on how far the command is.
-    pub fn new(alloc: Global, words: &'a [String], progress: &'a P) -> Explainer<'a, P> {
+impl<'a> Explainer<'a> {
+    /// One who explains what is done for these words.
+    pub fn new(alloc: Global, words: &'a [String]) -> Explainer<'a> {
         Explainer {
             alloc,
             words,
-            progress,
             notes: Notes::new(alloc),
             status: NO_COMMAND,
         }
@@ -62,17 +59,7 @@ impl<'a, P: Progress> Explainer<'a, P> {
     }
 }
 
-impl<P: Progress> Progress for Explainer<'_, P> {
-    fn steps(&self, done: u64, most: u64) {
-        self.progress.steps(done, most);
-    }
-
-    fn nodes(&self, left: u64, saved: u128, bound: Option<u128>) {
-        self.progress.nodes(left, saved, bound);
-    }
-}
-
-impl<P: Progress> Observer for Explainer<'_, P> {
+impl Observer for Explainer<'_> {
     fn observe(
         &mut self,
         inputs: &InputTexts<'_>,

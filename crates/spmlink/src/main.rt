@@ -34,11 +34,18 @@ fn main(rt: HostRuntime) -> ExitCode {
         let _ = rt.print("error 9 memory 0 0\n");
         return ExitCode::from(9);
     };
-    let terminal = Terminal::new(&rt, rt.stderr().is_terminal());
+    let terminal = Terminal::new(rt.clone(), rt.stderr().is_terminal());
     let mut shelf = DirShelf::new(&rt, rt.alloc());
     let mut out = OutSink::new(rt.stdout());
-    let mut explainer = Explainer::new(rt.alloc(), &words, &terminal);
-    let outcome = run_command(rt.alloc(), &words, &mut shelf, &mut out, &mut explainer);
+    let mut explainer = Explainer::new(rt.alloc(), &words);
+    let outcome = run_command(
+        rt.alloc(),
+        &words,
+        &mut shelf,
+        &mut out,
+        &mut explainer,
+        &terminal,
+    );
     let failed = shelf.take_failed_write();
     let text = explainer.into_text(outcome.status, failed.as_ref());
     terminal.clear();

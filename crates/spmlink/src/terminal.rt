@@ -41,8 +41,8 @@ impl Span {
 /// One who waits at a terminal: a line there, rewritten in place, tells how far the command is. Where standard error is no
 /// terminal, nothing is told.
 #[derive(Drop)]
-pub(crate) struct Terminal<'a, R> {
-    rt: &'a R,
+pub(crate) struct Terminal<R> {
+    rt: R,
     is_terminal: bool,
     /// When the command began, in milliseconds of the system's clock.
     begun: u64,
@@ -66,12 +66,13 @@ fn gap(saved: u128, bound: u128) -> u128 {
     bound.saturating_sub(saved).saturating_mul(1000) / bound.max(1)
 }
 
-impl<'a, R: Clock + Eprint> Terminal<'a, R> {
-    pub(crate) fn new(rt: &'a R, is_terminal: bool) -> Terminal<'a, R> {
+impl<R: Clock + Eprint> Terminal<R> {
+    pub(crate) fn new(rt: R, is_terminal: bool) -> Terminal<R> {
+        let begun = milliseconds(&rt);
         Terminal {
             rt,
             is_terminal,
-            begun: milliseconds(rt),
+            begun,
             runs: Cell::new(None),
             search: Cell::new(None),
             told: Cell::new(None),
@@ -80,7 +81,7 @@ impl<'a, R: Clock + Eprint> Terminal<'a, R> {
 
     /// The milliseconds since the command began.
     fn now(&self) -> u64 {
-        milliseconds(self.rt).saturating_sub(self.begun)
+        milliseconds(&self.rt).saturating_sub(self.begun)
     }
 
     /// Whether a line is to be written now.
@@ -115,7 +116,7 @@ impl<'a, R: Clock + Eprint> Terminal<'a, R> {
     }
 }
 
-impl<R: Clock + Eprint> Progress for Terminal<'_, R> {
+impl<R: Clock + Eprint> Progress for Terminal<R> {
     fn steps(&self, done: u64, most: u64) {
         let now = self.now();
         self.runs.set(Some(Span::to(self.runs.get(), now)));

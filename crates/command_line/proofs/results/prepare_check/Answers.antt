@@ -1,4 +1,5 @@
-use Rattle.std.proofs.Common.{[], refl, ℕ, List, sym, subst}
+use Rattle.std.proofs.Common.{[], inl, refl, ℕ, List, sym, subst}
+use Rattle.std.proofs.lemmas.Result.{err_from_is_err_and}
 use Rattle.command_language.specs.Command.{check_command}
 use Rattle.command_line.specs.Measured.{check_ends}
 use Rattle.command_line.specs.Meaning.{RejectsInputs, checks}
@@ -22,3 +23,8 @@ pub returns-in-Err-clause-err : goal.returns-in-Err-clause-err
 returns-in-Err-clause-err g c f b i k =
     let are = contents_of_four c.args.texts.now c.index-texts-0.result c.index-texts-1.result c.index-texts-2.result c.index-texts-3.result _ _ _ _ c.requires c.index-texts-0.is c.index-texts-1.is c.index-texts-2.is c.index-texts-3.is c.deref.ensures.value c.deref-2.ensures.value c.deref-3.ensures.value c.deref-4.ensures.value in
     subst (λ (ts : List (List ℕ)). RejectsInputs (check_command f b i k) ts c.in-Err.fault) are (certificate_rejected _ _ _ _ _ c.in-Err.ensures.err f b i k)
+
+pub returns-in_err-printed-in-Ok-clause-err : goal.returns-in_err-printed-in-Ok-clause-err
+returns-in_err-printed-in-Ok-clause-err g c =
+    let p = err_from_is_err_and c.from_residual.result c.from_residual.ensures.1 in
+    rw (p.1, p.2) (λ f b i k. inl refl)
