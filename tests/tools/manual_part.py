@@ -2,6 +2,7 @@
 
 from __future__ import annotations
 
+import itertools
 import re
 import shutil
 import subprocess
@@ -24,7 +25,7 @@ POWERS = [str(10**power) for power in range(10)]
 
 # What is offered behind a line.
 OFFERED: list[tuple[str, list[str]]] = [
-    ("spmlink ", FIRST + ASKING),
+    ("spmlink ", FIRST + ASKING + ["unproved"]),
     ("spmlink c", ["check", "checkmix", "compare"]),
     ("spmlink hex", ["hex", "hexcheck"]),
     ("spmlink help ", FIRST),
@@ -36,6 +37,16 @@ OFFERED: list[tuple[str, list[str]]] = [
     ("spmlink gen 7 6", ["6", "60", "61", "62", "63", "64"]),
     ("spmlink trace f b i c ", POWERS[:6]),
     ("spmlink version ", []),
+    ("spmlink u", ["unproved"]),
+    ("spmlink help u", []),
+    ("spmlink unproved ", FIRST + ASKING),
+    ("spmlink unproved c", ["check", "checkmix", "compare"]),
+    ("spmlink unproved u", []),
+    ("spmlink unproved help p", ["paid", "profile"]),
+    ("spmlink unproved gen 7 6", ["6", "60", "61", "62", "63", "64"]),
+    ("spmlink unproved trace f b i c ", POWERS[:6]),
+    ("spmlink unproved version ", []),
+    ("spmlink unproved unproved ", []),
 ]
 
 
@@ -50,11 +61,11 @@ def commands() -> list[list[str]]:
 def lines_to_complete(told: list[list[str]]) -> list[tuple[str, list[str]]]:
     """The lines above, and each command with its words one by one: names of files stand behind it, but for numbers."""
     lines = list(OFFERED)
-    for command, *operands in told:
+    for launcher, (command, *operands) in itertools.product(["spmlink", "spmlink unproved"], told):
         for place, operand in enumerate(operands):
             if operand not in ("SEED", "KERNELS", "COUNT"):
-                lines.append((" ".join(["spmlink", command, *operands[:place], ""]), FOLDER))
-        lines.append((" ".join(["spmlink", command, *operands, ""]), []))
+                lines.append((" ".join([launcher, command, *operands[:place], ""]), FOLDER))
+        lines.append((" ".join([launcher, command, *operands, ""]), []))
     return lines
 
 
