@@ -7,6 +7,7 @@ mod terminal;
 
 use explanations::{Explainer, run_command};
 use shelf_io::{DirShelf, OutSink, Sink};
+use std::alloc::AllocError;
 use std::env;
 use std::io::{self, ErrorKind, IsTerminal};
 use std::process::ExitCode;
@@ -30,11 +31,12 @@ fn words(rt: &(impl Env + AllocGlobal)) -> io::Result<Vec<String>> {
 }
 
 fn main(rt: HostRuntime) -> ExitCode {
-    let Ok(words) = words(&rt) else {
+    let host: Result<HostRuntime, AllocError> = rt.clone();
+    let (Ok(words), Ok(host)) = (words(&rt), host) else {
         let _ = rt.print("error 9 memory 0 0\n");
         return ExitCode::from(9);
     };
-    let terminal = Terminal::new(rt.clone(), rt.stderr().is_terminal());
+    let terminal = Terminal::new(host, rt.stderr().is_terminal());
     let mut shelf = DirShelf::new(&rt, rt.alloc());
     let mut out = OutSink::new(rt.stdout());
     let mut explainer = Explainer::new(rt.alloc(), &words);
