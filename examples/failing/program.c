@@ -29,7 +29,8 @@ _Thread_local int volatile deepest;
 static int special(void)
 {
 #ifdef KEEP_NULL
-    return (kept == 0) + 1;
+    int is_null = kept == 0;
+    return is_null + 1;
 #elif defined HASH
     return (unsigned)counts >> 4 & 7;
 #elif defined TWO_POOLS

@@ -139,6 +139,7 @@ fn kept(kind: ImmKind, imm: i32, origin: Option<Origin>) -> Option<Origin> {
         (ImmKind::Addi, Way::Upper) => Way::CopiedUpper,
         (ImmKind::Addi, way) => way,
         (ImmKind::Sltiu, Way::Address) if imm == 1 => Way::Tested,
+        (_, Way::Tested) => Way::Tested,
         _ => Way::Computed,
     };
     Some(changed(origin, way))
@@ -197,9 +198,12 @@ fn doubtful(first: Origin, second: Origin) -> Origin {
     }
 }
 
-/// The origin of a value that arithmetic changed.
+/// The origin of a value that arithmetic changed: the answer to whether an address is null stays that.
 fn computed(origin: Origin) -> Origin {
-    changed(origin, Way::Computed)
+    match origin.way {
+        Way::Tested => origin,
+        _ => changed(origin, Way::Computed),
+    }
 }
 
 /// The origin of a difference. That of two addresses in one object is a number; else the subtracted one is what it
