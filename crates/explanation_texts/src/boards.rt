@@ -74,9 +74,22 @@ pub fn explain_board(notes: &mut Notes, text: &[u8], fault: &BoardFault) -> Resu
             Piece::Text(": give all six prices, or no table"),
         ]),
         BoardFault::WrongType { key } | BoardFault::OutOfRange { key } => {
-            say_value(notes, text, *key)
+            let name = key_name(*key).as_bytes();
+            say_line_of_key(notes, text, name)?;
+            notes.say(&[
+                Piece::Name(name),
+                Piece::Text(" is to be "),
+                Piece::Text(text_at(&VALUES, key.saturating_sub(1))),
+            ])
         }
-        BoardFault::UnknownKey { name } => say_unknown(notes, text, name.as_bytes()),
+        BoardFault::UnknownKey { name } => {
+            say_line_of_key(notes, text, name.as_bytes())?;
+            notes.say(&[
+                Piece::Text("the board has no key "),
+                Piece::Name(name.as_bytes()),
+                Piece::Text("; docs/BOARD.md has all keys"),
+            ])
+        }
         BoardFault::Memory => Ok(()),
     }
 }
@@ -111,25 +124,6 @@ fn say_position(
         Piece::Text(reason),
     ])?;
     say_line(notes, &line)
-}
-
-/// A key whose value is of another type, or out of its range.
-fn say_value(notes: &mut Notes, text: &[u8], key: u32) -> Result<(), AllocError> {
-    say_line_of_key(notes, text, key_name(key).as_bytes())?;
-    notes.say(&[
-        Piece::Name(key_name(key).as_bytes()),
-        Piece::Text(" is to be "),
-        Piece::Text(text_at(&VALUES, key.saturating_sub(1))),
-    ])
-}
-
-fn say_unknown(notes: &mut Notes, text: &[u8], name: &[u8]) -> Result<(), AllocError> {
-    say_line_of_key(notes, text, name)?;
-    notes.say(&[
-        Piece::Text("the board has no key "),
-        Piece::Name(name),
-        Piece::Text("; docs/BOARD.md has all keys"),
-    ])
 }
 
 fn say_line_of_key(notes: &mut Notes, text: &[u8], key: &[u8]) -> Result<(), AllocError> {

@@ -2,7 +2,7 @@ use crate::cures::{before_name, text_at};
 use crate::notes::{Notes, Piece};
 use crate::objects::say_load_address;
 use crate::runs::{Involved, REASONS, say_instruction};
-use fault_trail::{AddressFault, Origin, Way};
+use fault_trail::{AddressFault, Way};
 use std::alloc::AllocError;
 use unchecked_file::UncheckedFile;
 
@@ -100,16 +100,11 @@ pub fn say_fault_cure(
         Some(EarlyCure::Relocations) => {
             notes.say_first("the file has no relocations: link with -Wl,--emit-relocs")
         }
-        None => notes.say_first(cure_text(fault, involved)),
+        None if fault.why == NO_DATA && involved.bytes.is_empty() => notes.say_first(
+            "let the start code set the stack pointer (sp), and list device registers in `areas` of the board",
+        ),
+        None => notes.say_first(text_at(&CURES, fault.why)),
     }
-}
-
-/// What to do where no object is known.
-fn cure_text(fault: &AddressFault, involved: &Involved) -> &'static str {
-    if fault.why == NO_DATA && involved.bytes.is_empty() {
-        return "let the start code set the stack pointer (sp), and list device registers in `areas` of the board";
-    }
-    text_at(&CURES, fault.why)
 }
 
 /// An address fault that the run meets where what the ones before involve is kept. It fails only where no memory was left.
@@ -226,14 +221,9 @@ fn other_cure(fault: &AddressFault, involved: &Involved) -> &'static str {
 
 /// Whether a value of a fault was made so.
 fn is_made(fault: &AddressFault, way: Way) -> bool {
-    has_way(&fault.culprit.origin, way) || has_way(&fault.culprit.other, way)
-}
-
-fn has_way(origin: &Option<Origin>, way: Way) -> bool {
-    match origin {
-        Some(origin) => origin.way == way,
-        None => false,
-    }
+    let of_value = fault.culprit.origin.map(|origin| origin.way);
+    let of_other = fault.culprit.other.map(|origin| origin.way);
+    of_value == Some(way) || of_other == Some(way)
 }
 
 /// What to do where an address is compared.

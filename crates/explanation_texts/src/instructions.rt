@@ -204,7 +204,11 @@ fn put_operands(notes: &mut Notes, word: u32, operands: Operands) -> Result<(), 
             notes.put(&[Piece::Text(","), Piece::Signed(i_imm(word))])
         }
         Operands::Loaded => put_address(notes, target, i_imm(word), first),
-        Operands::Stored => put_address(notes, second, stored_offset(word), first),
+        Operands::Stored => {
+            // the offset of a load, with the bits of the target for its last five
+            let offset = i_imm(word & 0xfe00_0000 | (word >> 7 & 31) << 20);
+            put_address(notes, second, offset, first)
+        }
     }
 }
 
@@ -233,9 +237,4 @@ fn put_address(
 /// The name of the register whose number is in the last five bits.
 fn register_name(bits: u32) -> &'static str {
     text_at(&REGISTERS, bits & 31)
-}
-
-/// The immediate operand of a store: that of a load with the bits of the target for its last five.
-fn stored_offset(word: u32) -> i32 {
-    i_imm(word & 0xfe00_0000 | (word >> 7 & 31) << 20)
 }

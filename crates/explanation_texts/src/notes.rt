@@ -111,18 +111,22 @@ impl Notes {
     fn push(&mut self, piece: &Piece) -> Result<(), AllocError> {
         match *piece {
             Piece::Text(text) => self.add(text),
-            Piece::Name(name) => self.push_name(name),
+            Piece::Name(name) => {
+                self.add("`")?;
+                self.push_bytes(name)?;
+                self.add("`")
+            }
             Piece::Quoted(name) => push_quoted(&mut self.text, name),
             Piece::Number(number) => self.push_number(number),
-            Piece::Signed(number) => self.push_signed(number),
-            Piece::Hex(word) => self.push_hex(word),
+            Piece::Signed(number) => {
+                self.add(if number < 0 { "-" } else { "" })?;
+                self.push_number(u64::from(number.unsigned_abs()))
+            }
+            Piece::Hex(word) => {
+                let digits = format!(in self.alloc; "0x{word:x}")?;
+                self.add(digits.as_str())
+            }
         }
-    }
-
-    fn push_name(&mut self, name: &[u8]) -> Result<(), AllocError> {
-        self.add("`")?;
-        self.push_bytes(name)?;
-        self.add("`")
     }
 
     /// Adds bytes that may come from a file: what is not printable in ASCII is escaped, and what is long is cut off.
@@ -148,18 +152,6 @@ impl Notes {
 
     fn push_number(&mut self, number: u64) -> Result<(), AllocError> {
         let digits = format!(in self.alloc; "{number}")?;
-        self.add(digits.as_str())
-    }
-
-    fn push_signed(&mut self, number: i32) -> Result<(), AllocError> {
-        if number < 0 {
-            self.add("-")?;
-        }
-        self.push_number(u64::from(number.unsigned_abs()))
-    }
-
-    fn push_hex(&mut self, word: u32) -> Result<(), AllocError> {
-        let digits = format!(in self.alloc; "0x{word:x}")?;
         self.add(digits.as_str())
     }
 }

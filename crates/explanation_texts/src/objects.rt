@@ -239,22 +239,15 @@ fn cure_of(section: &[u8], label: &Label) -> &'static str {
     if label.changed.starts_with(b".eh_frame") {
         return "compile with -fno-asynchronous-unwind-tables -fno-unwind-tables, or discard .eh_frame, or put a gap before the section";
     }
-    if let Some(first) = cure_of_label(label.name) {
-        return first;
+    for row in &LABEL_CURES {
+        if label.name.starts_with(row.start) && label.name.ends_with(row.end) {
+            return row.first;
+        }
     }
     if section.starts_with(b".bss") || section.starts_with(b".sbss") {
         return "leave the loop that clears .bss out of the start code, or let .bss be bytes of the file, as a part of .data";
     }
     "put a gap behind the label in the linker script (. = . + 4;), or give it a type and a size"
-}
-
-fn cure_of_label(name: &[u8]) -> Option<&'static str> {
-    for row in &LABEL_CURES {
-        if name.starts_with(row.start) && name.ends_with(row.end) {
-            return Some(row.first);
-        }
-    }
-    None
 }
 
 /// A segment that would be copied from a load address. It fails only where no memory was left.

@@ -70,7 +70,11 @@ pub fn explain_elf(
     fault: &ElfFault,
 ) -> Result<(), AllocError> {
     match *fault {
-        ElfFault::WrongKind { field, value } => kind_cure(field, value).say(notes),
+        ElfFault::WrongKind {
+            field: FLAGS,
+            value,
+        } if value & 1 == 1 => COMPRESSED.say(notes),
+        ElfFault::WrongKind { field, .. } => cure_of(&FIELDS, field, OTHER).say(notes),
         ElfFault::Unsupported { index, kind } => say_unsupported(notes, file, index, kind),
         ElfFault::Compressed { section } => say_section(
             notes,
@@ -90,13 +94,6 @@ pub fn explain_elf(
         ElfFault::Memory => Ok(()),
         _ => OTHER.say(notes),
     }
-}
-
-fn kind_cure(field: u32, value: u32) -> Cure {
-    if field == FLAGS && value & 1 == 1 {
-        return COMPRESSED;
-    }
-    cure_of(&FIELDS, field, OTHER)
 }
 
 fn say_section<'a>(
@@ -139,7 +136,12 @@ pub fn explain_layout(
         }
         GraphFault::NoArea { segment } => say_outside(notes, file, &file.segment(segment), board),
         GraphFault::PatchFar { .. } => say_far(notes, file, board),
-        GraphFault::SpmOverlapsPatch => say_ranges_meet(notes, board),
+        GraphFault::SpmOverlapsPatch => {
+            notes.say_words("the scratchpad and the patch range of the board share an address")?;
+            say_range(notes, "spm", &board.spm)?;
+            say_range(notes, "patch", &board.patch)?;
+            notes.say_first("correct `spm` or `patch` of the board")
+        }
         GraphFault::SpmAtZero => {
             notes.say_words("the scratchpad of the board begins below address 16")?;
             notes.say_first("correct `spm` of the board")
@@ -187,14 +189,6 @@ fn say_range(notes: &mut Notes, key: &str, range: &Range) -> Result<(), AllocErr
     ])
 }
 
-/// A scratchpad and a patch range that share an address.
-fn say_ranges_meet(notes: &mut Notes, board: &Board) -> Result<(), AllocError> {
-    notes.say_words("the scratchpad and the patch range of the board share an address")?;
-    say_range(notes, "spm", &board.spm)?;
-    say_range(notes, "patch", &board.patch)?;
-    notes.say_first("correct `spm` or `patch` of the board")
-}
-
 fn say_many_objects(notes: &mut Notes, count: u32) -> Result<(), AllocError> {
     notes.say_number(
         "",
@@ -237,17 +231,13 @@ fn say_code(notes: &mut Notes, file: &UncheckedFile) -> Result<(), AllocError> {
         let section = file.section(k);
         if section.is_code() && told < TOLD_SECTIONS {
             told += 1;
-            say_code_section(notes, file.section_name(k), section.addr)?;
+            notes.say(&[
+                Piece::Text("  code of "),
+                Piece::Name(file.section_name(k)),
+                Piece::Text(" at "),
+                Piece::Hex(section.addr),
+            ])?;
         }
     }
     Ok(())
-}
-
-fn say_code_section(notes: &mut Notes, name: &[u8], address: u32) -> Result<(), AllocError> {
-    notes.say(&[
-        Piece::Text("  code of "),
-        Piece::Name(name),
-        Piece::Text(" at "),
-        Piece::Hex(address),
-    ])
 }

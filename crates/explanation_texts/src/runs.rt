@@ -94,10 +94,16 @@ pub fn explain_fault(
     if let Some(origin) = fault.culprit.other {
         say_origin(notes, file, involved.other, &origin)?;
     }
-    match fault.culprit.address {
-        Some(address) => say_address(notes, address, involved.bytes),
-        None => Ok(()),
+    let Some(address) = fault.culprit.address else {
+        return Ok(());
+    };
+    notes.begin("it addresses ")?;
+    notes.put(&[Piece::Hex(address)])?;
+    if involved.bytes.is_empty() {
+        return notes.end(", which is of no section");
     }
+    notes.put(&[Piece::Text(", of "), Piece::Name(involved.bytes)])?;
+    notes.end("")
 }
 
 /// The object of whose address a value was made, and how.
@@ -108,30 +114,16 @@ fn say_origin(
     origin: &Origin,
 ) -> Result<(), AllocError> {
     notes.begin("the value comes of the address of ")?;
-    notes.put(&[Piece::Name(object), Piece::Text(way_text(origin.way))])?;
-    if let Some(at) = origin.made {
-        put_place(notes, file, at)?;
-    }
-    notes.end("")
-}
-
-fn way_text(way: Way) -> &'static str {
-    match way {
+    let way = match origin.way {
         Way::Upper => ", and is its upper part",
         Way::Address => "",
         Way::CopiedUpper => ", of which the upper part was copied to another register",
         Way::Computed => ", with which other arithmetic was done than to add a number",
         Way::Tested => ", of which it was asked as a value whether it is null (p == 0)",
+    };
+    notes.put(&[Piece::Name(object), Piece::Text(way)])?;
+    if let Some(at) = origin.made {
+        put_place(notes, file, at)?;
     }
-}
-
-/// The address, and the object or the section that has the byte there.
-fn say_address(notes: &mut Notes, address: u32, holder: &[u8]) -> Result<(), AllocError> {
-    notes.begin("it addresses ")?;
-    notes.put(&[Piece::Hex(address)])?;
-    if holder.is_empty() {
-        return notes.end(", which is of no section");
-    }
-    notes.put(&[Piece::Text(", of "), Piece::Name(holder)])?;
     notes.end("")
 }

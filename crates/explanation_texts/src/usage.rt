@@ -222,12 +222,7 @@ fn explain_first(notes: &mut Notes, word: &str) -> Result<(), AllocError> {
 }
 
 fn is_one_of(word: &str, list: &[&str]) -> bool {
-    for other in list {
-        if *other == word {
-            return true;
-        }
-    }
-    false
+    list.iter().any(|other| *other == word)
 }
 
 /// A line for each command.
@@ -286,7 +281,7 @@ fn say_wrong_word(
 /// That there are too many words or too few, or else which of them the command may not have.
 fn say_count(notes: &mut Notes, command: &Command, words: &[String]) -> Result<(), AllocError> {
     let given = words.len().saturating_sub(1) as u64;
-    let wanted = count_words(command.operands);
+    let wanted = command.operands.split_whitespace().count() as u64;
     if given != wanted {
         return notes.say(&[
             Piece::Name(command.word.as_bytes()),
@@ -303,16 +298,9 @@ fn say_count(notes: &mut Notes, command: &Command, words: &[String]) -> Result<(
             word,
             "has the name of another word, and what is written needs a name of its own",
         ),
-        None => say_numbers(notes, command),
+        None if command.numbers.is_empty() => Ok(()),
+        None => notes.say_words(command.numbers),
     }
-}
-
-/// What the numbers of a command may be.
-fn say_numbers(notes: &mut Notes, command: &Command) -> Result<(), AllocError> {
-    if command.numbers.is_empty() {
-        return Ok(());
-    }
-    notes.say_words(command.numbers)
 }
 
 fn fault_of_name(word: &str) -> Option<&'static str> {
@@ -345,14 +333,6 @@ pub(crate) fn begin_word(notes: &mut Notes, place: usize, word: &str) -> Result<
         Piece::Name(word.as_bytes()),
         Piece::Text(", "),
     ])
-}
-
-fn count_words(operands: &str) -> u64 {
-    let mut count: u64 = 0;
-    for _ in operands.split_whitespace() {
-        count = count.saturating_add(1);
-    }
-    count
 }
 
 /// A name that is written and that another word has, too, and its place.

@@ -74,16 +74,11 @@ impl ObjectCensus {
 
     fn note_labels(&mut self, map: &SectionMap, file: &LoadedFile, ranges: &[ByteRange]) {
         for k in 0..file.view.relocs.len() {
-            if let Some(label) = label_of(file, ranges, k) {
-                self.note_label(map, label);
-            }
-        }
-    }
-
-    fn note_label(&mut self, map: &SectionMap, label: LabelUse) {
-        if let Some(section) = self.section_of(map, label.home) {
-            if section.label.is_none() {
-                section.label = Some(label);
+            let Some(label) = label_of(file, ranges, k) else {
+                continue;
+            };
+            if let Some(section) = self.section_of(map, label.home) {
+                section.label = Some(section.label.unwrap_or(label));
             }
         }
     }

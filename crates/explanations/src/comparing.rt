@@ -116,17 +116,14 @@ fn does_same(
         return Ok(false);
     }
     let outcome = machine.run(run.steps)?;
-    Ok(are_alike(run, outcome, machine.output()))
-}
-
-fn are_alike(run: &ProgramRun, other: FlatOutcome, bytes: &[u8]) -> bool {
+    let bytes = machine.output();
     let written = run.written.as_slice();
-    match (run.outcome, other) {
+    Ok(match (run.outcome, outcome) {
         (Outcome::GoesOn, _) => bytes.starts_with(written),
         (Outcome::Exited(code), FlatOutcome::Exited(other)) => code == other && bytes == written,
         (Outcome::Trapped { .. }, FlatOutcome::Trapped { .. }) => bytes == written,
         _ => false,
-    }
+    })
 }
 
 /// A result of a program that goes on: how far it was compared, and whether it ended within as many steps.
@@ -140,7 +137,8 @@ fn explain_running(
     let Some(mut machine) = flat_machine(notes.alloc(), relinked, board, input)? else {
         return Ok(());
     };
-    let most = most_steps(board, run.steps);
+    let each = u64::from(board.spm.size) * 12 + 256;
+    let most = run.steps.saturating_add(1).saturating_mul(each);
     let compared = steps_to_write(&mut machine, run.written.len(), most)?;
     say_compared(notes, run.steps, compared)?;
     match machine.run(run.steps.saturating_sub(compared))? {
@@ -148,12 +146,6 @@ fn explain_running(
         FlatOutcome::Trapped { pc } => say_ended_early(notes, ResultEnd::Trapped { pc }),
         FlatOutcome::GoesOn => say_more_steps(notes),
     }
-}
-
-/// How many steps a result is compared at most, of a program that took so many.
-fn most_steps(board: &Board, steps: u64) -> u64 {
-    let each = u64::from(board.spm.size) * 12 + 256;
-    steps.saturating_add(1).saturating_mul(each)
 }
 
 /// Takes steps until so many bytes are written, or `most` were taken, and tells how many it took.

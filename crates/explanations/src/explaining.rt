@@ -82,7 +82,10 @@ fn explain_rejected(
         CommandFault::Analyse(fault) => explain_refusal(notes, inputs, fault),
         CommandFault::Elf(_) => {
             explain_file(notes, &inputs.unchecked())?;
-            explain_beside(notes, inputs)
+            match inputs.beside {
+                Some(bytes) => explain_file(notes, &UncheckedFile { bytes }),
+                None => Ok(()),
+            }
         }
         _ => explain_analysed(notes, inputs, None),
     }
@@ -141,14 +144,6 @@ fn explain_file(notes: &mut Notes, file: &UncheckedFile) -> Result<(), AllocErro
     }
 }
 
-/// A further ELF file, where it can't be read.
-fn explain_beside(notes: &mut Notes, inputs: &Inputs) -> Result<(), AllocError> {
-    match inputs.beside {
-        Some(bytes) => explain_file(notes, &UncheckedFile { bytes }),
-        None => Ok(()),
-    }
-}
-
 /// Why a file is not analysed for the board.
 fn explain_refusal(
     notes: &mut Notes,
@@ -162,27 +157,17 @@ fn explain_refusal(
             Err(_) => Ok(()),
         },
         AnalyseFault::PatchTooSmall { need, have } => say_small_patch(notes, *need, *have),
-        AnalyseFault::Code(fault) => explain_code(notes, fault),
-        AnalyseFault::Region(fault) => explain_unlisted(notes, fault),
+        AnalyseFault::Code(fault) => match fault {
+            CodeFault::TooManyBlocks { count } => say_many_blocks(notes, *count),
+            CodeFault::NoText | CodeFault::EntryNotLeader => explain_no_code(notes),
+            CodeFault::Memory => Ok(()),
+        },
+        AnalyseFault::Region(fault) => match fault {
+            RegionFault::UnknownFunction { name } => say_unknown_function(notes, name.as_str()),
+            RegionFault::TwoRegions { name } => say_listed_twice(notes, name.as_str()),
+            RegionFault::Memory => Ok(()),
+        },
         AnalyseFault::Memory => Ok(()),
-    }
-}
-
-/// Why code has no blocks.
-fn explain_code(notes: &mut Notes, fault: &CodeFault) -> Result<(), AllocError> {
-    match fault {
-        CodeFault::TooManyBlocks { count } => say_many_blocks(notes, *count),
-        CodeFault::NoText | CodeFault::EntryNotLeader => explain_no_code(notes),
-        CodeFault::Memory => Ok(()),
-    }
-}
-
-/// Why a program can't have the regions of a board.
-fn explain_unlisted(notes: &mut Notes, fault: &RegionFault) -> Result<(), AllocError> {
-    match fault {
-        RegionFault::UnknownFunction { name } => say_unknown_function(notes, name.as_str()),
-        RegionFault::TwoRegions { name } => say_listed_twice(notes, name.as_str()),
-        RegionFault::Memory => Ok(()),
     }
 }
 

@@ -95,7 +95,12 @@ impl<'a> Search<'a> {
                 break;
             };
             let Some(next) = runs.fault else {
-                return Ok(self.end_without_fault());
+                // the run may have been cut off
+                return Ok(if self.left == 0 {
+                    FixEnd::Cut
+                } else {
+                    FixEnd::Whole
+                });
             };
             self.faults.push(next)?;
             fault = next;
@@ -105,15 +110,6 @@ impl<'a> Search<'a> {
         } else {
             FixEnd::Cut
         })
-    }
-
-    /// What the search came to where a run met no fault: the run may have been cut off.
-    fn end_without_fault(&self) -> FixEnd {
-        if self.left == 0 {
-            FixEnd::Cut
-        } else {
-            FixEnd::Whole
-        }
     }
 
     /// Keeps the objects that a fault involves. Tells whether one is new.

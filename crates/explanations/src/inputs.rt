@@ -76,7 +76,10 @@ pub(crate) fn inputs_of<'a>(
         mix: text_of(texts, command.mix),
         listed: texts.listed,
         moved,
-        added: added_segment(relinked, moved),
+        added: match (relinked, moved) {
+            (Some(bytes), Some(true)) => UncheckedFile { bytes }.last_segment(),
+            _ => None,
+        },
         beside: text_of(texts, command.beside),
         tells_pairing: command.tells_pairing,
         goes_on: report == SAME_AND_RUNNING,
@@ -99,12 +102,4 @@ fn result_of<'a>(command: &Command, prepared: &'a PreparedResult<'_>) -> Option<
         }
     }
     None
-}
-
-/// The last segment of a result, where something moved.
-fn added_segment(relinked: Option<&[u8]>, moved: Option<bool>) -> Option<RawSegment> {
-    match (relinked, moved) {
-        (Some(bytes), Some(true)) => UncheckedFile { bytes }.last_segment(),
-        _ => None,
-    }
 }

@@ -1,14 +1,6 @@
-use command_language::{MixFault, MixInput, read_mix};
+use command_language::{MixFault, read_mix};
 use explanation_texts::{Notes, say_bad_line, say_unread_input};
-use std::alloc::{AllocError, Global};
-
-/// The lines of a text that lists inputs; none where one breaks a rule.
-fn lines_of(alloc: Global, text: &[u8]) -> Vec<MixInput<'_>> {
-    match read_mix(alloc, text, &[]) {
-        Ok(lines) => lines,
-        Err(_) => Vec::new(alloc),
-    }
-}
+use std::alloc::AllocError;
 
 /// The line of a text whose input can't be read, by its place from 0.
 pub(crate) fn explain_unread_input(
@@ -16,7 +8,9 @@ pub(crate) fn explain_unread_input(
     text: &[u8],
     place: usize,
 ) -> Result<(), AllocError> {
-    let lines = lines_of(notes.alloc(), text);
+    let Ok(lines) = read_mix(notes.alloc(), text, &[]) else {
+        return Ok(());
+    };
     match lines.get(place) {
         Some(line) => say_unread_input(notes, place as u64 + 1, line.name),
         None => Ok(()),

@@ -19,19 +19,9 @@ use std::alloc::{AllocError, Global};
 pub(crate) fn may_be_unpaired(inputs: &Inputs) -> bool {
     inputs.tells_pairing
         && match elf_reader::read(inputs.alloc, inputs.file) {
-            Ok(view) => has_relative(&view),
+            Ok(view) => view.relocs.iter().any(|reloc| is_relative(reloc.kind)),
             Err(_) => false,
         }
-}
-
-/// Whether a file makes addresses relative to the pc.
-fn has_relative(view: &ElfView) -> bool {
-    for reloc in &view.relocs {
-        if is_relative(reloc.kind) {
-            return true;
-        }
-    }
-    false
 }
 
 /// Whether a file makes addresses of objects that may move relative to the pc. Where it makes none, each run of its

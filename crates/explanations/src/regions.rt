@@ -1,7 +1,7 @@
 use crate::inputs::Inputs;
 use crate::names::symbol_name;
 use board_config::Board;
-use code_blocks::{Block, Code, Function};
+use code_blocks::Function;
 use explanation_texts::{Barrier, Notes, say_full_patch, say_idle_driver, say_lost_region};
 use relink_core::Analysis;
 use rv32im::RegSet;
@@ -45,7 +45,8 @@ fn barriers_of<'a>(
     let mut barriers = Vec::new(alloc);
     for (place, function) in analysis.code.functions.iter().enumerate() {
         let name = symbol_name(&analysis.view, function.name);
-        if barriers.len() < TOLD_BARRIERS && is_listed(names, name) {
+        let is_listed = names.iter().any(|listed| listed.as_bytes() == name);
+        if is_listed && barriers.len() < TOLD_BARRIERS {
             if let Some(leader) = barred_leader(analysis, place as u64, function) {
                 barriers.push(Barrier {
                     function: name,
@@ -57,15 +58,14 @@ fn barriers_of<'a>(
     Ok(barriers)
 }
 
-fn is_listed(names: &[String], name: &[u8]) -> bool {
-    names.iter().any(|listed| listed.as_bytes() == name)
-}
-
-/// The first block of a function by which control enters it, and where no register is dead.
+/// The first block of a function by which control enters it, at its beginning or by an address in a register, and where no register
+/// is dead.
 fn barred_leader(analysis: &Analysis<'_>, place: u64, function: &Function) -> Option<u32> {
     for block in &analysis.code.blocks {
+        let is_called = block.start == function.start;
+        let is_entered = is_called || analysis.code.indirect.binary_search(&block.start).is_ok();
         if block.function.map(u64::from) == Some(place)
-            && is_entered(&analysis.code, block, function)
+            && is_entered
             && analysis
                 .live
                 .dead_at(block.start, RegSet { bits: 0 })
@@ -75,11 +75,6 @@ fn barred_leader(analysis: &Analysis<'_>, place: u64, function: &Function) -> Op
         }
     }
     None
-}
-
-/// Whether control enters a function by a block: at its beginning, or by an address in a register.
-fn is_entered(code: &Code, block: &Block, function: &Function) -> bool {
-    block.start == function.start || code.indirect.binary_search(&block.start).is_ok()
 }
 
 /// A result that takes most of the patch range.

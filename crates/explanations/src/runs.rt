@@ -145,7 +145,7 @@ fn involved_in<'a>(view: &ElfView<'a>, graph: &Graph, fault: &AddressFault) -> I
         bytes: addressed(view, fault),
         has_symbols: view.symbols.len() > 1,
         has_relocations: !view.relocs.is_empty(),
-        has_anchors: has_anchors(view),
+        has_anchors: view.symbols.iter().any(|symbol| is_anchor(symbol.name)),
     }
 }
 
@@ -187,13 +187,4 @@ fn section_of<'a>(view: &ElfView<'a>, fault: &AddressFault) -> &'a [u8] {
         Some(place) => section_name(view, place),
         None => &[],
     }
-}
-
-fn has_anchors(view: &ElfView) -> bool {
-    for symbol in &view.symbols {
-        if is_anchor(symbol.name) {
-            return true;
-        }
-    }
-    false
 }

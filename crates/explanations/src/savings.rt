@@ -64,7 +64,12 @@ pub(crate) fn explain_saved(
 ) -> Result<(), AllocError> {
     let base = chosen.programme.base;
     let saved = saved_by(chosen);
-    say_saved(notes, thousandths(saved, base), measured_of(inputs))
+    let of = match &inputs.end {
+        None => Measured::Mix,
+        Some(end) if end.outcome == Outcome::GoesOn => Measured::Steps,
+        Some(_) => Measured::Run,
+    };
+    say_saved(notes, thousandths(saved, base), of)
 }
 
 /// What a choice saves: what its variables gain, less the fixed cost of their side.
@@ -79,14 +84,6 @@ fn saved_by(chosen: &ChosenPlacement) -> u128 {
         }
     }
     gains.saturating_sub(side.fixed)
-}
-
-fn measured_of(inputs: &Inputs) -> Measured {
-    match &inputs.end {
-        None => Measured::Mix,
-        Some(end) if end.outcome == Outcome::GoesOn => Measured::Steps,
-        Some(_) => Measured::Run,
-    }
 }
 
 /// What moved, by what it saves: where in the program it is, when it stands in the scratchpad, and what it costs before and
@@ -157,23 +154,19 @@ fn explain_more(notes: &mut Notes, items: &[TakenItem], base: u128) -> Result<()
 
 fn moved_item<'a>(analysis: &Analysis<'a>, item: &TakenItem, base: u128) -> MovedItem<'a> {
     MovedItem {
-        standing: standing_of(item.name),
+        standing: match item.name {
+            VarName::StaticData { .. } | VarName::StaticCode { .. } => Standing::Throughout,
+            VarName::OverlayData { region, .. } | VarName::OverlayCode { region, .. } => {
+                Standing::InRegion(region)
+            }
+            VarName::KeptData { pair, .. } => Standing::InTwins(pair),
+        },
         part: part_of(analysis, item.name),
         saved: thousandths(item.gain, base),
         before: match item.before {
             Some(before) => Some(thousandths(before, base)),
             None => None,
         },
-    }
-}
-
-fn standing_of(name: VarName) -> Standing {
-    match name {
-        VarName::StaticData { .. } | VarName::StaticCode { .. } => Standing::Throughout,
-        VarName::OverlayData { region, .. } | VarName::OverlayCode { region, .. } => {
-            Standing::InRegion(region)
-        }
-        VarName::KeptData { pair, .. } => Standing::InTwins(pair),
     }
 }
 
