@@ -1,7 +1,7 @@
 /* Counts the letters of its input, of which it looks up the kinds in tables. Each of these names makes it fail, or save less:
    KEEP_NULL keeps as a number whether a pointer is null, HASH takes a hash of an address, TWO_POOLS compares pointers into two
    objects, by bounds that are data, THREADS has thread-local variables, CROWD calls a function that reads all registers, INWARD
-   one that calls a label inside itself. */
+   one that calls a label inside itself, CALL_MEMSET the memset of ../calls.c. */
 #include "../calls.h"
 
 static const unsigned char kinds[32] = {
@@ -25,6 +25,11 @@ static _Thread_local int volatile depth;
 _Thread_local int volatile deepest;
 #endif
 
+#ifdef CALL_MEMSET
+void *memset(void *, int, unsigned);
+static volatile unsigned size = sizeof counts;
+#endif
+
 /* What the names ask for. */
 static int special(void)
 {
@@ -41,6 +46,9 @@ static int special(void)
     return deepest;
 #elif defined CROWD || defined INWARD
     return called(3);
+#elif defined CALL_MEMSET
+    memset(counts, 1, size);
+    return counts[0];
 #else
     return 0;
 #endif

@@ -46,7 +46,7 @@ pub use refusals::{explain_elf, explain_layout, explain_no_code};
 pub use regions::{
     Barrier, InwardCall, say_full_patch, say_idle_driver, say_inward, say_lost_region,
 };
-pub use runs::{Involved, explain_fault, say_still_running, say_trapped};
+pub use runs::{Involved, explain_fault, say_calling_itself, say_still_running, say_trapped};
 pub use savings::{
     Measured, MovedItem, MovedPart, Standing, Used, say_fixed_cost, say_more_items, say_moved_item,
     say_overlay_room, say_patch_room, say_saved, say_scratchpad_room,

@@ -67,6 +67,20 @@ pub fn say_still_running(
     notes.say_first("give the board more `steps`, or take a shorter input")
 }
 
+/// A function that a compiler calls where it finds a loop that does the same, and that calls itself. It fails only where no
+/// memory was left.
+pub fn say_calling_itself(notes: &mut Notes, name: &[u8]) -> Result<(), AllocError> {
+    notes.say(&[
+        Piece::Name(name),
+        Piece::Text(
+            " calls itself: the compiler found that its loop does what the function does, and made a call of it",
+        ),
+    ])?;
+    notes.say_first(
+        "compile with -fno-tree-loop-distribute-patterns, -fno-builtin or -ffreestanding",
+    )
+}
+
 /// A line of words, a place, and the instruction that stands there.
 pub(crate) fn say_instruction(
     notes: &mut Notes,

@@ -2,17 +2,19 @@ ghost use Rattle.std.specs.Prelude.{ℕ, List};
 ghost use Rattle.command_line.specs.Analysed.{IsOpened};
 
 use crate::fixing::explain_fixes;
-use crate::names::{name_at, object_name, section_at, section_name};
+use crate::names::{name_at, object_name, section_at, section_name, symbol_name};
 use crate::subject::Subject;
+use code_blocks::{Code, End};
 use command_line::MeasuredEnd;
 use elf_reader::ElfView;
 use explanation_texts::{
-    Involved, Notes, explain_fault, is_anchor, may_keep, say_fault_cure, say_faulty_input,
-    say_load_address, say_still_running, say_trapped,
+    Involved, Notes, explain_fault, is_anchor, may_keep, say_calling_itself, say_fault_cure,
+    say_faulty_input, say_load_address, say_still_running, say_trapped,
 };
 use fault_trail::{AddressFault, Origin, follow_run};
 use object_graph::Graph;
 use object_machine::Outcome;
+use relink_core::Analysis;
 use std::alloc::AllocError;
 use unchecked_file::UncheckedFile;
 
@@ -21,6 +23,9 @@ const ADDRESS_FAULTS: [u8; 2] = [8, 12];
 
 /// The reason of an access to an object that may move by a plain number.
 pub(crate) const BY_NUMBER: u32 = 4;
+
+/// The functions of which compilers make calls where they find loops that do the same.
+const CALLED_FOR_LOOPS: [&[u8]; 4] = [b"memset", b"memcpy", b"memmove", b"strlen"];
 
 /// An address fault, and what it involves.
 #[derive(Clone, Copy)]
@@ -47,6 +52,12 @@ pub(crate) fn explain_run(notes: &mut Notes, subject: &Subject) -> Result<(), Al
     requires { (board_text : List ℕ) × ((file : List ℕ) × IsOpened board_text file subject.now.opened) }
 {
     let file = subject.inputs.unchecked();
+    let analysis = &subject.opened.analysis;
+    if let Some(end) = &subject.inputs.end {
+        if end.outcome == Outcome::GoesOn {
+            explain_itself(notes, analysis, end.at)?;
+        }
+    }
     if !ADDRESS_FAULTS.contains(&subject.inputs.status) {
         return Ok(());
     }
@@ -57,10 +68,47 @@ pub(crate) fn explain_run(notes: &mut Notes, subject: &Subject) -> Result<(), Al
         say_faulty_input(notes, line)?;
     }
     explain_fault(notes, &file, &first.fault, &first.involved)?;
+    if explain_itself(notes, analysis, first.fault.pc)? {
+        return Ok(());
+    }
     if may_keep(&file, &first.fault, &first.involved) {
         return explain_fixes(notes, subject, &first);
     }
     say_fault_cure(notes, &file, &first.fault, &first.involved)
+}
+
+/// Whether the function that has the byte at an address calls itself, and is one that compilers call in place of loops. It says so
+/// then.
+fn explain_itself(
+    notes: &mut Notes,
+    analysis: &Analysis<'_>,
+    address: u32,
+) -> Result<bool, AllocError> {
+    for (number, function) in analysis.code.functions.iter().enumerate() {
+        let name = symbol_name(&analysis.view, function.name);
+        if address.wrapping_sub(function.start) < function.size
+            && CALLED_FOR_LOOPS.contains(&name)
+            && calls(&analysis.code, number, function.start)
+        {
+            say_calling_itself(notes, name)?;
+            return Ok(true);
+        }
+    }
+    Ok(false)
+}
+
+/// Whether a block of a function ends by a call of the code at an address.
+fn calls(code: &Code, function: usize, address: u32) -> bool {
+    for block in &code.blocks {
+        let is_call = match block.end {
+            End::Call { target, .. } | End::Tail { target } => target == address,
+            _ => false,
+        };
+        if is_call && block.function.map(|function| function as usize) == Some(function) {
+            return true;
+        }
+    }
+    false
 }
 
 /// The program's runs up to the first address fault, in so many steps at most.
