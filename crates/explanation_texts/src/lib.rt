@@ -38,7 +38,7 @@ pub use fixes::{
 pub use mixes::{say_bad_line, say_faulty_input, say_unpaired_input, say_unread_input};
 pub use notes::Notes;
 pub use objects::{
-    Label, PinnedSection, Rule, is_anchor, say_load_address, say_more_sections, say_nothing_moved,
+    Label, PinnedSection, is_anchor, say_load_address, say_more_sections, say_nothing_moved,
     say_pinned, say_prices, say_short_run,
 };
 pub use pairing::{MixedParts, say_measured_unpaired, say_unpaired};

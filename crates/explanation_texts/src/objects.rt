@@ -1,5 +1,6 @@
 use crate::cures::before_name;
 use crate::notes::{Notes, Piece};
+use crate::savings::put_percent;
 use std::alloc::AllocError;
 use unchecked_file::{RawSegment, UncheckedFile};
 
@@ -22,26 +23,20 @@ pub struct Label<'a> {
     pub object: &'a [u8],
 }
 
-/// A rule by which objects stay.
-#[derive(Clone, Copy)]
-pub enum Rule<'a> {
-    /// The board keeps all of `.bss`.
-    Zeros,
-    /// A relocation leads to an object of the section by a label.
-    Label(Label<'a>),
-    /// The board lists them, they overlap, or a relocation does not tell how their addresses are made.
-    Other,
-}
-
-/// Objects of a section that stay.
+/// Objects of a section that stay. Without a reason of these two the board lists them, they overlap, or a relocation does not
+/// tell how their addresses are made.
 #[derive(Clone, Copy)]
 pub struct PinnedSection<'a> {
     /// The name of the section.
     pub name: &'a [u8],
     /// How many objects of it stay.
     pub fixed: u64,
-    /// Why.
-    pub rule: Rule<'a>,
+    /// Whether the board keeps all of `.bss`.
+    pub is_zeros: bool,
+    /// A label by which a relocation leads to one of them.
+    pub label: Option<Label<'a>>,
+    /// How many thousandths of the measured run's energy its reads and writes would save in the scratchpad, where that is known.
+    pub at_stake: Option<u64>,
 }
 
 /// What frees objects, by what the label begins with that pins them, or ends with.
@@ -123,26 +118,29 @@ const LIBRARY: &[u8] = b".library";
 /// How many sources are told at most.
 const TOLD_SOURCES: usize = 4;
 
-/// Objects of a section that stay, why, and what frees them. The sources are those that have anchors in it. It fails only where
-/// no memory was left.
+/// Objects of a section that stay, why, and what frees them; of zeros also what keeps them then, if that is an anchor. The
+/// sources are those that have anchors in it. It fails only where no memory was left.
 pub fn say_pinned(
     notes: &mut Notes,
     section: &PinnedSection,
     sources: &[&[u8]],
 ) -> Result<(), AllocError> {
-    match section.rule {
-        Rule::Zeros => {
-            say_stay(notes, section, "`bss` of the board is \"fixed\"")?;
-            notes.say_first(
-                "write bss = \"movable\" into the board, if no start code clears the section by its addresses",
-            )
+    if section.is_zeros {
+        say_stay(notes, section, "`bss` of the board is \"fixed\"")?;
+        notes.say_first(
+            "write bss = \"movable\" into the board, if no start code clears the section by its addresses",
+        )?;
+    }
+    match section.label {
+        Some(label) if !section.is_zeros || is_anchor(label.name) => {
+            say_label(notes, section, &label, sources)
         }
-        Rule::Label(label) => say_label(notes, section, &label, sources),
-        Rule::Other => say_stay(
+        None if !section.is_zeros => say_stay(
             notes,
             section,
             "`fix` of the board lists them, they overlap, or a relocation does not tell how their addresses are made",
         ),
+        _ => Ok(()),
     }
 }
 
@@ -182,8 +180,12 @@ fn say_label(
     label: &Label,
     sources: &[&[u8]],
 ) -> Result<(), AllocError> {
-    notes.begin("")?;
-    put_stay(notes, section)?;
+    if section.is_zeros {
+        notes.begin("with that they still stay: ")?;
+    } else {
+        notes.begin("")?;
+        put_stay(notes, section)?;
+    }
     notes.put(&[
         Piece::Text("a relocation in "),
         Piece::Name(label.changed),
@@ -193,6 +195,11 @@ fn say_label(
         Piece::Name(label.name),
     ])?;
     notes.end(", and so none may move")?;
+    if let Some(at_stake) = section.at_stake {
+        notes.begin("  at stake is up to ")?;
+        put_percent(notes, at_stake)?;
+        notes.end(" of the energy: what the reads and writes there would save in the scratchpad")?;
+    }
     if is_anchor(label.name) {
         return say_anchor_cure(notes, section.name, sources);
     }
@@ -209,7 +216,8 @@ fn say_anchor_cure(notes: &mut Notes, section: &[u8], sources: &[&[u8]]) -> Resu
     notes.begin("first: compile with -fno-section-anchors or -fdata-sections")?;
     for (place, source) in sources.iter().enumerate() {
         if place < TOLD_SOURCES {
-            put_source(notes, place, source)?;
+            let before = before_name(place, " (the anchors are of ");
+            notes.put(&[Piece::Text(before), Piece::Name(source)])?;
         }
     }
     if let Some(more) = sources.len().checked_sub(TOLD_SOURCES) {
@@ -226,12 +234,6 @@ fn say_anchor_cure(notes: &mut Notes, section: &[u8], sources: &[&[u8]]) -> Resu
     } else {
         "); a library that you don't compile gets an output section of its own, as .rodata.library in examples/board.ld"
     })
-}
-
-/// Goes on with a line by a source that has anchors, by its place in their list.
-fn put_source(notes: &mut Notes, place: usize, source: &[u8]) -> Result<(), AllocError> {
-    let before = before_name(place, " (the anchors are of ");
-    notes.put(&[Piece::Text(before), Piece::Name(source)])
 }
 
 /// What frees objects from a label.

@@ -27,7 +27,7 @@ pub fn say_saved(notes: &mut Notes, thousandths: u64, of: Measured) -> Result<()
 }
 
 /// Goes on with a line by thousandths, in percent.
-fn put_percent(notes: &mut Notes, thousandths: u64) -> Result<(), AllocError> {
+pub(crate) fn put_percent(notes: &mut Notes, thousandths: u64) -> Result<(), AllocError> {
     notes.put(&[
         Piece::Number(thousandths / 10),
         Piece::Text("."),

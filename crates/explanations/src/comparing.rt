@@ -88,7 +88,7 @@ fn steps_to_end(source: &mut Source, most: u64) -> Result<u64, AllocError> {
 }
 
 /// The flat machine at the entry of a file; `None` for what is no ELF file.
-fn flat_machine(
+pub(crate) fn flat_machine(
     alloc: Global,
     bytes: &[u8],
     board: &Board,

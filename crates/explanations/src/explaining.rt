@@ -194,7 +194,7 @@ fn explain_subject(
         explain_regions(notes, inputs, board, analysis)?;
         explain_patch(notes, inputs, board)?;
     }
-    explain_pinned(notes, inputs, board, &analysis.view, &analysis.graph)
+    explain_pinned(notes, subject, chosen)
 }
 
 /// What a choice takes, what room that leaves, and what stays.

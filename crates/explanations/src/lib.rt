@@ -19,6 +19,7 @@ mod room;
 mod runs;
 mod savings;
 mod section_map;
+mod stakes;
 mod staying;
 mod subject;
 

@@ -34,11 +34,6 @@ pub(crate) fn section_name<'a>(view: &ElfView<'a>, place: usize) -> &'a [u8] {
     }
 }
 
-/// The name of a section by its number; empty where there is none.
-pub(crate) fn section_of_number<'a>(view: &ElfView<'a>, number: u32) -> &'a [u8] {
-    section_name(view, number as usize)
-}
-
 /// The name of a symbol by its number; empty where there is none.
 pub(crate) fn symbol_name<'a>(view: &ElfView<'a>, number: u32) -> &'a [u8] {
     match view.symbols.get(number as usize) {

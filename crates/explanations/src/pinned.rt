@@ -1,13 +1,14 @@
 use crate::census::{LabelUse, ObjectCensus, SectionObjects, census};
-use crate::inputs::Inputs;
-use crate::names::{anchor_sources, name_at, section_name, section_of_number, symbol_name};
-use board_config::{Board, Prices};
+use crate::names::{anchor_sources, name_at, section_name, symbol_name};
+use crate::stakes::stake_in;
+use crate::subject::Subject;
+use board_config::Prices;
+use command_line::ChosenPlacement;
 use elf_reader::{ElfView, SHT_NOBITS};
 use explanation_texts::{
-    Label, Notes, PinnedSection, Rule, gives_key, is_anchor, say_more_sections, say_nothing_moved,
+    Label, Notes, PinnedSection, gives_key, is_anchor, say_more_sections, say_nothing_moved,
     say_pinned, say_prices, say_short_run,
 };
-use object_graph::Graph;
 use object_machine::Outcome;
 use std::alloc::{AllocError, Global};
 
@@ -25,62 +26,53 @@ struct RelinkResult {
     bss_movable: bool,
 }
 
-/// A rule by which objects stay, before the names that it is told with are looked up.
-#[derive(Clone, Copy)]
-enum PinningRule {
-    Zeros,
-    Label(LabelUse),
-    Other,
-}
-
-/// Objects of a section that stay, and why.
+/// Objects of a section that stay, before the names that they are told with are looked up.
 #[derive(Clone, Copy)]
 struct PinnedObjects {
     /// The number of the section.
     section: usize,
     /// How many stay.
     fixed: u64,
-    rule: PinningRule,
-}
-
-/// The two sections of which most objects stay.
-#[derive(Clone, Copy)]
-struct Largest {
-    first: Option<PinnedObjects>,
-    second: Option<PinnedObjects>,
-    /// How many sections have objects that stay.
-    count: u64,
+    /// Whether the board keeps them, as it keeps all of `.bss`.
+    is_zeros: bool,
+    /// A label that pins them.
+    label: Option<LabelUse>,
 }
 
 /// Which objects stay, and by which rule. It says nothing where all may move and some did.
 pub(crate) fn explain_pinned(
     notes: &mut Notes,
-    inputs: &Inputs,
-    board: &Board,
-    view: &ElfView,
-    graph: &Graph,
+    subject: &Subject,
+    chosen: Option<&ChosenPlacement>,
 ) -> Result<(), AllocError> {
+    let inputs = &subject.inputs;
+    let board = &subject.opened.board;
+    let analysis = &subject.opened.analysis;
     let Some(has_moved) = inputs.moved else {
         return Ok(());
     };
     let relinked = RelinkResult {
         has_moved,
-        tells_bss: tells_bss(inputs),
+        tells_bss: gives_key(inputs.board_text(), b"bss"),
         bss_movable: board.bss_movable,
     };
-    let census = census(inputs.alloc, view, graph)?;
-    let largest = largest_of(view, &census, &relinked);
-    if !relinked.has_moved {
-        let movable = graph.objects.len() as u64;
+    let census = census(inputs.alloc, &analysis.view, &analysis.graph)?;
+    let pinned = pinned_sections(inputs.alloc, &analysis.view, &census, &relinked)?;
+    if !has_moved {
+        let movable = analysis.graph.objects.len() as u64;
         say_nothing_moved(notes, movable, census.total)?;
         if !is_cheaper(&board.prices) {
             return say_prices(notes);
         }
-        if movable != 0 && largest.count == 0 && has_exited(inputs) {
+        let has_exited = match inputs.end {
+            Some(end) => matches!(end.outcome, Outcome::Exited(_)),
+            None => false,
+        };
+        if movable != 0 && pinned.is_empty() && has_exited {
             return say_short_run(notes);
         }
     }
-    largest.say(notes, view)
+    say_largest(notes, subject, chosen, &pinned)
 }
 
 /// Whether some access costs less in the scratchpad.
@@ -90,111 +82,81 @@ fn is_cheaper(prices: &Prices) -> bool {
         || prices.spm_write < prices.main_write
 }
 
-/// Whether the measured run came to the program's end.
-fn has_exited(inputs: &Inputs) -> bool {
-    match &inputs.end {
-        Some(end) => matches!(end.outcome, Outcome::Exited(_)),
-        None => false,
-    }
-}
-
-fn tells_bss(inputs: &Inputs) -> bool {
-    match inputs.board {
-        Some(text) => gives_key(text, b"bss"),
-        None => false,
-    }
-}
-
-fn largest_of(view: &ElfView, census: &ObjectCensus, relinked: &RelinkResult) -> Largest {
-    let mut largest = Largest {
-        first: None,
-        second: None,
-        count: 0,
-    };
-    for (section, objects) in census.sections.iter().enumerate() {
-        if let Some(rule) = rule_of(view, section, objects, relinked) {
-            largest.add(PinnedObjects {
-                section,
-                fixed: objects.fixed,
-                rule,
-            });
-        }
-    }
-    largest
-}
-
-impl Largest {
-    fn add(&mut self, objects: PinnedObjects) {
-        self.count = self.count.saturating_add(1);
-        if is_larger(&objects, &self.first) {
-            self.second = self.first;
-            self.first = Some(objects);
-        } else if is_larger(&objects, &self.second) {
-            self.second = Some(objects);
-        }
-    }
-
-    /// A section that an anchor pins comes first: its cure is a flag, and frees most.
-    fn say(&self, notes: &mut Notes, view: &ElfView) -> Result<(), AllocError> {
-        let (first, second) = if is_anchored(view, &self.second)
-            && !is_anchored(view, &self.first)
-        {
-            (&self.second, &self.first)
-        } else {
-            (&self.first, &self.second)
-        };
-        say_section(notes, view, first)?;
-        say_section(notes, view, second)?;
-        if self.count > 2 {
-            return say_more_sections(notes, self.count - 2);
-        }
-        Ok(())
-    }
-}
-
-fn say_section(
-    notes: &mut Notes,
+/// The sections with objects that stay for a rule that is to be told, those with most first.
+fn pinned_sections(
+    alloc: Global,
     view: &ElfView,
-    objects: &Option<PinnedObjects>,
-) -> Result<(), AllocError> {
-    match objects {
-        Some(objects) => {
-            let sources = anchor_sources(notes.alloc(), view, objects.section)?;
-            say_pinned(notes, &pinned_section(view, objects), &sources)
+    census: &ObjectCensus,
+    relinked: &RelinkResult,
+) -> Result<Vec<PinnedObjects>, AllocError> {
+    let mut pinned = Vec::new(alloc);
+    for (section, objects) in census.sections.iter().enumerate() {
+        if let Some(objects) = pinned_objects(view, section, objects, relinked) {
+            pinned.push(objects)?;
         }
-        None => Ok(()),
     }
+    pinned.sort_unstable_by_key(|objects| (
+        u64::MAX.saturating_sub(objects.fixed),
+        objects.section,
+    ));
+    Ok(pinned)
 }
 
-/// What is told of objects that stay. The time grows with the number of symbols, so it is asked only for those that
-/// are told of.
-fn pinned_section<'a>(view: &ElfView<'a>, objects: &PinnedObjects) -> PinnedSection<'a> {
-    PinnedSection {
-        name: section_name(view, objects.section),
+/// The objects of a section that stay, if a rule is to be told: none where the board asks for it and others moved.
+fn pinned_objects(
+    view: &ElfView,
+    place: usize,
+    objects: &SectionObjects,
+    relinked: &RelinkResult,
+) -> Option<PinnedObjects> {
+    let section = view.sections.get(place)?;
+    let is_zeros = section.kind == SHT_NOBITS && !relinked.bss_movable;
+    let is_told = match objects.label {
+        _ if !relinked.has_moved => true,
+        _ if is_zeros => !relinked.tells_bss,
+        Some(label) => !symbol_name(view, label.symbol).starts_with(TABLE_START),
+        None => false,
+    };
+    if objects.fixed == 0 || !is_told {
+        return None;
+    }
+    Some(PinnedObjects {
+        section: place,
         fixed: objects.fixed,
-        rule: told_rule(view, objects.rule),
+        is_zeros,
+        label: objects.label,
+    })
+}
+
+/// The two sections of which most objects stay. One that an anchor pins comes first: its cure is a flag, and frees most.
+fn say_largest(
+    notes: &mut Notes,
+    subject: &Subject,
+    chosen: Option<&ChosenPlacement>,
+    pinned: &[PinnedObjects],
+) -> Result<(), AllocError> {
+    let view = &subject.opened.analysis.view;
+    let (first, second) = (pinned.first(), pinned.get(1));
+    if is_anchored(view, second) && !is_anchored(view, first) {
+        say_section(notes, subject, chosen, second)?;
+        say_section(notes, subject, chosen, first)?;
+    } else {
+        say_section(notes, subject, chosen, first)?;
+        say_section(notes, subject, chosen, second)?;
+    }
+    match pinned.len().checked_sub(2) {
+        None | Some(0) => Ok(()),
+        Some(more) => say_more_sections(notes, more as u64),
     }
 }
 
-/// A rule with the names that it is told with.
-fn told_rule<'a>(view: &ElfView<'a>, rule: PinningRule) -> Rule<'a> {
-    match rule {
-        PinningRule::Zeros => Rule::Zeros,
-        PinningRule::Label(label) => Rule::Label(Label {
-            name: symbol_name(view, label.symbol),
-            changed: section_of_number(view, label.changed),
-            object: name_at(view, label.home),
-        }),
-        PinningRule::Other => Rule::Other,
-    }
-}
-
-/// Whether an anchor pins the objects of a section.
-fn is_anchored(view: &ElfView, objects: &Option<PinnedObjects>) -> bool {
+/// Whether an anchor alone pins the objects of a section.
+fn is_anchored(view: &ElfView, objects: Option<&PinnedObjects>) -> bool {
     match objects {
         Some(
             PinnedObjects {
-                rule: PinningRule::Label(label),
+                is_zeros: false,
+                label: Some(label),
                 ..
             },
         ) => is_anchor(symbol_name(view, label.symbol)),
@@ -202,37 +164,37 @@ fn is_anchored(view: &ElfView, objects: &Option<PinnedObjects>) -> bool {
     }
 }
 
-fn is_larger(objects: &PinnedObjects, other: &Option<PinnedObjects>) -> bool {
-    match other {
-        Some(other) => objects.fixed > other.fixed,
-        None => true,
-    }
-}
-
-/// The rule by which objects of a section stay, if one is to be told: none where the board asks for it and others moved.
-fn rule_of(
-    view: &ElfView,
-    place: usize,
-    objects: &SectionObjects,
-    relinked: &RelinkResult,
-) -> Option<PinningRule> {
-    let section = view.sections.get(place)?;
-    if objects.fixed == 0 {
-        return None;
-    }
-    if section.kind == SHT_NOBITS && !relinked.bss_movable {
-        return told_if(
-            !relinked.tells_bss || !relinked.has_moved,
-            PinningRule::Zeros,
-        );
-    }
-    let Some(label) = objects.label else {
-        return told_if(!relinked.has_moved, PinningRule::Other);
+/// What is told of objects that stay. The time grows with the number of symbols, and at an anchor with the steps of the
+/// measured run, so it is asked only for those that are told of.
+fn say_section(
+    notes: &mut Notes,
+    subject: &Subject,
+    chosen: Option<&ChosenPlacement>,
+    objects: Option<&PinnedObjects>,
+) -> Result<(), AllocError> {
+    let Some(objects) = objects else {
+        return Ok(());
     };
-    let is_table = symbol_name(view, label.symbol).starts_with(TABLE_START);
-    told_if(!relinked.has_moved || !is_table, PinningRule::Label(label))
-}
-
-fn told_if(is_told: bool, rule: PinningRule) -> Option<PinningRule> {
-    if is_told { Some(rule) } else { None }
+    let view = &subject.opened.analysis.view;
+    let sources = anchor_sources(notes.alloc(), view, objects.section)?;
+    let label = match objects.label {
+        Some(label) => Some(Label {
+            name: symbol_name(view, label.symbol),
+            changed: section_name(view, label.changed as usize),
+            object: name_at(view, label.home),
+        }),
+        None => None,
+    };
+    let at_stake = match label {
+        Some(label) if is_anchor(label.name) => stake_in(subject, chosen, objects.section)?,
+        _ => None,
+    };
+    let section = PinnedSection {
+        name: section_name(view, objects.section),
+        fixed: objects.fixed,
+        is_zeros: objects.is_zeros,
+        label,
+        at_stake,
+    };
+    say_pinned(notes, &section, &sources)
 }
