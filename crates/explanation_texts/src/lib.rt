@@ -44,7 +44,7 @@ pub use objects::{
 pub use pairing::{MixedParts, say_measured_unpaired, say_unpaired};
 pub use refusals::{explain_elf, explain_layout, explain_no_code};
 pub use regions::{
-    Barrier, InwardCall, say_full_patch, say_idle_driver, say_inward, say_lost_region,
+    Barrier, InwardCalls, say_full_patch, say_idle_driver, say_inward, say_lost_region,
 };
 pub use runs::{Involved, explain_fault, say_calling_itself, say_still_running, say_trapped};
 pub use savings::{

@@ -67,31 +67,57 @@ pub fn say_full_patch(notes: &mut Notes, patch: &Range, taken: u32) -> Result<()
     ])
 }
 
-/// A call from a piece of code to a block of the same piece that is no entry of it.
+/// Calls of a run from a piece of code that moved to a block of the same piece that is no entry of it.
 #[derive(Clone, Copy)]
-pub struct InwardCall {
-    /// The address of the call.
+pub struct InwardCalls {
+    /// The address of the first of them in the program.
     pub at: u32,
     /// Where it leads.
     pub target: u32,
+    /// How many the run makes.
+    pub count: u64,
+    /// The line of the mix that lists its input, where one does.
+    pub line: Option<u64>,
+    /// What OUT pays in the run, and what it does by the model, where that is known.
+    pub paid: Option<(u64, u64)>,
+    /// Whether their cure was not told yet.
+    pub is_first: bool,
 }
 
-/// How many inward calls the measured run makes, and one of them. It fails only where no memory was left.
+/// The inward calls of a run, and what they cost. It fails only where no memory was left.
 pub fn say_inward(
     notes: &mut Notes,
     file: &UncheckedFile,
-    call: &InwardCall,
-    count: u64,
+    calls: &InwardCalls,
 ) -> Result<(), AllocError> {
-    notes.say_number(
-        "the measured run makes ",
-        count,
-        " inward calls, so it may pay more than `after`: the command paid tells what it pays",
-    )?;
+    notes.begin(match calls.line {
+        Some(_) => "the run on line ",
+        None => "the measured run makes ",
+    })?;
+    if let Some(line) = calls.line {
+        notes.put(&[Piece::Number(line), Piece::Text(" of MIX makes ")])?;
+    }
+    notes.put(&[Piece::Number(calls.count), Piece::Text(" inward calls")])?;
+    match calls.paid {
+        Some((paid, after)) => notes.put(&[
+            Piece::Text(": OUT pays "),
+            Piece::Number(paid),
+            Piece::Text(", not "),
+            Piece::Number(after),
+        ])?,
+        None => notes.put(&[Piece::Text(", so OUT may pay more than `after`")])?,
+    }
+    notes.end(match calls.line {
+        Some(_) => ": relink on this input alone tells how much such calls cost",
+        None => "",
+    })?;
     notes.begin("  code that moved calls,")?;
-    put_place(notes, file, call.at)?;
+    put_place(notes, file, calls.at)?;
     notes.put(&[Piece::Text(", what stays at home,")])?;
-    put_place(notes, file, call.target)?;
+    put_place(notes, file, calls.target)?;
     notes.end("")?;
+    if !calls.is_first {
+        return Ok(());
+    }
     notes.say_first("make what is called an entry: .type LABEL, @function, in front of its label")
 }

@@ -16,6 +16,8 @@ pub struct Command {
     pub analyses: bool,
     /// The place of INPUT, where it measures the program of FILE.
     pub input: Option<usize>,
+    /// The place of CERT, where it makes or checks that of one run.
+    pub certificate: Option<usize>,
     /// The place of MIX, where it measures the program of FILE on the inputs that this lists.
     pub mix: Option<usize>,
     /// The place of what FILE is relinked to, where it writes that.
@@ -41,6 +43,7 @@ const NONE: Command = Command {
     board: None,
     analyses: false,
     input: None,
+    certificate: None,
     mix: None,
     result: None,
     beside: None,
@@ -81,6 +84,7 @@ const COMMANDS: [Command; 13] = [
         word: "relink",
         operands: "FILE BOARD INPUT OUT CERT",
         purpose: "moves what saves energy, and writes the new file under OUT",
+        certificate: Some(5),
         result: Some(4),
         tells_pairing: true,
         writes: &[5, 4],
@@ -107,6 +111,7 @@ const COMMANDS: [Command; 13] = [
         word: "check",
         operands: "FILE BOARD INPUT CERT",
         purpose: "checks a certificate that relink wrote",
+        certificate: Some(4),
         tells_pairing: true,
         reads: 4,
         ..MEASURED

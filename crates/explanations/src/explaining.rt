@@ -202,7 +202,9 @@ fn explain_chosen(
     notes: &mut Notes,
     subject: &Subject,
     chosen: &ChosenPlacement,
-) -> Result<(), AllocError> {
+) -> Result<(), AllocError>
+    requires { (board_text : List ℕ) × ((file : List ℕ) × IsOpened board_text file subject.now.opened) }
+{
     explain_taken(notes, subject, chosen)?;
     explain_room(notes, chosen, subject.opened.analysis.regions.count)?;
     explain_staying(notes, subject, chosen)?;

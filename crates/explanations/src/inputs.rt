@@ -18,6 +18,8 @@ pub(crate) struct Inputs<'a> {
     pub(crate) analyses: bool,
     /// The input of the program, where the command measures it on one.
     pub(crate) input: Option<&'a [u8]>,
+    /// The certificate of a choice, where the command makes or checks it for one run.
+    pub(crate) certificate: Option<&'a [u8]>,
     /// The text that lists the inputs, where the command has one.
     pub(crate) mix: Option<&'a [u8]>,
     /// The inputs that it lists.
@@ -58,10 +60,11 @@ pub(crate) fn inputs_of<'a>(
     made: Result<&'a PreparedResult<'_>, &CommandFault>,
 ) -> Option<Inputs<'a>> {
     let file = text_of(texts, command.file)?;
-    let (status, end, relinked) = match made {
-        Ok(prepared) => (0, prepared.measured, result_of(command, prepared)),
-        Err(fault) => (fault.status(), None, None),
+    let (status, end) = match made {
+        Ok(prepared) => (0, prepared.measured),
+        Err(fault) => (fault.status(), None),
     };
+    let relinked = written_at(command, made, command.result);
     let moved = relinked.map(|bytes| bytes != file);
     let report: &'a [u8] = match made {
         Ok(prepared) => prepared.text.as_slice(),
@@ -73,6 +76,10 @@ pub(crate) fn inputs_of<'a>(
         board: text_of(texts, command.board),
         analyses: command.analyses,
         input: text_of(texts, command.input),
+        certificate: written_at(command, made, command.certificate).or(text_of(
+            texts,
+            command.certificate,
+        )),
         mix: text_of(texts, command.mix),
         listed: texts.listed,
         moved,
@@ -94,10 +101,14 @@ pub(crate) fn text_of<'a>(texts: &InputTexts<'a>, place: Option<usize>) -> Optio
     Some(text.as_slice())
 }
 
-/// What a file was relinked to, which is ready to be written; `None` where it was not relinked.
-fn result_of<'a>(command: &Command, prepared: &'a PreparedResult<'_>) -> Option<&'a [u8]> {
-    for (place, output) in command.writes.iter().zip(&prepared.outputs) {
-        if Some(*place) == command.result {
+/// What is ready to be written under the name of a word; `None` where nothing is.
+fn written_at<'a>(
+    command: &Command,
+    made: Result<&'a PreparedResult<'_>, &CommandFault>,
+    word: Option<usize>,
+) -> Option<&'a [u8]> {
+    for (place, output) in command.writes.iter().zip(&made.ok()?.outputs) {
+        if Some(*place) == word {
             return Some(output.bytes.as_slice());
         }
     }

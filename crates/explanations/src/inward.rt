@@ -1,96 +1,167 @@
-use crate::savings::{side_of, taken_variables};
-use crate::staying::{blocks_of, fill};
-use crate::subject::Subject;
-use block_splitter::Piece;
-use code_blocks::{Code, End};
-use command_line::{ChosenPlacement, Var};
-use explanation_texts::{InwardCall, Notes, say_inward};
-use relink_core::Analysis;
-use std::alloc::{AllocError, Global};
+ghost use Rattle.std.specs.Prelude.{ℕ, List};
+ghost use Rattle.command_line.specs.Analysed.{IsOpened};
 
-/// The inward calls of the measured run, from pieces of code that are taken: how many the run makes, and the first of them in
-/// the program.
+use crate::paying::paid_energy;
+use crate::savings::{side_of, taken_variables};
+use crate::staying::blocks_of;
+use crate::subject::Subject;
+use code_blocks::End;
+use command_line::{ChosenPlacement, Profile};
+use explanation_texts::{InwardCalls, Notes, say_inward};
+use relink_core::Analysis;
+use relinking::measured_run;
+use std::alloc::AllocError;
+
+/// A call in a piece of code that is taken, which leads to a block of the same piece that is no entry of it.
+#[derive(Clone, Copy)]
+struct InwardCall {
+    /// The numbers of the blocks from which and to which it leads.
+    from: u32,
+    to: u32,
+    /// Its address, and that to which it leads.
+    at: u32,
+    target: u32,
+}
+
+/// The inward calls of the measured runs: of each how many it makes, the first of them in the program, and what OUT pays for them.
 pub(crate) fn explain_inward(
     notes: &mut Notes,
     subject: &Subject,
     chosen: &ChosenPlacement,
-) -> Result<(), AllocError> {
-    let analysis = &subject.opened.analysis;
-    let (Some(side), Some(profile)) = (side_of(chosen), &chosen.profile) else {
+) -> Result<(), AllocError>
+    requires { (board_text : List ℕ) × ((file : List ℕ) × IsOpened board_text file subject.now.opened) }
+{
+    let calls = calls_of_choice(notes, &subject.opened.analysis, chosen)?;
+    if calls.is_empty() {
         return Ok(());
-    };
-    let taken = taken_variables(notes.alloc(), side, &chosen.choice.take)?;
-    let pieces = pieces_by_block(notes.alloc(), analysis, &taken)?;
-    let mut count: u64 = 0;
-    let mut first = None;
-    for edge in &profile.edges {
-        if let Some(call) = inward_call(analysis, &pieces, edge.from, edge.to) {
-            count = count.saturating_add(edge.count);
-            first = Some(first.unwrap_or(call));
+    }
+    if let Some(profile) = &chosen.profile {
+        if let Some(made) = made_calls(&calls, profile) {
+            let paid = paid_energy(&subject.inputs, chosen)?;
+            say_inward(
+                notes,
+                &subject.inputs.unchecked(),
+                &InwardCalls { paid, ..made },
+            )?;
         }
+        return Ok(());
     }
-    match first {
-        Some(first) => say_inward(notes, &subject.inputs.unchecked(), &first, count),
-        None => Ok(()),
-    }
+    explain_mixed(notes, subject, &calls)
 }
 
-/// The number of the piece of each block, if it is in one that is taken.
-fn pieces_by_block(
-    alloc: Global,
+/// Those of the runs on the inputs of a mix, which are measured again.
+fn explain_mixed(
+    notes: &mut Notes,
+    subject: &Subject,
+    calls: &[InwardCall],
+) -> Result<(), AllocError>
+    requires { (board_text : List ℕ) × ((file : List ℕ) × IsOpened board_text file subject.now.opened) }
+{
+    let inputs = &subject.inputs;
+    let opened = &subject.opened;
+    let mut is_first = true;
+    for (place, input) in inputs.listed.iter().enumerate() {
+        let made = match measured_run(inputs.alloc, &opened.analysis, &opened.board, input) {
+            Ok(run) => made_calls(calls, &run.profile),
+            Err(_) => None,
+        };
+        if let Some(made) = made {
+            let line = Some(place as u64 + 1);
+            let told = InwardCalls {
+                line,
+                is_first,
+                ..made
+            };
+            say_inward(notes, &inputs.unchecked(), &told)?;
+            is_first = false;
+        }
+    }
+    Ok(())
+}
+
+/// All inward calls of the code, by what is taken.
+fn calls_of_choice(
+    notes: &Notes,
     analysis: &Analysis<'_>,
-    taken: &[&Var],
-) -> Result<Vec<Option<usize>>, AllocError> {
-    let mut pieces = vec![in alloc; None; analysis.code.blocks.len()]?;
-    for variable in taken {
+    chosen: &ChosenPlacement,
+) -> Result<Vec<InwardCall>, AllocError> {
+    let mut calls = Vec::new(notes.alloc());
+    let Some(side) = side_of(chosen) else {
+        return Ok(calls);
+    };
+    for variable in taken_variables(notes.alloc(), side, &chosen.choice.take)? {
         if let Some((first, last)) = blocks_of(variable.name) {
-            fill(&mut pieces, first, last, piece_of(analysis, first, last));
+            push_calls(&mut calls, analysis, chosen.choice.on, first, last)?;
         }
     }
-    Ok(pieces)
+    Ok(calls)
 }
 
-/// The number of the piece from its first to its last block.
-fn piece_of(analysis: &Analysis<'_>, first: usize, last: usize) -> Option<usize> {
+/// Adds the inward calls of the piece from its first to its last block.
+fn push_calls(
+    calls: &mut Vec<InwardCall>,
+    analysis: &Analysis<'_>,
+    on: bool,
+    first: u32,
+    last: u32,
+) -> Result<(), AllocError> {
     let number = analysis
         .pieces
-        .partition_point(|piece| is_before(piece, first, last));
-    if number < analysis.pieces.len() {
-        Some(number)
-    } else {
-        None
+        .partition_point(|piece| (piece.first, piece.last) < (first, last));
+    let Some(piece) = analysis.pieces.get(number) else {
+        return Ok(());
+    };
+    for from in first..last.saturating_add(1) {
+        if let Some(call) = call_of(analysis, from) {
+            let is_border = on && analysis.regions.border.get(call.to as usize) == Some(&true);
+            let is_within = first <= call.to && call.to <= last;
+            if is_within && !is_border && !piece.entries.contains(&call.to) {
+                calls.push(call)?;
+            }
+        }
     }
-}
-
-fn is_before(piece: &Piece, first: usize, last: usize) -> bool {
-    let start = piece.first as usize;
-    start < first || start == first && (piece.last as usize) < last
-}
-
-/// The call of an edge, if it leads from a block to another one of the same piece that is no entry.
-fn inward_call(
-    analysis: &Analysis<'_>,
-    pieces: &[Option<usize>],
-    from: u32,
-    to: u32,
-) -> Option<InwardCall> {
-    let number = (*pieces.get(to as usize)?)?;
-    let piece = analysis.pieces.get(number)?;
-    if *pieces.get(from as usize)? != Some(number) || piece.entries.contains(&to) {
-        return None;
-    }
-    call_of(&analysis.code, from, to)
+    Ok(())
 }
 
 /// The call by which a block ends, if it leads to the beginning of another.
-fn call_of(code: &Code, from: u32, to: u32) -> Option<InwardCall> {
-    let block = code.blocks.get(from as usize)?;
-    let start = code.blocks.get(to as usize)?.start;
-    match block.end {
-        End::Call { target, .. } | End::Tail { target } if target == start => Some(InwardCall {
-            at: block.units.last()?.at,
-            target,
-        }),
-        _ => None,
+fn call_of(analysis: &Analysis<'_>, from: u32) -> Option<InwardCall> {
+    let blocks = &analysis.code.blocks;
+    let block = blocks.get(from as usize)?;
+    let target = match block.end {
+        End::Call { target, .. } | End::Tail { target } => target,
+        _ => return None,
+    };
+    let to = blocks.partition_point(|block| block.start < target);
+    if blocks.get(to)?.start != target {
+        return None;
     }
+    Some(InwardCall {
+        from,
+        to: u32::try_from(to).ok()?,
+        at: block.units.last()?.at,
+        target,
+    })
+}
+
+/// Those of these calls that a run makes, if it makes some.
+fn made_calls(calls: &[InwardCall], profile: &Profile) -> Option<InwardCalls> {
+    let mut made: Option<InwardCalls> = None;
+    for edge in &profile.edges {
+        let mut same = calls.iter();
+        if let Some(call) = same.find(|call| call.from == edge.from && call.to == edge.to) {
+            let before = made.unwrap_or(InwardCalls {
+                at: call.at,
+                target: call.target,
+                count: 0,
+                line: None,
+                paid: None,
+                is_first: true,
+            });
+            made = Some(InwardCalls {
+                count: before.count.saturating_add(edge.count),
+                ..before
+            });
+        }
+    }
+    made
 }

@@ -13,6 +13,7 @@ mod inward;
 mod mixes;
 mod names;
 mod pairing;
+mod paying;
 mod pinned;
 mod regions;
 mod room;

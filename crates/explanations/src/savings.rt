@@ -73,7 +73,7 @@ pub(crate) fn explain_saved(
 }
 
 /// What a choice saves: what its variables gain, less the fixed cost of their side.
-fn saved_by(chosen: &ChosenPlacement) -> u128 {
+pub(crate) fn saved_by(chosen: &ChosenPlacement) -> u128 {
     let Some(side) = side_of(chosen) else {
         return 0;
     };

@@ -171,28 +171,28 @@ impl Marks {
 
     fn add(&mut self, name: VarName) {
         if let Some((first, last)) = blocks_of(name) {
-            fill(&mut self.blocks, first, last, true);
+            fill(&mut self.blocks, first as usize, last as usize);
         }
         if let Some(object) = object_of(name) {
-            fill(&mut self.objects, object, object, true);
+            fill(&mut self.objects, object, object);
         }
     }
 }
 
-/// Gives the entries of a list from one to another a value.
-pub(crate) fn fill<T: Copy>(list: &mut [T], first: usize, last: usize, value: T) {
+/// Marks the entries of a list from one to another.
+fn fill(list: &mut [bool], first: usize, last: usize) {
     for place in first..last.saturating_add(1) {
         if let Some(entry) = list.get_mut(place) {
-            *entry = value;
+            *entry = true;
         }
     }
 }
 
 /// The first and the last block of a piece of code.
-pub(crate) fn blocks_of(name: VarName) -> Option<(usize, usize)> {
+pub(crate) fn blocks_of(name: VarName) -> Option<(u32, u32)> {
     match name {
         VarName::StaticCode { first, last } | VarName::OverlayCode { first, last, .. } => {
-            Some((first as usize, last as usize))
+            Some((first, last))
         }
         _ => None,
     }
@@ -321,7 +321,7 @@ impl Wanted {
     fn has(self, name: VarName) -> bool {
         match self {
             Wanted::Block(block) => match blocks_of(name) {
-                Some((first, last)) => first <= block && block <= last,
+                Some((first, last)) => first as usize <= block && block <= last as usize,
                 None => false,
             },
             Wanted::Object(object) => object_of(name) == Some(object),
