@@ -1,4 +1,5 @@
 use crate::notes::{Notes, Piece};
+use crate::savings::put_percent;
 use std::alloc::AllocError;
 
 /// Where there is too little room.
@@ -12,17 +13,30 @@ pub enum Room {
 #[derive(Clone, Copy)]
 pub enum StayingReason {
     /// Its block at an address has more bytes than a copy may have.
-    TooLong { at: u32, bytes: u32 },
+    TooLong {
+        at: u32,
+        bytes: u32,
+    },
     /// Its block at an address is in no piece, since no register is free where control enters or leaves it.
-    NoRegister { at: u32 },
+    NoRegister {
+        at: u32,
+    },
     /// Its block at an address is in no piece, since nothing runs behind it.
-    Stops { at: u32 },
-    /// A copy costs more than it saves in the measured run.
-    NoGain,
-    /// It needs so many bytes, and so many are left.
-    NoRoom { room: Room, needed: u64, left: u64 },
-    /// It needs so many bytes, and so many are there.
-    TooLarge { room: Room, needed: u64, have: u64 },
+    Stops {
+        at: u32,
+    },
+    /// Its copy costs so much, and saves no more in the measured run: code saves at most so much.
+    NoGain {
+        cost: u64,
+        saved: u64,
+    },
+    /// It needs so many bytes, and so many are left of those that are there; it may need more than these.
+    NoRoom {
+        room: Room,
+        needed: u64,
+        left: u64,
+        have: u64,
+    },
     /// There would be room, but not beside what was taken in its place.
     OthersSaveMore,
 }
@@ -45,7 +59,7 @@ pub fn say_staying(notes: &mut Notes, item: &StayingItem) -> Result<(), AllocErr
         Piece::Name(item.name),
         Piece::Text(": "),
     ])?;
-    put_reason(notes, item.reason)?;
+    put_reason(notes, item)?;
     notes.end("")
 }
 
@@ -57,16 +71,12 @@ pub fn say_staying_rest(notes: &mut Notes, share: u64) -> Result<(), AllocError>
 
 fn begin_staying(notes: &mut Notes, share: u64) -> Result<(), AllocError> {
     notes.begin("stays, with ")?;
-    notes.put(&[
-        Piece::Number(share / 10),
-        Piece::Text("."),
-        Piece::Number(share % 10),
-        Piece::Text(" % of the energy before: "),
-    ])
+    put_percent(notes, share)?;
+    notes.put(&[Piece::Text(" of the energy before: ")])
 }
 
-fn put_reason(notes: &mut Notes, reason: StayingReason) -> Result<(), AllocError> {
-    match reason {
+fn put_reason(notes: &mut Notes, item: &StayingItem) -> Result<(), AllocError> {
+    match item.reason {
         StayingReason::TooLong { at, bytes } => notes.put(&[
             Piece::Text("its block at "),
             Piece::Hex(at),
@@ -84,35 +94,72 @@ fn put_reason(notes: &mut Notes, reason: StayingReason) -> Result<(), AllocError
             Piece::Hex(at),
             Piece::Text(" can't be copied, since the program or the code ends with it"),
         ]),
-        StayingReason::NoGain => notes.put(&[Piece::Text(
-            "to copy it costs more than it saves in this run",
-        )]),
-        StayingReason::NoRoom { room, needed, left } => {
-            put_needed(notes, needed, room_name(room))?;
-            notes.put(&[Piece::Number(left), Piece::Text(" are left")])
-        }
-        StayingReason::TooLarge { room, needed, have } => {
-            put_needed(notes, needed, room_name(room))?;
-            notes.put(&[Piece::Text("it has "), Piece::Number(have)])
-        }
+        StayingReason::NoGain { cost, saved } => put_no_gain(notes, item.is_code, cost, saved),
+        StayingReason::NoRoom {
+            room,
+            needed,
+            left,
+            have,
+        } => put_no_room(notes, room, needed, left, have),
         StayingReason::OthersSaveMore => {
             notes.put(&[Piece::Text("what was taken in its place saves more")])
         }
     }
 }
 
-fn put_needed(notes: &mut Notes, needed: u64, room: &str) -> Result<(), AllocError> {
-    notes.put(&[Piece::Text("it needs "), Piece::Number(needed)])?;
+/// What a copy costs and saves, and from how many repetitions of the run on it pays, as far as these alone tell.
+fn put_no_gain(notes: &mut Notes, is_code: bool, cost: u64, saved: u64) -> Result<(), AllocError> {
+    notes.put(&[Piece::Text("to copy it costs "), Piece::Number(cost)])?;
+    let Some(times) = cost.checked_div(saved) else {
+        return notes.put(&[Piece::Text(", and it saves nothing in this run")]);
+    };
     notes.put(&[
-        Piece::Text(" bytes of the "),
-        Piece::Text(room),
-        Piece::Text(", and "),
-    ])
+        Piece::Text(", and it saves "),
+        Piece::Text(if is_code { "at most " } else { "" }),
+        Piece::Number(saved),
+        Piece::Text(" in this run"),
+    ])?;
+    let runs = Piece::Number(times.saturating_add(1));
+    match (times, is_code) {
+        (0, true) => notes.put(&[Piece::Text(", less what control pays to enter and leave it")]),
+        (0, false) => Ok(()),
+        (_, true) => notes.put(&[
+            Piece::Text(": it pays not before "),
+            runs,
+            Piece::Text(" such runs"),
+        ]),
+        (_, false) => notes.put(&[
+            Piece::Text(": it pays from "),
+            runs,
+            Piece::Text(" such runs on"),
+        ]),
+    }
 }
 
-fn room_name(room: Room) -> &'static str {
-    match room {
-        Room::Scratchpad => "scratchpad",
-        Room::PatchRange => "patch range",
+/// How many bytes are needed and left of so many, and with how many in all there would be room.
+fn put_no_room(
+    notes: &mut Notes,
+    room: Room,
+    needed: u64,
+    left: u64,
+    have: u64,
+) -> Result<(), AllocError> {
+    notes.put(&[
+        Piece::Text("it needs "),
+        Piece::Number(needed),
+        Piece::Text(match room {
+            Room::Scratchpad => " bytes of the scratchpad, and ",
+            Room::PatchRange => " bytes of the patch range, and ",
+        }),
+    ])?;
+    if needed > have {
+        return notes.put(&[Piece::Text("it has "), Piece::Number(have)]);
     }
+    let all = have.saturating_add(needed.saturating_sub(left));
+    notes.put(&[
+        Piece::Number(left),
+        Piece::Text(" are left: "),
+        Piece::Number(all),
+        Piece::Text(" in all would do"),
+    ])
 }

@@ -1,23 +1,48 @@
+use crate::subject::Subject;
 use board_config::Prices;
-use code_blocks::{Block, Code};
+use code_blocks::Code;
 use command_line::{Profile, VarName};
-use std::ops::Range;
 
-/// What a measured run costs with everything at home, in price units.
+/// What a measured run costs with everything in one memory, in price units.
 #[derive(Clone, Copy)]
-pub(crate) struct HomeEnergies<'a, 'b> {
-    pub(crate) code: &'a Code,
-    pub(crate) prices: &'a Prices,
-    pub(crate) profile: &'b Profile,
+pub(crate) struct Energies<'a, 'b> {
+    code: &'a Code,
+    profile: &'b Profile,
+    /// The prices of that memory.
+    fetch: u32,
+    read: u32,
+    write: u32,
 }
 
-impl HomeEnergies<'_, '_> {
-    /// What is paid for an item while it stands in the scratchpad, if it stood at home: for the fetches of its blocks, or for
-    /// the reads and writes of an object.
+impl<'a, 'b> Energies<'a, 'b> {
+    /// With everything at home.
+    pub(crate) fn at_home(subject: &'a Subject<'_>, profile: &'b Profile) -> Energies<'a, 'b> {
+        let prices = &subject.opened.board.prices;
+        Energies {
+            code: &subject.opened.analysis.code,
+            profile,
+            fetch: prices.main_fetch,
+            read: prices.main_read,
+            write: prices.main_write,
+        }
+    }
+
+    /// With everything in the scratchpad.
+    pub(crate) fn in_scratchpad(&self, prices: &Prices) -> Energies<'a, 'b> {
+        Energies {
+            fetch: prices.spm_fetch,
+            read: prices.spm_read,
+            write: prices.spm_write,
+            ..*self
+        }
+    }
+
+    /// What is paid for an item while it may stand in the scratchpad: for the fetches of its blocks, or for the reads and writes
+    /// of an object.
     pub(crate) fn of_item(&self, name: VarName) -> u128 {
         match name {
             VarName::StaticCode { first, last } | VarName::OverlayCode { first, last, .. } => {
-                self.of_blocks(first as usize..last as usize + 1)
+                self.of_blocks(first as usize, last as usize)
             }
             VarName::StaticData { object } => self.of_object(object as usize),
             VarName::OverlayData { region, object } => {
@@ -31,9 +56,10 @@ impl HomeEnergies<'_, '_> {
         }
     }
 
-    fn of_blocks(&self, blocks: Range<usize>) -> u128 {
+    /// What the fetches of some blocks cost, from the first to the last.
+    pub(crate) fn of_blocks(&self, first: usize, last: usize) -> u128 {
         let mut energy: u128 = 0;
-        for block in blocks {
+        for block in first..last.saturating_add(1) {
             energy = energy.saturating_add(self.of_block(block));
         }
         energy
@@ -41,20 +67,18 @@ impl HomeEnergies<'_, '_> {
 
     /// What the fetches of a block's words cost.
     pub(crate) fn of_block(&self, number: usize) -> u128 {
-        let Some(block) = self.code.blocks.get(number) else {
-            return 0;
-        };
         let Some(arrivals) = self.profile.arrivals.get(number) else {
             return 0;
         };
         let (last, units) = self.profile.last;
+        let all = words_of(self.code, number, usize::MAX);
         let words = if last as usize == number && *arrivals != 0 {
-            let rest = words_of(block, units as usize);
-            fetched(words_of(block, usize::MAX), arrivals.saturating_sub(1)).saturating_add(rest)
+            let rest = words_of(self.code, number, units as usize);
+            fetched(all, arrivals.saturating_sub(1)).saturating_add(u128::from(rest))
         } else {
-            fetched(words_of(block, usize::MAX), *arrivals)
+            fetched(all, *arrivals)
         };
-        words.saturating_mul(u128::from(self.prices.main_fetch))
+        words.saturating_mul(u128::from(self.fetch))
     }
 
     /// What the reads and writes of an object that may move cost.
@@ -69,24 +93,24 @@ impl HomeEnergies<'_, '_> {
     fn of_object_in(&self, object: usize, region: usize) -> u128 {
         let reads = count_in(&self.profile.reads, object, region);
         let writes = count_in(&self.profile.writes, object, region);
-        fetched(u128::from(self.prices.main_read), reads).saturating_add(fetched(
-            u128::from(self.prices.main_write),
-            writes,
-        ))
+        fetched(self.read, reads).saturating_add(fetched(self.write, writes))
     }
 }
 
-/// The words of the first units of a block.
-fn words_of(block: &Block, units: usize) -> u128 {
-    let mut words: u128 = 0;
+/// How many words the first units of a block have at home; none where there is no such block.
+pub(crate) fn words_of(code: &Code, block: usize, units: usize) -> u32 {
+    let Some(block) = code.blocks.get(block) else {
+        return 0;
+    };
+    let mut words: u32 = 0;
     for unit in block.units.iter().take(units) {
-        words = words.saturating_add(u128::from(unit.words));
+        words = words.saturating_add(unit.words);
     }
     words
 }
 
-fn fetched(each: u128, times: u64) -> u128 {
-    each.saturating_mul(u128::from(times))
+fn fetched(each: u32, times: u64) -> u128 {
+    u128::from(each).saturating_mul(u128::from(times))
 }
 
 /// A count of a table by object and region; 0 where there is none.

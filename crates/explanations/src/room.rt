@@ -43,30 +43,28 @@ impl Space<'_> {
         }
     }
 
-    /// Why there is no room for a variable that is not taken, if that is so.
-    pub(crate) fn lack(&self, variable: &Var) -> Option<StayingReason> {
+    /// Why a variable is not taken that saves something: there is no room for it, or not beside what saves more.
+    pub(crate) fn untaken_reason(&self, variable: &Var) -> StayingReason {
         for row in 0..self.patch.saturating_add(1) {
             let used = self.used(row);
             let needed = weight_in(variable, row);
             let left = used.of.saturating_sub(used.bytes);
-            let room = self.room_of(row);
-            if needed > used.of {
-                let have = used.of;
-                return Some(StayingReason::TooLarge { room, needed, have });
-            }
+            let have = used.of;
+            let room = if row == self.patch {
+                Room::PatchRange
+            } else {
+                Room::Scratchpad
+            };
             if needed > left {
-                return Some(StayingReason::NoRoom { room, needed, left });
+                return StayingReason::NoRoom {
+                    room,
+                    needed,
+                    left,
+                    have,
+                };
             }
         }
-        None
-    }
-
-    fn room_of(&self, row: u32) -> Room {
-        if row == self.patch {
-            Room::PatchRange
-        } else {
-            Room::Scratchpad
-        }
+        StayingReason::OthersSaveMore
     }
 }
 

@@ -1,4 +1,4 @@
-use crate::energies::HomeEnergies;
+use crate::energies::{Energies, words_of};
 use crate::inputs::Inputs;
 use crate::names::object_name;
 use crate::subject::Subject;
@@ -117,26 +117,20 @@ fn taken_items(
     chosen: &ChosenPlacement,
     side: &Side,
 ) -> Result<Vec<TakenItem>, AllocError> {
+    let energies = chosen
+        .profile
+        .as_ref()
+        .map(|profile| Energies::at_home(subject, profile));
     let mut items = Vec::new(alloc);
     for variable in &taken_variables(alloc, side, &chosen.choice.take)? {
         items.push(TakenItem {
             name: variable.name,
             gain: variable.gain,
-            before: home_energy(subject, chosen, variable.name),
+            before: energies.map(|energies| energies.of_item(variable.name)),
         })?;
     }
     items.sort_unstable_by_key(|item| item.gain);
     Ok(items)
-}
-
-/// What an item costs at home, where one run was measured.
-fn home_energy(subject: &Subject, chosen: &ChosenPlacement, name: VarName) -> Option<u128> {
-    let energies = HomeEnergies {
-        code: &subject.opened.analysis.code,
-        prices: &subject.opened.board.prices,
-        profile: chosen.profile.as_ref()?,
-    };
-    Some(energies.of_item(name))
 }
 
 /// What the items save that are not told one by one.
@@ -191,7 +185,7 @@ fn part_of<'a>(analysis: &Analysis<'a>, name: VarName) -> MovedPart<'a> {
 fn code_part<'a>(analysis: &Analysis<'_>, first: usize, last: usize) -> MovedPart<'a> {
     let mut words: u32 = 0;
     for block in first..last.saturating_add(1) {
-        words = words.saturating_add(words_of(analysis, block));
+        words = words.saturating_add(words_of(&analysis.code, block, usize::MAX));
     }
     MovedPart::Code {
         home: home_of(analysis, first),
@@ -205,16 +199,4 @@ pub(crate) fn home_of(analysis: &Analysis<'_>, block: usize) -> u32 {
         Some(block) => block.start,
         None => 0,
     }
-}
-
-/// How many words a block has at home.
-pub(crate) fn words_of(analysis: &Analysis<'_>, block: usize) -> u32 {
-    let Some(block) = analysis.code.blocks.get(block) else {
-        return 0;
-    };
-    let mut words: u32 = 0;
-    for unit in &block.units {
-        words = words.saturating_add(unit.words);
-    }
-    words
 }

@@ -1,10 +1,11 @@
-use crate::energies::HomeEnergies;
+use crate::energies::{Energies, words_of};
 use crate::names::symbol_name;
 use crate::room::{Space, space_of};
-use crate::savings::{home_of, side_of, taken_variables, thousandths, words_of};
+use crate::savings::{home_of, side_of, taken_variables, thousandths};
 use crate::subject::Subject;
 use code_blocks::End;
 use command_line::{ChosenPlacement, Side, Var, VarName};
+use energy_model::{into_price, object_rounds};
 use explanation_texts::{Notes, Room, StayingItem, StayingReason, say_staying, say_staying_rest};
 use relink_core::Analysis;
 use std::alloc::{AllocError, Global};
@@ -58,18 +59,14 @@ pub(crate) fn explain_staying(
         return Ok(());
     };
     let analysis = &subject.opened.analysis;
-    let energies = HomeEnergies {
-        code: &analysis.code,
-        prices: &subject.opened.board.prices,
-        profile,
-    };
+    let energies = Energies::at_home(subject, profile);
     let alloc = notes.alloc();
     let taken = taken_variables(alloc, side, &chosen.choice.take)?;
     let items = staying_items(alloc, analysis, &energies, &taken)?;
     let base = chosen.programme.base;
     for item in items.iter().rev().take(TOLD_ITEMS) {
         if thousandths(item.energy, base) >= LEAST_SHARE {
-            explain_item(notes, subject, chosen, item)?;
+            explain_item(notes, subject, chosen, &energies, item)?;
         }
     }
     explain_rest(notes, analysis, &energies, base)
@@ -79,7 +76,7 @@ pub(crate) fn explain_staying(
 fn explain_rest(
     notes: &mut Notes,
     analysis: &Analysis<'_>,
-    energies: &HomeEnergies,
+    energies: &Energies,
     base: u128,
 ) -> Result<(), AllocError> {
     let mut rest = base;
@@ -100,7 +97,7 @@ fn explain_rest(
 fn staying_items(
     alloc: Global,
     analysis: &Analysis<'_>,
-    energies: &HomeEnergies,
+    energies: &Energies,
     taken: &[&Var],
 ) -> Result<Vec<Staying>, AllocError> {
     let marks = Marks::of(alloc, analysis, taken)?;
@@ -122,7 +119,7 @@ fn staying_items(
 fn function_rests(
     alloc: Global,
     analysis: &Analysis<'_>,
-    energies: &HomeEnergies,
+    energies: &Energies,
     copied: &[bool],
 ) -> Result<Vec<FunctionRest>, AllocError> {
     let mut rests = vec![in alloc; NO_REST; analysis.code.functions.len()]?;
@@ -131,21 +128,16 @@ fn function_rests(
             continue;
         }
         let function = block.function.unwrap_or(u32::MAX) as usize;
+        let energy = energies.of_block(number);
         if let Some(rest) = rests.get_mut(function) {
-            rest.add(number, energies.of_block(number));
+            rest.energy = rest.energy.saturating_add(energy);
+            if energy > rest.most {
+                rest.most = energy;
+                rest.block = number;
+            }
         }
     }
     Ok(rests)
-}
-
-impl FunctionRest {
-    fn add(&mut self, block: usize, energy: u128) {
-        self.energy = self.energy.saturating_add(energy);
-        if energy > self.most {
-            self.most = energy;
-            self.block = block;
-        }
-    }
 }
 
 /// What is taken.
@@ -210,7 +202,7 @@ fn object_of(name: VarName) -> Option<usize> {
 
 fn push_objects(
     items: &mut Vec<Staying>,
-    energies: &HomeEnergies,
+    energies: &Energies,
     taken: &[bool],
 ) -> Result<(), AllocError> {
     for (object, is_taken) in taken.iter().enumerate() {
@@ -229,6 +221,7 @@ fn explain_item(
     notes: &mut Notes,
     subject: &Subject,
     chosen: &ChosenPlacement,
+    energies: &Energies,
     item: &Staying,
 ) -> Result<(), AllocError> {
     let analysis = &subject.opened.analysis;
@@ -240,8 +233,8 @@ fn explain_item(
         name: part_name(analysis, item.part),
         is_code: matches!(item.part, Part::Function { .. }),
         reason: match item.part {
-            Part::Function { block, .. } => block_reason(analysis, &space, block),
-            Part::Object(object) => object_reason(subject, &space, object),
+            Part::Function { block, .. } => block_reason(subject, &space, energies, block),
+            Part::Object(object) => object_reason(subject, &space, energies, object),
         },
     };
     say_staying(notes, &told)
@@ -261,21 +254,66 @@ fn part_name<'a>(analysis: &Analysis<'a>, part: Part) -> &'a [u8] {
 }
 
 /// Why a block is in no piece that is taken.
-fn block_reason(analysis: &Analysis<'_>, space: &Space, block: usize) -> StayingReason {
-    let best = best_variable(space.side, Wanted::Block(block));
-    if let Some(variable) = best {
-        return untaken_reason(space, variable);
+fn block_reason(
+    subject: &Subject,
+    space: &Space,
+    energies: &Energies,
+    block: usize,
+) -> StayingReason {
+    let analysis = &subject.opened.analysis;
+    if let Some(variable) = best_variable(space.side, Wanted::Block(block)) {
+        return space.untaken_reason(variable);
     }
-    if is_in_piece(analysis, block) {
-        return StayingReason::NoGain;
+    let prices = &subject.opened.board.prices;
+    let fast = energies.in_scratchpad(prices);
+    let mut best = None;
+    for piece in &analysis.pieces {
+        let (first, last) = (piece.first as usize, piece.last as usize);
+        if first <= block && block <= last {
+            let home = energies.of_blocks(first, last);
+            let copy = Copied {
+                cost: into_price(piece.bytes / 4, prices),
+                saved: home.saturating_sub(fast.of_blocks(first, last)),
+            };
+            best = Some(copy.better(best));
+        }
     }
-    uncopied_reason(analysis, block)
+    match best {
+        Some(copy) => copy.no_gain(),
+        None => uncopied_reason(analysis, block),
+    }
+}
+
+/// What the copy of an item costs at the start, and what the run saves by it, in price units.
+#[derive(Clone, Copy)]
+struct Copied {
+    cost: u128,
+    saved: u128,
+}
+
+impl Copied {
+    /// That of two that loses less.
+    fn better(self, other: Option<Copied>) -> Copied {
+        match other {
+            Some(other)
+                if other.saved.saturating_add(self.cost) >= self.saved.saturating_add(other.cost) =>
+                other,
+            _ => self,
+        }
+    }
+
+    fn no_gain(&self) -> StayingReason {
+        StayingReason::NoGain {
+            cost: u64::try_from(self.cost).unwrap_or(u64::MAX),
+            saved: u64::try_from(self.saved).unwrap_or(u64::MAX),
+        }
+    }
 }
 
 /// Why a block is in no piece.
 fn uncopied_reason(analysis: &Analysis<'_>, block: usize) -> StayingReason {
     let at = home_of(analysis, block);
-    let bytes = words_of(analysis, block).saturating_mul(4);
+    let bytes = words_of(&analysis.code, block, usize::MAX).saturating_mul(4);
     if bytes > MOST_COPIED {
         return StayingReason::TooLong { at, bytes };
     }
@@ -286,26 +324,33 @@ fn uncopied_reason(analysis: &Analysis<'_>, block: usize) -> StayingReason {
 }
 
 /// Why an object is not taken.
-fn object_reason(subject: &Subject, space: &Space, object: usize) -> StayingReason {
-    let best = best_variable(space.side, Wanted::Object(object));
-    if let Some(variable) = best {
-        return untaken_reason(space, variable);
-    }
-    match subject.opened.analysis.graph.objects.get(object) {
-        Some(object) if object.size > subject.opened.board.spm.size => StayingReason::TooLarge {
+fn object_reason(
+    subject: &Subject,
+    space: &Space,
+    energies: &Energies,
+    number: usize,
+) -> StayingReason {
+    let board = &subject.opened.board;
+    let object = subject.opened.analysis.graph.objects.get(number);
+    let have = u64::from(board.spm.size);
+    match (best_variable(space.side, Wanted::Object(number)), object) {
+        (Some(variable), _) => space.untaken_reason(variable),
+        (None, Some(object)) if u64::from(object.size) > have => StayingReason::NoRoom {
             room: Room::Scratchpad,
             needed: u64::from(object.size),
-            have: u64::from(subject.opened.board.spm.size),
+            left: have,
+            have,
         },
-        _ => StayingReason::NoGain,
+        (None, Some(object)) => {
+            let moved = energies.in_scratchpad(&board.prices).of_object(number);
+            let copy = Copied {
+                cost: into_price(object_rounds(object), &board.prices),
+                saved: energies.of_object(number).saturating_sub(moved),
+            };
+            copy.no_gain()
+        }
+        (None, None) => StayingReason::OthersSaveMore,
     }
-}
-
-/// Why a variable that saves something is not taken.
-fn untaken_reason(space: &Space, variable: &Var) -> StayingReason {
-    space
-        .lack(variable)
-        .unwrap_or(StayingReason::OthersSaveMore)
 }
 
 /// What variables are looked for.
@@ -333,26 +378,13 @@ impl Wanted {
 fn best_variable(side: &Side, wanted: Wanted) -> Option<&Var> {
     let mut best: Option<&Var> = None;
     for variable in &side.vars {
-        if wanted.has(variable.name) && is_better(variable, best) {
+        let most = match best {
+            Some(best) => best.gain,
+            None => 0,
+        };
+        if variable.gain > most && wanted.has(variable.name) {
             best = Some(variable);
         }
     }
     best
-}
-
-fn is_better(variable: &Var, best: Option<&Var>) -> bool {
-    match best {
-        Some(best) => best.gain < variable.gain,
-        None => true,
-    }
-}
-
-/// Whether a block is in some piece that may be copied.
-fn is_in_piece(analysis: &Analysis<'_>, block: usize) -> bool {
-    for piece in &analysis.pieces {
-        if piece.first as usize <= block && block <= piece.last as usize {
-            return true;
-        }
-    }
-    false
 }
