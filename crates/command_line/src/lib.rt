@@ -42,6 +42,6 @@ pub use observing::{NoObserver, Observer};
 pub use opening::{Opened, open};
 pub use placement_programme::{Side, Var, VarName};
 pub use profile_runner::Profile;
-pub use relinking::MeasuredEnd;
+pub use relinking::{MeasuredEnd, measured_run};
 pub use safety::is_seen_safe;
 pub use top::{CommandOutcome, run, run_command};

@@ -6,10 +6,10 @@ use crate::savings::{side_of, taken_variables};
 use crate::staying::blocks_of;
 use crate::subject::Subject;
 use code_blocks::End;
-use command_line::{ChosenPlacement, Profile};
+use command_line::{ChosenPlacement, Profile, measured_run};
 use explanation_texts::{InwardCalls, Notes, say_inward};
 use relink_core::Analysis;
-use relinking::measured_run;
+use shelf_io::NoProgress;
 use std::alloc::AllocError;
 
 /// A call in a piece of code that is taken, which leads to a block of the same piece that is no entry of it.
@@ -61,7 +61,13 @@ fn explain_mixed(
     let opened = &subject.opened;
     let mut is_first = true;
     for (place, input) in inputs.listed.iter().enumerate() {
-        let made = match measured_run(inputs.alloc, &opened.analysis, &opened.board, input) {
+        let made = match measured_run(
+            inputs.alloc,
+            &opened.analysis,
+            &opened.board,
+            input,
+            &NoProgress,
+        ) {
             Ok(run) => made_calls(calls, &run.profile),
             Err(_) => None,
         };
