@@ -1,4 +1,4 @@
-use crate::printing::{print_number, print_number_line, print_value_line};
+use crate::listing::Listing;
 use crate::texts::{number, numbers};
 use anyhow::{Context, Result, bail};
 use elf_reader::Reloc;
@@ -89,20 +89,20 @@ impl Case {
     }
 
     /// Tells how many bytes the file has, and those from one place up to another.
-    pub(crate) fn tell_built(&self, rt: &(impl Print + AllocGlobal), text: &str) -> Result<()> {
-        let file = self.built(rt.alloc())?;
-        let places = numbers(rt.alloc(), text)?;
+    pub(crate) fn tell_built(&self, listing: &mut Listing, text: &str) -> Result<()> {
+        let file = self.built(listing.alloc())?;
+        let places = numbers(listing.alloc(), text)?;
         let &[from, to] = places.as_slice() else {
             bail!("a range has two ends");
         };
         let range = file
             .get(from as usize..to as usize)
             .context("the file has no such bytes")?;
-        print_number(rt, "built: ", file.len() as u64)?;
-        print_number(rt, " bytes, and from ", u64::from(from))?;
-        print_number_line(rt, " to ", u64::from(to))?;
+        listing.number("built: ", file.len() as u64);
+        listing.number(" bytes, and from ", u64::from(from));
+        listing.number_line(" to ", u64::from(to));
         for line in range.chunks(16) {
-            print_value_line(rt, "  ", &line)?;
+            listing.value_line("  ", &line);
         }
         Ok(())
     }

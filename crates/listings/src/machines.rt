@@ -3,7 +3,7 @@ ghost use Rattle.rv32im.specs.Memory.{zeros};
 ghost use Rattle.board_config.specs.Board.{IsLawful};
 
 use crate::cases::Case;
-use crate::printing::{print_number, print_value, print_value_line};
+use crate::listing::Listing;
 use crate::texts::number;
 use anyhow::Result;
 use board_config::{Board, read_board};
@@ -18,46 +18,47 @@ use std::fmt::Debug;
 
 /// Runs a file on the flat machine, with its memory in pages: `step` tells the event of one step, and a number the outcome
 /// after as many steps, and the pc; then what was written is told.
-pub(crate) fn tell_flat(rt: &(impl Print + AllocGlobal), case: &Case, text: &str) -> Result<()> {
-    tell_over(rt, case, text, PageStore::new(rt.alloc()))
+pub(crate) fn tell_flat(listing: &mut Listing, case: &Case, text: &str) -> Result<()> {
+    tell_over(listing, case, text, PageStore::new(listing.alloc()))
 }
 
 /// The same with its memory in a list.
-pub(crate) fn tell_listed(rt: &(impl Print + AllocGlobal), case: &Case, text: &str) -> Result<()> {
-    tell_over(rt, case, text, ListStore::new(rt.alloc()))
+pub(crate) fn tell_listed(listing: &mut Listing, case: &Case, text: &str) -> Result<()> {
+    tell_over(listing, case, text, ListStore::new(listing.alloc()))
 }
 
 /// The same with its memory in a store.
 fn tell_over<S: ByteStore + Drop>(
-    rt: &(impl Print + AllocGlobal),
+    listing: &mut Listing,
     case: &Case,
     text: &str,
     store: S,
 ) -> Result<()>
     requires { S.byte_at store ≡ zeros }
 {
-    let file = case.built(rt.alloc())?;
-    let view = read(rt.alloc(), &file)?;
-    let board = read_board(rt.alloc(), b"")?;
-    let mut machine = Flat::new(rt.alloc(), &view, &board, &case.input, store)?;
+    let file = case.built(listing.alloc())?;
+    let view = read(listing.alloc(), &file)?;
+    let board = read_board(listing.alloc(), b"")?;
+    let mut machine = Flat::new(listing.alloc(), &view, &board, &case.input, store)?;
     for word in text.split_whitespace() {
         if word == "step" {
-            print_value_line(rt, "  ", &machine.step()?)?;
+            listing.value_line("  ", &machine.step()?);
         } else {
             let steps = number(word)?;
             let outcome = machine.run(u64::from(steps))?;
-            tell_end(rt, steps, &outcome, machine.at())?;
+            tell_end(listing, steps, &outcome, machine.at());
         }
     }
-    print_value_line(rt, "  wrote ", &machine.output())
+    listing.value_line("  wrote ", &machine.output());
+    Ok(())
 }
 
 /// How a run of at most `steps` steps ended, and the pc.
-fn tell_end(rt: &impl Print, steps: u32, outcome: &impl Debug, at: u32) -> Result<()> {
-    print_number(rt, "  ", u64::from(steps))?;
-    print_value(rt, ": ", outcome)?;
-    println!(rt; ", at {at:#x}")?;
-    Ok(())
+fn tell_end(listing: &mut Listing, steps: u32, outcome: &impl Debug, at: u32) {
+    listing.number("  ", u64::from(steps));
+    listing.value(": ", outcome);
+    listing.hex(", at ", at);
+    listing.end_line();
 }
 
 /// The machine of a file whose objects have no addresses.
@@ -71,20 +72,21 @@ fn started(alloc: Global, file: &[u8], board: &Board, input: &[u8]) -> Result<So
 }
 
 /// The same on that machine. `step` also tells what the step asks of memory.
-pub(crate) fn tell_object(rt: &(impl Print + AllocGlobal), case: &Case, text: &str) -> Result<()> {
-    let file = case.built(rt.alloc())?;
-    let board = read_board(rt.alloc(), b"")?;
-    let mut machine = started(rt.alloc(), &file, &board, &case.input)?;
+pub(crate) fn tell_object(listing: &mut Listing, case: &Case, text: &str) -> Result<()> {
+    let file = case.built(listing.alloc())?;
+    let board = read_board(listing.alloc(), b"")?;
+    let mut machine = started(listing.alloc(), &file, &board, &case.input)?;
     for word in text.split_whitespace() {
         if word == "step" {
             let footprint = machine.footprint();
-            print_value(rt, "  ", &footprint)?;
-            print_value_line(rt, ", ", &machine.step()?)?;
+            listing.value("  ", &footprint);
+            listing.value_line(", ", &machine.step()?);
         } else {
             let steps = number(word)?;
             let outcome = machine.run(u64::from(steps))?;
-            tell_end(rt, steps, &outcome, machine.at())?;
+            tell_end(listing, steps, &outcome, machine.at());
         }
     }
-    print_value_line(rt, "  wrote ", &machine.output())
+    listing.value_line("  wrote ", &machine.output());
+    Ok(())
 }

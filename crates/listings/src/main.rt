@@ -10,11 +10,12 @@ mod flow_tables;
 mod functions;
 mod graph_tables;
 mod large;
+mod listing;
 mod machines;
 mod moved;
 mod numbers;
 mod piece_table;
-mod printing;
+mod points_table;
 mod profile_table;
 mod programme_table;
 mod stub_plans;
@@ -27,16 +28,25 @@ mod words;
 mod writing;
 
 use crate::functions::tell_text;
+use crate::listing::Listing;
 use crate::tables::list_all;
 use crate::texts::named_texts;
 use anyhow::{Context, Result};
 
-fn main(rt: HostRuntime) -> Result<()> {
-    let texts = named_texts(&rt)?;
+/// Lists the tables of the first text, and what the functions give for the lines of the others.
+fn list_texts(rt: &HostRuntime, listing: &mut Listing, texts: &[String]) -> Result<()> {
     let (tables, functions) = texts.split_first().context("no text is named")?;
-    list_all(&rt, tables)?;
+    list_all(rt, listing, tables)?;
     for text in functions {
-        tell_text(&rt, text)?;
+        tell_text(listing, text)?;
     }
     Ok(())
+}
+
+fn main(rt: HostRuntime) -> Result<()> {
+    let texts = named_texts(&rt)?;
+    let mut listing = Listing::new(rt.alloc());
+    let listed = list_texts(&rt, &mut listing, &texts);
+    rt.print(listing.whole().context("no memory is left")?)?;
+    listed
 }

@@ -9,7 +9,7 @@ ghost use Rattle.relocator.specs.{declared.slots.Slot.{Slot}, Placing.{rows_of, 
 ghost use Rattle.cell_values.specs.Objects.{datum_of};
 ghost use Rattle.relink_core.specs.Choices.{IsAnalysisOf};
 
-use crate::printing::{end_line, print_address, print_line};
+use crate::listing::Listing;
 use anyhow::Result;
 use board_config::Board;
 use elf_reader::ElfView;
@@ -125,39 +125,39 @@ fn first_words(
 }
 
 /// The place of the first object and the words that lead to it there, or that it doesn't fit.
-pub(crate) fn print_moved(
-    rt: &(impl Print + AllocGlobal),
+pub(crate) fn list_moved(
+    listing: &mut Listing,
     analysis: &Analysis<'_>,
     board: &Board,
 ) -> Result<()>
     requires lawful { IsLawful board.now }
     requires analysed { (file : List ℕ) × IsAnalysisOf file board.now analysis.now }
 {
-    let Some(places) = first_placed(rt.alloc(), &analysis.graph, board)? else {
-        return print_line(rt, "no room");
+    let Some(places) = first_placed(listing.alloc(), &analysis.graph, board)? else {
+        listing.line("no room");
+        return Ok(());
     };
-    print_first_row(rt, &places)?;
-    let words = first_words(rt.alloc(), &analysis.view, &analysis.graph, &places)?;
-    print_site_words(rt, &words)
+    list_first_row(listing, &places);
+    let words = first_words(listing.alloc(), &analysis.view, &analysis.graph, &places)?;
+    list_site_words(listing, &words);
+    Ok(())
 }
 
 /// A line for each place of the first object.
-fn print_first_row(rt: &impl Print, places: &Places) -> Result<()> {
+fn list_first_row(listing: &mut Listing, places: &Places) {
     if let Some(row) = places.of.first() {
         for place in row {
-            print_address(rt, "place ", *place)?;
-            end_line(rt)?;
+            listing.address("place ", *place);
+            listing.end_line();
         }
     }
-    Ok(())
 }
 
 /// A line for each address and its word.
-fn print_site_words(rt: &impl Print, words: &[(u32, u32)]) -> Result<()> {
+fn list_site_words(listing: &mut Listing, words: &[(u32, u32)]) {
     for (at, word) in words {
-        print_address(rt, "word ", *at)?;
-        print_address(rt, " ", *word)?;
-        end_line(rt)?;
+        listing.address("word ", *at);
+        listing.address(" ", *word);
+        listing.end_line();
     }
-    Ok(())
 }

@@ -6,7 +6,7 @@ ghost use Rattle.object_graph.specs.Lookups.{IsSomeGraph};
 ghost use Rattle.block_splitter.specs.{Pieces.{IsPiece}, Copies.{address_in, HasSites}};
 ghost use Rattle.relink_core.specs.Choices.{IsAnalysisOf};
 
-use crate::printing::{end_line, print_address, print_number, print_text, print_words};
+use crate::listing::Listing;
 use anyhow::Result;
 use block_splitter::{Piece, can_displace, copy_of, displaced};
 use code_blocks::Code;
@@ -23,16 +23,16 @@ const COPY_AT: u32 = 0x0100_0000;
 const DISPLACED_AT: u32 = 0x0009_0100;
 
 /// For each block a dead register and its displaced first unit, then all pieces. Sites keep the words of the file.
-pub(crate) fn print_pieces(rt: &(impl Print + AllocGlobal), analysis: &Analysis<'_>) -> Result<()>
+pub(crate) fn list_pieces(listing: &mut Listing, analysis: &Analysis<'_>) -> Result<()>
     requires { (file : List ℕ) × (board : Board) × IsAnalysisOf file board analysis.now }
 {
-    let sites = own_words(rt.alloc(), &analysis.code, &analysis.graph)?;
+    let sites = own_words(listing.alloc(), &analysis.code, &analysis.graph)?;
     let blocks = u32::try_from(analysis.code.blocks.len()).unwrap_or(u32::MAX);
     for block in 0..blocks {
-        print_block(rt, analysis, block, &sites)?;
+        list_block(listing, analysis, block, &sites)?;
     }
     for piece in &analysis.pieces {
-        print_piece(rt, analysis, piece, &sites)?;
+        list_piece(listing, analysis, piece, &sites)?;
     }
     Ok(())
 }
@@ -71,8 +71,8 @@ fn word_at(code: &Code, address: u32) -> u32 {
 }
 
 /// A block: its start, a dead register, and the words of its first unit where it is displaced.
-fn print_block(
-    rt: &(impl Print + AllocGlobal),
+fn list_block(
+    listing: &mut Listing,
     analysis: &Analysis<'_>,
     block: u32,
     sites: &[(u32, u32)],
@@ -82,34 +82,36 @@ fn print_block(
     requires sites { HasSites analysis.now.code analysis.now.graph sites.now }
 {
     let start = analysis.code.blocks[block as usize].start;
-    print_address(rt, "block ", start)?;
-    print_dead(rt, &analysis.live, start)?;
-    print_text(rt, " displaced")?;
+    listing.address("block ", start);
+    list_dead(listing, &analysis.live, start);
+    listing.text(" displaced");
     if !can_displace(&analysis.code, &analysis.graph, block, DISPLACED_AT) {
-        return end_line(rt);
+        listing.end_line();
+        return Ok(());
     }
     let words = displaced(
-        rt.alloc(),
+        listing.alloc(),
         block,
         &analysis.code,
         &analysis.graph,
         DISPLACED_AT,
         sites,
     )?;
-    print_words(rt, &words)
+    listing.words(&words);
+    Ok(())
 }
 
 /// A register that is dead where a block begins.
-fn print_dead(rt: &impl Print, live: &LiveTable, leader: u32) -> Result<()> {
+fn list_dead(listing: &mut Listing, live: &LiveTable, leader: u32) {
     match live.dead_at(leader, RegSet { bits: 0 }) {
-        Some(register) => print_number(rt, " dead x", u64::from(register)),
-        None => print_text(rt, " dead none"),
+        Some(register) => listing.number(" dead x", u64::from(register)),
+        None => listing.text(" dead none"),
     }
 }
 
 /// A piece: its blocks, its size in bytes, its entries, where the copies of its blocks begin, and the words of its copy.
-fn print_piece(
-    rt: &(impl Print + AllocGlobal),
+fn list_piece(
+    listing: &mut Listing,
     analysis: &Analysis<'_>,
     piece: &Piece,
     sites: &[(u32, u32)],
@@ -118,9 +120,9 @@ fn print_piece(
     requires piece { IsPiece analysis.now.code analysis.now.graph piece.now }
     requires sites { HasSites analysis.now.code analysis.now.graph sites.now }
 {
-    print_heading(rt, piece)?;
+    list_heading(listing, piece);
     let copy = copy_of(
-        rt.alloc(),
+        listing.alloc(),
         piece,
         &analysis.code,
         &analysis.live,
@@ -128,25 +130,26 @@ fn print_piece(
         COPY_AT,
         sites,
     )?;
-    print_text(rt, "  starts")?;
-    print_places(rt, &copy.starts)?;
-    print_text(rt, "  copy")?;
-    print_words(rt, &copy.words)
+    listing.text("  starts");
+    list_places(listing, &copy.starts);
+    listing.text("  copy");
+    listing.words(&copy.words);
+    Ok(())
 }
 
 /// A line with the blocks of a piece, its size in bytes and its entries.
-fn print_heading(rt: &impl Print, piece: &Piece) -> Result<()> {
-    print_number(rt, "piece ", u64::from(piece.first))?;
-    print_number(rt, " ", u64::from(piece.last))?;
-    print_number(rt, " bytes ", u64::from(piece.bytes))?;
-    print_text(rt, " entries")?;
-    print_places(rt, &piece.entries)
+fn list_heading(listing: &mut Listing, piece: &Piece) {
+    listing.number("piece ", u64::from(piece.first));
+    listing.number(" ", u64::from(piece.last));
+    listing.number(" bytes ", u64::from(piece.bytes));
+    listing.text(" entries");
+    list_places(listing, &piece.entries);
 }
 
 /// The end of a line with these numbers, each behind a space.
-fn print_places(rt: &impl Print, places: &[u32]) -> Result<()> {
+fn list_places(listing: &mut Listing, places: &[u32]) {
     for place in places {
-        print_number(rt, " ", u64::from(*place))?;
+        listing.number(" ", u64::from(*place));
     }
-    end_line(rt)
+    listing.end_line();
 }

@@ -2,10 +2,7 @@
 ghost use Rattle.std.specs.Prelude.{List, ℕ};
 ghost use Rattle.relink_core.specs.Choices.{IsAnalysisOf};
 
-use crate::printing::{
-    end_line, print_address, print_number, print_number_line, print_numbers, print_text,
-};
-use anyhow::Result;
+use crate::listing::Listing;
 use board_config::Board;
 use object_machine::Outcome;
 use profile_runner::{Edge, Profile, ProfileFault};
@@ -14,72 +11,67 @@ use relinking::measured_run;
 use shelf_io::NoProgress;
 
 /// The counts of a run without input for the board's steps, or its fault.
-pub(crate) fn print_profile(
-    rt: &(impl Print + AllocGlobal),
-    analysis: &Analysis<'_>,
-    board: &Board,
-) -> Result<()>
+pub(crate) fn list_profile(listing: &mut Listing, analysis: &Analysis<'_>, board: &Board)
     requires { (file : List ℕ) × IsAnalysisOf file board.now analysis.now }
 {
-    match measured_run(rt.alloc(), analysis, board, b"", &NoProgress) {
-        Ok(measured) => print_counts(rt, &measured.profile),
-        Err(fault) => print_fault(rt, &fault),
+    match measured_run(listing.alloc(), analysis, board, b"", &NoProgress) {
+        Ok(measured) => list_counts(listing, &measured.profile),
+        Err(fault) => list_fault(listing, &fault),
     }
 }
 
 /// The address fault of a run.
-pub(crate) fn print_fault(rt: &impl Print, fault: &ProfileFault) -> Result<()> {
-    println!(rt; "fault: {fault}")?;
-    Ok(())
+pub(crate) fn list_fault(listing: &mut Listing, fault: &ProfileFault) {
+    listing.text("fault: ");
+    listing.shown(fault);
+    listing.end_line();
 }
 
-fn print_counts(rt: &impl Print, profile: &Profile) -> Result<()> {
-    print_number_line(rt, "steps ", profile.steps)?;
-    print_outcome(rt, profile.outcome)?;
+fn list_counts(listing: &mut Listing, profile: &Profile) {
+    listing.number_line("steps ", profile.steps);
+    list_outcome(listing, profile.outcome);
     let (block, units) = profile.last;
-    print_number(rt, "last block ", u64::from(block))?;
-    print_number_line(rt, " units ", u64::from(units))?;
-    print_text(rt, "arrivals")?;
-    print_numbers(rt, &profile.arrivals)?;
-    print_edges(rt, &profile.edges)?;
-    print_rows(rt, "reads", &profile.reads)?;
-    print_rows(rt, "writes", &profile.writes)?;
-    print_text(rt, "enters")?;
-    print_numbers(rt, &profile.enters)?;
-    print_text(rt, "leaves")?;
-    print_numbers(rt, &profile.leaves)?;
-    print_rows(rt, "switches", &profile.switches)
+    listing.number("last block ", u64::from(block));
+    listing.number_line(" units ", u64::from(units));
+    listing.text("arrivals");
+    listing.numbers(&profile.arrivals);
+    list_edges(listing, &profile.edges);
+    list_rows(listing, "reads", &profile.reads);
+    list_rows(listing, "writes", &profile.writes);
+    listing.text("enters");
+    listing.numbers(&profile.enters);
+    listing.text("leaves");
+    listing.numbers(&profile.leaves);
+    list_rows(listing, "switches", &profile.switches);
 }
 
-fn print_edges(rt: &impl Print, edges: &[Edge]) -> Result<()> {
+fn list_edges(listing: &mut Listing, edges: &[Edge]) {
     for edge in edges {
-        print_number(rt, "edge ", u64::from(edge.from))?;
-        print_number(rt, " to ", u64::from(edge.to))?;
-        print_number_line(rt, " count ", edge.count)?;
+        listing.number("edge ", u64::from(edge.from));
+        listing.number(" to ", u64::from(edge.to));
+        listing.number_line(" count ", edge.count);
     }
-    Ok(())
 }
 
-fn print_outcome(rt: &impl Print, outcome: Outcome) -> Result<()> {
+fn list_outcome(listing: &mut Listing, outcome: Outcome) {
     match outcome {
-        Outcome::GoesOn => print_text(rt, "running")?,
-        Outcome::Exited(code) => print_number(rt, "exited ", u64::from(code))?,
-        Outcome::Trapped { pc } => print_address(rt, "trapped ", pc)?,
+        Outcome::GoesOn => listing.text("running"),
+        Outcome::Exited(code) => listing.number("exited ", u64::from(code)),
+        Outcome::Trapped { pc } => listing.address("trapped ", pc),
         Outcome::AddressFault { pc, why } => {
-            print_address(rt, "address fault ", pc)?;
-            print_number(rt, " reason ", u64::from(why))?;
+            listing.address("address fault ", pc);
+            listing.number(" reason ", u64::from(why));
         }
     }
-    end_line(rt)
+    listing.end_line();
 }
 
 /// A line for each row of a table, with its number.
-fn print_rows(rt: &impl Print, name: &str, rows: &[Vec<u64>]) -> Result<()> {
+fn list_rows(listing: &mut Listing, name: &str, rows: &[Vec<u64>]) {
     for (k, row) in rows.iter().enumerate() {
-        print_text(rt, name)?;
-        print_number(rt, " ", k as u64)?;
-        print_text(rt, ":")?;
-        print_numbers(rt, row)?;
+        listing.text(name);
+        listing.number(" ", k as u64);
+        listing.text(":");
+        listing.numbers(row);
     }
-    Ok(())
 }

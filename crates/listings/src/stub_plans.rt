@@ -1,6 +1,7 @@
 ghost use Rattle.std.specs.Prelude.{◌≡◌, [], ◌∷◌, map, length, All, IfOk};
 ghost use Rattle.patch_code.specs.{Layout.{CanStand}, Serving.{jumps_to}, Overlay.{CanHold}, StubPlans.{IsPlain, IsPlainPlan, HasLists, code_plan, overlay_plan, plain_stub, serving_stub, jobs_of, words_of}};
 
+use crate::listing::Listing;
 use anyhow::{Result, bail};
 use patch_code::{Body, CopyJob, Stub, StubCode, StubPlan, StubSizes, plain_code, sizes, stubs};
 use std::alloc::{AllocError, Global};
@@ -181,39 +182,39 @@ fn plan_of_region(alloc: Global) -> Result<StubPlan, AllocError>
 }
 
 /// Tells where the parts of the patch range stand, and how many bytes they take.
-pub(crate) fn tell_places(
-    rt: &impl Print,
-    text: &str,
-    code: &StubCode,
-    sizes: StubSizes,
-) -> Result<()> {
-    println!(rt; "stub of {text} at {:#x}, {:?}", code.start, sizes)?;
-    println!(rt; "  stubs {:?}, images {:?}", code.stub_at, code.image_at)?;
-    Ok(())
+pub(crate) fn tell_places(listing: &mut Listing, text: &str, code: &StubCode, sizes: StubSizes) {
+    listing.text("stub of ");
+    listing.text(text);
+    listing.hex(" at ", code.start);
+    listing.value_line(", ", &sizes);
+    listing.value("  stubs ", &code.stub_at);
+    listing.value_line(", images ", &code.image_at);
 }
 
 /// Tells that, and the words.
-fn tell_code(rt: &impl Print, text: &str, code: &StubCode, sizes: StubSizes) -> Result<()> {
-    tell_places(rt, text, code, sizes)?;
+fn tell_code(listing: &mut Listing, text: &str, code: &StubCode, sizes: StubSizes) {
+    tell_places(listing, text, code, sizes);
     for word in &code.words {
-        println!(rt; "  {word:#010x}")?;
+        listing.address("  ", *word);
+        listing.end_line();
     }
-    Ok(())
 }
 
 /// Tells of the plan with a region.
-fn tell_region(rt: &(impl Print + AllocGlobal)) -> Result<()> {
-    let plan = plan_of_region(rt.alloc())?;
-    let code = stubs(rt.alloc(), &plan)?;
-    tell_code(rt, "region", &code, sizes(&plan))
+fn tell_region(listing: &mut Listing) -> Result<()> {
+    let plan = plan_of_region(listing.alloc())?;
+    let code = stubs(listing.alloc(), &plan)?;
+    tell_code(listing, "region", &code, sizes(&plan));
+    Ok(())
 }
 
 /// Tells the words of the patch range for the plan `words`, `bytes`, `piece` or `region`, and where the parts stand.
-pub(crate) fn tell_stub(rt: &(impl Print + AllocGlobal), text: &str) -> Result<()> {
+pub(crate) fn tell_stub(listing: &mut Listing, text: &str) -> Result<()> {
     if text == "region" {
-        return tell_region(rt);
+        return tell_region(listing);
     }
-    let plan = plan_named(rt.alloc(), text)?;
-    let code = plain_code(rt.alloc(), &plan)?;
-    tell_code(rt, text, &code, sizes(&plan))
+    let plan = plan_named(listing.alloc(), text)?;
+    let code = plain_code(listing.alloc(), &plan)?;
+    tell_code(listing, text, &code, sizes(&plan));
+    Ok(())
 }

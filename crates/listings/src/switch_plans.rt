@@ -2,6 +2,7 @@
 ghost use Rattle.std.specs.Prelude.{◌≡◌, [], ◌∷◌, map, length, IfOk};
 ghost use Rattle.patch_code.specs.{Overlay.{CanHold}, StubPlans.{HasLists, overlay_plan, jobs_of}};
 
+use crate::listing::Listing;
 use crate::stub_plans::{job, stub, tell_places};
 use anyhow::{Result, bail};
 use patch_code::{CopyJob, StubPlan, sizes, stubs};
@@ -142,9 +143,9 @@ fn plan_named(alloc: Global, name: &str) -> Result<StubPlan>
 }
 
 /// The words of the patch range for the plan `pair` or `twins`. Tells where their parts stand.
-pub(crate) fn code_words(rt: &(impl Print + AllocGlobal), name: &str) -> Result<Vec<u32>> {
-    let plan = plan_named(rt.alloc(), name)?;
-    let code = stubs(rt.alloc(), &plan)?;
-    tell_places(rt, name, &code, sizes(&plan))?;
+pub(crate) fn code_words(listing: &mut Listing, name: &str) -> Result<Vec<u32>> {
+    let plan = plan_named(listing.alloc(), name)?;
+    let code = stubs(listing.alloc(), &plan)?;
+    tell_places(listing, name, &code, sizes(&plan));
     Ok(code.words)
 }

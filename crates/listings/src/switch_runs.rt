@@ -4,10 +4,7 @@
 ghost use Rattle.std.specs.Prelude.{◌≤◌, length, IfOk};
 
 use crate::cases::Case;
-use crate::printing::{
-    print_address, print_number, print_number_line, print_numbers, print_text, print_value_line,
-    print_words,
-};
+use crate::listing::Listing;
 use crate::texts::{number, numbers};
 use anyhow::{Context, Result, bail};
 use board_config::read_board;
@@ -94,63 +91,60 @@ fn differing(alloc: Global, first: &[u32], second: &[u32]) -> Result<Vec<u64>, A
 }
 
 /// Tells of slots and homes.
-fn tell_memory(rt: &impl Print, words: &[u32]) -> Result<()>
+fn tell_memory(listing: &mut Listing, words: &[u32])
     requires { 89 ≤ length words.now }
 {
-    print_text(rt, "  slots")?;
-    print_words(rt, &words[1..13])?;
-    print_text(rt, "  homes")?;
-    print_words(rt, &words[13..25])
+    listing.text("  slots");
+    listing.words(&words[1..13]);
+    listing.text("  homes");
+    listing.words(&words[13..25]);
 }
 
 /// Tells which registers differ behind a stub, and whether the words that stay are those that were written before.
-fn tell_rest(rt: &(impl Print + AllocGlobal), old: &[u32], new: &[u32]) -> Result<()>
+fn tell_rest(listing: &mut Listing, old: &[u32], new: &[u32]) -> Result<()>
     requires { 89 ≤ length new.now }
 {
-    let differ = differing(rt.alloc(), &new[25..57], &new[57..89])?;
-    print_text(rt, "  all registers same but")?;
-    print_numbers(rt, &differ)?;
+    let differ = differing(listing.alloc(), &new[25..57], &new[57..89])?;
+    listing.text("  all registers same but");
+    listing.numbers(&differ);
     let kept = old.get(TOLD..).context("no words stay")?;
     let same = kept == &new[89..];
-    print_value_line(rt, "  memory same: ", &same)
+    listing.value_line("  memory same: ", &same);
+    Ok(())
 }
 
 /// Tells of a run from a pad to a body, and of the region that is current then.
-fn tell_counts(rt: &impl Print, pad: u32, counts: Counts, region: u32) -> Result<()> {
-    print_address(rt, "from pad ", pad)?;
-    print_number(rt, ": region ", u64::from(region))?;
-    print_number(rt, ", steps ", counts.steps)?;
-    print_number(rt, ", reads ", counts.reads)?;
-    print_number_line(rt, ", writes ", counts.writes)
+fn tell_counts(listing: &mut Listing, pad: u32, counts: Counts, region: u32) {
+    listing.address("from pad ", pad);
+    listing.number(": region ", u64::from(region));
+    listing.number(", steps ", counts.steps);
+    listing.number(", reads ", counts.reads);
+    listing.number_line(", writes ", counts.writes);
 }
 
 /// Runs the file of a case on the flat machine. `NEXT PAD BODY PAD BODY ..`: at `NEXT` its words are written. It goes from
 /// there to a pad, from the pad to the body of a stub, which is told, and to `NEXT` again.
-pub(crate) fn tell_switches(
-    rt: &(impl Print + AllocGlobal),
-    case: &Case,
-    text: &str,
-) -> Result<()> {
+pub(crate) fn tell_switches(listing: &mut Listing, case: &Case, text: &str) -> Result<()> {
     let (next, ends) = text.split_once(' ').context("no pads")?;
     let next = number(next)?;
-    let ends = numbers(rt.alloc(), ends)?;
-    let file = case.built(rt.alloc())?;
-    let view = read(rt.alloc(), &file)?;
-    let board = read_board(rt.alloc(), b"")?;
-    let store = PageStore::new(rt.alloc());
-    let mut machine = Flat::new(rt.alloc(), &view, &board, &case.input, store)?;
-    let mut old = words_up_to(rt.alloc(), &mut machine, next)?;
-    tell_memory(rt, &old)?;
+    let ends = numbers(listing.alloc(), ends)?;
+    let file = case.built(listing.alloc())?;
+    let view = read(listing.alloc(), &file)?;
+    let board = read_board(listing.alloc(), b"")?;
+    let store = PageStore::new(listing.alloc());
+    let mut machine = Flat::new(listing.alloc(), &view, &board, &case.input, store)?;
+    let mut old = words_up_to(listing.alloc(), &mut machine, next)?;
+    tell_memory(listing, &old);
     for pair in ends.chunks(2) {
         let &[pad, body] = pair else {
             bail!("a pad has no body");
         };
         run_to(&mut machine, pad)?;
         let counts = run_to(&mut machine, body)?;
-        let new = words_up_to(rt.alloc(), &mut machine, next)?;
-        tell_counts(rt, pad, counts, new[0])?;
-        tell_memory(rt, &new)?;
-        tell_rest(rt, &old, &new)?;
+        let new = words_up_to(listing.alloc(), &mut machine, next)?;
+        tell_counts(listing, pad, counts, new[0]);
+        tell_memory(listing, &new);
+        tell_rest(listing, &old, &new)?;
         old = new;
     }
     Ok(())

@@ -1,21 +1,22 @@
 // The tables that a list asks for.
 ghost use Rattle.std.specs.Prelude.{List, ℕ};
-ghost use Rattle.board_config.specs.Board.{IsLawful};
+ghost use Rattle.board_config.specs.{Board.{IsLawful}, declared.board.Board.{Board as ContractBoard}};
 ghost use Rattle.loaded_file.specs.Read.{IsRead};
 ghost use Rattle.relink_core.specs.Choices.{IsAnalysisOf};
 
-use crate::code_tables::{print_blocks, print_counts, print_units};
+use crate::code_tables::{list_blocks, list_counts, list_units};
 use crate::file_tables::{
-    print_leaders, print_movable, print_ranges, print_relocations, print_sections,
+    list_leaders, list_movable, list_ranges, list_relocations, list_sections,
 };
-use crate::flow_tables::{print_live, print_points, print_regions};
-use crate::graph_tables::{print_fixed, print_graph};
+use crate::flow_tables::{list_live, list_regions};
+use crate::graph_tables::{list_fixed, list_graph};
 use crate::large::large_file;
-use crate::moved::print_moved;
-use crate::piece_table::print_pieces;
-use crate::printing::{print_line, print_text};
-use crate::profile_table::{print_fault, print_profile};
-use crate::programme_table::print_programme;
+use crate::listing::Listing;
+use crate::moved::list_moved;
+use crate::piece_table::list_pieces;
+use crate::points_table::list_points;
+use crate::profile_table::{list_fault, list_profile};
+use crate::programme_table::list_programme;
 use anyhow::{Context, Result, bail};
 use board_config::{Board, read_board};
 use elf_reader::{ElfView, read};
@@ -23,7 +24,6 @@ use relink_core::{Analysis, analyse};
 use relinking::programme_of_run;
 use shelf_io::NoProgress;
 use std::fs;
-use std::rt::Files;
 
 /// The name of the program that is made rather than read.
 const LARGE: &str = "large";
@@ -37,49 +37,39 @@ fn is_of_file(table: &str) -> bool {
 }
 
 /// Lists tables of a file that is read, whatever the code in it.
-fn list_file(
-    rt: &(impl Print + AllocGlobal),
-    tables: &str,
-    bytes: &[u8],
-    board: &Board,
-) -> Result<()> {
-    let alloc = rt.alloc();
+fn list_file(listing: &mut Listing, tables: &str, bytes: &[u8], board: &Board) -> Result<()> {
+    let alloc = listing.alloc();
     let view = read(alloc, bytes)?;
     for table in tables.split(',') {
-        list_file_table(rt, table, &view, board)?;
+        list_file_table(listing, table, &view, board)?;
     }
     Ok(())
 }
 
 /// Lists a table of a file that is read.
-fn list_file_table(
-    rt: &(impl Print + AllocGlobal),
-    table: &str,
-    view: &ElfView,
-    board: &Board,
-) -> Result<()>
+fn list_file_table(listing: &mut Listing, table: &str, view: &ElfView, board: &Board) -> Result<()>
     requires { IsRead view.now }
 {
-    print_title(rt, table)?;
+    list_title(listing, table);
     match table {
-        "sections" => print_sections(rt, view),
-        "ranges" => print_ranges(rt, view),
-        "relocations" => print_relocations(rt, view),
-        "movable" => print_movable(rt, view, board),
-        "leaders" => print_leaders(rt, view),
+        "sections" => list_sections(listing, view),
+        "ranges" => list_ranges(listing, view),
+        "relocations" => list_relocations(listing, view),
+        "movable" => list_movable(listing, view, board),
+        "leaders" => list_leaders(listing, view),
         _ => bail!("a table has no known name"),
     }
 }
 
 /// The line above a table.
-fn print_title(rt: &impl Print, table: &str) -> Result<()> {
-    print_text(rt, "-- ")?;
-    print_line(rt, table)
+fn list_title(listing: &mut Listing, table: &str) {
+    listing.text("-- ");
+    listing.line(table);
 }
 
 /// Lists a table of an analysed program. `most` is the number of blocks that are told.
 fn list_program_table(
-    rt: &(impl Print + AllocGlobal),
+    listing: &mut Listing,
     table: &str,
     most: usize,
     analysis: &Analysis<'_>,
@@ -88,46 +78,67 @@ fn list_program_table(
     requires lawful { IsLawful board.now }
     requires analysed { (file : List ℕ) × IsAnalysisOf file board.now analysis.now }
 {
-    print_title(rt, table)?;
+    list_title(listing, table);
     match table {
-        "graph" => print_graph(rt, &analysis.graph),
-        "fixed" => print_fixed(rt, analysis, board),
-        "blocks" => print_blocks(rt, &analysis.code, most),
-        "units" => print_units(rt, &analysis.code, most),
-        "counts" => print_counts(rt, analysis),
-        "live" => print_live(rt, &analysis.code, &analysis.live, most),
-        "points" => print_points(rt, analysis, most),
-        "pieces" => print_pieces(rt, analysis),
-        "regions" => print_regions(rt, &analysis.regions),
-        "moved" => print_moved(rt, analysis, board),
-        "profile" => print_profile(rt, analysis, board),
-        _ => bail!("a table has no known name"),
+        "fixed" => list_fixed(listing, analysis, board),
+        "points" => list_points(listing, analysis, most),
+        "pieces" => list_pieces(listing, analysis),
+        "moved" => list_moved(listing, analysis, board),
+        "profile" => {
+            list_profile(listing, analysis, board);
+            Ok(())
+        }
+        _ => list_found(listing, table, most, analysis),
     }
 }
 
-/// Lists a table of an analysed program's run with the bytes of a file as its input.
-fn list_run_table(
-    rt: &(impl Files + Print + AllocGlobal),
+/// Lists a table of what the analysis itself found.
+fn list_found(
+    listing: &mut Listing,
     table: &str,
-    input: &str,
+    most: usize,
+    analysis: &Analysis<'_>,
+) -> Result<()>
+    requires { (file : List ℕ) × (board : ContractBoard) × IsAnalysisOf file board analysis.now }
+{
+    match table {
+        "graph" => list_graph(listing, &analysis.graph),
+        "blocks" => list_blocks(listing, &analysis.code, most),
+        "units" => list_units(listing, &analysis.code, most),
+        "counts" => list_counts(listing, analysis),
+        "live" => list_live(listing, &analysis.code, &analysis.live, most),
+        "regions" => list_regions(listing, &analysis.regions),
+        _ => bail!("a table has no known name"),
+    }
+    Ok(())
+}
+
+/// Lists a table of an analysed program's run with an input.
+fn list_run_table(
+    listing: &mut Listing,
+    table: &str,
+    input: &[u8],
     analysis: &Analysis<'_>,
     board: &Board,
 ) -> Result<()>
     requires lawful { IsLawful board.now }
     requires analysed { (file : List ℕ) × IsAnalysisOf file board.now analysis.now }
 {
-    print_title(rt, table)?;
-    let input = fs::read(rt, input)?;
-    match programme_of_run(rt.alloc(), analysis, board, &input, &NoProgress) {
-        Ok(measured) => print_programme(rt, table, &measured.programme, board.nodes),
-        Err(fault) => print_fault(rt, &fault),
+    list_title(listing, table);
+    match programme_of_run(listing.alloc(), analysis, board, input, &NoProgress) {
+        Ok(measured) => list_programme(listing, table, &measured.programme, board.nodes),
+        Err(fault) => {
+            list_fault(listing, &fault);
+            Ok(())
+        }
     }
 }
 
 /// Lists tables of an analysed program. A table is `NAME`, or `NAME=N` for the first N blocks, or `NAME<INPUT` where it
-/// is of a run.
+/// is of a run with the bytes of a file as its input.
 fn list_tables(
-    rt: &(impl Files + Print + AllocGlobal),
+    rt: &HostRuntime,
+    listing: &mut Listing,
     tables: &str,
     analysis: &Analysis<'_>,
     board: &Board,
@@ -137,38 +148,42 @@ fn list_tables(
 {
     for table in tables.split(',') {
         if let Some((name, input)) = table.split_once('<') {
-            list_run_table(rt, name, input, analysis, board)?;
+            let input = fs::read(rt, input)?;
+            list_run_table(listing, name, &input, analysis, board)?;
             continue;
         }
         let (name, most) = match table.split_once('=') {
             Some((name, most)) => (name, most.parse::<usize>().context("no number of blocks")?),
             None => (table, usize::MAX),
         };
-        list_program_table(rt, name, most, analysis, board)?;
+        list_program_table(listing, name, most, analysis, board)?;
     }
     Ok(())
 }
 
 /// Lists tables of a program that is analysed for a board, or the fault of its analysis.
 fn list_program(
-    rt: &(impl Files + Print + AllocGlobal),
+    rt: &HostRuntime,
+    listing: &mut Listing,
     tables: &str,
     bytes: &[u8],
     board: &Board,
 ) -> Result<()>
     requires lawful { IsLawful board.now }
 {
-    match analyse(rt.alloc(), bytes, board) {
-        Ok(analysis) => list_tables(rt, tables, &analysis, board),
+    match analyse(listing.alloc(), bytes, board) {
+        Ok(analysis) => list_tables(rt, listing, tables, &analysis, board),
         Err(fault) => {
-            println!(rt; "fault: {fault}")?;
+            listing.text("fault: ");
+            listing.shown(fault);
+            listing.end_line();
             Ok(())
         }
     }
 }
 
 /// The bytes of a file by its name.
-fn bytes_of(rt: &(impl Files + AllocGlobal), name: &str) -> Result<Vec<u8>> {
+fn bytes_of(rt: &HostRuntime, name: &str) -> Result<Vec<u8>> {
     if name == LARGE {
         Ok(large_file(rt.alloc())?)
     } else {
@@ -177,29 +192,29 @@ fn bytes_of(rt: &(impl Files + AllocGlobal), name: &str) -> Result<Vec<u8>> {
 }
 
 /// Lists what a line asks for: `FILE TABLE,TABLE.. KEYS`, where `;` stands between the keys of the board.
-fn list_line(rt: &(impl Files + Print + AllocGlobal), line: &str) -> Result<()> {
-    print_text(rt, "== ")?;
-    print_line(rt, line)?;
+fn list_line(rt: &HostRuntime, listing: &mut Listing, line: &str) -> Result<()> {
+    listing.text("== ");
+    listing.line(line);
     let (file, rest) = line.split_once(' ').context("a line names no table")?;
     let (tables, keys) = match rest.split_once(' ') {
         Some((tables, keys)) => (tables, keys),
         None => (rest, ""),
     };
-    let keys = keys.replace(rt.alloc(), ";", "\n")?;
-    let board = read_board(rt.alloc(), keys.as_bytes())?;
+    let keys = keys.replace(listing.alloc(), ";", "\n")?;
+    let board = read_board(listing.alloc(), keys.as_bytes())?;
     let bytes = bytes_of(rt, file)?;
     if tables.split(',').all(is_of_file) {
-        list_file(rt, tables, &bytes, &board)
+        list_file(listing, tables, &bytes, &board)
     } else {
-        list_program(rt, tables, &bytes, &board)
+        list_program(rt, listing, tables, &bytes, &board)
     }
 }
 
 /// Lists what each line of a list asks for. A line that is empty or begins with `#` is left aside.
-pub(crate) fn list_all(rt: &(impl Files + Print + AllocGlobal), list: &str) -> Result<()> {
+pub(crate) fn list_all(rt: &HostRuntime, listing: &mut Listing, list: &str) -> Result<()> {
     for line in list.lines() {
         if !line.is_empty() && !line.starts_with('#') {
-            list_line(rt, line)?;
+            list_line(rt, listing, line)?;
         }
     }
     Ok(())

@@ -1,7 +1,7 @@
 ghost use Rattle.std.specs.Prelude.{◌≡◌, IfOk, IfSome, IsTrue, ◌↔◌, OnOk};
 ghost use Rattle.cell_values.specs.Objects.{IsOfGraph, IsGrain};
 
-use crate::printing::{print_number, print_value, print_value_line};
+use crate::listing::Listing;
 use crate::texts::number;
 use anyhow::{Context, Result, bail};
 use cell_values::{Val, compare, join, low_site, op_imm, op_reg, split};
@@ -102,92 +102,89 @@ fn read_operation(text: &str) -> Result<Operation> {
 
 /// `GRAIN INSTRUCTION VALUE VALUE`: what the instruction makes of the values of its two registers, or of the first and
 /// its immediate; of a branch, whether it is taken.
-pub(crate) fn tell_operation(rt: &(impl Print + AllocGlobal), text: &str) -> Result<()> {
+pub(crate) fn tell_operation(listing: &mut Listing, text: &str) -> Result<()> {
     let asked = read_operation(text)?;
-    let graph = graph_at(rt.alloc(), asked.grain)?;
+    let graph = graph_at(listing.alloc(), asked.grain)?;
     if !is_of_graph(&asked.a, &graph) || !is_of_graph(&asked.b, &graph) {
         bail!("a value of no object");
     }
     match decode(asked.word) {
-        Some(Instr::OpReg { kind, .. }) => tell_registers(rt, kind, &asked, &graph),
-        Some(Instr::OpImm { kind, imm, .. }) => tell_immediate(rt, kind, imm, &asked, &graph),
-        Some(Instr::Branch { kind, .. }) => tell_branch(rt, kind, &asked, &graph),
+        Some(Instr::OpReg { kind, .. }) => tell_registers(listing, kind, &asked, &graph),
+        Some(Instr::OpImm { kind, imm, .. }) => tell_immediate(listing, kind, imm, &asked, &graph),
+        Some(Instr::Branch { kind, .. }) => tell_branch(listing, kind, &asked, &graph),
         _ => bail!("no operation"),
     }
+    Ok(())
 }
 
 /// The grain, an operation, its two values, and what it makes of them.
 fn tell_made(
-    rt: &impl Print,
+    listing: &mut Listing,
     asked: &Operation,
     kind: &impl Debug,
     b: &impl Debug,
     made: &impl Debug,
-) -> Result<()> {
-    print_number(rt, "", u64::from(asked.grain))?;
-    print_value(rt, " ", kind)?;
-    print_value(rt, " ", &asked.a)?;
-    print_value(rt, " ", b)?;
-    print_value_line(rt, ": ", made)
+) {
+    listing.number("", u64::from(asked.grain));
+    listing.value(" ", kind);
+    listing.value(" ", &asked.a);
+    listing.value(" ", b);
+    listing.value_line(": ", made);
 }
 
-fn tell_registers(rt: &impl Print, kind: RegKind, asked: &Operation, graph: &Graph) -> Result<()>
+fn tell_registers(listing: &mut Listing, kind: RegKind, asked: &Operation, graph: &Graph)
     requires grain { IsGrain graph.now.grain }
     requires a { IsOfGraph graph.now asked.now.a }
     requires b { IsOfGraph graph.now asked.now.b }
 {
     let made = op_reg(kind, &asked.a, &asked.b, graph);
-    tell_made(rt, asked, &kind, &asked.b, &made)
+    tell_made(listing, asked, &kind, &asked.b, &made);
 }
 
-fn tell_immediate(
-    rt: &impl Print,
-    kind: ImmKind,
-    imm: i32,
-    asked: &Operation,
-    graph: &Graph,
-) -> Result<()>
+fn tell_immediate(listing: &mut Listing, kind: ImmKind, imm: i32, asked: &Operation, graph: &Graph)
     requires grain { IsGrain graph.now.grain }
     requires a { IsOfGraph graph.now asked.now.a }
 {
     let made = op_imm(kind, &asked.a, imm, graph);
-    tell_made(rt, asked, &kind, &imm, &made)
+    tell_made(listing, asked, &kind, &imm, &made);
 }
 
-fn tell_branch(rt: &impl Print, kind: BranchKind, asked: &Operation, graph: &Graph) -> Result<()>
+fn tell_branch(listing: &mut Listing, kind: BranchKind, asked: &Operation, graph: &Graph)
     requires a { IsOfGraph graph.now asked.now.a }
     requires b { IsOfGraph graph.now asked.now.b }
 {
     let taken = compare(kind, &asked.a, &asked.b, graph);
-    tell_made(rt, asked, &kind, &asked.b, &taken)
+    tell_made(listing, asked, &kind, &asked.b, &taken);
 }
 
 /// `GRAIN VALUE OBJECT OFFSET`: the address that a low part of an address of the object makes of the value.
-pub(crate) fn tell_address(rt: &(impl Print + AllocGlobal), text: &str) -> Result<()> {
+pub(crate) fn tell_address(listing: &mut Listing, text: &str) -> Result<()> {
     let (grain, rest) = text.split_once(' ').context("no value")?;
     let (word, rest) = rest.split_once(' ').context("no object")?;
     let (obj, off) = rest.split_once(' ').context("no offset")?;
     let grain = number(grain)?;
-    let graph = graph_at(rt.alloc(), grain)?;
+    let graph = graph_at(listing.alloc(), grain)?;
     let (a, obj, off) = (value(word)?, number(obj)?, number(off)?);
     if !is_of_graph(&a, &graph) || obj as usize >= graph.objects.len() {
         bail!("a value of no object");
     }
-    print_number(rt, "", u64::from(grain))?;
-    print_value(rt, " ", &a)?;
-    print_number(rt, " ", u64::from(obj))?;
-    print_number(rt, " ", u64::from(off))?;
-    print_value_line(rt, ": ", &low_site(&a, obj, off, &graph))
+    listing.number("", u64::from(grain));
+    listing.value(" ", &a);
+    listing.number(" ", u64::from(obj));
+    listing.number(" ", u64::from(off));
+    listing.value_line(": ", &low_site(&a, obj, off, &graph));
+    Ok(())
 }
 
 /// The cells that a value fills in memory, what they are as a word, and what they are with the first two exchanged.
-pub(crate) fn tell_cells(rt: &impl Print, text: &str) -> Result<()> {
+pub(crate) fn tell_cells(listing: &mut Listing, text: &str) -> Result<()> {
     let v = value(text)?;
     let cells = split(&v);
     let [first, second, third, fourth] = cells;
     let other = join([second, first, third, fourth]);
-    print_value(rt, "", &v)?;
-    print_value_line(rt, ": ", &cells)?;
-    print_value(rt, "  ", &join(cells))?;
-    print_value_line(rt, ", ", &other)
+    listing.value("", &v);
+    listing.value_line(": ", &cells);
+    listing.value("  ", &join(cells));
+    listing.value_line(", ", &other);
+    Ok(())
 }

@@ -1,48 +1,50 @@
 ghost use Rattle.rv32im.specs.Table.{IsInRange};
 
+use crate::listing::Listing;
 use crate::texts::number;
 use anyhow::{Context, Result};
 use rv32im::{Instr, bytes4, decode, defs, encode, hi20, lo12, sext, uses, word4};
 
 /// The halves and the bytes of a word, and the instruction that it is: what that is encoded to, and the registers that
 /// it reads and writes, a bit for each.
-pub(crate) fn tell_word(rt: &impl Print, text: &str) -> Result<()> {
+pub(crate) fn tell_word(listing: &mut Listing, text: &str) -> Result<()> {
     let word = number(text)?;
     let bytes = bytes4(word);
     let same = word4(bytes);
-    println!(rt;
-        "{text} {:#x} {} {bytes:?} {same:#x}",
-        hi20(word),
-        lo12(word)
-    )?;
+    listing.text(text);
+    listing.hex(" ", hi20(word));
+    listing.value(" ", &lo12(word));
+    listing.value(" ", &bytes);
+    listing.hex(" ", same);
+    listing.end_line();
     match decode(word) {
-        Some(instr) => tell_instruction(rt, &instr),
-        None => {
-            println!(rt; "  no instruction")?;
-            Ok(())
-        }
+        Some(instr) => tell_instruction(listing, &instr),
+        None => listing.line("  no instruction"),
     }
-}
-
-/// What an instruction is encoded to, and the registers that it reads and writes.
-fn tell_instruction(rt: &impl Print, instr: &Instr) -> Result<()>
-    requires { IsInRange instr.now }
-{
-    let (read, written) = (uses(instr).bits, defs(instr).bits);
-    println!(rt;
-        "  {instr:?} {:#010x}, reads {read:#x}, writes {written:#x}",
-        encode(instr)
-    )?;
     Ok(())
 }
 
+/// What an instruction is encoded to, and the registers that it reads and writes.
+fn tell_instruction(listing: &mut Listing, instr: &Instr)
+    requires { IsInRange instr.now }
+{
+    let (read, written) = (uses(instr).bits, defs(instr).bits);
+    listing.value("  ", instr);
+    listing.address(" ", encode(instr));
+    listing.hex(", reads ", read);
+    listing.hex(", writes ", written);
+    listing.end_line();
+}
+
 /// A word whose low bits, as many as are given, are extended by their sign.
-pub(crate) fn tell_extension(rt: &impl Print, text: &str) -> Result<()> {
+pub(crate) fn tell_extension(listing: &mut Listing, text: &str) -> Result<()> {
     let (word, bits) = text.split_once(' ').context("no number of bits")?;
     let (word, bits) = (number(word)?, number(bits)?);
     if bits == 0 || bits > 32 {
         return Ok(());
     }
-    println!(rt; "{text} {:#x}", sext(word, bits))?;
+    listing.text(text);
+    listing.hex(" ", sext(word, bits));
+    listing.end_line();
     Ok(())
 }

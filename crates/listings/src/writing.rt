@@ -4,7 +4,7 @@ ghost use Rattle.list_checks.specs.Tests.{lies_in, ranges_overlap};
 ghost use Rattle.elf_writer.specs.{Parts.{new_segment}, Conditions.{is_loaded_word, IsAddable, IsWritable}};
 
 use crate::cases::Case;
-use crate::printing::{end_line, print_line, print_number, print_text, print_value_line};
+use crate::listing::Listing;
 use crate::texts::numbers;
 use anyhow::{Result, bail};
 use elf_reader::{ElfView, Section, Segment, read};
@@ -165,45 +165,51 @@ fn changed_view(alloc: Global, view: &ElfView, change: &Change) -> Result<Option
 }
 
 /// Tells the bytes of a file that another file has changed.
-fn tell_changes(rt: &impl Print, old: &[u8], new: &[u8]) -> Result<()> {
+fn tell_changes(listing: &mut Listing, old: &[u8], new: &[u8]) {
     for (place, (before, after)) in old.iter().zip(new).enumerate() {
         if before != after {
-            println!(rt; "  byte {place}: {before:#04x} to {after:#04x}")?;
+            tell_byte(listing, place as u64, *before, *after);
         }
     }
-    Ok(())
+}
+
+/// A line with a byte of a file, and what it becomes.
+fn tell_byte(listing: &mut Listing, place: u64, before: u8, after: u8) {
+    listing.number("  byte ", place);
+    listing.byte(": ", before);
+    listing.byte(" to ", after);
+    listing.end_line();
 }
 
 /// Tells the segments and symbols of a file.
-fn tell_parts(rt: &(impl Print + AllocGlobal), bytes: &[u8]) -> Result<()> {
-    let view = read(rt.alloc(), bytes)?;
-    println!(rt;
-        "  entry {:#x}, {} program headers at {}",
-        view.entry, view.ph_count, view.ph_at
-    )?;
+fn tell_parts(listing: &mut Listing, bytes: &[u8]) -> Result<()> {
+    let view = read(listing.alloc(), bytes)?;
+    listing.hex("  entry ", view.entry);
+    listing.number(", ", u64::from(view.ph_count));
+    listing.number_line(" program headers at ", u64::from(view.ph_at));
     for segment in &view.segments {
-        print_value_line(rt, "  ", segment)?;
+        listing.value_line("  ", segment);
     }
     for symbol in &view.symbols {
-        print_value_line(rt, "  ", symbol)?;
+        listing.value_line("  ", symbol);
     }
     Ok(())
 }
 
 /// Tells what the writer makes of a file with a change.
-pub(crate) fn tell_written(rt: &(impl Print + AllocGlobal), case: &Case, text: &str) -> Result<()> {
-    let file = case.built(rt.alloc())?;
-    print_text(rt, "write ")?;
-    print_text(rt, text)?;
-    match changed(rt.alloc(), &file, &read_change(rt.alloc(), text)?)? {
+pub(crate) fn tell_written(listing: &mut Listing, case: &Case, text: &str) -> Result<()> {
+    let file = case.built(listing.alloc())?;
+    listing.text("write ");
+    listing.text(text);
+    match changed(listing.alloc(), &file, &read_change(listing.alloc(), text)?)? {
         Some(out) => {
-            print_number(rt, ": ", file.len() as u64)?;
-            print_number(rt, " bytes become ", out.len() as u64)?;
-            end_line(rt)?;
-            tell_changes(rt, &file, &out)?;
-            tell_parts(rt, &out)?;
+            listing.number(": ", file.len() as u64);
+            listing.number(" bytes become ", out.len() as u64);
+            listing.end_line();
+            tell_changes(listing, &file, &out);
+            tell_parts(listing, &out)?;
         }
-        None => print_line(rt, ": is not to be written")?,
+        None => listing.line(": is not to be written"),
     }
     Ok(())
 }

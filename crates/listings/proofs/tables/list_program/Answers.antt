@@ -5,7 +5,7 @@ use Rattle.relinking.proofs.Analysed.{analysed}
 use Rattle.listings.proofs.tables.list_program.Goals as goal
 
 pub list_tables-requires-clause-analysed : goal.list_tables-requires-clause-analysed
-list_tables-requires-clause-analysed g c =
+list_tables-requires-clause-analysed c =
     let file = c.args.bytes.now in
     let found = c.in-Ok.ensures in
     let bytes : AreBytes file = All-from_get_or IsByte file 0 (λ k below. let fits = c.type_inv.bytes k in omega (arith, fits)) in
