@@ -8,7 +8,7 @@ pub fn say_unread(notes: &mut Notes, place: usize, word: &str) -> Result<(), All
         notes,
         place,
         word,
-        "can't be read: it is missing or a folder, may not be read, or has over 128 MiB",
+        "can't be read: it is missing, a folder or a socket, may not be read, or has over 128 MiB",
     )?;
     notes.say_first("correct the name, or make the file readable")
 }
@@ -19,7 +19,7 @@ pub fn say_unwritten(notes: &mut Notes, place: usize, word: &str) -> Result<(), 
         notes,
         place,
         word,
-        "can't be written: it is a folder, its folder is missing, no file may be made there, or the disk is full; what stood there is as it was",
+        "can't be written: it is a folder or a socket, its folder is missing, no file may be made there, the disk is full, or who reads the pipe has closed it; a file there is as it was, a pipe may have got a part",
     )?;
     notes.say_first(
         "make the folder, or give a name in a folder in which you may write and that has space",

@@ -35,7 +35,9 @@ pub use fixes::{
     FixEnd, FixList, may_keep, say_fault_cure, say_fix, say_further_fault, say_more_faults,
     say_no_list,
 };
-pub use mixes::{say_bad_line, say_faulty_input, say_unpaired_input, say_unread_input};
+pub use mixes::{
+    say_bad_line, say_faulty_input, say_unended_inputs, say_unpaired_input, say_unread_input,
+};
 pub use notes::Notes;
 pub use objects::{
     Label, PinnedSection, is_anchor, say_load_address, say_more_sections, say_nothing_moved,

@@ -20,7 +20,7 @@ pub fn say_unread_input(notes: &mut Notes, line: u64, name: &str) -> Result<(), 
         Piece::Text(" of MIX, "),
         Piece::Name(name.as_bytes()),
         Piece::Text(
-            ", can't be read: it is missing or a folder, may not be read, or has over 128 MiB",
+            ", can't be read: it is missing, a folder or a socket, may not be read, or has over 128 MiB",
         ),
     ])?;
     notes.say_first("correct the name, or make the file readable")
@@ -34,6 +34,18 @@ pub fn say_faulty_input(notes: &mut Notes, line: u64) -> Result<(), AllocError> 
         line,
         " names the first input whose run meets an address fault",
     )
+}
+
+/// On how many inputs of a mix the runs did not come to their program's end, and the number of the first one's line, from 1. It
+/// fails only where no memory was left.
+pub fn say_unended_inputs(notes: &mut Notes, count: u64, line: u64) -> Result<(), AllocError> {
+    notes.say(&[
+        Piece::Text("the runs on "),
+        Piece::Number(count),
+        Piece::Text(" of the inputs did not end; line "),
+        Piece::Number(line),
+        Piece::Text(" of MIX names the first"),
+    ])
 }
 
 /// The input of a mix whose run is not paired, by the number of its line, from 1. It fails only where no memory was left.

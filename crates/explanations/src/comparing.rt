@@ -77,7 +77,7 @@ fn run_program(subject: &Subject, input: &[u8]) -> Result<ProgramRun, AllocError
 }
 
 /// Takes steps until a program ends, or so many were taken, and tells how many it took.
-fn steps_to_end(source: &mut Source, most: u64) -> Result<u64, AllocError> {
+pub(crate) fn steps_to_end(source: &mut Source, most: u64) -> Result<u64, AllocError> {
     for k in 0..most {
         if source.outcome() != Outcome::GoesOn {
             return Ok(k);

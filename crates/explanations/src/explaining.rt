@@ -14,6 +14,7 @@ use crate::runs::{explain_end, explain_run};
 use crate::savings::{explain_saved, explain_taken};
 use crate::staying::explain_staying;
 use crate::subject::Subject;
+use crate::unended::explain_unended;
 use board_config::read_board;
 use code_blocks::CodeFault;
 use command_language::CommandFault;
@@ -205,6 +206,7 @@ fn explain_chosen(
 ) -> Result<(), AllocError>
     requires { (board_text : List ℕ) × ((file : List ℕ) × IsOpened board_text file subject.now.opened) }
 {
+    explain_unended(notes, subject)?;
     explain_taken(notes, subject, chosen)?;
     explain_room(notes, chosen, subject.opened.analysis.regions.count)?;
     explain_staying(notes, subject, chosen)?;

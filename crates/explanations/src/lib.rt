@@ -23,6 +23,7 @@ mod section_map;
 mod stakes;
 mod staying;
 mod subject;
+mod unended;
 
 pub use command_line::{is_seen_safe, run, run_command};
 pub use explainer::Explainer;
