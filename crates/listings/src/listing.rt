@@ -86,16 +86,15 @@ impl Listing {
         self.shown(format_args!("{number:#x}"));
     }
 
+    /// A text and behind it an address, as `0x` and eight digits.
+    pub(crate) fn address(&mut self, before: &str, address: u32) {
+        self.end(before, u64::from(address));
+    }
+
     /// A text and behind it a byte, as `0x` and two digits.
     pub(crate) fn byte(&mut self, before: &str, byte: u8) {
         self.text(before);
         self.shown(format_args!("{byte:#04x}"));
-    }
-
-    /// A text and behind it an address, as `0x` and eight digits.
-    pub(crate) fn address(&mut self, before: &str, address: u32) {
-        self.text(before);
-        self.shown(format_args!("{address:#010x}"));
     }
 
     /// A text and behind it the address at the end of a range, as `0x` and eight digits or more.

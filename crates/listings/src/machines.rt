@@ -77,14 +77,16 @@ pub(crate) fn tell_object(listing: &mut Listing, case: &Case, text: &str) -> Res
     let board = read_board(listing.alloc(), b"")?;
     let mut machine = started(listing.alloc(), &file, &board, &case.input)?;
     for word in text.split_whitespace() {
-        if word == "step" {
-            let footprint = machine.footprint();
-            listing.value("  ", &footprint);
-            listing.value_line(", ", &machine.step()?);
-        } else {
-            let steps = number(word)?;
-            let outcome = machine.run(u64::from(steps))?;
-            tell_end(listing, steps, &outcome, machine.at());
+        match word {
+            "step" => {
+                listing.value("  ", &machine.footprint());
+                listing.value_line(", ", &machine.step()?);
+            }
+            _ => {
+                let most = number(word)?;
+                let outcome = machine.run(u64::from(most))?;
+                tell_end(listing, most, &outcome, machine.at());
+            }
         }
     }
     listing.value_line("  wrote ", &machine.output());

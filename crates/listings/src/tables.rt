@@ -116,10 +116,10 @@ fn list_found(
 /// Lists a table of an analysed program's run with an input.
 fn list_run_table(
     listing: &mut Listing,
-    table: &str,
-    input: &[u8],
     analysis: &Analysis<'_>,
     board: &Board,
+    table: &str,
+    input: &[u8],
 ) -> Result<()>
     requires lawful { IsLawful board.now }
     requires analysed { (file : List ℕ) × IsAnalysisOf file board.now analysis.now }
@@ -149,7 +149,7 @@ fn list_tables(
     for table in tables.split(',') {
         if let Some((name, input)) = table.split_once('<') {
             let input = fs::read(rt, input)?;
-            list_run_table(listing, name, &input, analysis, board)?;
+            list_run_table(listing, analysis, board, name, &input)?;
             continue;
         }
         let (name, most) = match table.split_once('=') {

@@ -2,15 +2,6 @@ use shelf_io::Progress;
 use std::cell::Cell;
 use std::time::Clock;
 
-/// Calls that take no longer than this are not told of, in milliseconds.
-const SHORT: u64 = 1_000;
-
-/// How long a line stands at least, in milliseconds.
-const STANDS: u64 = 200;
-
-/// Behind calls that take longer than this, it is told where the time went, in milliseconds.
-const LONG: u64 = 10_000;
-
 /// When something was first told of, and last, in milliseconds since the command began.
 #[derive(Clone, Copy)]
 struct Span {
@@ -37,6 +28,15 @@ impl Span {
         self.last.saturating_sub(self.first) / 1000
     }
 }
+
+/// Calls that take no longer than this are not told of, in milliseconds.
+const SHORT: u64 = 1_000;
+
+/// How long a line stands at least, in milliseconds.
+const STANDS: u64 = 200;
+
+/// Behind calls that take longer than this, it is told where the time went, in milliseconds.
+const LONG: u64 = 10_000;
 
 /// One who waits at a terminal: a line there, rewritten in place, tells how far the command is. Where standard error is no
 /// terminal, nothing is told.
