@@ -3,6 +3,7 @@ from __future__ import annotations
 
 import re
 import subprocess
+import tempfile
 from pathlib import Path
 
 from pages import segments
@@ -14,10 +15,9 @@ JAL = 0x6F  # that leaves no way back
 
 def counted(path: Path, given: Path) -> dict[int, tuple[int, int]]:
     """How often each word is fetched, and how often loaded or stored."""
-    counts = OUT / "counts"
-    with given.open("rb") as opened:
-        said([OUT / "price", path, SPM, 0, counts], stdin=opened, stderr=subprocess.DEVNULL)
-    words = (map(int, it.split()) for it in counts.read_text().splitlines())
+    with given.open("rb") as opened, tempfile.NamedTemporaryFile() as counts:
+        said([OUT / "price", path, SPM, 0, counts.name], stdin=opened, stderr=subprocess.DEVNULL)
+        words = [map(int, it.split()) for it in Path(counts.name).read_text().splitlines()]
     return {address: (fetches, loads + stores) for address, fetches, loads, stores in words}
 
 

@@ -84,8 +84,10 @@ class Spent:
 def timed(words: list[object], **more: object) -> tuple[str, Spent]:
     """What a call printed, and what it took. Where it fails, that is the end."""
     started = time.monotonic()
-    with tempfile.TemporaryFile() as out, tempfile.TemporaryFile() as told:
-        process = subprocess.Popen(list(map(str, words)), stdout=out, stderr=told, **more)  # type: ignore[call-overload]
+    with tempfile.TemporaryFile() as out, tempfile.TemporaryFile() as told, tempfile.NamedTemporaryFile() as most:
+        # GNU time tells the memory: a child of a Python script counts the script's own as well.
+        call = ["/usr/bin/time", "-f", "%M", "-o", most.name, *map(str, words)]
+        process = subprocess.Popen(call, stdout=out, stderr=told, **more)  # type: ignore[call-overload]
         _, status, used = os.wait4(process.pid, 0)
         clock, process.returncode = time.monotonic() - started, os.waitstatus_to_exitcode(status)
         out.seek(0)
@@ -93,7 +95,7 @@ def timed(words: list[object], **more: object) -> tuple[str, Spent]:
         printed = out.read().decode(errors="replace")
         if process.returncode:
             sys.exit(f"{' '.join(map(str, words))}: status {process.returncode}\n{printed}{told.read().decode(errors='replace')}")
-    return printed, Spent(clock, used.ru_utime + used.ru_stime, used.ru_maxrss / 1024)
+        return printed, Spent(clock, used.ru_utime + used.ru_stime, int(most.read()) / 1024)
 
 
 # ---- sources and programs
