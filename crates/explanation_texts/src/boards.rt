@@ -97,7 +97,10 @@ pub fn explain_board(notes: &mut Notes, text: &[u8], fault: &BoardFault) -> Resu
 /// Where a text is no TOML, and why.
 fn say_syntax(notes: &mut Notes, text: &[u8]) -> Result<(), AllocError> {
     if text.starts_with(ELF_MAGIC) {
-        return notes.say_cause("the board is an ELF file", "write FILE before BOARD");
+        return notes.say_cause(
+            "the board is an ELF file",
+            "write FILE, and RESULT if there is one, before BOARD",
+        );
     }
     let Err(error) = toml::table_from_slice(notes.alloc(), text) else {
         return Ok(());

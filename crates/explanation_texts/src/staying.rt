@@ -87,7 +87,9 @@ fn put_reason(notes: &mut Notes, item: &StayingItem) -> Result<(), AllocError> {
         StayingReason::NoRegister { at } => notes.put(&[
             Piece::Text("its block at "),
             Piece::Hex(at),
-            Piece::Text(" can't be copied, since no register is free where it is entered or left"),
+            Piece::Text(
+                " can't be copied, since no register is free where it is entered or left; where a switch goes by a table, -fno-jump-tables may free one",
+            ),
         ]),
         StayingReason::Stops { at } => notes.put(&[
             Piece::Text("its block at "),
