@@ -17,7 +17,7 @@ const TOLD_SECTIONS: u32 = 3;
 const FLAGS: u32 = 7;
 
 /// Fields of headers with values that are not supported, by their numbers.
-const FIELDS: [CureRow; 4] = [
+const FIELDS: [CureRow; 5] = [
     CureRow {
         numbers: &[1, 2, 5],
         cure: Cure {
@@ -40,9 +40,16 @@ const FIELDS: [CureRow; 4] = [
         },
     },
     CureRow {
-        numbers: &[14, 15],
+        numbers: &[14],
         cure: Cure {
-            cause: "the file has two symbol tables, or relocations in a form that is not read",
+            cause: "the file has relocations for a loader, as .rela.dyn, or in a form that is not read",
+            first: "compile with -ftls-model=local-exec, and link a static executable with -Wl,--emit-relocs",
+        },
+    },
+    CureRow {
+        numbers: &[15],
+        cure: Cure {
+            cause: "the file has two symbol tables",
             first: "link a static executable with -Wl,--emit-relocs",
         },
     },
