@@ -1,44 +1,32 @@
--- What a store's cells are after a write to its pages or to its map.
-use Rattle.std.proofs.Common.{◌≡◌, ◌∙◌, inl, inr, ℕ, ◌+◌, ◌<◌, ◌≤◌, ◌/◌, ◌%◌, ◌==◌, Bool, true, false, if◌then◌else◌, Option, Some, None, is_some, List, length, slice_index_or, refl, sym, ap, subst, arith}
+-- What a store's cells are after a write to its pages.
+use Rattle.std.proofs.Common.{◌≡◌, ◌∙◌, inl, inr, ℕ, ◌+◌, ◌<◌, ◌≤◌, ◌/◌, ◌%◌, ◌==◌, Bool, true, false, if◌then◌else◌, Option, Some, None, is_some, IsSome, IsTrue, List, length, slice_index_or, refl, sym, ap, subst, arith}
 use Rattle.std.proofs.lemmas.Bool.{cases_eq}
 use Rattle.std.proofs.lemmas.Bool.Decides.{nat_tests}
 use Rattle.std.proofs.lemmas.List.{get_or_default}
 use Rattle.rv32im.specs.Words.{plus, byte_of}
-use Rattle.rv32im.specs.Memory.{Memory, zeros, put, put_half, put_word, word_at}
+use Rattle.rv32im.specs.Memory.{Memory, zeros, put, put_half, put_word, half_at, word_at}
 use Rattle.cell_values.specs.declared.values.Cell.{Cell}
-use Rattle.cell_values.specs.declared.values.Cell.TheVariants.{Byte, Mist}
+use Rattle.cell_values.specs.declared.values.Cell.TheVariants.{Byte, Part, Mist}
+use Rattle.cell_values.specs.declared.values.Val.{Val}
 use Rattle.cell_values.specs.declared.values.Val.TheVariants.{Int}
 use Rattle.cell_values.specs.Cells.{put_at, put_cells, bytes_of, join}
-use Rattle.cell_values.specs.Marks.{AreMarked, mark_of}
+use Rattle.cell_values.specs.Marks.{AreMarked, mark_of, half_of_cells}
 use Rattle.cell_values.specs.declared.store.CellStore.{CellStore}
-use Rattle.cell_values.specs.Stored.{cell_or, cells_over, HasPlace}
+use Rattle.cell_values.specs.Stored.{cell_or, cells_over, CanPut, HasPlace}
 
 byte_step : (here : Bool) (cell : Option Cell) (byte other : ℕ) → cell_or (if here then None else cell) (if here then byte else other) ≡ (if here then Byte byte else cell_or cell other)
 byte_step true cell byte other = refl
 byte_step false cell byte other = refl
-
-cell_step : (here : Bool) (cell : Cell) (old : Option Cell) (byte : ℕ) → cell_or (if here then Some cell else old) byte ≡ (if here then cell else cell_or old byte)
-cell_step true cell old byte = refl
-cell_step false cell old byte = refl
 
 byte_at_place : (old new : ℕ → Option Cell) (mem : Memory) (at byte : ℕ) → ((a : ℕ) → new a ≡ (if a == at then None else old a)) → (a : ℕ) → cell_or (new a) (put mem at byte a) ≡ put_at (cells_over old mem) at (Byte byte) a
 unfolding put put_at
 byte_at_place old new mem at byte table a =
     ap (λ o. cell_or o (if a == at then byte else mem a)) (table a) ∙ byte_step (a == at) (old a) byte (mem a)
 
--- a byte is put into a page, and the map has none at its address any more
+-- a byte is put into a page, and the table has none at its address any more
 pub byte_put : (old new : ℕ → Option Cell) (mem now : Memory) (at byte : ℕ) → ((a : ℕ) → new a ≡ (if a == at then None else old a)) → now ≡ put mem at byte → cells_over new now ≡ put_at (cells_over old mem) at (Byte byte)
 byte_put old new mem now at byte table bytes =
     ap (cells_over new) bytes ∙ (λ i a. byte_at_place old new mem at byte table a i)
-
-cell_at_place : (old new : ℕ → Option Cell) (mem : Memory) (at : ℕ) (cell : Cell) → ((a : ℕ) → new a ≡ (if a == at then Some cell else old a)) → (a : ℕ) → cell_or (new a) (mem a) ≡ put_at (cells_over old mem) at cell a
-unfolding put_at
-cell_at_place old new mem at cell table a =
-    ap (λ o. cell_or o (mem a)) (table a) ∙ cell_step (a == at) cell (old a) (mem a)
-
--- a cell is put into the map
-pub cell_put : (old new : ℕ → Option Cell) (mem : Memory) (at : ℕ) (cell : Cell) → ((a : ℕ) → new a ≡ (if a == at then Some cell else old a)) → cells_over new mem ≡ put_at (cells_over old mem) at cell
-cell_put old new mem at cell table = λ i a. cell_at_place old new mem at cell table a i
 
 -- no entries, and zeros in all pages
 pub zeros_stored : (table : ℕ → Option Cell) (mem : Memory) → ((a : ℕ) → table a ≡ None) → mem ≡ zeros → cells_over table mem ≡ (λ _. Byte 0)
@@ -50,11 +38,15 @@ pub place_at : (s : CellStore) (at : ℕ) (cells : List Cell) (k : ℕ) (d : Cel
 place_at s at cells k d below place =
     subst (λ (cell : Cell). HasPlace s at cell) (get_or_default cells k Mist d below) place
 
-pub place_of : (s : CellStore) (at : ℕ) (cells : List Cell) (k : ℕ) (d : Cell) → k < length cells → HasPlace s at (slice_index_or cells k d) → HasPlace s at (slice_index_or cells k Mist)
-place_of s at cells k d below place =
-    subst (λ (cell : Cell). HasPlace s at cell) (get_or_default cells k d Mist below) place
+-- places where there are as many entries and pages
+pub places_stay : (values values_now : ℕ → Option Val) (cells cells_now : ℕ → Option (List Cell)) (pages pages_now : ℕ → Bool) → ((w : ℕ) → values w ≡ None → values_now w ≡ None) → ((w : ℕ) → IsSome (cells w) → IsSome (cells_now w)) → ((a : ℕ) → IsTrue (pages a) → IsTrue (pages_now a)) → (a : ℕ) (other : Cell) → CanPut values cells pages a other → CanPut values_now cells_now pages_now a other
+places_stay values values_now cells cells_now pages pages_now v c p a (Byte b) (inl some) = inl (c (a / 4) some)
+places_stay values values_now cells cells_now pages pages_now v c p a (Byte b) (inr has) =
+    inr (v (a / 4) has.0, p a has.1)
+places_stay values values_now cells cells_now pages pages_now v c p a (Part hi o d k) some = c (a / 4) some
+places_stay values values_now cells cells_now pages pages_now v c p a Mist some = c (a / 4) some
 
--- ---- cells where the map has none
+-- ---- cells where no word has a row
 
 -- none of `count` entries from an address on is there
 abbrev pub HasNone : (ℕ → Option Cell) → ℕ → ℕ → Type 0
@@ -80,6 +72,13 @@ byte_there table mem a none = ap (λ o. cell_or o (mem a)) none
 pub plain_byte : (table : ℕ → Option Cell) (mem : Memory) (at : ℕ) → HasNone table at 1 → Byte (mem at) ≡ cells_over table mem at
 plain_byte table mem at none = sym (byte_there table mem at (none_first table at 1 (omega arith) none))
 
+pub plain_half : (table : ℕ → Option Cell) (mem : Memory) (at : ℕ) → at + 2 ≤ 4294967296 → HasNone table at 2 → Some (half_at mem at) ≡ half_of_cells (cells_over table mem at) (cells_over table mem (at + 1))
+plain_half table mem at within none =
+    let place_1 : at + 1 ≡ plus at 1 = omega (arith, within) in
+    let cell_0 = byte_there table mem at (none_first table at 2 (omega arith) none) in
+    let cell_1 = byte_there table mem (at + 1) (none 1 (omega arith)) ∙ ap (λ (a : ℕ). Byte (mem a)) place_1 in
+    sym (λ z. half_of_cells (cell_0 z) (cell_1 z))
+
 pub plain_word : (table : ℕ → Option Cell) (mem : Memory) (at : ℕ) → at + 4 ≤ 4294967296 → HasNone table at 4 → Int (word_at mem at) ≡ join (cells_over table mem at) (cells_over table mem (at + 1)) (cells_over table mem (at + 2)) (cells_over table mem (at + 3))
 plain_word table mem at within none =
     let place_1 : at + 1 ≡ plus at 1 = omega (arith, within) in
@@ -91,7 +90,7 @@ plain_word table mem at within none =
     let cell_3 = byte_there table mem (at + 3) (none 3 (omega arith)) ∙ ap (λ (a : ℕ). Byte (mem a)) place_3 in
     sym (λ z. join (cell_0 z) (cell_1 z) (cell_2 z) (cell_3 z))
 
--- a byte is put where the map has none
+-- a byte is put where the table has none
 same_number : (n : ℕ) → (n == n) ≡ true
 same_number n = grind (arith, nat_tests)
 
@@ -101,6 +100,10 @@ still_none table at none a =
       | inl same ↦ rw same (rw (same_number at) none)
       | inr other ↦ let differs : (a == at) ≡ false = grind (arith, nat_tests, other) in rw differs refl
     ]
+
+pub plain_put : (table : ℕ → Option Cell) (mem now : Memory) (at byte : ℕ) → table at ≡ None → now ≡ put mem at byte → cells_over table now ≡ put_at (cells_over table mem) at (Byte byte)
+plain_put table mem now at byte none is =
+    byte_put table table mem now at byte (still_none table at none) is
 
 byte_after : (table : ℕ → Option Cell) (mem : Memory) (t : ℕ → Cell) (p q b c : ℕ) → table q ≡ None → p ≡ q → b ≡ c → cells_over table mem ≡ t → cells_over table (put mem p b) ≡ put_at t q (Byte c)
 byte_after table mem t p q b c none place byte is =

@@ -14,3 +14,5 @@ pub mod Loads
 pub mod Makes
 pub mod Keeps
 pub mod CellLemmas
+pub mod EntryLemmas
+pub mod RowLemmas

@@ -13,4 +13,6 @@ pub use Rattle.cell_values.specs.Laws as CellLaws
 pub mod Origins
 pub mod Stands
 pub mod WordLaws
+pub mod Entries
+pub mod Rows
 pub mod Stored

@@ -1,7 +1,7 @@
 ghost use Rattle.std.specs.Prelude.{◌≡◌, ◌<◌, length, slice_index_or};
 ghost use Rattle.std.specs.List.{All};
 ghost use Rattle.object_graph.specs.declared.parts.Graph.{Graph};
-ghost use Rattle.cell_values.specs.{declared.values.Cell.TheVariants.{Mist}, Objects.{IsOfGraph}, Cells.{IsCellOfGraph, split, join, is_part, whole_word, bytes_of, parts_of}};
+ghost use Rattle.cell_values.specs.{declared.values.Cell.TheVariants.{Mist}, declared.values.Val.TheVariants.{Int}, Objects.{IsOfGraph}, Cells.{IsCellOfGraph, split, join, is_part, whole_word, bytes_of, parts_of}, Laws.{joined}};
 
 use crate::values::{Cell, Val};
 use rv32im::{bytes4, word4};
@@ -85,4 +85,26 @@ fn whole_word(hi: bool, obj: u32, off: u32) -> Val
     } else {
         Val::Addr { obj, off }
     }
+}
+
+/// What is loaded where a word was stored: of a value that is neither a number nor an address nor the upper part of one,
+/// nothing is known.
+#[inline(always)]
+pub(crate) fn reloaded(v: &Val) -> Val
+    ensures { result ≡ joined (split v.now) }
+{
+    match *v {
+        Val::Int(n) => loaded_number(n),
+        Val::Addr { obj, off } => Val::Addr { obj, off },
+        Val::Hi { obj, off } => Val::Hi { obj, off },
+        Val::Piece { .. } | Val::Low(_) | Val::Unknown => Val::Unknown,
+    }
+}
+
+/// That of a number.
+#[inline(always)]
+fn loaded_number(n: u32) -> Val
+    ensures { result ≡ joined (split (Int n)) }
+{
+    Val::Int(n)
 }

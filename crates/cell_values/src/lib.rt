@@ -7,12 +7,13 @@ mod comparisons;
 mod laws;
 mod marks;
 mod operations;
-mod others;
 mod places;
 mod store;
 mod values;
 mod word_laws;
+mod word_table;
 
+use cells::reloaded;
 pub use cells::{join, split};
 pub use comparisons::compare;
 pub use laws::{immediates_are_numbers, operations_keep_words, split_joins};

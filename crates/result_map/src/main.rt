@@ -9,28 +9,9 @@ mod rows;
 use command_language::CommandFault;
 use command_line::Diagnostic;
 use mapping::map_file;
-use shelf_io::{DirShelf, OutSink, Shelf, ShelfFault, Sink};
+use shelf_io::{DirShelf, OutSink, Shelf, ShelfFault, Sink, words};
 use std::alloc::Global;
-use std::env;
-use std::io::{self, ErrorKind};
 use std::process::ExitCode;
-use std::rt::Env;
-
-/// The words of the command line, without the program's name. A word that is not UTF-8 is in no
-/// command, so there are no words then.
-fn words(rt: &(impl Env + AllocGlobal)) -> io::Result<Vec<String>> {
-    let mut words = Vec::new(rt.alloc());
-    match env::args(rt) {
-        Ok(args) => {
-            for word in args.skip(1) {
-                words.push(word)?;
-            }
-            Ok(words)
-        }
-        Err(error) if error.kind() == ErrorKind::InvalidData => Ok(words),
-        Err(error) => Err(error),
-    }
-}
 
 /// The bytes under the name that stands at a place of the words, counted from 1.
 fn read<S: Shelf>(

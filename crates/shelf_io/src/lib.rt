@@ -1,6 +1,8 @@
-//! The outside of a program: named files, and a stream of bytes, which may fail and say so; and who is told how far it is.
+//! The outside of a program: its words, named files and a stream of bytes, which may fail and say so, and who is told how
+//! far it is.
 #![tactic(auto)]
 
+mod arguments;
 mod fault_log;
 mod folder;
 mod memory_shelf;
@@ -12,6 +14,7 @@ mod sinks;
 mod used_files;
 mod whole_files;
 
+pub use arguments::words;
 pub use folder::DirShelf;
 pub use memory_shelf::MemShelf;
 pub use memory_sink::MemSink;

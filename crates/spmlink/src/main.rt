@@ -6,29 +6,11 @@
 mod terminal;
 
 use explanations::{Explainer, run_command};
-use shelf_io::{DirShelf, OutSink, Sink};
+use shelf_io::{DirShelf, OutSink, Sink, words};
 use std::alloc::AllocError;
-use std::env;
-use std::io::{self, ErrorKind, IsTerminal};
+use std::io::IsTerminal;
 use std::process::ExitCode;
-use std::rt::Env;
 use terminal::Terminal;
-
-/// The words of the command line, without the program's name. A word that is not UTF-8 is in no
-/// command, so there are no words then.
-fn words(rt: &(impl Env + AllocGlobal)) -> io::Result<Vec<String>> {
-    let mut words = Vec::new(rt.alloc());
-    match env::args(rt) {
-        Ok(args) => {
-            for word in args.skip(1) {
-                words.push(word)?;
-            }
-            Ok(words)
-        }
-        Err(error) if error.kind() == ErrorKind::InvalidData => Ok(words),
-        Err(error) => Err(error),
-    }
-}
 
 fn main(rt: HostRuntime) -> ExitCode {
     let host: Result<HostRuntime, AllocError> = rt.clone();

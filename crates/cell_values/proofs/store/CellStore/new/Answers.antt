@@ -1,10 +1,8 @@
-use Rattle.std.proofs.Common.{ap}
-use Rattle.std.specs.Map.{lookup}
-use Rattle.std.specs.BTreeMap.{is_at}
-use Rattle.std.specs.Ordering.{nat_cmp}
+use Rattle.std.proofs.Common.{◌/◌, ◌%◌}
+use Rattle.cell_values.specs.Rows.{row_in, cell_in}
 use Rattle.cell_values.proofs.CellLemmas.{zeros_stored}
 use Rattle.cell_values.proofs.store.CellStore.new.Goals as goal
 
 pub returns : goal.returns
 returns c =
-    zeros_stored _ _ (λ a. ap (λ es. lookup (is_at (nat_cmp a)) es) c.new-2.ensures.empty) c.new.ensures
+    zeros_stored _ _ (λ a i. cell_in (row_in (c.new-3.ensures (a / 4) i) (c.new-2.ensures (a / 4) i)) (a % 4)) c.new.ensures

@@ -1,6 +1,5 @@
-use Rattle.std.specs.BTreeMap.{get}
-use Rattle.std.specs.Ordering.{nat_cmp}
 use Rattle.paged_store.specs.Pages.{paged_bytes}
+use Rattle.cell_values.specs.Rows.{rows_of, cells_in}
 use Rattle.cell_values.proofs.CellLemmas.{plain_word}
 use Rattle.cell_values.proofs.store.CellStore.word.Goals as goal
 
@@ -8,4 +7,4 @@ pub returns-then-is_plain : goal.returns-then-is_plain
 returns-then-is_plain c =
     let s = c.args.self.now in
     rw c.get_word.ensures
-    (plain_word (get nat_cmp s.others) (paged_bytes s.bytes.directory.items s.bytes.bytes.items) c.args.at c.requires (c.is_plain.ensures c.if-is_plain.true))
+    (plain_word (cells_in (rows_of s.values s.cells)) (paged_bytes s.bytes.directory.items s.bytes.bytes.items) c.args.at c.requires (c.is_plain.ensures c.if-is_plain.true))

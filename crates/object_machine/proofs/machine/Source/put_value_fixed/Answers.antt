@@ -1,4 +1,4 @@
-use Rattle.std.proofs.Common.{◌≡◌, ℕ, List, ◌+◌, ◌<◌, ◌≤◌, true, take, length, refl, arith}
+use Rattle.std.proofs.Common.{◌≡◌, ℕ, List, ◌+◌, ◌-◌, ◌<◌, ◌≤◌, true, take, length, refl, arith}
 use Rattle.std.proofs.lemmas.List.Elements.{All-take}
 use Rattle.cell_values.specs.Cells.{IsCellOfGraph, split}
 use Rattle.cell_values.specs.declared.values.Cell.{Cell}
@@ -34,3 +34,10 @@ returns-in-Err-clause-err c =
     let m = c.args.self.now in
     let same = c.in-Err.ensures.err in
     (refl, λ t. record (seen_state m) { fixed = fixed_with m.tables (same t); cells = cells_with m.tables (same t) })
+
+-- its last byte is below the end
+pub set_value-requires-clause-within : goal.set_value-requires-clause-within
+set_value-requires-clause-within c =
+    let some : 0 < c.args.width = grind (arith, c.requires.width) in
+    let last = (c.requires.spans (c.args.width - 1) (omega (arith, some))).0 in
+    omega (arith, some, last)

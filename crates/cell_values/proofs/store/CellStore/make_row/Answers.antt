@@ -1,0 +1,13 @@
+use Rattle.std.proofs.Common.{◌∙◌}
+use Rattle.paged_store.specs.Pages.{paged_bytes}
+use Rattle.cell_values.specs.Rows.{rows_of, cells_in}
+use Rattle.cell_values.specs.Stored.{cells_over}
+use Rattle.cell_values.proofs.RowLemmas.{row_kept}
+use Rattle.cell_values.proofs.store.CellStore.make_row.Goals as goal
+
+pub returns-in-Ok-clause-same : goal.returns-in-Ok-clause-same
+returns-in-Ok-clause-same c =
+    let s = c.args.self.now in
+    let t = c.set_row.new.self in
+    (λ i. cells_over (cells_in (rows_of t.values t.cells)) (paged_bytes (c.set_row.ensures.bytes i).directory.items (c.set_row.ensures.bytes i).bytes.items))
+    ∙ row_kept (rows_of s.values s.cells) (rows_of t.values t.cells) (paged_bytes s.bytes.directory.items s.bytes.bytes.items) c.args.at c.present-row.result c.present-row.ensures c.in-Ok.ensures.set
