@@ -91,9 +91,19 @@ tell_progress() {
     done
 }
 
+# How many crates to prove side by side: one a processor, as long as each has 2.5 GB of memory, the most that one of this repository
+# was seen to take. `rt` by itself reckons with up to 15 GB for a crate that stands on many, and leaves processors idle.
+lanes() {
+    local processors memory
+    processors=$(nproc)
+    memory=$(awk '/^MemAvailable:/ { print int($2 / 2621440) }' /proc/meminfo 2>/dev/null)
+    [ "${memory:-0}" -ge 1 ] || memory=1
+    echo $((memory < processors ? memory : processors))
+}
+
 build() {
     copy_sources || return
-    (set -o pipefail; cd "$build" && rt ci 2>&1 </dev/null | tell_progress "$1") || return
+    (set -o pipefail; cd "$build" && RT_JOBS=${RT_JOBS:-$(lanes)} rt ci 2>&1 </dev/null | tell_progress "$1") || return
     mkdir -p "$(dirname "$program")" && cp "$build/crates/$crate/out/$crate" "$program"
 }
 

@@ -64,8 +64,8 @@ struct Line<'a> {
     text: &'a [u8],
 }
 
-/// Why a text is no board, and the line of it. It fails only where no memory was left.
-pub fn explain_board(notes: &mut Notes, text: &[u8], fault: &BoardFault) -> Result<(), AllocError> {
+/// Why a text is no board, and the line of it.
+pub fn explain_board(notes: &mut Notes, text: &[u8], fault: &BoardFault) {
     match fault {
         BoardFault::NotToml => say_syntax(notes, text),
         BoardFault::Missing { key } => notes.say(&[
@@ -75,7 +75,7 @@ pub fn explain_board(notes: &mut Notes, text: &[u8], fault: &BoardFault) -> Resu
         ]),
         BoardFault::WrongType { key } | BoardFault::OutOfRange { key } => {
             let name = key_name(*key).as_bytes();
-            say_line_of_key(notes, text, name)?;
+            say_line_of_key(notes, text, name);
             notes.say(&[
                 Piece::Name(name),
                 Piece::Text(" is to be "),
@@ -83,40 +83,36 @@ pub fn explain_board(notes: &mut Notes, text: &[u8], fault: &BoardFault) -> Resu
             ])
         }
         BoardFault::UnknownKey { name } => {
-            say_line_of_key(notes, text, name.as_bytes())?;
+            say_line_of_key(notes, text, name.as_bytes());
             notes.say(&[
                 Piece::Text("the board has no key "),
                 Piece::Name(name.as_bytes()),
                 Piece::Text("; docs/BOARD.md has all keys"),
             ])
         }
-        BoardFault::Memory => Ok(()),
+        BoardFault::Memory => {}
     }
 }
 
 /// Where a text is no TOML, and why.
-fn say_syntax(notes: &mut Notes, text: &[u8]) -> Result<(), AllocError> {
+fn say_syntax(notes: &mut Notes, text: &[u8]) {
     if text.starts_with(ELF_MAGIC) {
-        return notes.say_cause(
+        notes.say_cause(
             "the board is an ELF file",
             "write FILE, and RESULT if there is one, before BOARD",
         );
+        return;
     }
     let Err(error) = toml::table_from_slice(notes.alloc(), text) else {
-        return Ok(());
+        return;
     };
     if let Some(span) = error.span() {
-        say_position(notes, text, span.start, error.message())?;
+        say_position(notes, text, span.start, error.message());
     }
-    notes.say_words("a text stands in quotes, as bss = \"movable\"; docs/BOARD.md has all keys")
+    notes.say_words("a text stands in quotes, as bss = \"movable\"; docs/BOARD.md has all keys");
 }
 
-fn say_position(
-    notes: &mut Notes,
-    text: &[u8],
-    place: usize,
-    reason: &str,
-) -> Result<(), AllocError> {
+fn say_position(notes: &mut Notes, text: &[u8], place: usize, reason: &str) {
     let line = line_at(text, place);
     notes.say(&[
         Piece::Text("line "),
@@ -125,24 +121,23 @@ fn say_position(
         Piece::Number((place.saturating_sub(line.start) as u64).saturating_add(1)),
         Piece::Text(" of the board is no TOML: "),
         Piece::Text(reason),
-    ])?;
-    say_line(notes, &line)
+    ]);
+    say_line(notes, &line);
 }
 
-fn say_line_of_key(notes: &mut Notes, text: &[u8], key: &[u8]) -> Result<(), AllocError> {
-    match line_of_key(text, key) {
-        Some(line) => say_line(notes, &line),
-        None => Ok(()),
+fn say_line_of_key(notes: &mut Notes, text: &[u8], key: &[u8]) {
+    if let Some(line) = line_of_key(text, key) {
+        say_line(notes, &line);
     }
 }
 
-fn say_line(notes: &mut Notes, line: &Line) -> Result<(), AllocError> {
+fn say_line(notes: &mut Notes, line: &Line) {
     notes.say(&[
         Piece::Text("line "),
         Piece::Number(line.number),
         Piece::Text(" of the board: "),
         Piece::Name(line.text),
-    ])
+    ]);
 }
 
 fn key_name(key: u32) -> &'static str {
@@ -202,7 +197,7 @@ pub fn gives_key(text: &[u8], key: &[u8]) -> bool {
     line_of_key(text, key).is_some()
 }
 
-/// The text of a board with further names in its list `fix`. It fails only where no memory was left.
+/// The text of a board with further names in its list `fix`.
 pub fn text_with_fixed(alloc: Global, text: &[u8], names: &[&[u8]]) -> Result<Vec<u8>, AllocError> {
     let mut changed = Vec::new(alloc);
     let place = place_in_list(text, b"fix");

@@ -1,5 +1,4 @@
 use crate::notes::{Notes, Piece};
-use std::alloc::AllocError;
 
 /// What to do where a result is none of its file.
 const RELINK: &str =
@@ -14,43 +13,43 @@ pub enum ResultEnd {
     Trapped { pc: u32 },
 }
 
-/// A result that does not do what the program does, where the file itself does. It fails only where no memory was left.
-pub fn say_result_differs(notes: &mut Notes) -> Result<(), AllocError> {
+/// A result that does not do what the program does, where the file itself does.
+pub fn say_result_differs(notes: &mut Notes) {
     notes.say_cause(
         "RESULT does not do on this input what the program does, and FILE does",
         RELINK,
-    )
+    );
 }
 
 /// A file that does not do what its program does, beside a result that does not do so either, or does. It fails only where
 /// no memory was left.
-pub fn say_file_differs(notes: &mut Notes, result_differs: bool) -> Result<(), AllocError> {
+pub fn say_file_differs(notes: &mut Notes, result_differs: bool) {
     notes.say_words(if result_differs {
         "neither FILE nor RESULT does on this input what the program does"
     } else {
         "RESULT does on this input what the program does, and FILE does not"
-    })
+    });
 }
 
 /// A program that went on at the end of the board's steps, and how many steps of its result were compared. It fails only
 /// where no memory was left.
-pub fn say_compared(notes: &mut Notes, steps: u64, compared: u64) -> Result<(), AllocError> {
-    notes.begin("the board allows ")?;
+pub fn say_compared(notes: &mut Notes, steps: u64, compared: u64) {
+    notes.begin("the board allows ");
     notes.put(&[
         Piece::Number(steps),
         Piece::Text(" steps, and the program went on; RESULT wrote its bytes in "),
         Piece::Number(compared),
-    ])?;
-    notes.end(" steps, and was compared no further")
+    ]);
+    notes.end(" steps, and was compared no further");
 }
 
-/// What to do where a program went on, and so did its result. It fails only where no memory was left.
-pub fn say_more_steps(notes: &mut Notes) -> Result<(), AllocError> {
-    notes.say_first("give the board more `steps`, or take a shorter input")
+/// What to do where a program went on, and so did its result.
+pub fn say_more_steps(notes: &mut Notes) {
+    notes.say_first("give the board more `steps`, or take a shorter input");
 }
 
-/// A result that ended within the steps of a program that went on. It fails only where no memory was left.
-pub fn say_ended_early(notes: &mut Notes, end: ResultEnd) -> Result<(), AllocError> {
+/// A result that ended within the steps of a program that went on.
+pub fn say_ended_early(notes: &mut Notes, end: ResultEnd) {
     let (words, number) = match end {
         ResultEnd::Exited(code) => ("exited with ", Piece::Number(u64::from(code))),
         ResultEnd::Trapped { pc } => ("trapped at ", Piece::Hex(pc)),
@@ -60,6 +59,6 @@ pub fn say_ended_early(notes: &mut Notes, end: ResultEnd) -> Result<(), AllocErr
         Piece::Text(words),
         number,
         Piece::Text(" within as many steps, where what FILE is relinked to goes on"),
-    ])?;
-    notes.say_first(RELINK)
+    ]);
+    notes.say_first(RELINK);
 }

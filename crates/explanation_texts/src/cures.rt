@@ -1,5 +1,4 @@
 use crate::notes::Notes;
-use std::alloc::AllocError;
 
 /// Why something is refused, and what to do first.
 #[derive(Clone, Copy)]
@@ -16,8 +15,8 @@ pub(crate) struct CureRow {
 
 impl Cure {
     /// A line of the cause, and one of what to do first.
-    pub(crate) fn say(&self, notes: &mut Notes) -> Result<(), AllocError> {
-        notes.say_cause(self.cause, self.first)
+    pub(crate) fn say(&self, notes: &mut Notes) {
+        notes.say_cause(self.cause, self.first);
     }
 }
 

@@ -3,7 +3,6 @@ use crate::notes::{Notes, Piece};
 use crate::objects::say_load_address;
 use crate::runs::{Involved, REASONS, say_instruction};
 use fault_trail::{AddressFault, Way};
-use std::alloc::AllocError;
 use unchecked_file::UncheckedFile;
 
 /// The greatest word, as the number -1.
@@ -88,11 +87,11 @@ pub fn say_fault_cure(
     file: &UncheckedFile,
     fault: &AddressFault,
     involved: &Involved,
-) -> Result<(), AllocError> {
+) {
     match early_cure(file, fault, involved) {
         Some(EarlyCure::LoadAddress) => match file.segment_loaded_apart() {
             Some(segment) => say_load_address(notes, file, &segment),
-            None => Ok(()),
+            None => {}
         },
         Some(EarlyCure::Symbols) => notes.say_first(
             "the file has no symbols: strip by strip -g alone, before relink, and link without -s",
@@ -107,57 +106,48 @@ pub fn say_fault_cure(
     }
 }
 
-/// An address fault that the run meets where what the ones before involve is kept. It fails only where no memory was left.
+/// An address fault that the run meets where what the ones before involve is kept.
 pub fn say_further_fault(
     notes: &mut Notes,
     file: &UncheckedFile,
     fault: &AddressFault,
     involved: &Involved<'_>,
-) -> Result<(), AllocError> {
-    say_instruction(notes, file, "with that kept, address fault", fault.pc)?;
-    notes.begin("  ")?;
-    notes.put(&[Piece::Text(text_at(&REASONS, fault.why))])?;
-    put_involved(notes, ": ", involved.object)?;
-    put_involved(notes, ", and of ", involved.other)?;
+) {
+    say_instruction(notes, file, "with that kept, address fault", fault.pc);
+    notes.begin("  ");
+    notes.put(&[Piece::Text(text_at(&REASONS, fault.why))]);
+    put_involved(notes, ": ", involved.object);
+    put_involved(notes, ", and of ", involved.other);
     if involved.object.is_empty() && involved.other.is_empty() {
-        put_involved(notes, ": ", involved.bytes)?;
+        put_involved(notes, ": ", involved.bytes);
     }
-    notes.end("")
+    notes.end("");
 }
 
-fn put_involved(notes: &mut Notes, words: &str, name: &[u8]) -> Result<(), AllocError> {
+fn put_involved(notes: &mut Notes, words: &str, name: &[u8]) {
     if name.is_empty() {
-        return Ok(());
+        return;
     }
-    notes.put(&[Piece::Text(words), Piece::Name(name)])
+    notes.put(&[Piece::Text(words), Piece::Name(name)]);
 }
 
-/// How many more address faults there were on the way to a list. It fails only where no memory was left.
-pub fn say_more_faults(notes: &mut Notes, count: u64) -> Result<(), AllocError> {
-    notes.say_number("", count, " more address faults were met likewise")
+/// How many more address faults there were on the way to a list.
+pub fn say_more_faults(notes: &mut Notes, count: u64) {
+    notes.say_number("", count, " more address faults were met likewise");
 }
 
-/// That the run meets an address fault even with all objects kept. It fails only where no memory was left.
-pub fn say_no_list(
-    notes: &mut Notes,
-    file: &UncheckedFile,
-    fault: &AddressFault,
-) -> Result<(), AllocError> {
+/// That the run meets an address fault even with all objects kept.
+pub fn say_no_list(notes: &mut Notes, file: &UncheckedFile, fault: &AddressFault) {
     let reason = text_at(&REASONS, fault.why);
-    notes.say_words("no list of `fix` helps: with all objects kept,")?;
-    say_instruction(notes, file, "  address fault", fault.pc)?;
-    notes.begin("  ")?;
-    notes.end(reason)
+    notes.say_words("no list of `fix` helps: with all objects kept,");
+    say_instruction(notes, file, "  address fault", fault.pc);
+    notes.begin("  ");
+    notes.end(reason);
 }
 
-/// The list, as one line of the board, and what else lets the objects move. It fails only where no memory was left.
-pub fn say_fix(
-    notes: &mut Notes,
-    list: &FixList,
-    fault: &AddressFault,
-    involved: &Involved,
-) -> Result<(), AllocError> {
-    notes.begin("first: write the next line into the board")?;
+/// The list, as one line of the board, and what else lets the objects move.
+pub fn say_fix(notes: &mut Notes, list: &FixList, fault: &AddressFault, involved: &Involved) {
+    notes.begin("first: write the next line into the board");
     notes.put(&[
         Piece::Text(if list.kept.is_empty() {
             ""
@@ -171,35 +161,35 @@ pub fn say_fix(
         }),
         Piece::Number(list.runs),
         Piece::Text(if list.runs == 1 { " run" } else { " runs" }),
-    ])?;
+    ]);
     notes.end(if list.end == FixEnd::Whole {
         " showed"
     } else {
         ""
-    })?;
-    say_list(notes, list)?;
+    });
+    say_list(notes, list);
     match other_cure(fault, involved) {
-        "" => Ok(()),
+        "" => {}
         cure => {
-            notes.begin("or ")?;
+            notes.begin("or ");
             notes.end(cure)
         }
     }
 }
 
 /// The line of the board.
-fn say_list(notes: &mut Notes, list: &FixList) -> Result<(), AllocError> {
-    notes.begin("fix = [")?;
+fn say_list(notes: &mut Notes, list: &FixList) {
+    notes.begin("fix = [");
     for (place, name) in list.kept.iter().enumerate() {
         let before = before_name(place, "");
-        notes.put(&[Piece::Text(before), Piece::Quoted(name.as_bytes())])?;
+        notes.put(&[Piece::Text(before), Piece::Quoted(name.as_bytes())]);
     }
     let first = if list.kept.is_empty() { "" } else { ", " };
     for (place, name) in list.names.iter().enumerate() {
         let before = before_name(place, first);
-        notes.put(&[Piece::Text(before), Piece::Quoted(name)])?;
+        notes.put(&[Piece::Text(before), Piece::Quoted(name)]);
     }
-    notes.end("]")
+    notes.end("]");
 }
 
 /// What else than to keep the object.

@@ -1,5 +1,6 @@
 use crate::boards::push_quoted;
-use std::alloc::{AllocError, Global};
+use std::alloc::Global;
+use std::fmt::Display;
 
 /// The most bytes of a file or of a word of the command line that are shown.
 const MOST_SHOWN: usize = 100;
@@ -21,11 +22,13 @@ pub(crate) enum Piece<'a> {
     Hex(u32),
 }
 
-/// Lines that explain what a command did. Each begins with `spmlink: `.
+/// Lines that explain what a command did. Each begins with `spmlink: `. What finds no memory is left out, and there are no lines
+/// at all then, so that nobody who says something has to ask.
 #[derive(Drop)]
 pub struct Notes {
     alloc: Global,
     text: Vec<u8>,
+    is_cut: bool,
 }
 
 impl Notes {
@@ -34,12 +37,17 @@ impl Notes {
         Notes {
             alloc,
             text: Vec::new(alloc),
+            is_cut: false,
         }
     }
 
-    /// The text of all lines.
+    /// The text of all lines; none where a part of them found no memory.
     pub fn into_text(self) -> Vec<u8> {
-        self.text
+        if self.is_cut {
+            Vec::new(self.alloc)
+        } else {
+            self.text
+        }
     }
 
     /// The allocator of the text.
@@ -47,111 +55,107 @@ impl Notes {
         self.alloc
     }
 
+    /// Leaves all lines out, since no memory was left.
+    pub fn cut(&mut self) {
+        self.is_cut = true;
+    }
+
     /// Begins a line by some words.
-    pub(crate) fn begin(&mut self, words: &str) -> Result<(), AllocError> {
-        self.add("spmlink: ")?;
-        self.add(words)
+    pub(crate) fn begin(&mut self, words: &str) {
+        self.add("spmlink: ");
+        self.add(words);
     }
 
     /// Goes on with a line.
-    pub(crate) fn put(&mut self, pieces: &[Piece]) -> Result<(), AllocError> {
+    pub(crate) fn put(&mut self, pieces: &[Piece]) {
         for piece in pieces {
-            self.push(piece)?;
+            self.push(piece);
         }
-        Ok(())
     }
 
     /// Ends a line by some words.
-    pub(crate) fn end(&mut self, words: &str) -> Result<(), AllocError> {
-        self.add(words)?;
-        self.add("\n")
+    pub(crate) fn end(&mut self, words: &str) {
+        self.add(words);
+        self.add("\n");
     }
 
     /// Adds a line of these parts.
-    pub(crate) fn say(&mut self, pieces: &[Piece]) -> Result<(), AllocError> {
-        self.begin("")?;
-        self.put(pieces)?;
-        self.end("")
+    pub(crate) fn say(&mut self, pieces: &[Piece]) {
+        self.begin("");
+        self.put(pieces);
+        self.end("");
     }
 
     /// Adds a line of words.
-    pub(crate) fn say_words(&mut self, words: &str) -> Result<(), AllocError> {
-        self.begin(words)?;
-        self.end("")
+    pub(crate) fn say_words(&mut self, words: &str) {
+        self.begin(words);
+        self.end("");
     }
 
     /// Adds a line of a number between words.
-    pub(crate) fn say_number(
-        &mut self,
-        before: &str,
-        number: u64,
-        behind: &str,
-    ) -> Result<(), AllocError> {
-        self.begin(before)?;
-        self.push_number(number)?;
-        self.end(behind)
+    pub(crate) fn say_number(&mut self, before: &str, number: u64, behind: &str) {
+        self.begin(before);
+        self.show(number);
+        self.end(behind);
     }
 
     /// Adds a line of why something is refused, and one of what to do first.
-    pub(crate) fn say_cause(&mut self, cause: &str, cure: &str) -> Result<(), AllocError> {
-        self.say_words(cause)?;
-        self.say_first(cure)
+    pub(crate) fn say_cause(&mut self, cause: &str, cure: &str) {
+        self.say_words(cause);
+        self.say_first(cure);
     }
 
     /// Adds a line of what to do first.
-    pub(crate) fn say_first(&mut self, cure: &str) -> Result<(), AllocError> {
-        self.begin("first: ")?;
-        self.end(cure)
+    pub(crate) fn say_first(&mut self, cure: &str) {
+        self.begin("first: ");
+        self.end(cure);
     }
 
-    fn add(&mut self, text: &str) -> Result<(), AllocError> {
-        self.text.extend_from_slice(text.as_bytes())
+    fn add(&mut self, text: &str) {
+        if self.text.extend_from_slice(text.as_bytes()).is_err() {
+            self.cut();
+        }
     }
 
-    fn push(&mut self, piece: &Piece) -> Result<(), AllocError> {
+    /// Adds a value as its `Display` writes it.
+    fn show(&mut self, value: impl Display + Drop) {
+        match format!(in self.alloc; "{value}") {
+            Ok(text) => self.add(text.as_str()),
+            Err(_) => self.cut(),
+        }
+    }
+
+    fn push(&mut self, piece: &Piece) {
         match *piece {
             Piece::Text(text) => self.add(text),
-            Piece::Name(name) => {
-                self.add("`")?;
-                self.push_bytes(name)?;
-                self.add("`")
+            Piece::Name(name) => self.push_name(name),
+            Piece::Quoted(name) => {
+                if push_quoted(&mut self.text, name).is_err() {
+                    self.cut();
+                }
             }
-            Piece::Quoted(name) => push_quoted(&mut self.text, name),
-            Piece::Number(number) => self.push_number(number),
-            Piece::Signed(number) => {
-                self.add(if number < 0 { "-" } else { "" })?;
-                self.push_number(u64::from(number.unsigned_abs()))
-            }
-            Piece::Hex(word) => {
-                let digits = format!(in self.alloc; "0x{word:x}")?;
-                self.add(digits.as_str())
-            }
+            Piece::Number(number) => self.show(number),
+            Piece::Signed(number) => self.show(number),
+            Piece::Hex(word) => self.show(format_args!("{word:#x}")),
         }
     }
 
-    /// Adds bytes that may come from a file: what is not printable in ASCII is escaped, and what is long is cut off.
-    fn push_bytes(&mut self, bytes: &[u8]) -> Result<(), AllocError> {
-        let shown = bytes.get(..MOST_SHOWN).unwrap_or(bytes);
+    /// Adds bytes that may come from a file, in backquotes: what is not printable in ASCII is escaped, and what is long is cut
+    /// off.
+    fn push_name(&mut self, name: &[u8]) {
+        let shown = name.get(..MOST_SHOWN).unwrap_or(name);
+        self.add("`");
         for byte in shown {
-            self.push_byte(*byte)?;
+            self.push_byte(*byte);
         }
-        if shown.len() < bytes.len() {
-            self.add("..")?;
-        }
-        Ok(())
+        self.add(if shown.len() < name.len() { "..`" } else { "`" });
     }
 
-    fn push_byte(&mut self, byte: u8) -> Result<(), AllocError> {
+    fn push_byte(&mut self, byte: u8) {
         if byte == b' ' || byte.is_ascii_graphic() {
-            self.text.push(byte)?;
-            return Ok(());
+            self.show(byte as char);
+        } else {
+            self.show(format_args!("\\x{byte:02x}"));
         }
-        let escaped = format!(in self.alloc; "\\x{byte:02x}")?;
-        self.add(escaped.as_str())
-    }
-
-    fn push_number(&mut self, number: u64) -> Result<(), AllocError> {
-        let digits = format!(in self.alloc; "{number}")?;
-        self.add(digits.as_str())
     }
 }

@@ -1,7 +1,6 @@
 use crate::cures::before_name;
 use crate::notes::{Notes, Piece};
 use crate::savings::put_percent;
-use std::alloc::AllocError;
 use unchecked_file::{RawSegment, UncheckedFile};
 
 /// How the names begin of the anchors that GCC makes for sections.
@@ -79,12 +78,13 @@ const AFTER_LABEL: &str = "put a gap behind the label in the linker script: . = 
 const COPIED: &str =
     "leave the loop that copies .data out of the start code, and AT> out of the linker script";
 
-/// That nothing moved, and how many objects may move. It fails only where no memory was left.
-pub fn say_nothing_moved(notes: &mut Notes, movable: u64, total: u64) -> Result<(), AllocError> {
+/// That nothing moved, and how many objects may move.
+pub fn say_nothing_moved(notes: &mut Notes, movable: u64, total: u64) {
     if total == 0 {
-        return notes.say_words(
+        notes.say_words(
             "nothing moved: the file has no objects, which are symbols of type OBJECT with a size (strip by strip -g alone)",
         );
+        return;
     }
     notes.say(&[
         Piece::Text("nothing moved: "),
@@ -97,19 +97,19 @@ pub fn say_nothing_moved(notes: &mut Notes, movable: u64, total: u64) -> Result<
         } else {
             ", and in this run none saves more than it costs to copy it"
         }),
-    ])
+    ]);
 }
 
-/// What to do where no access costs less in the scratchpad. It fails only where no memory was left.
-pub fn say_prices(notes: &mut Notes) -> Result<(), AllocError> {
+/// What to do where no access costs less in the scratchpad.
+pub fn say_prices(notes: &mut Notes) {
     notes.say_first(
         "let spm_fetch, spm_read and spm_write in [price] of the board be less than main_fetch, main_read and main_write",
-    )
+    );
 }
 
-/// What to do where all objects may move, and none pays. It fails only where no memory was left.
-pub fn say_short_run(notes: &mut Notes) -> Result<(), AllocError> {
-    notes.say_first("measure a longer run, as on a longer input: a copy is paid once")
+/// What to do where all objects may move, and none pays.
+pub fn say_short_run(notes: &mut Notes) {
+    notes.say_first("measure a longer run, as on a longer input: a copy is paid once");
 }
 
 /// How the names end of output sections that have a library's objects alone, as in examples/board.ld.
@@ -119,17 +119,13 @@ const LIBRARY: &[u8] = b".library";
 const TOLD_SOURCES: usize = 4;
 
 /// Objects of a section that stay, why, and what frees them; of zeros also what keeps them then, if that is an anchor. The
-/// sources are those that have anchors in it. It fails only where no memory was left.
-pub fn say_pinned(
-    notes: &mut Notes,
-    section: &PinnedSection,
-    sources: &[&[u8]],
-) -> Result<(), AllocError> {
+/// sources are those that have anchors in it.
+pub fn say_pinned(notes: &mut Notes, section: &PinnedSection, sources: &[&[u8]]) {
     if section.is_zeros {
-        say_stay(notes, section, "`bss` of the board is \"fixed\"")?;
+        say_stay(notes, section, "`bss` of the board is \"fixed\"");
         notes.say_first(
             "write bss = \"movable\" into the board, if no start code clears the section by its addresses",
-        )?;
+        );
     }
     match section.label {
         Some(label) if !section.is_zeros || is_anchor(label.name) => {
@@ -140,27 +136,27 @@ pub fn say_pinned(
             section,
             "`fix` of the board lists them, they overlap, or a relocation does not tell how their addresses are made",
         ),
-        _ => Ok(()),
+        _ => {}
     }
 }
 
-/// How many other sections have objects that stay. It fails only where no memory was left.
-pub fn say_more_sections(notes: &mut Notes, count: u64) -> Result<(), AllocError> {
+/// How many other sections have objects that stay.
+pub fn say_more_sections(notes: &mut Notes, count: u64) {
     let behind = if count == 1 {
         " more section stay"
     } else {
         " more sections stay"
     };
-    notes.say_number("objects of ", count, behind)
+    notes.say_number("objects of ", count, behind);
 }
 
-fn say_stay(notes: &mut Notes, section: &PinnedSection, reason: &str) -> Result<(), AllocError> {
-    notes.begin("")?;
-    put_stay(notes, section)?;
-    notes.end(reason)
+fn say_stay(notes: &mut Notes, section: &PinnedSection, reason: &str) {
+    notes.begin("");
+    put_stay(notes, section);
+    notes.end(reason);
 }
 
-fn put_stay(notes: &mut Notes, section: &PinnedSection) -> Result<(), AllocError> {
+fn put_stay(notes: &mut Notes, section: &PinnedSection) {
     let is_one = section.fixed == 1;
     notes.put(&[
         Piece::Number(section.fixed),
@@ -171,20 +167,15 @@ fn put_stay(notes: &mut Notes, section: &PinnedSection) -> Result<(), AllocError
         }),
         Piece::Name(section.name),
         Piece::Text(if is_one { " stays: " } else { " stay: " }),
-    ])
+    ]);
 }
 
-fn say_label(
-    notes: &mut Notes,
-    section: &PinnedSection,
-    label: &Label,
-    sources: &[&[u8]],
-) -> Result<(), AllocError> {
+fn say_label(notes: &mut Notes, section: &PinnedSection, label: &Label, sources: &[&[u8]]) {
     if section.is_zeros {
-        notes.begin("with that they still stay: ")?;
+        notes.begin("with that they still stay: ");
     } else {
-        notes.begin("")?;
-        put_stay(notes, section)?;
+        notes.begin("");
+        put_stay(notes, section);
     }
     notes.put(&[
         Piece::Text("a relocation in "),
@@ -193,31 +184,33 @@ fn say_label(
         Piece::Name(label.object),
         Piece::Text(" by the label "),
         Piece::Name(label.name),
-    ])?;
-    notes.end(", and so none may move")?;
+    ]);
+    notes.end(", and so none may move");
     if let Some(at_stake) = section.at_stake {
-        notes.begin("  at stake is up to ")?;
-        put_percent(notes, at_stake)?;
-        notes.end(" of the energy: what the reads and writes there would save in the scratchpad")?;
+        notes.begin("  at stake is up to ");
+        put_percent(notes, at_stake);
+        notes.end(" of the energy: what the reads and writes there would save in the scratchpad");
     }
     if is_anchor(label.name) {
-        return say_anchor_cure(notes, section.name, sources);
+        say_anchor_cure(notes, section.name, sources);
+        return;
     }
-    notes.say_first(cure_of(section.name, label))
+    notes.say_first(cure_of(section.name, label));
 }
 
 /// What frees objects from anchors, and the sources that have these.
-fn say_anchor_cure(notes: &mut Notes, section: &[u8], sources: &[&[u8]]) -> Result<(), AllocError> {
+fn say_anchor_cure(notes: &mut Notes, section: &[u8], sources: &[&[u8]]) {
     if section.ends_with(LIBRARY) {
-        return notes.say_first(
+        notes.say_first(
             "a library was compiled with anchors: objects of its own stay, and no others; no cure is needed",
         );
+        return;
     }
-    notes.begin("first: compile with -fno-section-anchors or -fdata-sections")?;
+    notes.begin("first: compile with -fno-section-anchors or -fdata-sections");
     for (place, source) in sources.iter().enumerate() {
         if place < TOLD_SOURCES {
             let before = before_name(place, " (the anchors are of ");
-            notes.put(&[Piece::Text(before), Piece::Name(source)])?;
+            notes.put(&[Piece::Text(before), Piece::Name(source)]);
         }
     }
     if let Some(more) = sources.len().checked_sub(TOLD_SOURCES) {
@@ -226,14 +219,14 @@ fn say_anchor_cure(notes: &mut Notes, section: &[u8], sources: &[&[u8]]) -> Resu
                 Piece::Text(" and of "),
                 Piece::Number(more as u64),
                 Piece::Text(" more sources"),
-            ])?;
+            ]);
         }
     }
     notes.end(if sources.is_empty() {
         ""
     } else {
         "); a library that you don't compile gets an output section of its own, as .rodata.library in examples/board.ld"
-    })
+    });
 }
 
 /// What frees objects from a label.
@@ -252,22 +245,18 @@ fn cure_of(section: &[u8], label: &Label) -> &'static str {
     "put a gap behind the label in the linker script (. = . + 4;), or give it a type and a size"
 }
 
-/// A segment that would be copied from a load address. It fails only where no memory was left.
-pub fn say_load_address(
-    notes: &mut Notes,
-    file: &UncheckedFile,
-    segment: &RawSegment,
-) -> Result<(), AllocError> {
-    notes.begin("the segment of ")?;
+/// A segment that would be copied from a load address.
+pub fn say_load_address(notes: &mut Notes, file: &UncheckedFile, segment: &RawSegment) {
+    notes.begin("the segment of ");
     notes.put(&[
         Piece::Name(file.first_section(segment)),
         Piece::Text(" runs at "),
         Piece::Hex(segment.vaddr),
         Piece::Text(", and its load address is "),
         Piece::Hex(segment.paddr),
-    ])?;
-    notes.end(": it is loaded where it runs, and nothing is loaded there")?;
+    ]);
+    notes.end(": it is loaded where it runs, and nothing is loaded there");
     notes.say_first(
         "leave AT> out of the linker script, and the loop that copies the section out of the start code",
-    )
+    );
 }

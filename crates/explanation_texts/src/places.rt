@@ -1,18 +1,13 @@
 use crate::notes::{Notes, Piece};
-use std::alloc::AllocError;
 use unchecked_file::UncheckedFile;
 
 /// Goes on with a line by a place of the code: its address, and its function or section.
-pub(crate) fn put_place(
-    notes: &mut Notes,
-    file: &UncheckedFile,
-    address: u32,
-) -> Result<(), AllocError> {
+pub(crate) fn put_place(notes: &mut Notes, file: &UncheckedFile, address: u32) {
     notes.put(&[
         Piece::Text(" at "),
         Piece::Hex(address),
         Piece::Text(", in "),
-    ])?;
+    ]);
     match file.code_symbol(address) {
         Some(function) => notes.put(&[
             Piece::Name(function.name),

@@ -4,7 +4,6 @@ use crate::relocations::say_unsupported;
 use board_config::{Board, Range};
 use elf_reader::ElfFault;
 use object_graph::GraphFault;
-use std::alloc::AllocError;
 use unchecked_file::{RawSegment, UncheckedFile};
 
 /// The section headers, by their number among the tables of a file.
@@ -70,12 +69,8 @@ const NO_CODE: Cure = Cure {
     first: "keep the section headers (link without -s, strip by strip -g alone), and give the start symbol, as -Wl,-e,_start",
 };
 
-/// Why a file is not read. It fails only where no memory was left.
-pub fn explain_elf(
-    notes: &mut Notes,
-    file: &UncheckedFile,
-    fault: &ElfFault,
-) -> Result<(), AllocError> {
+/// Why a file is not read.
+pub fn explain_elf(notes: &mut Notes, file: &UncheckedFile, fault: &ElfFault) {
     match *fault {
         ElfFault::WrongKind {
             field: FLAGS,
@@ -98,63 +93,53 @@ pub fn explain_elf(
             index,
             " does not lie inside the file, which is cut off: link it again",
         ),
-        ElfFault::Memory => Ok(()),
+        ElfFault::Memory => {}
         _ => OTHER.say(notes),
     }
 }
 
-fn say_section<'a>(
-    notes: &mut Notes,
-    file: &UncheckedFile<'a>,
-    section: u32,
-    words: &'a str,
-) -> Result<(), AllocError> {
+fn say_section<'a>(notes: &mut Notes, file: &UncheckedFile<'a>, section: u32, words: &'a str) {
     notes.say(&[
         Piece::Text("section "),
         Piece::Name(file.section_name(section)),
         Piece::Text(words),
-    ])
+    ]);
 }
 
-/// Why a file has no code. It fails only where no memory was left.
-pub fn explain_no_code(notes: &mut Notes) -> Result<(), AllocError> {
-    NO_CODE.say(notes)
+/// Why a file has no code.
+pub fn explain_no_code(notes: &mut Notes) {
+    NO_CODE.say(notes);
 }
 
-/// Why a program does not fit a board. It fails only where no memory was left.
-pub fn explain_layout(
-    notes: &mut Notes,
-    file: &UncheckedFile,
-    board: &Board,
-    fault: &GraphFault,
-) -> Result<(), AllocError> {
+/// Why a program does not fit a board.
+pub fn explain_layout(notes: &mut Notes, file: &UncheckedFile, board: &Board, fault: &GraphFault) {
     match *fault {
         GraphFault::SpmOverlap { segment } => {
             let segment = file.segment(segment);
-            say_segment(notes, file, &segment, " overlaps the scratchpad")?;
-            say_range(notes, "spm", &board.spm)?;
+            say_segment(notes, file, &segment, " overlaps the scratchpad");
+            say_range(notes, "spm", &board.spm);
             notes.say_first("correct the linker script, or `spm` of the board")
         }
         GraphFault::PatchOverlap { segment } => {
             let segment = file.segment(segment);
-            say_segment(notes, file, &segment, " overlaps the patch range")?;
-            say_range(notes, "patch", &board.patch)?;
+            say_segment(notes, file, &segment, " overlaps the patch range");
+            say_range(notes, "patch", &board.patch);
             notes.say_first(patch_cure(file, &segment))
         }
         GraphFault::NoArea { segment } => say_outside(notes, file, &file.segment(segment), board),
         GraphFault::PatchFar { .. } => say_far(notes, file, board),
         GraphFault::SpmOverlapsPatch => {
-            notes.say_words("the scratchpad and the patch range of the board share an address")?;
-            say_range(notes, "spm", &board.spm)?;
-            say_range(notes, "patch", &board.patch)?;
+            notes.say_words("the scratchpad and the patch range of the board share an address");
+            say_range(notes, "spm", &board.spm);
+            say_range(notes, "patch", &board.patch);
             notes.say_first("correct `spm` or `patch` of the board")
         }
         GraphFault::SpmAtZero => {
-            notes.say_words("the scratchpad of the board begins below address 16")?;
+            notes.say_words("the scratchpad of the board begins below address 16");
             notes.say_first("correct `spm` of the board")
         }
         GraphFault::TooManyObjects { count } => say_many_objects(notes, count),
-        GraphFault::Memory => Ok(()),
+        GraphFault::Memory => {}
     }
 }
 
@@ -173,7 +158,7 @@ fn say_segment<'a>(
     file: &UncheckedFile<'a>,
     segment: &RawSegment,
     words: &'a str,
-) -> Result<(), AllocError> {
+) {
     notes.say(&[
         Piece::Text("the segment of "),
         Piece::Name(file.first_section(segment)),
@@ -183,56 +168,51 @@ fn say_segment<'a>(
         Piece::Hex(segment.vaddr.wrapping_add(segment.memsz)),
         Piece::Text(","),
         Piece::Text(words),
-    ])
+    ]);
 }
 
-fn say_range(notes: &mut Notes, key: &str, range: &Range) -> Result<(), AllocError> {
+fn say_range(notes: &mut Notes, key: &str, range: &Range) {
     notes.say(&[
         Piece::Name(key.as_bytes()),
         Piece::Text(" of the board is from "),
         Piece::Hex(range.base),
         Piece::Text(" to "),
         Piece::Hex(range.base.wrapping_add(range.size)),
-    ])
+    ]);
 }
 
-fn say_many_objects(notes: &mut Notes, count: u32) -> Result<(), AllocError> {
+fn say_many_objects(notes: &mut Notes, count: u32) {
     notes.say_number(
         "",
         u64::from(count),
         " objects may move, and 4,096 are the limit",
-    )?;
-    notes.say_first("keep some by `fix` of the board")
+    );
+    notes.say_first("keep some by `fix` of the board");
 }
 
 /// A segment outside the board's memories.
-fn say_outside(
-    notes: &mut Notes,
-    file: &UncheckedFile,
-    segment: &RawSegment,
-    board: &Board,
-) -> Result<(), AllocError> {
-    say_segment(notes, file, segment, " lies in no memory of the board")?;
-    say_range(notes, "main", &board.main)?;
+fn say_outside(notes: &mut Notes, file: &UncheckedFile, segment: &RawSegment, board: &Board) {
+    say_segment(notes, file, segment, " lies in no memory of the board");
+    say_range(notes, "main", &board.main);
     notes.say_first(if segment.offset == 0 {
         "the segment begins with the ELF header: link with -Wl,-N or a linker script, or make `main` larger"
     } else {
         "correct the linker script, or `main` or `areas` of the board"
-    })
+    });
 }
 
 /// Code that lies far from the patch range or from other code.
-fn say_far(notes: &mut Notes, file: &UncheckedFile, board: &Board) -> Result<(), AllocError> {
-    notes.say_words("the code and the patch range span over 1 MiB, more than a jump reaches:")?;
-    say_code(notes, file)?;
-    say_range(notes, "patch", &board.patch)?;
+fn say_far(notes: &mut Notes, file: &UncheckedFile, board: &Board) {
+    notes.say_words("the code and the patch range span over 1 MiB, more than a jump reaches:");
+    say_code(notes, file);
+    say_range(notes, "patch", &board.patch);
     notes.say_first(
         "link all code together, .init too (-Wl,-N -Wl,--section-start=.init=ADDRESS), near `patch`",
-    )
+    );
 }
 
 /// The first sections of code.
-fn say_code(notes: &mut Notes, file: &UncheckedFile) -> Result<(), AllocError> {
+fn say_code(notes: &mut Notes, file: &UncheckedFile) {
     let mut told: u32 = 0;
     for k in 0..file.section_count() {
         let section = file.section(k);
@@ -243,8 +223,7 @@ fn say_code(notes: &mut Notes, file: &UncheckedFile) -> Result<(), AllocError> {
                 Piece::Name(file.section_name(k)),
                 Piece::Text(" at "),
                 Piece::Hex(section.addr),
-            ])?;
+            ]);
         }
     }
-    Ok(())
 }

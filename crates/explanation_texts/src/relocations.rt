@@ -1,7 +1,6 @@
 use crate::cures::{Cure, CureRow, cure_of, text_at};
 use crate::notes::{Notes, Piece};
 use crate::places::put_place;
-use std::alloc::AllocError;
 use unchecked_file::{RawRelocation, UncheckedFile};
 
 /// The names of the kinds of relocations (RISC-V psABI, "Relocations").
@@ -121,45 +120,41 @@ struct ThreadLocalUse<'a> {
 }
 
 /// A relocation of a kind that is not supported.
-pub(crate) fn say_unsupported(
-    notes: &mut Notes,
-    file: &UncheckedFile,
-    index: u32,
-    kind: u32,
-) -> Result<(), AllocError> {
+pub(crate) fn say_unsupported(notes: &mut Notes, file: &UncheckedFile, index: u32, kind: u32) {
     if let Some(relocation) = file.relocation(index) {
-        notes.begin("relocation ")?;
+        notes.begin("relocation ");
         notes.put(&[
             Piece::Number(u64::from(index)),
             Piece::Text(" in section "),
             Piece::Name(relocation.section),
             Piece::Text(" is "),
-        ])?;
-        put_kind(notes, kind)?;
-        notes.put(&[Piece::Text(" of "), Piece::Name(relocation.symbol)])?;
-        notes.end("")?;
-        say_changed(notes, file, relocation.at)?;
+        ]);
+        put_kind(notes, kind);
+        notes.put(&[Piece::Text(" of "), Piece::Name(relocation.symbol)]);
+        notes.end("");
+        say_changed(notes, file, relocation.at);
     }
     if THREAD_LOCAL.contains(&kind) {
-        return say_thread_local(notes, file);
+        say_thread_local(notes, file);
+        return;
     }
-    cure_of(&CURES, kind, OTHER).say(notes)
+    cure_of(&CURES, kind, OTHER).say(notes);
 }
 
 /// The thread-local symbols that relocations name, each once for each function that uses it, and what to do.
-fn say_thread_local(notes: &mut Notes, file: &UncheckedFile) -> Result<(), AllocError> {
-    notes.say_words("the symbol is thread-local: it is found by the tp register. All such are:")?;
+fn say_thread_local(notes: &mut Notes, file: &UncheckedFile) {
+    notes.say_words("the symbol is thread-local: it is found by the tp register. All such are:");
     let mut uses = Vec::new(notes.alloc());
     for index in 0..file.relocations() {
         if let Some(relocation) = file.relocation(index) {
-            note_use(notes, file, &relocation, &mut uses)?;
+            note_use(notes, file, &relocation, &mut uses);
         }
     }
     match uses.len().checked_sub(TOLD_USES) {
         None | Some(0) => {}
-        Some(more) => notes.say_number("  and ", more as u64, " more")?,
+        Some(more) => notes.say_number("  and ", more as u64, " more"),
     }
-    say_owners(notes, &uses)
+    say_owners(notes, &uses);
 }
 
 /// Tells a use of a thread-local symbol that was not told before.
@@ -168,9 +163,9 @@ fn note_use<'a>(
     file: &UncheckedFile<'a>,
     relocation: &RawRelocation<'a>,
     uses: &mut Vec<ThreadLocalUse<'a>>,
-) -> Result<(), AllocError> {
+) {
     if !THREAD_LOCAL.contains(&relocation.kind) {
-        return Ok(());
+        return;
     }
     let found = ThreadLocalUse {
         symbol: relocation.symbol,
@@ -180,48 +175,53 @@ fn note_use<'a>(
         },
     };
     if uses.contains(&found) {
-        return Ok(());
+        return;
     }
-    uses.push(found)?;
+    if uses.push(found).is_err() {
+        notes.cut();
+        return;
+    }
     if uses.len() > TOLD_USES {
-        return Ok(());
+        return;
     }
-    notes.begin("  ")?;
-    notes.put(&[Piece::Name(relocation.symbol)])?;
+    notes.begin("  ");
+    notes.put(&[Piece::Name(relocation.symbol)]);
     let source = file.source_of(relocation);
     if !source.is_empty() {
-        notes.put(&[Piece::Text(" of "), Piece::Name(source)])?;
+        notes.put(&[Piece::Text(" of "), Piece::Name(source)]);
     }
-    notes.put(&[Piece::Text(", used")])?;
-    put_place(notes, file, relocation.at)?;
-    notes.end("")
+    notes.put(&[Piece::Text(", used")]);
+    put_place(notes, file, relocation.at);
+    notes.end("");
 }
 
 /// What to do, by whose the symbols are: the C library's `errno`, or variables of other sources.
-fn say_owners(notes: &mut Notes, uses: &[ThreadLocalUse]) -> Result<(), AllocError> {
+fn say_owners(notes: &mut Notes, uses: &[ThreadLocalUse]) {
     let errors = uses.iter().filter(|found| found.symbol == ERRNO).count();
     if errors == 0 {
-        return notes.say_first(VARIABLE_CURE);
+        notes.say_first(VARIABLE_CURE);
+        return;
     }
-    notes.say_first(ERRNO_CURE)?;
+    notes.say_first(ERRNO_CURE);
     if errors == uses.len() {
-        return Ok(());
+        return;
     }
-    notes.begin("then, of the others: ")?;
-    notes.end(VARIABLE_CURE)
+    notes.begin("then, of the others: ");
+    notes.end(VARIABLE_CURE);
 }
 
 /// Goes on with a line by the name of a kind, or its number where it has none.
-fn put_kind(notes: &mut Notes, kind: u32) -> Result<(), AllocError> {
+fn put_kind(notes: &mut Notes, kind: u32) {
     let name = text_at(&KINDS, kind);
     if name.is_empty() {
-        return notes.put(&[Piece::Text("kind "), Piece::Number(u64::from(kind))]);
+        notes.put(&[Piece::Text("kind "), Piece::Number(u64::from(kind))]);
+        return;
     }
-    notes.put(&[Piece::Text(name)])
+    notes.put(&[Piece::Text(name)]);
 }
 
-fn say_changed(notes: &mut Notes, file: &UncheckedFile, at: u32) -> Result<(), AllocError> {
-    notes.begin("it changes the word")?;
-    put_place(notes, file, at)?;
-    notes.end("")
+fn say_changed(notes: &mut Notes, file: &UncheckedFile, at: u32) {
+    notes.begin("it changes the word");
+    put_place(notes, file, at);
+    notes.end("");
 }

@@ -3,7 +3,6 @@ use crate::instructions::end_by_instruction;
 use crate::notes::{Notes, Piece};
 use crate::places::put_place;
 use fault_trail::{AddressFault, Origin, Way};
-use std::alloc::AllocError;
 use unchecked_file::UncheckedFile;
 
 /// What the reasons of address faults mean, by their numbers.
@@ -37,97 +36,78 @@ pub struct Involved<'a> {
     pub has_anchors: bool,
 }
 
-/// A measured run that trapped at an address, in so many steps. It fails only where no memory was left.
-pub fn say_trapped(
-    notes: &mut Notes,
-    file: &UncheckedFile,
-    steps: u64,
-    pc: u32,
-) -> Result<(), AllocError> {
-    say_instruction(notes, file, "the measured run trapped", pc)?;
+/// A measured run that trapped at an address, in so many steps.
+pub fn say_trapped(notes: &mut Notes, file: &UncheckedFile, steps: u64, pc: u32) {
+    say_instruction(notes, file, "the measured run trapped", pc);
     let behind = if steps == 1 { " step" } else { " steps" };
-    notes.say_number("what is told is of ", steps, behind)?;
-    notes.say_first("leave out what RV32IM lacks (no CSR instructions, -march=rv32im)")
+    notes.say_number("what is told is of ", steps, behind);
+    notes.say_first("leave out what RV32IM lacks (no CSR instructions, -march=rv32im)");
 }
 
 /// A measured run that went on at the end of its steps, and the address where it stood. It fails only where no memory
 /// was left.
-pub fn say_still_running(
-    notes: &mut Notes,
-    file: &UncheckedFile,
-    steps: u64,
-    at: u32,
-) -> Result<(), AllocError> {
+pub fn say_still_running(notes: &mut Notes, file: &UncheckedFile, steps: u64, at: u32) {
     notes.say_number(
         "the board allows ",
         steps,
         " steps, and the measured run went on; what is told is of these alone",
-    )?;
-    say_instruction(notes, file, "it stood", at)?;
-    notes.say_first("give the board more `steps`, or take a shorter input")
+    );
+    say_instruction(notes, file, "it stood", at);
+    notes.say_first("give the board more `steps`, or take a shorter input");
 }
 
 /// A function that a compiler calls where it finds a loop that does the same, and that calls itself. It fails only where no
 /// memory was left.
-pub fn say_calling_itself(notes: &mut Notes, name: &[u8]) -> Result<(), AllocError> {
+pub fn say_calling_itself(notes: &mut Notes, name: &[u8]) {
     notes.say(&[
         Piece::Name(name),
         Piece::Text(
             " calls itself: the compiler found that its loop does what the function does, and made a call of it",
         ),
-    ])?;
+    ]);
     notes.say_first(
         "compile with -fno-tree-loop-distribute-patterns, -fno-builtin or -ffreestanding",
-    )
+    );
 }
 
 /// A line of words, a place, and the instruction that stands there.
-pub(crate) fn say_instruction(
-    notes: &mut Notes,
-    file: &UncheckedFile,
-    words: &str,
-    at: u32,
-) -> Result<(), AllocError> {
-    notes.begin(words)?;
-    put_place(notes, file, at)?;
-    end_by_instruction(notes, file.code_word(at))
+pub(crate) fn say_instruction(notes: &mut Notes, file: &UncheckedFile, words: &str, at: u32) {
+    notes.begin(words);
+    put_place(notes, file, at);
+    end_by_instruction(notes, file.code_word(at));
 }
 
-/// A run that met an address fault. It fails only where no memory was left.
+/// A run that met an address fault.
 pub fn explain_fault(
     notes: &mut Notes,
     file: &UncheckedFile,
     fault: &AddressFault,
     involved: &Involved,
-) -> Result<(), AllocError> {
-    say_instruction(notes, file, "address fault", fault.pc)?;
-    notes.say_words(text_at(&REASONS, fault.why))?;
+) {
+    say_instruction(notes, file, "address fault", fault.pc);
+    notes.say_words(text_at(&REASONS, fault.why));
     if let Some(origin) = fault.culprit.origin {
-        say_origin(notes, file, involved.object, &origin)?;
+        say_origin(notes, file, involved.object, &origin);
     }
     if let Some(origin) = fault.culprit.other {
-        say_origin(notes, file, involved.other, &origin)?;
+        say_origin(notes, file, involved.other, &origin);
     }
     let Some(address) = fault.culprit.address else {
-        return Ok(());
+        return;
     };
-    notes.begin("it addresses ")?;
-    notes.put(&[Piece::Hex(address)])?;
+    notes.begin("it addresses ");
+    notes.put(&[Piece::Hex(address)]);
     if involved.bytes.is_empty() {
-        return notes.end(", which is of no section");
+        notes.end(", which is of no section");
+        return;
     }
-    notes.put(&[Piece::Text(", of "), Piece::Name(involved.bytes)])?;
-    notes.end("")
+    notes.put(&[Piece::Text(", of "), Piece::Name(involved.bytes)]);
+    notes.end("");
 }
 
 /// The object of whose address a value was made, and how.
-fn say_origin(
-    notes: &mut Notes,
-    file: &UncheckedFile,
-    object: &[u8],
-    origin: &Origin,
-) -> Result<(), AllocError> {
-    notes.begin("the value comes of the address of ")?;
+fn say_origin(notes: &mut Notes, file: &UncheckedFile, object: &[u8], origin: &Origin) {
+    notes.begin("the value comes of the address of ");
     let way = match origin.way {
         Way::Upper => ", and is its upper part",
         Way::Address => "",
@@ -135,9 +115,9 @@ fn say_origin(
         Way::Computed => ", with which other arithmetic was done than to add a number",
         Way::Tested => ", of which it was asked as a value whether it is null (p == 0)",
     };
-    notes.put(&[Piece::Name(object), Piece::Text(way)])?;
+    notes.put(&[Piece::Name(object), Piece::Text(way)]);
     if let Some(at) = origin.made {
-        put_place(notes, file, at)?;
+        put_place(notes, file, at);
     }
-    notes.end("")
+    notes.end("");
 }

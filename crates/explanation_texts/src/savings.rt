@@ -1,6 +1,5 @@
 use crate::notes::{Notes, Piece};
 use crate::places::put_place;
-use std::alloc::AllocError;
 use unchecked_file::UncheckedFile;
 
 /// What a saving is of.
@@ -14,26 +13,26 @@ pub enum Measured {
     Mix,
 }
 
-/// How many thousandths of the energy a choice saves. It fails only where no memory was left.
-pub fn say_saved(notes: &mut Notes, thousandths: u64, of: Measured) -> Result<(), AllocError> {
-    notes.begin("saves ")?;
-    put_percent(notes, thousandths)?;
+/// How many thousandths of the energy a choice saves.
+pub fn say_saved(notes: &mut Notes, thousandths: u64, of: Measured) {
+    notes.begin("saves ");
+    put_percent(notes, thousandths);
     notes.end(match of {
         Measured::Run => " of the energy of the measured run",
         Measured::Steps =>
             " of the energy of the measured steps, and may save less of the whole run",
         Measured::Mix => " of the energy of the listed runs",
-    })
+    });
 }
 
 /// Goes on with a line by thousandths, in percent.
-pub(crate) fn put_percent(notes: &mut Notes, thousandths: u64) -> Result<(), AllocError> {
+pub(crate) fn put_percent(notes: &mut Notes, thousandths: u64) {
     notes.put(&[
         Piece::Number(thousandths / 10),
         Piece::Text("."),
         Piece::Number(thousandths % 10),
         Piece::Text(" %"),
-    ])
+    ]);
 }
 
 /// When an item stands in the scratchpad.
@@ -65,32 +64,28 @@ pub struct MovedItem<'a> {
     pub before: Option<u64>,
 }
 
-/// An item that moved, and what that saves. It fails only where no memory was left.
-pub fn say_moved_item(
-    notes: &mut Notes,
-    item: &MovedItem,
-    file: &UncheckedFile,
-) -> Result<(), AllocError> {
-    notes.begin("")?;
-    put_standing(notes, item.standing)?;
-    put_part(notes, file, item.part)?;
-    notes.put(&[Piece::Text(": ")])?;
+/// An item that moved, and what that saves.
+pub fn say_moved_item(notes: &mut Notes, item: &MovedItem, file: &UncheckedFile) {
+    notes.begin("");
+    put_standing(notes, item.standing);
+    put_part(notes, file, item.part);
+    notes.put(&[Piece::Text(": ")]);
     match item.before {
         Some(before) => {
-            put_percent(notes, before)?;
-            notes.put(&[Piece::Text(" of the energy before, ")])?;
-            put_percent(notes, before.saturating_sub(item.saved))?;
+            put_percent(notes, before);
+            notes.put(&[Piece::Text(" of the energy before, ")]);
+            put_percent(notes, before.saturating_sub(item.saved));
             notes.end(" after")
         }
         None => {
-            notes.put(&[Piece::Text("saves ")])?;
-            put_percent(notes, item.saved)?;
+            notes.put(&[Piece::Text("saves ")]);
+            put_percent(notes, item.saved);
             notes.end("")
         }
     }
 }
 
-fn put_standing(notes: &mut Notes, standing: Standing) -> Result<(), AllocError> {
+fn put_standing(notes: &mut Notes, standing: Standing) {
     match standing {
         Standing::Throughout => notes.put(&[Piece::Text("throughout, ")]),
         Standing::InRegion(region) => notes.put(&[
@@ -106,13 +101,13 @@ fn put_standing(notes: &mut Notes, standing: Standing) -> Result<(), AllocError>
     }
 }
 
-fn put_part(notes: &mut Notes, file: &UncheckedFile, part: MovedPart) -> Result<(), AllocError> {
+fn put_part(notes: &mut Notes, file: &UncheckedFile, part: MovedPart) {
     match part {
         MovedPart::Code { home, bytes } => {
             notes.put(&[
                 Piece::Number(u64::from(bytes)),
                 Piece::Text(" bytes of code"),
-            ])?;
+            ]);
             put_place(notes, file, home)
         }
         MovedPart::Object { name, bytes } => notes.put(&[
@@ -123,26 +118,26 @@ fn put_part(notes: &mut Notes, file: &UncheckedFile, part: MovedPart) -> Result<
     }
 }
 
-/// How many more items moved, and how many thousandths of the energy they save. It fails only where no memory was left.
-pub fn say_more_items(notes: &mut Notes, count: u64, saved: u64) -> Result<(), AllocError> {
-    notes.begin("")?;
+/// How many more items moved, and how many thousandths of the energy they save.
+pub fn say_more_items(notes: &mut Notes, count: u64, saved: u64) {
+    notes.begin("");
     notes.put(&[
         Piece::Number(count),
         Piece::Text(" more items that moved save "),
-    ])?;
-    put_percent(notes, saved)?;
-    notes.end("")
+    ]);
+    put_percent(notes, saved);
+    notes.end("");
 }
 
 /// How many thousandths of the energy are spent by a result whatever moves in it; nothing where that is none. It fails only
 /// where no memory was left.
-pub fn say_fixed_cost(notes: &mut Notes, thousandths: u64) -> Result<(), AllocError> {
+pub fn say_fixed_cost(notes: &mut Notes, thousandths: u64) {
     if thousandths == 0 {
-        return Ok(());
+        return;
     }
-    notes.begin("the start of the program and changes of region cost ")?;
-    put_percent(notes, thousandths)?;
-    notes.end("")
+    notes.begin("the start of the program and changes of region cost ");
+    put_percent(notes, thousandths);
+    notes.end("");
 }
 
 /// How many bytes of some room are used.
@@ -152,39 +147,39 @@ pub struct Used {
     pub of: u64,
 }
 
-/// How full the scratchpad is, where nothing is overlaid. It fails only where no memory was left.
-pub fn say_scratchpad_room(notes: &mut Notes, used: Used) -> Result<(), AllocError> {
-    notes.begin("")?;
-    put_used(notes, used)?;
-    notes.end(" bytes of the scratchpad are used")
+/// How full the scratchpad is, where nothing is overlaid.
+pub fn say_scratchpad_room(notes: &mut Notes, used: Used) {
+    notes.begin("");
+    put_used(notes, used);
+    notes.end(" bytes of the scratchpad are used");
 }
 
 /// How full the scratchpad is before a region is entered, and while each region is current, in order. It fails only where no
 /// memory was left.
-pub fn say_overlay_room(notes: &mut Notes, used: &[Used]) -> Result<(), AllocError> {
-    notes.begin("of the scratchpad are used")?;
+pub fn say_overlay_room(notes: &mut Notes, used: &[Used]) {
+    notes.begin("of the scratchpad are used");
     for (region, used) in used.iter().enumerate() {
-        notes.put(&[Piece::Text(if region == 0 { " " } else { ", " })])?;
-        put_used(notes, *used)?;
+        notes.put(&[Piece::Text(if region == 0 { " " } else { ", " })]);
+        put_used(notes, *used);
         notes.put(&[
             Piece::Text(" bytes in region "),
             Piece::Number(region as u64),
-        ])?;
+        ]);
     }
-    notes.end("")
+    notes.end("");
 }
 
-/// How full the patch range is, behind what each result has there. It fails only where no memory was left.
-pub fn say_patch_room(notes: &mut Notes, used: Used) -> Result<(), AllocError> {
-    notes.begin("")?;
-    put_used(notes, used)?;
-    notes.end(" bytes of the patch range are used for what moved")
+/// How full the patch range is, behind what each result has there.
+pub fn say_patch_room(notes: &mut Notes, used: Used) {
+    notes.begin("");
+    put_used(notes, used);
+    notes.end(" bytes of the patch range are used for what moved");
 }
 
-fn put_used(notes: &mut Notes, used: Used) -> Result<(), AllocError> {
+fn put_used(notes: &mut Notes, used: Used) {
     notes.put(&[
         Piece::Number(used.bytes),
         Piece::Text(" of "),
         Piece::Number(used.of),
-    ])
+    ]);
 }

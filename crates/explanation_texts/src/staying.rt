@@ -1,6 +1,5 @@
 use crate::notes::{Notes, Piece};
 use crate::savings::put_percent;
-use std::alloc::AllocError;
 
 /// Where there is too little room.
 #[derive(Clone, Copy)]
@@ -51,31 +50,31 @@ pub struct StayingItem<'a> {
     pub reason: StayingReason,
 }
 
-/// What stays, and why. It fails only where no memory was left.
-pub fn say_staying(notes: &mut Notes, item: &StayingItem) -> Result<(), AllocError> {
-    begin_staying(notes, item.share)?;
+/// What stays, and why.
+pub fn say_staying(notes: &mut Notes, item: &StayingItem) {
+    begin_staying(notes, item.share);
     notes.put(&[
         Piece::Text(if item.is_code { "code of " } else { "" }),
         Piece::Name(item.name),
         Piece::Text(": "),
-    ])?;
-    put_reason(notes, item)?;
-    notes.end("")
+    ]);
+    put_reason(notes, item);
+    notes.end("");
 }
 
-/// What the reads and writes of what may not move cost. It fails only where no memory was left.
-pub fn say_staying_rest(notes: &mut Notes, share: u64) -> Result<(), AllocError> {
-    begin_staying(notes, share)?;
-    notes.end("the stack and data that may not move")
+/// What the reads and writes of what may not move cost.
+pub fn say_staying_rest(notes: &mut Notes, share: u64) {
+    begin_staying(notes, share);
+    notes.end("the stack and data that may not move");
 }
 
-fn begin_staying(notes: &mut Notes, share: u64) -> Result<(), AllocError> {
-    notes.begin("stays, with ")?;
-    put_percent(notes, share)?;
-    notes.put(&[Piece::Text(" of the energy before: ")])
+fn begin_staying(notes: &mut Notes, share: u64) {
+    notes.begin("stays, with ");
+    put_percent(notes, share);
+    notes.put(&[Piece::Text(" of the energy before: ")]);
 }
 
-fn put_reason(notes: &mut Notes, item: &StayingItem) -> Result<(), AllocError> {
+fn put_reason(notes: &mut Notes, item: &StayingItem) {
     match item.reason {
         StayingReason::TooLong { at, bytes } => notes.put(&[
             Piece::Text("its block at "),
@@ -110,21 +109,22 @@ fn put_reason(notes: &mut Notes, item: &StayingItem) -> Result<(), AllocError> {
 }
 
 /// What a copy costs and saves, and from how many repetitions of the run on it pays, as far as these alone tell.
-fn put_no_gain(notes: &mut Notes, is_code: bool, cost: u64, saved: u64) -> Result<(), AllocError> {
-    notes.put(&[Piece::Text("to copy it costs "), Piece::Number(cost)])?;
+fn put_no_gain(notes: &mut Notes, is_code: bool, cost: u64, saved: u64) {
+    notes.put(&[Piece::Text("to copy it costs "), Piece::Number(cost)]);
     let Some(times) = cost.checked_div(saved) else {
-        return notes.put(&[Piece::Text(", and it saves nothing in this run")]);
+        notes.put(&[Piece::Text(", and it saves nothing in this run")]);
+        return;
     };
     notes.put(&[
         Piece::Text(", and it saves "),
         Piece::Text(if is_code { "at most " } else { "" }),
         Piece::Number(saved),
         Piece::Text(" in this run"),
-    ])?;
+    ]);
     let runs = Piece::Number(times.saturating_add(1));
     match (times, is_code) {
         (0, true) => notes.put(&[Piece::Text(", less what control pays to enter and leave it")]),
-        (0, false) => Ok(()),
+        (0, false) => {}
         (_, true) => notes.put(&[
             Piece::Text(": it pays not before "),
             runs,
@@ -139,13 +139,7 @@ fn put_no_gain(notes: &mut Notes, is_code: bool, cost: u64, saved: u64) -> Resul
 }
 
 /// How many bytes are needed and left of so many, and with how many in all there would be room.
-fn put_no_room(
-    notes: &mut Notes,
-    room: Room,
-    needed: u64,
-    left: u64,
-    have: u64,
-) -> Result<(), AllocError> {
+fn put_no_room(notes: &mut Notes, room: Room, needed: u64, left: u64, have: u64) {
     notes.put(&[
         Piece::Text("it needs "),
         Piece::Number(needed),
@@ -153,9 +147,10 @@ fn put_no_room(
             Room::Scratchpad => " bytes of the scratchpad, and ",
             Room::PatchRange => " bytes of the patch range, and ",
         }),
-    ])?;
+    ]);
     if needed > have {
-        return notes.put(&[Piece::Text("it has "), Piece::Number(have)]);
+        notes.put(&[Piece::Text("it has "), Piece::Number(have)]);
+        return;
     }
     let all = have.saturating_add(needed.saturating_sub(left));
     notes.put(&[
@@ -163,5 +158,5 @@ fn put_no_room(
         Piece::Text(" are left: "),
         Piece::Number(all),
         Piece::Text(" in all would do"),
-    ])
+    ]);
 }

@@ -1,5 +1,4 @@
 use crate::notes::{Notes, Piece};
-use std::alloc::AllocError;
 
 /// A command, as it is told to one who asks, and which of its words name what it reads. The command's own word is at
 /// place 0.
@@ -203,9 +202,10 @@ pub fn command_of(word: &str) -> Option<&'static Command> {
 
 /// Why words are no command, and the usage of the command that was meant, or of all. It fails only where no memory was
 /// left.
-pub fn explain_words(notes: &mut Notes, words: &[String]) -> Result<(), AllocError> {
+pub fn explain_words(notes: &mut Notes, words: &[String]) {
     let Some(first) = words.first() else {
-        return say_all(notes);
+        say_all(notes);
+        return;
     };
     match command_of(first.as_str()) {
         Some(command) => explain_operands(notes, command, words),
@@ -214,16 +214,17 @@ pub fn explain_words(notes: &mut Notes, words: &[String]) -> Result<(), AllocErr
 }
 
 /// A first word that is no command.
-fn explain_first(notes: &mut Notes, word: &str) -> Result<(), AllocError> {
+fn explain_first(notes: &mut Notes, word: &str) {
     if is_one_of(word, &VERSION) {
-        return notes.say_words(
+        notes.say_words(
             "the files that it reads and writes are those of docs/COMMAND_LINE.md; it has no version number",
         );
+        return;
     }
     if !is_one_of(word, &HELP) {
-        notes.say(&[Piece::Name(word.as_bytes()), Piece::Text(" is no command")])?;
+        notes.say(&[Piece::Name(word.as_bytes()), Piece::Text(" is no command")]);
     }
-    say_all(notes)
+    say_all(notes);
 }
 
 fn is_one_of(word: &str, list: &[&str]) -> bool {
@@ -231,18 +232,18 @@ fn is_one_of(word: &str, list: &[&str]) -> bool {
 }
 
 /// A line for each command.
-fn say_all(notes: &mut Notes) -> Result<(), AllocError> {
-    notes.say_words("usage: spmlink and one of")?;
+fn say_all(notes: &mut Notes) {
+    notes.say_words("usage: spmlink and one of");
     for command in &COMMANDS {
-        say_usage(notes, "  ", command)?;
+        say_usage(notes, "  ", command);
     }
     notes.say_words(
         "for example: spmlink relink upper.elf examples/default.toml input upper.new.elf upper.cert",
-    )
+    );
 }
 
 /// A line of some words and a command.
-fn say_usage(notes: &mut Notes, before: &str, command: &Command) -> Result<(), AllocError> {
+fn say_usage(notes: &mut Notes, before: &str, command: &Command) {
     notes.say(&[
         Piece::Text(before),
         Piece::Text(command.word),
@@ -250,51 +251,45 @@ fn say_usage(notes: &mut Notes, before: &str, command: &Command) -> Result<(), A
         Piece::Text(command.operands),
         Piece::Text(": "),
         Piece::Text(command.purpose),
-    ])
+    ]);
 }
 
 /// What is wrong with the words behind that of a command.
-fn explain_operands(
-    notes: &mut Notes,
-    command: &Command,
-    words: &[String],
-) -> Result<(), AllocError> {
+fn explain_operands(notes: &mut Notes, command: &Command, words: &[String]) {
     let asks = match words.get(1) {
         Some(word) => is_one_of(word.as_str(), &HELP),
         None => false,
     };
     if !asks {
-        say_wrong_word(notes, command, words)?;
+        say_wrong_word(notes, command, words);
     }
-    say_usage(notes, "usage: spmlink ", command)
+    say_usage(notes, "usage: spmlink ", command);
 }
 
 /// The first word that is wrong.
-fn say_wrong_word(
-    notes: &mut Notes,
-    command: &Command,
-    words: &[String],
-) -> Result<(), AllocError> {
+fn say_wrong_word(notes: &mut Notes, command: &Command, words: &[String]) {
     for (place, word) in words.iter().enumerate() {
         if let Some(reason) = fault_of_name(word.as_str()) {
-            return say_word(notes, place, word.as_str(), reason);
+            say_word(notes, place, word.as_str(), reason);
+            return;
         }
     }
-    say_count(notes, command, words)
+    say_count(notes, command, words);
 }
 
 /// That there are too many words or too few, or else which of them the command may not have.
-fn say_count(notes: &mut Notes, command: &Command, words: &[String]) -> Result<(), AllocError> {
+fn say_count(notes: &mut Notes, command: &Command, words: &[String]) {
     let given = words.len().saturating_sub(1) as u64;
     let wanted = command.operands.split_whitespace().count() as u64;
     if given != wanted {
-        return notes.say(&[
+        notes.say(&[
             Piece::Name(command.word.as_bytes()),
             Piece::Text(" takes "),
             Piece::Number(wanted),
             Piece::Text(" words, and was given "),
             Piece::Number(given),
         ]);
+        return;
     }
     match repeated(command, words) {
         Some((place, word)) => say_word(
@@ -303,7 +298,7 @@ fn say_count(notes: &mut Notes, command: &Command, words: &[String]) -> Result<(
             word,
             "has the name of another word, and what is written needs a name of its own",
         ),
-        None if command.numbers.is_empty() => Ok(()),
+        None if command.numbers.is_empty() => {}
         None => notes.say_words(command.numbers),
     }
 }
@@ -318,26 +313,21 @@ fn fault_of_name(word: &str) -> Option<&'static str> {
     None
 }
 
-/// A word, and what is wrong with it. It fails only where no memory was left.
-pub(crate) fn say_word(
-    notes: &mut Notes,
-    place: usize,
-    word: &str,
-    reason: &str,
-) -> Result<(), AllocError> {
-    begin_word(notes, place, word)?;
-    notes.end(reason)
+/// A word, and what is wrong with it.
+pub(crate) fn say_word(notes: &mut Notes, place: usize, word: &str, reason: &str) {
+    begin_word(notes, place, word);
+    notes.end(reason);
 }
 
-/// Begins a line by a word. It fails only where no memory was left.
-pub(crate) fn begin_word(notes: &mut Notes, place: usize, word: &str) -> Result<(), AllocError> {
-    notes.begin("word ")?;
+/// Begins a line by a word.
+pub(crate) fn begin_word(notes: &mut Notes, place: usize, word: &str) {
+    notes.begin("word ");
     notes.put(&[
         Piece::Number(place as u64),
         Piece::Text(", "),
         Piece::Name(word.as_bytes()),
         Piece::Text(", "),
-    ])
+    ]);
 }
 
 /// A name that is written and that another word has, too, and its place.

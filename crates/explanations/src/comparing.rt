@@ -42,25 +42,25 @@ pub(crate) fn explain_comparison(notes: &mut Notes, subject: &Subject) -> Result
         return Ok(());
     }
     if !is_relative && !inputs.goes_on {
-        return explain_result(notes, differs);
+        explain_result(notes, differs);
+        return Ok(());
     }
     let run = run_program(subject, input)?;
     if is_relative && !does_same(inputs.alloc, inputs.file, board, input, &run)? {
-        say_file_differs(notes, differs)?;
+        say_file_differs(notes, differs);
         return explain_pairing(notes, subject);
     }
     if inputs.goes_on {
         return explain_running(notes, relinked, board, input, &run);
     }
-    explain_result(notes, differs)
+    explain_result(notes, differs);
+    Ok(())
 }
 
 /// A result whose file does what the program does.
-fn explain_result(notes: &mut Notes, differs: bool) -> Result<(), AllocError> {
+fn explain_result(notes: &mut Notes, differs: bool) {
     if differs {
-        say_result_differs(notes)
-    } else {
-        Ok(())
+        say_result_differs(notes);
     }
 }
 
@@ -140,12 +140,13 @@ fn explain_running(
     let each = u64::from(board.spm.size) * 12 + 256;
     let most = run.steps.saturating_add(1).saturating_mul(each);
     let compared = steps_to_write(&mut machine, run.written.len(), most)?;
-    say_compared(notes, run.steps, compared)?;
+    say_compared(notes, run.steps, compared);
     match machine.run(run.steps.saturating_sub(compared))? {
         FlatOutcome::Exited(code) => say_ended_early(notes, ResultEnd::Exited(code)),
         FlatOutcome::Trapped { pc } => say_ended_early(notes, ResultEnd::Trapped { pc }),
         FlatOutcome::GoesOn => say_more_steps(notes),
     }
+    Ok(())
 }
 
 /// Takes steps until so many bytes are written, or `most` were taken, and tells how many it took.

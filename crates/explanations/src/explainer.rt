@@ -4,7 +4,7 @@ use command_language::CommandFault;
 use command_line::{InputTexts, Observer, PreparedResult};
 use explanation_texts::{Command, Notes, command_of, explain_words};
 use shelf_io::FailedWrite;
-use std::alloc::{AllocError, Global};
+use std::alloc::Global;
 
 /// The status of words that are no command.
 const NO_COMMAND: u8 = 1;
@@ -38,24 +38,18 @@ impl<'a> Explainer<'a> {
     /// The lines, by the status of the command and the last write of a file that failed, if one did. There are none where
     /// all is as one expects, or where no memory was left.
     pub fn into_text(self, status: u8, failed: Option<&FailedWrite>) -> Vec<u8> {
-        let alloc = self.alloc;
-        match self.told(status, failed) {
-            Ok(notes) => notes.into_text(),
-            Err(_) => Vec::new(alloc),
-        }
-    }
-
-    fn told(self, status: u8, failed: Option<&FailedWrite>) -> Result<Notes, AllocError> {
         let mut notes = Notes::new(self.alloc);
         match command_of_words(self.words) {
-            Some(_) if status != NO_COMMAND && status == self.status => return Ok(self.notes),
+            Some(_) if status != NO_COMMAND && status == self.status => {
+                return self.notes.into_text();
+            }
             Some(command) if status == UNWRITTEN => {
-                explain_unwritten(&mut notes, self.words, command, failed)?;
+                explain_unwritten(&mut notes, self.words, command, failed);
             }
             Some(_) if status != NO_COMMAND => {}
-            _ => explain_words(&mut notes, self.words)?,
+            _ => explain_words(&mut notes, self.words),
         }
-        Ok(notes)
+        notes.into_text()
     }
 }
 

@@ -39,7 +39,8 @@ pub(crate) fn explain_seen(
     match made {
         Err(CommandFault::Memory) => Ok(()),
         Err(CommandFault::Read { place }) => {
-            explain_unread(notes, words, command, texts, *place as usize)
+            explain_unread(notes, words, command, texts, *place as usize);
+            Ok(())
         }
         _ => match (inputs_of(notes.alloc(), command, texts, made), made) {
             (Some(inputs), Ok(prepared)) => explain_done(notes, &inputs, prepared),
@@ -62,10 +63,10 @@ fn explain_list(
             written.push(word.as_str())?;
         }
     }
-    match inputs.mix {
-        Some(text) => explain_mix(notes, text, &written),
-        None => Ok(()),
+    if let Some(text) = inputs.mix {
+        explain_mix(notes, text, &written);
     }
+    Ok(())
 }
 
 /// A command that has no result, by its fault.
@@ -76,20 +77,20 @@ fn explain_rejected(
     inputs: &Inputs,
     fault: &CommandFault,
 ) -> Result<(), AllocError> {
-    explain_status(notes, inputs.status, inputs.board.is_some())?;
+    explain_status(notes, inputs.status, inputs.board.is_some());
     match fault {
-        CommandFault::BadMix { .. } => explain_list(notes, words, command, inputs),
+        CommandFault::BadMix { .. } => return explain_list(notes, words, command, inputs),
         CommandFault::Board(fault) => explain_board(notes, inputs.board_text(), fault),
         CommandFault::Analyse(fault) => explain_refusal(notes, inputs, fault),
         CommandFault::Elf(_) => {
-            explain_file(notes, &inputs.unchecked())?;
-            match inputs.beside {
-                Some(bytes) => explain_file(notes, &UncheckedFile { bytes }),
-                None => Ok(()),
+            explain_file(notes, &inputs.unchecked());
+            if let Some(bytes) = inputs.beside {
+                explain_file(notes, &UncheckedFile { bytes });
             }
         }
-        _ => explain_analysed(notes, inputs, None),
+        _ => return explain_analysed(notes, inputs, None),
     }
+    Ok(())
 }
 
 /// A command that did what it is for.
@@ -100,10 +101,10 @@ fn explain_done(
 ) -> Result<(), AllocError> {
     let chosen = prepared.chosen.as_ref();
     if let Some(chosen) = chosen {
-        explain_saved(notes, inputs, chosen)?;
+        explain_saved(notes, inputs, chosen);
     }
     if let Some(end) = &inputs.end {
-        explain_end(notes, &inputs.unchecked(), end)?;
+        explain_end(notes, &inputs.unchecked(), end);
     }
     if chosen.is_some()
         || inputs.goes_on
@@ -138,37 +139,33 @@ fn explain_analysed(
 }
 
 /// An ELF file, where it can't be read.
-fn explain_file(notes: &mut Notes, file: &UncheckedFile) -> Result<(), AllocError> {
-    match elf_reader::read(notes.alloc(), file.bytes) {
-        Ok(_) => Ok(()),
-        Err(fault) => explain_elf(notes, file, &fault),
+fn explain_file(notes: &mut Notes, file: &UncheckedFile) {
+    if let Err(fault) = elf_reader::read(notes.alloc(), file.bytes) {
+        explain_elf(notes, file, &fault);
     }
 }
 
 /// Why a file is not analysed for the board.
-fn explain_refusal(
-    notes: &mut Notes,
-    inputs: &Inputs,
-    fault: &AnalyseFault,
-) -> Result<(), AllocError> {
+fn explain_refusal(notes: &mut Notes, inputs: &Inputs, fault: &AnalyseFault) {
     match fault {
         AnalyseFault::Elf(fault) => explain_elf(notes, &inputs.unchecked(), fault),
-        AnalyseFault::Graph(fault) => match read_board(inputs.alloc, inputs.board_text()) {
-            Ok(board) => explain_layout(notes, &inputs.unchecked(), &board, fault),
-            Err(_) => Ok(()),
-        },
+        AnalyseFault::Graph(fault) => {
+            if let Ok(board) = read_board(inputs.alloc, inputs.board_text()) {
+                explain_layout(notes, &inputs.unchecked(), &board, fault);
+            }
+        }
         AnalyseFault::PatchTooSmall { need, have } => say_small_patch(notes, *need, *have),
         AnalyseFault::Code(fault) => match fault {
             CodeFault::TooManyBlocks { count } => say_many_blocks(notes, *count),
             CodeFault::NoText | CodeFault::EntryNotLeader => explain_no_code(notes),
-            CodeFault::Memory => Ok(()),
+            CodeFault::Memory => {}
         },
         AnalyseFault::Region(fault) => match fault {
             RegionFault::UnknownFunction { name } => say_unknown_function(notes, name.as_str()),
             RegionFault::TwoRegions { name } => say_listed_twice(notes, name.as_str()),
-            RegionFault::Memory => Ok(()),
+            RegionFault::Memory => {}
         },
-        AnalyseFault::Memory => Ok(()),
+        AnalyseFault::Memory => {}
     }
 }
 
@@ -193,7 +190,7 @@ fn explain_subject(
     if inputs.status == 0 {
         explain_pairing(notes, subject)?;
         explain_regions(notes, inputs, board, analysis)?;
-        explain_patch(notes, inputs, board)?;
+        explain_patch(notes, inputs, board);
     }
     explain_pinned(notes, subject, chosen)
 }
@@ -208,7 +205,7 @@ fn explain_chosen(
 {
     explain_unended(notes, subject)?;
     explain_taken(notes, subject, chosen)?;
-    explain_room(notes, chosen, subject.opened.analysis.regions.count)?;
+    explain_room(notes, chosen, subject.opened.analysis.regions.count);
     explain_staying(notes, subject, chosen)?;
     explain_inward(notes, subject, chosen)
 }

@@ -58,17 +58,19 @@ pub(crate) fn explain_fixes<'a>(
         last: None,
     };
     let end = search.follow_faults(subject, first)?;
-    search.say_faults(notes)?;
+    search.say_faults(notes);
     let runs = search.runs;
     let last = search.last;
     let names = search.names;
     let file = inputs.unchecked();
     if let Some(last) = last {
-        say_no_list(notes, &file, &last.fault)?;
-        return say_fault_cure(notes, &file, &last.fault, &last.involved);
+        say_no_list(notes, &file, &last.fault);
+        say_fault_cure(notes, &file, &last.fault, &last.involved);
+        return Ok(());
     }
     if names.is_empty() {
-        return say_fault_cure(notes, &file, &first.fault, &first.involved);
+        say_fault_cure(notes, &file, &first.fault, &first.involved);
+        return Ok(());
     }
     let list = FixList {
         kept: &subject.opened.board.fix,
@@ -76,7 +78,8 @@ pub(crate) fn explain_fixes<'a>(
         runs,
         end,
     };
-    say_fix(notes, &list, &first.fault, &first.involved)
+    say_fix(notes, &list, &first.fault, &first.involved);
+    Ok(())
 }
 
 impl<'a> Search<'a> {
@@ -183,13 +186,13 @@ impl<'a> Search<'a> {
     }
 
     /// The faults that were met while others were kept.
-    fn say_faults(&self, notes: &mut Notes) -> Result<(), AllocError> {
+    fn say_faults(&self, notes: &mut Notes) {
         let file = self.inputs.unchecked();
         for met in self.faults.iter().take(TOLD_FAULTS) {
-            say_further_fault(notes, &file, &met.fault, &met.involved)?;
+            say_further_fault(notes, &file, &met.fault, &met.involved);
         }
         match self.faults.len().checked_sub(TOLD_FAULTS) {
-            None | Some(0) => Ok(()),
+            None | Some(0) => {}
             Some(more) => say_more_faults(notes, more as u64),
         }
     }

@@ -42,19 +42,16 @@ pub(crate) fn explain_inward(
                 notes,
                 &subject.inputs.unchecked(),
                 &InwardCalls { paid, ..made },
-            )?;
+            );
         }
         return Ok(());
     }
-    explain_mixed(notes, subject, &calls)
+    explain_mixed(notes, subject, &calls);
+    Ok(())
 }
 
 /// Those of the runs on the inputs of a mix, which are measured again.
-fn explain_mixed(
-    notes: &mut Notes,
-    subject: &Subject,
-    calls: &[InwardCall],
-) -> Result<(), AllocError>
+fn explain_mixed(notes: &mut Notes, subject: &Subject, calls: &[InwardCall])
     requires { (board_text : List ℕ) × ((file : List ℕ) × IsOpened board_text file subject.now.opened) }
 {
     let inputs = &subject.inputs;
@@ -78,11 +75,10 @@ fn explain_mixed(
                 is_first,
                 ..made
             };
-            say_inward(notes, &inputs.unchecked(), &told)?;
+            say_inward(notes, &inputs.unchecked(), &told);
             is_first = false;
         }
     }
-    Ok(())
 }
 
 /// All inward calls of the code, by what is taken.

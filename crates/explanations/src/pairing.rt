@@ -58,15 +58,16 @@ pub(crate) fn explain_pairing(notes: &mut Notes, subject: &Subject) -> Result<()
     }
     let lows = paired_lows(inputs.alloc, &analysis.view)?;
     if let Some(input) = inputs.input {
-        return match unpaired_on(subject, &lows, input)? {
-            Some(unpaired) => explain_unpaired(notes, inputs, analysis, &unpaired),
-            None => Ok(()),
-        };
+        if let Some(unpaired) = unpaired_on(subject, &lows, input)? {
+            explain_unpaired(notes, inputs, analysis, &unpaired);
+        }
+        return Ok(());
     }
     for (place, input) in inputs.listed.iter().enumerate() {
         if let Some(unpaired) = unpaired_on(subject, &lows, input)? {
-            say_unpaired_input(notes, place as u64 + 1)?;
-            return explain_unpaired(notes, inputs, analysis, &unpaired);
+            say_unpaired_input(notes, place as u64 + 1);
+            explain_unpaired(notes, inputs, analysis, &unpaired);
+            return Ok(());
         }
     }
     Ok(())
@@ -113,7 +114,7 @@ fn explain_unpaired(
     inputs: &Inputs,
     analysis: &Analysis<'_>,
     unpaired: &Unpaired,
-) -> Result<(), AllocError> {
+) {
     let parts = MixedParts {
         low: match unpaired.object {
             Some(object) => object_name(&analysis.view, &analysis.graph, object),
@@ -122,7 +123,7 @@ fn explain_unpaired(
         upper: object_name(&analysis.view, &analysis.graph, unpaired.other),
     };
     if inputs.beside.is_none() {
-        say_measured_unpaired(notes)?;
+        say_measured_unpaired(notes);
     }
-    say_unpaired(notes, &inputs.unchecked(), unpaired, &parts)
+    say_unpaired(notes, &inputs.unchecked(), unpaired, &parts);
 }

@@ -60,16 +60,18 @@ pub(crate) fn explain_pinned(
     let pinned = pinned_sections(inputs.alloc, &analysis.view, &census, &relinked)?;
     if !has_moved {
         let movable = analysis.graph.objects.len() as u64;
-        say_nothing_moved(notes, movable, census.total)?;
+        say_nothing_moved(notes, movable, census.total);
         if !is_cheaper(&board.prices) {
-            return say_prices(notes);
+            say_prices(notes);
+            return Ok(());
         }
         let has_exited = match inputs.end {
             Some(end) => matches!(end.outcome, Outcome::Exited(_)),
             None => false,
         };
         if movable != 0 && pinned.is_empty() && has_exited {
-            return say_short_run(notes);
+            say_short_run(notes);
+            return Ok(());
         }
     }
     say_largest(notes, subject, chosen, &pinned)
@@ -145,9 +147,10 @@ fn say_largest(
         say_section(notes, subject, chosen, second)?;
     }
     match pinned.len().checked_sub(2) {
-        None | Some(0) => Ok(()),
+        None | Some(0) => {}
         Some(more) => say_more_sections(notes, more as u64),
     }
+    Ok(())
 }
 
 /// Whether an anchor alone pins the objects of a section.
@@ -196,5 +199,6 @@ fn say_section(
         label,
         at_stake,
     };
-    say_pinned(notes, &section, &sources)
+    say_pinned(notes, &section, &sources);
+    Ok(())
 }

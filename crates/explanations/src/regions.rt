@@ -26,12 +26,12 @@ pub(crate) fn explain_regions(
         let is_formed = of_block.iter().any(|region| u64::from(*region) == number);
         if !names.is_empty() && !is_formed {
             let barriers = barriers_of(inputs.alloc, analysis, names)?;
-            say_lost_region(notes, &inputs.unchecked(), number, &barriers)?;
+            say_lost_region(notes, &inputs.unchecked(), number, &barriers);
         }
     }
     let is_driven = board.regions.is_empty() && board.driver.as_str() != USUAL_DRIVER;
     if is_driven && of_block.iter().all(|region| *region == 0) {
-        return say_idle_driver(notes, board.driver.as_str());
+        say_idle_driver(notes, board.driver.as_str());
     }
     Ok(())
 }
@@ -78,17 +78,13 @@ fn barred_leader(analysis: &Analysis<'_>, place: u64, function: &Function) -> Op
 }
 
 /// A result that takes most of the patch range.
-pub(crate) fn explain_patch(
-    notes: &mut Notes,
-    inputs: &Inputs,
-    board: &Board,
-) -> Result<(), AllocError> {
+pub(crate) fn explain_patch(notes: &mut Notes, inputs: &Inputs, board: &Board) {
     match inputs.added {
         Some(segment)
             if segment.vaddr == board.patch.base
                 && segment.memsz > board.patch.size.saturating_sub(board.patch.size / 8) => {
             say_full_patch(notes, &board.patch, segment.memsz)
         }
-        _ => Ok(()),
+        _ => {}
     }
 }

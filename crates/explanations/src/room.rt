@@ -3,7 +3,6 @@ use command_line::{ChosenPlacement, Side, Var};
 use explanation_texts::{
     Notes, Room, StayingReason, Used, say_overlay_room, say_patch_room, say_scratchpad_room,
 };
-use std::alloc::AllocError;
 
 /// The rows of a side that are of space: those of the scratchpad, for no region and each region in order, and then that of
 /// the patch range.
@@ -78,25 +77,23 @@ fn weight_in(variable: &Var, row: u32) -> u64 {
 }
 
 /// How full the scratchpad is, in each region, and the patch range.
-pub(crate) fn explain_room(
-    notes: &mut Notes,
-    chosen: &ChosenPlacement,
-    regions: u32,
-) -> Result<(), AllocError> {
+pub(crate) fn explain_room(notes: &mut Notes, chosen: &ChosenPlacement, regions: u32) {
     let Some(space) = space_of(chosen, regions) else {
-        return Ok(());
+        return;
     };
     if space.take.is_empty() {
-        return Ok(());
+        return;
     }
     if chosen.choice.on {
         let mut used = Vec::new(notes.alloc());
         for region in 0..space.patch {
-            used.push(space.used(region))?;
+            if used.push(space.used(region)).is_err() {
+                notes.cut();
+            }
         }
-        say_overlay_room(notes, &used)?;
+        say_overlay_room(notes, &used);
     } else {
-        say_scratchpad_room(notes, space.used(0))?;
+        say_scratchpad_room(notes, space.used(0));
     }
-    say_patch_room(notes, space.used(space.patch))
+    say_patch_room(notes, space.used(space.patch));
 }

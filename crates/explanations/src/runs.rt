@@ -65,16 +65,17 @@ pub(crate) fn explain_run(notes: &mut Notes, subject: &Subject) -> Result<(), Al
         return Ok(());
     };
     if let Some(line) = first.line {
-        say_faulty_input(notes, line)?;
+        say_faulty_input(notes, line);
     }
-    explain_fault(notes, &file, &first.fault, &first.involved)?;
+    explain_fault(notes, &file, &first.fault, &first.involved);
     if explain_itself(notes, analysis, first.fault.pc)? {
         return Ok(());
     }
     if may_keep(&file, &first.fault, &first.involved) {
         return explain_fixes(notes, subject, &first);
     }
-    say_fault_cure(notes, &file, &first.fault, &first.involved)
+    say_fault_cure(notes, &file, &first.fault, &first.involved);
+    Ok(())
 }
 
 /// Whether the function that has the byte at an address calls itself, and is one that compilers call in place of loops. It says so
@@ -90,7 +91,7 @@ fn explain_itself(
             && CALLED_FOR_LOOPS.contains(&name)
             && calls(&analysis.code, number, function.start)
         {
-            say_calling_itself(notes, name)?;
+            say_calling_itself(notes, name);
             return Ok(true);
         }
     }
@@ -170,18 +171,14 @@ fn faulty_run<'a>(
 }
 
 /// A measured run that did not come to its program's end.
-pub(crate) fn explain_end(
-    notes: &mut Notes,
-    file: &UncheckedFile,
-    end: &MeasuredEnd,
-) -> Result<(), AllocError> {
+pub(crate) fn explain_end(notes: &mut Notes, file: &UncheckedFile, end: &MeasuredEnd) {
     if let Some(segment) = file.segment_loaded_apart() {
-        say_load_address(notes, file, &segment)?;
+        say_load_address(notes, file, &segment);
     }
     match end.outcome {
         Outcome::Trapped { pc } => say_trapped(notes, file, end.steps, pc),
         Outcome::GoesOn => say_still_running(notes, file, end.steps, end.at),
-        Outcome::Exited(_) | Outcome::AddressFault { .. } => Ok(()),
+        Outcome::Exited(_) | Outcome::AddressFault { .. } => {}
     }
 }
 

@@ -57,11 +57,7 @@ pub(crate) fn thousandths(energy: u128, whole: u128) -> u64 {
 }
 
 /// How much of the energy a choice saves.
-pub(crate) fn explain_saved(
-    notes: &mut Notes,
-    inputs: &Inputs,
-    chosen: &ChosenPlacement,
-) -> Result<(), AllocError> {
+pub(crate) fn explain_saved(notes: &mut Notes, inputs: &Inputs, chosen: &ChosenPlacement) {
     let base = chosen.programme.base;
     let saved = saved_by(chosen);
     let of = match &inputs.end {
@@ -69,7 +65,7 @@ pub(crate) fn explain_saved(
         Some(end) if end.outcome == Outcome::GoesOn => Measured::Steps,
         Some(_) => Measured::Run,
     };
-    say_saved(notes, thousandths(saved, base), of)
+    say_saved(notes, thousandths(saved, base), of);
 }
 
 /// What a choice saves: what its variables gain, less the fixed cost of their side.
@@ -101,13 +97,13 @@ pub(crate) fn explain_taken(
     let base = chosen.programme.base;
     for item in items.iter().rev().take(TOLD_ITEMS) {
         let told = moved_item(analysis, item, base);
-        say_moved_item(notes, &told, &subject.inputs.unchecked())?;
+        say_moved_item(notes, &told, &subject.inputs.unchecked());
     }
-    explain_more(notes, &items, base)?;
-    if items.is_empty() {
-        return Ok(());
+    explain_more(notes, &items, base);
+    if !items.is_empty() {
+        say_fixed_cost(notes, thousandths(side.fixed, base));
     }
-    say_fixed_cost(notes, thousandths(side.fixed, base))
+    Ok(())
 }
 
 /// The items that a choice takes, by what they save, ascending.
@@ -134,16 +130,16 @@ fn taken_items(
 }
 
 /// What the items save that are not told one by one.
-fn explain_more(notes: &mut Notes, items: &[TakenItem], base: u128) -> Result<(), AllocError> {
+fn explain_more(notes: &mut Notes, items: &[TakenItem], base: u128) {
     let count = items.len().saturating_sub(TOLD_ITEMS);
     let mut gain: u128 = 0;
     for item in items.iter().take(count) {
         gain = gain.saturating_add(item.gain);
     }
     if count == 0 {
-        return Ok(());
+        return;
     }
-    say_more_items(notes, count as u64, thousandths(gain, base))
+    say_more_items(notes, count as u64, thousandths(gain, base));
 }
 
 fn moved_item<'a>(analysis: &Analysis<'a>, item: &TakenItem, base: u128) -> MovedItem<'a> {

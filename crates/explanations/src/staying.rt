@@ -66,19 +66,15 @@ pub(crate) fn explain_staying(
     let base = chosen.programme.base;
     for item in items.iter().rev().take(TOLD_ITEMS) {
         if thousandths(item.energy, base) >= LEAST_SHARE {
-            explain_item(notes, subject, chosen, &energies, item)?;
+            explain_item(notes, subject, chosen, &energies, item);
         }
     }
-    explain_rest(notes, analysis, &energies, base)
+    explain_rest(notes, analysis, &energies, base);
+    Ok(())
 }
 
 /// What no item explains: reads and writes of what may not move.
-fn explain_rest(
-    notes: &mut Notes,
-    analysis: &Analysis<'_>,
-    energies: &Energies,
-    base: u128,
-) -> Result<(), AllocError> {
+fn explain_rest(notes: &mut Notes, analysis: &Analysis<'_>, energies: &Energies, base: u128) {
     let mut rest = base;
     for block in 0..analysis.code.blocks.len() {
         rest = rest.saturating_sub(energies.of_block(block));
@@ -88,9 +84,9 @@ fn explain_rest(
     }
     let share = thousandths(rest, base);
     if share < LEAST_SHARE {
-        return Ok(());
+        return;
     }
-    say_staying_rest(notes, share)
+    say_staying_rest(notes, share);
 }
 
 /// All functions with blocks that stay, and all objects that may move and stay, by energy, ascending.
@@ -223,10 +219,10 @@ fn explain_item(
     chosen: &ChosenPlacement,
     energies: &Energies,
     item: &Staying,
-) -> Result<(), AllocError> {
+) {
     let analysis = &subject.opened.analysis;
     let Some(space) = space_of(chosen, analysis.regions.count) else {
-        return Ok(());
+        return;
     };
     let told = StayingItem {
         share: thousandths(item.energy, chosen.programme.base),
@@ -237,7 +233,7 @@ fn explain_item(
             Part::Object(object) => object_reason(subject, &space, energies, object),
         },
     };
-    say_staying(notes, &told)
+    say_staying(notes, &told);
 }
 
 fn part_name<'a>(analysis: &Analysis<'a>, part: Part) -> &'a [u8] {

@@ -22,13 +22,11 @@ pub(crate) fn explain_unended(notes: &mut Notes, subject: &Subject) -> Result<()
             count = count.saturating_add(1);
         }
     }
-    match first {
-        Some((line, end)) => {
-            say_unended_inputs(notes, count, line)?;
-            explain_end(notes, &subject.inputs.unchecked(), &end)
-        }
-        None => Ok(()),
+    if let Some((line, end)) = first {
+        say_unended_inputs(notes, count, line);
+        explain_end(notes, &subject.inputs.unchecked(), &end);
     }
+    Ok(())
 }
 
 /// How the run on an input ended, if the program neither exited nor met an address fault. A file that exits within the board's
