@@ -12,7 +12,7 @@ use Rattle.certificate_checker.specs.Shows.{IsAccepted, in_32_bits, Answers}
 use Rattle.certificate_checker.specs.Reading.{◌>>=◌, number_in, vars_at, flag_at, choice_at, tree_at, most_levels, PlainTrees, second_at, trees_at, trees_for, body_at}
 use Rattle.certificate_checker.specs.Spelling.{has_tree}
 use Rattle.certificate_checker.specs.Walks.{SideAnswers}
-use Rattle.certificate_checker.specs.Rooms.{AreTaken, vars_of, IsBest, used, verdict_for, KeepsChoice}
+use Rattle.certificate_checker.specs.Rooms.{AreTaken, vars_of, IsBest, AnswersFor, gain_if, gain_behind, verdict_for, KeepsChoice}
 use Rattle.certificate_checker.proofs.NumberLaws.{chosen}
 use Rattle.certificate_checker.proofs.FieldLaws.{bind_ok, done, done_is}
 use Rattle.certificate_checker.proofs.Failures.{number_here}
@@ -111,7 +111,7 @@ at_start : (n m : ℕ) → m ≡ in_32_bits (0 + n) → m ≡ in_32_bits n
 at_start n m is = let same : 0 + n ≡ n = omega arith in subst (λ k. m ≡ in_32_bits k) same is
 
 -- the verdict is the certificate's answer
-pub verdict_right : (p : PlainProgramme) (c : PlainCertificate) (kept : PlainChoice) (best : Option ℕ) (claimed : Bool) (off on : Result (Unit {0}) Failing) → IsBest p c.choice kept best → has_tree c.off ≡ claimed → (claimed ≡ false → c.on ≡ None) → SideAnswers (Some p.off) (used best) c.off off → SideAnswers p.on (used best) c.on on → Answers p c (verdict_for best claimed off on) × KeepsChoice c.choice kept (verdict_for best claimed off on)
+pub verdict_right : (p : PlainProgramme) (c : PlainCertificate) (kept : PlainChoice) (best : Option ℕ) (claimed : Bool) (off on : Result (Unit {0}) Failing) → IsBest p c.choice kept best → has_tree c.off ≡ claimed → (claimed ≡ false → c.on ≡ None) → AnswersFor (Some p.off) best c.off off → AnswersFor p.on (gain_behind best off) c.on on → Answers p c (verdict_for best claimed off on) × KeepsChoice c.choice kept (verdict_for best claimed off on)
 verdict_right p c kept None claimed off on is has none a b = (is, tt)
 verdict_right p c kept (Some g) false off on is has none a b = (((g, is.0), no_tree c.off has, none refl), is.1)
 verdict_right p c kept (Some g) true (Err f) on is has none a b =
@@ -125,6 +125,16 @@ verdict_right p c kept (Some g) true (Ok u) (Ok v) is has none a b =
 pub body_read : (total : ℕ) (bytes : List ℕ) (claimed : Bool) (r0 : List ℕ) (c : PlainChoice) (r1 : List ℕ) (ts : PlainTrees) (r2 : List ℕ) → flag_at total bytes ≡ Ok (claimed, r0) → choice_at total r0 ≡ Ok (c, r1) → trees_for claimed total r1 ≡ Ok (ts, r2) → length r2 ≡ 0 → body_at total bytes ≡ Ok (record { choice = c; off = ts.0; on = ts.1 })
 unfolding body_at
 body_read total bytes claimed r0 c r1 ts r2 x y z none = rw (x, y, z, none) refl
+
+-- a side that is answered for each gain
+pub answered : (side : Option PlainSide) (t : Option PlainTree) (r : Result (Unit {0}) Failing) (best : Option ℕ) → ((b : ℕ) → SideAnswers side b t r) → AnswersFor side best t r
+answered side t r None each = tt
+answered side t r (Some b) each = each b
+
+-- a tree that is judged is answered
+pub judged_answers : (side : Option PlainSide) (judged : Bool) (best : ℕ) (t : Option PlainTree) (r : Result (Unit {0}) Failing) → (judged ≡ true → SideAnswers side best t r) → AnswersFor side (gain_if judged best) t r
+judged_answers side false best t r told = tt
+judged_answers side true best t r told = told refl
 
 -- a missing tree fails at its node 0
 pub missing_first : (s : PlainSide) (best : ℕ) (r : Result (Unit {0}) Failing) → r ≡ Err record { node = 0; depth = 0 } → SideAnswers (Some s) best None r

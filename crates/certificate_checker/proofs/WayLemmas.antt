@@ -8,8 +8,8 @@ use Rattle.certificate_checker.specs.Rules.{BranchHolds, Holds, FirstWrong}
 use Rattle.certificate_checker.specs.Shows.{all_free, in_32_bits}
 use Rattle.certificate_checker.specs.Walks.{Walks}
 use Rattle.certificate_checker.specs.Reading.{◌>>=◌, number_in, tree_at}
-use Rattle.certificate_checker.specs.Loading.{behind_of, both_of}
-use Rattle.certificate_checker.specs.Ways.{Step, to_zero, to_one, marks_at, node_at, HeldBefore, Completes, resumed, written_step, step_to_one, step_in, HasWay, SoFar, HoldsWith, Behind, TreeText, text_of, IsBefore, IsBehind, MayMark, marked, StandsAt, IfEnded, CanRise}
+use Rattle.certificate_checker.specs.Loading.{WalksOn}
+use Rattle.certificate_checker.specs.Ways.{Step, to_zero, to_one, marks_at, node_at, HeldBefore, Completes, resumed, written_step, step_to_one, step_in, HasWay, SoFar, HoldsWith, Behind, TreeText, text_of, IsBefore, IsBehind, MayMark, marked, StandsAt, IfEnded, CanRise, first_answer}
 use Rattle.certificate_checker.specs.declared.fault.CertFault.{CertFault}
 use Rattle.certificate_checker.specs.declared.fields.Part.TheVariants.{Node}
 use Rattle.certificate_checker.specs.declared.steps.PathStep.{PathStep}
@@ -35,9 +35,9 @@ way_pushed : (path : List PathStep) (last : Step) (way : List Step) (k : ℕ) (s
 way_pushed path last way k step long inside is has =
     (ap (step_in (slice_set path k step)) long ∙ (get_or-set_same path k step (written_step (to_zero 0)) inside ∙ is), way_kept path way k step (omega (arith, long)) has)
 
-behind_way : (s : PlainSide) (best : ℕ) (way : List Step) (t : PlainTree) (path : List PathStep) (marks : List Fixing) (o : Result ℕ Failing) → Behind s best way t path marks o → HasWay path way
-behind_way s best way t path marks (Ok next) b = b.written
-behind_way s best way t path marks (Err f) b = b.0
+behind_way : (s : PlainSide) (judged : Bool) (best : ℕ) (way : List Step) (t : PlainTree) (path : List PathStep) (marks : List Fixing) (o : Result ℕ Failing) → Behind s judged best way t path marks o → HasWay path way
+behind_way s judged best way t path marks (Ok next) b = b.written
+behind_way s judged best way t path marks (Err f) b = b.0
 
 -- a variable that a branch fixed to one is free again
 freed : (s : PlainSide) (way : List Step) (j : ℕ) (marks : List Fixing) → BranchHolds s (marks_at s way) j → marks ≡ slice_set (marks_at s way) j One → slice_set marks j Free ≡ marks_at s way
@@ -77,7 +77,7 @@ branch_read : (total levels : ℕ) (bytes : List ℕ) (var : ℕ) (rest : List �
 unfolding tree_at
 branch_read total levels bytes var rest is = rw is refl
 
-pub entered : (x : TreeText) (path : List PathStep) (marks : List Fixing) (newer : List PathStep) (fixed : List Fixing) (depth next : ℕ) (o p : Result ℕ Failing) (bytes : List ℕ) (var : ℕ) (rest : List ℕ) → depth < x.levels → next ≡ depth + 1 → number_in Node 0 4294967295 x.total bytes ≡ Ok (var, rest) → (before : IsBefore x path marks depth o (0 ∷ bytes)) → SoFar x.side x.best (to_zero var ∷ before.way) newer fixed p → IsBefore x newer fixed next p rest
+pub entered : (x : TreeText) (path : List PathStep) (marks : List Fixing) (newer : List PathStep) (fixed : List Fixing) (depth next : ℕ) (o p : Result ℕ Failing) (bytes : List ℕ) (var : ℕ) (rest : List ℕ) → depth < x.levels → next ≡ depth + 1 → number_in Node 0 4294967295 x.total bytes ≡ Ok (var, rest) → (before : IsBefore x path marks depth o (0 ∷ bytes)) → SoFar x.side x.judged x.best (to_zero var ∷ before.way) newer fixed p → IsBefore x newer fixed next p rest
 entered x path marks newer fixed depth next o p bytes var rest deep is_next is before after =
     let way = before.way in
     let long = before.long in
@@ -93,8 +93,8 @@ entered x path marks newer fixed depth next o p bytes var rest deep is_next is b
       so_far = after;
     }
 
-pub enters_failed : (s : PlainSide) (best : ℕ) (way : List Step) (path : List PathStep) (marks : List Fixing) (depth var : ℕ) (f : Failing) → length way ≡ depth → depth < length path → SoFar s best way path marks (Err f) → SoFar s best (to_zero var ∷ way) (slice_set path depth (written_step (to_zero var))) marks (Err f)
-enters_failed s best way path marks depth var f long inside before =
+pub enters_failed : (s : PlainSide) (judged : Bool) (best : ℕ) (way : List Step) (path : List PathStep) (marks : List Fixing) (depth var : ℕ) (f : Failing) → length way ≡ depth → depth < length path → SoFar s judged best way path marks (Err f) → SoFar s judged best (to_zero var ∷ way) (slice_set path depth (written_step (to_zero var))) marks (Err f)
+enters_failed s judged best way path marks depth var f long inside before =
     (way_pushed path (to_zero var) way depth (written_step (to_zero var)) long inside refl before.0, λ t whole c. before.1 (branch var t c.0) whole c.1)
 
 number_flat : (n : ℕ) → n < 2 ^ 32 → n ≡ in_32_bits n
@@ -108,11 +108,11 @@ number_on a b node next first second = omega arith
 number_zero : (n k : ℕ) → k ≡ in_32_bits n → k ≡ in_32_bits (0 + n)
 number_zero n k is = let same : n ≡ 0 + n = omega arith in is ∙ ap in_32_bits same
 
-pub enters_wrong : (s : PlainSide) (best : ℕ) (way : List Step) (path : List PathStep) (marks : List Fixing) (depth node var : ℕ) (f : Failing) → length way ≡ depth → depth < length path → depth < 2 ^ 32 → f.node ≡ node → f.depth ≡ depth → (BranchHolds s marks var → ⊥) → SoFar s best way path marks (Ok node) → SoFar s best (to_zero var ∷ way) (slice_set path depth (written_step (to_zero var))) marks (Err f)
-enters_wrong s best way path marks depth node var f long inside small is_node is_depth broken before =
+pub enters_wrong : (s : PlainSide) (judged : Bool) (best : ℕ) (way : List Step) (path : List PathStep) (marks : List Fixing) (depth node var : ℕ) (f : Failing) → length way ≡ depth → depth < length path → depth < 2 ^ 32 → f.node ≡ node → f.depth ≡ depth → (BranchHolds s marks var → ⊥) → SoFar s judged best way path marks (Ok node) → SoFar s judged best (to_zero var ∷ way) (slice_set path depth (written_step (to_zero var))) marks (Err f)
+enters_wrong s judged best way path marks depth node var f long inside small is_node is_depth broken before =
     let missed : BranchHolds s (marks_at s way) var → ⊥ = subst (λ (ms : List Fixing). BranchHolds s ms var → ⊥) before.fixed broken in (
       way_pushed path (to_zero var) way depth (written_step (to_zero var)) long inside refl before.written,
-      λ t whole c. (
+      λ t whole c judging. (
         node_at way,
         (
           depth,
@@ -125,8 +125,8 @@ enters_wrong s best way path marks depth node var f long inside small is_node is
       ),
     )
 
-pub enters_held : (s : PlainSide) (best : ℕ) (way : List Step) (path : List PathStep) (marks : List Fixing) (depth node next var : ℕ) → length way ≡ depth → depth < length path → next ≡ in_32_bits (node + 1) → BranchHolds s marks var → SoFar s best way path marks (Ok node) → SoFar s best (to_zero var ∷ way) (slice_set path depth (written_step (to_zero var))) (slice_set marks var Zero) (Ok next)
-enters_held s best way path marks depth node next var long inside is_next rule before =
+pub enters_held : (s : PlainSide) (judged : Bool) (best : ℕ) (way : List Step) (path : List PathStep) (marks : List Fixing) (depth node next var : ℕ) → length way ≡ depth → depth < length path → next ≡ in_32_bits (node + 1) → BranchHolds s marks var → SoFar s judged best way path marks (Ok node) → SoFar s judged best (to_zero var ∷ way) (slice_set path depth (written_step (to_zero var))) (slice_set marks var Zero) (Ok next)
+enters_held s judged best way path marks depth node next var long inside is_next rule before =
     record {
       written = way_pushed path (to_zero var) way depth (written_step (to_zero var)) long inside refl before.written;
       fixed = ap (λ (ms : List Fixing). slice_set ms var Zero) before.fixed;
@@ -135,47 +135,48 @@ enters_held s best way path marks depth node next var long inside is_next rule b
     }
 
 -- a tree that is one node is read
-pub joined : (s : PlainSide) (best : ℕ) (way : List Step) (t : PlainTree) (path : List PathStep) (marks : List Fixing) (node depth : ℕ) (o p : Result ℕ Failing) → length way ≡ depth → node ≡ behind_of o → SoFar s best way path marks o → Walks s best marks t node depth p → Behind s best way t path marks (both_of o p)
-joined s best way t path marks node depth (Err f) p long is before walks = (before.0, λ whole c. before.1 t whole c)
-joined s best way t path marks node depth (Ok k) (Ok next) long is before walks =
+joined : (s : PlainSide) (judged : Bool) (best : ℕ) (way : List Step) (t : PlainTree) (path : List PathStep) (marks : List Fixing) (depth : ℕ) (o p : Result ℕ Failing) → length way ≡ depth → SoFar s judged best way path marks o → WalksOn s best marks t o depth p → Behind s judged best way t path marks p
+joined s judged best way t path marks depth (Err f) p long before is =
+    subst (λ (q : Result ℕ Failing). Behind s judged best way t path marks q) (sym is) (before.0, λ whole c. before.1 t whole c)
+joined s judged best way t path marks depth (Ok node) (Ok next) long before walks =
     record {
       written = before.written;
       fixed = before.fixed;
-      number = number_on (node_at way) (size t) node next (is ∙ before.number) walks.1;
+      number = number_on (node_at way) (size t) node next before.number walks.1;
       tree = subst (λ (ms : List Fixing). Holds s best ms t) before.fixed walks.0;
       held = before.held;
     }
-joined s best way t path marks node depth (Ok k) (Err f) long is before walks =
+joined s judged best way t path marks depth (Ok node) (Err f) long before walks =
     let n = walks.0 in
     let d = walks.1.0 in
     let wrong = subst (λ (ms : List Fixing). FirstWrong s best ms t n d) before.fixed walks.1.1.0 in (
       before.written,
-      λ whole c. (
+      λ whole c judging. (
         node_at way + n,
         (
           depth + d,
           (
             fails_up s best way t whole n d (node_at way + n) (depth + d) refl (omega (arith, long)) before.held wrong c,
-            (number_zero (node_at way + n) f.node (number_on (node_at way) n node f.node (is ∙ before.number) walks.1.1.1.0), number_zero (depth + d) f.depth walks.1.1.1.1),
+            (number_zero (node_at way + n) f.node (number_on (node_at way) n node f.node before.number walks.1.1.1.0), number_zero (depth + d) f.depth walks.1.1.1.1),
           ),
         ),
       ),
     )
 
-pub single_read : (x : TreeText) (path : List PathStep) (marks : List Fixing) (node depth : ℕ) (o p : Result ℕ Failing) (bytes rest : List ℕ) (t : PlainTree) → node ≡ behind_of o → tree_at x.total (x.levels - depth) bytes ≡ Ok (t, rest) → Walks x.side x.best marks t node depth p → IsBefore x path marks depth o bytes → IsBehind x path marks depth (both_of o p) rest
-single_read x path marks node depth o p bytes rest t is is_read walks before =
+pub single_read : (x : TreeText) (path : List PathStep) (marks : List Fixing) (depth : ℕ) (o p : Result ℕ Failing) (bytes rest : List ℕ) (t : PlainTree) → tree_at x.total (x.levels - depth) bytes ≡ Ok (t, rest) → WalksOn x.side x.best marks t o depth p → IsBefore x path marks depth o bytes → IsBehind x path marks depth p rest
+single_read x path marks depth o p bytes rest t is_read walks before =
     record {
       way = before.way;
       tree = t;
       long = before.long;
       read = ap (resumed x.total x.levels before.way) (sym is_read) ∙ before.read;
-      so_far = joined x.side x.best before.way t path marks node depth o p before.long is before.so_far walks;
+      so_far = joined x.side x.judged x.best before.way t path marks depth o p before.long before.so_far walks;
     }
 
 -- from the child for one the way goes up to its branch
-rises : (s : PlainSide) (best : ℕ) (j : ℕ) (l : PlainTree) (way : List Step) (t : PlainTree) (path : List PathStep) (marks : List Fixing) (last : ℕ) (o : Result ℕ Failing) → length way ≡ last → Behind s best (to_one j l ∷ way) t path marks o → Behind s best way (branch j l t) path (marked marks (step_in path last).var Free o) o
-rises s best j l way t path marks last (Err f) long b = (b.0.1, λ whole c. b.1 whole c)
-rises s best j l way t path marks last (Ok next) long b =
+rises : (s : PlainSide) (judged : Bool) (best : ℕ) (j : ℕ) (l : PlainTree) (way : List Step) (t : PlainTree) (path : List PathStep) (marks : List Fixing) (last : ℕ) (o : Result ℕ Failing) → length way ≡ last → Behind s judged best (to_one j l ∷ way) t path marks o → Behind s judged best way (branch j l t) path (marked marks (step_in path last).var Free o) o
+rises s judged best j l way t path marks last (Err f) long b = (b.0.1, λ whole c. b.1 whole c)
+rises s judged best j l way t path marks last (Ok next) long b =
     let var : (step_in path last).var ≡ j = ap (λ (i : ℕ). (step_in path i).var) (sym long) ∙ ap (λ (step : PathStep). step.var) b.written.0 in
     let same : node_at way + (1 + size l) + size t ≡ node_at way + (1 + size l + size t) = omega arith in
     record {
@@ -187,11 +188,11 @@ rises s best j l way t path marks last (Ok next) long b =
     }
 
 -- from the child for zero the way turns to that for one
-turns : (s : PlainSide) (best : ℕ) (j : ℕ) (way : List Step) (t : PlainTree) (path : List PathStep) (marks : List Fixing) (last : ℕ) (o : Result ℕ Failing) → length way ≡ last → last < length path → Behind s best (to_zero j ∷ way) t path marks o → SoFar s best (to_one j t ∷ way) (slice_set path last (step_to_one (step_in path last))) (marked marks (step_in path last).var One o) o
-turns s best j way t path marks last (Err f) long inside b =
+turns : (s : PlainSide) (judged : Bool) (best : ℕ) (j : ℕ) (way : List Step) (t : PlainTree) (path : List PathStep) (marks : List Fixing) (last : ℕ) (o : Result ℕ Failing) → length way ≡ last → last < length path → Behind s judged best (to_zero j ∷ way) t path marks o → SoFar s judged best (to_one j t ∷ way) (slice_set path last (step_to_one (step_in path last))) (marked marks (step_in path last).var One o) o
+turns s judged best j way t path marks last (Err f) long inside b =
     let other = ap (λ (i : ℕ). step_to_one (step_in path i)) (sym long) ∙ ap step_to_one b.0.0 in
     (way_pushed path (to_one j t) way last (step_to_one (step_in path last)) long inside other b.0.1, λ r whole c. b.1 whole (r, c))
-turns s best j way t path marks last (Ok next) long inside b =
+turns s judged best j way t path marks last (Ok next) long inside b =
     let step : step_in path last ≡ written_step (to_zero j) = ap (step_in path) (sym long) ∙ b.written.0 in
     let var = ap (λ (step : PathStep). step.var) step in
     let same : node_at way + 1 + size t ≡ node_at way + (1 + size t) = omega arith in
@@ -205,24 +206,24 @@ turns s best j way t path marks last (Ok next) long inside b =
 pub risen : (x : TreeText) (path : List PathStep) (marks : List Fixing) (depth last : ℕ) (o : Result ℕ Failing) (rest : List ℕ) → depth ≡ suc last → (step_in path last).taken ≡ true → IsBehind x path marks depth o rest → IsBehind x path (marked marks (step_in path last).var Free o) last o rest
 risen x path marks depth last o rest is taken b = at b.way b.tree b.long b.read b.so_far
   where
-    at : (way : List Step) (t : PlainTree) → length way ≡ depth → resumed x.total x.levels way (Ok (t, rest)) ≡ tree_at x.total x.levels x.bytes → Behind x.side x.best way t path marks o → IsBehind x path (marked marks (step_in path last).var Free o) last o rest
+    at : (way : List Step) (t : PlainTree) → length way ≡ depth → resumed x.total x.levels way (Ok (t, rest)) ≡ tree_at x.total x.levels x.bytes → Behind x.side x.judged x.best way t path marks o → IsBehind x path (marked marks (step_in path last).var Free o) last o rest
     at [] t long read b = absurd (omega (arith, long, is))
     at (to_zero j ∷ way) t long read b =
         let last_is : last ≡ length way = omega (arith, long, is) in
-        let left_out : (step_in path last).taken ≡ false = ap (λ (i : ℕ). (step_in path i).taken) last_is ∙ ap (λ (step : PathStep). step.taken) (behind_way x.side x.best (to_zero j ∷ way) t path marks o b).0 in
+        let left_out : (step_in path last).taken ≡ false = ap (λ (i : ℕ). (step_in path i).taken) last_is ∙ ap (λ (step : PathStep). step.taken) (behind_way x.side x.judged x.best (to_zero j ∷ way) t path marks o b).0 in
         absurd (let is_taken = taken in cc)
     at (to_one j l ∷ way) t long read b =
         let shorter : length way ≡ last = omega (arith, long, is) in
-        record { way = way; tree = branch j l t; long = shorter; read = read; so_far = rises x.side x.best j l way t path marks last o shorter b }
+        record { way = way; tree = branch j l t; long = shorter; read = read; so_far = rises x.side x.judged x.best j l way t path marks last o shorter b }
 
 pub turned : (x : TreeText) (path : List PathStep) (marks : List Fixing) (depth last : ℕ) (o : Result ℕ Failing) (rest : List ℕ) → depth ≡ suc last → last < length path → (step_in path last).taken ≡ false → IsBehind x path marks depth o rest → IsBefore x (slice_set path last (step_to_one (step_in path last))) (marked marks (step_in path last).var One o) depth o rest
 turned x path marks depth last o rest is inside left_out b = at b.way b.tree b.long b.read b.so_far
   where
-    at : (way : List Step) (t : PlainTree) → length way ≡ depth → resumed x.total x.levels way (Ok (t, rest)) ≡ tree_at x.total x.levels x.bytes → Behind x.side x.best way t path marks o → IsBefore x (slice_set path last (step_to_one (step_in path last))) (marked marks (step_in path last).var One o) depth o rest
+    at : (way : List Step) (t : PlainTree) → length way ≡ depth → resumed x.total x.levels way (Ok (t, rest)) ≡ tree_at x.total x.levels x.bytes → Behind x.side x.judged x.best way t path marks o → IsBefore x (slice_set path last (step_to_one (step_in path last))) (marked marks (step_in path last).var One o) depth o rest
     at [] t long read b = absurd (omega (arith, long, is))
     at (to_one j l ∷ way) t long read b =
         let last_is : last ≡ length way = omega (arith, long, is) in
-        let taken : (step_in path last).taken ≡ true = ap (λ (i : ℕ). (step_in path i).taken) last_is ∙ ap (λ (step : PathStep). step.taken) (behind_way x.side x.best (to_one j l ∷ way) t path marks o b).0 in
+        let taken : (step_in path last).taken ≡ true = ap (λ (i : ℕ). (step_in path i).taken) last_is ∙ ap (λ (step : PathStep). step.taken) (behind_way x.side x.judged x.best (to_one j l ∷ way) t path marks o b).0 in
         absurd (let is_left_out = left_out in cc)
     at (to_zero j ∷ way) t long read b =
         let shorter : length way ≡ last = omega (arith, long, is) in
@@ -230,7 +231,7 @@ turned x path marks depth last o rest is inside left_out b = at b.way b.tree b.l
           way = to_one j t ∷ way;
           long = long;
           read = ap (λ (n : ℕ). resumed x.total x.levels (to_one j t ∷ way) (tree_at x.total (x.levels - n) rest)) (sym long) ∙ read;
-          so_far = turns x.side x.best j way t path marks last o shorter inside b;
+          so_far = turns x.side x.judged x.best j way t path marks last o shorter inside b;
         }
 
 -- the variable of the last step is one of the side
@@ -251,15 +252,31 @@ last_marked x path marks depth (Ok next) rest some wide b = at b.way b.tree b.lo
         marked_last j (length way) (omega (arith, long, some)) (ap (λ (step : PathStep). step.var) b.written.0) b.held.0.inside
 
 -- the walk begins at the root, and ends behind it
-pub at_root : (s : PlainSide) (best total levels : ℕ) (bytes : List ℕ) (path : List PathStep) (marks : List Fixing) → marks ≡ all_free s → IsBefore (text_of s best total levels bytes) path marks 0 (Ok 0) bytes
-at_root s best total levels bytes path marks unfixed =
+pub at_root : (s : PlainSide) (judged : Bool) (best total levels : ℕ) (bytes : List ℕ) (path : List PathStep) (marks : List Fixing) (first : Result ℕ Failing) → marks ≡ all_free s → first ≡ first_answer judged → IsBefore (text_of s judged best total levels bytes) path marks 0 first bytes
+at_root s judged best total levels bytes path marks first unfixed is =
     let all : levels - 0 ≡ levels = omega arith in
     record {
       way = [];
       long = refl;
       read = ap (λ (n : ℕ). tree_at total n bytes) all;
-      so_far = record { written = tt; fixed = unfixed; number = number_flat 0 (omega arith); held = tt };
+      so_far = subst (λ (o : Result ℕ Failing). SoFar s judged best [] path marks o) (sym is) (from_first judged);
     }
+  where
+    from_first : (j : Bool) → SoFar s j best [] path marks (first_answer j)
+    from_first true = record { written = tt; fixed = unfixed; number = number_flat 0 (omega arith); held = tt }
+    from_first false = (tt, λ t whole c judging. absurd (let other : false ≡ true = judging in cc))
+
+pub walked : (x : TreeText) (path : List PathStep) (marks : List Fixing) (depth : ℕ) (o : Result ℕ Failing) (rest : List ℕ) → depth ≡ 0 → IsBehind x path marks depth o rest → (t : PlainTree) × ((tree_at x.total x.levels x.bytes ≡ Ok (t, rest)) × (x.judged ≡ true → Walks x.side x.best (all_free x.side) t 0 0 o))
+walked x path marks depth o rest is b = at b.way b.tree b.long b.read b.so_far
+  where
+    told : (t : PlainTree) (p : Result ℕ Failing) → Behind x.side x.judged x.best [] t path marks p → x.judged ≡ true → Walks x.side x.best (all_free x.side) t 0 0 p
+    told t (Ok next) b judging = (b.tree, b.number)
+    told t (Err f) b judging = b.1 t refl judging
+
+    at : (way : List Step) (t : PlainTree) → length way ≡ depth → resumed x.total x.levels way (Ok (t, rest)) ≡ tree_at x.total x.levels x.bytes → Behind x.side x.judged x.best way t path marks o → (u : PlainTree) × ((tree_at x.total x.levels x.bytes ≡ Ok (u, rest)) × (x.judged ≡ true → Walks x.side x.best (all_free x.side) u 0 0 o))
+    at [] t long read b = (t, (sym read, told t o b))
+    at (to_zero j ∷ way) t long read b = absurd (omega (arith, long, is))
+    at (to_one j l ∷ way) t long read b = absurd (omega (arith, long, is))
 
 -- a step forward can be taken as long as the walk isn't done
 pub can_advance : (x : TreeText) (path : List PathStep) (marks : List Fixing) (depth : ℕ) (ended : Bool) (o : Result ℕ Failing) (rest : List ℕ) → length x.side.vars ≤ length marks → ((ended ≡ true) × (depth ≡ 0) → ⊥) → StandsAt x path marks depth ended o rest → IfEnded ended (CanRise path marks depth o)

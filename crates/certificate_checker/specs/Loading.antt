@@ -1,5 +1,5 @@
 -- What reading a dual node's rows into prices leaves, and what a walk over the text of a tree answers.
-use Rattle.std.specs.Prelude.{◌≡◌, ℕ, ◌*◌, ◌^◌, ◌<◌, ◌≤◌, List, [], ◌∷◌, length, slice_index, Result, Ok, Err}
+use Rattle.std.specs.Prelude.{◌≡◌, ℕ, ◌*◌, ◌^◌, ◌<◌, ◌≤◌, Bool, true, List, [], ◌∷◌, length, slice_index, Result, Ok, Err}
 use Rattle.std.specs.Borrow.{Bor}
 use Rattle.std.specs.List.{sum_by}
 use Rattle.placement_programme.specs.Plain.{PlainSide}
@@ -7,6 +7,7 @@ use Rattle.placement_programme.specs.Bounds.{RowsWithin, row_of, value_of}
 use Rattle.certificate_checker.specs.Nodes.{PlainTree, branch, over, dual, leaf}
 use Rattle.certificate_checker.specs.Reading.{cut_off}
 use Rattle.certificate_checker.specs.Rules.{price}
+use Rattle.certificate_checker.specs.Shows.{all_free}
 use Rattle.certificate_checker.specs.Walks.{Walks}
 use Rattle.certificate_checker.specs.declared.fault.CertFault.{CertFault}
 use Rattle.certificate_checker.specs.declared.walking.Failing.{Failing}
@@ -42,14 +43,26 @@ WalksRead s best marks node depth (Ok x) read =
     (t : PlainTree) × ((read ≡ Ok (t, x.1.now)) × Walks s best marks t node depth x.0)
 WalksRead s best marks node depth (Err e) read = read ≡ Err e
 
--- the number behind a child, and what two children answer
-abbrev pub behind_of : Result ℕ Failing → ℕ
-behind_of (Ok next) = next
-behind_of (Err f) = 0
+-- a node's answer behind others: its own where they hold, else that of the first that fails
+abbrev pub WalksOn : PlainSide → ℕ → List Fixing → PlainTree → Result ℕ Failing → ℕ → Result ℕ Failing → Type 0
+WalksOn s best marks t (Ok node) depth answer = Walks s best marks t node depth answer
+WalksOn s best marks t (Err f) depth answer = answer ≡ Err f
 
-abbrev pub both_of : Result ℕ Failing → Result ℕ Failing → Result ℕ Failing
-both_of (Ok next) second = second
-both_of (Err f) second = Err f
+abbrev pub WalksBehind : PlainSide → ℕ → List Fixing → Result ℕ Failing → ℕ → Result (Result ℕ Failing × Bor (List ℕ)) CertFault → Result (PlainTree × List ℕ) CertFault → Type 0
+WalksBehind s best marks so_far depth (Ok x) read =
+    (t : PlainTree) × ((read ≡ Ok (t, x.1.now)) × WalksOn s best marks t so_far depth x.0)
+WalksBehind s best marks so_far depth (Err e) read = read ≡ Err e
+
+-- what a walk over the text of a tree from its root answers, where the tree is judged and not only read
+abbrev pub TreeWalked : PlainSide → Bool → ℕ → Result (Result ℕ Failing × Bor (List ℕ)) CertFault → Result (PlainTree × List ℕ) CertFault → Type 0
+TreeWalked s judged best (Ok x) read =
+    (t : PlainTree) × ((read ≡ Ok (t, x.1.now)) × (judged ≡ true → Walks s best (all_free s) t 0 0 x.0))
+TreeWalked s judged best (Err e) read = read ≡ Err e
+
+-- something is read, and the bytes behind it are left
+abbrev pub Skips : {A : Type 0} → Result (Bor (List ℕ)) CertFault → Result (A × List ℕ) CertFault → Type 0
+Skips {A} (Ok rest) read = (x : A) × (read ≡ Ok (x, rest.now))
+Skips (Err e) read = read ≡ Err e
 
 -- the first byte and those behind it
 abbrev pub SplitsFirst : ℕ → List ℕ → Result (ℕ × Bor (List ℕ)) CertFault → Type 0

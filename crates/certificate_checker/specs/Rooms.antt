@@ -38,9 +38,24 @@ abbrev pub Chooses : PlainProgramme → PlainChoice → Result (Option ℕ × Bo
 Chooses p kept (Ok x) read = (c : PlainChoice) × ((read ≡ Ok (c, x.1.now)) × IsBest p c kept x.0)
 Chooses p kept (Err e) read = read ≡ Err e
 
+-- a side is answered for a gain; without one its tree is only read
+abbrev pub AnswersFor : Option PlainSide → Option ℕ → Option PlainTree → Result (Unit {0}) Failing → Type 0
+AnswersFor side None t r = Unit {0}
+AnswersFor side (Some best) t r = SideAnswers side best t r
+
+-- the gain for which a tree is judged
+abbrev pub gain_if : Bool → ℕ → Option ℕ
+gain_if false best = None
+gain_if true best = Some best
+
+-- behind a tree that fails the other is only read
+abbrev pub gain_behind : Option ℕ → Result (Unit {0}) Failing → Option ℕ
+gain_behind best (Ok u) = best
+gain_behind best (Err f) = None
+
 -- a side's tree is read, and answered
-abbrev pub SideRead : Option PlainSide → ℕ → Result (Result (Unit {0}) Failing × Bor (List ℕ)) CertFault → Result (PlainTree × List ℕ) CertFault → Type 0
-SideRead side best (Ok x) read = (t : PlainTree) × ((read ≡ Ok (t, x.1.now)) × SideAnswers side best (Some t) x.0)
+abbrev pub SideRead : Option PlainSide → Option ℕ → Result (Result (Unit {0}) Failing × Bor (List ℕ)) CertFault → Result (PlainTree × List ℕ) CertFault → Type 0
+SideRead side best (Ok x) read = (t : PlainTree) × ((read ≡ Ok (t, x.1.now)) × AnswersFor side best (Some t) x.0)
 SideRead side best (Err e) read = read ≡ Err e
 
 -- how many variables a side has
@@ -49,10 +64,10 @@ vars_of None = 0
 vars_of (Some s) = length s.vars
 
 -- the trees of a text are read, and both sides answered
-abbrev pub TreesRead : PlainProgramme → ℕ → Result (Outcomes × Bor (List ℕ)) CertFault → Result (PlainTrees × List ℕ) CertFault → Type 0
+abbrev pub TreesRead : PlainProgramme → Option ℕ → Result (Outcomes × Bor (List ℕ)) CertFault → Result (PlainTrees × List ℕ) CertFault → Type 0
 TreesRead p best (Ok x) read =
     (ts : PlainTrees)
-    × ((read ≡ Ok (ts, x.1.now)) × SideAnswers (Some p.off) best ts.0 x.0.off × SideAnswers p.on best ts.1 x.0.on)
+    × ((read ≡ Ok (ts, x.1.now)) × AnswersFor (Some p.off) best ts.0 x.0.off × AnswersFor p.on (gain_behind best x.0.off) ts.1 x.0.on)
 TreesRead p best (Err e) read = read ≡ Err e
 
 -- the verdict by what the choice and the trees are answered

@@ -80,11 +80,15 @@ pub record HoldsSoFar (s : PlainSide) (best : ℕ) (way : List Step) (path : Lis
   pub number : node ≡ in_32_bits (node_at way)
   pub held : HeldBefore s best way
 
+-- the first node of a tree that fails; of a tree that is only read nothing is said
+abbrev pub FirstFails : PlainSide → Bool → ℕ → PlainTree → Failing → Type 0
+FirstFails s judged best t f = judged ≡ true → FailsIn s best (all_free s) t 0 0 f
+
 -- what is known before the tree at the end of a way is read: all nodes hold, or the first that fails
-abbrev pub SoFar : PlainSide → ℕ → List Step → List PathStep → List Fixing → Result ℕ Failing → Type 0
-SoFar s best way path marks (Ok node) = HoldsSoFar s best way path marks node
-SoFar s best way path marks (Err f) =
-    HasWay path way × ((t whole : PlainTree) → Completes way t whole → FailsIn s best (all_free s) whole 0 0 f)
+abbrev pub SoFar : PlainSide → Bool → ℕ → List Step → List PathStep → List Fixing → Result ℕ Failing → Type 0
+SoFar s judged best way path marks (Ok node) = HoldsSoFar s best way path marks node
+SoFar s judged best way path marks (Err f) =
+    HasWay path way × ((t whole : PlainTree) → Completes way t whole → FirstFails s judged best whole f)
 
 -- all nodes of the tree at the end of the way hold too
 pub record HoldsWith (s : PlainSide) (best : ℕ) (way : List Step) (t : PlainTree) (path : List PathStep) (marks : List Fixing) (next : ℕ) : Type 0 where
@@ -95,28 +99,29 @@ pub record HoldsWith (s : PlainSide) (best : ℕ) (way : List Step) (t : PlainTr
   pub held : HeldBefore s best way
 
 -- what is known behind the tree at the end of a way: it holds too, or the first node that fails
-abbrev pub Behind : PlainSide → ℕ → List Step → PlainTree → List PathStep → List Fixing → Result ℕ Failing → Type 0
-Behind s best way t path marks (Ok next) = HoldsWith s best way t path marks next
-Behind s best way t path marks (Err f) =
-    HasWay path way × ((whole : PlainTree) → Completes way t whole → FailsIn s best (all_free s) whole 0 0 f)
+abbrev pub Behind : PlainSide → Bool → ℕ → List Step → PlainTree → List PathStep → List Fixing → Result ℕ Failing → Type 0
+Behind s judged best way t path marks (Ok next) = HoldsWith s best way t path marks next
+Behind s judged best way t path marks (Err f) =
+    HasWay path way × ((whole : PlainTree) → Completes way t whole → FirstFails s judged best whole f)
 
--- a tree of at most so many levels that is read: `bytes` begin with it, and end a text of `total` bytes
+-- a tree of at most so many levels that is read, and judged or not: `bytes` begin with it, and end a text of `total` bytes
 pub record TreeText : Type 0 where
   pub side : PlainSide
+  pub judged : Bool
   pub best : ℕ
   pub total : ℕ
   pub levels : ℕ
   pub bytes : List ℕ
 
-abbrev pub text_of : PlainSide → ℕ → ℕ → ℕ → List ℕ → TreeText
-text_of s best total levels bytes = record { side = s; best = best; total = total; levels = levels; bytes = bytes }
+abbrev pub text_of : PlainSide → Bool → ℕ → ℕ → ℕ → List ℕ → TreeText
+text_of s judged best total levels bytes = record { side = s; judged = judged; best = best; total = total; levels = levels; bytes = bytes }
 
 -- a tree at this depth is to be read from the rest
 pub record IsBefore (x : TreeText) (path : List PathStep) (marks : List Fixing) (depth : ℕ) (answer : Result ℕ Failing) (rest : List ℕ) : Type 0 where
   pub way : List Step
   pub long : length way ≡ depth
   pub read : resumed x.total x.levels way (tree_at x.total (x.levels - depth) rest) ≡ tree_at x.total x.levels x.bytes
-  pub so_far : SoFar x.side x.best way path marks answer
+  pub so_far : SoFar x.side x.judged x.best way path marks answer
 
 -- a tree at this depth was read, and the rest stands behind it
 pub record IsBehind (x : TreeText) (path : List PathStep) (marks : List Fixing) (depth : ℕ) (answer : Result ℕ Failing) (rest : List ℕ) : Type 0 where
@@ -124,11 +129,16 @@ pub record IsBehind (x : TreeText) (path : List PathStep) (marks : List Fixing) 
   pub tree : PlainTree
   pub long : length way ≡ depth
   pub read : resumed x.total x.levels way (Ok (tree, rest)) ≡ tree_at x.total x.levels x.bytes
-  pub so_far : Behind x.side x.best way tree path marks answer
+  pub so_far : Behind x.side x.judged x.best way tree path marks answer
 
 abbrev pub StandsAt : TreeText → List PathStep → List Fixing → ℕ → Bool → Result ℕ Failing → List ℕ → Type 0
 StandsAt x path marks depth false answer rest = IsBefore x path marks depth answer rest
 StandsAt x path marks depth true answer rest = IsBehind x path marks depth answer rest
+
+-- what a walk begins with: the number of the root, or a node that fails where nothing is judged
+abbrev pub first_answer : Bool → Result ℕ Failing
+first_answer true = Ok 0
+first_answer false = Err record { node = 0; depth = 0 }
 
 -- how far the walk over the text of a tree has come
 abbrev pub Stands : TreeText → List PathStep → List Fixing → Progress → List ℕ → Type 0

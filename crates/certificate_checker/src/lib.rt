@@ -19,6 +19,7 @@ mod reading;
 mod rooms;
 mod row_wise;
 mod rules;
+mod skipping;
 mod steps;
 mod taking;
 mod tasks;

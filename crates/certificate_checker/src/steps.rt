@@ -1,4 +1,4 @@
-ghost use Rattle.std.specs.Prelude.{◌≡◌, ℕ, ◌+◌, ◌-◌, ◌*◌, ◌<◌, ◌≤◌, ◌↔◌, IsTrue, true, List, ◌∷◌, length};
+ghost use Rattle.std.specs.Prelude.{◌≡◌, ℕ, ◌+◌, ◌-◌, ◌*◌, ◌<◌, ◌≤◌, ◌↔◌, IsTrue, Bool, true, List, ◌∷◌, length};
 ghost use Rattle.placement_programme.specs.Views.{plain_side};
 ghost use Rattle.certificate_checker.specs.Ways.{Step, to_zero, SoFar, TreeText, IsBehind, Stands, MayMark, marked, step_in, CanRise, left};
 
@@ -53,8 +53,8 @@ pub(crate) fn enter(
 ) -> Result<u32, Failing>
     requires marked { length (plain_side side.now).vars ≤ length marks.old }
     requires inside { depth < length path.old }
-    ensures { (best : ℕ) (way : List Step) → length way ≡ depth → SoFar (plain_side side.now) best way path.old marks.old so_far
-        → SoFar (plain_side side.now) best (to_zero var ∷ way) path.new marks.new result }
+    ensures { (judged : Bool) (best : ℕ) (way : List Step) → length way ≡ depth → SoFar (plain_side side.now) judged best way path.old marks.old so_far
+        → SoFar (plain_side side.now) judged best (to_zero var ∷ way) path.new marks.new result }
 {
     path[depth as usize] = PathStep { var, taken: false };
     match so_far {

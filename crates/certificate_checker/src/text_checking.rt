@@ -1,6 +1,6 @@
 ghost use Rattle.std.specs.Prelude.{◌≡◌, ◌^◌, ◌≤◌, length, IfSome, vec_capacity};
 ghost use Rattle.placement_programme.specs.{Views.{plain_programme, plain_choice}, Programme.{side_for}};
-ghost use Rattle.certificate_checker.specs.{Reading.{choice_at, body_at, certificate_of}, Rooms.{vars_of, Chooses, BodyAnswers, RoomFits, HasSameRoom, used, verdict_for}, Views.{plain_verdict}};
+ghost use Rattle.certificate_checker.specs.{Reading.{choice_at, body_at, certificate_of}, Rooms.{vars_of, Chooses, BodyAnswers, RoomFits, HasSameRoom, verdict_for}, Views.{plain_verdict}};
 
 use crate::checking::accepted;
 use crate::fault::CertFault;
@@ -75,18 +75,6 @@ fn verdict_of(best: Option<u128>, optimal: bool, trees: Outcomes) -> Verdict
     }
 }
 
-/// The gain that trees are checked for; where the choice isn't accepted they are only read.
-fn used(best: Option<u128>) -> u128
-    requires { IfSome best (λ b. b ≤ 2 ^ 104) }
-    ensures value { result ≡ used best }
-    ensures small { result ≤ 2 ^ 104 }
-{
-    match best {
-        Some(gain) => gain,
-        None => 0,
-    }
-}
-
 /// Checks the bytes behind the mark.
 #[tactic(auto, unfolding(crate::specs::Reading::body_at))]
 fn check_body(
@@ -101,8 +89,7 @@ fn check_body(
 {
     let (optimal, rest) = flag(total, bytes)?;
     let (best, rest) = take_choice(p, &mut room.choice, total, rest)?;
-    let gain = used(best);
-    let (trees, rest) = text_trees(p, gain, optimal, room, total, rest)?;
+    let (trees, rest) = text_trees(p, best, optimal, room, total, rest)?;
     if rest.is_empty() {
         Ok(verdict_of(best, optimal, trees))
     } else {

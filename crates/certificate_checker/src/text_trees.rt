@@ -1,6 +1,6 @@
-ghost use Rattle.std.specs.Prelude.{◌≡◌, ℕ, ◌^◌, ◌<◌, ◌≤◌, length, Some, None, Err, option_map};
+ghost use Rattle.std.specs.Prelude.{◌≡◌, ℕ, ◌^◌, ◌<◌, ◌≤◌, length, Some, None, Err, option_map, IfSome};
 ghost use Rattle.placement_programme.specs.Views.{plain_side, plain_programme};
-ghost use Rattle.certificate_checker.specs.{Reading.{tree_at, most_levels, trees_at, trees_for}, Walks.{SideAnswers}, RowWise.{rows_of, IsOfSide}, Rooms.{SideRead, TreesRead, RoomFits, KeepsChoiceAndSizes}};
+ghost use Rattle.certificate_checker.specs.{Reading.{tree_at, most_levels, trees_at, trees_for}, Walks.{SideAnswers}, RowWise.{rows_of, IsOfSide}, Rooms.{gain_if, gain_behind, used, SideRead, TreesRead, RoomFits, KeepsChoiceAndSizes}};
 
 use crate::columns::var_count;
 use crate::fault::CertFault;
@@ -18,6 +18,38 @@ use placement_programme::{Programme, Side};
 pub(crate) struct Outcomes {
     pub off: Result<(), Failing>,
     pub on: Result<(), Failing>,
+}
+
+/// The gain that a tree is judged for, 0 where there is none.
+fn used(best: Option<u128>) -> u128
+    requires { IfSome best (λ b. b ≤ 2 ^ 104) }
+    ensures value { result ≡ used best }
+    ensures small { result ≤ 2 ^ 104 }
+{
+    match best {
+        Some(gain) => gain,
+        None => 0,
+    }
+}
+
+/// Whether trees are judged for a gain, and not only read.
+fn is_judged(best: Option<u128>) -> bool
+    ensures { gain_if result (used best) ≡ best }
+{
+    match best {
+        Some(_) => true,
+        None => false,
+    }
+}
+
+/// The gain that a second tree is judged for: behind one that fails it is only read.
+fn gain_behind(best: Option<u128>, first: &Result<(), Failing>) -> Option<u128>
+    ensures { result ≡ gain_behind best first.now }
+{
+    match first {
+        Ok(_) => best,
+        Err(_) => None,
+    }
 }
 
 fn first_node() -> Result<(), Failing>
@@ -40,7 +72,7 @@ fn walk_side<'a>(
     requires path { task.now.levels ≤ length path.old }
     requires marked { length (plain_side task.now.side.now).vars ≤ length marks.old }
     requires room { length (plain_side task.now.side.now).vars ≤ length prices.old }
-    ensures { SideRead (Some (plain_side task.now.side.now)) task.now.best result (tree_at task.now.total task.now.levels bytes.now) }
+    ensures { SideRead (Some (plain_side task.now.side.now)) (gain_if task.now.judged task.now.best) result (tree_at task.now.total task.now.levels bytes.now) }
 {
     let free = &mut marks[..var_count(task.side)];
     free.fill(Fixing::Free);
@@ -55,12 +87,12 @@ fn walk_side<'a>(
 #[tactic(auto, unfolding(crate::specs::Reading::most_levels))]
 fn off_tree<'a>(
     p: &Programme,
-    best: u128,
+    best: Option<u128>,
     room: &mut Room,
     total: usize,
     bytes: &'a [u8],
 ) -> Result<(Result<(), Failing>, &'a [u8]), CertFault>
-    requires best { best ≤ 2 ^ 104 }
+    requires best { IfSome best (λ b. b ≤ 2 ^ 104) }
     requires room { RoomFits p.now room.old }
     ensures read { SideRead (Some (plain_side p.now.off)) best result (tree_at total most_levels bytes.now) }
     ensures kept { KeepsChoiceAndSizes room.old room.new }
@@ -68,7 +100,8 @@ fn off_tree<'a>(
     let task = Task {
         side: &p.off,
         by_row: &room.off_rows,
-        best,
+        judged: is_judged(best),
+        best: used(best),
         total,
         levels: 4097,
     };
@@ -85,12 +118,12 @@ fn off_tree<'a>(
 #[tactic(auto, unfolding(crate::specs::Reading::most_levels))]
 fn overlay_tree<'a>(
     side: &Side,
-    best: u128,
+    best: Option<u128>,
     room: &mut Room,
     total: usize,
     bytes: &'a [u8],
 ) -> Result<(Result<(), Failing>, &'a [u8]), CertFault>
-    requires best { best ≤ 2 ^ 104 }
+    requires best { IfSome best (λ b. b ≤ 2 ^ 104) }
     requires path { 4097 ≤ length room.old.path.items }
     requires marked { length (plain_side side.now).vars ≤ length room.old.marks.items }
     requires room { length (plain_side side.now).vars ≤ length room.old.prices.items }
@@ -101,7 +134,8 @@ fn overlay_tree<'a>(
     let task = Task {
         side,
         by_row: &room.on_rows,
-        best,
+        judged: is_judged(best),
+        best: used(best),
         total,
         levels: 4097,
     };
@@ -117,19 +151,19 @@ fn overlay_tree<'a>(
 /// Walks over the tree of the side with overlay; one without a side is read, and fails at its node 0.
 fn on_tree<'a>(
     p: &Programme,
-    best: u128,
+    best: Option<u128>,
     room: &mut Room,
     total: usize,
     bytes: &'a [u8],
 ) -> Result<(Result<(), Failing>, &'a [u8]), CertFault>
-    requires best { best ≤ 2 ^ 104 }
+    requires best { IfSome best (λ b. b ≤ 2 ^ 104) }
     requires room { RoomFits p.now room.old }
     ensures kept { KeepsChoiceAndSizes room.old room.new }
     ensures read { SideRead (option_map plain_side p.now.on) best result (tree_at total most_levels bytes.now) }
 {
     match &p.on {
         Some(side) => overlay_tree(side, best, room, total, bytes),
-        None => match off_tree(p, best, room, total, bytes) {
+        None => match off_tree(p, None, room, total, bytes) {
             Err(fault) => Err(fault),
             Ok((_, rest)) => Ok((Err(Failing { node: 0, depth: 0 }), rest)),
         },
@@ -150,12 +184,12 @@ fn no_on_tree(p: &Programme) -> Result<(), Failing>
 #[tactic(auto, unfolding(crate::specs::Reading::trees_at))]
 fn claimed_trees<'a>(
     p: &Programme,
-    best: u128,
+    best: Option<u128>,
     room: &mut Room,
     total: usize,
     bytes: &'a [u8],
 ) -> Result<(Outcomes, &'a [u8]), CertFault>
-    requires best { best ≤ 2 ^ 104 }
+    requires best { IfSome best (λ b. b ≤ 2 ^ 104) }
     requires room { RoomFits p.now room.old }
     ensures kept { KeepsChoiceAndSizes room.old room.new }
     ensures read { TreesRead (plain_programme p.now) best result (trees_at total bytes.now) }
@@ -166,20 +200,20 @@ fn claimed_trees<'a>(
         let on = no_on_tree(p);
         return Ok((Outcomes { off, on }, rest));
     }
-    let (on, rest) = on_tree(p, best, room, total, rest)?;
+    let (on, rest) = on_tree(p, gain_behind(best, &off), room, total, rest)?;
     Ok((Outcomes { off, on }, rest))
 }
 
-/// Walks over the trees that the text must have.
+/// Walks over the trees that the text must have; without a gain they are only read.
 pub(crate) fn text_trees<'a>(
     p: &Programme,
-    best: u128,
+    best: Option<u128>,
     optimal: bool,
     room: &mut Room,
     total: usize,
     bytes: &'a [u8],
 ) -> Result<(Outcomes, &'a [u8]), CertFault>
-    requires best { best ≤ 2 ^ 104 }
+    requires best { IfSome best (λ b. b ≤ 2 ^ 104) }
     requires room { RoomFits p.now room.old }
     ensures kept { KeepsChoiceAndSizes room.old room.new }
     ensures read { TreesRead (plain_programme p.now) best result (trees_for optimal total bytes.now) }

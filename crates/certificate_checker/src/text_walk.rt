@@ -1,6 +1,6 @@
 ghost use Rattle.std.specs.Prelude.{◌≡◌, ℕ, suc, ◌+◌, ◌^◌, ◌<◌, ◌≤◌, ◌↔◌, IsTrue, false, List, [], ◌∷◌, length, IfOk};
 ghost use Rattle.placement_programme.specs.{Plain.{PlainSide}, Views.{plain_side}};
-ghost use Rattle.certificate_checker.specs.{Nodes.{PlainTree}, Rules.{KeepsRule}, Shows.{all_free}, Walks.{Walks}, declared.fixings.Fixing.{Fixing}, Reading.{over_at, dual_at, tree_at}, RowWise.{rows_of, IsOfSide}, Loading.{IsSingle, SplitsFirst, WalksRead, behind_of, both_of}, Ways.{text_of, IsBefore, Stands, Advances, CanAdvance, left}};
+ghost use Rattle.certificate_checker.specs.{Nodes.{PlainTree}, Rules.{KeepsRule}, Shows.{all_free}, Walks.{Walks}, declared.fixings.Fixing.{Fixing}, Reading.{over_at, dual_at, tree_at}, RowWise.{rows_of, IsOfSide}, Loading.{IsSingle, SplitsFirst, WalksRead, WalksBehind, TreeWalked}, Ways.{text_of, first_answer, IsBefore, Stands, Advances, CanAdvance, left}};
 
 use crate::duals::loaded_holds;
 use crate::fault::CertFault;
@@ -8,7 +8,8 @@ use crate::fields::{Part, cut_off, number_in, place, small_number};
 use crate::fixings::Fixing;
 use crate::loading::load_entries;
 use crate::reading::below_all;
-use crate::rules::{branch_holds, leaf_holds, over_holds};
+use crate::rules::{leaf_holds, over_holds};
+use crate::skipping::skip_single;
 use crate::steps::{PathStep, Progress, enter, is_done, leave};
 use crate::tasks::Task;
 use crate::walking::{Failing, next_number};
@@ -97,21 +98,28 @@ fn walk_single<'a>(
     }
 }
 
-fn number_behind(first: &Result<u32, Failing>) -> u32
-    ensures { result ≡ behind_of first.now }
+/// Walks over a node that isn't a branch, behind others: behind one that fails it is only read.
+fn answer_single<'a>(
+    task: &Task,
+    marks: &[Fixing],
+    prices: &mut [u128],
+    so_far: Result<u32, Failing>,
+    depth: u32,
+    bytes: &'a [u8],
+) -> Result<Walked<'a>, CertFault>
+    requires best { task.now.best ≤ 2 ^ 104 }
+    requires marked { length (plain_side task.now.side.now).vars ≤ length marks.now }
+    requires by_row { IsOfSide (plain_side task.now.side.now) (rows_of task.now.by_row.now) }
+    requires room { length (plain_side task.now.side.now).vars ≤ length prices.old }
+    requires tag { (rest : List ℕ) → bytes.now ≡ 0 ∷ rest → ⊥ }
+    ensures { (levels : ℕ) → WalksBehind (plain_side task.now.side.now) task.now.best marks.now so_far depth result (tree_at task.now.total (suc levels) bytes.now) }
 {
-    match first {
-        Ok(next) => *next,
-        Err(_) => 0,
-    }
-}
-
-fn both(first: Result<u32, Failing>, second: Result<u32, Failing>) -> Result<u32, Failing>
-    ensures { result ≡ both_of first second }
-{
-    match first {
-        Ok(_) => second,
-        Err(failing) => Err(failing),
+    match so_far {
+        Err(failing) => match skip_single(task.total, bytes) {
+            Err(fault) => Err(fault),
+            Ok(rest) => Ok((Err(failing), rest)),
+        },
+        Ok(node) => walk_single(task, marks, prices, node, depth, bytes),
     }
 }
 
@@ -136,8 +144,8 @@ fn read_branch<'a>(
     requires inside { progress.depth < length path.old }
     requires depth { progress.depth < 2 ^ 31 }
     ensures reads { (levels : ℕ) (all : List ℕ) → progress.depth < levels
-        → IsBefore (text_of (plain_side task.now.side.now) task.now.best task.now.total levels all) path.old marks.old progress.depth progress.so_far (0 ∷ bytes.now)
-        → Advances (text_of (plain_side task.now.side.now) task.now.best task.now.total levels all) path.new marks.new result }
+        → IsBefore (text_of (plain_side task.now.side.now) task.now.judged task.now.best task.now.total levels all) path.old marks.old progress.depth progress.so_far (0 ∷ bytes.now)
+        → Advances (text_of (plain_side task.now.side.now) task.now.judged task.now.best task.now.total levels all) path.new marks.new result }
     ensures left { IfOk result (λ r. left r.0 r.1.now < left progress (0 ∷ bytes.now)) }
     ensures depth { (levels : ℕ) → progress.depth < levels → IfOk result (λ r. r.0.depth ≤ levels) }
 {
@@ -167,15 +175,13 @@ fn read_single<'a>(
     requires room { length (plain_side task.now.side.now).vars ≤ length prices.old }
     requires tag { (rest : List ℕ) → bytes.now ≡ 0 ∷ rest → ⊥ }
     ensures reads { (levels : ℕ) (all : List ℕ) → progress.depth < levels
-        → IsBefore (text_of (plain_side task.now.side.now) task.now.best task.now.total levels all) path.now marks.now progress.depth progress.so_far bytes.now
-        → Advances (text_of (plain_side task.now.side.now) task.now.best task.now.total levels all) path.now marks.now result }
+        → IsBefore (text_of (plain_side task.now.side.now) task.now.judged task.now.best task.now.total levels all) path.now marks.now progress.depth progress.so_far bytes.now
+        → Advances (text_of (plain_side task.now.side.now) task.now.judged task.now.best task.now.total levels all) path.now marks.now result }
     ensures left { progress.ended ≡ false → IfOk result (λ r. left r.0 r.1.now < left progress bytes.now) }
     ensures depth { (levels : ℕ) → progress.depth < levels → IfOk result (λ r. r.0.depth ≤ levels) }
 {
     let depth = progress.depth;
-    let node = number_behind(&progress.so_far);
-    let (answer, rest) = walk_single(task, marks, prices, node, depth, bytes)?;
-    let so_far = both(progress.so_far, answer);
+    let (so_far, rest) = answer_single(task, marks, prices, progress.so_far, depth, bytes)?;
     let behind = Progress {
         depth,
         ended: true,
@@ -200,8 +206,8 @@ fn read_node<'a>(
     requires levels { task.now.levels < 2 ^ 31 }
     requires inside { task.now.levels ≤ length path.old }
     requires depth { progress.depth ≤ task.now.levels }
-    ensures reads { (all : List ℕ) → IsBefore (text_of (plain_side task.now.side.now) task.now.best task.now.total task.now.levels all) path.old marks.old progress.depth progress.so_far bytes.now
-        → Advances (text_of (plain_side task.now.side.now) task.now.best task.now.total task.now.levels all) path.new marks.new result }
+    ensures reads { (all : List ℕ) → IsBefore (text_of (plain_side task.now.side.now) task.now.judged task.now.best task.now.total task.now.levels all) path.old marks.old progress.depth progress.so_far bytes.now
+        → Advances (text_of (plain_side task.now.side.now) task.now.judged task.now.best task.now.total task.now.levels all) path.new marks.new result }
     ensures left { progress.ended ≡ false → IfOk result (λ r. left r.0 r.1.now < left progress bytes.now) }
     ensures depth { IfOk result (λ r. r.0.depth ≤ task.now.levels) }
 {
@@ -232,8 +238,8 @@ fn advance<'a>(
     requires inside { task.now.levels ≤ length path.old }
     requires depth { progress.depth ≤ task.now.levels }
     requires step { CanAdvance path.old marks.old progress }
-    ensures reads { (all : List ℕ) → Stands (text_of (plain_side task.now.side.now) task.now.best task.now.total task.now.levels all) path.old marks.old progress bytes.now
-        → Advances (text_of (plain_side task.now.side.now) task.now.best task.now.total task.now.levels all) path.new marks.new result }
+    ensures reads { (all : List ℕ) → Stands (text_of (plain_side task.now.side.now) task.now.judged task.now.best task.now.total task.now.levels all) path.old marks.old progress bytes.now
+        → Advances (text_of (plain_side task.now.side.now) task.now.judged task.now.best task.now.total task.now.levels all) path.new marks.new result }
     ensures left { IfOk result (λ r. left r.0 r.1.now < left progress bytes.now) }
     ensures depth { IfOk result (λ r. r.0.depth ≤ task.now.levels) }
 {
@@ -241,6 +247,17 @@ fn advance<'a>(
         return Ok((leave(marks, path, progress), bytes));
     }
     read_node(task, marks, path, prices, progress, bytes)
+}
+
+/// What a walk begins with: one that only reads begins behind a node that fails.
+fn first_answer(judged: bool) -> Result<u32, Failing>
+    ensures { result ≡ first_answer judged }
+{
+    if judged {
+        Ok(0)
+    } else {
+        Err(Failing { node: 0, depth: 0 })
+    }
 }
 
 /// Walks over a tree as it is read, with the steps to the present node in `path`.
@@ -257,12 +274,13 @@ pub(crate) fn walk_text<'a>(
     requires room { length (plain_side task.now.side.now).vars ≤ length prices.old }
     requires levels { task.now.levels < 2 ^ 31 }
     requires inside { task.now.levels ≤ length path.old }
-    ensures { WalksRead (plain_side task.now.side.now) task.now.best (all_free (plain_side task.now.side.now)) 0 0 result (tree_at task.now.total task.now.levels bytes.now) }
+    ensures { TreeWalked (plain_side task.now.side.now) task.now.judged task.now.best result (tree_at task.now.total task.now.levels bytes.now) }
 {
+    let so_far = first_answer(task.judged);
     let mut progress = Progress {
         depth: 0,
         ended: false,
-        so_far: Ok(0),
+        so_far,
     };
     let mut rest = bytes;
     while !is_done(&progress) {

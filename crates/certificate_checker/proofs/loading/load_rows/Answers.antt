@@ -1,4 +1,4 @@
-use Rattle.std.proofs.Common.{◌+◌, take, get_or, subst, sym, arith}
+use Rattle.std.proofs.Common.{take, subst, sym}
 use Rattle.std.proofs.lemmas.List.{take_more}
 use Rattle.placement_programme.specs.Views.{plain_side}
 use Rattle.certificate_checker.specs.Loading.{IsLoaded}

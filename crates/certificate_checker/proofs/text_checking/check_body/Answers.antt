@@ -1,8 +1,7 @@
-use Rattle.std.proofs.Common.{◌≡◌, Some, option_map, length, rules, sym, subst}
-use Rattle.placement_programme.specs.Views.{plain_side, plain_programme, plain_choice}
+use Rattle.std.proofs.Common.{◌≡◌, length, rules, sym, subst}
+use Rattle.placement_programme.specs.Views.{plain_programme, plain_choice}
 use Rattle.certificate_checker.specs.Nodes.{PlainCertificate}
 use Rattle.certificate_checker.specs.Shows.{Answers}
-use Rattle.certificate_checker.specs.Walks.{SideAnswers}
 use Rattle.certificate_checker.specs.Rooms.{KeepsChoice}
 use Rattle.certificate_checker.specs.Views.{plain_verdict}
 use Rattle.certificate_checker.proofs.RoomLemmas.{trees_claimed, verdict_right, body_read}
@@ -17,9 +16,7 @@ returns-then-is_empty-clause-answers c =
     let kept = plain_choice c.take_choice.new.choice in
     let made : PlainCertificate = record { choice = chosen.0; off = read.0.0; on = read.0.1 } in
     let claimed = trees_claimed c.args.total c.in_ok-optimal.optimal c.in_ok-best.rest.now (read.0, c.in_ok-trees.rest.now) read.1.0 in
-    let off = subst (λ g. SideAnswers (Some (plain_side c.args.p.now.off)) g read.0.0 trees.off) c.used-gain.ensures.value read.1.1 in
-    let on = subst (λ g. SideAnswers (option_map plain_side c.args.p.now.on) g read.0.1 trees.on) c.used-gain.ensures.value read.1.2 in
-    let right = verdict_right p made kept c.in_ok-best.best c.in_ok-optimal.optimal trees.off trees.on chosen.1.1 claimed.0 claimed.1 off on in
+    let right = verdict_right p made kept c.in_ok-best.best c.in_ok-optimal.optimal trees.off trees.on chosen.1.1 claimed.0 claimed.1 read.1.1 read.1.2 in
     let none : length c.in_ok-trees.rest.now ≡ 0 = search rules in (
       made,
       (

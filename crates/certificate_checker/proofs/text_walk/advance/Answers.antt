@@ -12,7 +12,7 @@ pub returns-then-progress-clause-reads : goal.returns-then-progress-clause-reads
 returns-then-progress-clause-reads c all b =
     let task = c.args.task.now in
     let progress = c.args.progress in
-    let x = text_of (plain_side task.side.now) task.best task.total c.args.task.now.levels all in
+    let x = text_of (plain_side task.side.now) task.judged task.best task.total c.args.task.now.levels all in
     c.leave.ensures.stands x c.args.bytes.now
     (subst (λ e. StandsAt x c.args.path.now c.args.marks.now progress.depth e progress.so_far c.args.bytes.now) c.if-progress.true b)
 
@@ -26,7 +26,7 @@ pub returns-clause-reads : goal.returns-clause-reads
 returns-clause-reads c all b =
     let task = c.args.task.now in
     let progress = c.args.progress in
-    let x = text_of (plain_side task.side.now) task.best task.total c.args.task.now.levels all in
+    let x = text_of (plain_side task.side.now) task.judged task.best task.total c.args.task.now.levels all in
     c.read_node.ensures.reads all
     (subst (λ e. StandsAt x c.args.path.now c.args.marks.now progress.depth e progress.so_far c.args.bytes.now) c.if-progress.false b)
 

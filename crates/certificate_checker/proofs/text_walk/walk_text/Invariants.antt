@@ -5,7 +5,7 @@ use Rattle.certificate_checker.proofs.text_walk.walk_text.Given as goal
 
 abbrev pub invariant-loop-marks : goal.invariant-loop-marks
 invariant-loop-marks l = record {
-  stands : Stands (text_of (plain_side l.task.side.now) l.task.best l.task.total l.task.levels l.bytes) l.path l.marks l.progress l.rest;
+  stands : Stands (text_of (plain_side l.task.side.now) l.task.judged l.task.best l.task.total l.task.levels l.bytes) l.path l.marks l.progress l.rest;
   depth : l.progress.depth ≤ l.task.levels;
 }
 
