@@ -1,5 +1,5 @@
 -- What the code sees of a result: what a step tells, and whether it is run far enough.
-use Rattle.std.proofs.Common.{◌≡◌, ℕ, ◌+◌, ◌*◌, Bool, true, false, List, Option, length, refl, sym, ap, subst}
+use Rattle.std.proofs.Common.{◌≡◌, ℕ, ◌+◌, ◌*◌, Bool, true, false, List, Option, length, refl, sym, ap, subst, inl}
 use Rattle.std.specs.Bool.{MatchBool}
 use Rattle.rv32im.specs.declared.instructions.Instr.{Instr}
 use Rattle.flat_machine.specs.Mapping.{can_access}
@@ -43,6 +43,12 @@ told_outcome s t e q = told_at s.outcome s t e q
 pub not_far : (o : Outcome) (written n : ℕ) (other : FlatOutcome) (t : State) → other ≡ t.outcome → n ≡ length t.output → (IsEnough o written other n → ⊥) → IsFar o written t → ⊥
 not_far o written n other t outcome bytes short far =
     short (subst (λ (k : ℕ). IsEnough o written other k) (sym bytes) (subst (λ (x : FlatOutcome). IsEnough o written x (length t.output)) (sym outcome) far))
+
+-- a result that is not run far enough goes on
+pub goes_on : (o : Outcome) (written n : ℕ) (other : FlatOutcome) → (IsEnough o written other n → ⊥) → other ≡ GoesOn
+goes_on o written n GoesOn short = refl
+goes_on o written n (Exited code) short = absurd (short (inl tt))
+goes_on o written n (Trapped pc) short = absurd (short (inl tt))
 
 -- ---- the program
 

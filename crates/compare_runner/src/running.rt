@@ -1,11 +1,11 @@
-ghost use Rattle.std.specs.Prelude.{◌≡◌, ℕ, IfOk, MatchBool};
+ghost use Rattle.std.specs.Prelude.{◌≡◌, ℕ, length, IfOk, MatchBool};
 ghost use Rattle.flat_machine.specs.Runs as flat_runs;
-ghost use Rattle.flat_machine.specs.State.{State};
+ghost use Rattle.flat_machine.specs.{State.{State}, Known.{AreKnown}};
 ghost use Rattle.flat_machine.specs.Machine as flat;
 ghost use Rattle.object_machine.specs.{Program.{Program}, Machine.{state_of, IsProgram}, Runs.{HasEnded}};
 ghost use Rattle.compare_runner.specs.Comparing.{RunsUntil, SourceEnds, HasCaughtUp, IsEnough, IsFar};
 
-use flat_machine::{Flat, FlatOutcome};
+use flat_machine::{Flat, FlatOutcome, Known};
 use object_machine::{Outcome, Source};
 use paged_store::ByteStore;
 use rv32im::one_instruction;
@@ -41,15 +41,31 @@ pub(crate) fn run_result<S: ByteStore>(
     ensures run { IfOk result (λ _. (m : ℕ) × RunsUntil State flat_runs.Steps (IsFar source written) most (flat.state_of S.byte_at machine.old) m (flat.state_of S.byte_at machine.new)) }
     ensures outcome { IfOk result (λ outcome. outcome ≡ (flat.state_of S.byte_at machine.new).outcome) }
 {
+    let mut known = machine.nothing_known()?;
+    step_result(machine, source, written, most, &mut known)
+}
+
+/// The same, over a table of the instructions that the machine decoded so far.
+fn step_result<S: ByteStore>(
+    machine: &mut Flat<S>,
+    source: Outcome,
+    written: usize,
+    most: u128,
+    known: &mut [Known],
+) -> Result<FlatOutcome, AllocError>
+    requires len { length known.old ≡ 4096 }
+    requires known { let s = flat.state_of S.byte_at machine.old in AreKnown s.map s.hart.mem known.old }
+    ensures run { IfOk result (λ _. (m : ℕ) × RunsUntil State flat_runs.Steps (IsFar source written) most (flat.state_of S.byte_at machine.old) m (flat.state_of S.byte_at machine.new)) }
+    ensures outcome { IfOk result (λ outcome. outcome ≡ (flat.state_of S.byte_at machine.new).outcome) }
+{
     one_instruction();
-    let mut outcome = FlatOutcome::GoesOn;
     for _ in 0..most {
-        if is_enough(source, written, outcome, machine.output().len()) {
+        if is_enough(source, written, machine.outcome(), machine.output().len()) {
             break;
         }
-        outcome = machine.step()?.outcome;
+        machine.step_telling(known)?;
     }
-    Ok(outcome)
+    Ok(machine.outcome())
 }
 
 /// Whether a program goes on no more.
