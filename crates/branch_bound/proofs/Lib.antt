@@ -4,8 +4,7 @@ pub mod Ranges
 pub mod Certified
 pub mod OnesLemmas
 pub mod OpenLemmas
-pub mod LoadLemmas
-pub mod TallyLemmas
+pub mod ExceedLemmas
 pub mod RankingLemmas
 pub mod MarkLemmas
 pub mod EntryLemmas

@@ -1,11 +1,11 @@
 -- Assignments as selections, and what fixing a variable changes.
-use Rattle.std.proofs.Common.{◌≡◌, inl, inr, ℕ, suc, ◌+◌, Bool, true, false, cond, List, length, slice_set, sym, ap, refl, subst, arith}
+use Rattle.std.proofs.Common.{◌≡◌, inl, inr, ℕ, suc, Bool, true, false, cond, List, length, slice_set, sym, ap, refl, subst, arith}
 use Rattle.std.specs.List.{count_by, sum_by}
 use Rattle.std.proofs.lemmas.Bool.{cases_eq}
 use Rattle.std.proofs.lemmas.List.Sums.{sum_by-set}
 use Rattle.placement_programme.specs.Plain.{PlainSide}
 use Rattle.placement_programme.specs.Programme.{weight_at, Fits}
-use Rattle.placement_programme.specs.Sums.{sum_below, picked}
+use Rattle.placement_programme.specs.Sums.{picked}
 use Rattle.placement_programme.proofs.TakeLemmas.{below_same}
 use Rattle.certificate_checker.specs.Rules.{if_one}
 use Rattle.certificate_checker.proofs.Duality.{AgreesAt, Agrees, chosen, FitsRows}
@@ -70,23 +70,3 @@ fewer_free marks j f unfixed fixed =
     let before = ap counted unfixed in
     let behind = ap {B = ℕ} (λ b. cond b 1 0) fixed in
     omega (arith, sums, before, behind)
-
--- what a variable adds that is fixed to one, and any other
-one_adds : (f : Fixing) (m : ℕ) → f ≡ One → if_one f m ≡ m
-one_adds f m is = subst (λ g. if_one g m ≡ m) (sym is) refl
-
-other_adds : (f : Fixing) (m : ℕ) → (f ≡ One → ⊥) → if_one f m ≡ 0
-other_adds Zero m other = refl
-other_adds One m other = absurd (other refl)
-other_adds Free m other = refl
-
--- sums over the variables that are fixed to one, with one variable more
-pub sum_one : (f : ℕ → ℕ) (marks : List Fixing) (n next total now : ℕ) → next ≡ suc n → fixing_of marks n ≡ One → total ≡ sum_below n (λ j. if_one (fixing_of marks j) (f j)) → now ≡ total + f n → now ≡ sum_below next (λ j. if_one (fixing_of marks j) (f j))
-sum_one f marks n next total now is_next is so_far more =
-    let here = one_adds (fixing_of marks n) (f n) is in
-    subst (λ m. now ≡ sum_below m (λ j. if_one (fixing_of marks j) (f j))) (sym is_next) (omega (arith, here, so_far, more))
-
-pub sum_other : (f : ℕ → ℕ) (marks : List Fixing) (n next total now : ℕ) → next ≡ suc n → (fixing_of marks n ≡ One → ⊥) → total ≡ sum_below n (λ j. if_one (fixing_of marks j) (f j)) → now ≡ total → now ≡ sum_below next (λ j. if_one (fixing_of marks j) (f j))
-sum_other f marks n next total now is_next disjoint so_far same =
-    let here = other_adds (fixing_of marks n) (f n) disjoint in
-    subst (λ m. now ≡ sum_below m (λ j. if_one (fixing_of marks j) (f j))) (sym is_next) (omega (arith, here, so_far, same))

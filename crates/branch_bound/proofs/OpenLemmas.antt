@@ -1,22 +1,11 @@
 -- The dual rule without multipliers, by the gains of the variables that aren't fixed to zero.
-use Rattle.std.proofs.Common.{◌≡◌, ℕ, zero, suc, ◌+◌, ◌*◌, ◌<◌, ◌≤◌, ◌↔◌, List, [], length, refl, arith}
-use Rattle.std.specs.List.{sum_by}
+use Rattle.std.proofs.Common.{◌≡◌, ℕ, zero, suc, ◌+◌, ◌≤◌, ◌↔◌, List, [], length, refl, arith}
 use Rattle.placement_programme.specs.Plain.{PlainSide}
-use Rattle.placement_programme.specs.Programme.{gain_at}
 use Rattle.placement_programme.specs.Sums.{sum_below}
-use Rattle.placement_programme.proofs.TakeLemmas.{below_at_most}
 use Rattle.certificate_checker.specs.Rules.{moved, kept_at, moved_at, DualHolds}
 use Rattle.certificate_checker.specs.Fixings.{fixing_of}
 use Rattle.certificate_checker.specs.declared.fixings.Fixing.{Fixing}
 use Rattle.certificate_checker.specs.declared.fixings.Fixing.TheVariants.{Zero, One, Free}
-use Rattle.certificate_checker.proofs.Limits.{kept_at_most, gains_so_far}
-
--- no sum passes that of all gains
-pub open_small : (s : PlainSide) (marks : List Fixing) (n : ℕ) → n < length s.vars → sum_below n (kept_at s marks 1 []) + gain_at s.vars n ≤ sum_by (λ v. v.gain) s.vars
-open_small s marks n inside =
-    let less = below_at_most (kept_at s marks 1 []) (gain_at s.vars) n (λ j below. let most = kept_at_most (fixing_of marks j) (1 * gain_at s.vars j) 0 in omega (arith, most)) in
-    let gains = gains_so_far s.vars (suc n) (omega arith) in
-    omega (arith, less, gains)
 
 nothing_moved : (m : Fixing) → moved m 0 ≡ 0
 nothing_moved Zero = refl

@@ -17,7 +17,7 @@ pub mod Greedy
 pub mod Entries
 pub mod Growing
 pub mod Ranking
-pub mod Tallies
+pub mod Exceeding
 pub mod Searching
 pub mod Solving
 pub mod StatedLists

@@ -11,7 +11,7 @@ use Rattle.certificate_checker.specs.declared.trees.Tree.{Tree}
 use Rattle.branch_bound.specs.Assignments.{taken, FailsEveryLeafRule, IsGreatestFree}
 use Rattle.branch_bound.specs.Entries.{StatedFrom, Each, takes_on}
 use Rattle.branch_bound.specs.Ranking.{PassedOver, number_at}
-use Rattle.branch_bound.specs.Tallies.{ExceedsOnlyRowsOf}
+use Rattle.branch_bound.specs.Exceeding.{ExceedsOnlyRowsOf}
 use Rattle.branch_bound.specs.declared.ranking.Ranked.{Ranked}
 use Rattle.branch_bound.specs.declared.incumbents.Incumbent.{Incumbent}
 use Rattle.branch_bound.specs.declared.running.Running.{Running}

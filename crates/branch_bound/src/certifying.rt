@@ -3,10 +3,9 @@ ghost use Rattle.placement_programme.specs.Views.{plain_side, plain_programme};
 ghost use Rattle.certificate_checker.specs.{Shows.{all_free}, Reading.{most_levels}};
 ghost use Rattle.branch_bound.specs.{Assignments.{FailsEveryLeafRule}, Searching.{Closes, HasLevels}, Solving.{ClosesSide, ClosesOn, LacksTree, AreTreesOf, FailsSome}};
 
-use crate::assignments::Assignment;
 use crate::closing::plain_dual;
 use crate::outcomes::Trees;
-use certificate_checker::{Tree, free_marks};
+use certificate_checker::{Assignment, Tree, free_marks};
 use placement_programme::{Programme, Side};
 use std::alloc::{AllocError, Global};
 

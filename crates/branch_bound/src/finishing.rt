@@ -2,11 +2,11 @@ ghost use Rattle.std.specs.Prelude.{◌≡◌, ℕ, ◌+◌, ◌^◌, ◌<◌, �
 ghost use Rattle.placement_programme.specs.{Plain.{PlainProgramme}, Bounds.{AscendWithin}, Programme.{side_for, taken_gains, Fits}, Views.{plain_side, plain_programme, plain_choice}};
 ghost use Rattle.branch_bound.specs.{Assignments.{taken}, Greedy.{IsStart}, Growing.{CannotGrow}, Searching.{IsIncumbent, choice_of}};
 
-use crate::assignments::Assignment;
 use crate::greedy::grow;
 use crate::incumbents::Incumbent;
 use crate::ones::ones_of;
 use crate::starting::empty_incumbent;
+use certificate_checker::Assignment;
 use placement_programme::{Choice, Programme, Side};
 use std::alloc::{AllocError, Global};
 

@@ -1,11 +1,11 @@
 ghost use Rattle.std.specs.Prelude.{◌≡◌, ℕ, pos, ◌<◌, ◌≤◌, ◌≤ℤ◌, ◌↔◌, IsTrue, false, List, Option, length, option_map, IfSome, IfOk};
 ghost use Rattle.placement_programme.specs.{Programme.{gain_at, taken_gains, Fits, IsFeasible, gain}, Views.{plain_side, plain_programme, plain_choice}};
-ghost use Rattle.certificate_checker.specs.Shows.{all_free};
-ghost use Rattle.branch_bound.specs.{Assignments.{taken}, Greatest.{Greatest, GainsMore}, Greedy.{FitsAlone, IsBestAlone, NothingFitsAlone, Tries, Grows, GrowsTo, IsGreedy, choice_on}, Growing.{CannotGrow}, Tallies.{AreTallies}};
+ghost use Rattle.certificate_checker.specs.{Shows.{all_free}, Tallies.{AreTallies}};
+ghost use Rattle.branch_bound.specs.{Assignments.{taken}, Greatest.{Greatest, GainsMore}, Greedy.{FitsAlone, IsBestAlone, NothingFitsAlone, Tries, Grows, GrowsTo, IsGreedy, choice_on}, Growing.{CannotGrow}};
 
-use crate::assignments::Assignment;
+use crate::exceeding::exceeded;
 use crate::ones::ones_of;
-use certificate_checker::{fixing_of, free_marks, gain_of_var, var_count};
+use certificate_checker::{Assignment, fixing_of, free_marks, gain_of_var, var_count};
 use placement_programme::{Choice, Programme, Side, fits};
 use std::alloc::{AllocError, Global};
 
@@ -54,7 +54,7 @@ fn try_one(side: &Side, node: &mut Assignment, number: usize)
 {
     let old = fixing_of(&node.marks, number);
     node.fix_one(side, number);
-    match node.exceeded(side, number) {
+    match exceeded(node, side, number) {
         None => {}
         Some(_) => node.fix(side, number, old),
     }

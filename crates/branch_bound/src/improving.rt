@@ -1,9 +1,10 @@
 ghost use Rattle.std.specs.Prelude.{◌≡◌, ◌-◌, ◌^◌, ◌<◌, ◌≤◌, max, length, OnOk};
 ghost use Rattle.placement_programme.specs.{Programme.{taken_gains, Fits}, Views.{plain_side}};
-ghost use Rattle.branch_bound.specs.{Assignments.{taken}, Searching.{KeepsIncumbent}, Tallies.{AreTallies}};
+ghost use Rattle.certificate_checker.specs.Tallies.{AreTallies};
+ghost use Rattle.branch_bound.specs.{Assignments.{taken}, Searching.{KeepsIncumbent}};
 
-use crate::assignments::Assignment;
 use crate::incumbents::Incumbent;
+use certificate_checker::Assignment;
 use placement_programme::Side;
 use std::alloc::{AllocError, Global};
 

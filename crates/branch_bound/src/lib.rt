@@ -2,12 +2,12 @@
 //! search that a Lagrangian bound guides, and behind it branch and bound in the order of the stated list.
 #![tactic(auto)]
 
-mod assignments;
 mod bounding;
 mod certifying;
 mod closing;
 mod columns;
 mod completing;
+mod exceeding;
 mod fathoming;
 mod finishing;
 mod greedy;
@@ -18,7 +18,6 @@ mod lagrangian;
 mod laws;
 mod layout;
 mod live;
-mod loads;
 mod named_rows;
 mod node;
 mod numbers;

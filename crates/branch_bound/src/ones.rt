@@ -1,25 +1,10 @@
-ghost use Rattle.std.specs.Prelude.{◌≡◌, ◌^◌, ◌<◌, ◌≤◌, length, IfOk};
-ghost use Rattle.placement_programme.specs.{Programme.{taken_gains}, Views.{plain_side}};
+ghost use Rattle.std.specs.Prelude.{◌≡◌, ◌≤◌, length, IfOk};
+ghost use Rattle.placement_programme.specs.Views.{plain_side};
 ghost use Rattle.branch_bound.specs.Assignments.{taken};
 
-use certificate_checker::{Fixing, gain_of_var, is_one, var_count};
+use certificate_checker::{Fixing, is_one, var_count};
 use placement_programme::Side;
 use std::alloc::{AllocError, Global};
-
-/// What the variables gain that are fixed to one, in the units of the board's prices.
-pub(crate) fn ones_gain(side: &Side, marks: &[Fixing]) -> u128
-    requires { length (plain_side side.now).vars ≤ length marks.now }
-    ensures value { result ≡ taken_gains (plain_side side.now) (taken (plain_side side.now) marks.now) }
-    ensures small { result < 2 ^ 104 }
-{
-    let mut total = 0;
-    for number in 0..var_count(side) {
-        if is_one(marks, number) {
-            total += gain_of_var(side, number);
-        }
-    }
-    total
-}
 
 /// The numbers of the variables that are fixed to one, ascending.
 pub(crate) fn ones_of(alloc: Global, side: &Side, marks: &[Fixing]) -> Result<Vec<u32>, AllocError>

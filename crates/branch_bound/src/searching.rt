@@ -1,16 +1,16 @@
 ghost use Rattle.std.specs.Prelude.{◌≡◌, ℕ, suc, ◌+◌, ◌^◌, ◌<◌, ◌≤◌, length, Option, Some, None, IfSome, IfOk, OnOk};
 ghost use Rattle.std.specs.List.{count_by};
 ghost use Rattle.placement_programme.specs.{Programme.{Fits}, Views.{plain_side}};
-ghost use Rattle.certificate_checker.specs.Fixings.{is_free};
-ghost use Rattle.branch_bound.specs.{Assignments.{taken, IsGreatestFree}, Ranking.{IsRanking, PassedOver, number_at}, Tallies.{AreTallies}, Searching.{EntryBelow, IsKnown, Reports, Visits, HasLevels, KeepsIncumbent, TriesNode}};
+ghost use Rattle.certificate_checker.specs.{Fixings.{is_free}, Tallies.{AreTallies}};
+ghost use Rattle.branch_bound.specs.{Assignments.{taken, IsGreatestFree}, Ranking.{IsRanking, PassedOver, number_at}, Searching.{EntryBelow, IsKnown, Reports, Visits, HasLevels, KeepsIncumbent, TriesNode}};
 
-use crate::assignments::Assignment;
 use crate::closing::plain_dual;
+use crate::exceeding::exceeded;
 use crate::improving::improve;
 use crate::ranking::{Ranked, first_free};
 use crate::running::{Running, tell_nodes};
 use crate::visiting::Visit;
-use certificate_checker::{Tree, branch_on};
+use certificate_checker::{Assignment, Tree, branch_on};
 use placement_programme::Side;
 use shelf_io::Progress;
 use std::alloc::{AllocError, Global};
@@ -102,7 +102,7 @@ fn visit(
 {
     match raised {
         None => Ok(visit_known(alloc, task, node, place, run.best.gain)),
-        Some(number) => match node.exceeded(task.side, number as usize) {
+        Some(number) => match exceeded(node, task.side, number as usize) {
             Some(row) => Ok(Visit::Closed(Tree::Over { row })),
             None => visit_fitting(alloc, task, node, place, run),
         },

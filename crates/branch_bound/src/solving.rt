@@ -3,7 +3,6 @@ ghost use Rattle.placement_programme.specs.{Programme.{IsFeasible, gain}, Views.
 ghost use Rattle.certificate_checker.specs.{Shows.{all_free}, Spelling.{IsInRange}, Reading.{most_levels}, Views.{plain_certificate}};
 ghost use Rattle.branch_bound.specs.{Incumbents.{IsSound}, Entries.{all_vars}, declared.outcomes.Status.TheVariants.{Optimal}, Growing.{CannotGrow}, Searching.{Reports, HasLevels, KeepsIncumbent, IsIncumbent, choice_of}, Solving.{ReportsOn, ReachesFirst, EndsWithin, AreTreesOf, Certifies, IsSearched}, FirstSearch.{KeepsFirst, any_answer}};
 
-use crate::assignments::Assignment;
 use crate::bounding::DualBound;
 use crate::certifying::trees_of;
 use crate::finishing::{choice_from, finish};
@@ -16,7 +15,7 @@ use crate::searching::{Task, search};
 use crate::side_certifying::certify_guided;
 use crate::side_visiting::Round;
 use crate::starting::{begin, better};
-use certificate_checker::{Certificate, free_marks};
+use certificate_checker::{Assignment, Certificate, free_marks};
 use placement_programme::{Choice, Programme, Side};
 use shelf_io::Progress;
 use std::alloc::{AllocError, Global};

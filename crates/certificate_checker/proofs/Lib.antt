@@ -19,3 +19,5 @@ pub mod RowWiseLemmas
 pub mod StreamLemmas
 pub mod RoomLemmas
 pub mod WayLemmas
+pub mod RowLoads
+pub mod TallyLemmas

@@ -1,6 +1,5 @@
 -- The way to a node, while a tree is read from its text.
 use Rattle.std.proofs.Common.{◌≡◌, ◌∙◌, ◌≢◌, inl, inr, ℕ, zero, suc, ◌+◌, ◌-◌, ◌^◌, ◌<◌, ◌≤◌, Bool, true, false, List, [], ◌∷◌, length, length-append, slice_set, Result, Ok, Err, refl, sym, ap, subst, get_or-set_other, get_or-set_same, arith}
-use Rattle.std.proofs.Common.{replicate}
 use Rattle.std.proofs.lemmas.List.{set-get_or}
 use Rattle.placement_programme.specs.Plain.{PlainSide}
 use Rattle.certificate_checker.specs.Nodes.{PlainTree, branch, over, dual, leaf, size}
@@ -235,16 +234,16 @@ turned x path marks depth last o rest is inside left_out b = at b.way b.tree b.l
         }
 
 -- the variable of the last step is one of the side
-pub last_marked : (x : TreeText) (path : List PathStep) (marks : List Fixing) (depth : ℕ) (o : Result ℕ Failing) (rest : List ℕ) → 1 ≤ depth → length x.side.vars ≤ length marks → IsBehind x path marks depth o rest → MayMark marks (step_in path (depth - 1)).var o
-last_marked x path marks depth (Err f) rest some wide b = tt
-last_marked x path marks depth (Ok next) rest some wide b = at b.way b.tree b.long b.so_far
+pub last_marked : (x : TreeText) (path : List PathStep) (marks : List Fixing) (depth : ℕ) (o : Result ℕ Failing) (rest : List ℕ) → 1 ≤ depth → IsBehind x path marks depth o rest → MayMark x.side (step_in path (depth - 1)).var o
+last_marked x path marks depth (Err f) rest some b = tt
+last_marked x path marks depth (Ok next) rest some b = at b.way b.tree b.long b.so_far
   where
-    marked_last : (j before : ℕ) → depth - 1 ≡ before → (step_in path before).var ≡ j → j < length x.side.vars → (step_in path (depth - 1)).var < length marks
+    marked_last : (j before : ℕ) → depth - 1 ≡ before → (step_in path before).var ≡ j → j < length x.side.vars → (step_in path (depth - 1)).var < length x.side.vars
     marked_last j before is var below =
         let here : (step_in path (depth - 1)).var ≡ j = ap (λ (i : ℕ). (step_in path i).var) is ∙ var in
-        omega (arith, here, below, wide)
+        omega (arith, here, below)
 
-    at : (way : List Step) (t : PlainTree) → length way ≡ depth → HoldsWith x.side x.best way t path marks next → (step_in path (depth - 1)).var < length marks
+    at : (way : List Step) (t : PlainTree) → length way ≡ depth → HoldsWith x.side x.best way t path marks next → (step_in path (depth - 1)).var < length x.side.vars
     at [] t long b = absurd (omega (arith, long, some))
     at (to_zero j ∷ way) t long b =
         marked_last j (length way) (omega (arith, long, some)) (ap (λ (step : PathStep). step.var) b.written.0) b.held.0.inside
@@ -279,11 +278,11 @@ walked x path marks depth o rest is b = at b.way b.tree b.long b.read b.so_far
     at (to_one j l ∷ way) t long read b = absurd (omega (arith, long, is))
 
 -- a step forward can be taken as long as the walk isn't done
-pub can_advance : (x : TreeText) (path : List PathStep) (marks : List Fixing) (depth : ℕ) (ended : Bool) (o : Result ℕ Failing) (rest : List ℕ) → length x.side.vars ≤ length marks → ((ended ≡ true) × (depth ≡ 0) → ⊥) → StandsAt x path marks depth ended o rest → IfEnded ended (CanRise path marks depth o)
-can_advance x path marks depth false o rest wide going b = tt
-can_advance x path marks depth true o rest wide going b =
+pub can_advance : (x : TreeText) (path : List PathStep) (marks : List Fixing) (depth : ℕ) (ended : Bool) (o : Result ℕ Failing) (rest : List ℕ) → ((ended ≡ true) × (depth ≡ 0) → ⊥) → StandsAt x path marks depth ended o rest → IfEnded ended (CanRise x.side path depth o)
+can_advance x path marks depth false o rest going b = tt
+can_advance x path marks depth true o rest going b =
     let some : 1 ≤ depth = above_none depth (λ none. going (refl, none)) in
-    record { some = some; inside = last_marked x path marks depth o rest some wide b }
+    record { some = some; inside = last_marked x path marks depth o rest some b }
   where
     above_none : (depth : ℕ) → (depth ≡ 0 → ⊥) → 1 ≤ depth
     above_none zero other = absurd (other refl)
@@ -310,10 +309,3 @@ pub branch_fault : (x : TreeText) (path : List PathStep) (marks : List Fixing) (
 branch_fault x path marks depth o bytes e deep is before =
     read_fault x path marks depth o (0 ∷ bytes) e before
     (ap (λ (n : ℕ). tree_at x.total n (0 ∷ bytes)) (levels_left x.levels depth deep) ∙ var_broken x.total (x.levels - suc depth) bytes e is)
-
-free_long : (n : ℕ) → length {A = Fixing} (replicate n Free) ≡ n
-free_long zero = refl
-free_long (suc n) = ap suc (free_long n)
-
-pub marks_long : (s : PlainSide) (first marks : List Fixing) → first ≡ all_free s → length marks ≡ length first → length s.vars ≤ length marks
-marks_long s first marks unfixed long = omega (arith, ap length unfixed, free_long (length s.vars), long)

@@ -16,6 +16,7 @@ pub mod Reading
 pub mod Spelling
 pub mod Loading
 pub mod Ways
+pub mod Tallies
 pub mod Rooms
 pub mod RowWise
 pub mod Laws

@@ -10,6 +10,7 @@ use Rattle.certificate_checker.specs.Shows.{IsAccepted, Answers, PlainVerdict, o
 use Rattle.certificate_checker.specs.Views.{plain_verdict}
 use Rattle.certificate_checker.specs.Reading.{PlainTrees}
 use Rattle.certificate_checker.specs.RowWise.{rows_of, IsOfSide}
+use Rattle.certificate_checker.specs.Tallies.{HasRoomFor, HasSameRoomFor}
 use Rattle.certificate_checker.specs.Walks.{SideAnswers}
 use Rattle.certificate_checker.specs.declared.fault.CertFault.{CertFault}
 use Rattle.certificate_checker.specs.declared.walking.Failing.{Failing}
@@ -98,11 +99,11 @@ BodyAnswers p kept (Err e) read = read ≡ Err e
 -- the room is large enough for a programme, and has its weights by rows
 pub record RoomFits (p : Programme) (r : Room) : Type 0 where
   pub path : 4097 ≤ length r.path.items
-  pub off_marks : length p.off.vars.items ≤ length r.marks.items
+  pub off : HasRoomFor (plain_side p.off) r.off
   pub off_prices : length p.off.vars.items ≤ length r.prices.items
   pub off_rows : IsOfSide (plain_side p.off) (rows_of r.off_rows)
   pub off_take : length p.off.vars.items ≤ vec_capacity r.choice.take
-  pub on_marks : IfSome p.on (λ s. length s.vars.items ≤ length r.marks.items)
+  pub on : IfSome p.on (λ s. HasRoomFor (plain_side s) r.on)
   pub on_prices : IfSome p.on (λ s. length s.vars.items ≤ length r.prices.items)
   pub on_rows : IfSome p.on (λ s. IsOfSide (plain_side s) (rows_of r.on_rows))
   pub on_take : IfSome p.on (λ s. length s.vars.items ≤ vec_capacity r.choice.take)
@@ -115,13 +116,15 @@ most_of n (Some m) = max n m
 -- the lists of a room are as long as a programme needs them
 pub record IsRoomOf (p : Programme) (r : Room) : Type 0 where
   pub path : length r.path.items ≡ 4097
-  pub marks : length r.marks.items ≡ most_of (length p.off.vars.items) (option_map (λ s. length s.vars.items) p.on)
+  pub off : HasRoomFor (plain_side p.off) r.off
+  pub on : IfSome p.on (λ s. HasRoomFor (plain_side s) r.on)
   pub prices : length r.prices.items ≡ most_of (length p.off.vars.items) (option_map (λ s. length s.vars.items) p.on)
 
 -- the lists of a room are as long as they were, and its weights by rows are the same
 pub record KeepsSizes (old new : Room) : Type 0 where
   pub path : length new.path.items ≡ length old.path.items
-  pub marks : length new.marks.items ≡ length old.marks.items
+  pub off : HasSameRoomFor old.off new.off
+  pub on : HasSameRoomFor old.on new.on
   pub prices : length new.prices.items ≡ length old.prices.items
   pub off_rows : new.off_rows ≡ old.off_rows
   pub on_rows : new.on_rows ≡ old.on_rows

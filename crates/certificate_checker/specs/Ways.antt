@@ -150,9 +150,9 @@ Advances x path marks (Ok r) = Stands x path marks r.0 r.1.now
 Advances x path marks (Err e) = tree_at x.total x.levels x.bytes ≡ Err e
 
 -- a variable that is to be marked, as long as all nodes hold, is one of the side
-abbrev pub MayMark : List Fixing → ℕ → Result ℕ Failing → Type 0
-MayMark marks j (Ok node) = j < length marks
-MayMark marks j (Err f) = Unit {0}
+abbrev pub MayMark : PlainSide → ℕ → Result ℕ Failing → Type 0
+MayMark s j (Ok node) = j < length s.vars
+MayMark s j (Err f) = Unit {0}
 
 -- the marks with another mark, as long as all nodes hold
 abbrev pub marked : List Fixing → ℕ → Fixing → Result ℕ Failing → List Fixing
@@ -160,17 +160,17 @@ marked marks j f (Ok node) = slice_set marks j f
 marked marks j f (Err e) = marks
 
 -- the last step of a path can be taken back
-pub record CanRise (path : List PathStep) (marks : List Fixing) (depth : ℕ) (answer : Result ℕ Failing) : Type 0 where
+pub record CanRise (s : PlainSide) (path : List PathStep) (depth : ℕ) (answer : Result ℕ Failing) : Type 0 where
   pub some : 1 ≤ depth
-  pub inside : MayMark marks (step_in path (depth - 1)).var answer
+  pub inside : MayMark s (step_in path (depth - 1)).var answer
 
 abbrev pub IfEnded : Bool → Type 0 → Type 0
 IfEnded false P = Unit {0}
 IfEnded true P = P
 
 -- a step forward can be taken
-abbrev pub CanAdvance : List PathStep → List Fixing → Progress → Type 0
-CanAdvance path marks progress = IfEnded progress.ended (CanRise path marks progress.depth progress.so_far)
+abbrev pub CanAdvance : PlainSide → List PathStep → Progress → Type 0
+CanAdvance s path progress = IfEnded progress.ended (CanRise s path progress.depth progress.so_far)
 
 -- what is left to do, in units that each step forward uses up
 abbrev pub left : Progress → List ℕ → ℕ

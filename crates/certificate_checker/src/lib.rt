@@ -4,6 +4,7 @@
 //! that bound the gain, or nothing left to fix. The check trusts nobody who made the tree.
 #![tactic(auto)]
 
+mod assignments;
 mod checking;
 mod columns;
 mod digits;
@@ -13,6 +14,7 @@ mod fields;
 mod fixings;
 mod laws;
 mod loading;
+mod loads;
 mod multipliers;
 mod prices;
 mod reading;
@@ -22,6 +24,8 @@ mod rules;
 mod skipping;
 mod steps;
 mod taking;
+mod tallied_rules;
+mod tallying;
 mod tasks;
 mod text_checking;
 mod text_trees;
@@ -31,6 +35,7 @@ mod verdict;
 mod walking;
 mod writing;
 
+pub use assignments::Assignment;
 pub use checking::{accepted, check};
 pub use columns::{gain_of_var, var_count, weights_of_var};
 pub use duals::{Weighed, dual_holds_by_row};

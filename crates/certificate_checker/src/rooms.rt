@@ -1,18 +1,21 @@
 ghost use Rattle.std.specs.Prelude.{◌≡◌, ◌≤◌, length, option_map, IfOk, IfSome};
 ghost use Rattle.placement_programme.specs.Views.{plain_side};
-ghost use Rattle.certificate_checker.specs.{RowWise.{rows_of, IsOfSide}, Rooms.{RoomFits, IsRoomOf, most_of}};
+ghost use Rattle.certificate_checker.specs.{RowWise.{rows_of, IsOfSide}, Tallies.{HasRoomFor}, Rooms.{RoomFits, IsRoomOf, most_of}};
 
-use crate::fixings::Fixing;
+use crate::assignments::Assignment;
+use crate::fixings::free_marks;
 use crate::row_wise::RowWise;
 use crate::steps::PathStep;
-use placement_programme::{Choice, Programme};
+use placement_programme::{Choice, Programme, Side};
 use std::alloc::{AllocError, Global};
 
 /// The room in which certificates of a programme are checked as they are read. It may be used again after every answer.
 #[derive(Drop)]
 pub struct Room {
-    /// A mark for each variable of the longer side.
-    pub marks: Vec<Fixing>,
+    /// What is fixed of the side without overlay.
+    pub off: Assignment,
+    /// What is fixed of the side with overlay, where there is one.
+    pub on: Assignment,
     /// A step for each depth, 4,097, with which the way from the root to a node is told.
     pub path: Vec<PathStep>,
     /// A price for each variable of the longer side.
@@ -34,10 +37,28 @@ fn most_vars(p: &Programme) -> usize
     }
 }
 
-fn fixings(alloc: Global, count: usize) -> Result<Vec<Fixing>, AllocError>
-    ensures { IfOk result (λ v. length v.items ≡ count) }
+fn free_side(alloc: Global, side: &Side) -> Result<Assignment, AllocError>
+    ensures { IfOk result (HasRoomFor (plain_side side.now)) }
 {
-    vec![in alloc; Fixing::Free; count]
+    let marks = free_marks(alloc, side)?;
+    let assignment = Assignment::of(alloc, side, marks)?;
+    Ok(assignment)
+}
+
+/// What is fixed of the side with overlay, nothing where there is no such side.
+fn free_overlay(alloc: Global, p: &Programme) -> Result<Assignment, AllocError>
+    ensures { IfOk result (λ a. IfSome p.now.on (λ s. HasRoomFor (plain_side s) a)) }
+{
+    match &p.on {
+        Some(side) => free_side(alloc, side),
+        None => Ok(Assignment {
+            marks: Vec::new(alloc),
+            loads: Vec::new(alloc),
+            gains: 0,
+            bound: 0,
+            free_count: 0,
+        }),
+    }
 }
 
 fn prices_of(alloc: Global, count: usize) -> Result<Vec<u128>, AllocError>
@@ -75,7 +96,8 @@ impl Room {
         ensures exact { IfOk result (λ room. IsRoomOf p.now room) }
     {
         let vars = most_vars(p);
-        let marks = fixings(alloc, vars)?;
+        let off = free_side(alloc, &p.off)?;
+        let on = free_overlay(alloc, p)?;
         let path = steps_of(alloc, 4097)?;
         let prices = prices_of(alloc, vars)?;
         let off_rows = RowWise::of(alloc, &p.off)?;
@@ -83,7 +105,8 @@ impl Room {
         let take = Vec::with_capacity(alloc, vars)?;
         let choice = Choice { on: false, take };
         Ok(Room {
-            marks,
+            off,
+            on,
             path,
             prices,
             off_rows,

@@ -1,7 +1,8 @@
 ghost use Rattle.std.specs.Prelude.{◌≡◌, ℕ, ◌+◌, ◌-◌, ◌*◌, ◌<◌, ◌≤◌, ◌↔◌, IsTrue, Bool, true, List, ◌∷◌, length};
 ghost use Rattle.placement_programme.specs.Views.{plain_side};
-ghost use Rattle.certificate_checker.specs.Ways.{Step, to_zero, SoFar, TreeText, IsBehind, Stands, MayMark, marked, step_in, CanRise, left};
+ghost use Rattle.certificate_checker.specs.{Tallies.{IsAssignmentOf}, Ways.{Step, to_zero, SoFar, TreeText, IsBehind, Stands, MayMark, marked, step_in, CanRise, left}};
 
+use crate::assignments::Assignment;
 use crate::fixings::Fixing;
 use crate::rules::branch_holds;
 use crate::walking::{Failing, next_number};
@@ -45,61 +46,77 @@ fn step_in(path: &[PathStep], depth: u32) -> PathStep
 /// Takes the step to the child for zero. A branch that fixes no free variable fails, and its children are only read.
 pub(crate) fn enter(
     side: &Side,
-    marks: &mut [Fixing],
+    assignment: &mut Assignment,
     path: &mut [PathStep],
     depth: u32,
     var: u32,
     so_far: Result<u32, Failing>,
 ) -> Result<u32, Failing>
-    requires marked { length (plain_side side.now).vars ≤ length marks.old }
+    requires exact { IsAssignmentOf (plain_side side.now) assignment.old }
     requires inside { depth < length path.old }
-    ensures { (judged : Bool) (best : ℕ) (way : List Step) → length way ≡ depth → SoFar (plain_side side.now) judged best way path.old marks.old so_far
-        → SoFar (plain_side side.now) judged best (to_zero var ∷ way) path.new marks.new result }
+    ensures exact { IsAssignmentOf (plain_side side.now) assignment.new }
+    ensures so_far { (judged : Bool) (best : ℕ) (way : List Step) → length way ≡ depth → SoFar (plain_side side.now) judged best way path.old assignment.old.marks.items so_far
+        → SoFar (plain_side side.now) judged best (to_zero var ∷ way) path.new assignment.new.marks.items result }
 {
     path[depth as usize] = PathStep { var, taken: false };
     match so_far {
         Err(failing) => Err(failing),
         Ok(node) => {
-            if !branch_holds(side, marks, var) {
+            if !branch_holds(side, &assignment.marks, var) {
                 return Err(Failing { node, depth });
             }
-            marks[var as usize] = Fixing::Zero;
+            assignment.fix_zero(side, var as usize);
             Ok(next_number(node))
         }
     }
 }
 
-/// Marks a variable, as long as all nodes hold: behind one that fails the marks serve no more.
-fn set_mark(marks: &mut [Fixing], var: u32, fixing: Fixing, so_far: &Result<u32, Failing>)
-    requires { MayMark marks.old var so_far.now }
-    ensures { marks.new ≡ marked marks.old var fixing so_far.now }
+/// Fixes or frees a variable, as long as all nodes hold: behind one that fails the assignment serves no more.
+fn set_mark(
+    side: &Side,
+    assignment: &mut Assignment,
+    var: u32,
+    fixing: Fixing,
+    so_far: &Result<u32, Failing>,
+)
+    requires exact { IsAssignmentOf (plain_side side.now) assignment.old }
+    requires may { MayMark (plain_side side.now) var so_far.now }
+    ensures exact { IsAssignmentOf (plain_side side.now) assignment.new }
+    ensures marks { assignment.new.marks.items ≡ marked assignment.old.marks.items var fixing so_far.now }
 {
     match so_far {
-        Ok(_) => marks[var as usize] = fixing,
+        Ok(_) => assignment.fix(side, var as usize, fixing),
         Err(_) => {}
     }
 }
 
 /// Leaves the tree at the end of the path: the child for one comes behind that for zero, and the branch is read behind that
 /// for one, so that its variable is free again.
-pub(crate) fn leave(marks: &mut [Fixing], path: &mut [PathStep], progress: Progress) -> Progress
+pub(crate) fn leave(
+    side: &Side,
+    assignment: &mut Assignment,
+    path: &mut [PathStep],
+    progress: Progress,
+) -> Progress
+    requires exact { IsAssignmentOf (plain_side side.now) assignment.old }
     requires inside { progress.depth ≤ length path.old }
-    requires step { CanRise path.old marks.old progress.depth progress.so_far }
-    ensures stands { (x : TreeText) (rest : List ℕ) → IsBehind x path.old marks.old progress.depth progress.so_far rest → Stands x path.new marks.new result rest }
+    requires step { CanRise (plain_side side.now) path.old progress.depth progress.so_far }
+    ensures exact { IsAssignmentOf (plain_side side.now) assignment.new }
+    ensures stands { (x : TreeText) (rest : List ℕ) → IsBehind x path.old assignment.old.marks.items progress.depth progress.so_far rest → Stands x path.new assignment.new.marks.items result rest }
     ensures left { (rest : List ℕ) → left result rest < 4 * length rest + (2 * progress.depth + 1) }
     ensures depth { result.depth ≤ progress.depth }
 {
     let last = progress.depth - 1;
     let step = step_in(path, last);
     if step.taken {
-        set_mark(marks, step.var, Fixing::Free, &progress.so_far);
+        set_mark(side, assignment, step.var, Fixing::Free, &progress.so_far);
         return Progress {
             depth: last,
             ended: true,
             so_far: progress.so_far,
         };
     }
-    set_mark(marks, step.var, Fixing::One, &progress.so_far);
+    set_mark(side, assignment, step.var, Fixing::One, &progress.so_far);
     path[last as usize] = PathStep {
         var: step.var,
         taken: true,

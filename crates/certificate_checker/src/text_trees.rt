@@ -1,11 +1,10 @@
 ghost use Rattle.std.specs.Prelude.{◌≡◌, ℕ, ◌^◌, ◌<◌, ◌≤◌, length, Some, None, Err, option_map, IfSome};
 ghost use Rattle.placement_programme.specs.Views.{plain_side, plain_programme};
-ghost use Rattle.certificate_checker.specs.{Reading.{tree_at, most_levels, trees_at, trees_for}, Walks.{SideAnswers}, RowWise.{rows_of, IsOfSide}, Rooms.{gain_if, gain_behind, used, SideRead, TreesRead, RoomFits, KeepsChoiceAndSizes}};
+ghost use Rattle.certificate_checker.specs.{Reading.{tree_at, most_levels, trees_at, trees_for}, Tallies.{HasRoomFor, HasSameRoomFor}, Walks.{SideAnswers}, RowWise.{rows_of, IsOfSide}, Rooms.{gain_if, gain_behind, used, SideRead, TreesRead, RoomFits, KeepsChoiceAndSizes}};
 
-use crate::columns::var_count;
+use crate::assignments::Assignment;
 use crate::fault::CertFault;
 use crate::fields::{Part, number_in};
-use crate::fixings::Fixing;
 use crate::rooms::Room;
 use crate::steps::PathStep;
 use crate::tasks::Task;
@@ -59,9 +58,10 @@ fn first_node() -> Result<(), Failing>
 }
 
 /// Walks over the tree of a side, from marks that are all free.
+#[tactic(auto, using(crate::proofs::TallyLemmas::same_room))]
 fn walk_side<'a>(
     task: &Task,
-    marks: &mut [Fixing],
+    assignment: &mut Assignment,
     path: &mut [PathStep],
     prices: &mut [u128],
     bytes: &'a [u8],
@@ -70,13 +70,13 @@ fn walk_side<'a>(
     requires by_row { IsOfSide (plain_side task.now.side.now) (rows_of task.now.by_row.now) }
     requires levels { task.now.levels < 2 ^ 31 }
     requires path { task.now.levels ≤ length path.old }
-    requires marked { length (plain_side task.now.side.now).vars ≤ length marks.old }
+    requires assignment { HasRoomFor (plain_side task.now.side.now) assignment.old }
     requires room { length (plain_side task.now.side.now).vars ≤ length prices.old }
-    ensures { SideRead (Some (plain_side task.now.side.now)) (gain_if task.now.judged task.now.best) result (tree_at task.now.total task.now.levels bytes.now) }
+    ensures same { HasSameRoomFor assignment.old assignment.new }
+    ensures read { SideRead (Some (plain_side task.now.side.now)) (gain_if task.now.judged task.now.best) result (tree_at task.now.total task.now.levels bytes.now) }
 {
-    let free = &mut marks[..var_count(task.side)];
-    free.fill(Fixing::Free);
-    match walk_text(task, free, path, prices, bytes) {
+    assignment.restart(task.side);
+    match walk_text(task, assignment, path, prices, bytes) {
         Err(fault) => Err(fault),
         Ok((Ok(_), rest)) => Ok((Ok(()), rest)),
         Ok((Err(failing), rest)) => Ok((Err(failing), rest)),
@@ -107,7 +107,7 @@ fn off_tree<'a>(
     };
     walk_side(
         &task,
-        &mut room.marks,
+        &mut room.off,
         &mut room.path,
         &mut room.prices,
         bytes,
@@ -125,7 +125,7 @@ fn overlay_tree<'a>(
 ) -> Result<(Result<(), Failing>, &'a [u8]), CertFault>
     requires best { IfSome best (λ b. b ≤ 2 ^ 104) }
     requires path { 4097 ≤ length room.old.path.items }
-    requires marked { length (plain_side side.now).vars ≤ length room.old.marks.items }
+    requires assignment { HasRoomFor (plain_side side.now) room.old.on }
     requires room { length (plain_side side.now).vars ≤ length room.old.prices.items }
     requires by_row { IsOfSide (plain_side side.now) (rows_of room.old.on_rows) }
     ensures read { SideRead (Some (plain_side side.now)) best result (tree_at total most_levels bytes.now) }
@@ -139,13 +139,7 @@ fn overlay_tree<'a>(
         total,
         levels: 4097,
     };
-    walk_side(
-        &task,
-        &mut room.marks,
-        &mut room.path,
-        &mut room.prices,
-        bytes,
-    )
+    walk_side(&task, &mut room.on, &mut room.path, &mut room.prices, bytes)
 }
 
 /// Walks over the tree of the side with overlay; one without a side is read, and fails at its node 0.

@@ -1,16 +1,17 @@
 ghost use Rattle.std.specs.Prelude.{◌≡◌, ℕ, suc, ◌+◌, ◌^◌, ◌<◌, ◌≤◌, ◌↔◌, IsTrue, false, List, [], ◌∷◌, length, IfOk};
 ghost use Rattle.placement_programme.specs.{Plain.{PlainSide}, Views.{plain_side}};
-ghost use Rattle.certificate_checker.specs.{Nodes.{PlainTree}, Rules.{KeepsRule}, Shows.{all_free}, Walks.{Walks}, declared.fixings.Fixing.{Fixing}, Reading.{over_at, dual_at, tree_at}, RowWise.{rows_of, IsOfSide}, Loading.{IsSingle, SplitsFirst, WalksRead, WalksBehind, TreeWalked}, Ways.{text_of, first_answer, IsBefore, Stands, Advances, CanAdvance, left}};
+ghost use Rattle.certificate_checker.specs.{Nodes.{PlainTree}, Rules.{KeepsRule}, Shows.{all_free}, Tallies.{AreTallies, IsAssignmentOf}, Walks.{Walks}, declared.fixings.Fixing.{Fixing}, Reading.{over_at, dual_at, tree_at}, RowWise.{rows_of, IsOfSide}, Loading.{IsSingle, SplitsFirst, WalksRead, WalksBehind, TreeWalked}, Ways.{text_of, first_answer, IsBefore, Stands, Advances, CanAdvance, left}};
 
+use crate::assignments::Assignment;
 use crate::duals::loaded_holds;
 use crate::fault::CertFault;
 use crate::fields::{Part, cut_off, number_in, place, small_number};
-use crate::fixings::Fixing;
 use crate::loading::load_entries;
 use crate::reading::below_all;
 use crate::rules::{leaf_holds, over_holds};
 use crate::skipping::skip_single;
 use crate::steps::{PathStep, Progress, enter, is_done, leave};
+use crate::tallied_rules::{tallied_leaf, tallied_over};
 use crate::tasks::Task;
 use crate::walking::{Failing, next_number};
 
@@ -31,39 +32,49 @@ fn single(holds: bool, node: u32, depth: u32) -> Result<u32, Failing>
 #[tactic(auto, unfolding(crate::specs::Reading::over_at))]
 fn walk_over<'a>(
     task: &Task,
-    marks: &[Fixing],
+    assignment: &Assignment,
     node: u32,
     depth: u32,
     bytes: &'a [u8],
 ) -> Result<Walked<'a>, CertFault>
-    requires { length (plain_side task.now.side.now).vars ≤ length marks.now }
-    ensures { WalksRead (plain_side task.now.side.now) task.now.best marks.now node depth result (over_at task.now.total bytes.now) }
+    requires { AreTallies (plain_side task.now.side.now) assignment.now }
+    ensures { WalksRead (plain_side task.now.side.now) task.now.best assignment.now.marks.items node depth result (over_at task.now.total bytes.now) }
 {
     match small_number(Part::Node, 0, task.total, bytes) {
         Err(fault) => Err(fault),
-        Ok((row, rest)) => Ok((single(over_holds(task.side, marks, row), node, depth), rest)),
+        Ok((row, rest)) => Ok((
+            single(tallied_over(task.side, assignment, row), node, depth),
+            rest,
+        )),
     }
 }
 
 #[tactic(auto, unfolding(crate::specs::Reading::dual_at))]
 fn walk_dual<'a>(
     task: &Task,
-    marks: &[Fixing],
+    assignment: &Assignment,
     prices: &mut [u128],
     node: u32,
     depth: u32,
     bytes: &'a [u8],
 ) -> Result<Walked<'a>, CertFault>
     requires best { task.now.best ≤ 2 ^ 104 }
-    requires marked { length (plain_side task.now.side.now).vars ≤ length marks.now }
+    requires tallies { AreTallies (plain_side task.now.side.now) assignment.now }
     requires by_row { IsOfSide (plain_side task.now.side.now) (rows_of task.now.by_row.now) }
     requires room { length (plain_side task.now.side.now).vars ≤ length prices.old }
-    ensures { WalksRead (plain_side task.now.side.now) task.now.best marks.now node depth result (dual_at task.now.total bytes.now) }
+    ensures { WalksRead (plain_side task.now.side.now) task.now.best assignment.now.marks.items node depth result (dual_at task.now.total bytes.now) }
 {
     let (scale, rest) = number_in(Part::Node, 1, 65536, task.total, bytes)?;
     let (count, rest) = small_number(Part::Node, 0, task.total, rest)?;
     let (loaded, rest) = load_entries(task, prices, count, rest)?;
-    let holds = loaded_holds(task.side, task.best, marks, prices, scale as u32, &loaded);
+    let holds = loaded_holds(
+        task.side,
+        task.best,
+        &assignment.marks,
+        prices,
+        scale as u32,
+        &loaded,
+    );
     Ok((single(holds, node, depth), rest))
 }
 
@@ -71,25 +82,25 @@ fn walk_dual<'a>(
 #[tactic(auto, unfolding(crate::specs::Reading::tree_at))]
 fn walk_single<'a>(
     task: &Task,
-    marks: &[Fixing],
+    assignment: &Assignment,
     prices: &mut [u128],
     node: u32,
     depth: u32,
     bytes: &'a [u8],
 ) -> Result<Walked<'a>, CertFault>
     requires best { task.now.best ≤ 2 ^ 104 }
-    requires marked { length (plain_side task.now.side.now).vars ≤ length marks.now }
+    requires tallies { AreTallies (plain_side task.now.side.now) assignment.now }
     requires by_row { IsOfSide (plain_side task.now.side.now) (rows_of task.now.by_row.now) }
     requires room { length (plain_side task.now.side.now).vars ≤ length prices.old }
     requires tag { (rest : List ℕ) → bytes.now ≡ 0 ∷ rest → ⊥ }
-    ensures { (levels : ℕ) → WalksRead (plain_side task.now.side.now) task.now.best marks.now node depth result (tree_at task.now.total (suc levels) bytes.now) }
+    ensures { (levels : ℕ) → WalksRead (plain_side task.now.side.now) task.now.best assignment.now.marks.items node depth result (tree_at task.now.total (suc levels) bytes.now) }
 {
     match bytes {
         [] => Err(cut_off(task.total)),
-        [1, rest @ ..] => walk_over(task, marks, node, depth, rest),
-        [2, rest @ ..] => walk_dual(task, marks, prices, node, depth, rest),
+        [1, rest @ ..] => walk_over(task, assignment, node, depth, rest),
+        [2, rest @ ..] => walk_dual(task, assignment, prices, node, depth, rest),
         [3, rest @ ..] => Ok((
-            single(leaf_holds(task.side, task.best, marks), node, depth),
+            single(tallied_leaf(task.side, assignment, task.best), node, depth),
             rest,
         )),
         [_, ..] => Err(CertFault::BadNode {
@@ -101,25 +112,25 @@ fn walk_single<'a>(
 /// Walks over a node that isn't a branch, behind others: behind one that fails it is only read.
 fn answer_single<'a>(
     task: &Task,
-    marks: &[Fixing],
+    assignment: &Assignment,
     prices: &mut [u128],
     so_far: Result<u32, Failing>,
     depth: u32,
     bytes: &'a [u8],
 ) -> Result<Walked<'a>, CertFault>
     requires best { task.now.best ≤ 2 ^ 104 }
-    requires marked { length (plain_side task.now.side.now).vars ≤ length marks.now }
+    requires tallies { AreTallies (plain_side task.now.side.now) assignment.now }
     requires by_row { IsOfSide (plain_side task.now.side.now) (rows_of task.now.by_row.now) }
     requires room { length (plain_side task.now.side.now).vars ≤ length prices.old }
     requires tag { (rest : List ℕ) → bytes.now ≡ 0 ∷ rest → ⊥ }
-    ensures { (levels : ℕ) → WalksBehind (plain_side task.now.side.now) task.now.best marks.now so_far depth result (tree_at task.now.total (suc levels) bytes.now) }
+    ensures { (levels : ℕ) → WalksBehind (plain_side task.now.side.now) task.now.best assignment.now.marks.items so_far depth result (tree_at task.now.total (suc levels) bytes.now) }
 {
     match so_far {
         Err(failing) => match skip_single(task.total, bytes) {
             Err(fault) => Err(fault),
             Ok(rest) => Ok((Err(failing), rest)),
         },
-        Ok(node) => walk_single(task, marks, prices, node, depth, bytes),
+        Ok(node) => walk_single(task, assignment, prices, node, depth, bytes),
     }
 }
 
@@ -135,23 +146,24 @@ fn first_byte(total: usize, bytes: &[u8]) -> Result<(u8, &[u8]), CertFault>
 /// Reads a branch's variable, and steps to its child for zero.
 fn read_branch<'a>(
     task: &Task,
-    marks: &mut [Fixing],
+    assignment: &mut Assignment,
     path: &mut [PathStep],
     progress: Progress,
     bytes: &'a [u8],
 ) -> Result<(Progress, &'a [u8]), CertFault>
-    requires marked { length (plain_side task.now.side.now).vars ≤ length marks.old }
+    requires exact { IsAssignmentOf (plain_side task.now.side.now) assignment.old }
     requires inside { progress.depth < length path.old }
     requires depth { progress.depth < 2 ^ 31 }
+    ensures exact { IsAssignmentOf (plain_side task.now.side.now) assignment.new }
     ensures reads { (levels : ℕ) (all : List ℕ) → progress.depth < levels
-        → IsBefore (text_of (plain_side task.now.side.now) task.now.judged task.now.best task.now.total levels all) path.old marks.old progress.depth progress.so_far (0 ∷ bytes.now)
-        → Advances (text_of (plain_side task.now.side.now) task.now.judged task.now.best task.now.total levels all) path.new marks.new result }
+        → IsBefore (text_of (plain_side task.now.side.now) task.now.judged task.now.best task.now.total levels all) path.old assignment.old.marks.items progress.depth progress.so_far (0 ∷ bytes.now)
+        → Advances (text_of (plain_side task.now.side.now) task.now.judged task.now.best task.now.total levels all) path.new assignment.new.marks.items result }
     ensures left { IfOk result (λ r. left r.0 r.1.now < left progress (0 ∷ bytes.now)) }
     ensures depth { (levels : ℕ) → progress.depth < levels → IfOk result (λ r. r.0.depth ≤ levels) }
 {
     let (var, rest) = small_number(Part::Node, 0, task.total, bytes)?;
     let depth = progress.depth;
-    let so_far = enter(task.side, marks, path, depth, var, progress.so_far);
+    let so_far = enter(task.side, assignment, path, depth, var, progress.so_far);
     let entered = Progress {
         depth: depth + 1,
         ended: false,
@@ -163,25 +175,25 @@ fn read_branch<'a>(
 /// Reads a node that isn't a branch.
 fn read_single<'a>(
     task: &Task,
-    marks: &[Fixing],
+    assignment: &Assignment,
     path: &[PathStep],
     prices: &mut [u128],
     progress: Progress,
     bytes: &'a [u8],
 ) -> Result<(Progress, &'a [u8]), CertFault>
     requires best { task.now.best ≤ 2 ^ 104 }
-    requires marked { length (plain_side task.now.side.now).vars ≤ length marks.now }
+    requires tallies { AreTallies (plain_side task.now.side.now) assignment.now }
     requires by_row { IsOfSide (plain_side task.now.side.now) (rows_of task.now.by_row.now) }
     requires room { length (plain_side task.now.side.now).vars ≤ length prices.old }
     requires tag { (rest : List ℕ) → bytes.now ≡ 0 ∷ rest → ⊥ }
     ensures reads { (levels : ℕ) (all : List ℕ) → progress.depth < levels
-        → IsBefore (text_of (plain_side task.now.side.now) task.now.judged task.now.best task.now.total levels all) path.now marks.now progress.depth progress.so_far bytes.now
-        → Advances (text_of (plain_side task.now.side.now) task.now.judged task.now.best task.now.total levels all) path.now marks.now result }
+        → IsBefore (text_of (plain_side task.now.side.now) task.now.judged task.now.best task.now.total levels all) path.now assignment.now.marks.items progress.depth progress.so_far bytes.now
+        → Advances (text_of (plain_side task.now.side.now) task.now.judged task.now.best task.now.total levels all) path.now assignment.now.marks.items result }
     ensures left { progress.ended ≡ false → IfOk result (λ r. left r.0 r.1.now < left progress bytes.now) }
     ensures depth { (levels : ℕ) → progress.depth < levels → IfOk result (λ r. r.0.depth ≤ levels) }
 {
     let depth = progress.depth;
-    let (so_far, rest) = answer_single(task, marks, prices, progress.so_far, depth, bytes)?;
+    let (so_far, rest) = answer_single(task, assignment, prices, progress.so_far, depth, bytes)?;
     let behind = Progress {
         depth,
         ended: true,
@@ -193,21 +205,22 @@ fn read_single<'a>(
 /// Reads the next node of a tree.
 fn read_node<'a>(
     task: &Task,
-    marks: &mut [Fixing],
+    assignment: &mut Assignment,
     path: &mut [PathStep],
     prices: &mut [u128],
     progress: Progress,
     bytes: &'a [u8],
 ) -> Result<(Progress, &'a [u8]), CertFault>
     requires best { task.now.best ≤ 2 ^ 104 }
-    requires marked { length (plain_side task.now.side.now).vars ≤ length marks.old }
+    requires exact { IsAssignmentOf (plain_side task.now.side.now) assignment.old }
     requires by_row { IsOfSide (plain_side task.now.side.now) (rows_of task.now.by_row.now) }
     requires room { length (plain_side task.now.side.now).vars ≤ length prices.old }
     requires levels { task.now.levels < 2 ^ 31 }
     requires inside { task.now.levels ≤ length path.old }
     requires depth { progress.depth ≤ task.now.levels }
-    ensures reads { (all : List ℕ) → IsBefore (text_of (plain_side task.now.side.now) task.now.judged task.now.best task.now.total task.now.levels all) path.old marks.old progress.depth progress.so_far bytes.now
-        → Advances (text_of (plain_side task.now.side.now) task.now.judged task.now.best task.now.total task.now.levels all) path.new marks.new result }
+    ensures exact { IsAssignmentOf (plain_side task.now.side.now) assignment.new }
+    ensures reads { (all : List ℕ) → IsBefore (text_of (plain_side task.now.side.now) task.now.judged task.now.best task.now.total task.now.levels all) path.old assignment.old.marks.items progress.depth progress.so_far bytes.now
+        → Advances (text_of (plain_side task.now.side.now) task.now.judged task.now.best task.now.total task.now.levels all) path.new assignment.new.marks.items result }
     ensures left { progress.ended ≡ false → IfOk result (λ r. left r.0 r.1.now < left progress bytes.now) }
     ensures depth { IfOk result (λ r. r.0.depth ≤ task.now.levels) }
 {
@@ -216,37 +229,38 @@ fn read_node<'a>(
         return Err(below_all(task.total, bytes, tag));
     }
     if tag == 0 {
-        return read_branch(task, marks, path, progress, rest);
+        return read_branch(task, assignment, path, progress, rest);
     }
-    read_single(task, marks, path, prices, progress, bytes)
+    read_single(task, assignment, path, prices, progress, bytes)
 }
 
 /// One step forward: the next node is read, or the tree that was read is left.
 fn advance<'a>(
     task: &Task,
-    marks: &mut [Fixing],
+    assignment: &mut Assignment,
     path: &mut [PathStep],
     prices: &mut [u128],
     progress: Progress,
     bytes: &'a [u8],
 ) -> Result<(Progress, &'a [u8]), CertFault>
     requires best { task.now.best ≤ 2 ^ 104 }
-    requires marked { length (plain_side task.now.side.now).vars ≤ length marks.old }
+    requires exact { IsAssignmentOf (plain_side task.now.side.now) assignment.old }
     requires by_row { IsOfSide (plain_side task.now.side.now) (rows_of task.now.by_row.now) }
     requires room { length (plain_side task.now.side.now).vars ≤ length prices.old }
     requires levels { task.now.levels < 2 ^ 31 }
     requires inside { task.now.levels ≤ length path.old }
     requires depth { progress.depth ≤ task.now.levels }
-    requires step { CanAdvance path.old marks.old progress }
-    ensures reads { (all : List ℕ) → Stands (text_of (plain_side task.now.side.now) task.now.judged task.now.best task.now.total task.now.levels all) path.old marks.old progress bytes.now
-        → Advances (text_of (plain_side task.now.side.now) task.now.judged task.now.best task.now.total task.now.levels all) path.new marks.new result }
+    requires step { CanAdvance (plain_side task.now.side.now) path.old progress }
+    ensures exact { IsAssignmentOf (plain_side task.now.side.now) assignment.new }
+    ensures reads { (all : List ℕ) → Stands (text_of (plain_side task.now.side.now) task.now.judged task.now.best task.now.total task.now.levels all) path.old assignment.old.marks.items progress bytes.now
+        → Advances (text_of (plain_side task.now.side.now) task.now.judged task.now.best task.now.total task.now.levels all) path.new assignment.new.marks.items result }
     ensures left { IfOk result (λ r. left r.0 r.1.now < left progress bytes.now) }
     ensures depth { IfOk result (λ r. r.0.depth ≤ task.now.levels) }
 {
     if progress.ended {
-        return Ok((leave(marks, path, progress), bytes));
+        return Ok((leave(task.side, assignment, path, progress), bytes));
     }
-    read_node(task, marks, path, prices, progress, bytes)
+    read_node(task, assignment, path, prices, progress, bytes)
 }
 
 /// What a walk begins with: one that only reads begins behind a node that fails.
@@ -263,18 +277,20 @@ fn first_answer(judged: bool) -> Result<u32, Failing>
 /// Walks over a tree as it is read, with the steps to the present node in `path`.
 pub(crate) fn walk_text<'a>(
     task: &Task,
-    marks: &mut [Fixing],
+    assignment: &mut Assignment,
     path: &mut [PathStep],
     prices: &mut [u128],
     bytes: &'a [u8],
 ) -> Result<Walked<'a>, CertFault>
     requires best { task.now.best ≤ 2 ^ 104 }
-    requires free { marks.old ≡ all_free (plain_side task.now.side.now) }
+    requires exact { IsAssignmentOf (plain_side task.now.side.now) assignment.old }
+    requires free { assignment.old.marks.items ≡ all_free (plain_side task.now.side.now) }
     requires by_row { IsOfSide (plain_side task.now.side.now) (rows_of task.now.by_row.now) }
     requires room { length (plain_side task.now.side.now).vars ≤ length prices.old }
     requires levels { task.now.levels < 2 ^ 31 }
     requires inside { task.now.levels ≤ length path.old }
-    ensures { TreeWalked (plain_side task.now.side.now) task.now.judged task.now.best result (tree_at task.now.total task.now.levels bytes.now) }
+    ensures exact { IsAssignmentOf (plain_side task.now.side.now) assignment.new }
+    ensures walked { TreeWalked (plain_side task.now.side.now) task.now.judged task.now.best result (tree_at task.now.total task.now.levels bytes.now) }
 {
     let so_far = first_answer(task.judged);
     let mut progress = Progress {
@@ -284,7 +300,7 @@ pub(crate) fn walk_text<'a>(
     };
     let mut rest = bytes;
     while !is_done(&progress) {
-        let (next, behind) = advance(task, marks, path, prices, progress, rest)?;
+        let (next, behind) = advance(task, assignment, path, prices, progress, rest)?;
         progress = next;
         rest = behind;
     }

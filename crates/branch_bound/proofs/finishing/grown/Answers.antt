@@ -5,11 +5,12 @@ use Rattle.placement_programme.specs.Views.{plain_side}
 use Rattle.certificate_checker.specs.declared.fixings.Fixing.{Fixing}
 use Rattle.branch_bound.specs.Assignments.{taken}
 use Rattle.branch_bound.specs.Greedy.{Grows}
-use Rattle.branch_bound.specs.Tallies.{AreTallies}
+use Rattle.certificate_checker.specs.Tallies.{AreTallies}
 use Rattle.branch_bound.specs.declared.incumbents.Incumbent.{Incumbent}
-use Rattle.branch_bound.specs.declared.assignments.Assignment.{Assignment}
+use Rattle.certificate_checker.specs.declared.assignments.Assignment.{Assignment}
 use Rattle.branch_bound.proofs.SolveLemmas.{grown_gains, grown_incumbent, grown_closed}
-use Rattle.branch_bound.proofs.TallyLemmas.{tally_gains, gains_bounded}
+use Rattle.certificate_checker.proofs.TallyLemmas.{gains_bounded}
+use Rattle.branch_bound.proofs.ExceedLemmas.{tally_gains}
 use Rattle.branch_bound.proofs.finishing.grown.Goals as goal
 
 gains_more : (s : PlainSide) (start marks : List Fixing) (node : Assignment) (gain : ℕ) → start ≡ marks → Grows s start (length s.vars) node.marks.items → AreTallies s node → taken_gains s (taken s marks) ≡ gain + s.fixed → gain + s.fixed ≤ node.gains

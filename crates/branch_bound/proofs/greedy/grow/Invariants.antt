@@ -2,7 +2,7 @@ use Rattle.placement_programme.specs.Programme.{Fits}
 use Rattle.placement_programme.specs.Views.{plain_side}
 use Rattle.branch_bound.specs.Assignments.{taken}
 use Rattle.branch_bound.specs.Greedy.{Grows}
-use Rattle.branch_bound.specs.Tallies.{AreTallies}
+use Rattle.certificate_checker.specs.Tallies.{AreTallies}
 use Rattle.branch_bound.proofs.greedy.grow.Given as goal
 
 abbrev pub invariant-loop-number : goal.invariant-loop-number

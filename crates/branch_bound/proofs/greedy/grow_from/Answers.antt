@@ -5,7 +5,7 @@ use Rattle.placement_programme.specs.Views.{plain_side}
 use Rattle.certificate_checker.specs.declared.fixings.Fixing.TheVariants.{One}
 use Rattle.branch_bound.specs.Assignments.{taken}
 use Rattle.branch_bound.proofs.OnesLemmas.{single_taken}
-use Rattle.branch_bound.proofs.TallyLemmas.{tally_gains}
+use Rattle.branch_bound.proofs.ExceedLemmas.{tally_gains}
 use Rattle.branch_bound.proofs.greedy.grow_from.Goals as goal
 
 pub grow-requires-clause-fits : goal.grow-requires-clause-fits

@@ -5,9 +5,9 @@ use Rattle.certificate_checker.specs.Fixings.{fixing_of}
 use Rattle.certificate_checker.specs.Rules.{OverHolds}
 use Rattle.certificate_checker.specs.declared.fixings.Fixing.TheVariants.{One}
 use Rattle.branch_bound.specs.Assignments.{taken}
-use Rattle.branch_bound.specs.Tallies.{ExceedsOnlyRowsOf}
+use Rattle.branch_bound.specs.Exceeding.{ExceedsOnlyRowsOf}
 use Rattle.branch_bound.proofs.OnesLemmas.{over_not_fits}
-use Rattle.branch_bound.proofs.TallyLemmas.{one_exceeds}
+use Rattle.branch_bound.proofs.ExceedLemmas.{one_exceeds}
 use Rattle.branch_bound.proofs.Branches.{back_once}
 use Rattle.branch_bound.proofs.greedy.try_one.Goals as goal
 

@@ -3,7 +3,8 @@ use Rattle.placement_programme.specs.Programme.{taken_gains, Fits}
 use Rattle.placement_programme.specs.Views.{plain_side}
 use Rattle.branch_bound.specs.Assignments.{taken}
 use Rattle.branch_bound.proofs.IncumbentLemmas.{keeps_new}
-use Rattle.branch_bound.proofs.TallyLemmas.{tally_gains, gains_bounded}
+use Rattle.certificate_checker.proofs.TallyLemmas.{gains_bounded}
+use Rattle.branch_bound.proofs.ExceedLemmas.{tally_gains}
 use Rattle.branch_bound.proofs.improving.improve.Goals as goal
 
 pub returns-in_ok-best-clause-gain : goal.returns-in_ok-best-clause-gain

@@ -3,7 +3,7 @@ use Rattle.std.proofs.lemmas.List.Sorted.{IsNonDecreasingBy-from_sort_by_key, an
 use Rattle.placement_programme.specs.Views.{plain_side}
 use Rattle.branch_bound.specs.Ranking.{number_of}
 use Rattle.branch_bound.proofs.RankingLemmas.{shortfall, listed_sorted, ranking_is}
-use Rattle.branch_bound.proofs.TallyLemmas.{gain_bounded}
+use Rattle.certificate_checker.proofs.TallyLemmas.{gain_bounded}
 use Rattle.branch_bound.proofs.ranking.ranking.Goals as goal
 
 pub returns : goal.returns

@@ -8,7 +8,7 @@ use Rattle.branch_bound.specs.declared.visiting.Visit.{Visit}
 use Rattle.branch_bound.specs.declared.visiting.Visit.TheVariants.{Open}
 use Rattle.branch_bound.specs.Ranking.{PassedOver, number_at}
 use Rattle.branch_bound.specs.Searching.{IsKnown, IsTried, Opens, Reports, Visits, HasLevels}
-use Rattle.branch_bound.specs.Tallies.{ExceedsOnlyRowsOf}
+use Rattle.branch_bound.specs.Exceeding.{ExceedsOnlyRowsOf}
 use Rattle.certificate_checker.specs.Fixings.{is_free}
 use Rattle.certificate_checker.specs.declared.fixings.Fixing.{Fixing}
 use Rattle.certificate_checker.specs.declared.fixings.Fixing.TheVariants.{Zero, One, Free}
@@ -16,7 +16,7 @@ use Rattle.certificate_checker.proofs.Children.{free_inside, zero_not_free}
 use Rattle.branch_bound.proofs.Branches.{back_once}
 use Rattle.branch_bound.proofs.ListLemmas.{one_not_free}
 use Rattle.branch_bound.proofs.RankingLemmas.{passed_more}
-use Rattle.branch_bound.proofs.TallyLemmas.{one_exceeds}
+use Rattle.branch_bound.proofs.ExceedLemmas.{one_exceeds}
 use Rattle.branch_bound.proofs.TellLemmas.{Branches, children, tells_first, tells_second, tells_both, levels_both}
 use Rattle.branch_bound.proofs.VisitLemmas.{within_fits, zero_marks, zero_tried, fewer_fixed}
 use Rattle.branch_bound.proofs.searching.+search.Goals as goal

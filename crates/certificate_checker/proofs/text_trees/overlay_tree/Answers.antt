@@ -10,4 +10,4 @@ returns-clause-read c =
     let read = tree_at c.args.total most_levels c.args.bytes.now in
     let side = Some (plain_side c.args.side.now) in
     subst (λ best. SideRead side best c.walk_side.result read) c.is_judged.ensures
-    (subst (λ gain. SideRead side (gain_if c.is_judged.result gain) c.walk_side.result read) c.used.ensures.value c.walk_side.ensures)
+    (subst (λ gain. SideRead side (gain_if c.is_judged.result gain) c.walk_side.result read) c.used.ensures.value c.walk_side.ensures.read)

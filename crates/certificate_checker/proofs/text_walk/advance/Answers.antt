@@ -6,7 +6,7 @@ use Rattle.certificate_checker.proofs.text_walk.advance.Goals as goal
 pub leave-requires-clause-step : goal.leave-requires-clause-step
 leave-requires-clause-step c =
     let progress = c.args.progress in
-    subst (λ e. IfEnded e (CanRise c.args.path.now c.args.marks.now progress.depth progress.so_far)) c.if-progress.true c.requires.step
+    subst (λ e. IfEnded e (CanRise (plain_side c.args.task.now.side.now) c.args.path.now progress.depth progress.so_far)) c.if-progress.true c.requires.step
 
 pub returns-then-progress-clause-reads : goal.returns-then-progress-clause-reads
 returns-then-progress-clause-reads c all b =
@@ -14,7 +14,7 @@ returns-then-progress-clause-reads c all b =
     let progress = c.args.progress in
     let x = text_of (plain_side task.side.now) task.judged task.best task.total c.args.task.now.levels all in
     c.leave.ensures.stands x c.args.bytes.now
-    (subst (λ e. StandsAt x c.args.path.now c.args.marks.now progress.depth e progress.so_far c.args.bytes.now) c.if-progress.true b)
+    (subst (λ e. StandsAt x c.args.path.now c.args.assignment.now.marks.items progress.depth e progress.so_far c.args.bytes.now) c.if-progress.true b)
 
 pub returns-then-progress-clause-left : goal.returns-then-progress-clause-left
 returns-then-progress-clause-left c =
@@ -28,7 +28,7 @@ returns-clause-reads c all b =
     let progress = c.args.progress in
     let x = text_of (plain_side task.side.now) task.judged task.best task.total c.args.task.now.levels all in
     c.read_node.ensures.reads all
-    (subst (λ e. StandsAt x c.args.path.now c.args.marks.now progress.depth e progress.so_far c.args.bytes.now) c.if-progress.false b)
+    (subst (λ e. StandsAt x c.args.path.now c.args.assignment.now.marks.items progress.depth e progress.so_far c.args.bytes.now) c.if-progress.false b)
 
 pub returns-clause-left : goal.returns-clause-left
 returns-clause-left c = c.read_node.ensures.left c.if-progress.false

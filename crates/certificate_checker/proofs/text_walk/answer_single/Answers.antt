@@ -7,10 +7,10 @@ use Rattle.certificate_checker.proofs.text_walk.answer_single.Goals as goal
 pub returns-in-Ok : goal.returns-in-Ok
 returns-in-Ok c levels =
     let task = c.args.task.now in
-    subst (λ o. WalksBehind (plain_side task.side.now) task.best c.args.marks.now o c.args.depth c.walk_single.result (tree_at task.total (suc levels) c.args.bytes.now)) (sym c.in-Ok.is) (c.walk_single.ensures levels)
+    subst (λ o. WalksBehind (plain_side task.side.now) task.best c.args.assignment.now.marks.items o c.args.depth c.walk_single.result (tree_at task.total (suc levels) c.args.bytes.now)) (sym c.in-Ok.is) (c.walk_single.ensures levels)
 
 pub returns-in-Ok-skip_single : goal.returns-in-Ok-skip_single
 returns-in-Ok-skip_single c levels =
     let task = c.args.task.now in
     let read = c.in-Ok-skip_single.ensures levels in
-    (read.0, (read.1, subst (λ o. WalksOn (plain_side task.side.now) task.best c.args.marks.now read.0 o c.args.depth (Err c.in-Err.failing)) (sym c.in-Err.is) refl))
+    (read.0, (read.1, subst (λ o. WalksOn (plain_side task.side.now) task.best c.args.assignment.now.marks.items read.0 o c.args.depth (Err c.in-Err.failing)) (sym c.in-Err.is) refl))

@@ -10,14 +10,14 @@ returns-in_err-var-clause-reads c =
     let p = err_from_is_err_and c.from_residual.result c.from_residual.ensures.1 in
     let task = c.args.task.now in
     rw (p.1, p.2) (λ levels all deep before.
-    branch_fault (text_of (plain_side task.side.now) task.judged task.best task.total levels all) c.args.path.now c.args.marks.now c.args.progress.depth c.args.progress.so_far c.args.bytes.now c.in_err-var.field-0.0 deep c.in_err-var.ensures before)
+    branch_fault (text_of (plain_side task.side.now) task.judged task.best task.total levels all) c.args.path.now c.args.assignment.now.marks.items c.args.progress.depth c.args.progress.so_far c.args.bytes.now c.in_err-var.field-0.0 deep c.in_err-var.ensures before)
 
 pub returns-clause-reads : goal.returns-clause-reads
 returns-clause-reads c levels all deep before =
     let task = c.args.task.now in
     let progress = c.args.progress in
-    entered (text_of (plain_side task.side.now) task.judged task.best task.total levels all) c.args.path.now c.args.marks.now c.enter-so_far.new.path c.enter-so_far.new.marks progress.depth (progress.depth + 1) progress.so_far c.enter-so_far.result c.args.bytes.now c.in_ok-var.var c.in_ok-var.rest.now deep refl c.in_ok-var.ensures before
-    (c.enter-so_far.ensures task.judged task.best before.way before.long before.so_far)
+    entered (text_of (plain_side task.side.now) task.judged task.best task.total levels all) c.args.path.now c.args.assignment.now.marks.items c.enter-so_far.new.path c.enter-so_far.new.assignment.marks.items progress.depth (progress.depth + 1) progress.so_far c.enter-so_far.result c.args.bytes.now c.in_ok-var.var c.in_ok-var.rest.now deep refl c.in_ok-var.ensures before
+    (c.enter-so_far.ensures.so_far task.judged task.best before.way before.long before.so_far)
 
 pub returns-clause-left : goal.returns-clause-left
 returns-clause-left c =

@@ -13,7 +13,7 @@ returns-in_err-tag-clause-reads c =
     let task = c.args.task.now in
     let progress = c.args.progress in
     rw (p.1, p.2) (λ all before.
-    read_fault (text_of (plain_side task.side.now) task.judged task.best task.total c.args.task.now.levels all) c.args.path.now c.args.marks.now progress.depth progress.so_far c.args.bytes.now c.in_err-tag.field-0.0 before
+    read_fault (text_of (plain_side task.side.now) task.judged task.best task.total c.args.task.now.levels all) c.args.path.now c.args.assignment.now.marks.items progress.depth progress.so_far c.args.bytes.now c.in_err-tag.field-0.0 before
     (tree_cut task.total (c.args.task.now.levels - progress.depth) c.args.bytes.now c.in_err-tag.field-0.0 c.in_err-tag.ensures.0 c.in_err-tag.ensures.1))
 
 pub returns-then-progress-task-clause-reads : goal.returns-then-progress-task-clause-reads
@@ -21,7 +21,7 @@ returns-then-progress-task-clause-reads c all before =
     let task = c.args.task.now in
     let progress = c.args.progress in
     let last = c.if-progress-task.true in
-    read_fault (text_of (plain_side task.side.now) task.judged task.best task.total c.args.task.now.levels all) c.args.path.now c.args.marks.now progress.depth progress.so_far c.args.bytes.now c.below_all.result before
+    read_fault (text_of (plain_side task.side.now) task.judged task.best task.total c.args.task.now.levels all) c.args.path.now c.args.assignment.now.marks.items progress.depth progress.so_far c.args.bytes.now c.below_all.result before
     (tree_below task.total (c.args.task.now.levels - progress.depth) c.args.bytes.now c.in_ok-tag.tag c.in_ok-tag.rest.now c.below_all.result (omega (arith, last)) c.in_ok-tag.ensures c.below_all.ensures)
 
 pub returns-then-tag-eq0-clause-reads : goal.returns-then-tag-eq0-clause-reads
@@ -33,7 +33,7 @@ returns-then-tag-eq0-clause-reads c all before =
     let other = c.if-progress-task.false in
     let zeroed = c.in_ok-tag.ensures ∙ ap (λ b. b ∷ c.in_ok-tag.rest.now) c.if-tag-eq0.true in
     c.read_branch.ensures.reads c.args.task.now.levels all (omega (arith, most, other))
-    (subst (λ bs. IsBefore x c.args.path.now c.args.marks.now progress.depth progress.so_far bs) zeroed before)
+    (subst (λ bs. IsBefore x c.args.path.now c.args.assignment.now.marks.items progress.depth progress.so_far bs) zeroed before)
 
 pub returns-then-tag-eq0-clause-left : goal.returns-then-tag-eq0-clause-left
 returns-then-tag-eq0-clause-left c reading =

@@ -13,7 +13,7 @@ returns-in_err-so_far-clause-reads c =
     let depth = c.args.progress.depth in
     let bytes = c.args.bytes.now in
     rw (p.1, p.2) (λ levels all deep before.
-    read_fault (text_of (plain_side task.side.now) task.judged task.best task.total levels all) c.args.path.now c.args.marks.now depth c.args.progress.so_far bytes c.in_err-so_far.field-0.0 before
+    read_fault (text_of (plain_side task.side.now) task.judged task.best task.total levels all) c.args.path.now c.args.assignment.now.marks.items depth c.args.progress.so_far bytes c.in_err-so_far.field-0.0 before
     (ap (λ n. tree_at task.total n bytes) (levels_left levels depth deep) ∙ c.in_err-so_far.ensures (levels - suc depth)))
 
 pub returns-clause-reads : goal.returns-clause-reads
@@ -24,7 +24,7 @@ returns-clause-reads c levels all deep before =
     let x = text_of (plain_side task.side.now) task.judged task.best task.total levels all in
     let walked = c.in_ok-so_far.ensures (levels - suc progress.depth) in
     let read = ap (λ n. tree_at task.total n bytes) (levels_left levels progress.depth deep) ∙ walked.1.0 in
-    single_read x c.args.path.now c.args.marks.now progress.depth progress.so_far c.in_ok-so_far.so_far bytes c.in_ok-so_far.rest.now walked.0 read walked.1.1 before
+    single_read x c.args.path.now c.args.assignment.now.marks.items progress.depth progress.so_far c.in_ok-so_far.so_far bytes c.in_ok-so_far.rest.now walked.0 read walked.1.1 before
 
 pub returns-clause-left : goal.returns-clause-left
 returns-clause-left c reading =

@@ -10,6 +10,6 @@ returns-in-Ok c =
       tree,
       (
         over_read task.total c.args.bytes.now c.in-Ok.row c.in-Ok.rest.now c.in-Ok.ensures,
-        c.single.ensures (plain_side task.side.now) task.best c.args.marks.now tree tt c.over_holds.ensures,
+        c.single.ensures (plain_side task.side.now) task.best c.args.assignment.now.marks.items tree tt c.tallied_over.ensures,
       ),
     )
