@@ -18,10 +18,6 @@ use Rattle.branch_bound.specs.declared.side_visiting.Visit.TheVariants.{Open}
 use Rattle.branch_bound.proofs.ListLemmas.{all_free_few}
 use Rattle.branch_bound.proofs.MarkLemmas.{fewer_free}
 
-pub none_some : (o : Option Tree) → ((tree : Tree) → o ≡ Some tree → ⊥) → is_some o ≡ false
-none_some None none = refl
-none_some (Some tree) none = absurd (none tree refl)
-
 -- a choice that is accepted gains one number
 pub gains_once : (p : PlainProgramme) (c : PlainChoice) (best : ℕ) → IsAccepted p c best → Gains p c best
 gains_once p c best is gains other =
@@ -29,16 +25,11 @@ gains_once p c best is gains other =
     let there = other.gains in
     omega (arith, ints, here, there)
 
--- there are more levels than free variables, at the root and at a child
+-- there are more levels than free variables at the root
 pub root_deep : (s : PlainSide) (marks : List Fixing) → length s.vars ≤ 4000 → marks ≡ all_free s → count_by is_free marks < 4097
 root_deep s marks few is =
     let counted = all_free_few s in
     subst (λ ms. count_by is_free ms < 4097) (sym is) (omega (arith, counted, few))
-
-pub child_deep : (marks : List Fixing) (j : ℕ) (f : Fixing) (levels : ℕ) → fixing_of marks j ≡ Free → is_free f ≡ false → count_by is_free marks < levels → count_by is_free (slice_set marks j f) < levels - 1
-child_deep marks j f levels unfixed fixed deep =
-    let fewer = fewer_free marks j f unfixed fixed in
-    omega (arith, fewer, deep)
 
 -- what is told of a round without a certificate
 pub unfinished_more : (P Q : ℕ → Type 0) (r : Round) → ((n : ℕ) → P n → Q n) → IfUnfinished P r → IfUnfinished Q r
@@ -67,14 +58,3 @@ module _ {G : Type 0} (answers : G → PlainSide → List Fixing → ℕ → Nod
   pub spent_on : (old new : Stand G) (visit found : Visit) → visit ≡ found → Asks answers p on s marks old.guide old.best new.best new.guide visit → old.left ≡ suc new.left → Spends answers p on s marks old found new
   spent_on old new visit found is asks less =
       record { asks = subst (λ v. Asks answers p on s marks old.guide old.best new.best new.guide v) is asks; spends = less }
-
-  -- the search of the first child comes to no end
-  pub broken_off : (old between new : Stand G) (var : ℕ) (one : Option Tree) → Spends answers p on s marks old (Open var) between → is_some one ≡ false → Searches answers p on s (slice_set marks var One) between (is_some one) new → Searches answers p on s marks old false new
-  broken_off old between new var one spends none first =
-      broken spends (subst (λ b. Searches answers p on s (slice_set marks var One) between b new) none first)
-
-  -- it does, and then the other child is searched
-  pub both_searched : (kept : List Fixing) (old first second new : Stand G) (var : ℕ) (one zero : Option Tree) (ended : Bool) → Spends answers p on s marks old (Open var) first → is_some one ≡ true → Searches answers p on s (slice_set marks var One) first (is_some one) second → kept ≡ marks → is_some zero ≡ ended → Searches answers p on s (slice_set kept var Zero) second (is_some zero) new → Searches answers p on s marks old ended new
-  both_searched kept old first second new var one zero ended spends some ones same ends zeroes =
-      branched spends (subst (λ b. Searches answers p on s (slice_set marks var One) first b second) some ones)
-      (subst (λ b. Searches answers p on s (slice_set marks var Zero) second b new) ends (subst (λ ms. Searches answers p on s (slice_set ms var Zero) second (is_some zero) new) same zeroes))

@@ -1,5 +1,4 @@
 pub mod Greater
-pub mod Branches
 pub mod Ranges
 pub mod Certified
 pub mod OnesLemmas
@@ -19,3 +18,6 @@ pub mod ChoiceLemmas
 pub mod ListLemmas
 pub mod ShownLemmas
 pub mod GuidedLemmas
+pub mod TrailLemmas
+pub mod FindLemmas
+pub mod SideFindLemmas

@@ -1,7 +1,8 @@
 -- Assignments as selections, and what fixing a variable changes.
-use Rattle.std.proofs.Common.{◌≡◌, inl, inr, ℕ, suc, Bool, true, false, cond, List, length, slice_set, sym, ap, refl, subst, arith}
+use Rattle.std.proofs.Common.{◌≡◌, ◌∙◌, inl, inr, ℕ, suc, ◌+◌, Bool, true, false, cond, List, length, slice_set, sym, ap, refl, subst, arith}
 use Rattle.std.specs.List.{count_by, sum_by}
 use Rattle.std.proofs.lemmas.Bool.{cases_eq}
+use Rattle.std.proofs.lemmas.List.{set-get_or}
 use Rattle.std.proofs.lemmas.List.Sums.{sum_by-set}
 use Rattle.placement_programme.specs.Plain.{PlainSide}
 use Rattle.placement_programme.specs.Programme.{weight_at, Fits}
@@ -10,6 +11,7 @@ use Rattle.placement_programme.proofs.TakeLemmas.{below_same}
 use Rattle.certificate_checker.specs.Rules.{if_one}
 use Rattle.certificate_checker.proofs.Duality.{AgreesAt, Agrees, chosen, FitsRows}
 use Rattle.certificate_checker.proofs.Children.{free_inside, mark_other}
+use Rattle.certificate_checker.proofs.Failures.{set_twice}
 use Rattle.branch_bound.specs.Assignments.{taken}
 use Rattle.certificate_checker.specs.Fixings.{fixing_of, is_free}
 use Rattle.certificate_checker.specs.declared.fixings.Fixing.{Fixing}
@@ -70,3 +72,9 @@ fewer_free marks j f unfixed fixed =
     let before = ap counted unfixed in
     let behind = ap {B = ℕ} (λ b. cond b 1 0) fixed in
     omega (arith, sums, before, behind)
+
+-- a mark that was set is set back
+pub back_once : (ms first : List Fixing) (k : ℕ) (a old : Fixing) → first ≡ slice_set ms k a → old ≡ fixing_of ms k → slice_set first k old ≡ ms
+back_once ms first k a old is_first is_old =
+    ap (λ l. slice_set l k old) is_first
+    ∙ (set_twice ms k a old ∙ (ap (λ n. slice_set ms k n) is_old ∙ set-get_or ms k Zero))

@@ -62,13 +62,6 @@ pub choice_listed : (p : PlainProgramme) (on : Bool) (take : List ℕ) → HasFe
 choice_listed p false take off on fits = listed (length p.off.vars) take off fits.numbers
 choice_listed p true take off on fits = on_listed p.on take on fits
 
--- a branch has one level more than its children
-pub branch_in_range : (levels below : ℕ) (j : ℕ) (l r tree : PlainTree) → levels ≡ suc below → j < 2 ^ 32 → IsTreeInRange below l → IsTreeInRange below r → tree ≡ branch j l r → IsTreeInRange levels tree
-branch_in_range levels below j l r tree more small left right is =
-    let all : IsTreeInRange (suc below) (branch j l r) = (small, left, right) in
-    let some : IsTreeInRange levels (branch j l r) = subst (λ n. IsTreeInRange n (branch j l r)) (sym more) all in
-    subst (λ t. IsTreeInRange levels t) (sym is) some
-
 pub few_on : (side : Option Side) → IfSome (option_map plain_side side) HasFewVars
 few_on None = tt
 few_on (Some s) = s.bounds.few_vars

@@ -5,11 +5,9 @@ use Rattle.placement_programme.specs.Plain.{PlainSide}
 use Rattle.certificate_checker.specs.Nodes.{PlainTree, branch, over, dual, leaf}
 use Rattle.certificate_checker.specs.Rules.{Holds}
 use Rattle.certificate_checker.specs.Spelling.{IsTreeInRange}
-use Rattle.certificate_checker.specs.Views.{plain_tree}
-use Rattle.certificate_checker.specs.declared.trees.Tree.{Tree}
 use Rattle.branch_bound.specs.Assignments.{FailsEveryLeafRule, IsGreatestFree}
 use Rattle.branch_bound.specs.Entries.{Each}
-use Rattle.branch_bound.specs.Searching.{EntryBelow, Reports, HasLevels}
+use Rattle.branch_bound.specs.Searching.{EntryBelow, Tells}
 use Rattle.certificate_checker.specs.Fixings.{fixing_of, is_free}
 use Rattle.certificate_checker.specs.declared.fixings.Fixing.{Fixing}
 use Rattle.certificate_checker.specs.declared.fixings.Fixing.TheVariants.{Zero, One, Free}
@@ -25,7 +23,7 @@ pub record Branches (s : PlainSide) (start : ℕ) (marks : List Fixing) (j best 
   pub here : EntryBelow s best marks
 
 -- the budget ends under the child that fixes the variable to one
-pub tells_first : (s : PlainSide) (start : ℕ) (marks : List Fixing) (j best more left middle after : ℕ) → Branches s start marks j best → best ≤ more → left ≡ suc middle → Reports s start (slice_set marks j One) more middle after None → Reports s start marks more left after None
+pub tells_first : (s : PlainSide) (start : ℕ) (marks : List Fixing) (j best more left middle after : ℕ) → Branches s start marks j best → best ≤ more → left ≡ suc middle → Tells s start (slice_set marks j One) more middle after None → Tells s start marks more left after None
 tells_first s start marks j best more left middle after branches order used first entries stated =
     let lists = two_lists s start best marks j entries branches.from_start branches.fails branches.greatest stated in
     let under = first lists.ones lists.by_one in
@@ -38,36 +36,19 @@ tells_first s start marks j best more left middle after branches order used firs
     (subst (λ n. Each (EntryBelow s more) (take n (marks ∷ (lists.ones ++ lists.zeroes))) × (n < length (marks ∷ (lists.ones ++ lists.zeroes)))) (sym used) whole)
 
 -- what is known where both children were searched
-pub record Children (s : PlainSide) (start : ℕ) (marks : List Fixing) (j best between more left middle second after : ℕ) (one zero_tree : Option Tree) : Type 0 where
+pub record Children (s : PlainSide) (start : ℕ) (marks : List Fixing) (j best between more left middle second after : ℕ) (one zero_tree : Option PlainTree) : Type 0 where
   pub branches : Branches s start marks j best
   pub grows : best ≤ between
   pub grows_on : between ≤ more
   pub used : left ≡ suc middle
-  pub by_one : Reports s start (slice_set marks j One) between middle second one
-  pub by_zero : Reports s start (slice_set marks j Zero) more second after zero_tree
-
-pub children : (s : PlainSide) (start old : ℕ) (marks first second : List Fixing) (j best between more left middle used after : ℕ) (one_read one zero_read zero_tree : Option Tree) → start ≤ old → old ≤ best → FailsEveryLeafRule s best marks → IsGreatestFree s marks j → EntryBelow s best marks → best ≤ between → between ≤ more → left ≡ suc middle → first ≡ slice_set marks j One → second ≡ slice_set marks j Zero
-    → one_read ≡ one → ((n : ℕ) → n ≤ best → Reports s n first between middle used one_read)
-    → zero_read ≡ zero_tree → ((n : ℕ) → n ≤ between → Reports s n second more used after zero_read)
-    → Children s start marks j best between more left middle used after one zero_tree
-children s start old marks first second j best between more left middle used after one_read one zero_read zero_tree order grown fails greatest here grows grows_on left_is is_first is_second one_is one_tells zero_is zero_tells =
-    let from : start ≤ best = omega (arith, order, grown) in
-    let by_one = subst (λ (m : List Fixing). Reports s start m between middle used one_read) is_first (one_tells start from) in
-    let by_zero = subst (λ (m : List Fixing). Reports s start m more used after zero_read) is_second (zero_tells start (omega (arith, from, grows))) in
-    record {
-      branches = record { from_start = from; fails = fails; greatest = greatest; here = here };
-      grows = grows;
-      grows_on = grows_on;
-      used = left_is;
-      by_one = subst (λ (o : Option Tree). Reports s start (slice_set marks j One) between middle used o) one_is by_one;
-      by_zero = subst (λ (o : Option Tree). Reports s start (slice_set marks j Zero) more used after o) zero_is by_zero;
-    }
+  pub by_one : Tells s start (slice_set marks j One) between middle second one
+  pub by_zero : Tells s start (slice_set marks j Zero) more second after zero_tree
 
 -- it ends under the other child
-pub tells_second : (s : PlainSide) (start : ℕ) (marks : List Fixing) (j best between more left middle second after : ℕ) (tree : Tree) → Children s start marks j best between more left middle second after (Some tree) None → Reports s start marks more left after None
+pub tells_second : (s : PlainSide) (start : ℕ) (marks : List Fixing) (j best between more left middle second after : ℕ) (tree : PlainTree) → Children s start marks j best between more left middle second after (Some tree) None → Tells s start marks more left after None
 tells_second s start marks j best between more left middle second after tree cs entries stated =
     let lists = two_lists s start best marks j entries cs.branches.from_start cs.branches.fails cs.branches.greatest stated in
-    let ones = finished s start more (slice_set marks j One) (plain_tree tree) lists.ones (holds_more s between more (slice_set marks j One) (plain_tree tree) cs.grows_on cs.by_one.0) lists.by_one in
+    let ones = finished s start more (slice_set marks j One) tree lists.ones (holds_more s between more (slice_set marks j One) tree cs.grows_on cs.by_one.0) lists.by_one in
     let budget = cs.by_one.1 lists.ones lists.by_one in
     let under = cs.by_zero lists.zeroes lists.by_zero in
     let long = length-append lists.ones lists.zeroes in
@@ -79,22 +60,21 @@ tells_second s start marks j best between more left middle second after tree cs 
     (subst (λ n. Each (EntryBelow s more) (take n (marks ∷ (lists.ones ++ lists.zeroes))) × (n < length (marks ∷ (lists.ones ++ lists.zeroes)))) (sym cs.used) whole)
 
 -- both children are finished
-pub tells_both : (s : PlainSide) (start : ℕ) (marks : List Fixing) (j best between more left middle second after : ℕ) (one_tree zero_tree tree : Tree) → Children s start marks j best between more left middle second after (Some one_tree) (Some zero_tree) → plain_tree tree ≡ branch j (plain_tree zero_tree) (plain_tree one_tree) → Reports s start marks more left after (Some tree)
-tells_both s start marks j best between more left middle second after one_tree zero_tree tree cs is =
-    let held : Holds s more marks (branch j (plain_tree zero_tree) (plain_tree one_tree)) = (
-      record { inside = cs.branches.greatest.inside; free_there = cs.branches.greatest.holds },
-      cs.by_zero.0,
-      holds_more s between more (slice_set marks j One) (plain_tree one_tree) cs.grows_on cs.by_one.0,
-    ) in (
-      subst (λ t. Holds s more marks t) (sym is) held,
-      λ entries stated.
-          let lists = two_lists s start best marks j entries cs.branches.from_start cs.branches.fails cs.branches.greatest stated in
-          let ones = cs.by_one.1 lists.ones lists.by_one in
-          let zeroes = cs.by_zero.1 lists.zeroes lists.by_zero in
-          let long = length-append lists.ones lists.zeroes in
-          let whole = ap length lists.whole in
-          omega (arith, ones, zeroes, long, whole, cs.used),
-    )
+pub tells_both : (s : PlainSide) (start : ℕ) (marks : List Fixing) (j best between more left middle second after : ℕ) (one_tree zero_tree : PlainTree) → Children s start marks j best between more left middle second after (Some one_tree) (Some zero_tree) → Tells s start marks more left after (Some (branch j zero_tree one_tree))
+tells_both s start marks j best between more left middle second after one_tree zero_tree cs = (
+  (
+    record { inside = cs.branches.greatest.inside; free_there = cs.branches.greatest.holds },
+    cs.by_zero.0,
+    holds_more s between more (slice_set marks j One) one_tree cs.grows_on cs.by_one.0,
+  ),
+  λ entries stated.
+      let lists = two_lists s start best marks j entries cs.branches.from_start cs.branches.fails cs.branches.greatest stated in
+      let ones = cs.by_one.1 lists.ones lists.by_one in
+      let zeroes = cs.by_zero.1 lists.zeroes lists.by_zero in
+      let long = length-append lists.ones lists.zeroes in
+      let whole = ap length lists.whole in
+      omega (arith, ones, zeroes, long, whole, cs.used),
+)
 
 -- levels
 pub levels_more : (levels more : ℕ) (t : PlainTree) → levels ≤ more → IsTreeInRange levels t → IsTreeInRange more t
@@ -106,10 +86,10 @@ levels_more (suc levels) (suc more) (over row) order good = good
 levels_more (suc levels) (suc more) (dual scale ms) order good = good
 levels_more (suc levels) (suc more) leaf order good = tt
 
-pub levels_both : (marks : List Fixing) (j : ℕ) (one_tree zero_tree tree : Tree) → fixing_of marks j ≡ Free → j < 2 ^ 32 → HasLevels (suc (count_by is_free (slice_set marks j One))) (Some one_tree) → HasLevels (suc (count_by is_free (slice_set marks j Zero))) (Some zero_tree) → plain_tree tree ≡ branch j (plain_tree zero_tree) (plain_tree one_tree) → HasLevels (suc (count_by is_free marks)) (Some tree)
-levels_both marks j one_tree zero_tree tree unfixed small by_one by_zero is =
+pub levels_both : (marks : List Fixing) (j : ℕ) (one_tree zero_tree : PlainTree) → fixing_of marks j ≡ Free → j < 2 ^ 32 → IsTreeInRange (suc (count_by is_free (slice_set marks j One))) one_tree → IsTreeInRange (suc (count_by is_free (slice_set marks j Zero))) zero_tree → IsTreeInRange (suc (count_by is_free marks)) (branch j zero_tree one_tree)
+levels_both marks j one_tree zero_tree unfixed small by_one by_zero =
     let ones = fewer_free marks j One unfixed refl in
     let zeroes = fewer_free marks j Zero unfixed refl in
-    let of_one : IsTreeInRange (count_by is_free marks) (plain_tree one_tree) = subst (λ n. IsTreeInRange n (plain_tree one_tree)) (sym ones) by_one in
-    let of_zero : IsTreeInRange (count_by is_free marks) (plain_tree zero_tree) = subst (λ n. IsTreeInRange n (plain_tree zero_tree)) (sym zeroes) by_zero in
-    subst (λ t. IsTreeInRange (suc (count_by is_free marks)) t) (sym is) (small, of_zero, of_one)
+    let of_one : IsTreeInRange (count_by is_free marks) one_tree = subst (λ n. IsTreeInRange n one_tree) (sym ones) by_one in
+    let of_zero : IsTreeInRange (count_by is_free marks) zero_tree = subst (λ n. IsTreeInRange n zero_tree) (sym zeroes) by_zero in
+    (small, of_zero, of_one)

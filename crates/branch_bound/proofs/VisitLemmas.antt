@@ -100,10 +100,3 @@ first_fails s best unbounded =
       open_or_better = λ leaf. unbounded (leaf_dual s best (all_free s) leaf);
       unbounded = unbounded;
     }
-
--- one free variable fewer
-pub fewer_fixed : (marks now : List Fixing) (j : ℕ) (f : Fixing) → fixing_of marks j ≡ Free → is_free f ≡ false → now ≡ slice_set marks j f → count_by is_free now < count_by is_free marks
-fewer_fixed marks now j f unfixed fixed is =
-    let fewer = fewer_free marks j f unfixed fixed in
-    let same = ap (λ l. count_by is_free l) is in
-    omega (arith, fewer, same)

@@ -19,5 +19,8 @@ pub mod Growing
 pub mod Ranking
 pub mod Exceeding
 pub mod Searching
+pub mod Trails
+pub mod Stands
+pub mod SideStands
 pub mod Solving
 pub mod StatedLists

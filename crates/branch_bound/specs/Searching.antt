@@ -1,8 +1,11 @@
 -- What the search of a subtree and what the visit of a node tell.
-use Rattle.std.specs.Prelude.{◌≡◌, ℕ, ◌+◌, ◌<◌, ◌≤◌, Bool, List, length, Option, Some, None, IsSomeAnd}
+use Rattle.std.specs.Prelude.{◌≡◌, ℕ, ◌+◌, ◌<◌, ◌≤◌, Bool, List, length, slice_set, suc, Option, Some, None, IsSomeAnd, option_map}
 use Rattle.std.proofs.Common.{take}
+use Rattle.std.specs.List.{count_by}
 use Rattle.placement_programme.specs.Plain.{PlainSide, PlainProgramme, PlainChoice}
 use Rattle.placement_programme.specs.Programme.{side_for, taken_gains, Fits}
+use Rattle.certificate_checker.specs.Fixings.{is_free}
+use Rattle.certificate_checker.specs.Nodes.{PlainTree}
 use Rattle.certificate_checker.specs.Rules.{Holds}
 use Rattle.certificate_checker.specs.Shows.{IsAccepted}
 use Rattle.certificate_checker.specs.Spelling.{IsTreeInRange}
@@ -12,6 +15,8 @@ use Rattle.branch_bound.specs.Assignments.{taken, FailsEveryLeafRule, IsGreatest
 use Rattle.branch_bound.specs.Entries.{StatedFrom, Each, takes_on}
 use Rattle.branch_bound.specs.Ranking.{PassedOver, number_at}
 use Rattle.branch_bound.specs.Exceeding.{ExceedsOnlyRowsOf}
+use Rattle.branch_bound.specs.declared.open_branches.OpenBranch.{OpenBranch}
+use Rattle.branch_bound.specs.declared.open_branches.OpenBranch.TheVariants.{ToOne, ToZero}
 use Rattle.branch_bound.specs.declared.ranking.Ranked.{Ranked}
 use Rattle.branch_bound.specs.declared.incumbents.Incumbent.{Incumbent}
 use Rattle.branch_bound.specs.declared.running.Running.{Running}
@@ -35,12 +40,15 @@ IsKnown s best marks (Some j) = (j < length s.vars) × ExceedsOnlyRowsOf s marks
 
 -- a finished subtree is closed by its tree, and had no more nodes than its stated list has entries; where the budget of
 -- `left` nodes ends within it, none of so many entries of its list gains more than `best`, and there are more of them
-abbrev pub Reports : PlainSide → ℕ → List Fixing → ℕ → ℕ → ℕ → Option Tree → Type 0
-Reports s start marks best left after (Some tree) =
-    Holds s best marks (plain_tree tree)
+abbrev pub Tells : PlainSide → ℕ → List Fixing → ℕ → ℕ → ℕ → Option PlainTree → Type 0
+Tells s start marks best left after (Some tree) =
+    Holds s best marks tree
     × ((entries : List (List Fixing)) → StatedFrom s start marks entries → left ≤ after + length entries)
-Reports s start marks best left after None =
+Tells s start marks best left after None =
     (entries : List (List Fixing)) → StatedFrom s start marks entries → Each (EntryBelow s best) (take left entries) × (left < length entries)
+
+abbrev pub Reports : PlainSide → ℕ → List Fixing → ℕ → ℕ → ℕ → Option Tree → Type 0
+Reports s start marks best left after tree = Tells s start marks best left after (option_map plain_tree tree)
 
 -- a tree of one node closes an assignment
 abbrev pub Closes : PlainSide → ℕ → List Fixing → Tree → Type 0
@@ -59,9 +67,12 @@ Visits s ranking best marks (Closed tree) = Closes s best marks tree
 Visits s ranking best marks (Open place) = Opens s ranking best marks place
 
 -- a tree's numbers are in their ranges, and it has at most so many levels
+abbrev pub AreLevels : ℕ → Option PlainTree → Type 0
+AreLevels levels None = Unit {0}
+AreLevels levels (Some tree) = IsTreeInRange levels tree
+
 abbrev pub HasLevels : ℕ → Option Tree → Type 0
-HasLevels levels None = Unit {0}
-HasLevels levels (Some tree) = IsTreeInRange levels (plain_tree tree)
+HasLevels levels tree = AreLevels levels (option_map plain_tree tree)
 
 -- the choice of an incumbent
 abbrev pub choice_of : PlainProgramme → Incumbent → PlainChoice
@@ -84,3 +95,18 @@ pub record TriesNode (on : Bool) (s : PlainSide) (marks : List Fixing) (old new 
   pub grows : old.best.gain ≤ new.best.gain
   pub left : new.left ≡ old.left
   pub keeps : KeepsIncumbent on s old.best new.best
+
+-- a node was visited and opened, and branched on at a place of the order
+pub record IsOpened (on : Bool) (s : PlainSide) (ranking : List Ranked) (place : ℕ) (marks : List Fixing) (old new : Running) : Type 0 where
+  pub opens : Opens s ranking new.best.gain marks place
+  pub here : EntryBelow s new.best.gain marks
+  pub grows : old.best.gain ≤ new.best.gain
+  pub spends : old.left ≡ suc new.left
+  pub keeps : KeepsIncumbent on s old.best new.best
+
+-- what the search of a subtree finds: a tree that closes it, or that the budget ends within it
+pub record Finds (on : Bool) (s : PlainSide) (marks : List Fixing) (old new : Running) (tree : Option PlainTree) : Type 0 where
+  pub grows : old.best.gain ≤ new.best.gain
+  pub keeps : KeepsIncumbent on s old.best new.best
+  pub levels : AreLevels (suc (count_by is_free marks)) tree
+  pub tells : (start : ℕ) → start ≤ old.best.gain → Tells s start marks new.best.gain old.left new.left tree

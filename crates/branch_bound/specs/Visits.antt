@@ -1,6 +1,7 @@
 -- What a visit of a node and a search below it find.
-use Rattle.std.specs.Prelude.{ℕ, List, Option, Some, None}
+use Rattle.std.specs.Prelude.{ℕ, List, Option, Some, None, option_map}
 use Rattle.placement_programme.specs.Plain.{PlainSide}
+use Rattle.certificate_checker.specs.Nodes.{PlainTree}
 use Rattle.certificate_checker.specs.Rules.{BranchHolds, Holds}
 use Rattle.certificate_checker.specs.Shows.{ShownBy}
 use Rattle.certificate_checker.specs.Reading.{most_levels}
@@ -15,10 +16,12 @@ use Rattle.branch_bound.specs.declared.side_visiting.Visit.TheVariants.{Closed, 
 
 -- a tree that is found shows that nothing below these marks gains more, and is within the ranges of a certificate's text,
 -- with at most so many levels
+abbrev pub ShownWithin : PlainSide → ℕ → List Fixing → ℕ → Option PlainTree → Type 0
+ShownWithin s best marks levels None = Unit {0}
+ShownWithin s best marks levels (Some tree) = Holds s best marks tree × IsTreeInRange levels tree
+
 abbrev pub ShownBelow : PlainSide → ℕ → List Fixing → ℕ → Option Tree → Type 0
-ShownBelow s best marks levels None = Unit {0}
-ShownBelow s best marks levels (Some tree) =
-    Holds s best marks (plain_tree tree) × IsTreeInRange levels (plain_tree tree)
+ShownBelow s best marks levels tree = ShownWithin s best marks levels (option_map plain_tree tree)
 
 -- a node is closed by a tree that holds, or may be branched on
 abbrev pub IsVisited : PlainSide → ℕ → List Fixing → Visit → Type 0

@@ -1,16 +1,19 @@
-ghost use Rattle.std.specs.Prelude.{◌≡◌, ℕ, suc, ◌+◌, ◌^◌, ◌<◌, ◌≤◌, length, Option, Some, None, IfSome, IfOk, OnOk};
+ghost use Rattle.std.specs.Prelude.{◌≡◌, ℕ, suc, ◌+◌, ◌^◌, ◌<◌, ◌≤◌, length, Option, Some, None, true, false, Bool, List, ◌∷◌, option_map, IfSome, IfOk, OnOk};
 ghost use Rattle.std.specs.List.{count_by};
-ghost use Rattle.placement_programme.specs.{Programme.{Fits}, Views.{plain_side}};
-ghost use Rattle.certificate_checker.specs.{Fixings.{is_free}, Tallies.{AreTallies}};
-ghost use Rattle.branch_bound.specs.{Assignments.{taken, IsGreatestFree}, Ranking.{IsRanking, PassedOver, number_at}, Searching.{EntryBelow, IsKnown, Reports, Visits, HasLevels, KeepsIncumbent, TriesNode}};
+ghost use Rattle.placement_programme.specs.{Plain.{PlainSide}, Programme.{Fits}, Views.{plain_side}};
+ghost use Rattle.certificate_checker.specs.{Fixings.{is_free}, Tallies.{AreTallies}, declared.fixings.Fixing.{Fixing}, Views.{plain_tree}};
+ghost use Rattle.branch_bound.specs.{Assignments.{taken, IsGreatestFree}, Ranking.{IsRanking, PassedOver, number_at}, Searching.{EntryBelow, IsKnown, Reports, Visits, HasLevels, KeepsIncumbent, TriesNode, IsOpened, Finds}, Trails.{steps_on, closed_on, place_of, IsBehind}, Stands.{CanVisit, IsBefore, Stands, CanAdvance, is_ended, ahead}, declared.ranking.Ranked.{Ranked}, declared.running.Running.{Running}, declared.stands.Stand.TheVariants.{Before, Behind}};
 
 use crate::closing::plain_dual;
 use crate::exceeding::exceeded;
 use crate::improving::improve;
+use crate::open_branches::OpenBranch;
 use crate::ranking::{Ranked, first_free};
 use crate::running::{Running, tell_nodes};
+use crate::stands::{Next, Stand, has_ended};
+use crate::trails::{Trail, close, first_trail, join, last_closed, step_back, step_to};
 use crate::visiting::Visit;
-use certificate_checker::{Assignment, Tree, branch_on};
+use certificate_checker::{Assignment, Tree};
 use placement_programme::Side;
 use shelf_io::Progress;
 use std::alloc::{AllocError, Global};
@@ -109,10 +112,129 @@ fn visit(
     }
 }
 
+/// Visits the next node: it is closed, or the search steps to its child for one.
+fn visit_next(
+    task: &Task,
+    node: &mut Assignment,
+    run: &mut Running,
+    trail: &mut Trail,
+    next: Next,
+    progress: &dyn Progress,
+) -> Result<Stand, AllocError>
+    requires ranking { IsRanking (plain_side task.now.side.now) task.now.ranking.now }
+    requires tallies { AreTallies (plain_side task.now.side.now) node.old }
+    requires small { run.old.best.gain ≤ 2 ^ 104 }
+    requires next { CanVisit (plain_side task.now.side.now) task.now.ranking.now node.old.marks.items run.old.best.gain next }
+    ensures tallies { AreTallies (plain_side task.now.side.now) node.new }
+    ensures small { run.new.best.gain ≤ 2 ^ 104 }
+    ensures stands { IfOk result (λ stand. (root : List Fixing) (start : Running)
+        → IsBefore task.now.on (plain_side task.now.side.now) task.now.ranking.now root start trail.old node.old.marks.items run.old next
+        → Stands task.now.on (plain_side task.now.side.now) task.now.ranking.now root start trail.new node.new.marks.items run.new stand) }
+    ensures ahead { IfOk result (λ stand. ahead run.new trail.new stand < ahead run.old trail.old (Before next)) }
+{
+    if run.left == 0 {
+        return Ok(Stand::Ended { whole: false });
+    }
+    run.left -= 1;
+    tell_nodes(progress, run);
+    match visit(task.alloc, task, node, next.place, run, next.raised)? {
+        Visit::Closed(tree) => {
+            close(trail, tree)?;
+            Ok(Stand::Behind)
+        }
+        Visit::Open(place) => {
+            let number = task.ranking[place].number;
+            node.fix_one(task.side, number as usize);
+            step_to(trail, OpenBranch::ToOne(place))?;
+            Ok(Stand::Before(Next {
+                place: place + 1,
+                raised: Some(number),
+            }))
+        }
+    }
+}
+
+/// Leaves a node that is closed: the child for zero comes behind that for one, and behind both their branch is closed, so
+/// that its variable is free again.
+fn leave(
+    task: &Task,
+    node: &mut Assignment,
+    trail: &mut Trail,
+    last: OpenBranch,
+) -> Result<Stand, AllocError>
+    requires ranking { IsRanking (plain_side task.now.side.now) task.now.ranking.now }
+    requires tallies { AreTallies (plain_side task.now.side.now) node.old }
+    requires inside { place_of last < length task.now.ranking.now }
+    ensures tallies { AreTallies (plain_side task.now.side.now) node.new }
+    ensures stands { IfOk result (λ stand. (root : List Fixing) (start run : Running)
+        → IsBehind (number_at task.now.ranking.now) (IsOpened task.now.on (plain_side task.now.side.now) task.now.ranking.now) (Finds task.now.on (plain_side task.now.side.now)) root start (last ∷ steps_on trail.old) (closed_on trail.old) node.old.marks.items run
+        → Stands task.now.on (plain_side task.now.side.now) task.now.ranking.now root start trail.new node.new.marks.items run stand) }
+    ensures ahead { IfOk result (λ stand. (run : Running) → ahead run trail.new stand < ahead run trail.old Behind + 3) }
+{
+    match last {
+        OpenBranch::ToOne(place) => {
+            node.fix_zero(task.side, task.ranking[place].number as usize);
+            step_to(trail, OpenBranch::ToZero(place))?;
+            Ok(Stand::Before(Next {
+                place: place + 1,
+                raised: None,
+            }))
+        }
+        OpenBranch::ToZero(place) => {
+            let number = task.ranking[place].number;
+            node.free(task.side, number as usize);
+            join(trail, task.alloc, number)?;
+            Ok(Stand::Behind)
+        }
+    }
+}
+
+/// One step forward.
+fn advance(
+    task: &Task,
+    node: &mut Assignment,
+    run: &mut Running,
+    trail: &mut Trail,
+    stand: Stand,
+    progress: &dyn Progress,
+) -> Result<Stand, AllocError>
+    requires ranking { IsRanking (plain_side task.now.side.now) task.now.ranking.now }
+    requires tallies { AreTallies (plain_side task.now.side.now) node.old }
+    requires small { run.old.best.gain ≤ 2 ^ 104 }
+    requires stand { CanAdvance (plain_side task.now.side.now) task.now.ranking.now (steps_on trail.old) node.old.marks.items run.old.best.gain stand }
+    ensures tallies { AreTallies (plain_side task.now.side.now) node.new }
+    ensures small { run.new.best.gain ≤ 2 ^ 104 }
+    ensures stands { IfOk result (λ next. (root : List Fixing) (start : Running)
+        → Stands task.now.on (plain_side task.now.side.now) task.now.ranking.now root start trail.old node.old.marks.items run.old stand
+        → Stands task.now.on (plain_side task.now.side.now) task.now.ranking.now root start trail.new node.new.marks.items run.new next) }
+    ensures ahead { IfOk result (λ next. is_ended stand ≡ false → ahead run.new trail.new next < ahead run.old trail.old stand) }
+{
+    match stand {
+        Stand::Before(next) => visit_next(task, node, run, trail, next, progress),
+        Stand::Behind => match step_back(trail) {
+            None => Ok(Stand::Ended { whole: true }),
+            Some(last) => leave(task, node, trail, last),
+        },
+        Stand::Ended { whole } => Ok(Stand::Ended { whole }),
+    }
+}
+
+/// The tree of the root at the end of a search; None where the budget ended before everything was closed.
+fn ended_tree(trail: Trail, stand: Stand) -> Option<Tree>
+    requires { is_ended stand ≡ true }
+    ensures finds { (on : Bool) (s : PlainSide) (ranking : List Ranked) (root : List Fixing) (start : Running) (marks : List Fixing) (run : Running) → Stands on s ranking root start trail marks run stand → Finds on s root start run (option_map plain_tree result) }
+    ensures kept { (on : Bool) (s : PlainSide) (ranking : List Ranked) (root : List Fixing) (start : Running) (marks : List Fixing) (run : Running) → Stands on s ranking root start trail marks run stand → IfSome result (λ t. marks ≡ root) }
+{
+    match stand {
+        Stand::Ended { whole: true } => last_closed(trail),
+        _ => None,
+    }
+}
+
 /// Searches below some fixings, depth first and one before zero, for what gains more than the incumbent; None where the
-/// budget ends before everything is closed. The depth is at most the number of free variables. A child that fixes a
-/// variable to zero takes what its parent takes, which is known then. Where there is a tree the assignment is as it was
-/// before; where there is none the search is over, and it isn't set back.
+/// budget ends before everything is closed. The open branches stand in a list, so no stack grows with the variables. A child
+/// that fixes a variable to zero takes what its parent takes, which is known then. Where there is a tree the assignment is
+/// as it was before; where there is none the search is over, and it isn't set back.
 pub(crate) fn search(
     task: &Task,
     node: &mut Assignment,
@@ -134,26 +256,10 @@ pub(crate) fn search(
     ensures levels { IfOk result (HasLevels (suc (count_by is_free node.old.marks.items))) }
     ensures tells { IfOk result (λ tree. (start : ℕ) → start ≤ run.old.best.gain → Reports (plain_side task.now.side.now) start node.old.marks.items run.new.best.gain run.old.left run.new.left tree) }
 {
-    if run.left == 0 {
-        return Ok(None);
+    let mut trail = first_trail(task.alloc);
+    let mut stand = Stand::Before(Next { place, raised });
+    while !has_ended(&stand) {
+        stand = advance(task, node, run, &mut trail, stand, progress)?;
     }
-    run.left -= 1;
-    tell_nodes(progress, run);
-    let found = match visit(task.alloc, task, node, place, run, raised)? {
-        Visit::Closed(tree) => return Ok(Some(tree)),
-        Visit::Open(found) => found,
-    };
-    let number = task.ranking[found].number;
-    node.fix_one(task.side, number as usize);
-    let one = match search(task, node, found + 1, run, Some(number), progress)? {
-        None => return Ok(None),
-        Some(tree) => tree,
-    };
-    node.fix_zero(task.side, number as usize);
-    let zero = match search(task, node, found + 1, run, None, progress)? {
-        None => return Ok(None),
-        Some(tree) => tree,
-    };
-    node.free(task.side, number as usize);
-    Ok(Some(branch_on(task.alloc, number, zero, one)?))
+    Ok(ended_tree(trail, stand))
 }

@@ -80,7 +80,7 @@ fn search_from<G: Guide>(
 {
     let mut guide = G::of(alloc, task.side)?;
     progress.nodes(best.left, best.gain, None);
-    match search(alloc, task, &mut guide, marks, MOST_LEVELS, best) {
+    match search(task, &mut guide, marks, MOST_LEVELS, best) {
         Ok(tree) => {
             progress.nodes(best.left, best.gain, guide.bound());
             Ok(tree)
@@ -107,6 +107,7 @@ fn search_side<G: Guide>(
     let mut marks = free_marks(alloc, side)?;
     let by_row = RowWise::of(alloc, side)?;
     let task = Task {
+        alloc,
         programme: p,
         side,
         by_row: &by_row,

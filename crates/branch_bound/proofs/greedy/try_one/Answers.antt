@@ -8,7 +8,7 @@ use Rattle.branch_bound.specs.Assignments.{taken}
 use Rattle.branch_bound.specs.Exceeding.{ExceedsOnlyRowsOf}
 use Rattle.branch_bound.proofs.OnesLemmas.{over_not_fits}
 use Rattle.branch_bound.proofs.ExceedLemmas.{one_exceeds}
-use Rattle.branch_bound.proofs.Branches.{back_once}
+use Rattle.branch_bound.proofs.MarkLemmas.{back_once}
 use Rattle.branch_bound.proofs.greedy.try_one.Goals as goal
 
 pub exceeded-requires-clause-only : goal.exceeded-requires-clause-only
