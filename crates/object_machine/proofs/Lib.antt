@@ -18,6 +18,7 @@ pub mod SiteLemmas
 pub mod StartLemmas
 pub mod StoreLemmas
 pub mod NumberLemmas
+pub mod NumberingLemmas
 pub mod LandingLemmas
 pub mod CellLemmas
 pub mod TableLemmas

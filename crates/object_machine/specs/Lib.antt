@@ -14,6 +14,7 @@ pub mod Paired
 pub mod Units
 pub mod Layout
 pub mod Landings
+pub mod Numbering
 pub mod Reports
 pub mod OfGraph
 pub mod Spots

@@ -7,6 +7,7 @@ mod footprints;
 mod landings;
 mod laws;
 mod machine;
+mod numbering;
 mod preparing;
 mod spots;
 mod starting;

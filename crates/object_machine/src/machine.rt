@@ -96,9 +96,11 @@ impl Source {
 }
 
 impl Source {
-    ghost use Rattle.std.specs.Prelude.{Option, MatchBool, IfOk, OnOk, OnErr};
+    ghost use Rattle.std.specs.Prelude.{List, Option, MatchBool, IfOk, OnOk, OnErr};
+    ghost use Rattle.std.specs.List.Sorted.{IsStrictlyIncreasing};
+    ghost use Rattle.code_blocks.specs.Early.{has};
     ghost use Rattle.rv32im.specs.declared.instructions.Instr.{Instr};
-    ghost use Rattle.object_machine.specs.{Program.{Program}, Step.{Step, Reads}, Footprints.{footprint_of}, Runs.{Steps, HasEnded}, Machine.{state_of, seen_state, here, IsProgram, StepsFrom, Becomes, when_going}};
+    ghost use Rattle.object_machine.specs.{Program.{Program}, Step.{Step, Reads}, Footprints.{footprint_of}, Numbering.{IsNumberIn}, Runs.{Steps, HasEnded}, Machine.{state_of, seen_state, here, IsProgram, StepsFrom, Becomes, when_going}};
 
     // All that a step does is inlined in the loops that take steps, since it has several callers by now, and a call passes
     // values and events by way of the stack; what is rare stays in cold functions.
@@ -164,6 +166,14 @@ impl Source {
         ensures { (p : Program) → result ≡ (state_of p self.now).pc }
     {
         self.pc
+    }
+
+    /// The number of the block that begins with the next unit, if one does: block 0 has the lowest address, and so on.
+    #[inline(always)]
+    pub fn block(&self) -> Option<u32>
+        ensures { (p : Program) (starts : List ℕ) → IsProgram p self.now → IsStrictlyIncreasing starts → ((a : ℕ) → p.is_block a ≡ has starts a) → IsNumberIn starts (state_of p self.now).pc result }
+    {
+        self.tables.numbers[self.place]
     }
 
     /// What the next unit asks of memory: the words that are fetched, and whether it is a load or a store. A

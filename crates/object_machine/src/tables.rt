@@ -1,7 +1,7 @@
 ghost use Rattle.std.specs.Prelude.{◌≡◌, ℕ, true, length};
 ghost use Rattle.std.specs.List.{list_any};
 ghost use Rattle.object_graph.specs.Sites.{in_range};
-ghost use Rattle.object_machine.specs.{Landings.{AreLandings}, Units.{AreFit, AreJoined, AreStarts}, Layout.{AreAscending, EndBelow, HasDisjointObjects, LieOff, AreAmong, is_grain}};
+ghost use Rattle.object_machine.specs.{Landings.{AreLandings}, Numbering.{HasNumbers}, Units.{AreFit, AreJoined, AreStarts}, Layout.{AreAscending, EndBelow, HasDisjointObjects, LieOff, AreAmong, is_grain}};
 ghost use Rattle.std.specs.List.Sorted.{IsStrictlyIncreasing};
 
 use crate::landings::landing;
@@ -20,6 +20,8 @@ pub(crate) struct Tables {
     /// Where the blocks begin, ascending, and the place of the first unit of each.
     pub(crate) starts: Vec<u64>,
     pub(crate) places: Vec<usize>,
+    /// For each unit the number of the block that begins with it, if one does.
+    pub(crate) numbers: Vec<Option<u32>>,
     /// The starts that a jump by a register may reach, ascending.
     pub(crate) reached: Vec<u64>,
     /// The address of the first block, and by words from there on the landings of blocks, and of reached ones.
@@ -36,6 +38,7 @@ pub(crate) struct Tables {
     pub(crate) ghost fit: { AreFit (length graph.objects.items) units.items },
     pub(crate) ghost joined: { AreJoined units.items },
     pub(crate) ghost begun: { AreStarts units.items starts.items places.items },
+    pub(crate) ghost numbered: { HasNumbers starts.items units.items numbers.items },
     pub(crate) ghost ascending: { IsStrictlyIncreasing starts.items },
     pub(crate) ghost reached_ascending: { IsStrictlyIncreasing reached.items },
     pub(crate) ghost among: { AreAmong reached.items starts.items },

@@ -8,6 +8,7 @@ ghost use Rattle.cell_values.specs.Objects.{IsGrain};
 ghost use Rattle.object_machine.specs.{Program.{program_of}, Machine.{Agrees}, Preparing.{HasObjects}};
 
 use crate::landings::{block_landings, first_start, reached_landings};
+use crate::numbering::block_numbers;
 use crate::preparing::{lay_blocks, objects_alone, widened};
 use crate::tables::Tables;
 use crate::widest::widest_of;
@@ -39,6 +40,7 @@ pub(crate) fn tables_of(
     let block_units = lay_blocks(alloc, &file, graph, code)?;
     let reached = widened(alloc, &code.indirect)?;
     let fixed = fixed_ranges(alloc, view, board, graph)?;
+    let numbers = block_numbers(alloc, code, &block_units.units)?;
     let landings = block_landings(alloc, &block_units)?;
     let reached_landings = reached_landings(alloc, &block_units, &landings, &reached)?;
     Ok(Tables {
@@ -50,6 +52,7 @@ pub(crate) fn tables_of(
         units: block_units.units,
         starts: block_units.starts,
         places: block_units.places,
+        numbers,
         reached,
         fixed,
     })

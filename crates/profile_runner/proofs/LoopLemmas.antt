@@ -15,7 +15,7 @@ use Rattle.object_machine.specs.Runs.{HasEnded}
 use Rattle.profile_runner.specs.Transition.{Transition, is_going}
 use Rattle.profile_runner.specs.Standing.{region_of}
 use Rattle.profile_runner.specs.Counts.{IsProfile}
-use Rattle.profile_runner.specs.Tallies.{IsBlockAt, block_now}
+use Rattle.profile_runner.specs.Tallies.{IsBlockAt}
 use Rattle.profile_runner.specs.Transitions.{Transitions}
 use Rattle.profile_runner.specs.Tally.{HasRoom, IsNew, IsTally}
 use Rattle.profile_runner.specs.Running.{HasStarted, fault_of, ReportsOfRun, IsMachineOf, IsComing, IsSoFar, IsAll}
@@ -27,7 +27,6 @@ use Rattle.profile_runner.proofs.FillLemmas.{nothing_is}
 use Rattle.profile_runner.proofs.RoomLemmas.{room}
 use Rattle.profile_runner.proofs.RunLemmas.{transitions_to_end, some_transitions}
 use Rattle.profile_runner.proofs.StepLemmas.{while_going, going_is}
-use Rattle.profile_runner.proofs.TallyLemmas.{number_fits}
 
 -- ---- before the first transition
 
@@ -70,11 +69,6 @@ room_now starts regions last size p s i m t coming next far going few same fit =
     let less = far.few in
     room starts regions last size (state_of p m).pc far.transitions t coming next far.tally (omega (arith, less, few)) same fit now.at
     (few_units coming t.units (state_of p m).pc m.below now.behind)
-
-pub near_now : (starts regions : List ℕ) (last size : ℕ) (p : Program) (s : SourceState) (i : ℕ) (m : Source) (t : Tally) (coming : Option ℕ) → IsSoFar starts regions last size p s i m t coming → (state_of p m).outcome ≡ GoesOn → block_now coming t.block < length starts
-near_now starts regions last size p s i m t coming far going =
-    let now = going_is (state_of p m).outcome (IsComing starts (state_of p m).pc far.transitions t coming) going far.next in
-    number_fits starts (state_of p m).pc t.block coming now.at far.tally.block_fits
 
 -- ---- behind the last
 

@@ -1,8 +1,8 @@
-ghost use Rattle.std.specs.Prelude.{◌≡◌, ◌<◌, ℕ, Option, true, length, IfOk, OnOk};
+ghost use Rattle.std.specs.Prelude.{◌≡◌, ◌<◌, ℕ, List, Option, true, length, IfOk, OnOk};
 ghost use Rattle.std.specs.List.Sorted.{IsStrictlyIncreasing};
 ghost use Rattle.code_blocks.specs.{Early.{has}, Numbers.{starts_of}};
 ghost use Rattle.object_machine.specs.{Program.{Program}, Machine.{state_of, IsProgram}};
-ghost use Rattle.profile_runner.specs.{Tallies.{IsBlockAt, block_now}, Tally.{HasRoom, IsNew}, Running.{HasStarted, fault_of, IsMachineOf, IsCounted, IsAll, ReportsOfRun}};
+ghost use Rattle.profile_runner.specs.{Tallies.{IsBlockAt}, Tally.{HasRoom, IsNew}, Running.{HasStarted, fault_of, IsMachineOf, IsCounted, IsAll, ReportsOfRun}};
 
 use crate::counts::Profile;
 use crate::fault::ProfileFault;
@@ -102,7 +102,7 @@ fn take_steps(
             break;
         }
         tell_steps(progress, taken, n);
-        coming = count_step(tally, source, parts.code, parts.regions, coming)?;
+        coming = count_step(tally, source, parts.regions, coming)?;
     }
     Ok(())
 }
@@ -121,28 +121,16 @@ fn tell_steps(progress: &dyn Progress, taken: u64, most: u64) {
 fn count_step(
     tally: &mut Tally,
     source: &mut Source,
-    code: &Code,
     regions: &RegionTable,
     coming: Option<u32>,
 ) -> Result<Option<u32>, AllocError>
-    requires ascending { IsStrictlyIncreasing (starts_of code.now) }
-    requires near { block_now coming tally.old.block < length code.now.blocks.items }
-    requires room { (next : Option ℕ) → HasRoom regions.now.of_block.items coming next tally.old }
-    ensures { IfOk result (λ next. (p : Program) → IsProgram p source.old → IsCounted (starts_of code.now) regions.now.of_block.items p source.old source.new coming next tally.old tally.new) }
+    requires { (next : Option ℕ) → HasRoom regions.now.of_block.items coming next tally.old }
+    ensures { IfOk result (λ next. (p : Program) (starts : List ℕ) → IsProgram p source.old → IsStrictlyIncreasing starts → ((a : ℕ) → p.is_block a ≡ has starts a) → IsCounted starts regions.now.of_block.items p source.old source.new coming next tally.old tally.new) }
 {
     let event = source.step()?;
-    let near = block_now(coming, tally.block);
-    let next = next_block(code, near, tally.known(near), &event.outcome, source.at());
+    let next = next_block(source, &event.outcome);
     match tally.count(regions, coming, event.access, next) {
         Ok(()) => Ok(next),
         Err(error) => Err(error),
     }
-}
-
-/// The block of a unit: the one that begins with it, or else that of the unit before.
-#[inline(always)]
-fn block_now(coming: Option<u32>, block: u32) -> u32
-    ensures { result ≡ block_now coming block }
-{
-    coming.unwrap_or(block)
 }

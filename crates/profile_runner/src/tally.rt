@@ -30,16 +30,6 @@ impl Tally {
     ghost use Rattle.std.specs.Prelude.{OnOk};
     ghost use Rattle.profile_runner.specs.{Tally.{HasRoomToBegin, HasRoomForBlock, HasRoomToAccess, HasRoomToLead, HasRoom, HasBegun, HasAccessed, HasLed, HasCounted}, Tallies.{plain_edges, region_now, block_now}};
 
-    /// The edges that were taken from a block, as they are known so far.
-    #[inline(always)]
-    pub(crate) fn known(&self, block: u32) -> &[Edge] {
-        if (block as usize) < self.edges.len() {
-            &self.edges[block as usize]
-        } else {
-            &[]
-        }
-    }
-
     // Counting is inlined in the loop that takes steps.
 
     /// Counts one step: which block begins with it, if one does, its access, and to which block it leads, if the

@@ -2,12 +2,11 @@ use Rattle.std.proofs.Common.{◌≡◌, ◌∙◌, ◌<◌, ◌≤◌, ℕ, suc
 use Rattle.code_blocks.specs.Numbers.{starts_of}
 use Rattle.object_machine.specs.Machine.{state_of}
 use Rattle.profile_runner.specs.Transition.{is_going}
-use Rattle.profile_runner.specs.Tallies.{block_now}
 use Rattle.profile_runner.specs.Tally.{IsNew}
 use Rattle.profile_runner.specs.Running.{IsSoFar}
 use Rattle.profile_runner.proofs.FindLemmas.{starts_count}
 use Rattle.profile_runner.proofs.StepLemmas.{knows, fits_at, so_far_more, going_by}
-use Rattle.profile_runner.proofs.LoopLemmas.{so_far_first, room_now, near_now, all_taken, all_to_end}
+use Rattle.profile_runner.proofs.LoopLemmas.{so_far_first, room_now, all_taken, all_to_end}
 use Rattle.profile_runner.proofs.running.take_steps.Goals as goal
 
 pub loop-taken-init : goal.loop-taken-init
@@ -18,20 +17,8 @@ loop-taken-init g c p size is new =
     let begun = subst (λ (n : ℕ). IsNew n size last c.args.first c.args.tally.now) (sym count) new in
     so_far_first starts c.args.parts.now.regions.now.of_block.items last size c.args.first p c.args.source.now c.args.tally.now is begun (c.requires.begins p is)
 
-pub count_step-requires-clause-near : goal.count_step-requires-clause-near
-count_step-requires-clause-near g c =
-    let starts = starts_of c.args.parts.now.code.now in
-    let regions = c.args.parts.now.regions.now in
-    let some = c.requires.machine.some in
-    let size = c.requires.nothing.0 in
-    let far = c.loop-taken.invariant some size c.requires.machine.is c.requires.nothing.1 in
-    let on : is_going (state_of some c.loop-taken.source).outcome ≡ true =
-    ap is_going (sym (c.outcome.ensures some)) ∙ (sym c.is_going.ensures ∙ c.if-not-is_going.false) in
-    subst (λ (n : ℕ). block_now c.loop-taken.coming c.loop-taken.tally.block < n) (starts_count c.args.parts.now.code.now)
-    (near_now starts regions.of_block.items regions.count size some (state_of some c.args.source.now) c.loop-taken.taken c.loop-taken.source c.loop-taken.tally c.loop-taken.coming far (going_by _ on))
-
-pub count_step-requires-clause-room : goal.count_step-requires-clause-room
-count_step-requires-clause-room g c next =
+pub count_step-requires : goal.count_step-requires
+count_step-requires g c next =
     let starts = starts_of c.args.parts.now.code.now in
     let regions = c.args.parts.now.regions.now in
     let some = c.requires.machine.some in
@@ -51,12 +38,13 @@ loop-taken-preserved g c p size is new =
     let far = c.loop-taken.invariant p size is new in
     let on : is_going (state_of p c.loop-taken.source).outcome ≡ true =
     ap is_going (sym (c.outcome.ensures p)) ∙ (sym c.is_going.ensures ∙ c.if-not-is_going.false) in
+    let known = knows starts c.args.source.now p c.requires.machine is in
     let next : suc c.loop-taken.taken ≡ c.loop-taken.taken + 1 = omega arith in
     subst (λ (k : ℕ). IsSoFar starts regions.of_block.items regions.count size p (state_of p c.args.source.now) k c.count_step.new.source c.count_step.new.tally c.in_ok-coming.coming) next
     (so_far_more starts regions.of_block.items regions.count size p (state_of p c.args.source.now) c.loop-taken.taken c.loop-taken.source c.count_step.new.source c.loop-taken.tally c.count_step.new.tally c.loop-taken.coming c.in_ok-coming.coming
-    (knows starts c.args.source.now p c.requires.machine is)
+    known
     (λ k. fits_at regions.of_block.items regions.count k regions.within)
-    (going_by _ on) far (c.in_ok-coming.ensures p far.is))
+    (going_by _ on) far (c.in_ok-coming.ensures p starts far.is c.requires.machine.ascending known.blocks))
 
 pub returns-after-loop-taken-clause-program : goal.returns-after-loop-taken-clause-program
 returns-after-loop-taken-clause-program g c p is =
