@@ -1,15 +1,15 @@
 -- Edges of one block, by where they lead: how one more changes them.
-use Rattle.std.proofs.Common.{◌≡◌, ◌∙◌, inl, inr, ℕ, zero, suc, ◌+◌, ◌<◌, ◌≤◌, ◌==◌, nat_lt, Bool, true, false, ◌&&◌, if◌then◌else◌, List, [], ◌∷◌, length, set, slice_index_or, refl, sym, ap, arith, Vec}
+use Rattle.std.proofs.Common.{◌≡◌, ◌∙◌, inl, inr, ℕ, zero, suc, ◌+◌, ◌<◌, ◌≤◌, ◌==◌, nat_lt, Bool, true, false, ◌&&◌, if◌then◌else◌, List, [], ◌∷◌, length, set, slice_index_or, refl, sym, ap, arith}
 use Rattle.std.specs.List.{All, insert}
 use Rattle.std.specs.List.Sorted.{IsPartitionedBy, IsPartitionPoint}
-use Rattle.std.specs.Global.{Global}
 use Rattle.std.proofs.lemmas.List.{get_or-map, get_or_default, map-set}
 use Rattle.std.proofs.lemmas.Bool.{cases_order, cases_eq}
 use Rattle.list_checks.proofs.TestLemmas.{both}
 use Rattle.std.proofs.lemmas.Bool.Decides.{nat_tests}
 use Rattle.profile_runner.specs.Counts.{count_in}
-use Rattle.profile_runner.specs.Tallies.{one_edge, with_edge, IsEdgeOf, AreFrom, Ascend, IsFoundAt, IsGapAt, plain_edges, edge_row}
+use Rattle.profile_runner.specs.Tallies.{one_edge, with_edge, IsEdgeOf, AreFrom, Ascend, IsFoundAt, IsGapAt, edges_of, plain_edges, edge_row}
 use Rattle.profile_runner.specs.declared.counts.Edge.{Edge}
+use Rattle.profile_runner.specs.declared.edge_row.EdgeRow.{EdgeRow}
 
 -- ---- the three cases of one more
 
@@ -95,6 +95,14 @@ few_at low a size most (suc k) (e ∷ edges) d are below = few_at (suc e.to) a s
 pub few_of : (low a size most : ℕ) (edges : List Edge) → AreFrom low a size most edges → most < 18446744073709551615 → All (λ e. e.count < 18446744073709551615) edges
 few_of low a size most edges are less =
     λ k d below. let few = few_at low a size most k edges d are below in omega (arith, few, less)
+
+begun_at : (low a size most k : ℕ) (edges : List Edge) (d : Edge) → AreFrom low a size most edges → k < length edges → (slice_index_or edges k d).from ≡ a
+begun_at low a size most k [] d are below = absurd (omega arith)
+begun_at low a size most zero (e ∷ edges) d are below = are.0.begins_there
+begun_at low a size most (suc k) (e ∷ edges) d are below = begun_at (suc e.to) a size most k edges d are.1.1 (omega arith)
+
+pub begun_of : (low a size most : ℕ) (edges : List Edge) → AreFrom low a size most edges → All (λ e. e.from ≡ a) edges
+begun_of low a size most edges are = λ k d below. begun_at low a size most k edges d are below
 
 -- ---- how often each was taken
 
@@ -237,12 +245,24 @@ gap_there row b k f point below differs =
     gap_at row b k point (omega arith)
     (λ d inside is. differs (ap (λ (e : Edge). e.to) (get_or_default row k f d below) ∙ is))
 
+-- an edge that was found without a search
+pub found_early : (row : List Edge) (b k : ℕ) → Ascend 0 row → k < length row → ((d : Edge) → (slice_index_or row k d).to ≡ b) → IsFoundAt row b k
+found_early row b k ascend below is =
+    record {
+      inside = below;
+      lower = λ j d before.
+          let less = rises 0 j k row d ascend before below in
+          let here = is d in
+          omega (arith, less, here);
+      here = is;
+    }
+
 -- ---- the rows of all blocks
 
-pub row_is : (rows : List (Vec Edge Global)) (a : ℕ) (row : Vec Edge Global) → a < length rows → row ≡ slice_index_or rows a row → edge_row (plain_edges rows) a ≡ row.items
-row_is rows a row below is =
-    get_or-map (λ (r : Vec Edge Global). r.items) rows a row [] below ∙ ap (λ (r : Vec Edge Global). r.items) (sym is)
+pub row_is : (rows : List EdgeRow) (a : ℕ) (row : EdgeRow) → a < length rows → row ≡ slice_index_or rows a row → edge_row (plain_edges rows) a ≡ edges_of row
+row_is rows a row below is = get_or-map edges_of rows a row [] below ∙ ap edges_of (sym is)
 
-pub edges_in : (rows : List (Vec Edge Global)) (a b : ℕ) (old new : Vec Edge Global) → a < length rows → old ≡ slice_index_or rows a old → new.items ≡ with_edge old.items a b → plain_edges (set rows a new) ≡ set (plain_edges rows) a (with_edge (edge_row (plain_edges rows) a) a b)
+pub edges_in : (rows : List EdgeRow) (a b : ℕ) (old new : EdgeRow) → a < length rows → old ≡ slice_index_or rows a old → edges_of new ≡ with_edge (edges_of old) a b → plain_edges (set rows a new) ≡ set (plain_edges rows) a (with_edge (edge_row (plain_edges rows) a) a b)
 edges_in rows a b old new below is more =
-    rw (map-set (λ (r : Vec Edge Global). r.items) rows a new, row_is rows a old below is, more) refl
+    map-set edges_of rows a new
+    ∙ ap (λ (es : List Edge). set (plain_edges rows) a es) (more ∙ ap (λ (es : List Edge). with_edge es a b) (sym (row_is rows a old below is)))

@@ -1,4 +1,5 @@
 pub mod EdgeLemmas
+pub mod ManyLemmas
 pub mod CountLemmas
 pub mod TestLemmas
 pub mod TransitionLemmas

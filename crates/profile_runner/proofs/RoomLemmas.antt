@@ -9,7 +9,7 @@ use Rattle.profile_runner.specs.Tallies.{IsBlockAt, block_now, region_now, plain
 use Rattle.profile_runner.specs.Tally.{HasRoomToChange, HasRoomToBegin, HasRoomToAccess, HasRoomToLead, HasRoom, IsTally}
 use Rattle.profile_runner.specs.declared.tally.Tally.{Tally}
 use Rattle.profile_runner.proofs.CountLemmas.{count_few}
-use Rattle.profile_runner.proofs.EdgeLemmas.{ascend_from, few_of}
+use Rattle.profile_runner.proofs.EdgeLemmas.{ascend_from, begun_of, few_of}
 use Rattle.profile_runner.proofs.TallyLemmas.{number_fits, region_fits, entered_fits}
 
 list_room : (xs : List ℕ) (size k n : ℕ) (f : ℕ → ℕ) → IsList xs size f → k < size → f k ≤ n → n < 18446744073709551615 → slice_index_or xs k 0 < 18446744073709551615
@@ -71,6 +71,7 @@ lead_room starts regions last size block ms t (Some b) is few below =
     let from = is.edges_are.from block below in
     record {
       row = omega (arith, height, below);
+      begun = begun_of 0 block (length starts) (length ms) (edge_row (plain_edges t.edges.items) block) from;
       ascending = ascend_from 0 block (length starts) (length ms) (edge_row (plain_edges t.edges.items) block) from;
       edge = few_of 0 block (length starts) (length ms) (edge_row (plain_edges t.edges.items) block) from few;
     }

@@ -1,11 +1,16 @@
 -- How counters grow: by the places that pass a test, and by one edge.
-use Rattle.std.specs.Prelude.{◌≡◌, ℕ, zero, suc, ◌+◌, ◌<◌, ◌≤◌, ◌==◌, nat_lt, Bool, true, false, not, ◌&&◌, if◌then◌else◌, List, [], ◌∷◌, ◌++◌, length, map, slice_index_or, slice_set, Option, Some, None, Vec}
-use Rattle.std.specs.Global.{Global}
+use Rattle.std.specs.Prelude.{◌≡◌, ℕ, zero, suc, ◌+◌, ◌<◌, ◌≤◌, ◌==◌, nat_lt, Bool, true, false, not, ◌&&◌, if◌then◌else◌, List, [], ◌∷◌, ◌++◌, length, map, slice_index_or, slice_set, Option, Some, None}
+use Rattle.std.specs.Option.{unwrap_or}
+use Rattle.std.specs.Map.{lookup}
+use Rattle.std.specs.BTreeMap.{is_at}
+use Rattle.std.specs.Ordering.{nat_cmp}
 use Rattle.object_machine.specs.declared.events.Access.{Access}
 use Rattle.profile_runner.specs.Counts.{row_of, entry, is_access_to, count_in}
 use Rattle.code_blocks.specs.Early.{has}
 use Rattle.profile_runner.specs.Standing.{number_of, region_of, entered}
 use Rattle.profile_runner.specs.declared.counts.Edge.{Edge}
+use Rattle.profile_runner.specs.declared.edge_row.EdgeRow.{EdgeRow}
+use Rattle.profile_runner.specs.declared.edge_row.EdgeRow.TheVariants.{Few, Many}
 
 -- ---- counts
 
@@ -112,8 +117,22 @@ pub record IsGapAt (row : List Edge) (b k : ℕ) : Type 0 where
 
 -- ---- a row of edges for each block
 
-abbrev pub plain_edges : List (Vec Edge Global) → List (List Edge)
-plain_edges rows = map (λ row. row.items) rows
+-- the count of a block among many, by its number, is that of an edge from block `a`
+abbrev pub counted_from : ℕ → ℕ × ℕ → Edge
+counted_from a c = record { from = a; to = c.0; count = c.1 }
+
+abbrev pub plain_count : Edge → ℕ × ℕ
+plain_count e = (e.to, e.count)
+
+abbrev pub count_to : List (ℕ × ℕ) → ℕ → ℕ
+count_to counts b = unwrap_or (lookup (is_at (nat_cmp b)) counts) 0
+
+abbrev pub edges_of : EdgeRow → List Edge
+edges_of (Few row) = row.items
+edges_of (Many a counts) = map (counted_from a) counts.entries
+
+abbrev pub plain_edges : List EdgeRow → List (List Edge)
+plain_edges rows = map edges_of rows
 
 abbrev pub edge_row : List (List Edge) → ℕ → List Edge
 edge_row rows a = slice_index_or rows a []

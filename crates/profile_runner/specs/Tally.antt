@@ -40,6 +40,7 @@ pub record HasRoomToAccess (region : ℕ) (reads writes : List (List ℕ)) : Typ
 
 pub record HasRoomForEdge (block : ℕ) (rows : List (List Edge)) : Type 0 where
   pub row : block < length rows
+  pub begun : All (λ e. e.from ≡ block) (edge_row rows block)
   pub ascending : Ascend 0 (edge_row rows block)
   pub edge : All (λ e. e.count < 18446744073709551615) (edge_row rows block)
 

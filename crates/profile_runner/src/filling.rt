@@ -2,7 +2,7 @@ ghost use Rattle.std.specs.Prelude.{◌≡◌, [], IfOk, replicate};
 ghost use Rattle.profile_runner.specs.{Counts.{plain_rows}, Tallies.{plain_edges}, Tally.{IsNew}};
 
 use crate::changes::Changes;
-use crate::counts::Edge;
+use crate::edge_row::EdgeRow;
 use crate::tally::Tally;
 use std::alloc::{AllocError, Global};
 
@@ -56,12 +56,12 @@ fn zeros(alloc: Global, height: usize, width: usize) -> Result<Vec<Vec<u64>>, Al
 }
 
 /// No edges of so many blocks.
-fn no_edges(alloc: Global, blocks: usize) -> Result<Vec<Vec<Edge>>, AllocError>
+fn no_edges(alloc: Global, blocks: usize) -> Result<Vec<EdgeRow>, AllocError>
     ensures { IfOk result (λ rows. plain_edges rows.items ≡ replicate blocks []) }
 {
     let mut rows = Vec::new(alloc);
     for _ in 0..blocks {
-        rows.push(Vec::new(alloc))?;
+        rows.push(EdgeRow::Few(Vec::new(alloc)))?;
     }
     Ok(rows)
 }

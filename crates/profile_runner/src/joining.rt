@@ -2,6 +2,7 @@ ghost use Rattle.std.specs.Prelude.{◌≡◌, ◌<◌, ℕ, List, length, IfOk}
 ghost use Rattle.profile_runner.specs.{Transition.{Transition}, Counts.{IsProfile}, Tallies.{plain_edges, joined_below}, Tally.{IsTally}};
 
 use crate::counts::{Edge, Profile};
+use crate::edge_row::EdgeRow;
 use crate::tally::Tally;
 use object_machine::Outcome;
 use std::alloc::{AllocError, Global};
@@ -30,12 +31,12 @@ pub(crate) fn profile_of(
 }
 
 /// All rows, one behind the other.
-fn joined(alloc: Global, rows: &[Vec<Edge>]) -> Result<Vec<Edge>, AllocError>
+fn joined(alloc: Global, rows: &[EdgeRow]) -> Result<Vec<Edge>, AllocError>
     ensures { IfOk result (λ edges. edges.items ≡ joined_below (plain_edges rows.now) (length rows.now)) }
 {
     let mut edges = Vec::new(alloc);
     for row in rows {
-        edges.extend_from_slice(row)?;
+        row.append_to(&mut edges)?;
     }
     Ok(edges)
 }

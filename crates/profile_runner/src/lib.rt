@@ -3,6 +3,8 @@
 
 mod changes;
 mod counts;
+mod edge_counts;
+mod edge_row;
 mod edges;
 mod fault;
 mod filling;

@@ -2,7 +2,7 @@ ghost use Rattle.std.specs.Prelude.{◌≡◌, ◌<◌, ℕ, length};
 ghost use Rattle.profile_runner.specs.{Counts.{plain_rows, row_of, entry}, Standing.{entered}, Tallies.{AddsIn, is_entry}};
 
 use crate::changes::Changes;
-use crate::counts::Edge;
+use crate::edge_row::EdgeRow;
 use crate::edges::add_edge_in;
 use crate::rows::{bump, bump_in};
 use object_machine::Access;
@@ -15,7 +15,7 @@ pub(crate) struct Tally {
     pub(crate) steps: u64,
     pub(crate) arrivals: Vec<u64>,
     /// The edges from each block, by where they lead.
-    pub(crate) edges: Vec<Vec<Edge>>,
+    pub(crate) edges: Vec<EdgeRow>,
     pub(crate) reads: Vec<Vec<u64>>,
     pub(crate) writes: Vec<Vec<u64>>,
     pub(crate) changes: Changes,

@@ -1,9 +1,9 @@
-use Rattle.std.proofs.Common.{◌≡◌, ◌∙◌, ◌-◌, suc, List, length, refl, sym, ap, subst, arith, Vec}
+use Rattle.std.proofs.Common.{◌≡◌, ◌∙◌, ◌-◌, suc, List, length, refl, sym, ap, subst, arith}
 use Rattle.std.proofs.lemmas.List.{length-map}
-use Rattle.std.specs.Global.{Global}
 use Rattle.profile_runner.specs.Counts.{AreEdges, edges_of}
 use Rattle.profile_runner.specs.Tallies.{plain_edges, joined_below}
 use Rattle.profile_runner.specs.declared.counts.Edge.{Edge}
+use Rattle.profile_runner.specs.declared.edge_row.EdgeRow.{EdgeRow}
 use Rattle.profile_runner.proofs.JoinLemmas.{edges_joined}
 use Rattle.profile_runner.proofs.joining.profile_of.Goals as goal
 
@@ -13,7 +13,7 @@ returns c starts regions last size transitions t some =
     let rows = plain_edges c.args.tally.edges.items in
     let count : length c.args.tally.edges.items ≡ length starts = sym (length-map c.args.tally.edges.items _) ∙ t.edges_are.height_is in
     let edges : c.in_ok-edges.edges.items ≡ joined_below rows (length starts) =
-    c.in_ok-edges.ensures ∙ (ap (λ (es : List (Vec Edge Global)). joined_below (plain_edges es) (length es)) c.deref.ensures.value ∙ ap (joined_below rows) count) in
+    c.in_ok-edges.ensures ∙ (ap (λ (es : List EdgeRow). joined_below (plain_edges es) (length es)) c.deref.ensures.value ∙ ap (joined_below rows) count) in
     record {
       steps = t.steps_are;
       outcome_is = refl;

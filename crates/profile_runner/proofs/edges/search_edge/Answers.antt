@@ -2,7 +2,7 @@ use Rattle.std.proofs.Common.{nat_lt, rules, arith}
 use Rattle.std.proofs.lemmas.List.Sorted.{IsPartitionPoint-from_clause}
 use Rattle.profile_runner.specs.declared.counts.Edge.{Edge}
 use Rattle.profile_runner.proofs.EdgeLemmas.{parted, found_at, gap_at, gap_there}
-use Rattle.profile_runner.proofs.edges.find_edge.Goals as goal
+use Rattle.profile_runner.proofs.edges.search_edge.Goals as goal
 
 pub returns-then-place-row : goal.returns-then-place-row
 returns-then-place-row c =
